@@ -99,7 +99,8 @@ closing-mark : (P : Marked → Type 0) (node : ℕ) (now : Terms) (vs : List Val
 closing-mark P node now vs (inl r) e = absurd (never-ends now vs r e)
 closing-mark P node now vs (inr m) e = m
 
-reduced-stands : (R : Sources) (outside : List Source) (f : Form) (now later : Terms) (parts all : List Source) (l : Leftmost)
+reduced-stands : (R : Sources) (outside : List Source) (f : Form) (now later : Terms) (parts all : List Source)
+    (l : Leftmost)
     → leftmost now ≡ l
     → AllRun R parts
     → Inside R outside f now later parts
@@ -108,9 +109,24 @@ reduced-stands : (R : Sources) (outside : List Source) (f : Form) (now later : T
 reduced-stands R outside f now later parts all (inner a) e r i h = h
 reduced-stands R outside (frame node a) now later parts all (only_values vs) e r i h =
     let here : all ≡ i.0 ∷ outside = h ∙ i.1 in
-    record { all_run = runs-here R parts all h r; script_runs = tt; throw_known = tt; belongs = subst (λ (x : List Source). ActiveBelongs (top_marks R x) (reduces (frame node a) vs)) (sym here) (closing-mark (R.marks i.0) node now vs i.3 e) }
+    record {
+      all_run = runs-here R parts all h r;
+      script_runs = tt;
+      throw_known = tt;
+      belongs = subst
+          (λ (x : List Source). ActiveBelongs (top_marks R x) (reduces (frame node a) vs)) (sym here)
+          (closing-mark (R.marks i.0) node now vs i.3 e);
+    }
 reduced-stands R outside f now later parts all (only_values vs) e r i h =
-    record { all_run = runs-here R parts all h r; script_runs = form-runs R (top_marks R outside) f vs later i.1; throw_known = tt; belongs = subst (λ (x : List Source). ActiveBelongs (top_marks R x) (reduces f vs)) (sym (h ∙ i.0)) (form-active (top_marks R outside) f vs later i.1) }
+    record {
+      all_run = runs-here R parts all h r;
+      script_runs = form-runs R (top_marks R outside)
+          f vs later i.1;
+      throw_known = tt;
+      belongs = subst
+          (λ (x : List Source). ActiveBelongs (top_marks R x) (reduces f vs)) (sym (h ∙ i.0))
+          (form-active (top_marks R outside) f vs later i.1);
+    }
 
 inside-runs : (R : Sources) (outside : List Source) (f : Form) (now later : Terms) (parts : List Source)
     → AllRun R outside
@@ -124,20 +140,25 @@ mutual
       → AllRun R outside
       → TermStands R outside t all
       → ActiveStands R all (active t)
-  active-stands R outside (done v) all r h = record { all_run = runs-here R outside all h r; script_runs = tt; throw_known = tt; belongs = tt }
-  active-stands R outside (standing v place) all r h = record { all_run = runs-here R outside all h.0 r; script_runs = tt; throw_known = h.1; belongs = tt }
+  active-stands R outside (done v) all r h =
+      record { all_run = runs-here R outside all h r; script_runs = tt; throw_known = tt; belongs = tt }
+  active-stands R outside (standing v place) all r h =
+      record { all_run = runs-here R outside all h.0 r; script_runs = tt; throw_known = h.1; belongs = tt }
   active-stands R outside (part f now later) all r h =
       let o = opened R outside f now later all h in
       let within : AllRun R o.0 = inside-runs R outside f now later o.0 r o.1 in
-      reduced-stands R outside f now later o.0 all (leftmost now) refl within o.1 (leftmost-stands R o.0 now all within o.2)
+      reduced-stands R outside f now later o.0 all (leftmost now) refl within o.1
+      (leftmost-stands R o.0 now all within o.2)
 
   leftmost-stands : (R : Sources) (outside : List Source) (ts : Terms) (all : List Source)
       → AllRun R outside
       → AllStand R outside ts all
       → LeftmostStands R outside all (leftmost ts)
   leftmost-stands R outside end all r h = h
-  leftmost-stands R outside (more (done v) ts) all r h = behind-stands R outside all v (leftmost ts) (leftmost-stands R outside ts all r h)
-  leftmost-stands R outside (more (standing v place) ts) all r h = record { all_run = runs-here R outside all h.0 r; script_runs = tt; throw_known = h.1; belongs = tt }
+  leftmost-stands R outside (more (done v) ts) all r h =
+      behind-stands R outside all v (leftmost ts) (leftmost-stands R outside ts all r h)
+  leftmost-stands R outside (more (standing v place) ts) all r h =
+      record { all_run = runs-here R outside all h.0 r; script_runs = tt; throw_known = h.1; belongs = tt }
   leftmost-stands R outside (more (part f now later) ts) all r h = active-stands R outside (part f now later) all r h.0
 
 -- ---- scripts
@@ -149,7 +170,14 @@ script-active : (R : Sources) (source : Source) (f : Form) (now later : Terms) (
     → R.runs source
     → ScriptStands R source (part f now later) all
     → ActiveStands R all (active (part f now later))
-script-active R source (script number names) end later all r h = record { all_run = runs-here R (source ∷ []) all h.0 (alone R source r); script_runs = h.1.0; throw_known = tt; belongs = tt }
+script-active R source (script number names) end later all r h =
+    record {
+      all_run = runs-here R (source ∷ []) all h.0
+          (alone R source r);
+      script_runs = h.1.0;
+      throw_known = tt;
+      belongs = tt;
+    }
 script-active R source (script number names) (more t ts) later all r h = absurd h.1
 script-active R source f now later all r h = active-stands R (source ∷ []) (part f now later) all (alone R source r) h
 
@@ -158,15 +186,30 @@ scripts-leftmost : (R : Sources) (source : Source) (ts : Terms) (all : List Sour
     → ScriptsStand R source ts all
     → LeftmostStands R (source ∷ []) all (leftmost ts)
 scripts-leftmost R source end all r h = h
-scripts-leftmost R source (more (done v) ts) all r h = behind-stands R (source ∷ []) all v (leftmost ts) (scripts-leftmost R source ts all r h)
-scripts-leftmost R source (more (standing v place) ts) all r h = record { all_run = runs-here R (source ∷ []) all h.0 (alone R source r); script_runs = tt; throw_known = h.1; belongs = tt }
+scripts-leftmost R source (more (done v) ts) all r h =
+    behind-stands R (source ∷ []) all v (leftmost ts) (scripts-leftmost R source ts all r h)
+scripts-leftmost R source (more (standing v place) ts) all r h =
+    record {
+      all_run = runs-here R (source ∷ []) all h.0
+          (alone R source r);
+      script_runs = tt;
+      throw_known = h.1;
+      belongs = tt;
+    }
 scripts-leftmost R source (more (part f now later) ts) all r h = script-active R source f now later all r h.0
 
 scripts-active : (R : Sources) (source : Source) (all : List Source) (l : Leftmost)
     → R.runs source
     → LeftmostStands R (source ∷ []) all l
     → ActiveStands R all (active_of scripts l)
-scripts-active R source all (only_values vs) r h = record { all_run = runs-here R (source ∷ []) all h (alone R source r); script_runs = tt; throw_known = tt; belongs = tt }
+scripts-active R source all (only_values vs) r h =
+    record {
+      all_run = runs-here R (source ∷ []) all h
+          (alone R source r);
+      script_runs = tt;
+      throw_known = tt;
+      belongs = tt;
+    }
 scripts-active R source all (inner a) r h = h
 
 pub running-active : (R : Sources) (t : Term) (all : List Source)
@@ -174,7 +217,8 @@ pub running-active : (R : Sources) (t : Term) (all : List Source)
     → ActiveStands R all (active t)
 running-active R (done v) all h = absurd h
 running-active R (standing v place) all h = absurd h
-running-active R (part scripts now later) all h = scripts-active R h.0 all (leftmost now) h.1 (scripts-leftmost R h.0 now all h.1 h.2)
+running-active R (part scripts now later) all h =
+    scripts-active R h.0 all (leftmost now) h.1 (scripts-leftmost R h.0 now all h.1 h.2)
 running-active R (part f now later) all h = absurd h
 
 -- ---- frames
@@ -223,7 +267,10 @@ pub frame-runs : (R : Sources) (scope : Addr) (t : Term) (s : State) (d : ℕ) (
     → R.runs f.source
 frame-runs R scope t s d f h e =
     let scopes : List Addr = reversed_onto (scopes_at scope t) [] in
-    found-runs R (with_scopes (shown_frames (active t) s.frames) scopes) d f (scoped-run R (shown_frames (active t) s.frames) scopes (shown-run R (active t) s.frames h.script_runs h.all_run.1)) e
+    found-runs R (with_scopes (shown_frames (active t) s.frames) scopes) d f
+    (scoped-run R (shown_frames (active t) s.frames) scopes
+    (shown-run R (active t) s.frames h.script_runs h.all_run.1))
+    e
 
 -- ---- arrivals
 
@@ -235,7 +282,8 @@ if-marked : (P : Marked → Type 0) (b : Bool) (place m : Mark)
     → (if b then None else Some place) ≡ Some m
     → HasMark P m
 if-marked P true place m h e = cc
-if-marked P false place m h e = (kinds.Call, subst (λ (x : Mark). P (record { mark = x; kind = kinds.Call })) (same_mark place m e) h)
+if-marked P false place m h e =
+    (kinds.Call, subst (λ (x : Mark). P (record { mark = x; kind = kinds.Call })) (same_mark place m e) h)
 
 marked : (P : Marked → Type 0) (place m : Mark) → HasMark P place → Some place ≡ Some m → HasMark P m
 marked P place m h e = subst (HasMark P) (same_mark place m e) h
@@ -250,7 +298,8 @@ arrival-marked P spans (reduces (enter_debugger node) vs) m h e = marked P (star
 arrival-marked P spans (reduces (enter_for node constant names) vs) m h e = marked P (start node) m h e
 arrival-marked P spans (reduces (enter_for_of node b) vs) m h e = marked P (start node) m h e
 arrival-marked P spans (reduces (frame node a) vs) m h e = marked P (before_end node 1) m (kinds.Return, h) e
-arrival-marked P spans (reduces (call place node) vs) m h e = if-marked P (nat_eq (offset_of spans place) (offset_of spans (start node))) place m h e
+arrival-marked P spans (reduces (call place node) vs) m h e =
+    if-marked P (nat_eq (offset_of spans place) (offset_of spans (start node))) place m h e
 arrival-marked P spans (reduces f vs) m h e = cc
 arrival-marked P spans (stands v place) m h e = cc
 arrival-marked P spans nothing_left m h e = cc
@@ -261,7 +310,8 @@ pub debugger-marked : (P : Marked → Type 0) (spans : List Span) (a : Active) (
     → is_debugger a ≡ true
     → arrival spans a ≡ Some m
     → P (record { mark = m; kind = kinds.Debugger })
-debugger-marked P spans (reduces (enter_debugger node) vs) m h d e = subst (λ (x : Mark). P (record { mark = x; kind = kinds.Debugger })) (same_mark (start node) m e) h
+debugger-marked P spans (reduces (enter_debugger node) vs) m h d e =
+    subst (λ (x : Mark). P (record { mark = x; kind = kinds.Debugger })) (same_mark (start node) m e) h
 debugger-marked P spans (reduces f vs) m h d e = cc
 debugger-marked P spans (stands v place) m h d e = cc
 debugger-marked P spans nothing_left m h d e = cc

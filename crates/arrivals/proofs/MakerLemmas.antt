@@ -86,7 +86,8 @@ name-fits P node n = record { same_node = refl; same_word = refl; belongs = λ c
 pub member-fits : (P : Marked → Type 0) (node : ℕ) (e : Made) (k : Marking) (n : List ℕ)
     → ExpressionFits P e k
     → ExpressionFits P (member_made node e n) (member_marking node k (length n))
-member-fits P node e k n f = record { same_node = refl; same_word = refl; belongs = λ c h. (tt, (f.belongs (unnamed c) h, tt), tt) }
+member-fits P node e k n f =
+    record { same_node = refl; same_word = refl; belongs = λ c h. (tt, (f.belongs (unnamed c) h, tt), tt) }
 
 body-belongs : (P : Marked → Type 0) (b : Items) (ms : Marks) (c : Context)
     → ItemsFit P b ms
@@ -97,20 +98,31 @@ body-belongs P b ms c f h = ((tt, f.belong (within 0 c) h, tt), f.functions_belo
 pub function-fits : (P : Marked → Type 0) (node : ℕ) (n : Option (List ℕ)) (ps : List (List ℕ)) (b : Items) (ms : Marks)
     → ItemsFit P b ms
     → ExpressionFits P (function_made node n ps b) (marking node (in_function node ms))
-function-fits P node (Some n) ps b ms f = made-fits P node _ (in_function node ms) (λ c h. let k = both-marks P ms _ h in (inr k.1.0, tt, body-belongs P b ms c f k.0))
-function-fits P node None ps b ms f = made-fits P node _ (in_function node ms) (λ c h. let k = both-marks P ms _ h in (inr k.1.0, tt, body-belongs P b ms c f k.0))
+function-fits P node (Some n) ps b ms f =
+    made-fits P node _ (in_function node ms)
+    (λ c h. let k = both-marks P ms _ h in (inr k.1.0, tt, body-belongs P b ms c f k.0))
+function-fits P node None ps b ms f =
+    made-fits P node _ (in_function node ms)
+    (λ c h. let k = both-marks P ms _ h in (inr k.1.0, tt, body-belongs P b ms c f k.0))
 
 pub arrow_block-fits : (P : Marked → Type 0) (node : ℕ) (ps : List (List ℕ)) (b : Items) (ms : Marks)
     → ItemsFit P b ms
     → ExpressionFits P (arrow_made node ps b) (marking node (in_function node ms))
-arrow_block-fits P node ps b ms f = made-fits P node _ (in_function node ms) (λ c h. let k = both-marks P ms _ h in (inr k.1.0, tt, body-belongs P b ms c f k.0))
+arrow_block-fits P node ps b ms f =
+    made-fits P node _ (in_function node ms)
+    (λ c h. let k = both-marks P ms _ h in (inr k.1.0, tt, body-belongs P b ms c f k.0))
 
 returned-fits : (P : Marked → Type 0) (e : Made) (k : Marking)
     → ExpressionFits P e k
     → ItemsFit P (returned_body e) (in_returned k)
 returned-fits P e k f = record {
   belong = λ c h.
-      let marked : HasMark P (start e.node) = (kinds.Return, subst (λ (node : ℕ). P (record { mark = start node; kind = kinds.Return })) (sym f.same_node) h.0) in
+      let marked : HasMark P (start e.node)
+      = (
+        kinds.Return,
+        subst (λ (node : ℕ). P (record { mark = start node; kind = kinds.Return })) (sym f.same_node) h.0,
+      )
+      in
       ((marked, tt, ((tt, (f.belongs (within e.node c) h.1, tt), tt), tt)), tt);
   functions_belong = λ c h. tt;
 }
@@ -118,7 +130,9 @@ returned-fits P e k f = record {
 pub arrow-fits : (P : Marked → Type 0) (node : ℕ) (ps : List (List ℕ)) (e : Made) (k : Marking)
     → ExpressionFits P e k
     → ExpressionFits P (arrow_made node ps (returned_body e)) (marking node (in_returned k))
-arrow-fits P node ps e k f = made-fits P node _ (in_returned k) (λ c h. (inl tt, tt, body-belongs P (returned_body e) (in_returned k) c (returned-fits P e k f) h))
+arrow-fits P node ps e k f =
+    made-fits P node _ (in_returned k)
+    (λ c h. (inl tt, tt, body-belongs P (returned_body e) (in_returned k) c (returned-fits P e k f) h))
 
 call-belongs : (P : Marked → Type 0) (m : Mark) (node : ℕ) (t : Term) (args : Terms)
     → P (record { mark = m; kind = kinds.Call })
@@ -130,15 +144,19 @@ call-belongs P m node (standing v place) args i h k = (i, (tt, (h, k)), tt)
 call-belongs P m node (part (read r) now later) args i h k = (i, h.1, k)
 call-belongs P m node (part f now later) args i h k = (i, (tt, (h, k)), tt)
 
-pub call-fits : (P : Marked → Type 0) (node : ℕ) (f : Made) (k : Marking) (parentheses : ℕ) (es : List Made) (ms : Marks)
+pub call-fits : (P : Marked → Type 0) (node : ℕ) (f : Made) (k : Marking) (parentheses : ℕ) (es : List Made)
+    (ms : Marks)
     → ExpressionFits P f k
     → ExpressionsFit P es ms
     → ExpressionFits P (call_made node f parentheses es) (marking node (in_call k parentheses ms))
 call-fits P node f k parentheses es ms g fits = made-fits P node _ (in_call k parentheses ms) (λ c h.
     let all = both-marks P (k.marks ++ _) ms h in
     let callee = both-marks P k.marks _ all.0 in
-    let placed : P (record { mark = place_or f.last_word parentheses; kind = kinds.Call }) = subst (λ (o : Option Mark). P (record { mark = place_or o parentheses; kind = kinds.Call })) (sym g.same_word) callee.1.0 in
-    call-belongs P (place_or f.last_word parentheses) c.statement (plain f c) (plains es c) placed (g.belongs (unnamed c) callee.0) (fits c all.1))
+    let placed : P (record { mark = place_or f.last_word parentheses; kind = kinds.Call }) = subst
+    (λ (o : Option Mark). P (record { mark = place_or o parentheses; kind = kinds.Call })) (sym g.same_word)
+    callee.1.0 in
+    call-belongs P (place_or f.last_word parentheses) c.statement (plain f c) (plains es c) placed
+    (g.belongs (unnamed c) callee.0) (fits c all.1))
 
 pub updated-belongs : (P : Marked → Type 0) (o : UpdateOperator) (b : Bool) (t : Term)
     → Belongs P t
@@ -209,7 +227,8 @@ pub two-fit : (P : Marked → Type 0) (d e : Made) (k l : Marking) (c : Context)
     → ExpressionFits P e l
     → AllMarks P (k.marks ++ l.marks)
     → Belongs P (plain d c) × Belongs P (plain e c)
-two-fit P d e k l c f g h = let m = both-marks P k.marks l.marks h in (f.belongs (unnamed c) m.0, g.belongs (unnamed c) m.1)
+two-fit P d e k l c f g h =
+    let m = both-marks P k.marks l.marks h in (f.belongs (unnamed c) m.0, g.belongs (unnamed c) m.1)
 
 pub conditional-fits : (P : Marked → Type 0) (node : ℕ) (t a b : Made) (k l m : Marking)
     → ExpressionFits P t k
@@ -227,8 +246,12 @@ pub value-fits : (P : Marked → Type 0) (key : PropertyKey) (e : Made) (ms : Ma
     → KeyFits P key ms
     → ExpressionFits P e k
     → PropertyFits P (value_property key e) (ms ++ k.marks)
-value-fits P (fixed_key n) e ms k f g c p h q = let m = both-marks P ms k.marks h in record { now_belong = (g.belongs (naming n c) m.1, q.now_belong); later_belong = q.later_belong }
-value-fits P (computed_key n) e ms k f g c p h q = let m = both-marks P ms k.marks h in record { now_belong = (f c m.0, (g.belongs (unnamed c) m.1, q.now_belong)); later_belong = q.later_belong }
+value-fits P (fixed_key n) e ms k f g c p h q =
+    let m = both-marks P ms k.marks h in
+    record { now_belong = (g.belongs (naming n c) m.1, q.now_belong); later_belong = q.later_belong }
+value-fits P (computed_key n) e ms k f g c p h q =
+    let m = both-marks P ms k.marks h in
+    record { now_belong = (f c m.0, (g.belongs (unnamed c) m.1, q.now_belong)); later_belong = q.later_belong }
 
 pub method-fits : (P : Marked → Type 0) (node : ℕ) (key : PropertyKey) (ps : List (List ℕ)) (b : Items) (ms ns : Marks)
     → KeyFits P key ms
@@ -241,7 +264,13 @@ method-fits P node (fixed_key n) ps b ms ns f g c p h q =
 method-fits P node (computed_key e) ps b ms ns f g c p h q =
     let m = both-marks P ms (in_function node ns) h in
     let k = both-marks P ns _ m.1 in
-    record { now_belong = (f c m.0, tt); later_belong = ((inr k.1.0, q.now_belong, body-belongs P b ns c g k.0), q.later_belong) }
+    record {
+      now_belong = (f c m.0, tt);
+      later_belong = (
+        (inr k.1.0, q.now_belong, body-belongs P b ns c g k.0),
+        q.later_belong,
+      );
+    }
 
 -- ---- statements
 
@@ -251,12 +280,14 @@ optional-none P = record { listed = λ c h. tt; or_other = λ c v h. tt }
 pub optional-some : (P : Marked → Type 0) (e : Made) (k : Marking)
     → ExpressionFits P e k
     → OptionalFits P (Some e) k.marks
-optional-some P e k f = record { listed = λ c h. (f.belongs (unnamed c) h, tt); or_other = λ c v h. f.belongs (unnamed c) h }
+optional-some P e k f =
+    record { listed = λ c h. (f.belongs (unnamed c) h, tt); or_other = λ c v h. f.belongs (unnamed c) h }
 
 entered-fits : (P : Marked → Type 0) (node : ℕ) (kind : SpotKind) (term : Context → Term) (ms : Marks)
     → ((c : Context) → AllMarks P ms → Belongs P (term c))
     → ItemFits P (untouched node term) (beginning kind node ++ ms)
-entered-fits P node kind term ms f = record { belongs = λ c h. ((kind, h.0), tt, (f (within node c) h.1, tt)); functions_belong = λ c h. tt }
+entered-fits P node kind term ms f =
+    record { belongs = λ c h. ((kind, h.0), tt, (f (within node c) h.1, tt)); functions_belong = λ c h. tt }
 
 block-fits : (P : Marked → Type 0) (b : Items) (ms : Marks) (c : Context)
     → ItemsFit P b ms
@@ -273,7 +304,12 @@ empty-fits P = record { belongs = λ c h. tt; functions_belong = λ c h. tt }
 pub lexical-fits : (P : Marked → Type 0) (node : ℕ) (constant : Bool) (ds : List DeclaratorMade) (ms : Marks)
     → DeclaratorsFit P ds ms
     → ItemFits P (lexical_item node constant ds) (beginning kinds.Plain node ++ ms)
-lexical-fits P node constant ds ms f = record { belongs = λ c h. ((kinds.Plain, h.0), tt, ((tt, f (within node c) h.1, tt), tt)); functions_belong = λ c h. tt }
+lexical-fits P node constant ds ms f =
+    record {
+      belongs = λ c h.
+          ((kinds.Plain, h.0), tt, ((tt, f (within node c) h.1, tt), tt));
+      functions_belong = λ c h. tt;
+    }
 
 pub expression-fits : (P : Marked → Type 0) (node : ℕ) (e : Made) (k : Marking)
     → ExpressionFits P e k
@@ -284,7 +320,9 @@ pub if-fits : (P : Marked → Type 0) (node : ℕ) (e : Made) (s : Item) (k : Ma
     → ExpressionFits P e k
     → ItemFits P s ms
     → ItemFits P (if_item node e s None) (beginning kinds.Plain node ++ k.marks ++ ms ++ [])
-if-fits P node e s k ms f g = entered-fits P node kinds.Plain (λ c. part choose (one (plain e c)) (more (s.term c) (one nothing))) (k.marks ++ ms ++ []) (λ c h.
+if-fits P node e s k ms f g =
+    entered-fits P node kinds.Plain (λ c. part choose (one (plain e c)) (more (s.term c) (one nothing)))
+    (k.marks ++ ms ++ []) (λ c h.
     let all = both-marks P (k.marks ++ ms) [] h in
     let m = both-marks P k.marks ms all.0 in
     (tt, (f.belongs (unnamed c) m.0, tt), (g.belongs c m.1, (tt, tt))))
@@ -294,7 +332,9 @@ pub if_else-fits : (P : Marked → Type 0) (node : ℕ) (e : Made) (s t : Item) 
     → ItemFits P s ms
     → ItemFits P t ns
     → ItemFits P (if_item node e s (Some t)) (beginning kinds.Plain node ++ k.marks ++ ms ++ ns)
-if_else-fits P node e s t k ms ns f g i = entered-fits P node kinds.Plain (λ c. part choose (one (plain e c)) (more (s.term c) (one (t.term c)))) (k.marks ++ ms ++ ns) (λ c h.
+if_else-fits P node e s t k ms ns f g i =
+    entered-fits P node kinds.Plain (λ c. part choose (one (plain e c)) (more (s.term c) (one (t.term c))))
+    (k.marks ++ ms ++ ns) (λ c h.
     let all = both-marks P (k.marks ++ ms) ns h in
     let m = both-marks P k.marks ms all.0 in
     (tt, (f.belongs (unnamed c) m.0, tt), (g.belongs c m.1, (i.belongs c all.1, tt))))
@@ -303,7 +343,9 @@ pub do_while-fits : (P : Marked → Type 0) (node : ℕ) (s : Item) (e : Made) (
     → ItemFits P s ms
     → ExpressionFits P e k
     → ItemFits P (do_while_item node s e) (beginning kinds.Plain node ++ ms ++ k.marks)
-do_while-fits P node s e ms k g f = entered-fits P node kinds.Plain (λ c. part (loop doing None) end (loop_parts (plain e c) nothing (s.term c))) (ms ++ k.marks) (λ c h.
+do_while-fits P node s e ms k g f =
+    entered-fits P node kinds.Plain (λ c. part (loop doing None) end (loop_parts (plain e c) nothing (s.term c)))
+    (ms ++ k.marks) (λ c h.
     let m = both-marks P ms k.marks h in
     (tt, tt, (f.belongs (unnamed c) m.1, (tt, (g.belongs c m.0, tt)))))
 
@@ -311,7 +353,9 @@ pub while-fits : (P : Marked → Type 0) (node : ℕ) (e : Made) (s : Item) (k :
     → ExpressionFits P e k
     → ItemFits P s ms
     → ItemFits P (while_item node e s) (beginning kinds.Plain node ++ k.marks ++ ms)
-while-fits P node e s k ms f g = entered-fits P node kinds.Plain (λ c. part (loop first None) end (loop_parts (plain e c) nothing (s.term c))) (k.marks ++ ms) (λ c h.
+while-fits P node e s k ms f g =
+    entered-fits P node kinds.Plain (λ c. part (loop first None) end (loop_parts (plain e c) nothing (s.term c)))
+    (k.marks ++ ms) (λ c h.
     let m = both-marks P k.marks ms h in
     (tt, tt, (f.belongs (unnamed c) m.0, (tt, (g.belongs c m.1, tt)))))
 
@@ -321,13 +365,19 @@ pub for-fits : (P : Marked → Type 0) (node : ℕ) (i t u : Option Made) (s : I
     → OptionalFits P u us
     → ItemFits P s ms
     → ItemFits P (for_item node i t u s) (beginning kinds.Plain node ++ is ++ ts ++ us ++ ms)
-for-fits P node i t u s is ts us ms f g h k = entered-fits P node kinds.Plain (λ c. part (loop first None) (optional_terms i c) (for_parts t u s c)) (is ++ ts ++ us ++ ms) (λ c all.
+for-fits P node i t u s is ts us ms f g h k =
+    entered-fits P node kinds.Plain (λ c. part (loop first None) (optional_terms i c) (for_parts t u s c))
+    (is ++ ts ++ us ++ ms) (λ c all.
     let four = both-marks P (is ++ ts ++ us) ms all in
     let three = both-marks P (is ++ ts) us four.0 in
-    let two = both-marks P is ts three.0 in
-    (tt, f.listed c two.0, (g.or_other c (values.Bool true) two.1, (h.or_other c values.Undefined three.1, (k.belongs c four.1, tt)))))
+    let two = both-marks P is ts three.0 in (
+      tt,
+      f.listed c two.0,
+      (g.or_other c (values.Bool true) two.1, (h.or_other c values.Undefined three.1, (k.belongs c four.1, tt))),
+    ))
 
-pub for_lexical-fits : (P : Marked → Type 0) (node : ℕ) (constant : Bool) (ds : List DeclaratorMade) (t u : Option Made) (s : Item) (is ts us ms : Marks)
+pub for_lexical-fits : (P : Marked → Type 0) (node : ℕ) (constant : Bool) (ds : List DeclaratorMade) (t u : Option Made)
+    (s : Item) (is ts us ms : Marks)
     → DeclaratorsFit P ds is
     → OptionalFits P t ts
     → OptionalFits P u us
@@ -338,12 +388,22 @@ for_lexical-fits P node constant ds t u s is ts us ms f g h k = record {
       let four = both-marks P (is ++ ts ++ us) ms all.1 in
       let three = both-marks P (is ++ ts) us four.0 in
       let two = both-marks P is ts three.0 in
-      let d : Context = within node c in
-      ((kinds.Plain, all.0), tt, ((tt, f d two.0, tt), (g.or_other d (values.Bool true) two.1, (h.or_other d values.Undefined three.1, (k.belongs d four.1, tt)))));
+      let d : Context = within node c in (
+        (kinds.Plain, all.0),
+        tt,
+        (
+          (tt, f d two.0, tt),
+          (
+            g.or_other d (values.Bool true) two.1,
+            (h.or_other d values.Undefined three.1, (k.belongs d four.1, tt)),
+          ),
+        ),
+      );
   functions_belong = λ c h. tt;
 }
 
-pub for_of-fits : (P : Marked → Type 0) (node : ℕ) (constant : Bool) (n : List ℕ) (e : Made) (s : Item) (k : Marking) (ms : Marks)
+pub for_of-fits : (P : Marked → Type 0) (node : ℕ) (constant : Bool) (n : List ℕ) (e : Made) (s : Item) (k : Marking)
+    (ms : Marks)
     → ExpressionFits P e k
     → ItemFits P s ms
     → ItemFits P (for_of_item node constant n e s) (beginning kinds.Plain node ++ k.marks ++ ms)
@@ -355,20 +415,25 @@ for_of-fits P node constant n e s k ms f g = record {
 }
 
 pub continue-fits : (P : Marked → Type 0) (node : ℕ) → ItemFits P (continue_item node) (beginning kinds.Plain node)
-continue-fits P node = record { belongs = λ c h. ((kinds.Plain, h.0), tt, ((tt, tt, tt), tt)); functions_belong = λ c h. tt }
+continue-fits P node =
+    record { belongs = λ c h. ((kinds.Plain, h.0), tt, ((tt, tt, tt), tt)); functions_belong = λ c h. tt }
 
 pub break-fits : (P : Marked → Type 0) (node : ℕ) → ItemFits P (break_item node) (beginning kinds.Plain node)
-break-fits P node = record { belongs = λ c h. ((kinds.Plain, h.0), tt, ((tt, tt, tt), tt)); functions_belong = λ c h. tt }
+break-fits P node =
+    record { belongs = λ c h. ((kinds.Plain, h.0), tt, ((tt, tt, tt), tt)); functions_belong = λ c h. tt }
 
 pub return-fits : (P : Marked → Type 0) (node : ℕ) (e : Option Made) (ms : Marks)
     → OptionalFits P e ms
     → ItemFits P (return_item node e) (beginning kinds.Return node ++ ms)
-return-fits P node e ms f = entered-fits P node kinds.Return (λ c. part return_ (optional_terms e c) end) ms (λ c h. (tt, f.listed c h, tt))
+return-fits P node e ms f =
+    entered-fits P node kinds.Return (λ c. part return_ (optional_terms e c) end) ms (λ c h. (tt, f.listed c h, tt))
 
 pub throw-fits : (P : Marked → Type 0) (node : ℕ) (e : Made) (k : Marking)
     → ExpressionFits P e k
     → ItemFits P (throw_item node e) (beginning kinds.Plain node ++ k.marks)
-throw-fits P node e k f = entered-fits P node kinds.Plain (λ c. part (throw_ node) (one (plain e c)) end) k.marks (λ c h. (tt, (f.belongs (unnamed c) h, tt), tt))
+throw-fits P node e k f =
+    entered-fits P node kinds.Plain (λ c. part (throw_ node) (one (plain e c)) end) k.marks
+    (λ c h. (tt, (f.belongs (unnamed c) h, tt), tt))
 
 -- a catch and a finally, where they are
 pub record CatchFits (P : Marked → Type 0) (o : Option CatchMade) (ms : Marks) : Type 0 where
@@ -394,10 +459,12 @@ pub try-fits : (P : Marked → Type 0) (node : ℕ) (b : Items) (h : Option Catc
     → CatchFits P h ns
     → FinallyFits P f os
     → ItemFits P (try_item node b h f) (beginning kinds.Plain node ++ ms ++ ns ++ os)
-try-fits P node b h f ms ns os g i k = entered-fits P node kinds.Plain (λ c. finally_term f (caught h (block_term b c) c) c) (ms ++ ns ++ os) (λ c all.
+try-fits P node b h f ms ns os g i k =
+    entered-fits P node kinds.Plain (λ c. finally_term f (caught h (block_term b c) c) c) (ms ++ ns ++ os) (λ c all.
     let three = both-marks P (ms ++ ns) os all in
     let two = both-marks P ms ns three.0 in
-    k.around_belongs (caught h (block_term b c) c) c (i.around_belongs (block_term b c) c (block-fits P b ms c g two.0) two.1) three.1)
+    k.around_belongs (caught h (block_term b c) c) c
+    (i.around_belongs (block_term b c) c (block-fits P b ms c g two.0) two.1) three.1)
 
 pub debugger-fits : (P : Marked → Type 0) (node : ℕ) → ItemFits P (debugger_item node) (beginning kinds.Debugger node)
 debugger-fits P node = record { belongs = λ c h. (h.0, tt, (tt, tt)); functions_belong = λ c h. tt }
@@ -405,7 +472,12 @@ debugger-fits P node = record { belongs = λ c h. (h.0, tt, (tt, tt)); functions
 pub declaration-fits : (P : Marked → Type 0) (node : ℕ) (n : List ℕ) (ps : List (List ℕ)) (b : Items) (ms : Marks)
     → ItemsFit P b ms
     → ItemFits P (function_item node n ps b) (in_function node ms)
-declaration-fits P node n ps b ms f = record { belongs = λ c h. tt; functions_belong = λ c h. let k = both-marks P ms _ h in ((inr k.1.0, tt, body-belongs P b ms c f k.0), tt) }
+declaration-fits P node n ps b ms f =
+    record {
+      belongs = λ c h. tt;
+      functions_belong = λ c h. let k = both-marks P ms _ h in
+          ((inr k.1.0, tt, body-belongs P b ms c f k.0), tt);
+    }
 
 pub no_items-fit : (P : Marked → Type 0) → ItemsFit P no_items []
 no_items-fit P = record { belong = λ c h. tt; functions_belong = λ c h. tt }
@@ -416,5 +488,7 @@ pub and_items-fit : (P : Marked → Type 0) (i : Item) (is : Items) (ms ns : Mar
     → ItemsFit P (and_items i is) (ms ++ ns)
 and_items-fit P i is ms ns f g = record {
   belong = λ c h. let m = both-marks P ms ns h in (f.belongs c m.0, g.belong c m.1);
-  functions_belong = λ c h. let m = both-marks P ms ns h in joined-belongs P (i.functions c) (is.functions c) (f.functions_belong c m.0) (g.functions_belong c m.1);
+  functions_belong =
+      λ c h. let m = both-marks P ms ns h in
+      joined-belongs P (i.functions c) (is.functions c) (f.functions_belong c m.0) (g.functions_belong c m.1);
 }

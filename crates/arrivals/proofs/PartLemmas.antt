@@ -63,7 +63,9 @@ at_update-belongs : (P : Marked → Type 0) (scope : Option Addr) (later : Terms
     → AllBelong P later
     → Belongs P (at_update scope later)
 at_update-belongs P scope later k =
-    either-belongs P (is_done (update_of later)) (at_test scope later) (part (loop updating scope) (one (update_of later)) later) (at_test-belongs P scope later k) (tt, (update-belongs P later k, tt), k)
+    either-belongs P (is_done (update_of later)) (at_test scope later)
+    (part (loop updating scope) (one (update_of later)) later) (at_test-belongs P scope later k)
+    (tt, (update-belongs P later k, tt), k)
 
 behind_body-belongs : (P : Marked → Type 0) (scope : Option Addr) (later : Terms)
     → AllBelong P later
@@ -75,7 +77,9 @@ at_body-belongs : (P : Marked → Type 0) (scope : Option Addr) (later : Terms)
     → AllBelong P later
     → Belongs P (at_body scope later)
 at_body-belongs P scope later k =
-    either-belongs P (is_done (body_of_loop later)) (behind_body scope later) (part (loop body scope) (one (body_of_loop later)) later) (behind_body-belongs P scope later k) (tt, (body-belongs P later k, tt), k)
+    either-belongs P (is_done (body_of_loop later)) (behind_body scope later)
+    (part (loop body scope) (one (body_of_loop later)) later) (behind_body-belongs P scope later k)
+    (tt, (body-belongs P later k, tt), k)
 
 behind_first-belongs : (P : Marked → Type 0) (scope : Option Addr) (later : Terms)
     → AllBelong P later
@@ -104,7 +108,8 @@ finished-belongs P f now later h = h
 pub settled-belongs : (P : Marked → Type 0) (f : Form) (now later : Terms)
     → Belongs P (part f now later)
     → Belongs P (settled f now later)
-settled-belongs P f now later h = either-belongs P (all_done now) (finished f now later) (part f now later) (finished-belongs P f now later h) h
+settled-belongs P f now later h =
+    either-belongs P (all_done now) (finished f now later) (part f now later) (finished-belongs P f now later h) h
 
 pub settle-belongs : (P : Marked → Type 0) (t : Term) → Belongs P t → Belongs P (settle t)
 settle-belongs P (done v) h = h
@@ -201,7 +206,9 @@ pub block-belongs : (P : Marked → Type 0) (scope : Addr) (names : List Binding
 block-belongs P scope [] end k = tt
 block-belongs P scope (b ∷ bs) end k = tt
 block-belongs P scope [] (more t fs) k = settle-belongs P t k.0
-block-belongs P scope (b ∷ bs) (more t fs) k = λ a. functions-belongs P a fs (go (settled (scoped a) (one (settle t)) end)) (scoped-belongs P (settle t) a (settle-belongs P t k.0))
+block-belongs P scope (b ∷ bs) (more t fs) k =
+    λ a. functions-belongs P a fs (go (settled (scoped a) (one (settle t)) end))
+    (scoped-belongs P (settle t) a (settle-belongs P t k.0))
 
 pub chosen-belongs : (P : Marked → Type 0) (b : Bool) (later : Terms) → AllBelong P later → Belongs P (chosen b later)
 chosen-belongs P true end k = tt
@@ -230,7 +237,8 @@ turn_or_end-belongs : (P : Marked → Type 0) (b : Bool) (scope : Option Addr) (
 turn_or_end-belongs P true scope later k = at_body-belongs P scope later k
 turn_or_end-belongs P false scope later k = tt
 
-pub loop-belongs : (P : Marked → Type 0) (w : World) (stage : Stage) (scope : Option Addr) (vs : List Value) (later : Terms)
+pub loop-belongs : (P : Marked → Type 0) (w : World) (stage : Stage) (scope : Option Addr) (vs : List Value)
+    (later : Terms)
     → AllBelong P later
     → BelongsAction P (loop_row w stage scope vs later)
 loop-belongs P w testing scope vs later k = turn_or_end-belongs P (is_truthy w (only vs)) scope later k
@@ -246,8 +254,10 @@ pub for_in-belongs : (P : Marked → Type 0) (constant : Bool) (a : Addr) (later
     → Belongs P (for_in constant a later)
 for_in-belongs P true a end k = tt
 for_in-belongs P false a end k = tt
-for_in-belongs P true a (more t ts) k = (tt, (settled-belongs P (loop first None) (one (settle t)) ts (tt, (settle-belongs P t k.0, tt), k.1), tt), tt)
-for_in-belongs P false a (more t ts) k = settled-belongs P (loop first (Some a)) (one (settle t)) ts (tt, (settle-belongs P t k.0, tt), k.1)
+for_in-belongs P true a (more t ts) k =
+    (tt, (settled-belongs P (loop first None) (one (settle t)) ts (tt, (settle-belongs P t k.0, tt), k.1), tt), tt)
+for_in-belongs P false a (more t ts) k =
+    settled-belongs P (loop first (Some a)) (one (settle t)) ts (tt, (settle-belongs P t k.0, tt), k.1)
 
 pub enter_for_of-belongs : (P : Marked → Type 0) (scope : Addr) (node : ℕ) (b : Binding) (later : Terms)
     → AllBelong P later
@@ -259,7 +269,8 @@ pub list-belongs : (P : Marked → Type 0) (w : World) (b : Binding) (x : Value)
     → AllBelong P later
     → BelongsAction P (list_row w b x later)
 list-belongs P w b x later k =
-    choose_belongs P (is_array w x) (go (part (turn_of b 0) end (more (done x) later))) (fail classes.TypeError (codes "Value is not an array")) (tt, tt, (tt, k))
+    choose_belongs P (is_array w x) (go (part (turn_of b 0) end (more (done x) later)))
+    (fail classes.TypeError (codes "Value is not an array")) (tt, tt, (tt, k))
     (fail-belongs P classes.TypeError (codes "Value is not an array"))
 
 body_part-belongs : (P : Marked → Type 0) (later : Terms) → AllBelong P later → Belongs P (body_part later)
@@ -272,35 +283,51 @@ pub turn-belongs : (P : Marked → Type 0) (scope : Addr) (b : Binding) (i : ℕ
     → BelongsAction P (turn_row scope b i o later)
 turn-belongs P scope b i None later k = tt
 turn-belongs P scope b i (Some x) later k =
-    λ a. settled-belongs P (body_of b (i + 1)) (one (settled (scoped a) (one (body_part later)) end)) later (tt, (scoped-belongs P (body_part later) a (body_part-belongs P later k), tt), k)
+    λ a. settled-belongs P (body_of b (i + 1)) (one (settled (scoped a) (one (body_part later)) end)) later
+    (tt, (scoped-belongs P (body_part later) a (body_part-belongs P later k), tt), k)
 
 pub comma-belongs : (P : Marked → Type 0) (later : Terms) → AllBelong P later → BelongsAction P (comma_row later)
 comma-belongs P end k = tt
 comma-belongs P (more t end) k = k.0
 comma-belongs P (more t (more u ts)) k = (tt, (k.0, tt), k.1)
 
-pub compound-belongs : (P : Marked → Type 0) (w : World) (scope : Addr) (o : BinaryOperator) (r : Reference) (vs : List Value) (later : Terms)
+pub compound-belongs : (P : Marked → Type 0) (w : World) (scope : Addr) (o : BinaryOperator) (r : Reference)
+    (vs : List Value) (later : Terms)
     → AllBelong P later
     → BelongsAction P (compound_row w scope o r vs later)
 compound-belongs P w scope o r vs end k = tt
 compound-belongs P w scope o r vs (more e ts) k =
-    result-belongs P (read_result w scope r vs) (λ old. go (part (assign r) (joined (dones vs) (one (part (binary o) (more (done old) (one e)) end))) end))
-    (λ x. (tt, joined-belongs P (dones vs) (one (part (binary o) (more (done x) (one e)) end)) (dones-belongs P vs) ((tt, (tt, (k.0, tt)), tt), tt), tt))
+    result-belongs P (read_result w scope r vs)
+    (λ old. go (part (assign r) (joined (dones vs) (one (part (binary o) (more (done old) (one e)) end))) end))
+    (λ x. (
+      tt,
+      joined-belongs P (dones vs) (one (part (binary o) (more (done x) (one e)) end)) (dones-belongs P vs)
+          ((tt, (tt, (k.0, tt)), tt), tt),
+      tt,
+    ))
 
-pub callee-belongs : (P : Marked → Type 0) (w : World) (scope : Addr) (r : Reference) (m : Mark) (node : ℕ) (vs : List Value) (later : Terms)
+pub callee-belongs : (P : Marked → Type 0) (w : World) (scope : Addr) (r : Reference) (m : Mark) (node : ℕ)
+    (vs : List Value) (later : Terms)
     → P (record { mark = m; kind = kinds.Call })
     → AllBelong P later
     → BelongsAction P (callee_row w scope r m node vs later)
 callee-belongs P w scope r m node vs later i k =
-    result-belongs P (read_result w scope r vs) (λ f. go (part (call m node) (more (done (callee_this r vs)) (more (done f) later)) end)) (λ x. (i, (tt, (tt, k)), tt))
+    result-belongs P (read_result w scope r vs)
+    (λ f. go (part (call m node) (more (done (callee_this r vs)) (more (done f) later)) end))
+    (λ x. (i, (tt, (tt, k)), tt))
 
-pub object-belongs : (P : Marked → Type 0) (w : World) (scope : Addr) (ms : List Member) (vs : List Value) (later : Terms)
+pub object-belongs : (P : Marked → Type 0) (w : World) (scope : Addr) (ms : List Member) (vs : List Value)
+    (later : Terms)
     → AllBelong P later
     → BelongsAction P (object_row w scope ms vs later)
-object-belongs P w scope ms vs end k = gives-belongs P (object_or_fail (properties_from w [] ms vs)) (made-gives (properties_from w [] ms vs))
+object-belongs P w scope ms vs end k =
+    gives-belongs P (object_or_fail (properties_from w [] ms vs)) (made-gives (properties_from w [] ms vs))
 object-belongs P w scope ms vs (more (part (method f) now later) ts) k =
-    key-belongs P (key_of w (last_of vs)) (λ key. make (function_cell f key scope values.Undefined) (λ a. go (part (object ms) (joined (dones vs) (more (done (values.Object a)) now)) ts)))
-    (λ key a. (tt, joined-belongs P (dones vs) (more (done (values.Object a)) now) (dones-belongs P vs) (tt, k.0.1), k.1))
+    key-belongs P (key_of w (last_of vs))
+    (λ key. make (function_cell f key scope values.Undefined)
+    (λ a. go (part (object ms) (joined (dones vs) (more (done (values.Object a)) now)) ts)))
+    (λ key a.
+    (tt, joined-belongs P (dones vs) (more (done (values.Object a)) now) (dones-belongs P vs) (tt, k.0.1), k.1))
 object-belongs P w scope ms vs (more _ ts) k = tt
 
 pub catch-belongs : (P : Marked → Type 0) (scope : Addr) (n : Option (List ℕ)) (x : Value) (later : Terms)

@@ -73,10 +73,14 @@ perform-raises : (a : Action) (s : State) → MoveRaises (perform a s)
 perform-raises (go t) s = tt
 perform-raises (raise v) s = tt
 perform-raises (leave c) s = tt
-perform-raises (make c k) s = after_raises s (make_cell s.world c) (λ a. perform (k a)) (λ a w. perform-raises (k a) (with_world s w))
-perform-raises (write a c k) s = after_raises s (write_cell s.world a c) (λ x. perform k) (λ x w. perform-raises k (with_world s w))
+perform-raises (make c k) s =
+    after_raises s (make_cell s.world c) (λ a. perform (k a)) (λ a w. perform-raises (k a) (with_world s w))
+perform-raises (write a c k) s =
+    after_raises s (write_cell s.world a c) (λ x. perform k) (λ x w. perform-raises k (with_world s w))
 perform-raises (print vs text) s = outside_raises (is_evaluation s.world) s _ tt
-perform-raises (take_line k) s = outside_raises (is_evaluation s.world) s _ (perform-raises (k (first_line s.input)) (record s { input = other_lines s.input }))
+perform-raises (take_line k) s =
+    outside_raises (is_evaluation s.world) s _
+    (perform-raises (k (first_line s.input)) (record s { input = other_lines s.input }))
 perform-raises (set_here m k) s = perform-raises k (with_here s m)
 perform-raises (push_frame f k) s = perform-raises k (record s { frames = f ∷ s.frames })
 perform-raises (pop_frame k) s = perform-raises k (record s { frames = rest_of s.frames })
@@ -112,7 +116,8 @@ around-raises : (p : Program) (scope : Addr) (f : Form) (later : Terms) (s : Sta
     → WalkRaises x
     → MoveRaises (around p scope f later s x)
 around-raises p scope f later s (all_values vs) h = perform-raises (row p s scope f vs later) s
-around-raises p scope f later s (moved (goes now t told)) h = if_raised told _ _ (settled_throw (all_done now) f now later refl) h
+around-raises p scope f later s (moved (goes now t told)) h =
+    if_raised told _ _ (settled_throw (all_done now) f now later refl) h
 around-raises p scope f later s (moved (travels c t)) h = perform-raises (taken scope f c later) t
 around-raises p scope f later s (moved (has_effect t)) h = tt
 around-raises p scope f later s (moved (is_full what t)) h = tt
@@ -139,13 +144,15 @@ mutual
   next-raises : (p : Program) (scope : Addr) (t : Term) (s : State) → MoveRaises (next p scope t s)
   next-raises p scope (done v) s = tt
   next-raises p scope (standing v place) s = tt
-  next-raises p scope (part f now later) s = around-raises p scope f later s (walk p (scope_in f scope) now s) (walk-raises p (scope_in f scope) now s)
+  next-raises p scope (part f now later) s =
+      around-raises p scope f later s (walk p (scope_in f scope) now s) (walk-raises p (scope_in f scope) now s)
 
   walk-raises : (p : Program) (scope : Addr) (ts : Terms) (s : State) → WalkRaises (walk p scope ts s)
   walk-raises p scope end s = tt
   walk-raises p scope (more (done v) ts) s = with_value-raises v (walk p scope ts s) (walk-raises p scope ts s)
   walk-raises p scope (more (standing v place) ts) s = tt
-  walk-raises p scope (more (part f now later) ts) s = inside-raises ts (next p scope (part f now later) s) (next-raises p scope (part f now later) s)
+  walk-raises p scope (more (part f now later) ts) s =
+      inside-raises ts (next p scope (part f now later) s) (next-raises p scope (part f now later) s)
 
 -- ---- one step, both ways
 
@@ -176,7 +183,8 @@ known-throw R (reduces f vs) caught h e = cc
 known-throw R nothing_left caught h e = cc
 
 stands-known : (R : Sources) (r : Run) → RunStands R r → HasThrow r → R.raises
-stands-known R (running t s) h e = known-throw R (active t) (is_caught t) (running-active R t (sources_of s.frames) h).throw_known e
+stands-known R (running t s) h e =
+    known-throw R (active t) (is_caught t) (running-active R t (sources_of s.frames) h).throw_known e
 stands-known R (over f s) h e = absurd e
 
 step-raises : (R : Sources) (p : Program) (r : Run)
@@ -184,8 +192,11 @@ step-raises : (R : Sources) (p : Program) (r : Run)
     → RunStandsBehind R r
     → HasThrow (step_in p script_scope r) ↔ (told_by p r ≡ Some raised)
 step-raises R p (running t s) g h =
-    let m : Move Term = next p script_scope t s in
-    (λ e. stands-known (behind_step R (told_of m)) (run_after m) (run-moves (behind_step R h.0) p script_scope t s g h.1) e, λ e. raised-stands m (next-raises p script_scope t s) e)
+    let m : Move Term = next p script_scope t s in (
+      λ e. stands-known (behind_step R (told_of m)) (run_after m)
+          (run-moves (behind_step R h.0) p script_scope t s g h.1) e,
+      λ e. raised-stands m (next-raises p script_scope t s) e,
+    )
 step-raises R p (over f s) g h = (λ e. absurd e, λ e. cc)
 
 -- ---- runs of scripts
@@ -198,7 +209,9 @@ abbrev every : Sources
 every = record { runs = λ source. Unit {0}; marks = λ source. every_mark; raises = ⊥ }
 
 every-part : (n : ℕ) (s : Script) → AllBelong every_mark (all_with_literals (λ i. Base i) (n + 0) (kept_parts s))
-every-part n s = placed-belong every_mark (λ i. Base i) (n + 0) (kept_parts s) (parts-belong every_mark s (each-mark every_mark (script_marks s) (λ m c. tt)))
+every-part n s =
+    placed-belong every_mark (λ i. Base i) (n + 0) (kept_parts s)
+    (parts-belong every_mark s (each-mark every_mark (script_marks s) (λ m c. tt)))
 
 every-waits : (ss : List Script) (n : ℕ) → AllWait every (all_with_literals (λ i. Base i) n (terms_of_scripts ss))
 every-waits [] n = tt
@@ -207,20 +220,27 @@ every-waits (s ∷ ss) n = ((tt, every-part n s), every-waits ss (n + length (li
 every-program : (ss : List Script) (number n : ℕ)
     → ProgramBelongs every (program_from number (all_with_literals (λ i. Base i) n (terms_of_scripts ss)))
 every-program [] number n = tt
-every-program (s ∷ ss) number n = ((tt, tt, every-part n s), every-program ss (number + 1) (n + length (literals (term_of_script s))))
+every-program (s ∷ ss) number n =
+    ((tt, tt, every-part n s), every-program ss (number + 1) (n + length (literals (term_of_script s))))
 
 start-waits : (ss : List Script) (input : List (List ℕ))
     → RunStands (behind_step every None) (start (terms_of_scripts ss) input)
-start-waits ss input = start-stands (behind_step every None) (script_source 1) (placed_scripts (terms_of_scripts ss)) (first_state (terms_of_scripts ss) input) refl tt (every-waits ss first_literal)
+start-waits ss input =
+    start-stands (behind_step every None) (script_source 1) (placed_scripts (terms_of_scripts ss))
+    (first_state (terms_of_scripts ss) input) refl tt (every-waits ss first_literal)
 
 none-raised : None ≡ Some raised → ⊥
 none-raised e = cc
 
 pub plain-raises : (k : ℕ) (ss : List Script) (input : List (List ℕ)) → StandsWhereRaised k (terms_of_scripts ss) input
-plain-raises zero ss input = λ e. none-raised (stands-known (behind_step every None) (start (terms_of_scripts ss) input) (start-waits ss input) e)
+plain-raises zero ss input =
+    λ e. none-raised
+    (stands-known (behind_step every None) (start (terms_of_scripts ss) input) (start-waits ss input) e)
 plain-raises (suc k) ss input =
     let ts : Terms = terms_of_scripts ss in
     let r : Run = plain k ts input in
     let belongs : ProgramBelongs every (program_of ts) = every-program ss 1 first_literal in
-    subst (λ (q : Run). HasThrow q ↔ (told_by (program_of ts) r ≡ Some raised)) (sym (steps-suc k (program_of ts) script_scope (start ts input)))
-    (step-raises every (program_of ts) r belongs (steps-stand every k (program_of ts) script_scope (start ts input) belongs (None, start-waits ss input)))
+    subst (λ (q : Run). HasThrow q ↔ (told_by (program_of ts) r ≡ Some raised))
+    (sym (steps-suc k (program_of ts) script_scope (start ts input)))
+    (step-raises every (program_of ts) r belongs
+    (steps-stand every k (program_of ts) script_scope (start ts input) belongs (None, start-waits ss input)))

@@ -25,9 +25,11 @@ first-returns (more t ts) later h = h
 pub settle-returns : (t : Term) → Returns t → Returns (settle t)
 settle-returns (done v) h = absurd h
 settle-returns (standing v place) h = absurd h
-settle-returns (part return_ now later) h = either-returns (all_done now) (part return_ now later) (part return_ now later) tt tt
+settle-returns (part return_ now later) h =
+    either-returns (all_done now) (part return_ now later) (part return_ now later) tt tt
 settle-returns (part (enter node) now end) h = absurd h
-settle-returns (part (enter node) now (more t ts)) h = either-returns (all_done now) (part (enter node) now (more t ts)) (part (enter node) now (more t ts)) h h
+settle-returns (part (enter node) now (more t ts)) h =
+    either-returns (all_done now) (part (enter node) now (more t ts)) (part (enter node) now (more t ts)) h h
 settle-returns (part sequence now later) h = sequence-returns now later (first-returns now later h)
 settle-returns (part f now later) h = absurd h
 
@@ -55,7 +57,8 @@ inside-returns ts (is_full what s) h = tt
 return-returns : (p : Program) (scope : Addr) (later : Terms) (s : State) (x : Walked)
     → MoveReturns (around p scope return_ later s x)
 return-returns p scope later s (all_values vs) = tt
-return-returns p scope later s (moved (goes now t told)) = either-returns (all_done now) (part return_ now later) (part return_ now later) tt tt
+return-returns p scope later s (moved (goes now t told)) =
+    either-returns (all_done now) (part return_ now later) (part return_ now later) tt tt
 return-returns p scope later s (moved (travels c t)) = tt
 return-returns p scope later s (moved (has_effect t)) = tt
 return-returns p scope later s (moved (is_full what t)) = tt
@@ -64,7 +67,8 @@ enter-returns : (p : Program) (scope : Addr) (node : ℕ) (t : Term) (ts : Terms
     → Returns t
     → MoveReturns (around p scope (enter node) (more t ts) s x)
 enter-returns p scope node t ts s (all_values vs) h = settle-returns t h
-enter-returns p scope node t ts s (moved (goes now u told)) h = either-returns (all_done now) (part (enter node) now (more t ts)) (part (enter node) now (more t ts)) h h
+enter-returns p scope node t ts s (moved (goes now u told)) h =
+    either-returns (all_done now) (part (enter node) now (more t ts)) (part (enter node) now (more t ts)) h h
 enter-returns p scope node t ts s (moved (travels c u)) h = tt
 enter-returns p scope node t ts s (moved (has_effect u)) h = tt
 enter-returns p scope node t ts s (moved (is_full what u)) h = tt
@@ -84,9 +88,11 @@ mutual
   next-returns p scope (standing v place) s h = absurd h
   next-returns p scope (part return_ now later) s h = return-returns p scope later s (walk p scope now s)
   next-returns p scope (part (enter node) now end) s h = absurd h
-  next-returns p scope (part (enter node) now (more t ts)) s h = enter-returns p scope node t ts s (walk p scope now s) h
+  next-returns p scope (part (enter node) now (more t ts)) s h =
+      enter-returns p scope node t ts s (walk p scope now s) h
   next-returns p scope (part sequence end later) s h = absurd h
-  next-returns p scope (part sequence (more t ts) later) s h = rest-returns p scope later s (walk p scope (more t ts) s) (walk-returns p scope (more t ts) s h)
+  next-returns p scope (part sequence (more t ts) later) s h =
+      rest-returns p scope later s (walk p scope (more t ts) s) (walk-returns p scope (more t ts) s h)
   next-returns p scope (part f now later) s h = absurd h
 
   walk-returns : (p : Program) (scope : Addr) (ts : Terms) (s : State)
@@ -95,7 +101,8 @@ mutual
   walk-returns p scope end s h = absurd h
   walk-returns p scope (more (done v) ts) s h = absurd h
   walk-returns p scope (more (standing v place) ts) s h = absurd h
-  walk-returns p scope (more (part f now later) ts) s h = inside-returns ts (next p scope (part f now later) s) (next-returns p scope (part f now later) s h)
+  walk-returns p scope (more (part f now later) ts) s h =
+      inside-returns ts (next p scope (part f now later) s) (next-returns p scope (part f now later) s h)
 
 -- what a walk through a body leads to begins by a `return` where the body does
 abbrev pub WalkKeeps : Terms → Walked → Type 0

@@ -25,7 +25,8 @@ use Rattle.arrivals.proofs.StepLemmas.{ActionStands, action-stands, perform-stan
 
 -- the bottom frame, of a script that runs, with what it makes of a script
 abbrev ScriptMoves : Sources → Move Term → Type 0
-ScriptMoves R (goes t s told) = (source : Source) × R.runs source × TermStands (behind_step R (Some told)) (source ∷ []) t (sources_of s.frames)
+ScriptMoves R (goes t s told) =
+    (source : Source) × R.runs source × TermStands (behind_step R (Some told)) (source ∷ []) t (sources_of s.frames)
 ScriptMoves R (travels c s) = Unit {0}
 ScriptMoves R (has_effect s) = Unit {0}
 ScriptMoves R (is_full what s) = Unit {0}
@@ -56,19 +57,24 @@ script-begins R source number names (more t fs) s e r w h =
     let own : List Source = script_source number ∷ [] in
     let made : Action = with_functions script_scope fs (go (settle t)) in
     let rest : Action = with_names script_scope names made in
-    let belongs : BelongsAction P rest = names-belongs P script_scope names made (functions-belongs P script_scope fs (go (settle t)) (settle-belongs P t h.0)) in
+    let belongs : BelongsAction P rest = names-belongs P script_scope names made
+    (functions-belongs P script_scope fs (go (settle t)) (settle-belongs P t h.0)) in
     of-source R (script_source number) (perform (script_row number names (more t fs)) s) w
     (perform-stands R own rest (record s { frames = script_frame number ∷ rest_of s.frames })
-    (subst (λ (under : List Source). ActionStands R own (script_source number ∷ under) rest) (sym (rest-nothing s.frames source e)) (action-stands R own rest belongs)))
+    (subst (λ (under : List Source). ActionStands R own (script_source number ∷ under) rest)
+    (sym (rest-nothing s.frames source e)) (action-stands R own rest belongs)))
 
 script-moves : (R : Sources) (source : Source) (p : Program) (scope : Addr) (f : Form) (now later : Terms) (s : State)
     → ProgramBelongs R p
     → R.runs source
     → ScriptStands R source (part f now later) (sources_of s.frames)
     → ScriptMoves R (next p scope (part f now later) s)
-script-moves R source p scope (script number names) end later s g r h = script-begins R source number names later s h.0 r h.1.0 h.1.1
+script-moves R source p scope (script number names) end later s g r h =
+    script-begins R source number names later s h.0 r h.1.0 h.1.1
 script-moves R source p scope (script number names) (more t ts) later s g r h = absurd h.1
-script-moves R source p scope f now later s g r h = of-source R source (next p scope (part f now later) s) r (next-stands R (source ∷ []) p scope (part f now later) s g h)
+script-moves R source p scope f now later s g r h =
+    of-source R source (next p scope (part f now later) s) r
+    (next-stands R (source ∷ []) p scope (part f now later) s g h)
 
 -- ---- scripts one after another
 
@@ -89,7 +95,8 @@ script-stands R source (script number names) now later all h = absurd h.0
 script-stands R source f now later all h = h
 
 abbrev ScriptsMove : Sources → Move Terms → Type 0
-ScriptsMove R (goes ts s told) = (source : Source) × R.runs source × ScriptsStand (behind_step R (Some told)) source ts (sources_of s.frames)
+ScriptsMove R (goes ts s told) =
+    (source : Source) × R.runs source × ScriptsStand (behind_step R (Some told)) source ts (sources_of s.frames)
 ScriptsMove R (travels c s) = Unit {0}
 ScriptsMove R (has_effect s) = Unit {0}
 ScriptsMove R (is_full what s) = Unit {0}
@@ -102,9 +109,11 @@ inside-scripts : (R : Sources) (ts : Terms) (m : Move Term)
     → AllWait R ts
     → ScriptMoves R m
     → ScriptsMove R (inside (λ t. more t ts) m)
-inside-scripts R ts (goes (done v) s told) k h = (h.0, h.1, waits-stand (behind_step R (Some told)) h.0 ts (sources_of s.frames) h.2 k)
+inside-scripts R ts (goes (done v) s told) k h =
+    (h.0, h.1, waits-stand (behind_step R (Some told)) h.0 ts (sources_of s.frames) h.2 k)
 inside-scripts R ts (goes (standing v place) s told) k h = (h.0, h.1, (h.2.0, h.2.1, k))
-inside-scripts R ts (goes (part f now later) s told) k h = (h.0, h.1, (script-stands (behind_step R (Some told)) h.0 f now later (sources_of s.frames) h.2, k))
+inside-scripts R ts (goes (part f now later) s told) k h =
+    (h.0, h.1, (script-stands (behind_step R (Some told)) h.0 f now later (sources_of s.frames) h.2, k))
 inside-scripts R ts (travels c s) k h = tt
 inside-scripts R ts (has_effect s) k h = tt
 inside-scripts R ts (is_full what s) k h = tt
@@ -127,9 +136,11 @@ walk-scripts : (R : Sources) (source : Source) (p : Program) (scope : Addr) (ts 
     → ScriptsStand R source ts (sources_of s.frames)
     → ScriptsWalk R (walk p scope ts s)
 walk-scripts R source p scope end s g r h = tt
-walk-scripts R source p scope (more (done v) ts) s g r h = with_value-scripts R v (walk p scope ts s) (walk-scripts R source p scope ts s g r h)
+walk-scripts R source p scope (more (done v) ts) s g r h =
+    with_value-scripts R v (walk p scope ts s) (walk-scripts R source p scope ts s g r h)
 walk-scripts R source p scope (more (standing v place) ts) s g r h = tt
-walk-scripts R source p scope (more (part f now later) ts) s g r h = inside-scripts R ts (next p scope (part f now later) s) h.1 (script-moves R source p scope f now later s g r h.0)
+walk-scripts R source p scope (more (part f now later) ts) s g r h =
+    inside-scripts R ts (next p scope (part f now later) s) h.1 (script-moves R source p scope f now later s g r h.0)
 
 -- ---- runs
 
@@ -148,7 +159,8 @@ around-scripts : (R : Sources) (p : Program) (scope : Addr) (later : Terms) (s :
     → ScriptsWalk R x
     → RunMoves R (around p scope scripts later s x)
 around-scripts R p scope later s (all_values vs) h = tt
-around-scripts R p scope later s (moved (goes ts t told)) h = scripts_if (behind_step R (Some told)) (all_done ts) h.0 ts later t h.1 h.2
+around-scripts R p scope later s (moved (goes ts t told)) h =
+    scripts_if (behind_step R (Some told)) (all_done ts) h.0 ts later t h.1 h.2
 around-scripts R p scope later s (moved (travels c t)) h = tt
 around-scripts R p scope later s (moved (has_effect t)) h = tt
 around-scripts R p scope later s (moved (is_full what t)) h = tt
@@ -159,7 +171,8 @@ pub run-moves : (R : Sources) (p : Program) (scope : Addr) (t : Term) (s : State
     → RunMoves R (next p scope t s)
 run-moves R p scope (done v) s g h = absurd h
 run-moves R p scope (standing v place) s g h = absurd h
-run-moves R p scope (part scripts now later) s g h = around-scripts R p scope later s (walk p scope now s) (walk-scripts R h.0 p scope now s g h.1 h.2)
+run-moves R p scope (part scripts now later) s g h =
+    around-scripts R p scope later s (walk p scope now s) (walk-scripts R h.0 p scope now s g h.1 h.2)
 run-moves R p scope (part f now later) s g h = absurd h
 
 -- behind a step, whatever it told, or before the first one
@@ -178,11 +191,13 @@ pub steps-stand : (R : Sources) (k : ℕ) (p : Program) (scope : Addr) (r : Run)
     → RunStandsBehind R r
     → RunStandsBehind R (steps_in k p scope r)
 steps-stand R zero p scope r g h = h
-steps-stand R (suc k) p scope r g h = steps-stand R k p scope (step_in p scope r) g (step-stands (behind_step R h.0) p scope r g h.1)
+steps-stand R (suc k) p scope r g h =
+    steps-stand R k p scope (step_in p scope r) g (step-stands (behind_step R h.0) p scope r g h.1)
 
 pub start-stands : (R : Sources) (source : Source) (ts : Terms) (s : State)
     → sources_of s.frames ≡ source ∷ []
     → R.runs source
     → AllWait R ts
     → RunStands R (run_of (settled scripts ts end) s)
-start-stands R source ts s e r h = scripts_if R (all_done ts) source ts end s r (waits-stand R source ts (sources_of s.frames) e h)
+start-stands R source ts s e r h =
+    scripts_if R (all_done ts) source ts end s r (waits-stand R source ts (sources_of s.frames) e h)

@@ -39,7 +39,8 @@ mutual
   returns-placed address n (standing v place) h = absurd h
   returns-placed address n (part return_ now later) h = tt
   returns-placed address n (part (enter node) now end) h = absurd h
-  returns-placed address n (part (enter node) now (more t ts)) h = returns-placed address (n + length (literals_of now)) t h
+  returns-placed address n (part (enter node) now (more t ts)) h =
+      returns-placed address (n + length (literals_of now)) t h
   returns-placed address n (part sequence end later) h = absurd h
   returns-placed address n (part sequence (more t ts) later) h = returns-placed address n t h
   returns-placed address n (part f now later) h = absurd h
@@ -70,14 +71,18 @@ mutual
   placed-belongs P address n (done v) h = tt
   placed-belongs P address n (standing v place) h = h
   placed-belongs P address n (part (literal us) now later) h = tt
-  placed-belongs P address n (part f now later) h =
-      (form-placed P address (n + length (literals_of now)) f later h.0, placed-belong P address n now h.1, placed-belong P address (n + length (literals_of now)) later h.2)
+  placed-belongs P address n (part f now later) h = (
+    form-placed P address (n + length (literals_of now)) f later h.0,
+    placed-belong P address n now h.1,
+    placed-belong P address (n + length (literals_of now)) later h.2,
+  )
 
   pub placed-belong : (P : Marked → Type 0) (address : ℕ → Addr) (n : ℕ) (ts : Terms)
       → AllBelong P ts
       → AllBelong P (all_with_literals address n ts)
   placed-belong P address n end h = tt
-  placed-belong P address n (more t ts) h = (placed-belongs P address n t h.0, placed-belong P address (n + length (literals t)) ts h.1)
+  placed-belong P address n (more t ts) h =
+      (placed-belongs P address n t h.0, placed-belong P address (n + length (literals t)) ts h.1)
 
 -- ---- numbers of scripts
 
@@ -85,7 +90,11 @@ mutual
 abbrev known : List Script → Sources
 known scripts = record {
   runs = λ source. (script : Script) × Contains scripts script × (source ≡ script_source script.number);
-  marks = λ source m. (script : Script) → Contains scripts script → source ≡ script_source script.number → Contains (script_marks script) m;
+  marks =
+      λ source m. (script : Script)
+      → Contains scripts script
+      → source ≡ script_source script.number
+      → Contains (script_marks script) m;
   raises = ⊥;
 }
 
@@ -95,7 +104,9 @@ pub number-at : (n : ℕ) (ss : List Script) (i : ℕ) (other : Script)
     → (slice_index_or ss i other).number ≡ n + i
 number-at n [] i other h l = absurd (omega (arith, l))
 number-at n (s ∷ ss) zero other h l = omega (arith, h.0)
-number-at n (s ∷ ss) (suc i) other h l = let k : (slice_index_or ss i other).number ≡ (n + 1) + i = number-at (n + 1) ss i other h.1 (omega (arith, l)) in omega (arith, k)
+number-at n (s ∷ ss) (suc i) other h l =
+    let k : (slice_index_or ss i other).number ≡ (n + 1) + i = number-at (n + 1) ss i other h.1 (omega (arith, l)) in
+    omega (arith, k)
 
 -- a script is the only one of its number
 only-one : (n : ℕ) (ss : List Script) (a b : Script)
@@ -126,7 +137,8 @@ own-marks : (scripts : List Script) (s : Script)
     → Contains scripts s
     → AllMarks ((known scripts).marks (script_source s.number)) (script_marks s)
 own-marks scripts s h k = each-mark ((known scripts).marks (script_source s.number)) (script_marks s)
-    (λ m c other l e. subst (λ (x : Script). Contains (script_marks x) m) (only-one 1 scripts s other h k l (same_number s.number other.number e)) c)
+    (λ m c other l e. subst (λ (x : Script). Contains (script_marks x) m)
+    (only-one 1 scripts s other h k l (same_number s.number other.number e)) c)
 
 -- the parts of a script's term
 abbrev pub kept_parts : Script → Terms
@@ -150,8 +162,13 @@ scripts-wait : (scripts : List Script) (ss : List Script) (n : ℕ)
 scripts-wait scripts [] n h k = tt
 scripts-wait scripts (s ∷ ss) n h k =
     let here : Contains scripts s = k s (0, omega arith, refl) in (
-      ((s, here, refl), placed-belong ((known scripts).marks (script_source s.number)) (λ i. Base i) (n + 0) (kept_parts s) (parts-belong ((known scripts).marks (script_source s.number)) s (own-marks scripts s h here))),
-      scripts-wait scripts ss (n + length (literals (term_of_script s))) h (λ x c. k x (suc c.0, omega (arith, c.1), c.2)),
+      (
+        (s, here, refl),
+        placed-belong ((known scripts).marks (script_source s.number)) (λ i. Base i) (n + 0) (kept_parts s)
+            (parts-belong ((known scripts).marks (script_source s.number)) s (own-marks scripts s h here)),
+      ),
+      scripts-wait scripts ss (n + length (literals (term_of_script s))) h
+          (λ x c. k x (suc c.0, omega (arith, c.1), c.2)),
     )
 
 program-belongs : (scripts : List Script) (ss : List Script) (n first : ℕ)
@@ -162,10 +179,16 @@ program-belongs : (scripts : List Script) (ss : List Script) (n first : ℕ)
 program-belongs scripts [] n first h g k = tt
 program-belongs scripts (s ∷ ss) n first h g k =
     let here : Contains scripts s = k s (0, omega arith, refl) in
-    let placed = placed-belong ((known scripts).marks (script_source s.number)) (λ i. Base i) (first + 0) (kept_parts s) (parts-belong ((known scripts).marks (script_source s.number)) s (own-marks scripts s h here)) in
-    let marked : AllBelong ((known scripts).marks (script_source n)) (all_with_literals (λ i. Base i) (first + 0) (kept_parts s)) = subst (λ (m : ℕ). AllBelong ((known scripts).marks (script_source m)) (all_with_literals (λ i. Base i) (first + 0) (kept_parts s))) g.0 placed in (
+    let placed = placed-belong ((known scripts).marks (script_source s.number)) (λ i. Base i) (first + 0) (kept_parts s)
+    (parts-belong ((known scripts).marks (script_source s.number)) s (own-marks scripts s h here)) in
+    let marked : AllBelong ((known scripts).marks (script_source n))
+    (all_with_literals (λ i. Base i) (first + 0) (kept_parts s)) = subst
+    (λ (m : ℕ). AllBelong ((known scripts).marks (script_source m))
+    (all_with_literals (λ i. Base i) (first + 0) (kept_parts s)))
+    g.0 placed in (
       ((s, here, ap (λ (m : ℕ). script_source m) (sym g.0)), tt, marked),
-      program-belongs scripts ss (n + 1) (first + length (literals (term_of_script s))) h g.1 (λ x c. k x (suc c.0, omega (arith, c.1), c.2)),
+      program-belongs scripts ss (n + 1) (first + length (literals (term_of_script s))) h g.1
+          (λ x c. k x (suc c.0, omega (arith, c.1), c.2)),
     )
 
 begins : (scripts : List Script) (ss : List Script) (input : List (List ℕ))
@@ -174,10 +197,14 @@ begins : (scripts : List Script) (ss : List Script) (input : List (List ℕ))
     → RunStands (behind_step (known scripts) None) (start_of (terms_of_scripts ss) input)
 begins scripts [] input e h = tt
 begins scripts (s ∷ ss) input e h =
-    let within : (x : Script) → Contains (s ∷ ss) x → Contains scripts x = λ x c. subst (λ (xs : List Script). Contains xs x) e c in
+    let within : (x : Script)
+    → Contains (s ∷ ss) x
+    → Contains scripts x = λ x c. subst (λ (xs : List Script). Contains xs x) e c in
     let numbered : ScriptsAreNumbered 1 (s ∷ ss) = subst (ScriptsAreNumbered 1) (sym e) h in
-    start-stands (behind_step (known scripts) None) (script_source 1) (placed_scripts (terms_of_scripts (s ∷ ss))) (first_state (terms_of_scripts (s ∷ ss)) input) refl
-    (s, within s (0, omega arith, refl), ap (λ (m : ℕ). script_source m) (sym numbered.0)) (scripts-wait scripts (s ∷ ss) first_literal h within)
+    start-stands (behind_step (known scripts) None) (script_source 1) (placed_scripts (terms_of_scripts (s ∷ ss)))
+    (first_state (terms_of_scripts (s ∷ ss)) input) refl
+    (s, within s (0, omega arith, refl), ap (λ (m : ℕ). script_source m) (sym numbered.0))
+    (scripts-wait scripts (s ∷ ss) first_literal h within)
 
 -- ---- the law
 
@@ -187,20 +214,25 @@ arrives : (scripts : List Script) (told : Option Told) (t : Term) (s : State)
 arrives scripts told t s h =
     let source : Source = (spot_of s).source in
     let stands : (known scripts).runs source = subst (known scripts).runs (top-source s.frames) h.all_run.0 in
-    let marked = λ (x : Script) (m : Mark) (e : at x.spans t ≡ Some m). arrival-marked (top_marks (known scripts) (sources_of s.frames)) x.spans (active t) m h.belongs e in
+    let marked = λ (x : Script) (m : Mark) (e : at x.spans t ≡ Some m). arrival-marked
+    (top_marks (known scripts) (sources_of s.frames)) x.spans (active t) m h.belongs e in
     let here = λ (x : Script) (r : RunsIn x s). top-source s.frames ∙ r in
     record {
       in_a_script = stands;
       each_frame = λ d f e. frame-runs (behind_step (known scripts) told) script_scope t s d f h e;
       at_a_mark = λ x m c r e. let k = marked x m e in (k.0, k.1 x c (here x r));
-      at_a_location = λ x m c r e. let k = marked x m e in mark_found x (break_locations x) refl (record { mark = m; kind = k.0 }) (k.1 x c (here x r));
+      at_a_location =
+          λ x m c r e. let k = marked x m e in
+          mark_found x (break_locations x) refl (record { mark = m; kind = k.0 }) (k.1 x c (here x r));
       at_a_debugger = λ x m c r e d.
-          let k = debugger-marked (top_marks (known scripts) (sources_of s.frames)) x.spans (active t) m h.belongs d e x c (here x r) in
+          let k = debugger-marked (top_marks (known scripts) (sources_of s.frames)) x.spans (active t)
+          m h.belongs d e x c (here x r) in
           (k, mark-located x m kinds.Debugger k);
     }
 
 run-arrives : (scripts : List Script) (r : Run) → RunStandsBehind (known scripts) r → RunArrives scripts r
-run-arrives scripts (running t s) h = arrives scripts h.0 t s (running-active (behind_step (known scripts) h.0) t (sources_of s.frames) h.1)
+run-arrives scripts (running t s) h =
+    arrives scripts h.0 t s (running-active (behind_step (known scripts) h.0) t (sources_of s.frames) h.1)
 run-arrives scripts (over f s) h = tt
 
 pub plain-arrives : (k : ℕ) (scripts : List Script) (input : List (List ℕ))
@@ -208,5 +240,6 @@ pub plain-arrives : (k : ℕ) (scripts : List Script) (input : List (List ℕ))
     → RunArrives scripts (plain_run k (terms_of_scripts scripts) input)
 plain-arrives k scripts input h =
     run-arrives scripts (plain_run k (terms_of_scripts scripts) input)
-    (steps-stand (known scripts) k (program_of (terms_of_scripts scripts)) script_scope (start_of (terms_of_scripts scripts) input)
+    (steps-stand (known scripts) k (program_of (terms_of_scripts scripts)) script_scope
+    (start_of (terms_of_scripts scripts) input)
     (program-belongs scripts scripts 1 first_literal h h (λ s c. c)) (None, begins scripts scripts input refl h))

@@ -82,16 +82,24 @@ mutual
   function_in-belongs P node (done v) h = tt
   function_in-belongs P node (standing v place) h = tt
   function_in-belongs P node (part (function f) now later) h =
-      within-belongs P (code_if (nat_eq f.node node) f later) (function_in_all node now) (function_in_all node later) (code_if-belongs P (nat_eq f.node node) f later h.0 h.2) (function_in_all-belongs P node now h.1) (function_in_all-belongs P node later h.2)
+      within-belongs P (code_if (nat_eq f.node node) f later) (function_in_all node now) (function_in_all node later)
+      (code_if-belongs P (nat_eq f.node node) f later h.0 h.2) (function_in_all-belongs P node now h.1)
+      (function_in_all-belongs P node later h.2)
   function_in-belongs P node (part (method f) now later) h =
-      within-belongs P (code_if (nat_eq f.node node) f later) (function_in_all node now) (function_in_all node later) (code_if-belongs P (nat_eq f.node node) f later h.0 h.2) (function_in_all-belongs P node now h.1) (function_in_all-belongs P node later h.2)
-  function_in-belongs P node (part f now later) h = within-belongs P None (function_in_all node now) (function_in_all node later) tt (function_in_all-belongs P node now h.1) (function_in_all-belongs P node later h.2)
+      within-belongs P (code_if (nat_eq f.node node) f later) (function_in_all node now) (function_in_all node later)
+      (code_if-belongs P (nat_eq f.node node) f later h.0 h.2) (function_in_all-belongs P node now h.1)
+      (function_in_all-belongs P node later h.2)
+  function_in-belongs P node (part f now later) h =
+      within-belongs P None (function_in_all node now) (function_in_all node later) tt
+      (function_in_all-belongs P node now h.1) (function_in_all-belongs P node later h.2)
 
   function_in_all-belongs : (P : Marked → Type 0) (node : ℕ) (ts : Terms)
       → AllBelong P ts
       → CodeBelongs P (function_in_all node ts)
   function_in_all-belongs P node end h = tt
-  function_in_all-belongs P node (more t ts) h = first-belongs P (function_in node t) (function_in_all node ts) (function_in-belongs P node t h.0) (function_in_all-belongs P node ts h.1)
+  function_in_all-belongs P node (more t ts) h =
+      first-belongs P (function_in node t) (function_in_all node ts) (function_in-belongs P node t h.0)
+      (function_in_all-belongs P node ts h.1)
 
 -- the code is of a source that runs
 abbrev KnownCode : Sources → Source → Option FunctionCode → Type 0
@@ -113,7 +121,8 @@ tree-code R source node (standing v place) h = absurd h
 tree-code R source node (part (script number names) now later) h =
     let P : Marked → Type 0 = R.marks source in
     known-code R source (first_code None (first_code (function_in_all node now) (function_in_all node later))) h.0
-    (within-belongs P None (function_in_all node now) (function_in_all node later) tt (function_in_all-belongs P node now h.1) (function_in_all-belongs P node later h.2))
+    (within-belongs P None (function_in_all node now) (function_in_all node later) tt
+    (function_in_all-belongs P node now h.1) (function_in_all-belongs P node later h.2))
 tree-code R source node (part f now later) h = absurd h
 
 at_if : (R : Sources) (other source : Source) (b : Bool) (o q : Option FunctionCode)
@@ -129,7 +138,8 @@ function_at-known : (R : Sources) (p : Program) (source : Source) (node : ℕ)
     → KnownCode R source (function_at p source node)
 function_at-known R [] source node h = tt
 function_at-known R (t ∷ ts) source node h =
-    at_if R t.source source (same_source t.source source) (function_in node t.tree) (function_at ts source node) refl (tree-code R t.source node t.tree h.0) (function_at-known R ts source node h.1)
+    at_if R t.source source (same_source t.source source) (function_in node t.tree) (function_at ts source node) refl
+    (tree-code R t.source node t.tree h.0) (function_at-known R ts source node h.1)
 
 -- ---- a part that waits, in its frame
 
@@ -216,22 +226,41 @@ pub perform-stands : (R : Sources) (outside : List Source) (a : Action) (s : Sta
 perform-stands R outside (go t) s h = h
 perform-stands R outside (raise v) s h = (h, refl)
 perform-stands R outside (leave c) s h = h
-perform-stands R outside (make c k) s h = after_stands R outside s (make_cell s.world c) (λ a. perform (k a)) h.0 (λ a w. perform-stands R outside (k a) (with_world s w) (h.1 a))
-perform-stands R outside (write a c k) s h = after_stands R outside s (write_cell s.world a c) (λ x. perform k) h.0 (λ x w. perform-stands R outside k (with_world s w) h.1)
+perform-stands R outside (make c k) s h =
+    after_stands R outside s (make_cell s.world c) (λ a. perform (k a)) h.0
+    (λ a w. perform-stands R outside (k a) (with_world s w) (h.1 a))
+perform-stands R outside (write a c k) s h =
+    after_stands R outside s (write_cell s.world a c) (λ x. perform k) h.0
+    (λ x w. perform-stands R outside k (with_world s w) h.1)
 perform-stands R outside (print vs text) s h = outside_stands R outside (is_evaluation s.world) s _ h
-perform-stands R outside (take_line k) s h = outside_stands R outside (is_evaluation s.world) s _ (perform-stands R outside (k (first_line s.input)) (record s { input = other_lines s.input }) (h (first_line s.input)))
-perform-stands R outside (set_here m k) s h = perform-stands R outside k (with_here s m) (subst (λ (all : List Source). ActionStands R outside all k) (sym (moved-sources s.frames m)) h)
+perform-stands R outside (take_line k) s h =
+    outside_stands R outside (is_evaluation s.world) s _
+    (perform-stands R outside (k (first_line s.input)) (record s { input = other_lines s.input })
+    (h (first_line s.input)))
+perform-stands R outside (set_here m k) s h =
+    perform-stands R outside k (with_here s m)
+    (subst (λ (all : List Source). ActionStands R outside all k) (sym (moved-sources s.frames m)) h)
 perform-stands R outside (push_frame f k) s h = perform-stands R outside k (record s { frames = f ∷ s.frames }) h
-perform-stands R outside (pop_frame k) s h = perform-stands R outside k (record s { frames = rest_of s.frames }) (subst (λ (all : List Source). ActionStands R outside all k) (sym (rest-sources s.frames)) h)
+perform-stands R outside (pop_frame k) s h =
+    perform-stands R outside k (record s { frames = rest_of s.frames })
+    (subst (λ (all : List Source). ActionStands R outside all k) (sym (rest-sources s.frames)) h)
 
 -- ---- calls
 
-entered-stands : (R : Sources) (outside : List Source) (scope : Addr) (ts : Terms) (c : FunctionCode) (source : Source) (a : Addr) (x : Value) (s : Addr)
+entered-stands : (R : Sources) (outside : List Source) (scope : Addr) (ts : Terms) (c : FunctionCode) (source : Source)
+    (a : Addr) (x : Value) (s : Addr)
     → KnownCode R source (Some c)
     → ActionStands R outside outside (with_functions scope ts (frame_entered c source a x s))
-entered-stands R outside scope end c source a x s h =
-    (source, h.0, closes-settled (R.marks source) c.form.node c.body h.1.0, all-stand (behind_step R (Some went)) (source ∷ outside) (one (settle c.body)) (settle-belongs (R.marks source) c.body h.1.1, tt), tt)
-entered-stands R outside scope (more (part (function f) now later) ts) c source a x s h = (refl, λ d. (refl, entered-stands R outside scope ts c source a x s h))
+entered-stands R outside scope end c source a x s h = (
+  source,
+  h.0,
+  closes-settled (R.marks source) c.form.node c.body h.1.0,
+  all-stand (behind_step R (Some went)) (source ∷ outside) (one (settle c.body))
+      (settle-belongs (R.marks source) c.body h.1.1, tt),
+  tt,
+)
+entered-stands R outside scope (more (part (function f) now later) ts) c source a x s h =
+    (refl, λ d. (refl, entered-stands R outside scope ts c source a x s h))
 entered-stands R outside scope (more _ ts) c source a x s h = entered-stands R outside scope ts c source a x s h
 
 choose_stands : (R : Sources) (outside all : List Source) (b : Bool) (x y : Action)
@@ -243,32 +272,47 @@ choose_stands R outside all false x y h k = k
 
 fail-stands : (R : Sources) (outside : List Source) (class : ErrorClass) (message : List ℕ)
     → ActionStands R outside outside (fail class message)
-fail-stands R outside class message = action-stands R outside (fail class message) (fail-belongs (top_marks R outside) class message)
+fail-stands R outside class message =
+    action-stands R outside (fail class message) (fail-belongs (top_marks R outside) class message)
 
-code-stands : (R : Sources) (outside : List Source) (s : State) (o : Option FunctionCode) (source : Source) (a : Addr) (name : List ℕ) (outer : Option Addr) (x y : Value) (args : List Value)
+code-stands : (R : Sources) (outside : List Source) (s : State) (o : Option FunctionCode) (source : Source) (a : Addr)
+    (name : List ℕ) (outer : Option Addr) (x y : Value) (args : List Value)
     → KnownCode R source o
     → ActionStands R outside outside (call_code s o source a name outer x y args)
-code-stands R outside s None source a name outer x y args h = fail-stands R outside classes.TypeError (codes "Value is not a function")
-code-stands R outside s (Some c) source a name None x y args h = fail-stands R outside classes.TypeError (codes "Value is not a function")
+code-stands R outside s None source a name outer x y args h =
+    fail-stands R outside classes.TypeError (codes "Value is not a function")
+code-stands R outside s (Some c) source a name None x y args h =
+    fail-stands R outside classes.TypeError (codes "Value is not a function")
 code-stands R outside s (Some c) source a name (Some outer) x y args h =
-    choose_stands R outside outside (nat_lt (length s.frames) frame_limit) (entered c source a name outer (called_this c.form.is_arrow x y) args) too_deep
+    choose_stands R outside outside (nat_lt (length s.frames) frame_limit)
+    (entered c source a name outer (called_this c.form.is_arrow x y) args) too_deep
     (refl, λ d. entered-stands R outside d c.functions c source a (called_this c.form.is_arrow x y) d h)
     (fail-stands R outside classes.RangeError (codes "Maximum call stack size exceeded"))
 
-cell-stands : (R : Sources) (outside : List Source) (p : Program) (s : State) (a : Addr) (o : Option Cell) (y : Value) (args : List Value)
+cell-stands : (R : Sources) (outside : List Source) (p : Program) (s : State) (a : Addr) (o : Option Cell) (y : Value)
+    (args : List Value)
     → ProgramBelongs R p
     → ActionStands R outside outside (call_cell p s a o y args)
 cell-stands R outside p s a None y args h = fail-stands R outside classes.TypeError (codes "Value is not a function")
-cell-stands R outside p s a (Some (cells.Function (code.BuiltIn f) n l outer x)) y args h = action-stands R outside (built_in_call s.world f y args) (gives-belongs (top_marks R outside) (built_in_call s.world f y args) (built_in-gives s.world f y args))
+cell-stands R outside p s a (Some (cells.Function (code.BuiltIn f) n l outer x)) y args h =
+    action-stands R outside (built_in_call s.world f y args)
+    (gives-belongs (top_marks R outside) (built_in_call s.world f y args) (built_in-gives s.world f y args))
 cell-stands R outside p s a (Some (cells.Function (code.Script number node) n l outer x)) y args h =
-    code-stands R outside s (function_at p (script_source number) node) (script_source number) a n outer x y args (function_at-known R p (script_source number) node h)
+    code-stands R outside s (function_at p (script_source number) node) (script_source number) a n outer x y args
+    (function_at-known R p (script_source number) node h)
 cell-stands R outside p s a (Some (cells.Function (code.Kept at node) n l outer x)) y args h =
-    code-stands R outside s (function_at p (kept_source at) node) (kept_source at) a n outer x y args (function_at-known R p (kept_source at) node h)
-cell-stands R outside p s a (Some (cells.Object ps)) y args h = fail-stands R outside classes.TypeError (codes "Value is not a function")
-cell-stands R outside p s a (Some (cells.Error class ps)) y args h = fail-stands R outside classes.TypeError (codes "Value is not a function")
-cell-stands R outside p s a (Some (cells.Array vs)) y args h = fail-stands R outside classes.TypeError (codes "Value is not a function")
-cell-stands R outside p s a (Some (cells.Text us)) y args h = fail-stands R outside classes.TypeError (codes "Value is not a function")
-cell-stands R outside p s a (Some (cells.Bindings kind n o ns)) y args h = fail-stands R outside classes.TypeError (codes "Value is not a function")
+    code-stands R outside s (function_at p (kept_source at) node) (kept_source at) a n outer x y args
+    (function_at-known R p (kept_source at) node h)
+cell-stands R outside p s a (Some (cells.Object ps)) y args h =
+    fail-stands R outside classes.TypeError (codes "Value is not a function")
+cell-stands R outside p s a (Some (cells.Error class ps)) y args h =
+    fail-stands R outside classes.TypeError (codes "Value is not a function")
+cell-stands R outside p s a (Some (cells.Array vs)) y args h =
+    fail-stands R outside classes.TypeError (codes "Value is not a function")
+cell-stands R outside p s a (Some (cells.Text us)) y args h =
+    fail-stands R outside classes.TypeError (codes "Value is not a function")
+cell-stands R outside p s a (Some (cells.Bindings kind n o ns)) y args h =
+    fail-stands R outside classes.TypeError (codes "Value is not a function")
 
 value-stands : (R : Sources) (outside : List Source) (p : Program) (s : State) (f y : Value) (args : List Value)
     → ProgramBelongs R p
@@ -286,7 +330,8 @@ call-stands R outside p s m (x ∷ f ∷ args) h = value-stands R outside p s f 
 -- ---- a form outside the part about to be reduced, and the frames outside its parts
 
 abbrev pub Inside : Sources → List Source → Form → Terms → Terms → List Source → Type 0
-Inside R outside (frame node a) now later parts = (source : Source) × (parts ≡ source ∷ outside) × R.runs source × Closes (R.marks source) node now
+Inside R outside (frame node a) now later parts =
+    (source : Source) × (parts ≡ source ∷ outside) × R.runs source × Closes (R.marks source) node now
 Inside R outside f now later parts = (parts ≡ outside) × FormBelongs (top_marks R outside) f later
 
 pub opened : (R : Sources) (outside : List Source) (f : Form) (now later : Terms) (all : List Source)
@@ -302,7 +347,8 @@ inside-keeps : (R : Sources) (outside : List Source) (f : Form) (now ts later : 
     → Inside R outside f now later parts
     → (FirstReturns now → FirstReturns ts)
     → Inside R outside f ts later parts
-inside-keeps R outside (frame node a) now ts later parts i h = (i.0, i.1, i.2, closes_first (R.marks i.0) node now ts i.3 h)
+inside-keeps R outside (frame node a) now ts later parts i h =
+    (i.0, i.1, i.2, closes_first (R.marks i.0) node now ts i.3 h)
 inside-keeps R outside f now ts later parts i h = i
 
 part-stands : (R : Sources) (outside : List Source) (f : Form) (now later : Terms) (parts all : List Source)
@@ -310,7 +356,8 @@ part-stands : (R : Sources) (outside : List Source) (f : Form) (now later : Term
     → AllStand R parts now all
     → AllBelong (top_marks R outside) later
     → TermStands R outside (part f now later) all
-part-stands R outside (frame node a) now later parts all i h k = (i.0, i.2, i.3, subst (λ (x : List Source). AllStand R x now all) i.1 h, k)
+part-stands R outside (frame node a) now later parts all i h k =
+    (i.0, i.2, i.3, subst (λ (x : List Source). AllStand R x now all) i.1 h, k)
 part-stands R outside f now later parts all i h k = (i.1, subst (λ (x : List Source). AllStand R x now all) i.0 h, k)
 
 values-belong : (P : Marked → Type 0) (ts : Terms) → all_done ts ≡ true → AllBelong P ts
@@ -332,7 +379,8 @@ at-stands : (R : Sources) (outside : List Source) (t : Term) (all : List Source)
     → all ≡ outside
     → Belongs (top_marks R outside) t
     → TermStands R outside t all
-at-stands R outside t all e h = subst (λ (x : List Source). TermStands R outside t x) (sym e) (belongs-stands R outside t h)
+at-stands R outside t all e h =
+    subst (λ (x : List Source). TermStands R outside t x) (sym e) (belongs-stands R outside t h)
 
 finished-stands : (R : Sources) (outside : List Source) (f : Form) (now later : Terms) (parts all : List Source)
     → Inside R outside f now later parts
@@ -340,9 +388,11 @@ finished-stands : (R : Sources) (outside : List Source) (f : Form) (now later : 
     → AllStand R parts now all
     → AllBelong (top_marks R outside) later
     → TermStands R outside (finished f now later) all
-finished-stands R outside (frame node a) now later parts all i e h k = part-stands R outside (frame node a) now later parts all i h k
+finished-stands R outside (frame node a) now later parts all i e h k =
+    part-stands R outside (frame node a) now later parts all i h k
 finished-stands R outside f now later parts all i e h k =
-    at-stands R outside (finished f now later) all (values-stand R parts now all e h ∙ i.0) (finished-belongs (top_marks R outside) f now later (i.1, values-belong (top_marks R outside) now e, k))
+    at-stands R outside (finished f now later) all (values-stand R parts now all e h ∙ i.0)
+    (finished-belongs (top_marks R outside) f now later (i.1, values-belong (top_marks R outside) now e, k))
 
 settled_if : (R : Sources) (outside : List Source) (b : Bool) (f : Form) (now later : Terms) (parts all : List Source)
     → all_done now ≡ b
@@ -359,7 +409,8 @@ row-belongs : (R : Sources) (outside parts : List Source) (a : Action)
     → parts ≡ outside
     → BelongsAction (top_marks R outside) a
     → ActionStands R outside parts a
-row-belongs R outside parts a e h = subst (λ (x : List Source). ActionStands R outside x a) (sym e) (action-stands R outside a h)
+row-belongs R outside parts a e h =
+    subst (λ (x : List Source). ActionStands R outside x a) (sym e) (action-stands R outside a h)
 
 row-gives : (R : Sources) (outside parts : List Source) (a : Action)
     → parts ≡ outside
@@ -367,38 +418,83 @@ row-gives : (R : Sources) (outside parts : List Source) (a : Action)
     → ActionStands R outside parts a
 row-gives R outside parts a e h = row-belongs R outside parts a e (gives-belongs (top_marks R outside) a h)
 
-row-stands : (R : Sources) (outside : List Source) (p : Program) (s : State) (scope : Addr) (f : Form) (vs : List Value) (now later : Terms) (parts : List Source)
+row-stands : (R : Sources) (outside : List Source) (p : Program) (s : State) (scope : Addr) (f : Form) (vs : List Value)
+    (now later : Terms) (parts : List Source)
     → ProgramBelongs R p
     → Inside R outside f now later parts
     → AllBelong (top_marks R outside) later
     → ActionStands R outside parts (row p s scope f vs later)
 row-stands R outside p s scope (script number names) vs now later parts g i k = absurd i.1
-row-stands R outside p s scope (enter node) vs now later parts g i k = row-belongs R outside parts (enter_row node later) i.0 (enter-belongs (top_marks R outside) node later k)
-row-stands R outside p s scope (enter_debugger node) vs now later parts g i k = row-belongs R outside parts (enter_row node later) i.0 (enter-belongs (top_marks R outside) node later k)
-row-stands R outside p s scope (enter_for node constant names) vs now later parts g i k = row-belongs R outside parts (enter_for_row scope node constant names later) i.0 (λ a. for_in-belongs (top_marks R outside) constant a later k)
-row-stands R outside p s scope (enter_for_of node x) vs now later parts g i k = row-belongs R outside parts (enter_for_of_row scope node x later) i.0 (enter_for_of-belongs (top_marks R outside) scope node x later k)
-row-stands R outside p s scope (block names) vs now later parts g i k = row-belongs R outside parts (block_row scope names later) i.0 (block-belongs (top_marks R outside) scope names later k)
+row-stands R outside p s scope (enter node) vs now later parts g i k =
+    row-belongs R outside parts (enter_row node later) i.0 (enter-belongs (top_marks R outside) node later k)
+row-stands R outside p s scope (enter_debugger node) vs now later parts g i k =
+    row-belongs R outside parts (enter_row node later) i.0 (enter-belongs (top_marks R outside) node later k)
+row-stands R outside p s scope (enter_for node constant names) vs now later parts g i k =
+    row-belongs R outside parts (enter_for_row scope node constant names later) i.0
+    (λ a. for_in-belongs (top_marks R outside) constant a later k)
+row-stands R outside p s scope (enter_for_of node x) vs now later parts g i k =
+    row-belongs R outside parts (enter_for_of_row scope node x later) i.0
+    (enter_for_of-belongs (top_marks R outside) scope node x later k)
+row-stands R outside p s scope (block names) vs now later parts g i k =
+    row-belongs R outside parts (block_row scope names later) i.0
+    (block-belongs (top_marks R outside) scope names later k)
 row-stands R outside p s scope (initialize name) vs now later parts g i k = (i.0, i.0)
-row-stands R outside p s scope choose vs now later parts g i k = row-belongs R outside parts (go (chosen (is_truthy s.world (only vs)) later)) i.0 (chosen-belongs (top_marks R outside) (is_truthy s.world (only vs)) later k)
-row-stands R outside p s scope both vs now later parts g i k = row-belongs R outside parts (go (kept_or (is_truthy s.world (only vs)) (only vs) later)) i.0 (kept-belongs (top_marks R outside) (is_truthy s.world (only vs)) (only vs) later k)
-row-stands R outside p s scope either vs now later parts g i k = row-belongs R outside parts (go (otherwise (is_truthy s.world (only vs)) (only vs) later)) i.0 (otherwise-belongs (top_marks R outside) (is_truthy s.world (only vs)) (only vs) later k)
-row-stands R outside p s scope (loop stage a) vs now later parts g i k = row-belongs R outside parts (loop_row s.world stage a vs later) i.0 (loop-belongs (top_marks R outside) s.world stage a vs later k)
-row-stands R outside p s scope (list_of x) vs now later parts g i k = row-belongs R outside parts (list_row s.world x (only vs) later) i.0 (list-belongs (top_marks R outside) s.world x (only vs) later k)
-row-stands R outside p s scope (turn_of x n) vs now later parts g i k = row-belongs R outside parts (turn_row scope x n (elements_of s.world later n) later) i.0 (turn-belongs (top_marks R outside) scope x n (elements_of s.world later n) later k)
-row-stands R outside p s scope (read r) vs now later parts g i k = row-belongs R outside parts (with_result (read_result s.world scope r vs) give) i.0 (result-belongs (top_marks R outside) (read_result s.world scope r vs) give (λ x. tt))
-row-stands R outside p s scope (typeof_name x) vs now later parts g i k = row-gives R outside parts (type_of_found s.world x (found s.world scope x)) i.0 (type_of-gives s.world x (found s.world scope x))
-row-stands R outside p s scope (unary op) vs now later parts g i k = row-belongs R outside parts (with_result (unary_result s.world op (only vs)) give) i.0 (result-belongs (top_marks R outside) (unary_result s.world op (only vs)) give (λ x. tt))
-row-stands R outside p s scope (binary op) vs now later parts g i k = row-belongs R outside parts (with_result (binary_result s.world op (argument vs 0) (argument vs 1)) give) i.0 (result-belongs (top_marks R outside) (binary_result s.world op (argument vs 0) (argument vs 1)) give (λ x. tt))
-row-stands R outside p s scope comma vs now later parts g i k = row-belongs R outside parts (comma_row later) i.0 (comma-belongs (top_marks R outside) later k)
-row-stands R outside p s scope (function f) vs now later parts g i k = row-gives R outside parts (function_row s scope f) i.0 (function_row-gives s scope f)
+row-stands R outside p s scope choose vs now later parts g i k =
+    row-belongs R outside parts (go (chosen (is_truthy s.world (only vs)) later)) i.0
+    (chosen-belongs (top_marks R outside) (is_truthy s.world (only vs)) later k)
+row-stands R outside p s scope both vs now later parts g i k =
+    row-belongs R outside parts (go (kept_or (is_truthy s.world (only vs)) (only vs) later)) i.0
+    (kept-belongs (top_marks R outside) (is_truthy s.world (only vs)) (only vs) later k)
+row-stands R outside p s scope either vs now later parts g i k =
+    row-belongs R outside parts (go (otherwise (is_truthy s.world (only vs)) (only vs) later)) i.0
+    (otherwise-belongs (top_marks R outside) (is_truthy s.world (only vs)) (only vs) later k)
+row-stands R outside p s scope (loop stage a) vs now later parts g i k =
+    row-belongs R outside parts (loop_row s.world stage a vs later) i.0
+    (loop-belongs (top_marks R outside) s.world stage a vs later k)
+row-stands R outside p s scope (list_of x) vs now later parts g i k =
+    row-belongs R outside parts (list_row s.world x (only vs) later) i.0
+    (list-belongs (top_marks R outside) s.world x (only vs) later k)
+row-stands R outside p s scope (turn_of x n) vs now later parts g i k =
+    row-belongs R outside parts (turn_row scope x n (elements_of s.world later n) later) i.0
+    (turn-belongs (top_marks R outside) scope x n (elements_of s.world later n) later k)
+row-stands R outside p s scope (read r) vs now later parts g i k =
+    row-belongs R outside parts (with_result (read_result s.world scope r vs) give) i.0
+    (result-belongs (top_marks R outside) (read_result s.world scope r vs) give (λ x. tt))
+row-stands R outside p s scope (typeof_name x) vs now later parts g i k =
+    row-gives R outside parts (type_of_found s.world x (found s.world scope x)) i.0
+    (type_of-gives s.world x (found s.world scope x))
+row-stands R outside p s scope (unary op) vs now later parts g i k =
+    row-belongs R outside parts (with_result (unary_result s.world op (only vs)) give) i.0
+    (result-belongs (top_marks R outside) (unary_result s.world op (only vs)) give (λ x. tt))
+row-stands R outside p s scope (binary op) vs now later parts g i k =
+    row-belongs R outside parts (with_result (binary_result s.world op (argument vs 0) (argument vs 1)) give) i.0
+    (result-belongs (top_marks R outside) (binary_result s.world op (argument vs 0) (argument vs 1)) give (λ x. tt))
+row-stands R outside p s scope comma vs now later parts g i k =
+    row-belongs R outside parts (comma_row later) i.0 (comma-belongs (top_marks R outside) later k)
+row-stands R outside p s scope (function f) vs now later parts g i k =
+    row-gives R outside parts (function_row s scope f) i.0 (function_row-gives s scope f)
 row-stands R outside p s scope array vs now later parts g i k = (i.0, λ a. i.0)
-row-stands R outside p s scope (object ms) vs now later parts g i k = row-belongs R outside parts (object_row s.world scope ms vs later) i.0 (object-belongs (top_marks R outside) s.world scope ms vs later k)
-row-stands R outside p s scope (compound op r) vs now later parts g i k = row-belongs R outside parts (compound_row s.world scope op r vs later) i.0 (compound-belongs (top_marks R outside) s.world scope op r vs later k)
-row-stands R outside p s scope (assign r) vs now later parts g i k = row-gives R outside parts (assign_row s.world scope r vs) i.0 (put-gives s.world scope r vs (last_of vs) (give (last_of vs)) tt)
-row-stands R outside p s scope (update op prefix r) vs now later parts g i k = row-gives R outside parts (update_row s.world scope op prefix r vs) i.0 (update_row-gives s.world scope op prefix r vs)
-row-stands R outside p s scope (delete r) vs now later parts g i k = row-gives R outside parts (remove s.world r vs (give (values.Bool true))) i.0 (remove-gives s.world r vs (give (values.Bool true)) tt)
-row-stands R outside p s scope (call m node) vs now later parts g i k = subst (λ (x : List Source). ActionStands R outside x (call_row p s m vs)) (sym i.0) (call-stands R outside p s m vs g)
-row-stands R outside p s scope (call_of r m node) vs now later parts g i k = row-belongs R outside parts (callee_row s.world scope r m node vs later) i.0 (callee-belongs (top_marks R outside) s.world scope r m node vs later i.1 k)
+row-stands R outside p s scope (object ms) vs now later parts g i k =
+    row-belongs R outside parts (object_row s.world scope ms vs later) i.0
+    (object-belongs (top_marks R outside) s.world scope ms vs later k)
+row-stands R outside p s scope (compound op r) vs now later parts g i k =
+    row-belongs R outside parts (compound_row s.world scope op r vs later) i.0
+    (compound-belongs (top_marks R outside) s.world scope op r vs later k)
+row-stands R outside p s scope (assign r) vs now later parts g i k =
+    row-gives R outside parts (assign_row s.world scope r vs) i.0
+    (put-gives s.world scope r vs (last_of vs) (give (last_of vs)) tt)
+row-stands R outside p s scope (update op prefix r) vs now later parts g i k =
+    row-gives R outside parts (update_row s.world scope op prefix r vs) i.0
+    (update_row-gives s.world scope op prefix r vs)
+row-stands R outside p s scope (delete r) vs now later parts g i k =
+    row-gives R outside parts (remove s.world r vs (give (values.Bool true))) i.0
+    (remove-gives s.world r vs (give (values.Bool true)) tt)
+row-stands R outside p s scope (call m node) vs now later parts g i k =
+    subst (λ (x : List Source). ActionStands R outside x (call_row p s m vs)) (sym i.0)
+    (call-stands R outside p s m vs g)
+row-stands R outside p s scope (call_of r m node) vs now later parts g i k =
+    row-belongs R outside parts (callee_row s.world scope r m node vs later) i.0
+    (callee-belongs (top_marks R outside) s.world scope r m node vs later i.1 k)
 row-stands R outside p s scope (frame node a) vs now later parts g i k = ap outer_of i.1
 row-stands R outside p s scope return_ vs now later parts g i k = i.0
 row-stands R outside p s scope break_ vs now later parts g i k = i.0
@@ -410,25 +506,33 @@ row-stands R outside p s scope _ vs now later parts g i k = i.0
 
 -- ---- THE TABLE OF COMPLETIONS
 
-taken-stands : (R : Sources) (outside : List Source) (scope : Addr) (f : Form) (c : Completion) (now later : Terms) (parts : List Source)
+taken-stands : (R : Sources) (outside : List Source) (scope : Addr) (f : Form) (c : Completion) (now later : Terms)
+    (parts : List Source)
     → Inside R outside f now later parts
     → AllBelong (top_marks R outside) later
     → ActionStands R outside parts (taken scope f c later)
-taken-stands R outside scope (catching x) (throws v m) now later parts i k = row-belongs R outside parts (catch_row scope x v later) i.0 (catch-belongs (top_marks R outside) scope x v later k)
+taken-stands R outside scope (catching x) (throws v m) now later parts i k =
+    row-belongs R outside parts (catch_row scope x v later) i.0 (catch-belongs (top_marks R outside) scope x v later k)
 taken-stands R outside scope (catching x) (returns v) now later parts i k = i.0
 taken-stands R outside scope (catching x) breaks now later parts i k = i.0
 taken-stands R outside scope (catching x) continues now later parts i k = i.0
-taken-stands R outside scope finishing c now later parts i k = row-belongs R outside parts (go (settled (ending (Some c)) later end)) i.0 (settled-belongs (top_marks R outside) (ending (Some c)) later end (tt, k, tt))
+taken-stands R outside scope finishing c now later parts i k =
+    row-belongs R outside parts (go (settled (ending (Some c)) later end)) i.0
+    (settled-belongs (top_marks R outside) (ending (Some c)) later end (tt, k, tt))
 taken-stands R outside scope (frame node a) (returns v) now later parts i k = ap outer_of i.1
 taken-stands R outside scope (frame node a) (throws v m) now later parts i k = ap outer_of i.1
 taken-stands R outside scope (frame node a) breaks now later parts i k = ap outer_of i.1
 taken-stands R outside scope (frame node a) continues now later parts i k = ap outer_of i.1
 taken-stands R outside scope (loop body a) breaks now later parts i k = i.0
-taken-stands R outside scope (loop body a) continues now later parts i k = row-belongs R outside parts (go (settled (loop body a) end later)) i.0 (settled-belongs (top_marks R outside) (loop body a) end later (tt, tt, k))
+taken-stands R outside scope (loop body a) continues now later parts i k =
+    row-belongs R outside parts (go (settled (loop body a) end later)) i.0
+    (settled-belongs (top_marks R outside) (loop body a) end later (tt, tt, k))
 taken-stands R outside scope (loop body a) (throws v m) now later parts i k = i.0
 taken-stands R outside scope (loop body a) (returns v) now later parts i k = i.0
 taken-stands R outside scope (body_of x n) breaks now later parts i k = i.0
-taken-stands R outside scope (body_of x n) continues now later parts i k = row-belongs R outside parts (go (settled (body_of x n) end later)) i.0 (settled-belongs (top_marks R outside) (body_of x n) end later (tt, tt, k))
+taken-stands R outside scope (body_of x n) continues now later parts i k =
+    row-belongs R outside parts (go (settled (body_of x n) end later)) i.0
+    (settled-belongs (top_marks R outside) (body_of x n) end later (tt, tt, k))
 taken-stands R outside scope (body_of x n) (throws v m) now later parts i k = i.0
 taken-stands R outside scope (body_of x n) (returns v) now later parts i k = i.0
 taken-stands R outside scope f c now later parts i k = i.0
@@ -463,20 +567,23 @@ values-before : (R : Sources) (outside : List Source) (ts : Terms) (all : List S
     → all ≡ outside
     → AllBelong (top_marks R outside) ts
     → AllStand R outside ts all
-values-before R outside ts all e h = subst (λ (x : List Source). AllStand R outside ts x) (sym e) (all-stand R outside ts h)
+values-before R outside ts all e h =
+    subst (λ (x : List Source). AllStand R outside ts x) (sym e) (all-stand R outside ts h)
 
 inside-stands : (R : Sources) (outside : List Source) (ts : Terms) (m : Move Term)
     → AllBelong (top_marks R outside) ts
     → MoveStands R outside m
     → MovesStand R outside (inside (λ t. more t ts) m)
-inside-stands R outside ts (goes (done v) s told) k h = values-before (behind_step R (Some told)) outside ts (sources_of s.frames) h k
+inside-stands R outside ts (goes (done v) s told) k h =
+    values-before (behind_step R (Some told)) outside ts (sources_of s.frames) h k
 inside-stands R outside ts (goes (standing v place) s told) k h = (h.0, h.1, k)
 inside-stands R outside ts (goes (part f now later) s told) k h = (h, k)
 inside-stands R outside ts (travels c s) k h = h
 inside-stands R outside ts (has_effect s) k h = tt
 inside-stands R outside ts (is_full what s) k h = tt
 
-around-stands : (R : Sources) (outside : List Source) (p : Program) (scope : Addr) (f : Form) (now later : Terms) (s : State) (x : Walked) (parts : List Source)
+around-stands : (R : Sources) (outside : List Source) (p : Program) (scope : Addr) (f : Form) (now later : Terms)
+    (s : State) (x : Walked) (parts : List Source)
     → ProgramBelongs R p
     → Inside R outside f now later parts
     → AllBelong (top_marks R outside) later
@@ -484,11 +591,16 @@ around-stands : (R : Sources) (outside : List Source) (p : Program) (scope : Add
     → WalkKeeps now x
     → MoveStands R outside (around p scope f later s x)
 around-stands R outside p scope f now later s (all_values vs) parts g i k h keep =
-    perform-stands R outside (row p s scope f vs later) s (subst (λ (all : List Source). ActionStands R outside all (row p s scope f vs later)) (sym h) (row-stands R outside p s scope f vs now later parts g i k))
+    perform-stands R outside (row p s scope f vs later) s
+    (subst (λ (all : List Source). ActionStands R outside all (row p s scope f vs later)) (sym h)
+    (row-stands R outside p s scope f vs now later parts g i k))
 around-stands R outside p scope f now later s (moved (goes ts t told)) parts g i k h keep =
-    settled_if (behind_step R (Some told)) outside (all_done ts) f ts later parts (sources_of t.frames) refl (inside-keeps R outside f now ts later parts i keep) h k
+    settled_if (behind_step R (Some told)) outside (all_done ts) f ts later parts (sources_of t.frames) refl
+    (inside-keeps R outside f now ts later parts i keep) h k
 around-stands R outside p scope f now later s (moved (travels c t)) parts g i k h keep =
-    perform-stands R outside (taken scope f c later) t (subst (λ (all : List Source). ActionStands R outside all (taken scope f c later)) (sym h) (taken-stands R outside scope f c now later parts i k))
+    perform-stands R outside (taken scope f c later) t
+    (subst (λ (all : List Source). ActionStands R outside all (taken scope f c later)) (sym h)
+    (taken-stands R outside scope f c now later parts i k))
 around-stands R outside p scope f now later s (moved (has_effect t)) parts g i k h keep = tt
 around-stands R outside p scope f now later s (moved (is_full what t)) parts g i k h keep = tt
 
@@ -509,7 +621,9 @@ mutual
       → AllStand R outside ts (sources_of s.frames)
       → WalkStands R outside s (walk p scope ts s)
   walk-stands R outside p scope end s g h = h
-  walk-stands R outside p scope (more (done v) ts) s g h = with_value-stands R outside s v (walk p scope ts s) (walk-stands R outside p scope ts s g h)
+  walk-stands R outside p scope (more (done v) ts) s g h =
+      with_value-stands R outside s v (walk p scope ts s) (walk-stands R outside p scope ts s g h)
   walk-stands R outside p scope (more (standing v place) ts) s g h = h.0
   walk-stands R outside p scope (more (part f now later) ts) s g h =
-      inside-stands R outside ts (next p scope (part f now later) s) h.1 (next-stands R outside p scope (part f now later) s g h.0)
+      inside-stands R outside ts (next p scope (part f now later) s) h.1
+      (next-stands R outside p scope (part f now later) s g h.0)

@@ -87,17 +87,30 @@ mark-over : (spans : List Span) (ms : Marks) (i : ℕ) (m : Marked)
     → IsOver m.kind (kind_at spans ms (offset_of spans m.mark))
 mark-over spans [] i m l e = absurd (omega arith)
 mark-over spans (x ∷ ms) zero m l e =
-    let there : nat_eq (offset_of spans m.mark) (offset_of spans m.mark) ≡ true = eq-eqb (offset_of spans m.mark) (offset_of spans m.mark) refl in
-    let own : IsOver m.kind (if nat_eq (offset_of spans m.mark) (offset_of spans m.mark) then strongest m.kind (kind_at spans ms (offset_of spans m.mark)) else kind_at spans ms (offset_of spans m.mark)) =
-    subst (λ b. IsOver m.kind (if b then strongest m.kind (kind_at spans ms (offset_of spans m.mark)) else kind_at spans ms (offset_of spans m.mark))) (sym there) (first-over m.kind (kind_at spans ms (offset_of spans m.mark))) in
+    let there : nat_eq (offset_of spans m.mark) (offset_of spans m.mark) ≡ true = eq-eqb (offset_of spans m.mark)
+    (offset_of spans m.mark) refl in
+    let own : IsOver m.kind
+    (if nat_eq (offset_of spans m.mark) (offset_of spans m.mark) then strongest m.kind
+    (kind_at spans ms (offset_of spans m.mark)) else kind_at spans ms (offset_of spans m.mark))
+    =
+    subst (λ b. IsOver m.kind
+    (if b then strongest m.kind (kind_at spans ms (offset_of spans m.mark)) else kind_at spans ms
+    (offset_of spans m.mark)))
+    (sym there) (first-over m.kind (kind_at spans ms (offset_of spans m.mark))) in
     subst (λ (y : Marked). IsOver m.kind (kind_at spans (y ∷ ms) (offset_of spans m.mark))) (sym e) own
 mark-over spans (x ∷ ms) (suc i) m l e =
-    later-over (nat_eq (offset_of spans x.mark) (offset_of spans m.mark)) m.kind x.kind (kind_at spans ms (offset_of spans m.mark)) (mark-over spans ms i m (omega arith) e)
+    later-over (nat_eq (offset_of spans x.mark) (offset_of spans m.mark)) m.kind x.kind
+    (kind_at spans ms (offset_of spans m.mark)) (mark-over spans ms i m (omega arith) e)
 
 pub mark-located : (s : Script) (m : Mark) (kind : SpotKind)
     → Contains (script_marks s) (record { mark = m; kind = kind })
     → IsLocated s m kind
 mark-located s m kind h =
-    let over : IsOver kind (kind_at s.spans (script_marks s) (offset_of s.spans m)) = mark-over s.spans (script_marks s) h.0 (record { mark = m; kind = kind }) h.1 h.2 in
-    let within : offset_of s.spans m ≤ length s.source = mark_within (length s.source) s.spans s.within m in
-    (over.0, over.1, location_stands s.source (kind_at s.spans (script_marks s)) (suc (length s.source)) (offset_of s.spans m) over.0 (omega (arith, within)) over.2)
+    let over : IsOver kind (kind_at s.spans (script_marks s) (offset_of s.spans m)) = mark-over s.spans (script_marks s)
+    h.0 (record { mark = m; kind = kind }) h.1 h.2 in
+    let within : offset_of s.spans m ≤ length s.source = mark_within (length s.source) s.spans s.within m in (
+      over.0,
+      over.1,
+      location_stands s.source (kind_at s.spans (script_marks s)) (suc (length s.source)) (offset_of s.spans m) over.0
+          (omega (arith, within)) over.2,
+    )

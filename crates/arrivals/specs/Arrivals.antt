@@ -31,7 +31,11 @@ IsMark script m kind = Contains (script_marks script) (record { mark = m; kind =
 
 -- one of the script's break locations stands at a mark's place, and is of this kind or a stronger one
 abbrev pub IsLocated : Script → Mark → SpotKind → Type 0
-IsLocated script m kind = (strongest : SpotKind) × (stronger kind strongest ≡ strongest) × Contains (break_locations script) (record { pos = position script.source (offset_of script.spans m); kind = strongest })
+IsLocated script m kind =
+    (strongest : SpotKind)
+    × (stronger kind strongest ≡ strongest)
+    × Contains (break_locations script)
+    (record { pos = position script.source (offset_of script.spans m); kind = strongest })
 
 -- what holds of each configuration of a run of these scripts
 pub record Arrives (scripts : List Script) (t : Term) (s : State) : Type 0 where

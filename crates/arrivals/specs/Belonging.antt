@@ -94,14 +94,21 @@ abbrev mutual
   pub TermStands : Sources → List Source → Term → List Source → Type 0
   TermStands R around (done v) all = all ≡ around
   TermStands R around (standing v place) all = (all ≡ around) × R.raises
-  TermStands R around (part (frame node a) now later) all = (source : Source) × R.runs source × Closes (R.marks source) node now × AllStand R (source ∷ around) now all × AllBelong (top_marks R around) later
-  TermStands R around (part f now later) all = FormBelongs (top_marks R around) f later × AllStand R around now all × AllBelong (top_marks R around) later
+  TermStands R around (part (frame node a) now later) all =
+      (source : Source)
+      × R.runs source
+      × Closes (R.marks source) node now
+      × AllStand R (source ∷ around) now all
+      × AllBelong (top_marks R around) later
+  TermStands R around (part f now later) all =
+      FormBelongs (top_marks R around) f later × AllStand R around now all × AllBelong (top_marks R around) later
 
   pub AllStand : Sources → List Source → Terms → List Source → Type 0
   AllStand R around end all = all ≡ around
   AllStand R around (more (done v) ts) all = AllStand R around ts all
   AllStand R around (more (standing v place) ts) all = (all ≡ around) × R.raises × AllBelong (top_marks R around) ts
-  AllStand R around (more (part f now later) ts) all = TermStands R around (part f now later) all × AllBelong (top_marks R around) ts
+  AllStand R around (more (part f now later) ts) all =
+      TermStands R around (part f now later) all × AllBelong (top_marks R around) ts
 
 -- what a completion leaves behind has no frame any more
 abbrev pub MoveStands : Sources → List Source → Move Term → Type 0
@@ -114,7 +121,8 @@ MoveStands R around (is_full what s) = Unit {0}
 
 -- a script's tree, by which the code of its functions is found
 abbrev pub TreeBelongs : Sources → Source → Term → Type 0
-TreeBelongs R source (part (script number names) now later) = R.runs source × AllBelong (R.marks source) now × AllBelong (R.marks source) later
+TreeBelongs R source (part (script number names) now later) =
+    R.runs source × AllBelong (R.marks source) now × AllBelong (R.marks source) later
 TreeBelongs R source _ = ⊥
 
 -- the trees of all sources of a program belong to them
@@ -126,7 +134,8 @@ ProgramBelongs R (t ∷ ts) = TreeBelongs R t.source t.tree × ProgramBelongs R 
 
 -- a script that hasn't begun
 abbrev pub Waits : Sources → Term → Type 0
-Waits R (part (script number names) end later) = R.runs (script_source number) × AllBelong (R.marks (script_source number)) later
+Waits R (part (script number names) end later) =
+    R.runs (script_source number) × AllBelong (R.marks (script_source number)) later
 Waits R _ = ⊥
 
 -- none of these scripts has begun
@@ -136,7 +145,8 @@ AllWait R (more t ts) = Waits R t × AllWait R ts
 
 -- a script that hasn't begun, or the one in the bottom frame
 abbrev pub ScriptStands : Sources → Source → Term → List Source → Type 0
-ScriptStands R source (part (script number names) now later) all = (all ≡ source ∷ []) × Waits R (part (script number names) now later)
+ScriptStands R source (part (script number names) now later) all =
+    (all ≡ source ∷ []) × Waits R (part (script number names) now later)
 ScriptStands R source t all = TermStands R (source ∷ []) t all
 
 -- scripts one after another: some are over, one runs in a bottom frame of its source, and others wait

@@ -17,7 +17,9 @@ use Rattle.breakpoints.specs.PlaceIndex.{AreIn, StandsIn, IsIndexOf}
 
 -- by script, then line, then column, as the type derives it
 abbrev pub place_cmp : Place → Place → Ordering
-place_cmp p q = ordering_then (nat_cmp p.script q.script) (ordering_then (nat_cmp p.pos.line q.pos.line) (nat_cmp p.pos.col q.pos.col))
+place_cmp p q =
+    ordering_then (nat_cmp p.script q.script)
+    (ordering_then (nat_cmp p.pos.line q.pos.line) (nat_cmp p.pos.col q.pos.col))
 
 tied : (a b : ℕ) → nat_eq a b ≡ is_eq (nat_cmp b a)
 tied a b = grind (arith, nat_tests)
@@ -29,7 +31,8 @@ and_assoc false b c = refl
 pub same-tied : (p q : Place) → same_place p q ≡ is_eq (place_cmp q p)
 same-tied p q =
     and_assoc (nat_eq p.script q.script) (nat_eq p.pos.line q.pos.line) (nat_eq p.pos.col q.pos.col)
-    ∙ both_tied _ _ _ _ (tied p.script q.script) (both_tied _ _ _ _ (tied p.pos.line q.pos.line) (tied p.pos.col q.pos.col))
+    ∙ both_tied _ _ _ _ (tied p.script q.script)
+    (both_tied _ _ _ _ (tied p.pos.line q.pos.line) (tied p.pos.col q.pos.col))
 
 -- what a set by that order finds
 pub has-contains : (place : Place) (places : List Place)
@@ -45,7 +48,9 @@ either false h e = e
 
 pub insert-kept : (key : Place) (s n : BTreeSet Place) → Updates place_cmp s n key true → AreIn n.keys s.keys
 insert-kept key s n u q h =
-    has-contains q n.keys ∙ u.0 q ∙ either (is_at (place_cmp key) q) (contains place_cmp s q) (sym (has-contains q s.keys) ∙ h)
+    has-contains q n.keys
+    ∙ u.0 q
+    ∙ either (is_at (place_cmp key) q) (contains place_cmp s q) (sym (has-contains q s.keys) ∙ h)
 
 -- ---- the index of breakpoints
 

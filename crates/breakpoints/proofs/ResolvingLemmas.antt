@@ -28,10 +28,15 @@ pub resolved-here : (place : Place) (ss : List Script) (i : ℕ) (s : Script) (r
     → resolved_at place (drop i ss) ≡ resolved_at place ss
     → r ≡ resolved_at place ss
 resolved-here place ss i s r h e n k inv =
-    k ∙ (sym (ap (resolved_at place) (from-here ss i s h e) ∙ ap (λ b. if b then resolved_in place.pos s else resolved_at place (drop (i + 1) ss)) (eq-eqb s.number place.script n)) ∙ inv)
+    k
+    ∙ (sym (ap (resolved_at place) (from-here ss i s h e)
+    ∙ ap (λ b. if b then resolved_in place.pos s else resolved_at place (drop (i + 1) ss))
+    (eq-eqb s.number place.script n))
+    ∙ inv)
 
 -- one script more of those of a URL
-pub resolved-more : (url : List ℕ) (p : Pos) (ss : List Script) (i : ℕ) (s : Script) (places : List Place) (o : Option Place)
+pub resolved-more : (url : List ℕ) (p : Pos) (ss : List Script) (i : ℕ) (s : Script) (places : List Place)
+    (o : Option Place)
     → i < length ss
     → s ≡ get_or ss i s
     → o ≡ resolved_of url p s

@@ -32,7 +32,9 @@ has_id id b = bytes_eq b.id id
 
 -- why no breakpoint of this id is set, if none is
 abbrev pub fault_of : List ℕ → State → Option AddFault
-fault_of id s = if list_any (has_id id) s.set then Some (faults.Exists id) else if nat_le most (length s.set) then Some (faults.Full most) else None
+fault_of id s =
+    if list_any (has_id id) s.set then Some (faults.Exists id) else if nat_le most (length s.set) then Some
+    (faults.Full most) else None
 
 -- the same of one at a place
 abbrev pub fault_for : Option Place → Place → State → Option AddFault

@@ -13,4 +13,6 @@ url_id p url = (codes "1:" ++ position_text p) ++ url
 
 -- of a breakpoint at a place of one script
 abbrev pub place_id : Place → List ℕ
-place_id place = codes "4:" ++ (decimal place.pos.line ++ (codes ":" ++ (decimal place.pos.col ++ (codes ":" ++ decimal place.script))))
+place_id place =
+    codes "4:" ++
+    (decimal place.pos.line ++ (codes ":" ++ (decimal place.pos.col ++ (codes ":" ++ decimal place.script))))

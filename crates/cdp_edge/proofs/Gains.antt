@@ -37,8 +37,15 @@ Told-GainsPrefix (Some a) content bytes = GainsPrefix-refl content (bytes a)
 -- a first part of what comes next is one of all
 pub GainsPrefix-behind : (old now new : Option (List ℕ)) (done bytes more all : List ℕ)
     → now ≡ gains old done → all ≡ done ++ bytes ++ more → GainsPrefix now new bytes → GainsPrefix old new all
-GainsPrefix-behind old now new done bytes more all is parts (part, rest, e, g) =
-    (done ++ part, rest ++ more, parts ∙ grind (arith, common_steps, e), g ∙ ap (λ o. gains o part) is ∙ gains-append old done part)
+GainsPrefix-behind old now new done bytes more all is parts (part, rest, e, g) = (
+  done ++ part,
+  rest ++ more,
+  parts
+      ∙ grind (arith, common_steps, e),
+  g
+      ∙ ap (λ o. gains o part) is
+      ∙ gains-append old done part,
+)
 
 -- the first i and then n of what is behind them
 take-plus : (xs : List ℕ) (i n : ℕ) → take (i + n) xs ≡ take i xs ++ take n (drop i xs)
@@ -51,7 +58,8 @@ pub gains-step : (old now new : Option (List ℕ)) (xs : List ℕ) (i n : ℕ)
     → n ≤ length (take (length xs - i) (drop i xs)) → now ≡ gains old (take i xs)
     → new ≡ gains now (take n (take (length xs - i) (drop i xs))) → new ≡ gains old (take (i + n) xs)
 gains-step old now new xs i n within before after =
-    let e : take (length xs - i) (drop i xs) ≡ drop i xs = take_all (length xs - i) (drop i xs) (omega (arith, length-drop i xs)) in
+    let e : take (length xs - i) (drop i xs) ≡ drop i xs = take_all (length xs - i) (drop i xs)
+    (omega (arith, length-drop i xs)) in
     gains-next old now new (take i xs) (take n (drop i xs)) (take (i + n) xs) before (rw e at after) (take-plus xs i n)
 
 -- the first i are not all of more than i
@@ -70,11 +78,20 @@ some-append (x ∷ xs) ys some = λ none. cc
 -- not all of what comes next is not all of it and more
 pub GainsLess-behind : (old now new : Option (List ℕ)) (done bytes more all : List ℕ)
     → now ≡ gains old done → all ≡ done ++ bytes ++ more → GainsLess now new bytes → GainsLess old new all
-GainsLess-behind old now new done bytes more all is parts (part, rest, some, e, g) =
-    (done ++ part, rest ++ more, some-append rest more some, parts ∙ grind (arith, common_steps, e), g ∙ ap (λ o. gains o part) is ∙ gains-append old done part)
+GainsLess-behind old now new done bytes more all is parts (part, rest, some, e, g) = (
+  done ++ part,
+  rest ++ more,
+  some-append rest more some,
+  parts
+      ∙ grind (arith, common_steps, e),
+  g
+      ∙ ap (λ o. gains o part) is
+      ∙ gains-append old done part,
+)
 
 -- the same where a call answered a fault
-pub OnErr-GainsLess-behind : {T E : Type 0} (r : Result T E) (old now new : Option (List ℕ)) (done bytes more all : List ℕ)
+pub OnErr-GainsLess-behind : {T E : Type 0} (r : Result T E) (old now new : Option (List ℕ))
+    (done bytes more all : List ℕ)
     → now ≡ gains old done → all ≡ done ++ bytes ++ more → GainsLess now new bytes → OnErr r (GainsLess old new all)
 OnErr-GainsLess-behind (Ok value) old now new done bytes more all is parts less = tt
 OnErr-GainsLess-behind (Err fault) old now new done bytes more all is parts less =

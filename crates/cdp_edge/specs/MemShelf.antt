@@ -20,4 +20,5 @@ named file = record { name = string_bytes file.0; bytes = file.1.items }
 
 -- the shelf after a read of this name with this answer
 abbrev pub after_read : Result (Vec ℕ Global) ShelfFault → List ℕ → MemoryShelf → MemoryShelf
-after_read answer name old = record old { calls = one_more old.calls; faults = faults_after answer (Read name) old.faults }
+after_read answer name old =
+    record old { calls = one_more old.calls; faults = faults_after answer (Read name) old.faults }

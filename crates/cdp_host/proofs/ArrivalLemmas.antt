@@ -18,7 +18,10 @@ pub same-arrival : (p q : Option Place) (d e : ℕ) (b c : Bool) (r s : Option B
     → r ≡ s
     → arrived p d b r ≡ arrived q e c s
 same-arrival p q d e b c r s place depth debugger raised =
-    ap (λ x. arrived x d b r) place ∙ ap (λ x. arrived q x b r) depth ∙ ap (λ x. arrived q e x r) debugger ∙ ap (λ x. arrived q e c x) raised
+    ap (λ x. arrived x d b r) place
+    ∙ ap (λ x. arrived q x b r) depth
+    ∙ ap (λ x. arrived q e x r) debugger
+    ∙ ap (λ x. arrived q e c x) raised
 
 -- the first scripts and one more
 first_and : (ss : List Script) (i : ℕ) (s : Script)
@@ -46,4 +49,5 @@ pub short-more : (ss : List Script) (i : ℕ) (s : Script)
     → IsShort s
     → All IsShort (take i ss)
     → All IsShort (take (i + 1) ss)
-short-more ss i s h e short all = subst (λ xs. All IsShort xs) (sym (first_and ss i s h e)) (All-push IsShort (take i ss) s all short)
+short-more ss i s h e short all =
+    subst (λ xs. All IsShort xs) (sym (first_and ss i s h e)) (All-push IsShort (take i ss) s all short)

@@ -84,9 +84,13 @@ nothing-fits = refl
 pub answer-fit : (scripts : List Script) (w : Answered) (answer : Answer) (s : ℕ) (seats news : List (Seat Session))
     → AnswersIn w answer s seats news
     → AllFit (protocol scripts) seats → AllFit (protocol scripts) news
-answer-fit scripts (Kept asks) answer s seats news is fit = subst (AllFit (protocol scripts)) (sym is.0) (put-fits (protocol scripts) s (Attached answer.session) seats is.2 fit)
-answer-fit scripts Overran answer s seats news is fit = subst (AllFit (protocol scripts)) (sym is.0) (put-fits (protocol scripts) s Left seats tt fit)
-answer-fit scripts Failed answer s seats news is fit = subst (AllFit (protocol scripts)) (sym is) (put-fits (protocol scripts) s Left seats tt fit)
+answer-fit scripts (Kept asks) answer s seats news is fit =
+    subst (AllFit (protocol scripts)) (sym is.0)
+    (put-fits (protocol scripts) s (Attached answer.session) seats is.2 fit)
+answer-fit scripts Overran answer s seats news is fit =
+    subst (AllFit (protocol scripts)) (sym is.0) (put-fits (protocol scripts) s Left seats tt fit)
+answer-fit scripts Failed answer s seats news is fit =
+    subst (AllFit (protocol scripts)) (sym is) (put-fits (protocol scripts) s Left seats tt fit)
 
 -- and behind a take
 pub take-fit : (scripts : List Script) (s : ℕ) (seats news : List (Seat Session)) → is_attached (seat_of s seats) ≡ true
@@ -95,7 +99,8 @@ pub take-fit : (scripts : List Script) (s : ℕ) (seats news : List (Seat Sessio
     → AllFit (protocol scripts) news
 take-fit scripts s seats news held are fit =
     let it = whose (seat_of s seats) held in
-    subst (AllFit (protocol scripts)) (sym (are it.0 it.1)) (put-fits (protocol scripts) s (Attached (emptied it.0)) seats nothing-fits fit)
+    subst (AllFit (protocol scripts)) (sym (are it.0 it.1))
+    (put-fits (protocol scripts) s (Attached (emptied it.0)) seats nothing-fits fit)
 
 -- and with one session more
 pub attach-fit : (scripts : List Script) (x : Session) (n : ℕ) (w : Workspace) (seats news : List (Seat Session))
@@ -103,7 +108,8 @@ pub attach-fit : (scripts : List Script) (x : Session) (n : ℕ) (w : Workspace)
     → news ≡ seats ++ Attached x ∷ []
     → AllFit (protocol scripts) seats → AllFit (protocol scripts) news
 attach-fit scripts x n w seats news is are fit =
-    subst (AllFit (protocol scripts)) (sym are) (append-fits (protocol scripts) (Attached x) seats (ap (λ y. fits y.outbox) is ∙ nothing-fits) fit)
+    subst (AllFit (protocol scripts)) (sym are)
+    (append-fits (protocol scripts) (Attached x) seats (ap (λ y. fits y.outbox) is ∙ nothing-fits) fit)
 
 -- ---- seats that were lent
 
@@ -112,16 +118,23 @@ pub answers-back : (w : Answered) (answer : Answer) (n s : ℕ) (seats lent news
     → lent ≡ seats
     → n ≡ length lent
     → AnswersIn w answer s lent news → AnswersIn w answer s seats (first n (news ++ rest))
-answers-back (Kept asks) answer n s seats lent news rest same full is =
-    (put-back n s (Attached answer.session) lent news rest full is.0 ∙ ap (put s (Attached answer.session)) same, is.1, is.2)
-answers-back Overran answer n s seats lent news rest same full is = (put-back n s Left lent news rest full is.0 ∙ ap (put s Left) same, is.1)
-answers-back Failed answer n s seats lent news rest same full is = put-back n s Left lent news rest full is ∙ ap (put s Left) same
+answers-back (Kept asks) answer n s seats lent news rest same full is = (
+  put-back n s (Attached answer.session) lent news rest full is.0
+      ∙ ap (put s (Attached answer.session)) same,
+  is.1,
+  is.2,
+)
+answers-back Overran answer n s seats lent news rest same full is =
+    (put-back n s Left lent news rest full is.0 ∙ ap (put s Left) same, is.1)
+answers-back Failed answer n s seats lent news rest same full is =
+    put-back n s Left lent news rest full is ∙ ap (put s Left) same
 
 pub take-back : (n s : ℕ) (seats lent news rest : List (Seat Session)) → lent ≡ seats → n ≡ length lent
     → ((x : Session) → seat_of s lent ≡ Attached x → news ≡ put s (Attached (emptied x)) lent)
     → (x : Session) → seat_of s seats ≡ Attached x → first n (news ++ rest) ≡ put s (Attached (emptied x)) seats
 take-back n s seats lent news rest same full are x is =
-    put-back n s (Attached (emptied x)) lent news rest full (are x (ap (seat_of s) same ∙ is)) ∙ ap (put s (Attached (emptied x))) same
+    put-back n s (Attached (emptied x)) lent news rest full (are x (ap (seat_of s) same ∙ is))
+    ∙ ap (put s (Attached (emptied x))) same
 
 -- ---- what a call leaves
 
@@ -131,7 +144,8 @@ seated h seats = record h { meaning = record h.meaning { seats = seats } }
 
 -- an entry that leads to other seats, where nobody falls
 seats-leave : (h : HostState) (entry : Entry) (news : List (Seat Session))
-    → ((taken : List (List ℕ)) → with_seats news (meaning_with h taken) ≡ apply (protocol h.scripts) (meaning_with h taken) entry)
+    → ((taken : List (List ℕ))
+    → with_seats news (meaning_with h taken) ≡ apply (protocol h.scripts) (meaning_with h taken) entry)
     → (some fell h.meaning.seats ≡ false → some fell news ≡ false) → Leaves h entry (seated h news)
 seats-leave h entry news leads stay = record {
   runs = refl;
@@ -147,7 +161,8 @@ take-here : (h : HostState) (s : ℕ) (news : List (Seat Session)) (x : Session)
     → news ≡ put s (Attached (emptied x)) h.meaning.seats → Leaves h (Take s) (seated h news)
 take-here h s news x is are =
     seats-leave h (Take s) news
-    (λ taken. ap (λ ss. with_seats ss (meaning_with h taken)) are ∙ ap (take (protocol h.scripts) s (meaning_with h taken)) (sym is))
+    (λ taken. ap (λ ss. with_seats ss (meaning_with h taken)) are
+    ∙ ap (take (protocol h.scripts) s (meaning_with h taken)) (sym is))
     (λ none. subst (λ ss. some fell ss ≡ false) (sym are) (fell-put s (Attached (emptied x)) h.meaning.seats refl none))
 
 pub take-leaves : (h old : HostState) (s : ℕ) (news : List (Seat Session))
@@ -156,7 +171,8 @@ pub take-leaves : (h old : HostState) (s : ℕ) (news : List (Seat Session))
     → ((x : Session) → seat_of s h.meaning.seats ≡ Attached x → news ≡ put s (Attached (emptied x)) h.meaning.seats)
     → Leaves old (Take s) (seated h news)
 take-leaves h old s news same held are =
-    let it = whose (seat_of s h.meaning.seats) (subst (λ o. is_attached (seat_of s o.meaning.seats) ≡ true) (sym same) held) in
+    let it = whose (seat_of s h.meaning.seats)
+    (subst (λ o. is_attached (seat_of s o.meaning.seats) ≡ true) (sym same) held) in
     subst (λ o. Leaves o (Take s) (seated h news)) same (take-here h s news it.0 it.1 (are it.0 it.1))
 
 pub take-stands : (h old new : HostState) (s : ℕ)
@@ -165,7 +181,10 @@ pub take-stands : (h old new : HostState) (s : ℕ)
     → is_attached (seat_of s old.meaning.seats) ≡ true
     → Leaves old (Take s) new → CarriesOn old (Take s) new
 take-stands h old new s same alone held leaves = λ scripts input wait history stood.
-    let works = subst (λ o. o.broken ≡ false) same (works-at s h.broken h.meaning.seats alone (subst (λ o. is_attached (seat_of s o.meaning.seats) ≡ true) (sym same) held)) in
+    let works = subst (λ o. o.broken ≡ false) same
+    (works-at s h.broken h.meaning.seats alone
+    (subst (λ o. is_attached (seat_of s o.meaning.seats) ≡ true) (sym same) held))
+    in
     stands-call scripts input wait old new history (Take s) stood refl tt held leaves works
 
 attach-here : (h : HostState) (news : List (Seat Session)) (x : Session)
@@ -183,4 +202,5 @@ pub attach-leaves : (h old : HostState) (news : List (Seat Session)) (x : Sessio
 attach-leaves h old news x same is are = subst (λ o. Leaves o Attach (seated h news)) same (attach-here h news x is are)
 
 pub attach-stands : (old new : HostState) → old.broken ≡ false → Leaves old Attach new → CarriesOn old Attach new
-attach-stands old new works leaves = λ scripts input wait history stood. stands-call scripts input wait old new history Attach stood refl tt tt leaves works
+attach-stands old new works leaves =
+    λ scripts input wait history stood. stands-call scripts input wait old new history Attach stood refl tt tt leaves works

@@ -94,7 +94,8 @@ pub standing-ended : (scripts : List Script) (m : Machine) (h : Heap)
     → is_some m.ended ≡ true
     → (machine_standing scripts m h).frames ≡ []
 unfolding standing_of
-standing-ended scripts m h kept some = ended_frames scripts m.ended (term_of m) (state_of m (heap_world m.names h) []) kept some
+standing-ended scripts m h kept some =
+    ended_frames scripts m.ended (term_of m) (state_of m (heap_world m.names h) []) kept some
 
 going_frames : (scripts : List Script) (t : Term) (s : State)
     → IsRunning (run_of t s)
@@ -107,7 +108,8 @@ going_frames scripts (part f now later) s h = refl
 pub standing-going : (scripts : List Script) (m : Machine) (h : Heap)
     → m.ended ≡ None
     → IsRunning (machine_run m h [])
-    → (machine_standing scripts m h).frames ≡ walk scripts script_scope (term_of m) (state_of m (heap_world m.names h) [])
+    → (machine_standing scripts m h).frames ≡ walk scripts script_scope (term_of m)
+    (state_of m (heap_world m.names h) [])
 unfolding standing_of
 standing-going scripts m h e is =
     let t : Term = term_of m in
@@ -116,14 +118,18 @@ standing-going scripts m h e is =
     ap (frames_of scripts) k ∙ going_frames scripts t s (subst IsRunning k is)
 
 -- the walk over the parts of a machine is the walk over it
-pub walk-parts : (scripts : List Script) (m : Machine) (h : Heap) (names : List (List ℕ)) (table : NodeTable) (root : Addr) (context : Context) (tasks : List Wide) (p : Point)
+pub walk-parts : (scripts : List Script) (m : Machine) (h : Heap) (names : List (List ℕ)) (table : NodeTable)
+    (root : Addr) (context : Context) (tasks : List Wide) (p : Point)
     → names ≡ m.names → table ≡ m.table → root ≡ script_scope → context ≡ m.context → tasks ≡ m.tasks → p ≡ m.point
-    → walk scripts root (term_at names table tasks p) (contexts.state_of (heap_world names h) context []) ≡ walk scripts script_scope (term_of m) (state_of m (heap_world m.names h) [])
+    → walk scripts root (term_at names table tasks p) (contexts.state_of (heap_world names h) context [])
+    ≡ walk scripts script_scope (term_of m) (state_of m (heap_world m.names h) [])
 walk-parts scripts m h names table root context tasks p n t r c w q =
     let s : State = contexts.state_of (heap_world m.names h) m.context [] in
     ap (λ x. walk scripts x (term_at names table tasks p) (contexts.state_of (heap_world names h) context [])) r
     ∙ ap (λ x. walk scripts script_scope (term_at x table tasks p) (contexts.state_of (heap_world x h) context [])) n
-    ∙ ap (λ x. walk scripts script_scope (term_at m.names table tasks p) (contexts.state_of (heap_world m.names h) x [])) c
+    ∙ ap (λ x. walk scripts script_scope (term_at m.names table tasks p)
+    (contexts.state_of (heap_world m.names h) x []))
+    c
     ∙ ap (λ x. walk scripts script_scope (term_at m.names x tasks p) s) t
     ∙ ap (λ x. walk scripts script_scope (term_at m.names m.table x p) s) w
     ∙ ap (λ x. walk scripts script_scope (term_at m.names m.table m.tasks x) s) q

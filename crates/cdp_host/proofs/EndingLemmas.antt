@@ -27,14 +27,16 @@ ending-none scripts (over f s) goes = absurd cc
 -- ---- it doesn't depend on the texts that were taken
 
 going_taken : (scripts : List Script) (t : Term) (s : State) (old new : List (List ℕ))
-    → ending_of scripts (runs.run_of t (record s { printed = old })) ≡ ending_of scripts (runs.run_of t (record s { printed = new }))
+    → ending_of scripts (runs.run_of t (record s { printed = old })) ≡ ending_of scripts
+    (runs.run_of t (record s { printed = new }))
 unfolding ending_of
 going_taken scripts (done v) s old new = refl
 going_taken scripts (standing v place) s old new = refl
 going_taken scripts (part f now later) s old new = refl
 
 run_taken : (scripts : List Script) (o : Option End) (t : Term) (s : State) (old new : List (List ℕ))
-    → ending_of scripts (run_by o t (record s { printed = old })) ≡ ending_of scripts (run_by o t (record s { printed = new }))
+    → ending_of scripts (run_by o t (record s { printed = old })) ≡ ending_of scripts
+    (run_by o t (record s { printed = new }))
 unfolding ending_of
 run_taken scripts None t s old new = going_taken scripts t s old new
 run_taken scripts (Some (ends.Finished f)) t s old new = refl
@@ -56,7 +58,9 @@ by_finish scripts f s = refl
 pub ending-finished : (scripts : List Script) (m : Machine) (h : Heap) (taken : List (List ℕ)) (f : Finish)
     → IsOverBy m f
     → ending_of scripts (machine_run m h taken) ≡ Some (ending_by scripts (finish_of f))
-ending-finished scripts m h taken f is = ap (ending_of scripts) (is (heap_world m.names h) taken) ∙ by_finish scripts (finish_of f) (state_of m (heap_world m.names h) taken)
+ending-finished scripts m h taken f is =
+    ap (ending_of scripts) (is (heap_world m.names h) taken)
+    ∙ by_finish scripts (finish_of f) (state_of m (heap_world m.names h) taken)
 
 going_none : (scripts : List Script) (r : Run) → IsRunning r → ending_of scripts r ≡ None
 unfolding ending_of
@@ -68,7 +72,8 @@ pub ending-going : (scripts : List Script) (m : Machine) (h : Heap) (taken : Lis
     → m.ended ≡ None
     → Goes m
     → ending_of scripts (machine_run m h taken) ≡ None
-ending-going scripts m h taken none goes = going_none scripts (machine_run m h taken) (goes none (heap_world m.names h) taken)
+ending-going scripts m h taken none goes =
+    going_none scripts (machine_run m h taken) (goes none (heap_world m.names h) taken)
 
 other_end : (scripts : List Script) (m : Machine) (t : Term) (s : State) (o : Option End)
     → IsKept o
@@ -88,4 +93,5 @@ pub ending-other : (scripts : List Script) (m : Machine) (h : Heap) (taken : Lis
     → is_some m.ended ≡ true
     → finish_at m.ended m.point ≡ None
     → ending_of scripts (machine_run m h taken) ≡ Some endings.Finished
-ending-other scripts m h taken kept some none = other_end scripts m (term_of m) (state_of m (heap_world m.names h) taken) m.ended kept some none
+ending-other scripts m h taken kept some none =
+    other_end scripts m (term_of m) (state_of m (heap_world m.names h) taken) m.ended kept some none

@@ -48,13 +48,16 @@ same-session : (m r : ℕ) (first second : List ℕ)
     → r ≡ m
 unfolding front_of
 same-session m r first second m_small r_small is =
-    let fronts : decimal m ≡ decimal r = sym (ap front_of (front-number m first m_small)) ∙ ap (λ text. front_of (halves 46 text)) is ∙ ap front_of (front-number r second r_small) in
+    let fronts : decimal m ≡ decimal r = sym (ap front_of (front-number m first m_small))
+    ∙ ap (λ text. front_of (halves 46 text)) is
+    ∙ ap front_of (front-number r second r_small) in
     sym (decimal_injective m r m_small r_small fronts)
 
 -- the numbers of two sessions are two texts
 other-number : (x : Session) (r : ℕ) → IsOfAnother r x → bytes_eq (decimal r) (decimal x.number) ≡ false
 other-number x r h = false_from_ne_true (bytes_eq (decimal r) (decimal x.number))
-    (λ same. h.differs (decimal_injective r x.number h.small h.own_small ((bytes_eq-Decides (decimal r) (decimal x.number)).0 same)))
+    (λ same. h.differs
+    (decimal_injective r x.number h.small h.own_small ((bytes_eq-Decides (decimal r) (decimal x.number)).0 same)))
 
 -- the id of another session's object has no number for this one
 no-number : (x : Session) (r n : ℕ) → IsOfAnother r x → number_in_id x.number (object_id r n) ≡ None
@@ -67,7 +70,9 @@ other-frame : (x : Session) (r stop depth k d : ℕ)
     → IsOfAnother r x
     → bytes_eq (frame_id x.number k d) (frame_id r stop depth) ≡ false
 other-frame x r stop depth k d h = false_from_ne_true (bytes_eq (frame_id x.number k d) (frame_id r stop depth))
-    (λ same. h.differs (same-session x.number r (decimal k ++ (point ++ decimal d)) (decimal stop ++ (point ++ decimal depth)) h.own_small h.small
+    (λ same. h.differs
+    (same-session x.number r (decimal k ++ (point ++ decimal d)) (decimal stop ++ (point ++ decimal depth))
+    h.own_small h.small
     ((bytes_eq-Decides (frame_id x.number k d) (frame_id r stop depth)).0 same)))
 
 -- ---- objects
@@ -108,7 +113,8 @@ refuses-object s x id lost =
           ap (λ o. row_of (calls_given s x call (receiver_of x o) (arguments_of x call.arguments))) is
           ∙ ap (λ o. row_of (calls_given s x call o (arguments_of x call.arguments))) gone;
       argument = λ call front back is.
-          ap (λ o. row_of (calls_given s x call (receiver_of x call.object_id) o)) (ap (arguments_of x) is ∙ lost-argument x id front back gone)
+          ap (λ o. row_of (calls_given s x call (receiver_of x call.object_id) o))
+          (ap (arguments_of x) is ∙ lost-argument x id front back gone)
           ∙ ap row_of (lost-call s x call (receiver_of x call.object_id));
     }
 
@@ -146,7 +152,9 @@ not-before : (s : Situation) (x : Session) (id : List ℕ) (ev : Evaluation)
     → is_some s.paused ≡ true
     → refusal_of s x (params.EvaluateOnCallFrame id ev) ≡ None
 not-before s x id ev enabled paused =
-    ap (λ b. if not b then Some refusals.NotEnabled else if not (is_some s.paused) then Some refusals.NotPaused else None) enabled
+    ap (λ b. if not b then Some refusals.NotEnabled else if not (is_some s.paused)
+    then Some refusals.NotPaused else None)
+    enabled
     ∙ ap (λ b. if not b then Some refusals.NotPaused else None) paused
 
 -- an id by which no frame is found is refused
@@ -154,13 +162,19 @@ refuses-frame : (s : Situation) (x : Session) (id : List ℕ)
     → ((paused : Option Pause) → frame_of s x paused id ≡ None)
     → RefusesFrame s x id
 refuses-frame s x id lost =
-    let wanting : (ev : Evaluation) → row s x (params.EvaluateOnCallFrame id ev) ≡ Refuses refusals.UnknownFrame = λ ev. ap (λ o. row_of (evaluates_at s x o ev)) (lost s.paused) in
+    let wanting : (ev : Evaluation)
+    → row s x (params.EvaluateOnCallFrame id ev) ≡ Refuses refusals.UnknownFrame = λ ev. ap
+    (λ o. row_of (evaluates_at s x o ev)) (lost s.paused) in
     record {
       no_frame = lost;
       by_row = wanting;
-      refused = λ ev. refused-anyway (refusal_of s x (params.EvaluateOnCallFrame id ev)) (row s x (params.EvaluateOnCallFrame id ev)) refusals.UnknownFrame (wanting ev);
+      refused =
+          λ ev. refused-anyway (refusal_of s x (params.EvaluateOnCallFrame id ev))
+          (row s x (params.EvaluateOnCallFrame id ev)) refusals.UnknownFrame (wanting ev);
       unknown = λ ev enabled paused.
-          ap (λ o. option_map_or Refuses o (row s x (params.EvaluateOnCallFrame id ev))) (not-before s x id ev enabled paused) ∙ wanting ev;
+          ap (λ o. option_map_or Refuses o (row s x (params.EvaluateOnCallFrame id ev)))
+          (not-before s x id ev enabled paused)
+          ∙ wanting ev;
     }
 
 -- so is each id of another session's frame
@@ -168,4 +182,5 @@ pub foreign-frame : (s : Situation) (x : Session) (r stop depth : ℕ)
     → IsOfAnother r x
     → RefusesFrame s x (frame_id r stop depth)
 foreign-frame s x r stop depth h =
-    refuses-frame s x (frame_id r stop depth) (λ paused. no-frame s x paused (frame_id r stop depth) (λ k e. other-frame x r stop depth k e h))
+    refuses-frame s x (frame_id r stop depth)
+    (λ paused. no-frame s x paused (frame_id r stop depth) (λ k e. other-frame x r stop depth k e h))

@@ -27,17 +27,21 @@ stands-start scripts input wait host same works is = record {
   runs = same;
   fits = tt;
   means = λ _.
-      let here : meaning_with host (printed_of (start scripts input)) ≡ begin scripts input wait = ap (meaning_with host) (start-prints scripts input) ∙ is in
+      let here : meaning_with host (printed_of (start scripts input)) ≡ begin scripts input wait = ap
+      (meaning_with host) (start-prints scripts input)
+      ∙ is in
       let P : Meaning Run → Type 0 = λ m. StandsAs m (begin scripts input wait) in
       subst P (sym here) (record { is = refl; all_there = λ paused. refl });
   lost = λ fails. absurd cc;
 }
 
 -- a host that works, behind an entry that leads from what it stands for to what it is then
-pub stands-behind : (scripts : List Script) (input : List (List ℕ)) (wait : Bool) (old new : HostState) (history : List Entry) (entry : Entry)
+pub stands-behind : (scripts : List Script) (input : List (List ℕ)) (wait : Bool) (old new : HostState)
+    (history : List Entry) (entry : Entry)
     → Stands scripts input wait old history → new.scripts ≡ old.scripts → new.broken ≡ false
     → FitsEntry (protocol scripts) (whole scripts input wait history) entry
-    → StandsAs (meaning_with new (printed_of (apply scripts (whole scripts input wait history) entry).program)) (apply scripts (whole scripts input wait history) entry)
+    → StandsAs (meaning_with new (printed_of (apply scripts (whole scripts input wait history) entry).program))
+    (apply scripts (whole scripts input wait history) entry)
     → Stands scripts input wait new (history ++ entry ∷ [])
 stands-behind scripts input wait old new history entry stood same works fit stands =
     let more = longer scripts input wait history entry in
@@ -50,7 +54,8 @@ stands-behind scripts input wait old new history entry stood same works fit stan
     }
 
 -- the same of an entry that makes no steps
-pub stands-call : (scripts : List Script) (input : List (List ℕ)) (wait : Bool) (old new : HostState) (history : List Entry) (entry : Entry)
+pub stands-call : (scripts : List Script) (input : List (List ℕ)) (wait : Bool) (old new : HostState)
+    (history : List Entry) (entry : Entry)
     → Stands scripts input wait old history
     → steps_of entry ≡ zero
     → FitsEntry (protocol scripts) (whole scripts input wait history) entry
@@ -62,15 +67,19 @@ stands-call scripts input wait old new history entry stood none fit held leaves 
     let m : Meaning Run = whole scripts input wait history in
     let taken : List (List ℕ) = printed_of m.program in
     let before = stood.means works in
-    let same : printed_of (apply scripts m entry).program ≡ taken = ap printed_of (call-program (protocol scripts) m entry none) in
-    let P : List Script → Type 0 = λ ss. LeavesAs (protocol ss) (meaning_with old taken) entry (meaning_with new taken) in
+    let same : printed_of (apply scripts m entry).program ≡ taken = ap printed_of
+    (call-program (protocol scripts) m entry none) in
+    let P : List Script
+    → Type 0 = λ ss. LeavesAs (protocol ss) (meaning_with old taken) entry (meaning_with new taken) in
     let Q : List (List ℕ) → Type 0 = λ texts. StandsAs (meaning_with new texts) (apply scripts m entry) in
     stands-behind scripts input wait old new history entry stood leaves.runs (leaves.works ∙ works) fit
     (subst Q (sym same)
-    (stands-more (protocol scripts) (meaning_with old taken) m entry (meaning_with new taken) before held (subst P stood.runs (leaves.means taken before.all_there))))
+    (stands-more (protocol scripts) (meaning_with old taken) m entry (meaning_with new taken) before held
+    (subst P stood.runs (leaves.means taken before.all_there))))
 
 -- a broken host, behind an entry that leaves its seats
-pub stands-broken : (scripts : List Script) (input : List (List ℕ)) (wait : Bool) (old new : HostState) (history : List Entry) (entry : Entry)
+pub stands-broken : (scripts : List Script) (input : List (List ℕ)) (wait : Bool) (old new : HostState)
+    (history : List Entry) (entry : Entry)
     → Stands scripts input wait old history → new.scripts ≡ old.scripts → new.broken ≡ true
     → FitsEntry (protocol scripts) (whole scripts input wait history) entry
     → BrokenAs new.meaning.seats (apply scripts (whole scripts input wait history) entry).seats

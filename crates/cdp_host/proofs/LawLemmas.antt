@@ -13,7 +13,8 @@ use Rattle.cdp_host.proofs.ProtocolLemmas.{enabled-kept, plain-same}
 
 pub goes-plainly : (scripts : List Script) (input : List (List ℕ)) (wait : Bool) (history : List Entry)
     → (whole scripts input wait history).program ≡ plain (steps_made history) scripts input
-goes-plainly scripts input wait history = plain-way (protocol scripts) (start scripts input) wait history ∙ plain-same (steps_made history) scripts input
+goes-plainly scripts input wait history =
+    plain-way (protocol scripts) (start scripts input) wait history ∙ plain-same (steps_made history) scripts input
 
 pub plain-prints : (scripts : List Script) (input : List (List ℕ)) (made : ℕ) (r : Run)
     → r ≡ plain made scripts input
@@ -27,7 +28,9 @@ plain-prints scripts input made r is =
 
 pub prints-plainly : (scripts : List Script) (input : List (List ℕ)) (wait : Bool) (history : List Entry)
     → PrintsAsPlain scripts input (steps_made history) (whole scripts input wait history).program
-prints-plainly scripts input wait history = plain-prints scripts input (steps_made history) (whole scripts input wait history).program (goes-plainly scripts input wait history)
+prints-plainly scripts input wait history =
+    plain-prints scripts input (steps_made history) (whole scripts input wait history).program
+    (goes-plainly scripts input wait history)
 
 pub paused-there : (scripts : List Script) (input : List (List ℕ)) (wait : Bool) (history : List Entry)
     → IsPausedThere scripts (whole scripts input wait history)

@@ -31,7 +31,11 @@ pub resumed-is : {C T Q X : Type 0}
     → (let n : meanings.Meaning C Q X = record m { stop = None; seats = news } in n ≡ less news (resume P m))
 resumed-is P m news paused over =
     ap (λ ss. record m { stop = None; seats = ss }) (on-each P m.seats news over).0
-    ∙ ap (λ b. with_seats (without (fallen_in news) (if b then record m { stop = None; seats = each (resumed_seat P) m.seats } else m).seats) (if b then record m { stop = None; seats = each (resumed_seat P) m.seats } else m)) (sym paused)
+    ∙ ap (λ b. with_seats
+    (without (fallen_in news)
+    (if b then record m { stop = None; seats = each (resumed_seat P) m.seats } else m).seats)
+    (if b then record m { stop = None; seats = each (resumed_seat P) m.seats } else m))
+    (sym paused)
 
 -- one that wasn't paused
 pub unresumed-is : {C T Q X : Type 0}
@@ -39,7 +43,9 @@ pub unresumed-is : {C T Q X : Type 0}
     → is_paused m ≡ false
     → m ≡ less m.seats (resume P m)
 unresumed-is P m free =
-    sym (less-self m) ∙ ap (λ b. less m.seats (if b then record m { stop = None; seats = each (resumed_seat P) m.seats } else m)) (sym free)
+    sym (less-self m)
+    ∙ ap (λ b. less m.seats (if b then record m { stop = None; seats = each (resumed_seat P) m.seats } else m))
+    (sym free)
 
 -- where some session has the debugger enabled, and where none has
 pub settled-is : {C T Q X : Type 0}
@@ -62,13 +68,15 @@ reseated old s z = record old { meaning = record old.meaning { seats = put s z o
 
 -- it stays as it was where the program stays paused
 abbrev pub StaysPaused : HostState → HostState → Type 0
-StaysPaused mid new = is_paused new.meaning ≡ true → (new.meaning.seats ≡ mid.meaning.seats) × (new.meaning.stop ≡ mid.meaning.stop)
+StaysPaused mid new =
+    is_paused new.meaning ≡ true → (new.meaning.seats ≡ mid.meaning.seats) × (new.meaning.stop ≡ mid.meaning.stop)
 
 pub leaves-told : (old mid new : HostState) (s : ℕ) (entry : Entry) (z : Seat Session)
     → fell z ≡ false
     → mid ≡ reseated old s z
     → new.scripts ≡ mid.scripts → new.broken ≡ mid.broken → new.fallen ≡ mid.fallen → StaysPaused mid new
-    → ((taken : List (List ℕ)) → meaning_with new taken ≡ less new.meaning.seats (apply (protocol old.scripts) (meaning_with old taken) entry))
+    → ((taken : List (List ℕ))
+    → meaning_with new taken ≡ less new.meaning.seats (apply (protocol old.scripts) (meaning_with old taken) entry))
     → Leaves old entry new
 leaves-told old mid new s entry z whole_seat is same works kept stays means = record {
   runs = same ∙ ap (λ h. h.scripts) is;
@@ -78,9 +86,11 @@ leaves-told old mid new s entry z whole_seat is same works kept stays means = re
     is = means taken;
     all_there = λ paused.
         let both = stays paused in
-        let before : is_paused old.meaning ≡ true = ap is_some (sym (ap (λ h. h.meaning.stop) is) ∙ sym both.1) ∙ paused in
+        let before : is_paused old.meaning ≡ true = ap is_some (sym (ap (λ h. h.meaning.stop) is) ∙ sym both.1)
+        ∙ paused in
         ap fallen_in (both.0 ∙ ap (λ h. h.meaning.seats) is)
-        ∙ fallen-none (put s z old.meaning.seats) (fell-put s z old.meaning.seats whole_seat (none-fallen old.meaning.seats (there before)));
+        ∙ fallen-none (put s z old.meaning.seats)
+        (fell-put s z old.meaning.seats whole_seat (none-fallen old.meaning.seats (there before)));
   };
 }
 
@@ -88,8 +98,10 @@ leaves-told old mid new s entry z whole_seat is same works kept stays means = re
 
 -- its answer doesn't depend on the texts that were taken from the machine
 pub answer-seen : (h : HostState) (taken : List (List ℕ)) (x : Session) (text : List ℕ)
-    → answer_of (situation h.scripts h.meaning.stop (parts_standing h.scripts h.meaning.program)) x text ≡ answer_at h.scripts h.meaning.stop (meaning_with h taken).program text x
-answer-seen h taken x text = ap (λ d. answer_of (situation h.scripts h.meaning.stop d) x text) (standing-taken h.scripts h.meaning.program taken)
+    → answer_of (situation h.scripts h.meaning.stop (parts_standing h.scripts h.meaning.program))
+    x text ≡ answer_at h.scripts h.meaning.stop (meaning_with h taken).program text x
+answer-seen h taken x text =
+    ap (λ d. answer_of (situation h.scripts h.meaning.stop d) x text) (standing-taken h.scripts h.meaning.program taken)
 
 apply-kept : {C T Q X : Type 0}
     → (P : Protocol C T Q X) (s : ℕ) (text : List ℕ) (m : meanings.Meaning C Q X) (x y : X) (go begin : Bool)
@@ -106,7 +118,8 @@ apply-kept {C} {T} {Q} {X} P s text m x y go begin had is goes begins fit =
     ap (λ v. asked P go begin (with_seat s (Attached v) m)) is
     ∙ ap (λ b. asked P b begin (with_seat s (Attached Y) m)) goes
     ∙ ap (λ b. asked P G b (with_seat s (Attached Y) m)) begins
-    ∙ ap (λ b. if b then asked P G B (with_seat s (Attached Y) m) else settle P (with_seat s Left m)) (sym (ap P.fits (sym is) ∙ fit))
+    ∙ ap (λ b. if b then asked P G B (with_seat s (Attached Y) m) else settle P (with_seat s Left m))
+    (sym (ap P.fits (sym is) ∙ fit))
     ∙ ap (tell P s text m) (sym had)
 
 apply-over : {C T Q X : Type 0}
@@ -115,7 +128,9 @@ apply-over : {C T Q X : Type 0}
     → y ≡ P.reply m.stop m.program text x → P.fits y ≡ false → settle P (with_seat s Left m) ≡ apply P m (Tell s text)
 apply-over {C} {T} {Q} {X} P s text m x y had is over =
     let Y : X = P.reply m.stop m.program text x in
-    ap (λ b. if b then asked P (P.resumes m.stop m.program text x) (P.wakes m.stop m.program text x) (with_seat s (Attached Y) m) else settle P (with_seat s Left m)) (sym (ap P.fits (sym is) ∙ over))
+    ap (λ b. if b then asked P (P.resumes m.stop m.program text x) (P.wakes m.stop m.program text x)
+    (with_seat s (Attached Y) m) else settle P (with_seat s Left m))
+    (sym (ap P.fits (sym is) ∙ over))
     ∙ ap (tell P s text m) (sym had)
 
 apply-left : {C T Q X : Type 0}
@@ -143,7 +158,9 @@ pub leaves-kept : (old mid new : HostState) (s : ℕ) (text : List ℕ) (x : Ses
     → OnlySeats old mid
     → AnswersIn (Kept asks) (becomes old text x) s old.meaning.seats mid.meaning.seats
     → new.scripts ≡ mid.scripts → new.broken ≡ mid.broken → new.fallen ≡ mid.fallen → StaysPaused mid new
-    → ((taken : List (List ℕ)) → meaning_with new taken ≡ less new.meaning.seats (asked (protocol mid.scripts) (asks_to_resume asks) (asks_to_wake asks) (meaning_with mid taken)))
+    → ((taken : List (List ℕ))
+    → meaning_with new taken ≡ less new.meaning.seats
+    (asked (protocol mid.scripts) (asks_to_resume asks) (asks_to_wake asks) (meaning_with mid taken)))
     → Leaves old (Tell s text) new
 leaves-kept old mid new s text x asks had only answers same works kept stays means =
     let y : Session = (becomes old text x).session in
@@ -152,17 +169,22 @@ leaves-kept old mid new s text x asks had only answers same works kept stays mea
     (λ taken.
     let seen = answer-seen old taken x text in
     means taken
-    ∙ ap (λ h. less new.meaning.seats (asked (protocol h.scripts) (asks_to_resume asks) (asks_to_wake asks) (meaning_with h taken))) is
+    ∙ ap (λ h. less new.meaning.seats
+    (asked (protocol h.scripts) (asks_to_resume asks) (asks_to_wake asks) (meaning_with h taken)))
+    is
     ∙ ap (less new.meaning.seats)
-    (apply-kept (protocol old.scripts) s text (meaning_with old taken) x y (asks_to_resume asks) (asks_to_wake asks) had (ap (λ a. a.session) seen)
-    (ap asks_to_resume (answers.1 ∙ ap (λ a. a.asks) seen)) (ap asks_to_wake (answers.1 ∙ ap (λ a. a.asks) seen)) answers.2))
+    (apply-kept (protocol old.scripts) s text (meaning_with old taken) x y (asks_to_resume asks) (asks_to_wake asks) had
+    (ap (λ a. a.session) seen)
+    (ap asks_to_resume (answers.1 ∙ ap (λ a. a.asks) seen)) (ap asks_to_wake (answers.1 ∙ ap (λ a. a.asks) seen))
+    answers.2))
 
 pub leaves-over : (old mid new : HostState) (s : ℕ) (text : List ℕ) (x : Session)
     → seat_of s old.meaning.seats ≡ Attached x
     → OnlySeats old mid
     → AnswersIn Overran (becomes old text x) s old.meaning.seats mid.meaning.seats
     → new.scripts ≡ mid.scripts → new.broken ≡ mid.broken → new.fallen ≡ mid.fallen → StaysPaused mid new
-    → ((taken : List (List ℕ)) → meaning_with new taken ≡ less new.meaning.seats (settle (protocol mid.scripts) (meaning_with mid taken)))
+    → ((taken : List (List ℕ))
+    → meaning_with new taken ≡ less new.meaning.seats (settle (protocol mid.scripts) (meaning_with mid taken)))
     → Leaves old (Tell s text) new
 leaves-over old mid new s text x had only answers same works kept stays means =
     let y : Session = (becomes old text x).session in
@@ -171,7 +193,9 @@ leaves-over old mid new s text x had only answers same works kept stays means =
     (λ taken.
     means taken
     ∙ ap (λ h. less new.meaning.seats (settle (protocol h.scripts) (meaning_with h taken))) is
-    ∙ ap (less new.meaning.seats) (apply-over (protocol old.scripts) s text (meaning_with old taken) x y had (ap (λ a. a.session) (answer-seen old taken x text)) answers.1))
+    ∙ ap (less new.meaning.seats)
+    (apply-over (protocol old.scripts) s text (meaning_with old taken) x y had
+    (ap (λ a. a.session) (answer-seen old taken x text)) answers.1))
 
 -- a session that leaves
 pub leaves-left : (old mid new : HostState) (s : ℕ) (x : Session)
@@ -179,7 +203,8 @@ pub leaves-left : (old mid new : HostState) (s : ℕ) (x : Session)
     → OnlySeats old mid
     → mid.meaning.seats ≡ put s Left old.meaning.seats
     → new.scripts ≡ mid.scripts → new.broken ≡ mid.broken → new.fallen ≡ mid.fallen → StaysPaused mid new
-    → ((taken : List (List ℕ)) → meaning_with new taken ≡ less new.meaning.seats (settle (protocol mid.scripts) (meaning_with mid taken)))
+    → ((taken : List (List ℕ))
+    → meaning_with new taken ≡ less new.meaning.seats (settle (protocol mid.scripts) (meaning_with mid taken)))
     → Leaves old (Detach s) new
 leaves-left old mid new s x had only seats same works kept stays means =
     let is : mid ≡ reseated old s Left = put_is old mid s Left only seats in
@@ -200,14 +225,20 @@ leaves-shut old = record {
   runs = refl;
   works = refl;
   fallen = refl;
-  means = λ taken there. record { is = sym (less-self (record (meaning_with old taken) { shut = true })); all_there = there };
+  means =
+      λ taken there. record {
+        is = sym
+            (less-self (record (meaning_with old taken) { shut = true }));
+        all_there = there;
+      };
 }
 
 pub shut-stands : (old : HostState) (b : Bool)
     → old.broken ≡ b
     → CarriesOn old Shut (record old { meaning = record old.meaning { shut = true } })
 shut-stands old false works = λ scripts input wait history stood.
-    stands-call scripts input wait old (record old { meaning = record old.meaning { shut = true } }) history Shut stood refl tt tt (leaves-shut old) works
+    stands-call scripts input wait old (record old { meaning = record old.meaning { shut = true } })
+    history Shut stood refl tt tt (leaves-shut old) works
 shut-stands old true fails = λ scripts input wait history stood.
     stands-broken scripts input wait old (record old { meaning = record old.meaning { shut = true } }) history Shut
     stood refl fails tt (stood.lost fails)

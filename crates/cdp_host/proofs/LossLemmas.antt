@@ -48,7 +48,9 @@ put_gone_in : (i : ℕ) (new : Seat Session) (seats : List (Seat Session))
     → some is_attached seats ≡ false
     → some is_attached (put_in i new seats) ≡ false
 put_gone_in i new [] gone none = none
-put_gone_in zero new (seat ∷ seats) gone none = or_from (is_attached new) (some is_attached seats) gone (or_parts (is_attached seat) (some is_attached seats) none).1
+put_gone_in zero new (seat ∷ seats) gone none =
+    or_from (is_attached new) (some is_attached seats) gone
+    (or_parts (is_attached seat) (some is_attached seats) none).1
 put_gone_in (suc i) new (seat ∷ seats) gone none =
     let parts = or_parts (is_attached seat) (some is_attached seats) none in
     or_from (is_attached seat) (some is_attached (put_in i new seats)) parts.0 (put_gone_in i new seats gone parts.1)
@@ -72,11 +74,16 @@ told-stands : (scripts : List Script) (host m : Meaning Run) (s : ℕ) (seat : S
     → is_attached seat ≡ false
     → StandsAs (with_seat s (owner_told seat) host) (apply (protocol scripts) m (Detach s))
 told-stands scripts host m s (Attached x) stood b there at gone = absurd cc
-told-stands scripts host m s (Lost Overrun is_reported is_told) stood b there at gone = stands-detach-lost (protocol scripts) host m s Overrun is_reported is_told stood at refl
-told-stands scripts host m s (Lost Memory true is_told) stood b there at gone = stands-detach-lost (protocol scripts) host m s Memory true is_told stood at refl
-told-stands scripts host m s (Lost Memory false is_told) stood b there at gone = stands-detach-fallen (protocol scripts) host m s is_told stood at (there is_told at)
+told-stands scripts host m s (Lost Overrun is_reported is_told) stood b there at gone =
+    stands-detach-lost (protocol scripts) host m s Overrun is_reported is_told stood at refl
+told-stands scripts host m s (Lost Memory true is_told) stood b there at gone =
+    stands-detach-lost (protocol scripts) host m s Memory true is_told stood at refl
+told-stands scripts host m s (Lost Memory false is_told) stood b there at gone =
+    stands-detach-fallen (protocol scripts) host m s is_told stood at (there is_told at)
 told-stands scripts host m s Left stood b there at gone =
-    let P : List (Seat Session) → Type 0 = λ ss. (let n : Meaning Run = record host { seats = ss } in StandsAs n (apply (protocol scripts) m (Detach s))) in
+    let P : List (Seat Session)
+    → Type 0 = λ ss.
+    (let n : Meaning Run = record host { seats = ss } in StandsAs n (apply (protocol scripts) m (Detach s))) in
     subst P (sym (put-same s Left host.seats at)) (stands-detach-left (protocol scripts) host m s stood at)
 
 -- ---- a host that want of memory broke
@@ -124,12 +131,15 @@ loss-stands old s false works gone = λ scripts input wait history stood.
     let new : HostState = reseated old s (owner_told (seat_of s old.meaning.seats)) in
     let taken : List (List ℕ) = printed_of m.program in
     let before = stood.means works in
-    let same : printed_of (applied scripts m (Detach s)).program ≡ taken = ap printed_of (call-program (protocol scripts) m (Detach s) refl) in
+    let same : printed_of (applied scripts m (Detach s)).program ≡ taken = ap printed_of
+    (call-program (protocol scripts) m (Detach s) refl) in
     let Q : List (List ℕ) → Type 0 = λ texts. StandsAs (meaning_with new texts) (applied scripts m (Detach s)) in
     stands-behind scripts input wait old new history (Detach s) stood refl works tt
     (subst Q (sym same)
     (told-stands scripts (meaning_with old taken) m s (seat_of s old.meaning.seats) before false
-    (λ is_told at. fallen-attached (meaning_with old taken) m s is_told before (whole-none (protocol scripts) (start scripts input) wait history) at) refl gone))
+    (λ is_told at. fallen-attached (meaning_with old taken) m s is_told before
+    (whole-none (protocol scripts) (start scripts input) wait history) at)
+    refl gone))
 loss-stands old s true fails gone = λ scripts input wait history stood.
     let m : Meaning Run = whole scripts input wait history in
     let new : HostState = reseated old s (owner_told (seat_of s old.meaning.seats)) in

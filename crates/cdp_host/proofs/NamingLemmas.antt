@@ -36,7 +36,8 @@ unnamed depth debugger [] = refl
 unnamed depth debugger (seat ∷ seats) = rw (unnamed_seat depth debugger seat) (unnamed depth debugger seats)
 
 -- no session names such a step
-pub unnamed-where : (scripts : List Script) (t : Term) (frames : List Frame) (seats : List (Seat Session)) (mark : Option Mark) (throw : Option Thrown)
+pub unnamed-where : (scripts : List Script) (t : Term) (frames : List Frame) (seats : List (Seat Session))
+    (mark : Option Mark) (throw : Option Thrown)
     → mark ≡ at (spans_in scripts (top_spot frames).source) t
     → standing_throw throw ≡ thrown t
     → mark ≡ None

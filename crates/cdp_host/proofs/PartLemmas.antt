@@ -122,7 +122,8 @@ printed_by (Some ends.Lost) t s = ap (λ u. u.printed) (run_of-state t s)
 -- those that were taken, and then those that the machine holds
 pub run-printed : (p : Parts) (taken : List (List ℕ))
     → printed_of (run_with taken p) ≡ taken ++ p.machine.context.printed
-run-printed p taken = printed_by p.machine.ended (term_of p.machine) (state_of p.machine (heap_world p.machine.names p.heap) taken)
+run-printed p taken =
+    printed_by p.machine.ended (term_of p.machine) (state_of p.machine (heap_world p.machine.names p.heap) taken)
 
 -- texts that are taken from a machine are still those of its run
 pub handed-over : (m n : Machine) (h : Heap) (texts taken : List (List ℕ))
@@ -130,11 +131,14 @@ pub handed-over : (m n : Machine) (h : Heap) (texts taken : List (List ℕ))
     → n ≡ record m { context = record m.context { printed = [] } }
     → machine_run n h (taken ++ texts) ≡ machine_run m h taken
 handed-over m n h texts taken is rest =
-    let f : List (List ℕ) → Run = λ printed. run_by m.ended (term_of m) (record (state_of m (heap_world m.names h) taken) { printed = printed }) in
+    let f : List (List ℕ)
+    → Run = λ printed. run_by m.ended (term_of m)
+    (record (state_of m (heap_world m.names h) taken) { printed = printed }) in
     ap (λ k. machine_run k h (taken ++ texts)) rest ∙ ap f (append-nil (taken ++ texts) ∙ ap (λ xs. taken ++ xs) is)
 
 -- so a stretch of steps leads to where the texts behind it are handed out
-pub advance-printed : (scripts : List Script) (seats : List (Seat Session)) (most k : ℕ) (r : Run) (n o : Machine) (i : Heap) (texts before after taken : List (List ℕ))
+pub advance-printed : (scripts : List Script) (seats : List (Seat Session)) (most k : ℕ) (r : Run) (n o : Machine)
+    (i : Heap) (texts before after taken : List (List ℕ))
     → Advances scripts seats most k r (machine_run n i (taken ++ before))
     → texts ≡ n.context.printed
     → o ≡ record n { context = record n.context { printed = [] } }
@@ -143,7 +147,8 @@ pub advance-printed : (scripts : List Script) (seats : List (Seat Session)) (mos
 advance-printed scripts seats most k r n o i texts before after taken steps is rest all =
     let P : Run → Type 0 = Advances scripts seats most k r in
     let e : machine_run n i (taken ++ before) ≡ machine_run o i (taken ++ after) =
-    sym (handed-over n o i texts (taken ++ before) is rest) ∙ ap (machine_run o i) (append_assoc taken before texts ∙ ap (λ xs. taken ++ xs) (sym all)) in
+    sym (handed-over n o i texts (taken ++ before) is rest)
+    ∙ ap (machine_run o i) (append_assoc taken before texts ∙ ap (λ xs. taken ++ xs) (sym all)) in
     subst P e steps
 
 -- ---- the end
@@ -202,7 +207,8 @@ unfinished_by : (m : Machine) (h : Heap) (taken : List (List ℕ)) (o : Option E
     → Goes m
     → is_some o ≡ is_over (machine_run m h taken)
 unfinished_by m h taken None is kept goes = sym (runs_on (machine_run m h taken) (goes is (heap_world m.names h) taken))
-unfinished_by m h taken (Some e) is kept goes = sym (ended-over m.ended (term_of m) (state_of m (heap_world m.names h) taken) kept (ap is_some is))
+unfinished_by m h taken (Some e) is kept goes =
+    sym (ended-over m.ended (term_of m) (state_of m (heap_world m.names h) taken) kept (ap is_some is))
 
 pub unfinished-over : (m : Machine) (h : Heap) (taken : List (List ℕ))
     → IsKept m.ended
@@ -216,10 +222,13 @@ not_thrown : (m : Machine) (h : Heap) (taken : List (List ℕ)) (o : Option End)
     → Goes m
     → finish_at o m.point ≡ None
     → has_thrown (machine_run m h taken) ≡ false
-not_thrown m h taken None is kept goes none = unthrown (machine_run m h taken) (runs_on (machine_run m h taken) (goes is (heap_world m.names h) taken))
+not_thrown m h taken None is kept goes none =
+    unthrown (machine_run m h taken) (runs_on (machine_run m h taken) (goes is (heap_world m.names h) taken))
 not_thrown m h taken (Some (ends.Finished f)) is kept goes none = absurd cc
-not_thrown m h taken (Some ends.Effect) is kept goes none = ap (λ e. has_thrown (run_by e (term_of m) (state_of m (heap_world m.names h) taken))) is
-not_thrown m h taken (Some (ends.Full what)) is kept goes none = ap (λ e. has_thrown (run_by e (term_of m) (state_of m (heap_world m.names h) taken))) is
+not_thrown m h taken (Some ends.Effect) is kept goes none =
+    ap (λ e. has_thrown (run_by e (term_of m) (state_of m (heap_world m.names h) taken))) is
+not_thrown m h taken (Some (ends.Full what)) is kept goes none =
+    ap (λ e. has_thrown (run_by e (term_of m) (state_of m (heap_world m.names h) taken))) is
 not_thrown m h taken (Some ends.Lost) is kept goes none = absurd kept
 
 pub unfinished-thrown : (m : Machine) (h : Heap) (taken : List (List ℕ))
@@ -274,7 +283,8 @@ none_ended (whys.Full what) most some counts = refl
 none_ended whys.Memory most some counts = refl
 
 -- what a machine's run says of it before and behind
-pub record HasRun (scripts : List Script) (seats : List (Seat Session)) (most : ℕ) (m : Machine) (h : Heap) (n : Machine) (i : Heap) (k : ℕ) (why : Why) : Type 0 where
+pub record HasRun (scripts : List Script) (seats : List (Seat Session)) (most : ℕ) (m : Machine) (h : Heap)
+    (n : Machine) (i : Heap) (k : ℕ) (why : Why) : Type 0 where
   pub runs : IsKept n.ended
       → (taken : List (List ℕ))
       → machine_run n i taken ≡ steps_in k (program_of m) script_scope (machine_run m h taken)
@@ -315,13 +325,15 @@ some_steps : (most k : ℕ) (n : Machine) (h i : Heap) (m : Machine) (why : Why)
     → is_over (machine_run m h taken) ≡ false
     → 0 < k
 some_steps most zero n h i m why taken some counted end kept same goes =
-    let ends : is_over (machine_run n i taken) ≡ true = ended-over n.ended (term_of n) (state_of n (heap_world n.names i) taken) kept (ap is_some end ∙ none_ended why most some counted) in
+    let ends : is_over (machine_run n i taken) ≡ true = ended-over n.ended (term_of n)
+    (state_of n (heap_world n.names i) taken) kept (ap is_some end ∙ none_ended why most some counted) in
     let on : is_over (machine_run n i taken) ≡ false = ap is_over same ∙ goes in
     absurd cc
 some_steps most (suc k) n h i m why taken some counted end kept same goes = omega arith
 
 -- it is a stretch of steps
-pub has-advanced : (scripts : List Script) (seats : List (Seat Session)) (most : ℕ) (m : Machine) (h : Heap) (n : Machine) (i : Heap) (k : ℕ) (why : Why)
+pub has-advanced : (scripts : List Script) (seats : List (Seat Session)) (most : ℕ) (m : Machine) (h : Heap)
+    (n : Machine) (i : Heap) (k : ℕ) (why : Why)
     → HasRun scripts seats most m h n i k why
     → program_of m ≡ code_of scripts
     → 0 < most
@@ -331,20 +343,32 @@ pub has-advanced : (scripts : List Script) (seats : List (Seat Session)) (most :
     → Advances scripts seats most k (machine_run m h taken) (machine_run n i taken)
 has-advanced scripts seats most m h n i k why ran code some kept goes taken =
     let r : Run = machine_run m h taken in
-    let there : (j : ℕ) → steps_in j (program_of m) script_scope r ≡ nexts scripts j r = λ j. ap (λ p. steps_in j p script_scope r) code ∙ nexts_are j scripts r in
+    let there : (j : ℕ)
+    → steps_in j (program_of m) script_scope r ≡ nexts scripts j r = λ j. ap (λ p. steps_in j p script_scope r) code
+    ∙ nexts_are j scripts r in
     record {
-      counts = record { some = some_steps most k n h i m why taken some ran.counted ran.end kept (ran.runs kept taken) (goes taken); within = ran.within };
+      counts =
+          record {
+            some = some_steps most k n h i m why taken some ran.counted ran.end kept (ran.runs kept taken)
+                (goes taken);
+            within = ran.within;
+          };
       reached = ran.runs kept taken ∙ there k;
       runs = λ j below. ap is_over (sym (there j)) ∙ left_over k j (program_of m) script_scope r (ran.left taken) below;
-      silent = λ j below. sym (prints_there j scripts (program_of m) r code) ∙ (ran.silent taken).none j (omega (arith, below));
+      silent =
+          λ j below. sym (prints_there j scripts (program_of m) r code)
+          ∙ (ran.silent taken).none j (omega (arith, below));
       passes = λ j first below.
           let low = all_but_last why k in
           never-named (standing_of scripts (nexts scripts j r)) (arrival_of scripts (nexts scripts j r)) seats
-          (sym (asked_there scripts seats (nexts scripts j r)) ∙ ap (asks_at (asked scripts seats)) (sym (there j)) ∙ (ran.passed taken).none j first (omega (arith, low)));
+          (sym (asked_there scripts seats (nexts scripts j r))
+          ∙ ap (asks_at (asked scripts seats)) (sym (there j))
+          ∙ (ran.passed taken).none j first (omega (arith, low)));
     }
 
 -- the values that why it stopped tells are those of its last step
-pub has-printed : (scripts : List Script) (seats : List (Seat Session)) (most : ℕ) (m : Machine) (h : Heap) (n : Machine) (i : Heap) (k : ℕ) (why : Why) (values : Option (List Value))
+pub has-printed : (scripts : List Script) (seats : List (Seat Session)) (most : ℕ) (m : Machine) (h : Heap)
+    (n : Machine) (i : Heap) (k : ℕ) (why : Why) (values : Option (List Value))
     → HasRun scripts seats most m h n i k why
     → program_of m ≡ code_of scripts
     → 0 < most
@@ -355,4 +379,5 @@ pub has-printed : (scripts : List Script) (seats : List (Seat Session)) (most : 
 has-printed scripts seats most m h n i k why values ran code some kept goes tells taken =
     let r : Run = machine_run m h taken in
     tells (last_printed k (program_of m) script_scope r) (subst IsKept ran.end kept) (ran.values taken)
-    ∙ last_there k scripts (program_of m) r (some_steps most k n h i m why taken some ran.counted ran.end kept (ran.runs kept taken) (goes taken)) code
+    ∙ last_there k scripts (program_of m) r
+    (some_steps most k n h i m why taken some ran.counted ran.end kept (ran.runs kept taken) (goes taken)) code

@@ -87,8 +87,12 @@ located : (scripts : List Script) (t : Term) (s : State) (script : Script)
     → option_map (λ mark. place_in mark script) (at script.spans t) ≡ Some place
     → IsBreakLocation scripts place
 located scripts t s script arrives k runs place e =
-    let m = mark_of script (at script.spans t) place e in
-    (script, k, ap (λ (p : Place). p.script) m.2, subst (λ (p : Place). IsAt (break_locations script) p.pos) m.2 (arrives.at_a_location script m.0 k runs m.1))
+    let m = mark_of script (at script.spans t) place e in (
+      script,
+      k,
+      ap (λ (p : Place). p.script) m.2,
+      subst (λ (p : Place). IsAt (break_locations script) p.pos) m.2 (arrives.at_a_location script m.0 k runs m.1),
+    )
 
 -- ---- runs
 
@@ -100,14 +104,17 @@ unfolding arrival_of
 run-located scripts (running t s) h arrives =
     let i = arrives.in_a_script in
     record {
-      at_a_location = λ place e. located scripts t s i.0 arrives i.1 i.2 place (sym (arrived scripts (spot_of s).source t i.0 h i.1 i.2) ∙ e);
+      at_a_location =
+          λ place e. located scripts t s i.0 arrives i.1 i.2 place
+          (sym (arrived scripts (spot_of s).source t i.0 h i.1 i.2) ∙ e);
       at_its_mark = λ u v script e k runs.
           let same_term : t ≡ u = cc in
           let same_state : s ≡ v = cc in
           arrived scripts (spot_of s).source t script h k (ap (λ (x : State). (spot_of x).source) same_state ∙ runs)
           ∙ ap (λ (x : Term). option_map (λ mark. place_in mark script) (at script.spans x)) same_term;
     }
-run-located scripts (over f s) h arrives = record { at_a_location = λ place e. absurd cc; at_its_mark = λ t u script e. absurd cc }
+run-located scripts (over f s) h arrives =
+    record { at_a_location = λ place e. absurd cc; at_its_mark = λ t u script e. absurd cc }
 
 pub plain-located : (k : ℕ) (scripts : List Script) (input : List (List ℕ))
     → ScriptsAreNumbered 1 scripts

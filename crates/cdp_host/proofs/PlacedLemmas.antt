@@ -77,7 +77,8 @@ pub put-back : {X : Type 0}
     → n ≡ length seats
     → news ≡ put s new seats
     → take n (news ++ rest) ≡ put s new seats
-put-back n s new seats news rest full is = given-back n news rest (full ∙ sym (put-length s new seats) ∙ sym (ap length is)) ∙ is
+put-back n s new seats news rest full is =
+    given-back n news rest (full ∙ sym (put-length s new seats) ∙ sym (ap length is)) ∙ is
 
 -- ---- what fits
 

@@ -18,7 +18,9 @@ plain-start scripts input = refl
 pub plain-next : (k : ℕ) (scripts : List Script) (input : List (List ℕ))
     → next scripts (plain k scripts input) ≡ plain (suc k) scripts input
 unfolding next plain code_of
-plain-next k scripts input = sym (steps-suc k (runs.program_of (terms_of_scripts scripts)) script_scope (runs.start (terms_of_scripts scripts) input))
+plain-next k scripts input =
+    sym (steps-suc k (runs.program_of (terms_of_scripts scripts)) script_scope
+    (runs.start (terms_of_scripts scripts) input))
 
 -- ---- output
 
@@ -50,7 +52,9 @@ plain-grows (suc j) made scripts input =
     let P : Run → Type 0 = λ r. IsPrefix (printed_of (plain made scripts input)) (printed_of r) in
     let e : suc (made + j) ≡ made + suc j = omega arith in
     subst P (plain-next (made + j) scripts input ∙ ap (λ k. plain k scripts input) e)
-    (prefix-trans (printed_of (plain made scripts input)) (printed_of (plain (made + j) scripts input)) (printed_of (next scripts (plain (made + j) scripts input))) (plain-grows j made scripts input) (next-prints scripts (plain (made + j) scripts input)))
+    (prefix-trans (printed_of (plain made scripts input)) (printed_of (plain (made + j) scripts input))
+    (printed_of (next scripts (plain (made + j) scripts input))) (plain-grows j made scripts input)
+    (next-prints scripts (plain (made + j) scripts input)))
 
 -- ---- the end
 
@@ -67,4 +71,7 @@ plain-over zero made scripts input is = let e : made + 0 ≡ made = omega arith 
 plain-over (suc j) made scripts input is =
     let e : made + suc j ≡ suc (made + j) = omega arith in
     let before : plain (made + j) scripts input ≡ plain made scripts input = plain-over j made scripts input is in
-    ap (λ k. plain k scripts input) e ∙ sym (plain-next (made + j) scripts input) ∙ ap (next scripts) before ∙ next-over scripts (plain made scripts input) is
+    ap (λ k. plain k scripts input) e
+    ∙ sym (plain-next (made + j) scripts input)
+    ∙ ap (next scripts) before
+    ∙ next-over scripts (plain made scripts input) is

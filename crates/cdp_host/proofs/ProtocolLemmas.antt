@@ -21,7 +21,9 @@ use Rattle.cdp_host.proofs.WatchLemmas.{print-outbox, told-outbox}
 
 told_sent : (scripts : List Script) (moment : ℕ) (t : Step) (x : Session)
     → (told (seen_behind scripts t) moment t x).outbox
-    ≡ x.outbox ++ (print_texts (seen_behind scripts t) t.values moment x ++ end_texts (seen_behind scripts t) t.ending moment (print_told (seen_behind scripts t) t.values moment x))
+    ≡ x.outbox ++
+    (print_texts (seen_behind scripts t) t.values moment x ++ end_texts (seen_behind scripts t) t.ending moment
+    (print_told (seen_behind scripts t) t.values moment x))
 told_sent scripts moment t x =
     let s = seen_behind scripts t in
     let y : Session = print_told s t.values moment x in
@@ -52,7 +54,9 @@ roomy scripts = record {
   stopped = λ number moment t x is.
       let y : Session = told (seen_behind scripts t) moment t x in
       unless_fit (fits y.outbox) (fits (stopped (seen_behind scripts t) number t.arrival y).outbox)
-      (λ over. unfit-as y.outbox (stop_texts (seen_behind scripts t) number t.arrival y) (stopped (seen_behind scripts t) number t.arrival y).outbox refl over) is;
+      (λ over. unfit-as y.outbox (stop_texts (seen_behind scripts t) number t.arrival y)
+      (stopped (seen_behind scripts t) number t.arrival y).outbox refl over)
+      is;
 }
 
 pub enabled-kept : (scripts : List Script) → KeepsEnabled (protocol scripts)
@@ -63,4 +67,5 @@ enabled-kept scripts = λ x. refl
 pub plain-same : (k : ℕ) (scripts : List Script) (input : List (List ℕ))
     → stops_.plain (protocol scripts) k (start scripts input) ≡ plain k scripts input
 plain-same zero scripts input = plain-start scripts input
-plain-same (suc k) scripts input = ap (λ r. (protocol scripts).next r) (plain-same k scripts input) ∙ plain-next k scripts input
+plain-same (suc k) scripts input =
+    ap (λ r. (protocol scripts).next r) (plain-same k scripts input) ∙ plain-next k scripts input

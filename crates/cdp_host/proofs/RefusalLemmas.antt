@@ -36,9 +36,11 @@ stands-enabled : (scripts : List Script) (host m : Meaning Run)
     → some (is_enabled_seat (protocol scripts)) host.seats ≡ true
 stands-enabled scripts host m stood well paused =
     let same : host ≡ m = all-there host m stood.is (stood.all_there paused) in
-    ap (λ h. some (is_enabled_seat (protocol scripts)) h.seats) same ∙ well.enabled (sym (ap (λ h. is_paused h) same) ∙ paused)
+    ap (λ h. some (is_enabled_seat (protocol scripts)) h.seats) same
+    ∙ well.enabled (sym (ap (λ h. is_paused h) same) ∙ paused)
 
-pub stood-enabled : (scripts : List Script) (input : List (List ℕ)) (wait : Bool) (host : HostState) (history : List Entry)
+pub stood-enabled : (scripts : List Script) (input : List (List ℕ)) (wait : Bool) (host : HostState)
+    (history : List Entry)
     → Stands scripts input wait host history → host.broken ≡ false → is_paused host.meaning ≡ true
     → some (is_enabled_seat (protocol host.scripts)) host.meaning.seats ≡ true
 stood-enabled scripts input wait host history stood works paused =
@@ -50,25 +52,34 @@ stood-enabled scripts input wait host history stood works paused =
 -- ---- a refused command
 
 -- what the host is that let the program be
-pub refused-told : (old mid new : HostState) (s : ℕ) (text : List ℕ) (asks : Asks) (x : Session) (id : Option ℕ) (refusal : Refusal)
+pub refused-told : (old mid new : HostState) (s : ℕ) (text : List ℕ) (asks : Asks) (x : Session) (id : Option ℕ)
+    (refusal : Refusal)
     → (scripts : List Script) (input : List (List ℕ)) (wait : Bool) (history : List Entry)
     → mid ≡ record old { meaning = record old.meaning { seats = mid.meaning.seats } } → old.broken ≡ false
-    → AnswersIn (Kept asks) (answer_of (situation old.scripts old.meaning.stop (parts_standing old.scripts old.meaning.program)) x text) s old.meaning.seats mid.meaning.seats
+    → AnswersIn (Kept asks)
+    (answer_of (situation old.scripts old.meaning.stop (parts_standing old.scripts old.meaning.program)) x text)
+    s old.meaning.seats mid.meaning.seats
     → (asks_to_resume asks ≡ false → asks_to_wake asks ≡ false
-    → (is_paused mid.meaning ≡ true → some (is_enabled_seat (protocol mid.scripts)) mid.meaning.seats ≡ true) → new ≡ mid)
+    → (is_paused mid.meaning ≡ true → some (is_enabled_seat (protocol mid.scripts)) mid.meaning.seats ≡ true)
+    → new ≡ mid)
     → Stands scripts input wait old history → seat_of s old.meaning.seats ≡ Attached x
-    → outcome_of (situation old.scripts old.meaning.stop (parts_standing old.scripts old.meaning.program)) x text ≡ IsRefused id refusal
+    → outcome_of (situation old.scripts old.meaning.stop (parts_standing old.scripts old.meaning.program))
+    x text ≡ IsRefused id refusal
     → new.meaning ≡ with_seat s (Attached (sent (refusal_text id refusal ∷ []) x)) old.meaning
 refused-told old mid new s text asks x id refusal scripts input wait history same works answers quiet stood had refused =
     let y : Session = sent (refusal_text id refusal ∷ []) x in
-    let a : Answer = answer_of (situation old.scripts old.meaning.stop (parts_standing old.scripts old.meaning.program)) x text in
+    let a : Answer = answer_of (situation old.scripts old.meaning.stop (parts_standing old.scripts old.meaning.program))
+    x text in
     let answer : a ≡ answer_by x (IsRefused id refusal) = ap (λ o. answer_by x o) refused in
     let test : Seat Session → Bool = is_enabled_seat (protocol old.scripts) in
-    let seats : mid.meaning.seats ≡ put s (Attached y) old.meaning.seats = answers.0 ∙ ap (λ b. put s (Attached b.session) old.meaning.seats) answer in
+    let seats : mid.meaning.seats ≡ put s (Attached y) old.meaning.seats = answers.0
+    ∙ ap (λ b. put s (Attached b.session) old.meaning.seats) answer in
     let as_enabled : test (Attached y) ≡ test (seat_of s old.meaning.seats) = sym (ap test had) in
-    let enabled : some test mid.meaning.seats ≡ some test old.meaning.seats = ap (some test) seats ∙ some-put test s (Attached y) old.meaning.seats as_enabled in
+    let enabled : some test mid.meaning.seats ≡ some test old.meaning.seats = ap (some test) seats
+    ∙ some-put test s (Attached y) old.meaning.seats as_enabled in
     let still : new ≡ mid =
-    quiet (ap asks_to_resume answers.1 ∙ ap (λ b. asks_to_resume b.asks) answer) (ap asks_to_wake answers.1 ∙ ap (λ b. asks_to_wake b.asks) answer)
+    quiet (ap asks_to_resume answers.1 ∙ ap (λ b. asks_to_resume b.asks) answer)
+    (ap asks_to_wake answers.1 ∙ ap (λ b. asks_to_wake b.asks) answer)
     (λ paused.
     ap (λ h. some (is_enabled_seat (protocol h.scripts)) mid.meaning.seats) same ∙ enabled
     ∙ stood-enabled scripts input wait old history stood works (sym (ap (λ h. is_paused h.meaning) same) ∙ paused)) in

@@ -40,33 +40,41 @@ use Rattle.isolation.proofs.RoomLemmas.{reported-fits}
 
 -- ---- a stretch, as a host keeps it
 
-pub advanced : (a old : HostState) (scripts : List Script) (moment k : ℕ) (first : Bool) (seats news items : List (Seat Session)) (before : List (List ℕ))
+pub advanced : (a old : HostState) (scripts : List Script) (moment k : ℕ) (first : Bool)
+    (seats news items : List (Seat Session)) (before : List (List ℕ))
     → (stopped : Option ℕ) (stop : Option Pause) (stops : ℕ) (q : Run)
     → a ≡ old → is_ready (protocol old.scripts) (meaning_with old before) ≡ true
     → scripts ≡ a.scripts → first ≡ is_first a.meaning.phase → seats ≡ a.meaning.seats
     → stop ≡ option_map (pause_behind a.meaning.stops) stopped
     → stops ≡ (if is_some stopped then next_number a.meaning.stops else a.meaning.stops)
     → items ≡ news
-    → HasMade (protocol scripts) moment (beside first a.meaning.stops seats (run_with before a.meaning.program)) (beside_behind stopped a.meaning.stops news q) k
+    → HasMade (protocol scripts) moment (beside first a.meaning.stops seats (run_with before a.meaning.program))
+    (beside_behind stopped a.meaning.stops news q) k
     → (let n : Meaning Run = record { program = q; phase = Running; stop = stop; stops = stops; shut = a.meaning.shut; seats = items } in
     HasMade (protocol old.scripts) moment (meaning_with old before) n k)
 advanced a old scripts moment k first seats news items before stopped stop stops q is go runs begins sat stop_is stops_are put made =
     let m : Meaning Run = meaning_with a before in
     let r : Run = run_with before a.meaning.program in
     let s : ℕ = a.meaning.stops in
-    let free : is_held m ≡ false = ap (λ h. is_held (meaning_with h before)) is ∙ (ready-parts old.scripts (meaning_with old before) go).0 in
+    let free : is_held m ≡ false = ap (λ h. is_held (meaning_with h before)) is
+    ∙ (ready-parts old.scripts (meaning_with old before) go).0 in
     let left : beside first s seats r ≡ meaning_with old before =
     ap (λ b. beside b s seats r) begins
     ∙ ap (λ ss. beside (is_first a.meaning.phase) s ss r) sat
     ∙ sym (free-beside m free)
     ∙ ap (λ h. meaning_with h before) is in
-    let f : Option Pause → ℕ → Bool → List (Seat Session) → Meaning Run = λ o i b ss. record { program = q; phase = Running; stop = o; stops = i; shut = b; seats = ss } in
+    let f : Option Pause
+    → ℕ
+    → Bool
+    → List (Seat Session)
+    → Meaning Run = λ o i b ss. record { program = q; phase = Running; stop = o; stops = i; shut = b; seats = ss } in
     let right : beside_behind stopped s news q ≡ f stop stops a.meaning.shut items =
     ap (λ o. f o (if is_some stopped then next_number s else s) false news) (sym stop_is)
     ∙ ap (λ i. f stop i false news) (sym stops_are)
     ∙ ap (λ b. f stop stops b news) (sym (free-shut m free))
     ∙ ap (λ ss. f stop stops a.meaning.shut ss) (sym put) in
-    let F : List Script → Type 0 = λ ss. HasMade (protocol ss) moment (beside first s seats r) (beside_behind stopped s news q) k in
+    let F : List Script
+    → Type 0 = λ ss. HasMade (protocol ss) moment (beside first s seats r) (beside_behind stopped s news q) k in
     let G : Meaning Run → Type 0 = λ n. HasMade (protocol old.scripts) moment n (beside_behind stopped s news q) k in
     let H : Meaning Run → Type 0 = λ n. HasMade (protocol old.scripts) moment (meaning_with old before) n k in
     subst H right (subst G left (subst F (runs ∙ ap (λ h. h.scripts) is) made))
@@ -100,7 +108,8 @@ ran-more scripts s moment m n o most left k same within few small made go next =
     let Q : ℕ → Type 0 = λ j. HasMade (protocol scripts) moment m o j in
     let e : (most - left) + k ≡ most - (left - k) = omega arith in
     subst Q e
-    (made-more (protocol scripts) moment (most - left) k m n o made (sym (ap (λ t. is_ready (protocol t) n) same) ∙ go) (subst P same next) few)
+    (made-more (protocol scripts) moment (most - left) k m n o made (sym (ap (λ t. is_ready (protocol t) n) same) ∙ go)
+    (subst P same next) few)
 
 -- why the loop ends
 ends_by : (left : ℕ) (b ready : Bool)
@@ -129,7 +138,8 @@ pub ran-longest : (scripts s : List Script) (moment : ℕ) (m n : Meaning Run) (
     → IsLongest (protocol scripts) moment most m n (most - left)
 ran-longest scripts s moment m n most left b t same made within works test stops =
     let ready : Bool = is_ready (protocol scripts) n in
-    let here : t ≡ (nat_lt 0 left && (not b && ready)) = test ∙ ap (λ ss. nat_lt 0 left && (not b && is_ready (protocol ss) n)) same in
+    let here : t ≡ (nat_lt 0 left && (not b && ready)) = test
+    ∙ ap (λ ss. nat_lt 0 left && (not b && is_ready (protocol ss) n)) same in
     record {
       within = omega arith;
       made = made;
@@ -144,7 +154,9 @@ pub ran-prints : (p q : Parts) (printed : List (List ℕ))
     → q.machine.context.printed ≡ []
     → (taken : List (List ℕ)) → printed ≡ printed_between (run_with taken p) (run_with (taken ++ printed) q)
 ran-prints p q printed before after taken =
-    let first : printed_of (run_with taken p) ≡ taken = run-printed p taken ∙ ap (λ xs. taken ++ xs) before ∙ append-nil taken in
+    let first : printed_of (run_with taken p) ≡ taken = run-printed p taken
+    ∙ ap (λ xs. taken ++ xs) before
+    ∙ append-nil taken in
     let last : printed_of (run_with (taken ++ printed) q) ≡ taken ++ printed =
     run-printed q (taken ++ printed) ∙ ap (λ xs. (taken ++ printed) ++ xs) after ∙ append-nil (taken ++ printed) in
     sym (drop-append_seam taken printed)
@@ -193,7 +205,12 @@ pub reported-none : {X : Type 0} → (seats : List (Seat X)) → fallen_in (each
 reported-none seats = fallen-none (each reported seats) (none-reported seats)
 
 none-resume-by : (scripts : List Script) (m : Meaning Run) (b : Bool) → some fell m.seats ≡ false
-    → some fell (if b then record m { stop = None; seats = each (resumed_seat (protocol scripts)) m.seats } else m).seats ≡ false
+    → some fell
+    (if b then record m {
+      stop = None;
+      seats = each (resumed_seat (protocol scripts))
+          m.seats;
+    } else m).seats ≡ false
 none-resume-by scripts m true none = none-resumed (protocol scripts) m.seats none
 none-resume-by scripts m false none = none
 
@@ -215,7 +232,8 @@ pub settled-as : (a h n : HostState) (scripts : List Script) (news : List (Seat 
     → h.scripts ≡ scripts
     → news ≡ each reported a.meaning.seats
     → meaning_with n t ≡ less n.meaning.seats (settle (protocol a.scripts) (with_seats news (meaning_with a t)))
-    → meaning_with n t ≡ less n.meaning.seats (settle (protocol scripts) (with_seats (each reported h.meaning.seats) (meaning_with h t)))
+    → meaning_with n t ≡ less n.meaning.seats
+    (settle (protocol scripts) (with_seats (each reported h.meaning.seats) (meaning_with h t)))
 settled-as a h n scripts news t is runs same means =
     let f : List Script → List (Seat Session) → HostState → Meaning Run =
     λ ss seats k. less n.meaning.seats (settle (protocol ss) (with_seats seats (meaning_with k t))) in
@@ -227,10 +245,13 @@ settled-as a h n scripts news t is runs same means =
 -- where none fell the host is what it stands for
 pub all-there : (host m : Meaning Run) → host ≡ less host.seats m → fallen_in host.seats ≡ [] → host ≡ m
 all-there host m is none =
-    is ∙ ap (λ numbers. with_seats (without numbers m.seats) m) none ∙ ap (λ seats. with_seats seats m) (without-none m.seats)
+    is
+    ∙ ap (λ numbers. with_seats (without numbers m.seats) m) none
+    ∙ ap (λ seats. with_seats seats m) (without-none m.seats)
 
 -- a host behind a run stands for what the run makes of what it stood for before
-pub runs-stand : (scripts : List Script) (moment most steps : ℕ) (host m n : Meaning Run) (printed : List (List ℕ)) (lost : List SessionLost)
+pub runs-stand : (scripts : List Script) (moment most steps : ℕ) (host m n : Meaning Run) (printed : List (List ℕ))
+    (lost : List SessionLost)
     → StandsAs host m → RunsTo scripts moment most host steps printed lost n
     → StandsAs n (apply scripts m (Ran steps moment (lost_for_memory lost)))
 runs-stand scripts moment most steps host m n printed lost stands r =
@@ -238,7 +259,8 @@ runs-stand scripts moment most steps host m n printed lost stands r =
     let told_all : Meaning Run = with_seats (each reported k.seats) k in
     let there : Meaning Run = settle (protocol scripts) told_all in
     let behind = stands-ran (protocol scripts) moment steps host m k stands r.longest.made in
-    let none : fallen_in there.seats ≡ [] = fallen-none there.seats (none-settle scripts told_all (none-reported k.seats)) in
+    let none : fallen_in there.seats ≡ [] = fallen-none there.seats
+    (none-settle scripts told_all (none-reported k.seats)) in
     let same : there ≡ apply scripts m (Ran steps moment (fallen_in k.seats)) =
     all-there there (apply scripts m (Ran steps moment (fallen_in k.seats))) behind.is none in
     let listed : lost_for_memory lost ≡ fallen_in k.seats = ap lost_for_memory r.reports ∙ lost-fallen 1 k.seats in
@@ -248,13 +270,16 @@ runs-stand scripts moment most steps host m n printed lost stands r =
     }
 
 -- and so for the history with the run behind it
-pub stands-run : (scripts : List Script) (input : List (List ℕ)) (wait : Bool) (old new : HostState) (history : List Entry)
+pub stands-run : (scripts : List Script) (input : List (List ℕ)) (wait : Bool) (old new : HostState)
+    (history : List Entry)
     → (moment most steps : ℕ) (printed : List (List ℕ)) (lost : List SessionLost)
     → new.scripts ≡ old.scripts
     → old.broken ≡ false
     → new.broken ≡ false
     → new.meaning.program.machine.context.printed ≡ []
-    → ((taken : List (List ℕ)) → RunsTo old.scripts moment most (meaning_with old taken) steps printed lost (meaning_with new (taken ++ printed)))
+    → ((taken : List (List ℕ))
+    → RunsTo old.scripts moment most (meaning_with old taken) steps printed lost
+    (meaning_with new (taken ++ printed)))
     → Stands scripts input wait old history
     → Stands scripts input wait new (history ++ Ran steps moment (lost_for_memory lost) ∷ [])
 stands-run scripts input wait old new history moment most steps printed lost same works still handed runs stood =
@@ -282,17 +307,20 @@ no_steps : (scripts : List Script) (m : Meaning Run) (moment : ℕ) (gone : List
 no_steps scripts m moment gone = λ j small. absurd (omega (arith, small))
 
 -- a broken host makes no step
-pub stands-none : (scripts : List Script) (input : List (List ℕ)) (wait : Bool) (host : HostState) (history : List Entry) (moment : ℕ) (gone : List ℕ)
+pub stands-none : (scripts : List Script) (input : List (List ℕ)) (wait : Bool) (host : HostState)
+    (history : List Entry) (moment : ℕ) (gone : List ℕ)
     → host.broken ≡ true
     → Stands scripts input wait host history
     → Stands scripts input wait host (history ++ Ran zero moment gone ∷ [])
 stands-none scripts input wait host history moment gone fails stood =
     let m : Meaning Run = whole scripts input wait history in
-    stands-broken scripts input wait host host history (Ran zero moment gone) stood refl fails (no_steps scripts m moment gone)
+    stands-broken scripts input wait host host history (Ran zero moment gone) stood refl fails
+    (no_steps scripts m moment gone)
     (broken-stays (protocol scripts) moment gone host.meaning.seats m (stood.lost fails))
 
 -- a run that breaks its host loses everybody
-pub stands-fails : (scripts : List Script) (input : List (List ℕ)) (wait : Bool) (old new : HostState) (history : List Entry) (moment : ℕ)
+pub stands-fails : (scripts : List Script) (input : List (List ℕ)) (wait : Bool) (old new : HostState)
+    (history : List Entry) (moment : ℕ)
     → new.scripts ≡ old.scripts → old.broken ≡ false → new.broken ≡ true
     → new.meaning.seats ≡ each broken_seat old.meaning.seats
     → Stands scripts input wait old history
@@ -322,7 +350,8 @@ some-longest P moment zero m some_left go = absurd (omega (arith, some_left))
 some-longest P moment (suc most) m some_left go = rw go (omega arith)
 
 -- the longest run where no step may be made
-pub ran-nothing : (scripts : List Script) (moment : ℕ) (h : HostState) (most : ℕ) (printed taken : List (List ℕ)) (t : Bool)
+pub ran-nothing : (scripts : List Script) (moment : ℕ) (h : HostState) (most : ℕ) (printed taken : List (List ℕ))
+    (t : Bool)
     → printed ≡ []
     → h.broken ≡ false
     → t ≡ (nat_lt 0 most && (not h.broken && is_ready (protocol scripts) (meaning_with h (taken ++ printed))))
@@ -333,7 +362,9 @@ ran-nothing scripts moment h most printed taken t none works test stops =
     let n : Meaning Run = meaning_with h (taken ++ printed) in
     let P : ℕ → Type 0 = λ k. IsLongest (protocol scripts) moment most m n k in
     let e : most - most ≡ 0 = omega arith in
-    subst P e (ran-longest scripts scripts moment m n most most h.broken t refl (ran-none scripts moment h most printed taken none) (omega arith) works test stops)
+    subst P e
+    (ran-longest scripts scripts moment m n most most h.broken t refl
+    (ran-none scripts moment h most printed taken none) (omega arith) works test stops)
 
 -- the list of the losses is made behind a step, or where a loss waited before
 pub listed-by : (old mid : HostState) (A : Type 0) (P : A → Type 0)

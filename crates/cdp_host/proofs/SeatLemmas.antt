@@ -68,7 +68,8 @@ pub each-reported : (olds news : List (Seat Session)) → OverAll IsReported old
 each-reported [] [] over = refl
 each-reported [] (new ∷ news) over = absurd over
 each-reported (old ∷ olds) [] over = absurd over
-each-reported (old ∷ olds) (new ∷ news) over = ap (λ seat. seat ∷ news) over.0 ∙ ap (λ seats. reported old ∷ seats) (each-reported olds news over.1)
+each-reported (old ∷ olds) (new ∷ news) over =
+    ap (λ seat. seat ∷ news) over.0 ∙ ap (λ seats. reported old ∷ seats) (each-reported olds news over.1)
 
 -- ---- losses that wait
 
@@ -80,7 +81,8 @@ losses-cons s (Lost loss false is_told) seats = refl
 losses-cons s Left seats = refl
 
 losses-next : (s i : ℕ) (seats : List (Seat Session)) (d : Seat Session) → i < length seats
-    → losses_from s (take (suc i) seats) ≡ losses_from s (take i seats) ++ losses_from (s + i) (slice_index_or seats i d ∷ [])
+    → losses_from s (take (suc i) seats) ≡ losses_from s (take i seats) ++ losses_from (s + i)
+    (slice_index_or seats i d ∷ [])
 losses-next s i [] d small = absurd (omega (arith, small))
 losses-next s zero (seat ∷ seats) d small = let e : s ≡ s + 0 = omega arith in ap (λ n. losses_from n (seat ∷ [])) e
 losses-next s (suc i) (seat ∷ seats) d small =
@@ -95,7 +97,8 @@ losses-next s (suc i) (seat ∷ seats) d small =
     ∙ ap (λ xs. xs ++ losses_from (s + suc i) (last ∷ [])) (sym (losses-cons s seat (take i seats)))
 
 -- one more of those that wait
-pub losses-more : (i : ℕ) (seats : List (Seat Session)) (d : Seat Session) (items news : List SessionLost) (loss : Option SessionLost)
+pub losses-more : (i : ℕ) (seats : List (Seat Session)) (d : Seat Session) (items news : List SessionLost)
+    (loss : Option SessionLost)
     → i < length seats → items ≡ losses_from 1 (take i seats)
     → losses_from (i + 1) (slice_index_or seats i d ∷ []) ≡ option_to_list loss → news ≡ items ++ option_to_list loss
     → news ≡ losses_from 1 (take (i + 1) seats)
@@ -137,7 +140,8 @@ watched-fit P number moment t [] [] (flag ∷ flags) over = absurd over
 watched-fit P number moment t [] (new ∷ news) flags over = absurd over
 watched-fit P number moment t (old ∷ olds) [] flags over = absurd over
 watched-fit P number moment t (old ∷ olds) (new ∷ news) [] over = absurd over
-watched-fit P number moment t (old ∷ olds) (new ∷ news) (flag ∷ flags) over = (over.0.room, watched-fit P number moment t olds news flags over.1)
+watched-fit P number moment t (old ∷ olds) (new ∷ news) (flag ∷ flags) over =
+    (over.0.room, watched-fit P number moment t olds news flags over.1)
 
 -- a loss that is listed waits for a run
 pub listed-waits : (s : ℕ) (seat : Seat Session) (loss : Option SessionLost)

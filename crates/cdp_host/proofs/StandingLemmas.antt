@@ -12,14 +12,16 @@ use Rattle.cdp_host.specs.Hosts.{Parts, parts_standing, run_with}
 use Rattle.cdp_host.specs.Standings.{standing_of}
 
 going-taken : (scripts : List Script) (t : Term) (s : State) (old new : List (List ℕ))
-    → standing_of scripts (runs.run_of t (record s { printed = old })) ≡ standing_of scripts (runs.run_of t (record s { printed = new }))
+    → standing_of scripts (runs.run_of t (record s { printed = old })) ≡ standing_of scripts
+    (runs.run_of t (record s { printed = new }))
 unfolding standing_of
 going-taken scripts (done v) s old new = refl
 going-taken scripts (standing v place) s old new = refl
 going-taken scripts (part f now later) s old new = refl
 
 run-taken : (scripts : List Script) (o : Option End) (t : Term) (s : State) (old new : List (List ℕ))
-    → standing_of scripts (run_by o t (record s { printed = old })) ≡ standing_of scripts (run_by o t (record s { printed = new }))
+    → standing_of scripts (run_by o t (record s { printed = old })) ≡ standing_of scripts
+    (run_by o t (record s { printed = new }))
 unfolding standing_of
 run-taken scripts None t s old new = going-taken scripts t s old new
 run-taken scripts (Some (ends.Finished f)) t s old new = refl
@@ -30,4 +32,5 @@ run-taken scripts (Some ends.Lost) t s old new = going-taken scripts t s old new
 pub standing-taken : (scripts : List Script) (p : Parts) (taken : List (List ℕ))
     → parts_standing scripts p ≡ standing_of scripts (run_with taken p)
 standing-taken scripts p taken =
-    run-taken scripts p.machine.ended (term_of p.machine) (state_of p.machine (heap_world p.machine.names p.heap) []) _ _
+    run-taken scripts p.machine.ended (term_of p.machine) (state_of p.machine (heap_world p.machine.names p.heap) [])
+    _ _

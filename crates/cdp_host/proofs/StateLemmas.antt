@@ -23,7 +23,8 @@ works_as h taken works = ap (λ b. if b then Broken else state_of (meaning_with 
 
 -- where it wasn't shut, the state is that of its program
 unshut_as : (m : Meaning Run) → m.shut ≡ false
-    → (if has_thrown m.program then Threw else if is_over m.program then Ended else if is_paused m then Paused else if waits m.phase then Waiting else Ready) ≡ state_of m
+    → (if has_thrown m.program then Threw else if is_over m.program then Ended else if is_paused m then Paused else if waits m.phase then Waiting else Ready)
+    ≡ state_of m
 unshut_as m is =
     ap (λ b. if b then Shut else if has_thrown m.program then Threw else if is_over m.program then Ended else if is_paused m then Paused else if waits m.phase then Waiting else Ready)
     (sym is)
@@ -39,7 +40,8 @@ state-shut h taken works is =
 
 open_as : (h : HostState) (taken : List (List ℕ)) → h.broken ≡ false → h.meaning.shut ≡ false
     → (let m : Meaning Run = meaning_with h taken in
-    (if has_thrown m.program then Threw else if is_over m.program then Ended else if is_paused m then Paused else if waits m.phase then Waiting else Ready) ≡ state_at h taken)
+    (if has_thrown m.program then Threw else if is_over m.program then Ended else if is_paused m then Paused else if waits m.phase then Waiting else Ready)
+    ≡ state_at h taken)
 open_as h taken works unshut = unshut_as (meaning_with h taken) unshut ∙ works_as h taken works
 
 pub state-threw : (h : HostState) (taken : List (List ℕ))
@@ -49,16 +51,22 @@ pub state-threw : (h : HostState) (taken : List (List ℕ))
     → Threw ≡ state_at h taken
 state-threw h taken works unshut is =
     let m : Meaning Run = meaning_with h taken in
-    ap (λ b. if b then Threw else if is_over m.program then Ended else if is_paused m then Paused else if waits m.phase then Waiting else Ready) is ∙ open_as h taken works unshut
+    ap (λ b. if b then Threw else if is_over m.program then Ended else if is_paused m then Paused else if waits m.phase then Waiting else Ready)
+    is
+    ∙ open_as h taken works unshut
 
 unthrown_as : (h : HostState) (taken : List (List ℕ))
     → h.broken ≡ false
     → h.meaning.shut ≡ false
     → false ≡ has_thrown (meaning_with h taken).program
-    → (let m : Meaning Run = meaning_with h taken in (if is_over m.program then Ended else if is_paused m then Paused else if waits m.phase then Waiting else Ready) ≡ state_at h taken)
+    → (let m : Meaning Run = meaning_with h taken in
+    (if is_over m.program then Ended else if is_paused m then Paused else if waits m.phase then Waiting else Ready)
+    ≡ state_at h taken)
 unthrown_as h taken works unshut is =
     let m : Meaning Run = meaning_with h taken in
-    ap (λ b. if b then Threw else if is_over m.program then Ended else if is_paused m then Paused else if waits m.phase then Waiting else Ready) is ∙ open_as h taken works unshut
+    ap (λ b. if b then Threw else if is_over m.program then Ended else if is_paused m then Paused else if waits m.phase then Waiting else Ready)
+    is
+    ∙ open_as h taken works unshut
 
 pub state-ended : (h : HostState) (taken : List (List ℕ))
     → h.broken ≡ false
@@ -67,7 +75,8 @@ pub state-ended : (h : HostState) (taken : List (List ℕ))
     → true ≡ is_over (meaning_with h taken).program → Ended ≡ state_at h taken
 state-ended h taken works unshut thrown is =
     let m : Meaning Run = meaning_with h taken in
-    ap (λ b. if b then Ended else if is_paused m then Paused else if waits m.phase then Waiting else Ready) is ∙ unthrown_as h taken works unshut thrown
+    ap (λ b. if b then Ended else if is_paused m then Paused else if waits m.phase then Waiting else Ready) is
+    ∙ unthrown_as h taken works unshut thrown
 
 going_as : (h : HostState) (taken : List (List ℕ))
     → h.broken ≡ false
@@ -76,7 +85,9 @@ going_as : (h : HostState) (taken : List (List ℕ))
     → false ≡ is_over (meaning_with h taken).program
     → (if is_paused h.meaning then Paused else if waits h.meaning.phase then Waiting else Ready) ≡ state_at h taken
 going_as h taken works unshut thrown over =
-    ap (λ b. if b then Ended else if is_paused h.meaning then Paused else if waits h.meaning.phase then Waiting else Ready) over ∙ unthrown_as h taken works unshut thrown
+    ap (λ b. if b then Ended else if is_paused h.meaning then Paused else if waits h.meaning.phase then Waiting else Ready)
+    over
+    ∙ unthrown_as h taken works unshut thrown
 
 pub state-paused : (h : HostState) (taken : List (List ℕ))
     → h.broken ≡ false
@@ -85,7 +96,8 @@ pub state-paused : (h : HostState) (taken : List (List ℕ))
     → false ≡ is_over (meaning_with h taken).program
     → is_paused h.meaning ≡ true → Paused ≡ state_at h taken
 state-paused h taken works unshut thrown over is =
-    ap (λ b. if b then Paused else if waits h.meaning.phase then Waiting else Ready) (sym is) ∙ going_as h taken works unshut thrown over
+    ap (λ b. if b then Paused else if waits h.meaning.phase then Waiting else Ready) (sym is)
+    ∙ going_as h taken works unshut thrown over
 
 pub state-waiting : (h : HostState) (taken : List (List ℕ))
     → h.broken ≡ false
@@ -94,7 +106,8 @@ pub state-waiting : (h : HostState) (taken : List (List ℕ))
     → false ≡ is_over (meaning_with h taken).program
     → is_paused h.meaning ≡ false → waits h.meaning.phase ≡ true → Waiting ≡ state_at h taken
 state-waiting h taken works unshut thrown over free is =
-    ap (λ b. if b then Waiting else Ready) (sym is) ∙ ap (λ b. if b then Paused else if waits h.meaning.phase then Waiting else Ready) (sym free)
+    ap (λ b. if b then Waiting else Ready) (sym is)
+    ∙ ap (λ b. if b then Paused else if waits h.meaning.phase then Waiting else Ready) (sym free)
     ∙ going_as h taken works unshut thrown over
 
 pub state-ready : (h : HostState) (taken : List (List ℕ))
@@ -104,7 +117,8 @@ pub state-ready : (h : HostState) (taken : List (List ℕ))
     → false ≡ is_over (meaning_with h taken).program
     → is_paused h.meaning ≡ false → waits h.meaning.phase ≡ false → Ready ≡ state_at h taken
 state-ready h taken works unshut thrown over free is =
-    ap (λ b. if b then Waiting else Ready) (sym is) ∙ ap (λ b. if b then Paused else if waits h.meaning.phase then Waiting else Ready) (sym free)
+    ap (λ b. if b then Waiting else Ready) (sym is)
+    ∙ ap (λ b. if b then Paused else if waits h.meaning.phase then Waiting else Ready) (sym free)
     ∙ going_as h taken works unshut thrown over
 
 -- ---- whether a step may be made

@@ -35,23 +35,32 @@ use Rattle.cdp_text.proofs.TestLemmas.{or_false}
 -- ---- one step alone
 
 chosen : (debugger ends : Bool)
-    → is_some (if debugger then Some causes.DebuggerStatement else if ends then Some causes.Step else None) ≡ (debugger || ends)
+    → is_some (if debugger then Some causes.DebuggerStatement else if ends then Some causes.Step else None) ≡
+    (debugger || ends)
 chosen true ends = refl
 chosen false true = refl
 chosen false false = refl
 
 by_place : (x : Session) (kind : StepKind) (depth : ℕ) (s : Standing) (a : Arrival) (o : Option Place)
     → StepsAlone x kind depth
-    → is_some (cause_at x.rules a (is_some_hit (hits s x.workspace x.breakpoints o)) o) ≡ (is_some o && (a.debugger || ends_at kind depth a.depth))
+    → is_some (cause_at x.rules a (is_some_hit (hits s x.workspace x.breakpoints o)) o) ≡
+    (is_some o && (a.debugger || ends_at kind depth a.depth))
 by_place x kind depth s a None alone = refl
 by_place x kind depth s a (Some place) alone =
-    rw (none-hit s x.workspace place x.breakpoints (alone.none_hit place), alone.rules.no_pause, alone.rules.step, alone.rules.no_place) (chosen a.debugger (ends_at kind depth a.depth))
+    rw (
+      none-hit s x.workspace place x.breakpoints (alone.none_hit place),
+      alone.rules.no_pause,
+      alone.rules.step,
+      alone.rules.no_place,
+    )
+    (chosen a.debugger (ends_at kind depth a.depth))
 
 -- its rules name exactly the arrivals that end the step
 pub causes-step : (x : Session) (kind : StepKind) (depth : ℕ) (s : Standing) (a : Arrival)
     → StepsAlone x kind depth
     → is_some (cause_of s a x) ≡ ends_step kind depth a
-causes-step x kind depth s a alone = rw (alone.rules.enabled, alone.rules.heeded, alone.rules.no_throws) (by_place x kind depth s a a.place alone)
+causes-step x kind depth s a alone =
+    rw (alone.rules.enabled, alone.rules.heeded, alone.rules.no_throws) (by_place x kind depth s a a.place alone)
 
 -- and so does the session, where the start rule has no say
 names-alone : (t : Step) (x : Session) (kind : StepKind) (depth : ℕ)
@@ -84,7 +93,8 @@ no-other scripts s m off = λ t r other. unnamed_seat scripts t (seat_of r m.sea
 
 -- what a session is told changes nothing of what it names
 steady : (scripts : List Script) → IsSteady (protocol scripts)
-steady scripts = λ moment t u x. names-same u ((protocol scripts).told moment t x) x (told-asks (seen_behind scripts t) moment t x)
+steady scripts =
+    λ moment t u x. names-same u ((protocol scripts).told moment t x) x (told-asks (seen_behind scripts t) moment t x)
 
 -- a program behind so many plain steps makes one that the session names where it ends the step
 named_there : (kind : StepKind) (depth : ℕ) (scripts : List Script) (input : List (List ℕ)) (made j : ℕ) (x : Session)
@@ -95,10 +105,12 @@ named_there kind depth scripts input made j x alone =
     let e : suc (made + j) ≡ made + j + 1 = omega arith in
     ap (λ r. names (step_of scripts false r) x) (plain-same (made + j) scripts input)
     ∙ names-alone (step_of scripts false (plain (made + j) scripts input)) x kind depth refl alone
-    ∙ ap (λ r. ends_step kind depth (arrival_of scripts r)) (plain-next (made + j) scripts input ∙ ap (λ k. plain k scripts input) e)
+    ∙ ap (λ r. ends_step kind depth (arrival_of scripts r))
+    (plain-next (made + j) scripts input ∙ ap (λ k. plain k scripts input) e)
 
 -- it stops at the first step that ends the one that is asked for, or at none
-pub steps-stop : (kind : StepKind) (depth : ℕ) (scripts : List Script) (input : List (List ℕ)) (made moment : ℕ) (gone : List ℕ) (s : ℕ) (x : Session) (m : Meaning Run) (n : ℕ)
+pub steps-stop : (kind : StepKind) (depth : ℕ) (scripts : List Script) (input : List (List ℕ)) (made moment : ℕ)
+    (gone : List ℕ) (s : ℕ) (x : Session) (m : Meaning Run) (n : ℕ)
     → m.program ≡ plain made scripts input
     → is_first m.phase ≡ false
     → seat_of s m.seats ≡ Attached x
@@ -113,5 +125,6 @@ steps-stop kind depth scripts input made moment gone s x m n at begun is alone o
       passes_none = λ j below. sym (named_there kind depth scripts input made j x alone) ∙ found.passes_none j below;
       stops_there = λ j last.
           found.stops_there j last
-          ∙ ap (λ b. b && is_attached (seat_of s (after_run (protocol scripts) moment gone n m).seats)) (named_there kind depth scripts input made j x alone);
+          ∙ ap (λ b. b && is_attached (seat_of s (after_run (protocol scripts) moment gone n m).seats))
+          (named_there kind depth scripts input made j x alone);
     }

@@ -88,18 +88,21 @@ end_outbox s None moment x = sym (append-nil x.outbox)
 end_outbox s (Some ending) moment x =
     let last : List (List ℕ) = context_destroyed_text ∷ [] in
     outbox_if x.runtime (sent last (ending_told s ending moment x)) x (ending_texts s ending moment x ++ last)
-    (ap (λ xs. xs ++ last) (ending_outbox s ending moment x) ∙ append_assoc x.outbox (ending_texts s ending moment x) last)
+    (ap (λ xs. xs ++ last) (ending_outbox s ending moment x)
+    ∙ append_assoc x.outbox (ending_texts s ending moment x) last)
 
 -- what is told of the end comes behind what is told of a print
 pub told-outbox : (s : Situation) (moment : ℕ) (step : Step) (x : Session)
-    → (told s moment step x).outbox ≡ (print_told s step.values moment x).outbox ++ end_texts s step.ending moment (print_told s step.values moment x)
+    → (told s moment step x).outbox ≡ (print_told s step.values moment x).outbox ++ end_texts s step.ending moment
+    (print_told s step.values moment x)
 told-outbox s moment step x =
     let y : Session = print_told s step.values moment x in
     end_outbox s step.ending moment y
 
 -- and what is told of a stop behind that
 pub stopped-outbox : (s : Situation) (number moment : ℕ) (step : Step) (x : Session) (b : Bool) → names step x ≡ b
-    → (session_behind s number moment step x).outbox ≡ (told s moment step x).outbox ++ (if b then stop_texts s number step.arrival (told s moment step x) else [])
+    → (session_behind s number moment step x).outbox ≡ (told s moment step x).outbox ++
+    (if b then stop_texts s number step.arrival (told s moment step x) else [])
 stopped-outbox s number moment step x true is = rw is refl
 stopped-outbox s number moment step x false is = rw is (sym (append-nil (told s moment step x).outbox))
 
@@ -125,15 +128,18 @@ pub names-told : (s : Situation) (moment : ℕ) (step : Step) (x y : Session) (b
     → b ≡ names step y
     → b ≡ c
     → names step x ≡ c
-names-told s moment step x y b c is named test = sym (ap (names step) is ∙ told-names s moment step x) ∙ sym named ∙ test
+names-told s moment step x y b c is named test =
+    sym (ap (names step) is ∙ told-names s moment step x) ∙ sym named ∙ test
 
 -- what a session is behind a step that it names, or doesn't
 pub behind-named : (s : Situation) (number moment : ℕ) (step : Step) (x : Session)
     → names step x ≡ true
     → stopped s number step.arrival (told s moment step x) ≡ session_behind s number moment step x
-behind-named s number moment step x named = ap (λ b. if b then stopped s number step.arrival (told s moment step x) else told s moment step x) (sym named)
+behind-named s number moment step x named =
+    ap (λ b. if b then stopped s number step.arrival (told s moment step x) else told s moment step x) (sym named)
 
 pub behind-passed : (s : Situation) (number moment : ℕ) (step : Step) (x : Session)
     → names step x ≡ false
     → told s moment step x ≡ session_behind s number moment step x
-behind-passed s number moment step x named = ap (λ b. if b then stopped s number step.arrival (told s moment step x) else told s moment step x) (sym named)
+behind-passed s number moment step x named =
+    ap (λ b. if b then stopped s number step.arrival (told s moment step x) else told s moment step x) (sym named)

@@ -82,7 +82,8 @@ machine_step scripts m h values first = record {
 
 -- all but the program of a host that isn't held, where its next step is the first of a program that waited, or isn't
 abbrev pub beside : Bool → ℕ → List (Seat Session) → Run → Meaning Run
-beside first stops seats r = record { program = r; phase = if first then Woken else Running; stop = None; stops = stops; shut = false; seats = seats }
+beside first stops seats r =
+    record { program = r; phase = if first then Woken else Running; stop = None; stops = stops; shut = false; seats = seats }
 
 -- the stop behind so many, with so many calls active
 abbrev pub pause_behind : ℕ → ℕ → Pause
@@ -130,11 +131,13 @@ NoneAttached seats = some is_attached seats ≡ false
 -- A host stands for a history of its scripts with this input, where they may be to wait, whose runs have handed out all that they
 -- printed: it is what the history means, but for sessions that a resume lost for want of memory, of which the next run tells. A
 -- broken one has the seats that the history leaves: none of them is attached, and none waits for a run.
-pub record Stands (scripts : List Script) (input : List (List ℕ)) (wait : Bool) (host : HostState) (history : List Entry) : Type 0 where
+pub record Stands (scripts : List Script) (input : List (List ℕ)) (wait : Bool) (host : HostState)
+    (history : List Entry) : Type 0 where
   pub runs : host.scripts ≡ scripts
   pub fits : IsHistory scripts input wait history
   pub means : host.broken ≡ false
-      → StandsAs (meaning_with host (printed_of (whole scripts input wait history).program)) (whole scripts input wait history)
+      → StandsAs (meaning_with host (printed_of (whole scripts input wait history).program))
+      (whole scripts input wait history)
   pub lost : host.broken ≡ true → BrokenAs host.meaning.seats (whole scripts input wait history).seats
 
 -- what a call with this entry, which makes no steps, leaves of a host
@@ -157,11 +160,13 @@ everybody host = numbers_from 1 (length host.meaning.seats)
 -- the numbers of those among these that were lost for want of memory
 abbrev pub lost_for_memory : List SessionLost → List ℕ
 lost_for_memory [] = []
-lost_for_memory (lost ∷ losses) = if is_for_memory lost.loss then lost.session ∷ lost_for_memory losses else lost_for_memory losses
+lost_for_memory (lost ∷ losses) =
+    if is_for_memory lost.loss then lost.session ∷ lost_for_memory losses else lost_for_memory losses
 
 -- What a run of at most so many steps at a moment does to a host that works: it makes the longest run, reports the losses, and goes on
 -- where no session is left that has the debugger enabled. That may lose sessions for want of memory, of which the next run tells.
-pub record RunsTo (scripts : List Script) (moment most : ℕ) (m : Meaning Run) (steps : ℕ) (printed : List (List ℕ)) (lost : List SessionLost) (n : Meaning Run) : Type 0 where
+pub record RunsTo (scripts : List Script) (moment most : ℕ) (m : Meaning Run) (steps : ℕ) (printed : List (List ℕ))
+    (lost : List SessionLost) (n : Meaning Run) : Type 0 where
   pub middle : Meaning Run
   pub longest : IsLongest (protocol scripts) moment most m middle steps
   pub prints : printed ≡ printed_between m.program middle.program
@@ -188,7 +193,9 @@ pub record FallsBack (old new : HostState) : Type 0 where
 -- where their break locations are. Until want of memory breaks it, all texts were handed out, the machine isn't given
 -- up, no loss is to be handed out, and there is room for what it falls back to with so many seats; then it has no
 -- session, nor has what it falls back to. The texts that wait fit.
-pub record IsSound (scripts : List Script) (starts : List (List ℕ)) (found : List (List Spot)) (machine : Machine) (broken : Bool) (seats : List (Seat Session)) (count : ℕ) (fallback : HeldFallback) (fallen : List SessionLost) : Type 0 where
+pub record IsSound (scripts : List Script) (starts : List (List ℕ)) (found : List (List Spot)) (machine : Machine)
+    (broken : Bool) (seats : List (Seat Session)) (count : ℕ) (fallback : HeldFallback) (fallen : List SessionLost)
+    : Type 0 where
   pub lines : AreLines scripts starts
   pub spots : found ≡ map break_locations scripts
   pub code : program_of machine ≡ code_of scripts

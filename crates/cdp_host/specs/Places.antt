@@ -16,7 +16,11 @@ use Rattle.cdp_host.specs.Programs.{arrival_of}
 
 -- one of the scripts has the place's number and a break location at its position
 abbrev pub IsBreakLocation : List Script → Place → Type 0
-IsBreakLocation scripts place = (script : Script) × Contains scripts script × (script.number ≡ place.script) × IsAt (break_locations script) place.pos
+IsBreakLocation scripts place =
+    (script : Script)
+    × Contains scripts script
+    × (script.number ≡ place.script)
+    × IsAt (break_locations script) place.pos
 
 -- where a run arrives is a break location of one of its scripts
 pub record ArrivesAtLocations (scripts : List Script) (r : Run) : Type 0 where

@@ -48,13 +48,15 @@ NoOtherEnabled s m = (r : ℕ) (y : Session) → r ≢ s → seat_of r m.seats �
 -- A program makes these steps at a moment, from the one that is so many plain steps from its beginning, and the last of them loses
 -- the sessions of these numbers for want of memory. It stops at the first that ends the step, or at none; nor does it stop at one
 -- at which the session of this number is lost.
-pub record StopsAtFirst (kind : StepKind) (depth : ℕ) (scripts : List Script) (input : List (List ℕ)) (made moment : ℕ) (gone : List ℕ) (s : ℕ) (m : Meaning Run) (n : ℕ) : Type 0 where
+pub record StopsAtFirst (kind : StepKind) (depth : ℕ) (scripts : List Script) (input : List (List ℕ)) (made moment : ℕ)
+    (gone : List ℕ) (s : ℕ) (m : Meaning Run) (n : ℕ) : Type 0 where
   pub passes_none : (j : ℕ)
       → j + 1 < n
       → ends_step kind depth (arrival_of scripts (plain (made + j + 1) scripts input)) ≡ false
   pub stops_there : (j : ℕ) → n ≡ j + 1
       → is_paused (after_run (protocol scripts) moment gone n m)
-      ≡ (ends_step kind depth (arrival_of scripts (plain (made + j + 1) scripts input)) && is_attached (seat_of s (after_run (protocol scripts) moment gone n m).seats))
+      ≡ (ends_step kind depth (arrival_of scripts (plain (made + j + 1) scripts input)) && is_attached
+      (seat_of s (after_run (protocol scripts) moment gone n m).seats))
 
 -- where a program is paused, the depth that is kept of it is the one at which it stands
 abbrev pub IsPausedThere : List Script → Meaning Run → Type 0

@@ -36,7 +36,8 @@ thrown_of (over f s) = None
 
 -- how a program stands: its cells, its frames, the throw that stands, and whether its run has ended
 unfoldable pub standing_of : List Script → Run → Standing
-standing_of scripts r = record { world = (runs.state_of r).world; frames = frames_of scripts r; thrown = thrown_of r; over = is_over r }
+standing_of scripts r =
+    record { world = (runs.state_of r).world; frames = frames_of scripts r; thrown = thrown_of r; over = is_over r }
 
 -- ---- the end of a run
 

@@ -65,7 +65,8 @@ told s moment step x = end_told s step.ending moment (print_told s step.values m
 
 -- and then of the stop of this number, where it is named
 abbrev pub session_behind : Situation → ℕ → ℕ → Step → Session → Session
-session_behind s number moment step x = if names step x then stopped s number step.arrival (told s moment step x) else told s moment step x
+session_behind s number moment step x =
+    if names step x then stopped s number step.arrival (told s moment step x) else told s moment step x
 
 -- ---- the texts of that
 

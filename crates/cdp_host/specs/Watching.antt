@@ -36,7 +36,15 @@ prints_last scripts k r = prints_next scripts (nexts scripts (k - 1) r)
 
 -- what a step tells of a program that stands so behind it
 abbrev pub step_held : Standing → HeldStep → Step
-step_held s t = record { standing = s; arrival = t.arrival; values = option_map (λ vs. vs.items) t.values; ending = t.ending; first = t.first }
+step_held s t =
+    record {
+      standing = s;
+      arrival = t.arrival;
+      values = option_map (λ vs. vs.items)
+          t.values;
+      ending = t.ending;
+      first = t.first;
+    }
 
 -- the same behind a program that is lent to the session
 abbrev pub step_seen : {P : Type 0} → (P → Standing) → Held P → HeldStep → Step
@@ -79,13 +87,15 @@ pub record IsPlace (s i : ℕ) (seats : List (Seat Session)) : Type 0 where
 
 -- what became of a text with this answer, and the seat of its session
 abbrev pub AnswersAs : Answered → Answer → Seat Session → Type 0
-AnswersAs (Kept asks) answer new = (new ≡ Attached answer.session) × (asks ≡ answer.asks) × (fits answer.session.outbox ≡ true)
+AnswersAs (Kept asks) answer new =
+    (new ≡ Attached answer.session) × (asks ≡ answer.asks) × (fits answer.session.outbox ≡ true)
 AnswersAs Overran answer new = (new ≡ Left) × (fits answer.session.outbox ≡ false)
 AnswersAs Failed answer new = new ≡ Left
 
 -- the same among all seats
 abbrev pub AnswersIn : Answered → Answer → ℕ → List (Seat Session) → List (Seat Session) → Type 0
-AnswersIn (Kept asks) answer s old new = (new ≡ put s (Attached answer.session) old) × (asks ≡ answer.asks) × (fits answer.session.outbox ≡ true)
+AnswersIn (Kept asks) answer s old new =
+    (new ≡ put s (Attached answer.session) old) × (asks ≡ answer.asks) × (fits answer.session.outbox ≡ true)
 AnswersIn Overran answer s old new = (new ≡ put s Left old) × (fits answer.session.outbox ≡ false)
 AnswersIn Failed answer s old new = new ≡ put s Left old
 

@@ -30,7 +30,13 @@ tell-read : (s : ℕ) (text : List ℕ)
     → length text ≤ most_told
     → tell_rest (decimal s ++ 32 ∷ escaped text) ≡ Some (Tell s text)
 tell-read s text small short =
-    rw (halves-decimal s 32 (escaped text) small (λ digit. omega arith), decimal_value-decimal s small, read-back text, le-leb (length text) most_told short) refl
+    rw (
+      halves-decimal s 32 (escaped text) small (λ digit. omega arith),
+      decimal_value-decimal s small,
+      read-back text,
+      le-leb (length text) most_told short,
+    )
+    refl
 
 take-read : (s : ℕ) → s < 2 ^ 64 → take_rest (decimal s) ≡ Some (Take s)
 take-read s small = rw (decimal_value-decimal s small) refl
@@ -81,8 +87,15 @@ tell-some rest line is =
     option_and_then_some (tell_text s) (unescaped parts.back) line told_at (λ text text_is told_text.
     let chosen = choice-some (nat_le (length text) most_told) (Tell s text) line told_text in
     let digits = decimal_value-some parts.front s s_is in
-    let whole : rest ≡ decimal s ++ 32 ∷ parts.back = rw (halves-some 32 rest parts parts_is, digits.0) refl in
-    (s, text, sym chosen.1, digits.1, leb-true (length text) most_told chosen.0, whole ∙ ap (λ written. decimal s ++ 32 ∷ written) (written-is parts.back text text_is)))))
+    let whole : rest ≡ decimal s ++ 32 ∷ parts.back = rw (halves-some 32 rest parts parts_is, digits.0) refl in (
+      s,
+      text,
+      sym chosen.1,
+      digits.1,
+      leb-true (length text) most_told chosen.0,
+      whole
+          ∙ ap (λ written. decimal s ++ 32 ∷ written) (written-is parts.back text text_is),
+    ))))
 
 run-some : (rest : List ℕ) (line : Line) → run_rest rest ≡ Some line
     → (most : ℕ)
@@ -93,13 +106,20 @@ run-some : (rest : List ℕ) (line : Line) → run_rest rest ≡ Some line
     × (rest ≡ decimal most ++ 32 ∷ decimal moment)
 run-some rest line is =
     option_and_then_some run_in (halves 32 rest) line is (λ parts parts_is ran.
-    option_and_then_some (λ most. option_and_then (run_at most) (decimal_value parts.back)) (decimal_value parts.front) line ran (λ most most_is ran_most.
+    option_and_then_some (λ most. option_and_then (run_at most) (decimal_value parts.back)) (decimal_value parts.front)
+    line ran (λ most most_is ran_most.
     option_and_then_some (run_at most) (decimal_value parts.back) line ran_most (λ moment moment_is ran_at.
     let chosen = choice-some (nat_lt most (2 ^ 32) && nat_lt moment (2 ^ 53)) (Run most moment) line ran_at in
     let tests = and_parts (nat_lt most (2 ^ 32)) (nat_lt moment (2 ^ 53)) chosen.0 in
     let digits = decimal_value-some parts.front most most_is in
-    let others = decimal_value-some parts.back moment moment_is in
-    (most, moment, sym chosen.1, (Decides-ltb most (2 ^ 32)).0 tests.0, (Decides-ltb moment (2 ^ 53)).0 tests.1, rw (halves-some 32 rest parts parts_is, digits.0, others.0) refl))))
+    let others = decimal_value-some parts.back moment moment_is in (
+      most,
+      moment,
+      sym chosen.1,
+      (Decides-ltb most (2 ^ 32)).0 tests.0,
+      (Decides-ltb moment (2 ^ 53)).0 tests.1,
+      rw (halves-some 32 rest parts parts_is, digits.0, others.0) refl,
+    ))))
 
 or_else-some : (o : Option (List ℕ)) (f : List ℕ → Option Line) (other : Option Line) (line : Line)
     → or_else o f other ≡ Some line
@@ -189,7 +209,9 @@ word_some false text named line others form word other is = other is
 is-text : (text : List ℕ) (line : Line) → line_of_text text ≡ Some line → IsText text line
 is-text text line is =
     word_some (bytes_eq text (codes "attach")) text Attach line _ tt ((bytes_eq-Decides text (codes "attach")).0)
-    (word_some (bytes_eq text (codes "shut")) text Shut line _ tt ((bytes_eq-Decides text (codes "shut")).0) (is-words text line)) is
+    (word_some (bytes_eq text (codes "shut")) text Shut line _ tt ((bytes_eq-Decides text (codes "shut")).0)
+    (is-words text line))
+    is
 
 utf8_some : (b : Bool) (bytes : List ℕ) (line : Line)
     → is_utf8 bytes ≡ b

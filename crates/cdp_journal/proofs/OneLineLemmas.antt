@@ -16,7 +16,8 @@ are_one_line texts = list_all is_one_line texts
 
 pub one-append : (xs ys : List ℕ) → is_one_line xs ≡ true → is_one_line ys ≡ true → is_one_line (xs ++ ys) ≡ true
 one-append [] ys first others = others
-one-append (x ∷ xs) ys first others = let parts = and_parts (is_other x) (is_one_line xs) first in rw (parts.0, one-append xs ys parts.1 others) refl
+one-append (x ∷ xs) ys first others =
+    let parts = and_parts (is_other x) (is_one_line xs) first in rw (parts.0, one-append xs ys parts.1 others) refl
 
 one-choice : (b : Bool) (xs ys : List ℕ)
     → is_one_line xs ≡ true
@@ -34,8 +35,10 @@ glyph_by false d = rw (ne_eqb (87 + d) 10 (λ is. omega (arith, is))) refl
 digits-one : (k n : ℕ) (acc : List ℕ) → is_one_line acc ≡ true → is_one_line (digits_onto k 10 false n acc) ≡ true
 digits-one zero n acc one = one
 digits-one (suc k) n acc one =
-    let more : is_one_line (digit_glyph false (n % 10) ∷ acc) ≡ true = rw (glyph_by (nat_lt (n % 10) 10) (n % 10), one) refl in
-    one-choice (n / 10 == 0) (digit_glyph false (n % 10) ∷ acc) (digits_onto k 10 false (n / 10) (digit_glyph false (n % 10) ∷ acc)) more
+    let more : is_one_line (digit_glyph false (n % 10) ∷ acc) ≡ true = rw (glyph_by (nat_lt (n % 10) 10) (n % 10), one)
+    refl in
+    one-choice (n / 10 == 0) (digit_glyph false (n % 10) ∷ acc)
+    (digits_onto k 10 false (n / 10) (digit_glyph false (n % 10) ∷ acc)) more
     (digits-one k (n / 10) (digit_glyph false (n % 10) ∷ acc) more)
 
 pub decimal-one : (n : ℕ) → is_one_line (decimal n) ≡ true
@@ -45,7 +48,9 @@ decimal-one n = digits-one 64 n [] refl
 -- ---- texts as they are written
 
 byte-one : (percent feed return : Bool) (byte : ℕ) → (byte == 10) ≡ feed
-    → is_one_line (if percent then codes "%25" else if feed then codes "%0A" else if return then codes "%0D" else byte ∷ []) ≡ true
+    → is_one_line
+    (if percent then codes "%25" else if feed then codes "%0A" else if return then codes "%0D" else byte ∷ [])
+    ≡ true
 byte-one true feed return byte is = refl
 byte-one false true return byte is = refl
 byte-one false false true byte is = refl
@@ -53,4 +58,6 @@ byte-one false false false byte is = rw is refl
 
 pub escaped-one : (text : List ℕ) → is_one_line (escaped text) ≡ true
 escaped-one [] = refl
-escaped-one (byte ∷ text) = one-append (byte_escaped byte) (escaped text) (byte-one (byte == 37) (byte == 10) (byte == 13) byte refl) (escaped-one text)
+escaped-one (byte ∷ text) =
+    one-append (byte_escaped byte) (escaped text) (byte-one (byte == 37) (byte == 10) (byte == 13) byte refl)
+    (escaped-one text)

@@ -15,7 +15,10 @@ byte-back : (percent feed return : Bool) (byte : ℕ) (text rest : List ℕ)
     → (byte == 10) ≡ feed
     → (byte == 13) ≡ return
     → unescaped text ≡ Some rest
-    → unescaped ((if percent then codes "%25" else if feed then codes "%0A" else if return then codes "%0D" else byte ∷ []) ++ text) ≡ Some (byte ∷ rest)
+    → unescaped
+    ((if percent then codes "%25" else if feed then codes "%0A" else if return then codes "%0D" else byte ∷ [])
+    ++ text)
+    ≡ Some (byte ∷ rest)
 byte-back true feed return byte text rest is _ _ read = rw (eqb-true byte 37 is, read) refl
 byte-back false true return byte text rest _ is _ read = rw (eqb-true byte 10 is, read) refl
 byte-back false false true byte text rest _ _ is read = rw (eqb-true byte 13 is, read) refl
@@ -23,7 +26,8 @@ byte-back false false false byte text rest percent feed return read = rw (percen
 
 pub read-back : (text : List ℕ) → unescaped (escaped text) ≡ Some text
 read-back [] = refl
-read-back (byte ∷ text) = byte-back (byte == 37) (byte == 10) (byte == 13) byte (escaped text) text refl refl refl (read-back text)
+read-back (byte ∷ text) =
+    byte-back (byte == 37) (byte == 10) (byte == 13) byte (escaped text) text refl refl refl (read-back text)
 
 -- ---- and nothing else is
 
@@ -56,7 +60,8 @@ stands-is : (first second byte : ℕ) (text : List ℕ)
     → stands_for first second ≡ Some byte
     → 37 ∷ first ∷ second ∷ text ≡ byte_escaped byte ++ text
 stands-is first second byte text some =
-    stands-by (first == 50 && second == 53) (first == 48 && second == 65) (first == 48 && second == 68) first second byte text refl refl refl some
+    stands-by (first == 50 && second == 53) (first == 48 && second == 65) (first == 48 && second == 68)
+    first second byte text refl refl refl some
 
 form-some : (first second : ℕ) (written text : List ℕ) (o : Option (List ℕ))
     → ((rest : List ℕ) → o ≡ Some rest → written ≡ escaped rest)
@@ -82,17 +87,21 @@ mutual
   pub written-is : (written text : List ℕ) → unescaped written ≡ Some text → written ≡ escaped text
   written-is [] text is = ap escaped (same_Some [] text is)
   written-is (byte ∷ written) text is =
-      written-by (byte == 37) (is_line_end byte) byte written text refl refl (λ rest. written-is written rest) (form-is written text) is
+      written-by (byte == 37) (is_line_end byte) byte written text refl refl (λ rest. written-is written rest)
+      (form-is written text) is
 
   form-is : (written text : List ℕ) → unescaped_form written ≡ Some text → 37 ∷ written ≡ escaped text
   form-is [] text is = absurd (none-some text is)
   form-is (first ∷ []) text is = absurd (none-some text is)
-  form-is (first ∷ second ∷ written) text is = form-some first second written text (unescaped written) (λ rest. written-is written rest) is
+  form-is (first ∷ second ∷ written) text is =
+      form-some first second written text (unescaped written) (λ rest. written-is written rest) is
 
 -- ---- how far a text was read
 
 ends-byte : (percent feed return : Bool) (byte : ℕ) → (byte == 10) ≡ feed → (byte == 13) ≡ return
-    → list_any is_line_end (if percent then codes "%25" else if feed then codes "%0A" else if return then codes "%0D" else byte ∷ []) ≡ false
+    → list_any is_line_end
+    (if percent then codes "%25" else if feed then codes "%0A" else if return then codes "%0D" else byte ∷ [])
+    ≡ false
 ends-byte true feed return byte _ _ = refl
 ends-byte false true return byte _ _ = refl
 ends-byte false false true byte _ _ = refl
@@ -103,7 +112,8 @@ ends-none : (text : List ℕ) → list_any is_line_end (escaped text) ≡ false
 ends-none [] = refl
 ends-none (byte ∷ text) =
     list_any-append is_line_end (byte_escaped byte) (escaped text)
-    ∙ or_from (list_any is_line_end (byte_escaped byte)) (list_any is_line_end (escaped text)) (ends-byte (byte == 37) (byte == 10) (byte == 13) byte refl refl) (ends-none text)
+    ∙ or_from (list_any is_line_end (byte_escaped byte)) (list_any is_line_end (escaped text))
+    (ends-byte (byte == 37) (byte == 10) (byte == 13) byte refl refl) (ends-none text)
 
 none-by : (o : Option (List ℕ)) → ((text : List ℕ) → o ≢ Some text) → o ≡ None
 none-by None never = refl
@@ -112,7 +122,9 @@ none-by (Some text) never = absurd (never text refl)
 -- so a text with one isn't read
 pub unread-ends : (written : List ℕ) → list_any is_line_end written ≡ true → unescaped written ≡ None
 unread-ends written ends =
-    none-by (unescaped written) (λ text is. both_ways (list_any is_line_end (escaped text)) (ends-none text) (ap (list_any is_line_end) (sym (written-is written text is)) ∙ ends))
+    none-by (unescaped written)
+    (λ text is. both_ways (list_any is_line_end (escaped text)) (ends-none text)
+    (ap (list_any is_line_end) (sym (written-is written text is)) ∙ ends))
 
 map-nothing : (o : Option (List ℕ)) → o ≡ option_map (λ rest. [] ++ rest) o
 map-nothing None = refl
@@ -143,7 +155,8 @@ pub read-start : (written : List ℕ) → list_any is_line_end written ≡ false
 read-start written ends = record { read = map-nothing (unescaped written); ends = ends }
 
 map-append : (front back : List ℕ) (o : Option (List ℕ))
-    → option_map (λ more. front ++ more) (option_map (λ more. back ++ more) o) ≡ option_map (λ more. (front ++ back) ++ more) o
+    → option_map (λ more. front ++ more) (option_map (λ more. back ++ more) o) ≡ option_map
+    (λ more. (front ++ back) ++ more) o
 map-append front back None = refl
 map-append front back (Some more) = ap (λ all. Some all) (sym (append_assoc front back more))
 
@@ -151,7 +164,9 @@ map-append front back (Some more) = ap (λ all. Some all) (sym (append_assoc fro
 split-ends : (plain form : List ℕ)
     → list_any is_line_end (plain ++ 37 ∷ form) ≡ false
     → (list_any is_line_end plain ≡ false) × (list_any is_line_end form ≡ false)
-split-ends plain form ends = or_parts (list_any is_line_end plain) (list_any is_line_end form) (sym (list_any-append is_line_end plain (37 ∷ form)) ∙ ends)
+split-ends plain form ends =
+    or_parts (list_any is_line_end plain) (list_any is_line_end form)
+    (sym (list_any-append is_line_end plain (37 ∷ form)) ∙ ends)
 
 -- up to the next `%`
 form-next : (written text rest plain form : List ℕ)
@@ -185,7 +200,8 @@ stands-small false false false byte is = absurd (none-some byte is)
 
 stands-one : (first second byte : ℕ) → stands_for first second ≡ Some byte → encode_utf8 byte ≡ byte ∷ []
 stands-one first second byte is =
-    encode_ascii byte (stands-small (first == 50 && second == 53) (first == 48 && second == 65) (first == 48 && second == 68) byte is)
+    encode_ascii byte
+    (stands-small (first == 50 && second == 53) (first == 48 && second == 65) (first == 48 && second == 68) byte is)
 
 -- or for one
 pub read-next : (written text rest plain form after : List ℕ) (first second byte : ℕ)
@@ -196,14 +212,21 @@ pub read-next : (written text rest plain form after : List ℕ) (first second by
     → IsReadTo written text rest
     → IsReadTo written ((text ++ plain) ++ encode_utf8 byte) after
 read-next written text rest plain form after first second byte parts lacks form_is stands before =
-    let read_form : unescaped_form form ≡ option_map (λ more. (byte ∷ []) ++ more) (unescaped after) = ap unescaped_form form_is ∙ ap (option_and_then (begun (unescaped after))) stands in
+    let read_form : unescaped_form form ≡ option_map (λ more. (byte ∷ []) ++ more) (unescaped after)
+    = ap unescaped_form form_is
+    ∙ ap (option_and_then (begun (unescaped after))) stands in
     let ends = split-ends plain form (ap (list_any is_line_end) (sym parts) ∙ before.ends) in
     record {
-      read = form-next written text rest plain form parts lacks before ∙ ap (option_map (λ more. (text ++ plain) ++ more)) read_form
+      read =
+          form-next written text rest plain form parts lacks before
+          ∙ ap (option_map (λ more. (text ++ plain) ++ more)) read_form
           ∙ map-append (text ++ plain) (byte ∷ []) (unescaped after)
           ∙ ap (λ one. option_map (λ more. ((text ++ plain) ++ one) ++ more) (unescaped after))
           (sym (stands-one first second byte stands));
-      ends = (or_parts (is_line_end second) (list_any is_line_end after) (or_parts (is_line_end first) (list_any is_line_end (second ∷ after)) (ap (list_any is_line_end) (sym form_is) ∙ ends.1)).1).1;
+      ends =
+          (or_parts (is_line_end second) (list_any is_line_end after)
+          (or_parts (is_line_end first) (list_any is_line_end (second ∷ after))
+          (ap (list_any is_line_end) (sym form_is) ∙ ends.1)).1).1;
     }
 
 -- no `%` is left
@@ -213,5 +236,7 @@ pub read-end : (written text rest : List ℕ)
     → Some (text ++ rest) ≡ unescaped written
 read-end written text rest lacks before =
     let plain : unescaped rest ≡ Some rest =
-    ap unescaped (sym (append-nil rest)) ∙ plain-front rest [] lacks before.ends ∙ ap (λ all. Some all) (append-nil rest) in
+    ap unescaped (sym (append-nil rest))
+    ∙ plain-front rest [] lacks before.ends
+    ∙ ap (λ all. Some all) (append-nil rest) in
     sym (before.read ∙ ap (option_map (λ more. text ++ more)) plain)

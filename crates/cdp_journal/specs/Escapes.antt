@@ -45,7 +45,8 @@ abbrev mutual
   -- the text that is written so; LF, CR and `%` don't stand for themselves
   pub unescaped : List ℕ → Option (List ℕ)
   unescaped [] = Some []
-  unescaped (byte ∷ text) = if byte == 37 then unescaped_form text else if is_line_end byte then None else begun (unescaped text) byte
+  unescaped (byte ∷ text) =
+      if byte == 37 then unescaped_form text else if is_line_end byte then None else begun (unescaped text) byte
 
   -- the text that is written as `%` with this behind it
   pub unescaped_form : List ℕ → Option (List ℕ)

@@ -68,7 +68,8 @@ run_at most moment = if nat_lt most (2 ^ 32) && nat_lt moment (2 ^ 53) then Some
 
 -- a number of steps before a space, and a moment behind it
 abbrev pub run_in : Halves → Option Line
-run_in parts = option_and_then (λ most. option_and_then (run_at most) (decimal_value parts.back)) (decimal_value parts.front)
+run_in parts =
+    option_and_then (λ most. option_and_then (run_at most) (decimal_value parts.back)) (decimal_value parts.front)
 
 -- the line whose text goes on so behind its first word
 abbrev pub tell_rest : List ℕ → Option Line
@@ -95,11 +96,14 @@ or_else (Some rest) f other = f rest
 abbrev pub line_of_words : List ℕ → Option Line
 line_of_words text =
     or_else (behind (codes "tell ") text) tell_rest
-    (or_else (behind (codes "take ") text) take_rest (or_else (behind (codes "detach ") text) detach_rest (or_else (behind (codes "run ") text) run_rest None)))
+    (or_else (behind (codes "take ") text) take_rest
+    (or_else (behind (codes "detach ") text) detach_rest (or_else (behind (codes "run ") text) run_rest None)))
 
 -- the line whose text this is
 abbrev pub line_of_text : List ℕ → Option Line
-line_of_text text = if bytes_eq text (codes "attach") then Some Attach else if bytes_eq text (codes "shut") then Some Shut else line_of_words text
+line_of_text text =
+    if bytes_eq text (codes "attach") then Some Attach else if bytes_eq text (codes "shut")
+    then Some Shut else line_of_words text
 
 -- the line whose text these bytes are
 abbrev pub line_of : List ℕ → Option Line

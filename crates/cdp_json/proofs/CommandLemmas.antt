@@ -31,7 +31,9 @@ safe n lt = ap (λ b. if b then Some n else None) (lt-ltb n (2 ^ 53) lt)
 pub command_is_read : CommandIsRead
 command_is_read d id method parameters is =
     let members : is_some (as_object d) ≡ true = has_members d (codes "id") (number (unsigned id)) is.id_stands in
-    let numbered : id_of d ≡ Some id = ap (λ g. option_and_then if_safe (option_and_then as_u64 (option_and_then as_number g))) is.id_stands ∙ safe id is.id_is_safe in
+    let numbered : id_of d ≡ Some id = ap
+    (λ g. option_and_then if_safe (option_and_then as_u64 (option_and_then as_number g))) is.id_stands
+    ∙ safe id is.id_is_safe in
     ap (λ b. if b then with_id d (id_of d) else Refused None refusals.NotObject) members
     ∙ ap (with_id d) numbered
     ∙ ap (λ g. with_name id d (option_and_then as_str g)) is.name_stands

@@ -14,7 +14,9 @@ copies_more f xs i d copy old new lt is pushed same =
     let next : i + 1 ≡ suc i = omega arith in
     ap (map f) pushed ∙ map-append f old (copy ∷ []) ∙ ap (λ ys. ys ++ f copy ∷ []) is
     ∙ ap (λ y. map f (take i xs) ++ y ∷ []) same
-    ∙ sym (ap (λ n. map f (take n xs)) next ∙ ap (map f) (take-suc xs i d lt) ∙ map-append f (take i xs) (get_or xs i d ∷ []))
+    ∙ sym (ap (λ n. map f (take n xs)) next
+    ∙ ap (map f) (take-suc xs i d lt)
+    ∙ map-append f (take i xs) (get_or xs i d ∷ []))
 
 -- all copies
 pub copies_all : {A B : Type 0} (f : A → B) (xs : List A) (i : ℕ) (copies : List A)

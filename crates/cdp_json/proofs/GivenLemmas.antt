@@ -41,13 +41,15 @@ two_at Less Less k l m d e f ms is js less later = rw (is, js, less, turned k l 
 two_at Less Equal k l m d e f ms is js less later = rw (is, js, turned k l Less less) (rw is refl)
 two_at Less Greater k l m d e f ms is js less later = rw (is, js, turned k l Less less) (rw is refl)
 two_at Equal p k l m d e f ms is js less later = rw (is, above_equal k l m less is) (rw is refl)
-two_at Greater p k l m d e f ms is js less later = rw (is, above_greater k l m less is) (rw is (ap (values.member m f) later))
+two_at Greater p k l m d e f ms is js less later =
+    rw (is, above_greater k l m less is) (rw is (ap (values.member m f) later))
 
 below_first : (k l : List ℕ) (d e : Data) (ms : values.Members)
     → cmp k l ≡ Less
     → put k d (put l e ms) ≡ put l e (put k d ms)
 below_first k l d e values.no_members less = rw (less, turned k l Less less) refl
-below_first k l d e (values.member m f ms) less = two_at (cmp k m) (cmp l m) k l m d e f ms refl refl less (below_first k l d e ms less)
+below_first k l d e (values.member m f ms) less =
+    two_at (cmp k m) (cmp l m) k l m d e f ms refl refl less (below_first k l d e ms less)
 
 same_keys : (k l : List ℕ) → cmp k l ≡ Equal → k ≡ l
 same_keys k l is = (bytes_eq-Decides k l).0 (sym (is_eq-slice_cmp k l) ∙ ap is_eq is)
@@ -94,10 +96,16 @@ ascends_at : (o : Ordering) (x y : Entry) (ys : List Entry)
     → Ascending (match_ordering o (x ∷ y ∷ ys) (y ∷ insert_by (λ e. e.0) x ys) (y ∷ insert_by (λ e. e.0) x ys))
 ascends_at Less x y ys is up later =
     (λ k below. let under = nat_list_cmp_total.trans k x.0 y.0 below is in (under, up.0 k under), up)
-ascends_at Equal x y ys is up later =
-    (λ k below. each_insert (λ z. cmp k z.0 ≡ Less) (λ e. e.0) x ys (ap (cmp k) (same_keys x.0 y.0 is) ∙ below) (up.0 k below), later)
-ascends_at Greater x y ys is up later =
-    (λ k below. each_insert (λ z. cmp k z.0 ≡ Less) (λ e. e.0) x ys (nat_list_cmp_total.trans k y.0 x.0 below (turned x.0 y.0 Greater is)) (up.0 k below), later)
+ascends_at Equal x y ys is up later = (
+  λ k below. each_insert (λ z. cmp k z.0 ≡ Less) (λ e. e.0) x ys (ap (cmp k) (same_keys x.0 y.0 is) ∙ below)
+      (up.0 k below),
+  later,
+)
+ascends_at Greater x y ys is up later = (
+  λ k below. each_insert (λ z. cmp k z.0 ≡ Less) (λ e. e.0) x ys
+      (nat_list_cmp_total.trans k y.0 x.0 below (turned x.0 y.0 Greater is)) (up.0 k below),
+  later,
+)
 
 ascends : (x : Entry) (ys : List Entry) → Ascending ys → Ascending (insert_by (λ e. e.0) x ys)
 ascends x [] up = (λ k below. tt, tt)
@@ -113,7 +121,10 @@ AllApart [] = ⊤
 AllApart (x ∷ xs) = Apart x.0 xs × AllApart xs
 
 differ : (k l : List ℕ) → cmp k l ≡ Less → (utf8_of k ≡ utf8_of l → k ≡ l) → utf8_of l ≡ utf8_of k → ⊥
-differ k l less apart same = let tied : cmp k k ≡ Equal = tied_itself nat_list_cmp_total k in let under : cmp k k ≡ Less = ap (cmp k) (apart (sym same)) ∙ less in cc
+differ k l less apart same =
+    let tied : cmp k k ≡ Equal = tied_itself nat_list_cmp_total k in
+    let under : cmp k k ≡ Less = ap (cmp k) (apart (sym same)) ∙ less in
+    cc
 
 all_differ : (k : List ℕ) (ys : List Entry)
     → Below k ys
@@ -128,9 +139,12 @@ inserted_at : (o : Ordering) (x y : Entry) (ys : List Entry) (found : values.Mem
     → cmp x.0 y.0 ≡ o
     → Ascending (y ∷ ys)
     → Apart x.0 (y ∷ ys)
-    → puts (insert_by (λ e. e.0) x ys) (put (utf8_of y.0) y.1 found) ≡ put (utf8_of x.0) x.1 (puts ys (put (utf8_of y.0) y.1 found))
-    → puts (match_ordering o (x ∷ y ∷ ys) (y ∷ insert_by (λ e. e.0) x ys) (y ∷ insert_by (λ e. e.0) x ys)) found ≡ put (utf8_of x.0) x.1 (puts (y ∷ ys) found)
-inserted_at Less x y ys found is up apart later = past x (y ∷ ys) found (all_differ x.0 (y ∷ ys) (is, up.0 x.0 is) apart)
+    → puts (insert_by (λ e. e.0) x ys) (put (utf8_of y.0) y.1 found) ≡ put (utf8_of x.0) x.1
+    (puts ys (put (utf8_of y.0) y.1 found))
+    → puts (match_ordering o (x ∷ y ∷ ys) (y ∷ insert_by (λ e. e.0) x ys) (y ∷ insert_by (λ e. e.0) x ys)) found ≡ put
+    (utf8_of x.0) x.1 (puts (y ∷ ys) found)
+inserted_at Less x y ys found is up apart later =
+    past x (y ∷ ys) found (all_differ x.0 (y ∷ ys) (is, up.0 x.0 is) apart)
 inserted_at Equal x y ys found is up apart later = later
 inserted_at Greater x y ys found is up apart later = later
 
@@ -205,7 +219,10 @@ mutual
   same_value (list js) h = ap values.array (same_items js h)
   same_value (object ms) h =
       ap values.object (data_puts (members_of (in_order (λ m. m.0) (ordered_members ms))) values.no_members
-      ∙ ap (λ es. puts es values.no_members) (entries_of (in_order (λ m. m.0) (ordered_members ms)) ∙ sym (in_order-map with_data (λ e. e.0) (ordered_members ms)) ∙ ap (in_order (λ e. e.0)) (same_members ms h))
+      ∙ ap (λ es. puts es values.no_members)
+      (entries_of (in_order (λ m. m.0) (ordered_members ms))
+      ∙ sym (in_order-map with_data (λ e. e.0) (ordered_members ms))
+      ∙ ap (in_order (λ e. e.0)) (same_members ms h))
       ∙ in_any_order (entries ms) values.no_members (all_apart ms h)
       ∙ sym (data_puts ms values.no_members))
 

@@ -22,7 +22,8 @@ one_member : (k : List ℕ) (a : Json)
 one_member k a = simp (append_assoc, append-nil) refl
 
 two_members : (k l : List ℕ) (a b : Json) → slice_cmp nat_cmp l k ≡ Greater
-    → compact_text (object (member k a (member l b no_members))) ≡ 123 ∷ (string_text k ++ 58 ∷ (compact_text a ++ 44 ∷ (string_text l ++ 58 ∷ (compact_text b ++ 125 ∷ []))))
+    → compact_text (object (member k a (member l b no_members))) ≡ 123 ∷
+    (string_text k ++ 58 ∷ (compact_text a ++ 44 ∷ (string_text l ++ 58 ∷ (compact_text b ++ 125 ∷ []))))
 two_members k l a b above = rw above (simp (append_assoc, append-nil) refl)
 
 -- ---- keys
@@ -60,7 +61,8 @@ params_key = refl
 pub result_is_value : ResultIsValue
 result_is_value id result =
     sym (two_members (codes "id") (codes "result") (number (pos id)) result refl
-    ∙ ap₂ (λ k l. 123 ∷ (k ++ 58 ∷ (decimal id ++ 44 ∷ (l ++ 58 ∷ (compact_text result ++ 125 ∷ []))))) id_key result_key)
+    ∙ ap₂ (λ k l. 123 ∷ (k ++ 58 ∷ (decimal id ++ 44 ∷ (l ++ 58 ∷ (compact_text result ++ 125 ∷ [])))))
+    id_key result_key)
 
 error_begins : (refusal : Refusal) → error_text refusal ≡ codes "{\"error\":" ++ compact_text (error_value refusal)
 error_begins refusal =
@@ -73,14 +75,19 @@ error_begins refusal =
 pub refusal_is_value : RefusalIsValue
 refusal_is_value None refusal =
     ap (λ s. s ++ 125 ∷ []) (error_begins refusal)
-    ∙ sym (one_member (codes "error") (error_value refusal) ∙ ap (λ k. 123 ∷ (k ++ 58 ∷ (compact_text (error_value refusal) ++ 125 ∷ []))) error_key)
+    ∙ sym (one_member (codes "error") (error_value refusal)
+    ∙ ap (λ k. 123 ∷ (k ++ 58 ∷ (compact_text (error_value refusal) ++ 125 ∷ []))) error_key)
 refusal_is_value (Some id) refusal =
     ap (λ s. s ++ (id_text (Some id) ++ 125 ∷ [])) (error_begins refusal)
     ∙ sym (two_members (codes "error") (codes "id") (error_value refusal) (number (pos id)) refl
-    ∙ ap₂ (λ k l. 123 ∷ (k ++ 58 ∷ (compact_text (error_value refusal) ++ 44 ∷ (l ++ 58 ∷ (decimal id ++ 125 ∷ []))))) error_key id_key)
+    ∙ ap₂ (λ k l. 123 ∷ (k ++ 58 ∷ (compact_text (error_value refusal) ++ 44 ∷ (l ++ 58 ∷ (decimal id ++ 125 ∷ [])))))
+    error_key id_key)
 
 pub event_is_value : EventIsValue
 event_is_value method params utf8 =
     sym (two_members (codes "method") (codes "params") (text (utf16_of method)) params refl
-    ∙ ap₂ (λ k l. 123 ∷ (k ++ 58 ∷ (string_text (utf16_of method) ++ 44 ∷ (l ++ 58 ∷ (compact_text params ++ 125 ∷ []))))) method_key params_key
-    ∙ ap (λ m. codes "{\"method\":" ++ (quoted m ++ (codes ",\"params\":" ++ (compact_text params ++ 125 ∷ [])))) (utf8_of-utf16_of method utf8))
+    ∙ ap₂ (λ k l. 123 ∷
+    (k ++ 58 ∷ (string_text (utf16_of method) ++ 44 ∷ (l ++ 58 ∷ (compact_text params ++ 125 ∷ [])))))
+    method_key params_key
+    ∙ ap (λ m. codes "{\"method\":" ++ (quoted m ++ (codes ",\"params\":" ++ (compact_text params ++ 125 ∷ []))))
+    (utf8_of-utf16_of method utf8))

@@ -16,7 +16,8 @@ use Rattle.cdp_json.specs.KeyOrder.{ascends, insert_by, in_order, key_at, order_
 
 match_map : {A B : Type 0} (f : A → B) (o : Ordering) (x : A) (y : A) (ys zs : List A) (ws : List B)
     → ws ≡ map f zs
-    → match_ordering o (f x ∷ f y ∷ map f ys) (f y ∷ ws) (f y ∷ ws) ≡ map f (match_ordering o (x ∷ y ∷ ys) (y ∷ zs) (y ∷ zs))
+    → match_ordering o (f x ∷ f y ∷ map f ys) (f y ∷ ws) (f y ∷ ws) ≡ map f
+    (match_ordering o (x ∷ y ∷ ys) (y ∷ zs) (y ∷ zs))
 match_map f Less x y ys zs ws e = refl
 match_map f Equal x y ys zs ws e = ap (λ r. f y ∷ r) e
 match_map f Greater x y ys zs ws e = ap (λ r. f y ∷ r) e
@@ -24,13 +25,17 @@ match_map f Greater x y ys zs ws e = ap (λ r. f y ∷ r) e
 insert_by-map : {A B : Type 0} (f : A → B) (key : B → List ℕ) (x : A) (ys : List A)
     → insert_by key (f x) (map f ys) ≡ map f (insert_by (λ a. key (f a)) x ys)
 insert_by-map f key x [] = refl
-insert_by-map f key x (y ∷ ys) = match_map f (slice_cmp nat_cmp (key (f x)) (key (f y))) x y ys (insert_by (λ a. key (f a)) x ys) (insert_by key (f x) (map f ys)) (insert_by-map f key x ys)
+insert_by-map f key x (y ∷ ys) =
+    match_map f (slice_cmp nat_cmp (key (f x)) (key (f y))) x y ys (insert_by (λ a. key (f a)) x ys)
+    (insert_by key (f x) (map f ys)) (insert_by-map f key x ys)
 
 ordered_onto : {A B : Type 0} (f : A → B) (key : B → List ℕ) (done xs : List A)
-    → fold (λ ys y. insert_by key y ys) (map f done) (map f xs) ≡ map f (fold (λ ys y. insert_by (λ a. key (f a)) y ys) done xs)
+    → fold (λ ys y. insert_by key y ys) (map f done) (map f xs) ≡ map f
+    (fold (λ ys y. insert_by (λ a. key (f a)) y ys) done xs)
 ordered_onto f key done [] = refl
 ordered_onto f key done (x ∷ xs) =
-    ap (λ ys. fold (λ ys y. insert_by key y ys) ys (map f xs)) (insert_by-map f key x done) ∙ ordered_onto f key (insert_by (λ a. key (f a)) x done) xs
+    ap (λ ys. fold (λ ys y. insert_by key y ys) ys (map f xs)) (insert_by-map f key x done)
+    ∙ ordered_onto f key (insert_by (λ a. key (f a)) x done) xs
 
 pub in_order-map : {A B : Type 0} (f : A → B) (key : B → List ℕ) (xs : List A)
     → in_order key (map f xs) ≡ map f (in_order (λ a. key (f a)) xs)
@@ -70,8 +75,11 @@ pub insert_place : (keys : List (List ℕ)) (k : Bor (List ℕ) × ℕ) (xs : Li
     → map (λ x. x.1) (insert_key pair_cmp xs k) ≡ insert_by (key_at keys) k.1 (map (λ x. x.1) xs)
 insert_place keys k [] is all = refl
 insert_place keys k (x ∷ xs) is all =
-    one_place (slice_cmp nat_cmp k.0.now x.0.now) (nat_cmp k.1 x.1) k x xs (insert_key pair_cmp xs k) (insert_by (key_at keys) k.1 (map (λ y. y.1) xs)) (sym (nat_cmp_is k.1 x.1 Greater (all 0 x (omega arith)).1)) (insert_place keys k xs is (λ i d lt. all (suc i) d (omega (arith, lt))))
-    ∙ ap (λ o. match_ordering o (k.1 ∷ x.1 ∷ map (λ y. y.1) xs) (x.1 ∷ insert_by (key_at keys) k.1 (map (λ y. y.1) xs)) (x.1 ∷ insert_by (key_at keys) k.1 (map (λ y. y.1) xs)))
+    one_place (slice_cmp nat_cmp k.0.now x.0.now) (nat_cmp k.1 x.1) k x xs (insert_key pair_cmp xs k)
+    (insert_by (key_at keys) k.1 (map (λ y. y.1) xs)) (sym (nat_cmp_is k.1 x.1 Greater (all 0 x (omega arith)).1))
+    (insert_place keys k xs is (λ i d lt. all (suc i) d (omega (arith, lt))))
+    ∙ ap (λ o. match_ordering o (k.1 ∷ x.1 ∷ map (λ y. y.1) xs) (x.1 ∷ insert_by (key_at keys) k.1 (map (λ y. y.1) xs))
+    (x.1 ∷ insert_by (key_at keys) k.1 (map (λ y. y.1) xs)))
     (ap (λ s. slice_cmp nat_cmp s x.0.now) is ∙ ap (slice_cmp nat_cmp (key_at keys k.1)) (all 0 x (omega arith)).0)
 
 pub still_placed : (keys : List (List ℕ)) (k : Bor (List ℕ) × ℕ) (xs : List (Bor (List ℕ) × ℕ))
@@ -79,11 +87,13 @@ pub still_placed : (keys : List (List ℕ)) (k : Bor (List ℕ) × ℕ) (xs : Li
     → Placed keys k.1 xs
     → Placed keys (k.1 + 1) (insert_key pair_cmp xs k)
 still_placed keys k xs is all =
-    All-insert_key pair_cmp k (λ x. (x.0.now ≡ key_at keys x.1) × (x.1 < k.1 + 1)) xs (λ i d lt. let there = all i d lt in (there.0, omega (arith, there.1))) (is, omega arith)
+    All-insert_key pair_cmp k (λ x. (x.0.now ≡ key_at keys x.1) × (x.1 < k.1 + 1)) xs
+    (λ i d lt. let there = all i d lt in (there.0, omega (arith, there.1))) (is, omega arith)
 
 range-more : (a n : ℕ) → range_with_len a (suc n) ≡ range_with_len a n ++ (a + n) ∷ []
 range-more a zero = ap (λ i. i ∷ []) (omega arith)
-range-more a (suc n) = ap (λ is. a ∷ is) (range-more (a + 1) n ∙ ap (λ i. range_with_len (a + 1) n ++ i ∷ []) (omega arith))
+range-more a (suc n) =
+    ap (λ is. a ∷ is) (range-more (a + 1) n ∙ ap (λ i. range_with_len (a + 1) n ++ i ∷ []) (omega arith))
 
 pub in_order-place : (key : ℕ → List ℕ) (n : ℕ)
     → in_order key (range_with_len 0 (n + 1)) ≡ insert_by key n (in_order key (range_with_len 0 n))
@@ -100,7 +110,8 @@ pub places_below : (keys : List (List ℕ)) (n : ℕ) (xs : List (Bor (List ℕ)
     → All (λ place. place < n) (map (λ x. x.1) xs)
 places_below keys n [] all k d lt = omega (arith, lt)
 places_below keys n (x ∷ xs) all zero d lt = (all 0 x (omega arith)).1
-places_below keys n (x ∷ xs) all (suc k) d lt = places_below keys n xs (λ i e l. all (suc i) e (omega (arith, l))) k d (omega (arith, lt))
+places_below keys n (x ∷ xs) all (suc k) d lt =
+    places_below keys n xs (λ i e l. all (suc i) e (omega (arith, l))) k d (omega (arith, lt))
 
 -- ---- keys that ascend
 
@@ -138,7 +149,8 @@ insert_last : (key : ℕ → List ℕ) (x a n : ℕ)
     → insert_by key x (range_with_len a n) ≡ range_with_len a n ++ x ∷ []
 insert_last key x a zero below = refl
 insert_last key x a (suc n) below =
-    last_by key x a (range_with_len (a + 1) n) (insert_by key x (range_with_len (a + 1) n)) (slice_cmp nat_cmp (key x) (key a))
+    last_by key x a (range_with_len (a + 1) n) (insert_by key x (range_with_len (a + 1) n))
+    (slice_cmp nat_cmp (key x) (key a))
     (ap is_gt (sym (nat_list_cmp_total.antisymm (key a) (key x))) ∙ below a (omega arith) (omega arith))
     (insert_last key x (a + 1) n (λ i from to. below i (omega (arith, from)) (omega (arith, to))))
 
@@ -147,16 +159,19 @@ next-at_most : (keys : List (List ℕ)) (i : ℕ) → ascends keys ≡ true → 
 next-at_most [] i h within = absurd (omega (arith, within))
 next-at_most (key ∷ []) i h within = absurd (omega (arith, within))
 next-at_most (key ∷ next ∷ keys) zero h within = not-true (is_gt (slice_cmp nat_cmp key next)) (and_parts _ _ h).0
-next-at_most (key ∷ next ∷ keys) (suc i) h within = next-at_most (next ∷ keys) i (and_parts _ _ h).1 (omega (arith, within))
+next-at_most (key ∷ next ∷ keys) (suc i) h within =
+    next-at_most (next ∷ keys) i (and_parts _ _ h).1 (omega (arith, within))
 
 -- by how many places they are apart
 later-at_most : (keys : List (List ℕ)) (i d p : ℕ) → ascends keys ≡ true → p ≡ i + d → p < length keys
     → is_gt (slice_cmp nat_cmp (key_at keys i) (key_at keys p)) ≡ false
 later-at_most keys i zero p h is within =
-    subst (λ q. is_gt (slice_cmp nat_cmp (key_at keys i) (key_at keys q)) ≡ false) (omega (arith, is)) (ap is_gt (tied_itself nat_list_cmp_total (key_at keys i)))
+    subst (λ q. is_gt (slice_cmp nat_cmp (key_at keys i) (key_at keys q)) ≡ false) (omega (arith, is))
+    (ap is_gt (tied_itself nat_list_cmp_total (key_at keys i)))
 later-at_most keys i (suc d) zero h is within = absurd (omega (arith, is))
 later-at_most keys i (suc d) (suc p) h is within =
-    upto nat_list_cmp_total (key_at keys i) (key_at keys p) (key_at keys (suc p)) (later-at_most keys i d p h (omega (arith, is)) (omega (arith, within))) (next-at_most keys p h within)
+    upto nat_list_cmp_total (key_at keys i) (key_at keys p) (key_at keys (suc p))
+    (later-at_most keys i d p h (omega (arith, is)) (omega (arith, within))) (next-at_most keys p h within)
 
 in_order-ascending : (keys : List (List ℕ)) (n : ℕ) → ascends keys ≡ true → n ≤ length keys
     → in_order (key_at keys) (range_with_len 0 n) ≡ range_with_len 0 n
@@ -167,7 +182,8 @@ in_order-ascending keys (suc n) h within =
     ap (λ m. in_order (key_at keys) (range_with_len 0 m)) next
     ∙ in_order-place (key_at keys) n
     ∙ ap (insert_by (key_at keys) n) (in_order-ascending keys n h (omega (arith, within)))
-    ∙ insert_last (key_at keys) n 0 n (λ i from to. later-at_most keys i (n - i) n h (omega (arith, to)) (omega (arith, within)))
+    ∙ insert_last (key_at keys) n 0 n
+    (λ i from to. later-at_most keys i (n - i) n h (omega (arith, to)) (omega (arith, within)))
     ∙ ap (λ i. range_with_len 0 n ++ i ∷ []) last
     ∙ sym (range-more 0 n)
 

@@ -20,11 +20,20 @@ record IsPlainUnit (u : ℕ) : Type 0 where
   no_backslash : u ≡ 92 → ⊥
 
 unit : (u : ℕ) → is_plain_unit u ≡ true → IsPlainUnit u
-unit u is = record { from = grind (arith, nat_tests); below = grind (arith, nat_tests); no_quote = λ e. grind (arith, nat_tests); no_backslash = λ e. grind (arith, nat_tests) }
+unit u is =
+    record {
+      from = grind (arith, nat_tests);
+      below = grind (arith, nat_tests);
+      no_quote = λ e. grind
+          (arith, nat_tests);
+      no_backslash = λ e. grind (arith, nat_tests);
+    }
 
 -- a plain unit spells itself
 spelt : (u : ℕ) (us : List ℕ) → u < 128 → utf16_chars (u ∷ us) ≡ Some u ∷ utf16_chars us
-spelt u us below = utf16_chars_lone u us (λ pair. grind (arith, pair.0)) ∙ ap (λ o. o ∷ utf16_chars us) (rw (lt-leb 0xD800 u (omega arith)) refl)
+spelt u us below =
+    utf16_chars_lone u us (λ pair. grind (arith, pair.0))
+    ∙ ap (λ o. o ∷ utf16_chars us) (rw (lt-leb 0xD800 u (omega arith)) refl)
 
 lossy : (us : List ℕ) → is_plain us ≡ true → utf16_lossy_chars us ≡ us
 lossy [] is = rw utf16_chars-nil refl

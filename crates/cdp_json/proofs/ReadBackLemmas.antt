@@ -57,7 +57,9 @@ pub each_insert : {A : Type 0} (P : A → Type 0) (key : A → List ℕ) (x : A)
     → AllByRecursion P ys
     → AllByRecursion P (insert_by key x ys)
 each_insert P key x [] px h = (px, tt)
-each_insert P key x (y ∷ ys) px h = each_match P (slice_cmp nat_cmp (key x) (key y)) x y ys (insert_by key x ys) px h.0 h.1 (each_insert P key x ys px h.1)
+each_insert P key x (y ∷ ys) px h =
+    each_match P (slice_cmp nat_cmp (key x) (key y)) x y ys (insert_by key x ys) px h.0 h.1
+    (each_insert P key x ys px h.1)
 
 each_onto : {A : Type 0} (P : A → Type 0) (key : A → List ℕ) (done xs : List A)
     → AllByRecursion P done
@@ -115,12 +117,14 @@ one_member s t u b r is rest =
     ∙ ap₂ (λ a c. s ++ 58 ∷ (a ++ c)) is rest
 
 members_behind : (qs : List Pair) → Each Writes qs
-    → behind_commas (map member_text (map with_text qs)) ++ 125 ∷ [] ≡ written.members_text true (listed_members (members_of (map with_order qs)))
+    → behind_commas (map member_text (map with_text qs)) ++ 125 ∷ [] ≡ written.members_text true
+    (listed_members (members_of (map with_order qs)))
 members_behind [] h = refl
 members_behind (q ∷ qs) h = ap (λ s. 44 ∷ s) (one_member (string_text q.0) _ _ _ _ h.0 (members_behind qs h.1))
 
 members_first : (qs : List Pair) → Each Writes qs
-    → with_commas (map member_text (map with_text qs)) ++ 125 ∷ [] ≡ written.members_text false (listed_members (members_of (map with_order qs)))
+    → with_commas (map member_text (map with_text qs)) ++ 125 ∷ [] ≡ written.members_text false
+    (listed_members (members_of (map with_order qs)))
 members_first [] h = refl
 members_first (q ∷ qs) h = one_member (string_text q.0) _ _ _ _ h.0 (members_behind qs h.1)
 
@@ -231,7 +235,8 @@ mutual
   items_read : (js : Items) → ItemsFit js → of_items (items_outline (listed_items js)) ≡ Some (items_data js)
   items_read no_items h = refl
   items_read (item j js) h =
-      ap (option_and_then (λ d. option_map (values.item d) (of_items (items_outline (listed_items js))))) (value_read j h.0)
+      ap (option_and_then (λ d. option_map (values.item d) (of_items (items_outline (listed_items js)))))
+      (value_read j h.0)
       ∙ ap (option_map (values.item (data_of j))) (items_read js h.1)
 
   members_read : (ms : Members) (found : values.Members)
@@ -239,7 +244,8 @@ mutual
       → of_members (members_outline (listed_members ms)) found ≡ Some (members_data ms found)
   members_read no_members found h = refl
   members_read (member k j ms) found h =
-      ap (option_and_then (λ d. of_members (members_outline (listed_members ms)) (put (utf8_of k) d found))) (value_read j h.0)
+      ap (option_and_then (λ d. of_members (members_outline (listed_members ms)) (put (utf8_of k) d found)))
+      (value_read j h.0)
       ∙ members_read ms (put (utf8_of k) (data_of j) found) h.1
 
 -- ---- the order of members changes neither
@@ -255,7 +261,8 @@ mutual
   ordered_fits (number z) h = h
   ordered_fits (text s) h = tt
   ordered_fits (list js) h = ordered_items_fit js h
-  ordered_fits (object ms) h = members_fit _ (each_in_order (λ m. NumbersFit m.1) (λ m. m.0) (ordered_members ms) (ordered_members_fit ms h))
+  ordered_fits (object ms) h =
+      members_fit _ (each_in_order (λ m. NumbersFit m.1) (λ m. m.0) (ordered_members ms) (ordered_members_fit ms h))
 
   ordered_items_fit : (js : Items) → ItemsFit js → ItemsFit (ordered_items js)
   ordered_items_fit no_items h = tt
@@ -277,16 +284,19 @@ mutual
   ordered_within (text s) n h = h
   ordered_within (list js) n h = omega (arith, h, ordered_items_within js (items_depth js) (omega arith))
   ordered_within (object ms) n h =
-      let each = each_in_order (λ m. depth m.1 ≤ members_depth ms) (λ m. m.0) (ordered_members ms) (ordered_members_within ms (members_depth ms) (omega arith)) in
+      let each = each_in_order (λ m. depth m.1 ≤ members_depth ms) (λ m. m.0) (ordered_members ms)
+      (ordered_members_within ms (members_depth ms) (omega arith)) in
       omega (arith, h, members_within (members_depth ms) _ each)
 
   ordered_items_within : (js : Items) (n : ℕ) → items_depth js ≤ n → items_depth (ordered_items js) ≤ n
   ordered_items_within no_items n h = h
-  ordered_items_within (item j js) n h = omega (arith, ordered_within j n (omega arith), ordered_items_within js n (omega arith))
+  ordered_items_within (item j js) n h =
+      omega (arith, ordered_within j n (omega arith), ordered_items_within js n (omega arith))
 
   ordered_members_within : (ms : Members) (n : ℕ) → members_depth ms ≤ n → Each (λ j. depth j ≤ n) (ordered_members ms)
   ordered_members_within no_members n h = tt
-  ordered_members_within (member k j ms) n h = (ordered_within j n (omega arith), ordered_members_within ms n (omega arith))
+  ordered_members_within (member k j ms) n h =
+      (ordered_within j n (omega arith), ordered_members_within ms n (omega arith))
 
 -- ---- the law
 
@@ -296,7 +306,11 @@ written_is_read_back j h =
     let numbers = ordered_fits j h.numbers_fit in
     let shallow = ordered_within j 127 h.is_shallow in
     let text = value_written j ∙ sym (print-outline (listed (ordered j))) in
-    let read_tokens = ap tokens text ∙ tokens-print (json_tokens o) (ArePrintable-json_tokens o (has_numbers (ordered j) numbers)) ∙ sym (append-nil (json_tokens o)) in
-    ap (λ ts. option_and_then of_json (option_and_then (λ p. json.if_last p.0 p.1) (json.value max_depth ts))) read_tokens
-    ∙ ap (λ r. option_and_then of_json (option_and_then (λ p. json.if_last p.0 p.1) r)) (value-json_tokens o max_depth [] (omega (arith, shallow, same_depth (ordered j))))
+    let read_tokens = ap tokens text
+    ∙ tokens-print (json_tokens o) (ArePrintable-json_tokens o (has_numbers (ordered j) numbers))
+    ∙ sym (append-nil (json_tokens o)) in
+    ap (λ ts. option_and_then of_json (option_and_then (λ p. json.if_last p.0 p.1) (json.value max_depth ts)))
+    read_tokens
+    ∙ ap (λ r. option_and_then of_json (option_and_then (λ p. json.if_last p.0 p.1) r))
+    (value-json_tokens o max_depth [] (omega (arith, shallow, same_depth (ordered j))))
     ∙ value_read (ordered j) numbers

@@ -52,9 +52,12 @@ pub items_more : (vs : List Value) (i : ℕ) (v : Value) (old new : List Json) (
     → items_behind new (drop (i + 1) vs) ≡ items_behind old (drop i vs)
 items_more vs i v old new j lt is pushed =
     sym (ap (items_behind old) (drop_more vs i v lt)
-    ∙ ap (λ o. option_map (with_items (map json_view old)) (both json.item o (safe_items_of (items_view (drop (i + 1) vs))))) (sym is)
+    ∙ ap (λ o. option_map (with_items (map json_view old))
+    (both json.item o (safe_items_of (items_view (drop (i + 1) vs)))))
+    (sym is)
     ∙ more json.item (map json_view old) (json_view j) (safe_items_of (items_view (drop (i + 1) vs)))
-    ∙ ap (λ js. option_map (with_items js) (safe_items_of (items_view (drop (i + 1) vs)))) (sym (ap (map json_view) pushed ∙ map-append json_view old (j ∷ []))))
+    ∙ ap (λ js. option_map (with_items js) (safe_items_of (items_view (drop (i + 1) vs))))
+    (sym (ap (map json_view) pushed ∙ map-append json_view old (j ∷ []))))
 
 pub items_all : (vs : List Value) (i : ℕ) (done : List Json)
     → length vs ≤ i
@@ -80,7 +83,8 @@ all_members [] = refl
 all_members (m ∷ ms) = ap (put_pair m) (all_members ms)
 
 member_more : (done : List Pair) (k : List ℕ) (j : json.Json) (o : Option json.Members)
-    → option_map (with_members done) (both (json.member k) (Some j) o) ≡ option_map (with_members (done ++ (k, j) ∷ [])) o
+    → option_map (with_members done) (both (json.member k) (Some j) o) ≡ option_map (with_members (done ++ (k, j) ∷ []))
+    o
 member_more done k j None = refl
 member_more done k j (Some ms) = more put_pair done (k, j) (Some ms)
 
@@ -94,10 +98,15 @@ pub members_more : (e : Entry) (left : List Entry) (old new : List Member) (m : 
     → new ≡ old ++ m ∷ []
     → members_behind new left ≡ members_behind old (e ∷ left)
 members_more e left old new m j is named pushed =
-    sym (ap (λ o. option_map (with_members (map member_view old)) (both (json.member (utf16_of (string_bytes e.0))) o (safe_members_of (members_view left)))) (sym is)
-    ∙ member_more (map member_view old) (utf16_of (string_bytes e.0)) (json_view j) (safe_members_of (members_view left))
-    ∙ ap (λ p. option_map (with_members (map member_view old ++ p ∷ [])) (safe_members_of (members_view left))) (sym named)
-    ∙ ap (λ ps. option_map (with_members ps) (safe_members_of (members_view left))) (sym (ap (map member_view) pushed ∙ map-append member_view old (m ∷ []))))
+    sym (ap (λ o. option_map (with_members (map member_view old))
+    (both (json.member (utf16_of (string_bytes e.0))) o (safe_members_of (members_view left))))
+    (sym is)
+    ∙ member_more (map member_view old) (utf16_of (string_bytes e.0)) (json_view j)
+    (safe_members_of (members_view left))
+    ∙ ap (λ p. option_map (with_members (map member_view old ++ p ∷ [])) (safe_members_of (members_view left)))
+    (sym named)
+    ∙ ap (λ ps. option_map (with_members ps) (safe_members_of (members_view left)))
+    (sym (ap (map member_view) pushed ∙ map-append member_view old (m ∷ []))))
 
 pub members_all : (done : List Member) → Some (members_of (map member_view done)) ≡ members_behind done []
 members_all done = sym (ap Some (all_members (map member_view done)))
@@ -122,11 +131,15 @@ pub arguments_more : (vs : List Value) (i : ℕ) (v : Value) (old new : List Arg
     → arguments_behind new (drop (i + 1) vs) ≡ arguments_behind old (drop i vs)
 arguments_more vs i v old new a lt is pushed =
     sym (ap (arguments_behind old) (drop_more vs i v lt)
-    ∙ ap (λ o. option_map (with_arguments (map argument_view old)) (both ◌∷◌ o (arguments_from (items_view (drop (i + 1) vs))))) (sym is)
+    ∙ ap (λ o. option_map (with_arguments (map argument_view old))
+    (both ◌∷◌ o (arguments_from (items_view (drop (i + 1) vs)))))
+    (sym is)
     ∙ more ◌∷◌ (map argument_view old) (argument_view a) (arguments_from (items_view (drop (i + 1) vs)))
-    ∙ ap (λ xs. option_map (with_arguments xs) (arguments_from (items_view (drop (i + 1) vs)))) (sym (ap (map argument_view) pushed ∙ map-append argument_view old (a ∷ []))))
+    ∙ ap (λ xs. option_map (with_arguments xs) (arguments_from (items_view (drop (i + 1) vs))))
+    (sym (ap (map argument_view) pushed ∙ map-append argument_view old (a ∷ []))))
 
 pub arguments_all : (vs : List Value) (i : ℕ) (done : List Argument)
     → length vs ≤ i
     → Some (map argument_view done) ≡ arguments_behind done (drop i vs)
-arguments_all vs i done le = sym (ap (arguments_behind done) (drop_all i vs le) ∙ ap Some (all_arguments (map argument_view done)))
+arguments_all vs i done le =
+    sym (ap (arguments_behind done) (drop_all i vs le) ∙ ap Some (all_arguments (map argument_view done)))

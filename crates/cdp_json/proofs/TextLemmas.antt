@@ -18,7 +18,9 @@ use Rattle.cdp_json.proofs.OrderLemmas.{in_order-map, at_places}
 
 behind_commas-more : (ts : List (List ℕ)) (t : List ℕ) → behind_commas (ts ++ t ∷ []) ≡ behind_commas ts ++ 44 ∷ t
 behind_commas-more [] t = ap (λ s. 44 ∷ s) (append-nil t)
-behind_commas-more (u ∷ us) t = ap (λ s. 44 ∷ (u ++ s)) (behind_commas-more us t) ∙ ap (λ s. 44 ∷ s) (sym (append_assoc u (behind_commas us) (44 ∷ t)))
+behind_commas-more (u ∷ us) t =
+    ap (λ s. 44 ∷ (u ++ s)) (behind_commas-more us t)
+    ∙ ap (λ s. 44 ∷ s) (sym (append_assoc u (behind_commas us) (44 ∷ t)))
 
 comma_needed : (n : ℕ) → 0 < n → comma_before n ≡ 44 ∷ []
 comma_needed n lt = rw (lt-ltb 0 n lt) refl
@@ -41,11 +43,16 @@ pieces_more f xs i d front old mid new lt is comma piece =
     let ts = map f (take i xs) in
     let t = f (get_or xs i d) in
     let next : i + 1 ≡ suc i = omega arith in
-    let taken : map f (take (i + 1) xs) ≡ ts ++ t ∷ [] = ap (λ n. map f (take n xs)) next ∙ ap (map f) (take-suc xs i d lt) ∙ map-append f (take i xs) (get_or xs i d ∷ []) in
+    let taken : map f (take (i + 1) xs) ≡ ts ++ t ∷ [] = ap (λ n. map f (take n xs)) next
+    ∙ ap (map f) (take-suc xs i d lt)
+    ∙ map-append f (take i xs) (get_or xs i d ∷ []) in
     let count : length ts ≡ i = length-map (take i xs) f ∙ length-take-le i xs (omega (arith, lt)) in
-    let grown : with_commas (map f (take (i + 1) xs)) ≡ with_commas ts ++ (comma_before i ++ t) = ap with_commas taken ∙ with_commas-more ts t ∙ ap (λ n. with_commas ts ++ (comma_before n ++ t)) count in
+    let grown : with_commas (map f (take (i + 1) xs)) ≡ with_commas ts ++ (comma_before i ++ t) = ap with_commas taken
+    ∙ with_commas-more ts t
+    ∙ ap (λ n. with_commas ts ++ (comma_before n ++ t)) count in
     piece ∙ ap (λ s. s ++ t) (comma ∙ ap (λ s. s ++ comma_before i) is)
-    ∙ append_assoc (front ++ with_commas ts) (comma_before i) t ∙ append_assoc front (with_commas ts) (comma_before i ++ t)
+    ∙ append_assoc (front ++ with_commas ts) (comma_before i) t
+    ∙ append_assoc front (with_commas ts) (comma_before i ++ t)
     ∙ ap (λ s. front ++ s) (sym grown)
 
 -- all pieces
@@ -86,8 +93,10 @@ pub at_place : (ms : List Member) (place : ℕ) (m : Member)
     → m ≡ get_or ms place m
     → text_at ms place ≡ member_text (pair_of m)
 at_place ms place m lt is =
-    ap (λ k. member_text (k, get_or (map (λ m. text_of_item m.value) ms) place [])) (get_or-map (λ m. m.key) ms place m [] lt ∙ ap (λ m. m.key) (sym is))
-    ∙ ap (λ t. member_text (m.key, t)) (get_or-map (λ m. text_of_item m.value) ms place m [] lt ∙ ap (λ m. text_of_item m.value) (sym is))
+    ap (λ k. member_text (k, get_or (map (λ m. text_of_item m.value) ms) place []))
+    (get_or-map (λ m. m.key) ms place m [] lt ∙ ap (λ m. m.key) (sym is))
+    ∙ ap (λ t. member_text (m.key, t))
+    (get_or-map (λ m. text_of_item m.value) ms place m [] lt ∙ ap (λ m. text_of_item m.value) (sym is))
 
 pair_there : (ms : List Member) (i : ℕ)
     → i < length (map pair_of ms)
@@ -99,14 +108,21 @@ pair_there (m ∷ ms) (suc i) lt = pair_there ms i (omega (arith, lt))
 pub members_in_order : (ms : List Member)
     → in_order (λ p. p.0) (member_texts (members_view ms)) ≡ map (pair_at ms) (order_of (map (λ m. m.key) ms))
 members_in_order ms =
-    ap (in_order (λ p. p.0)) (member_texts-view ms ∙ sym (at_places (pair_at ms) (map pair_of ms) 0 ([], []) (λ i lt. ap (pair_at ms) (omega arith) ∙ pair_there ms i lt)))
+    ap (in_order (λ p. p.0))
+    (member_texts-view ms
+    ∙ sym (at_places (pair_at ms) (map pair_of ms) 0 ([], [])
+    (λ i lt. ap (pair_at ms) (omega arith) ∙ pair_there ms i lt)))
     ∙ in_order-map (pair_at ms) (λ p. p.0) (range_with_len 0 (length (map pair_of ms)))
-    ∙ ap (λ n. map (pair_at ms) (in_order (key_at (map (λ m. m.key) ms)) (range_with_len 0 n))) (length-map ms pair_of ∙ sym (length-map ms (λ m. m.key)))
+    ∙ ap (λ n. map (pair_at ms) (in_order (key_at (map (λ m. m.key) ms)) (range_with_len 0 n)))
+    (length-map ms pair_of ∙ sym (length-map ms (λ m. m.key)))
 
 -- the texts of the places, in order, are those of the members
 pub all_members : (ms : List Member)
     → with_commas (map (text_at ms) (order_of (map (λ m. m.key) ms))) ≡ members_text (members_view ms)
-all_members ms = ap with_commas (sym (map-map member_text (pair_at ms) (order_of (map (λ m. m.key) ms))) ∙ ap (map member_text) (sym (members_in_order ms)))
+all_members ms =
+    ap with_commas
+    (sym (map-map member_text (pair_at ms) (order_of (map (λ m. m.key) ms)))
+    ∙ ap (map member_text) (sym (members_in_order ms)))
 
 -- a member is its key with a colon, and its value
 pub member_pieces : (mid key new : List ℕ) (m : Member)
@@ -114,4 +130,7 @@ pub member_pieces : (mid key new : List ℕ) (m : Member)
     → new ≡ key ++ compact_text (json_view m.value)
     → new ≡ mid ++ member_text (pair_of m)
 member_pieces mid key new m is last =
-    last ∙ ap (λ s. s ++ text_of_item m.value) is ∙ append_assoc (mid ++ string_text m.key) (58 ∷ []) (text_of_item m.value) ∙ append_assoc mid (string_text m.key) (58 ∷ text_of_item m.value)
+    last
+    ∙ ap (λ s. s ++ text_of_item m.value) is
+    ∙ append_assoc (mid ++ string_text m.key) (58 ∷ []) (text_of_item m.value)
+    ∙ append_assoc mid (string_text m.key) (58 ∷ text_of_item m.value)

@@ -32,4 +32,6 @@ call_from (Some function) (Some id) (Some arguments) (Some group) (Some flags) =
 
 -- `functionDeclaration, objectId?, arguments?, objectGroup?, silent?, returnByValue?, generatePreview?, throwOnSideEffect?`
 abbrev pub call_of : Data → Option FunctionCall
-call_of d = call_from (required text_of (codes "functionDeclaration") d) (optional text_of (codes "objectId") d) (arguments_of d) (optional text_of (codes "objectGroup") d) (flags_of d)
+call_of d =
+    call_from (required text_of (codes "functionDeclaration") d) (optional text_of (codes "objectId") d)
+    (arguments_of d) (optional text_of (codes "objectGroup") d) (flags_of d)

@@ -22,8 +22,14 @@ pub record IsCommand (d : Data) (id : ℕ) (method : Method) (parameters : Param
 
 -- what is read as a command is that command
 abbrev pub ReadIsCommand : Type 0
-ReadIsCommand = (d : Data) (id : ℕ) (method : Method) (parameters : Params) → value_reading d ≡ Command id method parameters → IsCommand d id method parameters
+ReadIsCommand =
+    (d : Data) (id : ℕ) (method : Method) (parameters : Params)
+    → value_reading d ≡ Command id method parameters
+    → IsCommand d id method parameters
 
 -- what is a command is read as that command
 abbrev pub CommandIsRead : Type 0
-CommandIsRead = (d : Data) (id : ℕ) (method : Method) (parameters : Params) → IsCommand d id method parameters → value_reading d ≡ Command id method parameters
+CommandIsRead =
+    (d : Data) (id : ℕ) (method : Method) (parameters : Params)
+    → IsCommand d id method parameters
+    → value_reading d ≡ Command id method parameters

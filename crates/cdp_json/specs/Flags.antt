@@ -29,7 +29,9 @@ flags_from (Some by_value) (Some preview) (Some throws) =
 
 -- the flags that have an effect
 abbrev pub given_flags : Data → Option EvaluationFlags
-given_flags d = flags_from (optional as_bool (codes "returnByValue") d) (optional as_bool (codes "generatePreview") d) (optional as_bool (codes "throwOnSideEffect") d)
+given_flags d =
+    flags_from (optional as_bool (codes "returnByValue") d) (optional as_bool (codes "generatePreview") d)
+    (optional as_bool (codes "throwOnSideEffect") d)
 
 -- the kind of `silent` is tested, and its value doesn't change what is answered
 abbrev pub flags_of : Data → Option EvaluationFlags

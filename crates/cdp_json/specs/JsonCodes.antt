@@ -99,12 +99,14 @@ abbrev mutual
   items_are_read : (js : Items) (ws : List Word) (r : Read)
       → read_words r (items_words js ws) ≡ read_words (items_read js r) ws
   items_are_read no_items ws r = refl
-  items_are_read (item j js) ws r = json_is_read j (items_words js (an_item ∷ ws)) r ∙ items_are_read js (an_item ∷ ws) (json_read j r)
+  items_are_read (item j js) ws r =
+      json_is_read j (items_words js (an_item ∷ ws)) r ∙ items_are_read js (an_item ∷ ws) (json_read j r)
 
   members_are_read : (ms : Members) (ws : List Word) (r : Read)
       → read_words r (members_words ms ws) ≡ read_words (members_read ms r) ws
   members_are_read no_members ws r = refl
-  members_are_read (member k j ms) ws r = json_is_read j (members_words ms (a_member k ∷ ws)) r ∙ members_are_read ms (a_member k ∷ ws) (json_read j r)
+  members_are_read (member k j ms) ws r =
+      json_is_read j (members_words ms (a_member k ∷ ws)) r ∙ members_are_read ms (a_member k ∷ ws) (json_read j r)
 
 -- words have codes
 pub word_coded : Coded Word
@@ -112,4 +114,6 @@ word_coded = Prim.hlevel codes
 
 -- a value is kept as its words
 pub json_coded : Coded Json
-json_coded = code_by (List Word) (coded_list word_coded) (λ j. json_words j []) (λ ws. top_json (read_words nothing_read ws)) (λ j. ap top_json (json_is_read j [] nothing_read))
+json_coded =
+    code_by (List Word) (coded_list word_coded) (λ j. json_words j []) (λ ws. top_json (read_words nothing_read ws))
+    (λ j. ap top_json (json_is_read j [] nothing_read))

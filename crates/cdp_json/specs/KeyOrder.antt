@@ -7,7 +7,8 @@ use Rattle.std.specs.List.{range_with_len}
 -- x among those in order: before the first whose key is greater
 abbrev pub insert_by : {A : Type 0} → (A → List ℕ) → A → List A → List A
 insert_by key x [] = x ∷ []
-insert_by key x (y ∷ ys) = match_ordering (slice_cmp nat_cmp (key x) (key y)) (x ∷ y ∷ ys) (y ∷ insert_by key x ys) (y ∷ insert_by key x ys)
+insert_by key x (y ∷ ys) =
+    match_ordering (slice_cmp nat_cmp (key x) (key y)) (x ∷ y ∷ ys) (y ∷ insert_by key x ys) (y ∷ insert_by key x ys)
 
 -- all of them in order, put in one after another
 abbrev pub in_order : {A : Type 0} → (A → List ℕ) → List A → List A

@@ -18,7 +18,9 @@ id_member (Some id) = member (codes "id") (number (pos id)) no_members
 
 -- why a command is refused: a `code` and a `message`
 abbrev pub error_value : Refusal → Json
-error_value refusal = object (member (codes "code") (number (code_of refusal)) (member (codes "message") (text (message_of refusal)) no_members))
+error_value refusal =
+    object (member (codes "code") (number (code_of refusal))
+    (member (codes "message") (text (message_of refusal)) no_members))
 
 -- the reply to a command that is refused: an `error`, and the `id` where it was read
 abbrev pub refusal_value : Option ℕ → Refusal → Json
@@ -26,7 +28,8 @@ refusal_value id refusal = object (member (codes "error") (error_value refusal) 
 
 -- an event: its `method` and its `params`
 abbrev pub event_value : List ℕ → Json → Json
-event_value method params = object (member (codes "method") (text (utf16_of method)) (member (codes "params") params no_members))
+event_value method params =
+    object (member (codes "method") (text (utf16_of method)) (member (codes "params") params no_members))
 
 -- ---- the laws
 
@@ -40,4 +43,7 @@ RefusalIsValue = (id : Option ℕ) (refusal : Refusal) → refusal_text id refus
 
 -- an event is the text of its value, for a method in UTF-8
 abbrev pub EventIsValue : Type 0
-EventIsValue = (method : List ℕ) (params : Json) → IsUtf8 method → event_text method params ≡ compact_text (event_value method params)
+EventIsValue =
+    (method : List ℕ) (params : Json)
+    → IsUtf8 method
+    → event_text method params ≡ compact_text (event_value method params)

@@ -18,7 +18,9 @@ id_text (Some id) = codes ",\"id\":" ++ decimal id
 
 -- the beginning of a refusal: `{"error":{"code":..,"message":..}`
 abbrev pub error_text : Refusal → List ℕ
-error_text refusal = codes "{\"error\":{\"code\":" ++ (signed_decimal (code_of refusal) ++ (codes ",\"message\":" ++ (string_text (message_of refusal) ++ codes "}")))
+error_text refusal =
+    codes "{\"error\":{\"code\":" ++
+    (signed_decimal (code_of refusal) ++ (codes ",\"message\":" ++ (string_text (message_of refusal) ++ codes "}")))
 
 -- the reply to a command that is refused: `{"error":{"code":..,"message":..},"id":..}`
 abbrev pub refusal_text : Option ℕ → Refusal → List ℕ
@@ -26,4 +28,5 @@ refusal_text id refusal = error_text refusal ++ (id_text id ++ codes "}")
 
 -- an event: `{"method":..,"params":..}`
 abbrev pub event_text : List ℕ → Json → List ℕ
-event_text method params = codes "{\"method\":" ++ (quoted method ++ (codes ",\"params\":" ++ (compact_text params ++ codes "}")))
+event_text method params =
+    codes "{\"method\":" ++ (quoted method ++ (codes ",\"params\":" ++ (compact_text params ++ codes "}")))

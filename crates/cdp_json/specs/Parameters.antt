@@ -136,7 +136,8 @@ evaluation_from (Some expression) (Some group) (Some flags) =
 
 -- `expression, objectGroup?, silent?, returnByValue?, generatePreview?, throwOnSideEffect?`
 abbrev pub evaluation_of : Data → Option Evaluation
-evaluation_of d = evaluation_from (required text_of (codes "expression") d) (optional text_of (codes "objectGroup") d) (flags_of d)
+evaluation_of d =
+    evaluation_from (required text_of (codes "expression") d) (optional text_of (codes "objectGroup") d) (flags_of d)
 
 -- the parameters of an evaluation
 abbrev pub evaluate_of : Data → Option Params
@@ -165,7 +166,9 @@ properties_from (Some id) (Some own) (Some preview) = Some (params.GetProperties
 
 -- `objectId, ownProperties?, generatePreview?`
 abbrev pub properties_of : Data → Option Params
-properties_of d = properties_from (required text_of (codes "objectId") d) (optional as_bool (codes "ownProperties") d) (optional as_bool (codes "generatePreview") d)
+properties_of d =
+    properties_from (required text_of (codes "objectId") d) (optional as_bool (codes "ownProperties") d)
+    (optional as_bool (codes "generatePreview") d)
 
 -- `objectId`
 abbrev pub release_of : Data → Option Params

@@ -22,7 +22,8 @@ nothing = object_of []
 -- the members of a place: its column, its line and the id of its script
 abbrev pub place_pairs : Place → List Pair
 place_pairs p =
-    (codes "columnNumber", number (pos p.pos.col)) ∷ (codes "lineNumber", number (pos p.pos.line)) ∷ (codes "scriptId", text (decimal p.script)) ∷ []
+    (codes "columnNumber", number (pos p.pos.col)) ∷ (codes "lineNumber", number (pos p.pos.line)) ∷
+    (codes "scriptId", text (decimal p.script)) ∷ []
 
 -- a place as a location
 abbrev pub location : Place → Json

@@ -32,19 +32,24 @@ member_layer m = (m.key, m.value)
 
 -- a value
 unfoldable pub json_view : Json → json.Json
-json_view = fold-Json json.Json json.Items json.Members (List ℕ × json.Json) json_layer list_layer object_layer member_layer
+json_view =
+    fold-Json json.Json json.Items json.Members (List ℕ × json.Json) json_layer list_layer object_layer member_layer
 
 -- the values of a list
 unfoldable pub list_view : JsonList → json.Items
-list_view = fold-JsonList json.Json json.Items json.Members (List ℕ × json.Json) json_layer list_layer object_layer member_layer
+list_view =
+    fold-JsonList json.Json json.Items json.Members (List ℕ × json.Json) json_layer list_layer object_layer member_layer
 
 -- the members of an object
 unfoldable pub object_view : JsonObject → json.Members
-object_view = fold-JsonObject json.Json json.Items json.Members (List ℕ × json.Json) json_layer list_layer object_layer member_layer
+object_view =
+    fold-JsonObject json.Json json.Items json.Members (List ℕ × json.Json)
+    json_layer list_layer object_layer member_layer
 
 -- a member, with its key
 unfoldable pub member_view : Member → List ℕ × json.Json
-member_view = fold-Member json.Json json.Items json.Members (List ℕ × json.Json) json_layer list_layer object_layer member_layer
+member_view =
+    fold-Member json.Json json.Items json.Members (List ℕ × json.Json) json_layer list_layer object_layer member_layer
 
 -- values, in the order of a vector
 abbrev pub items_view : List Json → json.Items

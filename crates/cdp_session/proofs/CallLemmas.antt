@@ -68,53 +68,78 @@ pub behind-more : (x : Session) (all : List Asked) (i : ℕ) (a : Asked) (done n
     → Some (passed.argument_of p) ≡ argument_of x (argument_view (get_or all i a))
     → new ≡ done ++ p ∷ []
     → behind x new (drop (i + 1) all) ≡ behind x done (drop i all)
-behind-more x all i a done new p lt is pushed = behind-next x done new (drop (i + 1) all) (get_or all i a) p is pushed ∙ sym (ap (behind x done) (drop_more all i a lt))
+behind-more x all i a done new p lt is pushed =
+    behind-next x done new (drop (i + 1) all) (get_or all i a) p is pushed
+    ∙ sym (ap (behind x done) (drop_more all i a lt))
 
 -- where none is left, those that were read are all
 pub behind-all : (x : Session) (all : List Asked) (i : ℕ) (done : List Passed)
     → length all ≤ i
     → Some (passed.arguments_of done) ≡ behind x done (drop i all)
-behind-all x all i done le = ap Some (sym (append-nil (passed.arguments_of done))) ∙ sym (ap (behind x done) (drop_all i all le))
+behind-all x all i done le =
+    ap Some (sym (append-nil (passed.arguments_of done))) ∙ sym (ap (behind x done) (drop_all i all le))
 
 -- ---- calls
 
 -- what was prepared for the next address is called as the definition calls it over what was opened
-pub called-from : (w : World) (x : Workspace) (receiver : Value) (arguments : List Argument) (f : FunctionCode) (at : Addr) (p : Prepared) (end : Evaluated) (o n : Opened)
+pub called-from : (w : World) (x : Workspace) (receiver : Value) (arguments : List Argument) (f : FunctionCode)
+    (at : Addr) (p : Prepared) (end : Evaluated) (o n : Opened)
     → o ≡ opened w x → at ≡ next_kept o.behind.scratch → IsPreparedFunction at f p
-    → ((g : FunctionCode) → IsPreparedFunction (next_kept o.behind.scratch) g p → EvaluatesTo (definition o.behind.program o.world o.behind.scratch g receiver arguments) (expression_source g.tree) end o n)
+    → ((g : FunctionCode)
+    → IsPreparedFunction (next_kept o.behind.scratch) g p
+    → EvaluatesTo (definition o.behind.program o.world o.behind.scratch g receiver arguments)
+    (expression_source g.tree) end o n)
     → EvaluatesTo (definition x.program w x.scratch f receiver arguments) (expression_source f.tree) end o n
 called-from w x receiver arguments f at p end o n is place ready says =
-    subst (λ k. EvaluatesTo (definition k.behind.program k.world k.behind.scratch f receiver arguments) (expression_source f.tree) end o n) is
+    subst (λ k. EvaluatesTo (definition k.behind.program k.world k.behind.scratch f receiver arguments)
+    (expression_source f.tree) end o n)
+    is
     (says f (subst (λ b. IsPreparedFunction b f p) place ready))
 
-pub text-called : (s : Situation) (x : Session) (receiver : Value) (arguments : List Argument) (how : Showing) (source : List ℕ) (f : FunctionCode)
+pub text-called : (s : Situation) (x : Session) (receiver : Value) (arguments : List Argument) (how : Showing)
+    (source : List ℕ) (f : FunctionCode)
     → function_of source ≡ Some (expression_view f.tree)
     → f.source ≡ source
     → numbered_made (expression_view f.tree) ≡ expression_source f.tree
-    → outcome_of_answer s x how (expression_source f.tree) (definition x.workspace.program s.standing.world x.workspace.scratch f receiver arguments)
+    → outcome_of_answer s x how (expression_source f.tree)
+    (definition x.workspace.program s.standing.world x.workspace.scratch f receiver arguments)
     ≡ outcome_of_function s x receiver arguments how source (function_of source)
 text-called s x receiver arguments how source f tree same made =
-    let g : List ℕ → Source → Evaluates = λ text m. outcome_of_answer s x how m (evaluate_call x.workspace.program s.standing.world x.workspace.scratch text (source_literals f.tree) m receiver arguments) in
+    let g : List ℕ
+    → Source
+    → Evaluates = λ text m. outcome_of_answer s x how m
+    (evaluate_call x.workspace.program s.standing.world x.workspace.scratch text (source_literals f.tree)
+    m receiver arguments)
+    in
     ap (λ t. g t (expression_source f.tree)) same
     ∙ ap (g source) (sym made)
     ∙ sym (ap (outcome_of_function s x receiver arguments how source) tree)
 
-refused : (s : Situation) (x : Session) (receiver : Value) (arguments : List Argument) (how : Showing) (source : List ℕ) (result : Result Held Fault) (new : Session)
+refused : (s : Situation) (x : Session) (receiver : Value) (arguments : List Argument) (how : Showing) (source : List ℕ)
+    (result : Result Held Fault) (new : Session)
     → function_of source ≡ None
     → Makes result new (row_of (no_expression x))
     → Makes result new (row_of (outcome_of_function s x receiver arguments how source (function_of source)))
-refused s x receiver arguments how source result new none makes = subst (λ o. Makes result new (row_of (outcome_of_function s x receiver arguments how source o))) (sym none) makes
+refused s x receiver arguments how source result new none makes =
+    subst (λ o. Makes result new (row_of (outcome_of_function s x receiver arguments how source o))) (sym none) makes
 
 -- a text that the parser refuses
-pub fault-called : (s : Situation) (x : Session) (receiver : Value) (arguments : List Argument) (how : Showing) (source : List ℕ) (f : ParseFault) (result : Result Held Fault) (new : Session)
+pub fault-called : (s : Situation) (x : Session) (receiver : Value) (arguments : List Argument) (how : Showing)
+    (source : List ℕ) (f : ParseFault) (result : Result Held Fault) (new : Session)
     → UnlessMemory (function_of source ≡ None) f
     → (f ≡ parse_faults.Memory → result ≡ Err faults.Memory)
     → Makes result new (row_of (no_expression x))
     → Makes result new (row_of (outcome_of_function s x receiver arguments how source (function_of source)))
 fault-called s x receiver arguments how source parse_faults.Memory result new none memory makes =
-    subst (λ r. Makes r new (row_of (outcome_of_function s x receiver arguments how source (function_of source)))) (sym (memory refl)) tt
-fault-called s x receiver arguments how source (parse_faults.Token at) result new none memory makes = refused s x receiver arguments how source result new none makes
-fault-called s x receiver arguments how source (parse_faults.Syntax at) result new none memory makes = refused s x receiver arguments how source result new none makes
-fault-called s x receiver arguments how source (parse_faults.TooMany at) result new none memory makes = refused s x receiver arguments how source result new none makes
-fault-called s x receiver arguments how source (parse_faults.TooLong units) result new none memory makes = refused s x receiver arguments how source result new none makes
-fault-called s x receiver arguments how source parse_faults.TooDeep result new none memory makes = refused s x receiver arguments how source result new none makes
+    subst (λ r. Makes r new (row_of (outcome_of_function s x receiver arguments how source (function_of source))))
+    (sym (memory refl)) tt
+fault-called s x receiver arguments how source (parse_faults.Token at) result new none memory makes =
+    refused s x receiver arguments how source result new none makes
+fault-called s x receiver arguments how source (parse_faults.Syntax at) result new none memory makes =
+    refused s x receiver arguments how source result new none makes
+fault-called s x receiver arguments how source (parse_faults.TooMany at) result new none memory makes =
+    refused s x receiver arguments how source result new none makes
+fault-called s x receiver arguments how source (parse_faults.TooLong units) result new none memory makes =
+    refused s x receiver arguments how source result new none makes
+fault-called s x receiver arguments how source parse_faults.TooDeep result new none memory makes =
+    refused s x receiver arguments how source result new none makes

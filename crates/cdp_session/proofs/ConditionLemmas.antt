@@ -32,8 +32,12 @@ parsed_holds : (s : Standing) (w : Workspace) (text : List ℕ) (e : Expression)
     → expression_holds s w e ≡ holds s w text
 unfolding holds
 parsed_holds s w text e p =
-    let f : List ℕ → Source → Bool = λ t m. comes_true s.world (evaluate w.program s.world w.scratch (top_scope s.frames) (top_this s.frames) t (source_literals e.tree) m) in
-    let made : numbered_made (expression_view e.tree) ≡ expression_source e.tree = numbered_same e.tree (length e.spans) p.numbered in
+    let f : List ℕ
+    → Source
+    → Bool = λ t m. comes_true s.world
+    (evaluate w.program s.world w.scratch (top_scope s.frames) (top_this s.frames) t (source_literals e.tree) m) in
+    let made : numbered_made (expression_view e.tree) ≡ expression_source e.tree = numbered_same e.tree (length e.spans)
+    p.numbered in
     ap (λ t. f t (expression_source e.tree)) p.kept
     ∙ ap (f text) (sym made)
     ∙ sym (ap (tree_holds s w text) p.tree)
@@ -60,22 +64,34 @@ none-holds s w text now o p is same = none_holds s w text (subst (IsParsed text)
 -- ---- evaluations
 
 -- what was opened, was evaluated in the top frame and is true exactly where the definition's answer is
-pub holds-at : (s : Standing) (w : Workspace) (fs : List ShownFrame) (scope : Addr) (this : Value) (ex : Expression) (at : Addr) (p : Prepared) (end : Evaluated) (o n : Opened) (told : Bool)
+pub holds-at : (s : Standing) (w : Workspace) (fs : List ShownFrame) (scope : Addr) (this : Value) (ex : Expression)
+    (at : Addr) (p : Prepared) (end : Evaluated) (o n : Opened) (told : Bool)
     → o ≡ opened s.world w → at ≡ next_kept o.behind.scratch → IsPrepared at ex p
-    → ((e : Expression) → IsPrepared (next_kept o.behind.scratch) e p → EvaluatesTo (definition o.behind.program o.world o.behind.scratch scope this e) (expression_source e.tree) end o n)
-    → ((base : World) (x : Workspace) (a : Answer) (e : Source) → EvaluatesTo a e end (opened base x) n → told ≡ comes_true base a)
+    → ((e : Expression)
+    → IsPrepared (next_kept o.behind.scratch) e p
+    → EvaluatesTo (definition o.behind.program o.world o.behind.scratch scope this e) (expression_source e.tree)
+    end o n)
+    → ((base : World) (x : Workspace) (a : Answer) (e : Source)
+    → EvaluatesTo a e end (opened base x) n
+    → told ≡ comes_true base a)
     → fs ≡ s.frames → scope ≡ top_scope fs → this ≡ top_this fs → told ≡ expression_holds s w ex
 holds-at s w fs scope this ex at p end o n told is place ready says value frames scope_is this_is =
     let a : Answer = definition w.program s.world w.scratch scope this ex in
-    let to : EvaluatesTo a (expression_source ex.tree) end o n = evaluated-from s.world w scope this ex at p end o n is place ready says in
+    let to : EvaluatesTo a (expression_source ex.tree)
+    end o n = evaluated-from s.world w scope this ex at p end o n is place ready says in
     value s.world w a (expression_source ex.tree) (subst (λ k. EvaluatesTo a (expression_source ex.tree) end k n) is to)
     ∙ ap (λ k. comes_true s.world (definition w.program s.world w.scratch k this ex)) (scope_is ∙ ap top_scope frames)
-    ∙ ap (λ k. comes_true s.world (definition w.program s.world w.scratch (top_scope s.frames) k ex)) (this_is ∙ ap top_this frames)
+    ∙ ap (λ k. comes_true s.world (definition w.program s.world w.scratch (top_scope s.frames) k ex))
+    (this_is ∙ ap top_this frames)
 
 -- and as it was opened it is forgotten
-pub forgets : (s : Standing) (w : Workspace) (scope : Addr) (this : Value) (ex : Expression) (at : Addr) (p : Prepared) (end : Evaluated) (o n : Opened)
+pub forgets : (s : Standing) (w : Workspace) (scope : Addr) (this : Value) (ex : Expression) (at : Addr) (p : Prepared)
+    (end : Evaluated) (o n : Opened)
     → o ≡ opened s.world w → at ≡ next_kept o.behind.scratch → IsPrepared at ex p
-    → ((e : Expression) → IsPrepared (next_kept o.behind.scratch) e p → EvaluatesTo (definition o.behind.program o.world o.behind.scratch scope this e) (expression_source e.tree) end o n)
+    → ((e : Expression)
+    → IsPrepared (next_kept o.behind.scratch) e p
+    → EvaluatesTo (definition o.behind.program o.world o.behind.scratch scope this e) (expression_source e.tree)
+    end o n)
     → is_memory end ≡ false → n.before ≡ w
 forgets s w scope this ex at p end o n is place ready says some =
     let to = evaluated-from s.world w scope this ex at p end o n is place ready says in

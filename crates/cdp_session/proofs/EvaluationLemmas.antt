@@ -60,30 +60,46 @@ again x o n w is s = ap (λ k. with_workspace k (with_workspace no_workspace x))
 -- so it was opened as it is now opened anew
 anew : (x : Session) (o n : Opened) (w : World) → o ≡ opened w x.workspace → Stays o n → o ≡ opened n.world n.before
 anew x o n w is s =
-    is ∙ sym (ap (λ k. opened k n.before) (s.world ∙ ap (λ k. k.world) is) ∙ ap (λ k. opened w k) (s.before ∙ ap (λ k. k.before) is))
+    is
+    ∙ sym (ap (λ k. opened k n.before) (s.world ∙ ap (λ k. k.world) is)
+    ∙ ap (λ k. opened w k) (s.before ∙ ap (λ k. k.before) is))
 
-pub made-answer : (s : Situation) (x : Session) (how : Showing) (e : Source) (a : Answer) (end : Evaluated) (o n : Opened) (result : Result Held Fault) (new : Session)
+pub made-answer : (s : Situation) (x : Session) (how : Showing) (e : Source) (a : Answer) (end : Evaluated)
+    (o n : Opened) (result : Result Held Fault) (new : Session)
     → o ≡ opened s.standing.world x.workspace → is_memory end ≡ false → EvaluatesTo a e end o n
-    → (s.standing.world ≡ n.world → EvaluatesTo a e end (opened n.world n.before) n → Makes result new (row_of (outcome_of_answer s (with_workspace n.before (with_workspace no_workspace x)) how e a)))
+    → (s.standing.world ≡ n.world
+    → EvaluatesTo a e end (opened n.world n.before) n
+    → Makes result new
+    (row_of (outcome_of_answer s (with_workspace n.before (with_workspace no_workspace x)) how e a)))
     → Makes result new (row_of (outcome_of_answer s x how e a))
 made-answer s x how e a end o n result new is some to makes =
     let there : Stays o n = stays a e end o n some to in
     let world : s.standing.world ≡ n.world = sym (there.world ∙ ap (λ k. k.world) is) in
-    let from : EvaluatesTo a e end (opened n.world n.before) n = subst (λ k. EvaluatesTo a e end k n) (anew x o n s.standing.world is there) to in
-    subst (λ y. Makes result new (row_of (outcome_of_answer s y how e a))) (again x o n s.standing.world is there) (makes world from)
+    let from : EvaluatesTo a e end (opened n.world n.before) n = subst (λ k. EvaluatesTo a e end k n)
+    (anew x o n s.standing.world is there) to in
+    subst (λ y. Makes result new (row_of (outcome_of_answer s y how e a))) (again x o n s.standing.world is there)
+    (makes world from)
 
-pub kept-answer : (x : Session) (w : World) (e : Source) (a : Answer) (end : Evaluated) (o n : Opened) (result : Result Held Fault) (new : Session)
+pub kept-answer : (x : Session) (w : World) (e : Source) (a : Answer) (end : Evaluated) (o n : Opened)
+    (result : Result Held Fault) (new : Session)
     → o ≡ opened w x.workspace → is_memory end ≡ false → EvaluatesTo a e end o n
     → KeepsIfRefused result (with_workspace n.before (with_workspace no_workspace x)) new → KeepsIfRefused result x new
-kept-answer x w e a end o n result new is some to keeps = subst (λ y. KeepsIfRefused result y new) (again x o n w is (stays a e end o n some to)) keeps
+kept-answer x w e a end o n result new is some to keeps =
+    subst (λ y. KeepsIfRefused result y new) (again x o n w is (stays a e end o n some to)) keeps
 
 -- what was prepared for the next address is evaluated as the definition evaluates it over what was opened
-pub evaluated-from : (w : World) (x : Workspace) (scope : Addr) (receiver : Value) (ex : Expression) (at : Addr) (p : Prepared) (end : Evaluated) (o n : Opened)
+pub evaluated-from : (w : World) (x : Workspace) (scope : Addr) (receiver : Value) (ex : Expression) (at : Addr)
+    (p : Prepared) (end : Evaluated) (o n : Opened)
     → o ≡ opened w x → at ≡ next_kept o.behind.scratch → IsPrepared at ex p
-    → ((e : Expression) → IsPrepared (next_kept o.behind.scratch) e p → EvaluatesTo (definition o.behind.program o.world o.behind.scratch scope receiver e) (expression_source e.tree) end o n)
+    → ((e : Expression)
+    → IsPrepared (next_kept o.behind.scratch) e p
+    → EvaluatesTo (definition o.behind.program o.world o.behind.scratch scope receiver e) (expression_source e.tree)
+    end o n)
     → EvaluatesTo (definition x.program w x.scratch scope receiver ex) (expression_source ex.tree) end o n
 evaluated-from w x scope receiver ex at p end o n is place ready says =
-    subst (λ k. EvaluatesTo (definition k.behind.program k.world k.behind.scratch scope receiver ex) (expression_source ex.tree) end o n) is
+    subst (λ k. EvaluatesTo (definition k.behind.program k.world k.behind.scratch scope receiver ex)
+    (expression_source ex.tree) end o n)
+    is
     (says ex (subst (λ b. IsPrepared b ex p) place ready))
 
 -- ---- texts
@@ -94,34 +110,50 @@ pub no-answer : (s : Situation) (x : Session) (scope : Addr) (receiver : Value) 
     → no_expression x ≡ outcome_of_tree s x scope receiver how source (expression_of source)
 no-answer s x scope receiver how source none = sym (ap (outcome_of_tree s x scope receiver how source) none)
 
-pub text-answer : (s : Situation) (x : Session) (scope : Addr) (receiver : Value) (how : Showing) (source : List ℕ) (ex : Expression)
+pub text-answer : (s : Situation) (x : Session) (scope : Addr) (receiver : Value) (how : Showing) (source : List ℕ)
+    (ex : Expression)
     → expression_of source ≡ Some (expression_view ex.tree)
     → ex.source ≡ source
     → numbered_made (expression_view ex.tree) ≡ expression_source ex.tree
-    → outcome_of_answer s x how (expression_source ex.tree) (definition x.workspace.program s.standing.world x.workspace.scratch scope receiver ex)
+    → outcome_of_answer s x how (expression_source ex.tree)
+    (definition x.workspace.program s.standing.world x.workspace.scratch scope receiver ex)
     ≡ outcome_of_tree s x scope receiver how source (expression_of source)
 text-answer s x scope receiver how source ex tree same made =
-    let f : List ℕ → Source → Evaluates = λ text m. outcome_of_answer s x how m (evaluate x.workspace.program s.standing.world x.workspace.scratch scope receiver text (source_literals ex.tree) m) in
+    let f : List ℕ
+    → Source
+    → Evaluates = λ text m. outcome_of_answer s x how m
+    (evaluate x.workspace.program s.standing.world x.workspace.scratch scope receiver text (source_literals ex.tree)
+    m)
+    in
     ap (λ t. f t (expression_source ex.tree)) same
     ∙ ap (f source) (sym made)
     ∙ sym (ap (outcome_of_tree s x scope receiver how source) tree)
 
-refused : (s : Situation) (x : Session) (scope : Addr) (receiver : Value) (how : Showing) (source : List ℕ) (result : Result Held Fault) (new : Session)
+refused : (s : Situation) (x : Session) (scope : Addr) (receiver : Value) (how : Showing) (source : List ℕ)
+    (result : Result Held Fault) (new : Session)
     → expression_of source ≡ None
     → Makes result new (row_of (no_expression x))
     → Makes result new (row_of (outcome_of_tree s x scope receiver how source (expression_of source)))
-refused s x scope receiver how source result new none makes = subst (λ y. Makes result new (row_of y)) (no-answer s x scope receiver how source none) makes
+refused s x scope receiver how source result new none makes =
+    subst (λ y. Makes result new (row_of y)) (no-answer s x scope receiver how source none) makes
 
 -- a text that the parser refuses
-pub fault-answer : (s : Situation) (x : Session) (scope : Addr) (receiver : Value) (how : Showing) (source : List ℕ) (f : ParseFault) (result : Result Held Fault) (new : Session)
+pub fault-answer : (s : Situation) (x : Session) (scope : Addr) (receiver : Value) (how : Showing) (source : List ℕ)
+    (f : ParseFault) (result : Result Held Fault) (new : Session)
     → UnlessMemory (expression_of source ≡ None) f
     → (f ≡ parse_faults.Memory → result ≡ Err faults.Memory)
     → Makes result new (row_of (no_expression x))
     → Makes result new (row_of (outcome_of_tree s x scope receiver how source (expression_of source)))
 fault-answer s x scope receiver how source parse_faults.Memory result new none memory makes =
-    subst (λ r. Makes r new (row_of (outcome_of_tree s x scope receiver how source (expression_of source)))) (sym (memory refl)) tt
-fault-answer s x scope receiver how source (parse_faults.Token at) result new none memory makes = refused s x scope receiver how source result new none makes
-fault-answer s x scope receiver how source (parse_faults.Syntax at) result new none memory makes = refused s x scope receiver how source result new none makes
-fault-answer s x scope receiver how source (parse_faults.TooMany at) result new none memory makes = refused s x scope receiver how source result new none makes
-fault-answer s x scope receiver how source (parse_faults.TooLong units) result new none memory makes = refused s x scope receiver how source result new none makes
-fault-answer s x scope receiver how source parse_faults.TooDeep result new none memory makes = refused s x scope receiver how source result new none makes
+    subst (λ r. Makes r new (row_of (outcome_of_tree s x scope receiver how source (expression_of source))))
+    (sym (memory refl)) tt
+fault-answer s x scope receiver how source (parse_faults.Token at) result new none memory makes =
+    refused s x scope receiver how source result new none makes
+fault-answer s x scope receiver how source (parse_faults.Syntax at) result new none memory makes =
+    refused s x scope receiver how source result new none makes
+fault-answer s x scope receiver how source (parse_faults.TooMany at) result new none memory makes =
+    refused s x scope receiver how source result new none makes
+fault-answer s x scope receiver how source (parse_faults.TooLong units) result new none memory makes =
+    refused s x scope receiver how source result new none makes
+fault-answer s x scope receiver how source parse_faults.TooDeep result new none memory makes =
+    refused s x scope receiver how source result new none makes

@@ -8,4 +8,5 @@ use Rattle.locations.specs.Order.{IsAscending}
 use Rattle.locations.proofs.OrderLemmas.{ascending_below}
 
 pub located_ascending : (spots : List Spot) (s : Script) → spots ≡ break_locations s → IsAscending spots
-located_ascending spots s is = subst IsAscending (sym is) (ascending_below s.source (kind_at s.spans (script_marks s)) (suc (length s.source)))
+located_ascending spots s is =
+    subst IsAscending (sym is) (ascending_below s.source (kind_at s.spans (script_marks s)) (suc (length s.source)))

@@ -55,7 +55,8 @@ continue_keeps : (x : Session) (o : Option Place) → KeepsOutbox (continue_at x
 continue_keeps x None = tt
 continue_keeps x (Some place) = refl
 
-adds_keeps : (o : Option AddFault) (x : Session) (id : List ℕ) (condition : Option (List ℕ)) (places : List Place) (result : Json)
+adds_keeps : (o : Option AddFault) (x : Session) (id : List ℕ) (condition : Option (List ℕ)) (places : List Place)
+    (result : Json)
     → KeepsOutbox (adds o x id condition places result) x
 adds_keeps None x id condition places result = refl
 adds_keeps (Some fault) x id condition places result = tt
@@ -103,13 +104,18 @@ answered_keeps result leaves x y (Some m) left same = left (with_handles m.handl
 
 answer_keeps : (s : Situation) (x : Session) (how : Showing) (e : Source) (a : Answer)
     → LeavesOutbox (outcome_of_answer s x how e a) x
-answer_keeps s x how e (a_result v w) = answered_keeps value_result as_it_is x (behind_value x how e v w) (described s x how v w) (λ z. refl) (kept_outbox (keeps how v x.handles) e w x)
-answer_keeps s x how e (a_throw v w) = answered_keeps (thrown_result (with_exception x).exceptions) with_exception x (behind_value x how e v w) (described s x how v w) (λ z. refl) (kept_outbox (keeps how v x.handles) e w x)
+answer_keeps s x how e (a_result v w) =
+    answered_keeps value_result as_it_is x (behind_value x how e v w) (described s x how v w) (λ z. refl)
+    (kept_outbox (keeps how v x.handles) e w x)
+answer_keeps s x how e (a_throw v w) =
+    answered_keeps (thrown_result (with_exception x).exceptions) with_exception x (behind_value x how e v w)
+    (described s x how v w) (λ z. refl) (kept_outbox (keeps how v x.handles) e w x)
 answer_keeps s x how e an_effect = refl
 answer_keeps s x how e (is_full_of what) = tt
 answer_keeps s x how e spent = tt
 
-tree_keeps : (s : Situation) (x : Session) (scope : Addr) (receiver : Value) (how : Showing) (source : List ℕ) (o : Option Expression)
+tree_keeps : (s : Situation) (x : Session) (scope : Addr) (receiver : Value) (how : Showing) (source : List ℕ)
+    (o : Option Expression)
     → LeavesOutbox (outcome_of_tree s x scope receiver how source o) x
 tree_keeps s x scope receiver how source None = refl
 tree_keeps s x scope receiver how source (Some e) = answer_keeps s x how _ _
@@ -122,23 +128,30 @@ asked_keeps s x false e same = tt
 
 evaluated_keeps : (s : Situation) (x : Session) (scope : Addr) (receiver : Value) (ev : Evaluation)
     → LeavesOutbox (evaluates_in s x scope receiver ev) x
-evaluated_keeps s x scope receiver ev = asked_keeps s x ev.throw_on_side_effect _ (tree_keeps s x scope receiver (showing_of ev) ev.expression (expression_of ev.expression))
+evaluated_keeps s x scope receiver ev =
+    asked_keeps s x ev.throw_on_side_effect _
+    (tree_keeps s x scope receiver (showing_of ev) ev.expression (expression_of ev.expression))
 
 at_frame_keeps : (s : Situation) (x : Session) (o : Option ShownFrame) (ev : Evaluation)
     → LeavesOutbox (evaluates_at s x o ev) x
 at_frame_keeps s x None ev = tt
 at_frame_keeps s x (Some f) ev = evaluated_keeps s x _ _ ev
 
-function_keeps : (s : Situation) (x : Session) (receiver : Value) (arguments : List Argument) (how : Showing) (source : List ℕ) (o : Option Expression)
+function_keeps : (s : Situation) (x : Session) (receiver : Value) (arguments : List Argument) (how : Showing)
+    (source : List ℕ) (o : Option Expression)
     → LeavesOutbox (outcome_of_function s x receiver arguments how source o) x
 function_keeps s x receiver arguments how source None = refl
 function_keeps s x receiver arguments how source (Some f) = answer_keeps s x how _ _
 
-called_keeps : (s : Situation) (x : Session) (call : FunctionCall) (receiver : Option Value) (arguments : Option (List Argument))
+called_keeps : (s : Situation) (x : Session) (call : FunctionCall) (receiver : Option Value)
+    (arguments : Option (List Argument))
     → LeavesOutbox (calls_given s x call receiver arguments) x
 called_keeps s x call None arguments = tt
 called_keeps s x call (Some receiver) None = tt
-called_keeps s x call (Some receiver) (Some arguments) = asked_keeps s x call.throw_on_side_effect _ (function_keeps s x receiver arguments (showing_for x call) call.function_declaration (function_of call.function_declaration))
+called_keeps s x call (Some receiver) (Some arguments) =
+    asked_keeps s x call.throw_on_side_effect _
+    (function_keeps s x receiver arguments (showing_for x call) call.function_declaration
+    (function_of call.function_declaration))
 
 row_keeps : (s : Situation) (x : Session) (ps : Params) → KeepsOutbox (row s x ps) x
 row_keeps s x params.DebuggerEnable = refl
@@ -148,22 +161,30 @@ row_keeps s x params.Resume = refl
 row_keeps s x params.StepInto = step_keeps _ s.paused x
 row_keeps s x params.StepOver = step_keeps _ s.paused x
 row_keeps s x params.StepOut = step_keeps _ s.paused x
-row_keeps s x (params.ContinueToLocation at) = script_keeps (script_of at.script_id s.scripts) at.script_id _ x (λ script. continue_keeps x _)
+row_keeps s x (params.ContinueToLocation at) =
+    script_keeps (script_of at.script_id s.scripts) at.script_id _ x (λ script. continue_keeps x _)
 row_keeps s x (params.SetBreakpointByUrl url p condition) = adds_keeps _ x _ condition _ _
-row_keeps s x (params.SetBreakpoint at condition) = script_keeps (script_of at.script_id s.scripts) at.script_id _ x (λ script. adds_at_keeps x _ condition _)
+row_keeps s x (params.SetBreakpoint at condition) =
+    script_keeps (script_of at.script_id s.scripts) at.script_id _ x (λ script. adds_at_keeps x _ condition _)
 row_keeps s x (params.RemoveBreakpoint id) = refl
 row_keeps s x (params.SetBreakpointsActive active) = refl
 row_keeps s x (params.SetSkipAllPauses skip) = refl
 row_keeps s x (params.SetPauseOnExceptions state) = refl
 row_keeps s x params.SetAsyncCallStackDepth = refl
-row_keeps s x (params.GetPossibleBreakpoints start end) = script_keeps (script_of start.script_id s.scripts) start.script_id _ x (λ script. refl)
+row_keeps s x (params.GetPossibleBreakpoints start end) =
+    script_keeps (script_of start.script_id s.scripts) start.script_id _ x (λ script. refl)
 row_keeps s x (params.GetScriptSource id) = script_keeps (script_of id s.scripts) id _ x (λ script. refl)
 row_keeps s x (params.GetProperties id own preview) = properties_keep s x preview (handle_of x id)
 row_keeps s x (params.ReleaseObject id) = release_keeps x (handle_of x id)
 row_keeps s x (params.ReleaseObjectGroup group) = refl
-row_keeps s x (params.Evaluate evaluation) = evaluates_keep x (evaluates s x evaluation) (evaluated_keeps s x _ _ evaluation)
-row_keeps s x (params.EvaluateOnCallFrame id evaluation) = evaluates_keep x (evaluates_at s x (frame_of s x s.paused id) evaluation) (at_frame_keeps s x (frame_of s x s.paused id) evaluation)
-row_keeps s x (params.CallFunctionOn call) = evaluates_keep x (calls s x call) (called_keeps s x call (receiver_of x call.object_id) (arguments_of x call.arguments))
+row_keeps s x (params.Evaluate evaluation) =
+    evaluates_keep x (evaluates s x evaluation) (evaluated_keeps s x _ _ evaluation)
+row_keeps s x (params.EvaluateOnCallFrame id evaluation) =
+    evaluates_keep x (evaluates_at s x (frame_of s x s.paused id) evaluation)
+    (at_frame_keeps s x (frame_of s x s.paused id) evaluation)
+row_keeps s x (params.CallFunctionOn call) =
+    evaluates_keep x (calls s x call)
+    (called_keeps s x call (receiver_of x call.object_id) (arguments_of x call.arguments))
 row_keeps s x params.RuntimeEnable = refl
 row_keeps s x params.RuntimeDisable = refl
 row_keeps s x params.GlobalLexicalScopeNames = refl
@@ -183,7 +204,8 @@ by_row id (Does done) x same = ap (λ texts. texts ++ answer_texts (IsDone id do
 
 for_reading : (s : Situation) (x : Session) (r : Reading)
     → (answer_by x (outcome_for s x r)).session.outbox ≡ x.outbox ++ answer_texts (outcome_for s x r)
-for_reading s x (readings.Command id method ps) = by_row id (comes_to s x ps) x (comes_keeps (refusal_of s x ps) (row s x ps) x (row_keeps s x ps))
+for_reading s x (readings.Command id method ps) =
+    by_row id (comes_to s x ps) x (comes_keeps (refusal_of s x ps) (row s x ps) x (row_keeps s x ps))
 for_reading s x (readings.Refused id refusal) = refl
 for_reading s x readings.Memory = refl
 

@@ -114,8 +114,12 @@ room-few texts bytes size text is few sized =
     let e : bytes_of all ≡ bytes_of texts + (length text + 0) = bytes-append texts (text ∷ []) in
     let f = is.counted in
     let low = bytes-below texts bytes is in
-    let same : nat_le size (most_bytes - bytes) ≡ nat_le (bytes_of all) most_bytes = le-same size (most_bytes - bytes) (bytes_of all) most_bytes (λ a. omega (arith, a, e, f, low, sized)) (λ a. omega (arith, a, e, f, low, sized)) in
-    room_by (nat_le (length all) most_texts) (nat_le size (most_bytes - bytes)) (fits all) (ap (λ b. nat_le (length all) most_texts && b) (sym same)) (le-leb (length all) most_texts (omega (arith, n, few)))
+    let same : nat_le size (most_bytes - bytes) ≡ nat_le (bytes_of all) most_bytes = le-same size (most_bytes - bytes)
+    (bytes_of all) most_bytes (λ a. omega (arith, a, e, f, low, sized)) (λ a. omega (arith, a, e, f, low, sized))
+    in
+    room_by (nat_le (length all) most_texts) (nat_le size (most_bytes - bytes)) (fits all)
+    (ap (λ b. nat_le (length all) most_texts && b) (sym same))
+    (le-leb (length all) most_texts (omega (arith, n, few)))
 
 -- one more than there may be doesn't
 pub room-full : (texts : List (List ℕ)) (text : List ℕ) (b : Bool)
@@ -126,7 +130,8 @@ unfolding fits
 room-full texts text b full many =
     let all : List (List ℕ) = texts ++ text ∷ [] in
     let n = length-append texts (text ∷ []) in
-    full ∙ ap (λ c. c && nat_le (bytes_of all) most_bytes) (sym (lt-nleb most_texts (length all) (omega (arith, n, many))))
+    full
+    ∙ ap (λ c. c && nat_le (bytes_of all) most_bytes) (sym (lt-nleb most_texts (length all) (omega (arith, n, many))))
 
 -- the same of texts that begin with these
 pub unfit-as : (xs ys all : List (List ℕ)) → all ≡ xs ++ ys → fits xs ≡ false → fits all ≡ false

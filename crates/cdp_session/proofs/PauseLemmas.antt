@@ -7,4 +7,7 @@ use Rattle.cdp_session.specs.Results.{paused_text}
 pub told-as : (t : List ℕ) (frames fs : List Json) (thrown ds : List Pair) (hits : List (List ℕ)) (reason r : List ℕ)
     → t ≡ paused_text frames thrown hits reason → frames ≡ fs → thrown ≡ ds → reason ≡ r → t ≡ paused_text fs ds hits r
 told-as t frames fs thrown ds hits reason r is first second third =
-    is ∙ ap (λ k. paused_text k thrown hits reason) first ∙ ap (λ k. paused_text fs k hits reason) second ∙ ap (λ k. paused_text fs ds hits k) third
+    is
+    ∙ ap (λ k. paused_text k thrown hits reason) first
+    ∙ ap (λ k. paused_text fs k hits reason) second
+    ∙ ap (λ k. paused_text fs ds hits k) third

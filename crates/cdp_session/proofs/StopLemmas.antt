@@ -41,10 +41,12 @@ fewer : (may hit : Bool) (r : Rules) (a : Arrival)
     → (may ≡ false → hit ≡ false)
     → is_some (first_cause r a may) ≡ false
     → is_some (first_cause r a hit) ≡ false
-fewer true hit r a less never = without_hit (not r.enabled || r.skip) (stops_at_raise r.exceptions a.raised) hit r a a.place never
+fewer true hit r a less never =
+    without_hit (not r.enabled || r.skip) (stops_at_raise r.exceptions a.raised) hit r a a.place never
 fewer false hit r a less never = ap (λ b. is_some (first_cause r a b)) (less refl) ∙ never
 
 -- a session that may name no stop names none, however the program stands
 pub never-causes : (s : Standing) (a : Arrival) (x : Session) → may_name a x ≡ false → is_some (cause_of s a x) ≡ false
 never-causes s a x never =
-    fewer (may_be_hit a.place x.breakpoints) (is_some_hit (hits s x.workspace x.breakpoints a.place)) x.rules a (none-anywhere s x.workspace a.place x.breakpoints) never
+    fewer (may_be_hit a.place x.breakpoints) (is_some_hit (hits s x.workspace x.breakpoints a.place)) x.rules a
+    (none-anywhere s x.workspace a.place x.breakpoints) never

@@ -70,14 +70,16 @@ group_for x None receiver = receiver_group x receiver
 
 -- how the value is to be described
 abbrev pub showing_for : Session → FunctionCall → Showing
-showing_for x call = record { group = group_for x call.object_group call.object_id; by_value = call.return_by_value; detail = detail_of call.generate_preview }
+showing_for x call =
+    record { group = group_for x call.object_group call.object_id; by_value = call.return_by_value; detail = detail_of call.generate_preview }
 
 -- ---- outcomes
 
 -- the answer to the call of a text, which is a function of this tree
 abbrev pub answer_to : Situation → Session → Value → List Argument → List ℕ → Expression → Answer
 answer_to s x receiver arguments source f =
-    evaluate_call x.workspace.program s.standing.world x.workspace.scratch source (expression_literals f) (numbered_made f) receiver arguments
+    evaluate_call x.workspace.program s.standing.world x.workspace.scratch source (expression_literals f)
+    (numbered_made f) receiver arguments
 
 -- of a text, by its tree, if it is a function
 abbrev pub outcome_of_function : Situation
@@ -89,13 +91,15 @@ abbrev pub outcome_of_function : Situation
     → Option Expression
     → Evaluates
 outcome_of_function s x receiver arguments how source None = no_expression x
-outcome_of_function s x receiver arguments how source (Some f) = outcome_of_answer s x how (numbered_made f) (answer_to s x receiver arguments source f)
+outcome_of_function s x receiver arguments how source (Some f) =
+    outcome_of_answer s x how (numbered_made f) (answer_to s x receiver arguments source f)
 
 -- a call is asked to have no effect, or it is refused
 abbrev pub calls_with : Situation → Session → FunctionCall → Value → List Argument → Evaluates
 calls_with s x call receiver arguments =
     if call.throw_on_side_effect
-    then outcome_of_function s x receiver arguments (showing_for x call) call.function_declaration (function_of call.function_declaration)
+    then outcome_of_function s x receiver arguments (showing_for x call) call.function_declaration
+    (function_of call.function_declaration)
     else Stops refusals.NeedsNoSideEffect
 
 -- of a `this` and arguments, where the session holds their objects

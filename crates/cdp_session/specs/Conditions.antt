@@ -48,11 +48,14 @@ comes_true base answer = false
 
 -- the answer of a text's evaluation in the top frame, which is an expression of this tree
 abbrev pub answer_at_top : Standing → Workspace → List ℕ → trees.Expression → Answer
-answer_at_top s w source e = evaluate w.program s.world w.scratch (top_scope s.frames) (top_this s.frames) source (expression_literals e) (numbered_made e)
+answer_at_top s w source e =
+    evaluate w.program s.world w.scratch (top_scope s.frames) (top_this s.frames) source (expression_literals e)
+    (numbered_made e)
 
 -- the same of an expression that was parsed
 abbrev pub expression_holds : Standing → Workspace → Expression → Bool
-expression_holds s w e = comes_true s.world (evaluate_expression w.program s.world w.scratch (top_scope s.frames) (top_this s.frames) e)
+expression_holds s w e =
+    comes_true s.world (evaluate_expression w.program s.world w.scratch (top_scope s.frames) (top_this s.frames) e)
 
 -- by the tree of its text: a text that is no expression never holds
 abbrev pub tree_holds : Standing → Workspace → List ℕ → Option trees.Expression → Bool

@@ -48,7 +48,8 @@ values_told s values x = values_made (sight_of s x) values x.handles
 
 -- the session is told, and holds the objects that were named
 abbrev pub print_told : Situation → List Value → ℕ → Session → Session
-print_told s values moment x = sent (print_text (values_told s values x).made moment ∷ []) (with_handles (values_told s values x).handles x)
+print_told s values moment x =
+    sent (print_text (values_told s values x).made moment ∷ []) (with_handles (values_told s values x).handles x)
 
 -- one that has the domain Runtime enabled
 abbrev pub printed : Situation → List Value → ℕ → Session → Session

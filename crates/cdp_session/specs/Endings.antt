@@ -41,7 +41,8 @@ throw_details place exception id url = object_of (throw_pairs place exception id
 
 -- what is told of a throw at a moment
 abbrev pub throw_params : Json → ℕ → Json
-throw_params details moment = object_of ((codes "exceptionDetails", details) ∷ (codes "timestamp", number (pos moment)) ∷ [])
+throw_params details moment =
+    object_of ((codes "exceptionDetails", details) ∷ (codes "timestamp", number (pos moment)) ∷ [])
 
 -- the event of a throw
 abbrev pub throw_text : Json → ℕ → List ℕ
@@ -65,17 +66,20 @@ exception_told s v x = value_made (sight_of s x) v x.handles
 
 -- what the session is told of the throw; it is one exception more
 abbrev pub details_told : Situation → Value → Place → Session → Json
-details_told s v place x = throw_details place (exception_told s v x).made (with_exception x).exceptions (url_at s.scripts place)
+details_told s v place x =
+    throw_details place (exception_told s v x).made (with_exception x).exceptions (url_at s.scripts place)
 
 -- the event of the throw, with the objects that the session holds behind it
 abbrev pub throw_told : Situation → Value → Place → ℕ → Session → Made (List ℕ)
-throw_told s v place moment x = record { made = throw_text (details_told s v place x) moment; handles = (exception_told s v x).handles }
+throw_told s v place moment x =
+    record { made = throw_text (details_told s v place x) moment; handles = (exception_told s v x).handles }
 
 -- the session is told of the throw that ended the run, if one did
 abbrev pub ending_told : Situation → Ending → ℕ → Session → Session
 ending_told s endings.Finished moment x = x
 ending_told s (endings.Threw v place) moment x =
-    sent ((throw_told s v place moment x).made ∷ []) (with_exception (with_handles (throw_told s v place moment x).handles x))
+    sent ((throw_told s v place moment x).made ∷ [])
+    (with_exception (with_handles (throw_told s v place moment x).handles x))
 
 -- then that its context is no more
 abbrev pub end_told : Situation → Ending → ℕ → Session → Session

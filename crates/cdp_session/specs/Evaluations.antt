@@ -66,15 +66,20 @@ details_result says described = object_of ((codes "exceptionDetails", says) ∷ 
 
 -- a throw: its value is described once, and stands in both places
 abbrev pub thrown_result : ℕ → Json → Json
-thrown_result id described = details_result (details ((codes "exception", described) ∷ []) id (codes "Uncaught")) described
+thrown_result id described =
+    details_result (details ((codes "exception", described) ∷ []) id (codes "Uncaught")) described
 
 -- what would have had an effect
 abbrev pub effect_object : Json
-effect_object = object_of (object_pairs (codes "EvalError") (codes "EvalError: Possible side-effect in debug-evaluate") (subtyped (codes "error")) (codes "object"))
+effect_object =
+    object_of
+    (object_pairs (codes "EvalError") (codes "EvalError: Possible side-effect in debug-evaluate")
+    (subtyped (codes "error")) (codes "object"))
 
 -- a text that is no expression
 abbrev pub syntax_result : ℕ → Json
-syntax_result id = details_result (details [] id (codes "Uncaught SyntaxError: Unexpected token")) (object_of undefined_pairs)
+syntax_result id =
+    details_result (details [] id (codes "Uncaught SyntaxError: Unexpected token")) (object_of undefined_pairs)
 
 -- ---- what is kept
 
@@ -85,7 +90,8 @@ detail_of false = previews.Plain
 
 -- how the value of an evaluation is to be described
 abbrev pub showing_of : Evaluation → Showing
-showing_of ev = record { group = ev.object_group; by_value = ev.return_by_value; detail = detail_of ev.generate_preview }
+showing_of ev =
+    record { group = ev.object_group; by_value = ev.return_by_value; detail = detail_of ev.generate_preview }
 
 -- whether a reply that describes a value makes a handle on a cell of the session's: on an object there, unless as many handles
 -- are held as may be
@@ -113,7 +119,8 @@ pub data Evaluates : Type 0 where
 -- what values are described to the session by: the program's cells, and these of its evaluations, whose functions are parts of
 -- the texts that were evaluated
 abbrev pub sight_with : Situation → Session → ScratchSpace → Sight
-sight_with s x scratch = record { node_text = node_text; world = copied_world s.standing.world scratch; scripts = s.scripts; session = x.number }
+sight_with s x scratch =
+    record { node_text = node_text; world = copied_world s.standing.world scratch; scripts = s.scripts; session = x.number }
 
 -- the same as it is lent
 abbrev pub described_over : {S : Type 0} → Describer Over S → Sight
@@ -126,7 +133,8 @@ without_handle h j = record { made = j; handles = h }
 -- A value as it is described: by value, where it may be too long, or else with a handle in a group or in none.
 abbrev pub described_as : Sight → Showing → Value → handles.State → Option (Made Json)
 described_as sight how v h =
-    if how.by_value then option_map (without_handle h) (remote_by_value sight v) else Some (remote_with sight how.detail how.group v h)
+    if how.by_value then option_map (without_handle h) (remote_by_value sight v) else Some
+    (remote_with sight how.detail how.group v h)
 
 -- a value to which an evaluation came in a world
 abbrev pub described : Situation → Session → Showing → Value → World → Option (Made Json)
@@ -156,17 +164,21 @@ as_it_is x = x
 
 -- by what an evaluation answered
 abbrev pub outcome_of_answer : Situation → Session → Showing → Source → Answer → Evaluates
-outcome_of_answer s x how e (a_result v w) = answered_by value_result as_it_is (behind_value x how e v w) (described s x how v w)
+outcome_of_answer s x how e (a_result v w) =
+    answered_by value_result as_it_is (behind_value x how e v w) (described s x how v w)
 outcome_of_answer s x how e (a_throw v w) =
-    answered_by (thrown_result (with_exception x).exceptions) with_exception (behind_value x how e v w) (described s x how v w)
-outcome_of_answer s x how e an_effect = Answers (thrown_result (with_exception x).exceptions effect_object) (with_exception x)
+    answered_by (thrown_result (with_exception x).exceptions) with_exception (behind_value x how e v w)
+    (described s x how v w)
+outcome_of_answer s x how e an_effect =
+    Answers (thrown_result (with_exception x).exceptions effect_object) (with_exception x)
 outcome_of_answer s x how e (is_full_of what) = Stops (limit_of what)
 outcome_of_answer s x how e spent = Stops refusals.BudgetSpent
 
 -- the answer of the evaluation of a text, which is an expression of this tree, in a scope with a `this`
 abbrev pub answer_in : Situation → Session → Addr → Value → List ℕ → Expression → Answer
 answer_in s x scope receiver source e =
-    evaluate x.workspace.program s.standing.world x.workspace.scratch scope receiver source (expression_literals e) (numbered_made e)
+    evaluate x.workspace.program s.standing.world x.workspace.scratch scope receiver source (expression_literals e)
+    (numbered_made e)
 
 -- where a text is no expression
 abbrev pub no_expression : Session → Evaluates
@@ -175,12 +187,14 @@ no_expression x = Answers (syntax_result (with_exception x).exceptions) (with_ex
 -- of a text, by its tree, if it has one
 abbrev pub outcome_of_tree : Situation → Session → Addr → Value → Showing → List ℕ → Option Expression → Evaluates
 outcome_of_tree s x scope receiver how source None = no_expression x
-outcome_of_tree s x scope receiver how source (Some e) = outcome_of_answer s x how (numbered_made e) (answer_in s x scope receiver source e)
+outcome_of_tree s x scope receiver how source (Some e) =
+    outcome_of_answer s x how (numbered_made e) (answer_in s x scope receiver source e)
 
 -- an evaluation is asked to have no effect, or it is refused
 abbrev pub evaluates_in : Situation → Session → Addr → Value → Evaluation → Evaluates
 evaluates_in s x scope receiver ev =
-    if ev.throw_on_side_effect then outcome_of_tree s x scope receiver (showing_of ev) ev.expression (expression_of ev.expression)
+    if ev.throw_on_side_effect then outcome_of_tree s x scope receiver (showing_of ev) ev.expression
+    (expression_of ev.expression)
     else Stops refusals.NeedsNoSideEffect
 
 -- in the scope of the scripts
@@ -197,7 +211,8 @@ innermost (scope ∷ scopes) = scope.bindings
 -- the frame whose id this is, of frames outward from one that is so far from the top
 abbrev pub frame_from : ℕ → ℕ → List ℕ → ℕ → List ShownFrame → Option ShownFrame
 frame_from session stop id depth [] = None
-frame_from session stop id depth (f ∷ fs) = if bytes_eq (frame_id session stop depth) id then Some f else frame_from session stop id (depth + 1) fs
+frame_from session stop id depth (f ∷ fs) =
+    if bytes_eq (frame_id session stop depth) id then Some f else frame_from session stop id (depth + 1) fs
 
 -- a frame of the present stop by the id that the session knows it by
 abbrev pub frame_of : Situation → Session → Option Pause → List ℕ → Option ShownFrame

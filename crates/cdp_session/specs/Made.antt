@@ -18,11 +18,20 @@ use Rattle.cdp_session.specs.Rows.{Done, Row, Refuses, Does, refusal_for}
 
 -- what is done, with the session that it leaves
 abbrev pub done_of : Held → Session → Done
-done_of d x = record { session = x; before = map string_bytes d.before.items; result = json_view d.answer; events = map string_bytes (option_to_list d.event); asks = d.asks }
+done_of d x =
+    record {
+      session = x;
+      before = map string_bytes d.before.items;
+      result = json_view d.answer;
+      events = map string_bytes
+          (option_to_list d.event);
+      asks = d.asks;
+    }
 
 -- the texts of a command of this id that is done
 abbrev pub done_texts : ℕ → Held → List (List ℕ)
-done_texts id d = map string_bytes d.before.items ++ result_text id (json_view d.answer) ∷ map string_bytes (option_to_list d.event)
+done_texts id d =
+    map string_bytes d.before.items ++ result_text id (json_view d.answer) ∷ map string_bytes (option_to_list d.event)
 
 -- the row is this result, with the session that it leaves; want of memory says nothing
 abbrev pub Makes : Result Held Fault → Session → Row → Type 0
@@ -54,6 +63,7 @@ GivesValue (Err faults.Memory) o = Unit {0}
 
 -- a value is described so, and this session has the handles behind it; what is too long is refused, and want of memory says nothing
 abbrev pub Describes : Result HeldJson Fault → Session → Session → Option (Described Json) → Type 0
-Describes (Ok j) new x o = (o ≡ Some (record { made = json_view j; handles = new.handles })) × (new ≡ with_handles new.handles x)
+Describes (Ok j) new x o =
+    (o ≡ Some (record { made = json_view j; handles = new.handles })) × (new ≡ with_handles new.handles x)
 Describes (Err (faults.Refused q)) new x o = (o ≡ None) × (q ≡ refusals.ReferenceChainTooLong)
 Describes (Err faults.Memory) new x o = Unit {0}

@@ -44,7 +44,12 @@ value_told cause thrown = None
 -- the member that has it
 abbrev pub data_made : Sight → Option Value → handles.State → Made (List Pair)
 data_made sight None h = record { made = []; handles = h }
-data_made sight (Some v) h = record { made = (codes "data", (remote sight (Some backtrace) v h).made) ∷ []; handles = (remote sight (Some backtrace) v h).handles }
+data_made sight (Some v) h =
+    record {
+      made = (codes "data", (remote sight (Some backtrace) v h).made)
+          ∷ [];
+      handles = (remote sight (Some backtrace) v h).handles;
+    }
 
 -- the frames of the stop of this number, and behind them that member
 abbrev pub frames_told : Situation → ℕ → Session → Made (List Json)
@@ -52,7 +57,8 @@ frames_told s number x = frames_made (sight_of s x) number s.standing.frames x.h
 
 -- behind the frames, the member with the value that was thrown
 abbrev pub data_told : Situation → ℕ → Option Cause → Session → Made (List Pair)
-data_told s number cause x = data_made (sight_of s x) (value_told cause s.standing.thrown) (frames_told s number x).handles
+data_told s number cause x =
+    data_made (sight_of s x) (value_told cause s.standing.thrown) (frames_told s number x).handles
 
 -- the event of the stop of this number, at breakpoints of these ids, for this cause
 abbrev pub pause_told : Situation → ℕ → List (List ℕ) → Option Cause → Session → Made (List ℕ)
@@ -66,4 +72,5 @@ pause_told s number hits cause x = record {
 abbrev pub enabling_told : Situation → Option Pause → Bool → Session → Made (List (List ℕ))
 enabling_told s None enabled x = record { made = []; handles = x.handles }
 enabling_told s (Some p) true x = record { made = []; handles = x.handles }
-enabling_told s (Some p) false x = record { made = (pause_told s p.number [] None x).made ∷ []; handles = (pause_told s p.number [] None x).handles }
+enabling_told s (Some p) false x =
+    record { made = (pause_told s p.number [] None x).made ∷ []; handles = (pause_told s p.number [] None x).handles }

@@ -43,7 +43,8 @@ spot_locations script spots = object_of ((codes "locations", list_of (map (spot_
 
 -- a breakpoint by URL that was set: its id, and where it resolved
 abbrev pub set_by_url : List ℕ → List Place → Json
-set_by_url id places = object_of ((codes "breakpointId", text id) ∷ (codes "locations", list_of (map location places)) ∷ [])
+set_by_url id places =
+    object_of ((codes "breakpointId", text id) ∷ (codes "locations", list_of (map location places)) ∷ [])
 
 -- a breakpoint at a location that was set
 abbrev pub set_at : List ℕ → Place → Json
@@ -69,17 +70,22 @@ declared_names names = object_of ((codes "names", list_of (map text names)) ∷ 
 
 -- the only context, in which the scripts run
 abbrev pub context : Json
-context = object_of ((codes "id", number (pos 1)) ∷ (codes "name", text (codes "debug_host")) ∷ (codes "origin", text []) ∷ [])
+context =
+    object_of
+    ((codes "id", number (pos 1)) ∷ (codes "name", text (codes "debug_host")) ∷ (codes "origin", text []) ∷ [])
 
 -- the event that tells of it
 abbrev pub context_created_text : List ℕ
-context_created_text = event_text (codes "Runtime.executionContextCreated") (object_of ((codes "context", context) ∷ []))
+context_created_text =
+    event_text (codes "Runtime.executionContextCreated") (object_of ((codes "context", context) ∷ []))
 
 -- The program stopped: its frames from the top one outward, the value that was thrown, where the session is told of one, the ids
 -- of the breakpoints that it hit, and why.
 abbrev pub paused_params : List Json → List Pair → List (List ℕ) → List ℕ → Json
 paused_params frames thrown hits reason =
-    object_of ((codes "callFrames", list_of frames) ∷ (thrown ++ ((codes "hitBreakpoints", list_of (map text hits)) ∷ (codes "reason", text reason) ∷ [])))
+    object_of
+    ((codes "callFrames", list_of frames) ∷
+    (thrown ++ ((codes "hitBreakpoints", list_of (map text hits)) ∷ (codes "reason", text reason) ∷ [])))
 
 -- the event that says so
 abbrev pub paused_text : List Json → List Pair → List (List ℕ) → List ℕ → List ℕ

@@ -79,7 +79,9 @@ resumes x = asking Resume x
 -- named that
 abbrev pub enable : Situation → Session → Row
 enable s x = Does (record {
-  session = with_rules (record x.rules { enabled = true }) (with_handles (enabling_told s s.paused x.rules.enabled x).handles x);
+  session =
+      with_rules (record x.rules { enabled = true })
+      (with_handles (enabling_told s s.paused x.rules.enabled x).handles x);
   before = scripts_told s.scripts x.rules.enabled;
   result = debugger_id;
   events = (enabling_told s s.paused x.rules.enabled x).made;
@@ -97,7 +99,8 @@ pause s x = does (if is_some s.paused then x else with_rules (record x.rules { p
 -- a step of this kind from where the program is paused
 abbrev pub step_from : StepKind → Option Pause → Session → Row
 step_from kind None x = Refuses refusals.NotPaused
-step_from kind (Some at) x = resumes (with_rules (record x.rules { step = Some (record { kind = kind; depth = at.depth }) }) x)
+step_from kind (Some at) x =
+    resumes (with_rules (record x.rules { step = Some (record { kind = kind; depth = at.depth }) }) x)
 
 -- ---- places in scripts
 
@@ -113,7 +116,8 @@ continue_at x (Some place) = resumes (with_rules (record x.rules { to = Some pla
 
 -- it runs on to the first break location of the script at or behind the position
 abbrev pub continue_to : Situation → Session → Location → Row
-continue_to s x at = in_script (script_of at.script_id s.scripts) at.script_id (λ script. continue_at x (resolved_in at.position script))
+continue_to s x at =
+    in_script (script_of at.script_id s.scripts) at.script_id (λ script. continue_at x (resolved_in at.position script))
 
 -- the position of the end of a range, if it has one
 abbrev pub end_of : Option Location → Option Pos
@@ -122,11 +126,13 @@ end_of (Some at) = Some at.position
 
 -- the break locations of a script from a start to before an end
 abbrev pub possible_in : Session → Pos → Option Pos → Script → Row
-possible_in x start end script = answers (spot_locations script.number (filter (is_between start end) (break_locations script))) x
+possible_in x start end script =
+    answers (spot_locations script.number (filter (is_between start end) (break_locations script))) x
 
 -- the break locations of a range of one script
 abbrev pub possible : Situation → Session → Location → Option Location → Row
-possible s x start end = in_script (script_of start.script_id s.scripts) start.script_id (possible_in x start.position (end_of end))
+possible s x start end =
+    in_script (script_of start.script_id s.scripts) start.script_id (possible_in x start.position (end_of end))
 
 -- the source of a script
 abbrev pub source_in : Session → Script → Row
@@ -147,18 +153,22 @@ refusal_for faults.Memory = refusals.Unresolved
 
 -- a breakpoint more, unless there is a fault
 abbrev pub adds : Option AddFault → Session → List ℕ → Option (List ℕ) → List Place → Json → Row
-adds None x id condition places result = answers result (with_breakpoints (with_breakpoint (breakpoint_of id condition places) x.breakpoints) x)
+adds None x id condition places result =
+    answers result (with_breakpoints (with_breakpoint (breakpoint_of id condition places) x.breakpoints) x)
 adds (Some fault) x id condition places result = Refuses (refusal_for fault)
 
 -- a breakpoint more by the URL of scripts, which may resolve to no place
 abbrev pub add_by_url : Situation → Session → List ℕ → Pos → Option (List ℕ) → Row
 add_by_url s x url p condition =
-    adds (fault_of (url_id p url) x.breakpoints) x (url_id p url) condition (resolved_by_url url p s.scripts) (set_by_url (url_id p url) (resolved_by_url url p s.scripts))
+    adds (fault_of (url_id p url) x.breakpoints) x (url_id p url) condition (resolved_by_url url p s.scripts)
+    (set_by_url (url_id p url) (resolved_by_url url p s.scripts))
 
 -- a breakpoint at a place that resolved so, if it did
 abbrev pub adds_at : Session → Place → Option (List ℕ) → Option Place → Row
 adds_at x place condition None = Refuses refusals.Unresolved
-adds_at x place condition (Some resolved) = adds (fault_of (place_id place) x.breakpoints) x (place_id place) condition (resolved ∷ []) (set_at (place_id place) resolved)
+adds_at x place condition (Some resolved) =
+    adds (fault_of (place_id place) x.breakpoints) x (place_id place) condition (resolved ∷ [])
+    (set_at (place_id place) resolved)
 
 -- the place of a position in a script
 abbrev pub placed_in : Pos → Script → Place
@@ -205,7 +215,8 @@ lists x m = answers (properties m.made) (with_handles m.handles x)
 -- the properties of an object that the session holds, with previews or without
 abbrev pub properties_of : Situation → Session → Bool → Option Handle → Row
 properties_of s x preview None = Refuses refusals.UnknownObject
-properties_of s x preview (Some h) = lists x (descriptors_with (sight_with s x x.workspace.scratch) (detail_of preview) h.group h.target x.handles)
+properties_of s x preview (Some h) =
+    lists x (descriptors_with (sight_with s x x.workspace.scratch) (detail_of preview) h.group h.target x.handles)
 
 -- the properties of the object of an id
 abbrev pub get_properties : Situation → Session → List ℕ → Bool → Row
@@ -239,7 +250,8 @@ contexts_told s x = if s.standing.over || x.runtime then [] else context_created
 
 -- the domain is enabled, and the events come before the reply
 abbrev pub enable_runtime : Situation → Session → Row
-enable_runtime s x = Does (record { session = with_runtime true x; before = contexts_told s x; result = nothing; events = []; asks = Nothing })
+enable_runtime s x =
+    Does (record { session = with_runtime true x; before = contexts_told s x; result = nothing; events = []; asks = Nothing })
 
 -- the domain is not enabled any more
 abbrev pub disable_runtime : Session → Row

@@ -24,7 +24,8 @@ pub record Session : Type 0 where
 
 -- one of this number that was attached just now, whose evaluations begin with this
 abbrev pub fresh : ℕ → Workspace → Session
-fresh number workspace = record { number = number; rules = no_rules; runtime = false; breakpoints = none_set; handles = none_made; workspace = workspace; exceptions = 0; outbox = [] }
+fresh number workspace =
+    record { number = number; rules = no_rules; runtime = false; breakpoints = none_set; handles = none_made; workspace = workspace; exceptions = 0; outbox = [] }
 
 -- with texts behind those that wait
 abbrev pub sent : List (List ℕ) → Session → Session

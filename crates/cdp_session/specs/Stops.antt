@@ -57,7 +57,8 @@ stop_handles s number a x = if x.rules.enabled then (stop_told s number a x).han
 
 -- a stop ends the session's requests
 abbrev pub stopped : Situation → ℕ → Arrival → Session → Session
-stopped s number a x = sent (stop_texts s number a x) (with_handles (stop_handles s number a x) (with_rules (without_requests x.rules) x))
+stopped s number a x =
+    sent (stop_texts s number a x) (with_handles (stop_handles s number a x) (with_rules (without_requests x.rules) x))
 
 -- a resume ends the objects of the stop, and is told
 abbrev pub resumed : Session → Session

@@ -25,7 +25,8 @@ pub digits_number_past : (digits : List ℕ) (i n : ℕ)
     → digits_value_after 10 n (drop i digits) ≡ digits_value 10 digits
     → 2 ^ 64 ≤ n * 10 + digit_value (get_or digits i 0) → digits_number digits ≡ None
 digits_number_past digits i n h e past =
-    let step : digits_value_after 10 n (drop i digits) ≡ digits_value_after 10 (n * 10 + digit_value (get_or digits i 0)) (drop (i + 1) digits) = rw (drop_more digits i 0 h) refl in
+    let step : digits_value_after 10 n (drop i digits) ≡ digits_value_after 10
+    (n * 10 + digit_value (get_or digits i 0)) (drop (i + 1) digits) = rw (drop_more digits i 0 h) refl in
     let ge = digits_value_after-ge (n * 10 + digit_value (get_or digits i 0)) (drop (i + 1) digits) in
     let high : 2 ^ 64 ≤ digits_value 10 digits = omega arith in
     grind (arith, nat_tests)
@@ -40,7 +41,8 @@ pub decimal_value-some : (digits : List ℕ) (n : ℕ) → decimal_value digits 
 unfolding decimal_value
 decimal_value-some digits n h =
     let outer = cond-some (begins_shortest digits) (digits_number digits) n h in
-    let inner = cond-some (all_ascii_digits digits && nat_lt (digits_value 10 digits) (2 ^ 64)) (Some (digits_value 10 digits)) n outer.1 in
+    let inner = cond-some (all_ascii_digits digits && nat_lt (digits_value 10 digits) (2 ^ 64))
+    (Some (digits_value 10 digits)) n outer.1 in
     let tests = and_parts (all_ascii_digits digits) (nat_lt (digits_value 10 digits) (2 ^ 64)) inner.0 in
     let small : digits_value 10 digits < 2 ^ 64 = grind (arith, nat_tests, tests.1) in
     let full : 0 < length digits = grind (arith, nat_tests, outer.0) in
@@ -65,7 +67,12 @@ pub decimal_value-decimal : (n : ℕ) → n < 2 ^ 64 → decimal_value (decimal 
 unfolding decimal_value
 decimal_value-decimal n h =
     let small : nat_lt n (2 ^ 64) ≡ true = lt-ltb n (2 ^ 64) h in
-    rw (begins_shortest-decimal n h, digits_decimal digits_are_numerals n h, digits_value-decimal digits_are_numerals n h, small)
+    rw (
+      begins_shortest-decimal n h,
+      digits_decimal digits_are_numerals n h,
+      digits_value-decimal digits_are_numerals n h,
+      small,
+    )
 
 -- what the value tells of the text
 pub shortest_from_value : (digits : List ℕ) (r : Option ℕ)

@@ -57,7 +57,10 @@ AreStarts-push u n starts h e =
       ];
       placed = λ k l. elim (cases_lt k (length starts)) [
         | inl lt ↦ rw (get_or_append_left starts ((n + 1) ∷ []) 0 k lt) (h.placed k lt)
-        | inr ge ↦ let last : (position u n).line + 1 ≡ k = omega (arith, h.counted) in rw (get_or_push starts (n + 1) 0 k (omega arith)) (e ∙ ap (λ (m : ℕ). let r : Pos = record { line = m; col = 0 } in r) last)
+        | inr ge ↦ let last : (position u n).line + 1 ≡ k =
+            omega (arith, h.counted) in
+            rw (get_or_push starts (n + 1) 0 k (omega arith))
+            (e ∙ ap (λ (m : ℕ). let r : Pos = record { line = m; col = 0 } in r) last)
       ];
     }
 
@@ -77,13 +80,18 @@ AreStarts-more : (u : List ℕ) (n : ℕ) (starts : List ℕ)
 AreStarts-more u n starts h =
     elim (cases_Bool (ends_line u n)) [
       | inl ends ↦ let e = position-end u n ends in rw e (AreStarts-push u n starts h e)
-      | inr on ↦ let e = position-on u n on in rw (ne_eqb (position u (n + 1)).col 0 (λ z. omega (arith, ap (λ q. q.col) e, z)), append-nil starts) (AreStarts-stay u n starts h (ap (λ q. q.line) e))
+      | inr on ↦ let e =
+          position-on u n on in
+          rw (ne_eqb (position u (n + 1)).col 0 (λ z. omega (arith, ap (λ q. q.col) e, z)), append-nil starts)
+          (AreStarts-stay u n starts h (ap (λ q. q.line) e))
     ]
 
 -- the starts of a text's lines
 AreStarts-below : (u : List ℕ) (n : ℕ) → AreStarts u n (line_starts_below u (n + 1))
 AreStarts-below u zero = rw (line_starts_below-one u) (AreStarts-zero u)
-AreStarts-below u (suc n) = rw (← add-one n, line_starts_below-more u (n + 1)) (AreStarts-more u n (line_starts_below u (n + 1)) (AreStarts-below u n))
+AreStarts-below u (suc n) =
+    rw (← add-one n, line_starts_below-more u (n + 1))
+    (AreStarts-more u n (line_starts_below u (n + 1)) (AreStarts-below u n))
 
 pub AreStarts-line_starts : (u : List ℕ) → AreStarts u (length u) (line_starts u)
 unfolding line_starts
@@ -105,7 +113,8 @@ position-from_start u n starts k i h in_text in_table from below =
     ⊎_elim
     (λ same. same_pos (position u i) (record { line = k; col = i - start }) (omega arith) (omega arith))
     (λ later.
-    let last : (position u i).line ≤ (position u n).line = ⊎_elim (λ same. omega arith) (λ after. omega arith) (ahead u i n in_text) in
+    let last : (position u i).line ≤ (position u n).line = ⊎_elim (λ same. omega arith) (λ after. omega arith)
+    (ahead u i n in_text) in
     let next : k + 1 < length starts = omega (arith, h.counted) in
     let there = h.placed (k + 1) next in
     let next_line : (position u (get_or starts (k + 1) 0)).line ≡ k + 1 = ap (λ q. q.line) there in
@@ -128,7 +137,9 @@ AreStarts-ordered u n starts h i j from in_table =
     let second_line : (position u (get_or starts j 0)).line ≡ j = ap (λ q. q.line) second in
     let second_col : (position u (get_or starts j 0)).col ≡ 0 = ap (λ q. q.col) second in
     elim (cases_lt (get_or starts j 0) (get_or starts i 0)) [
-      | inl lt ↦ absurd (⊎_elim (λ same. omega arith) (λ after. omega arith) (ahead u (get_or starts j 0) (get_or starts i 0) (omega arith)))
+      | inl lt ↦ absurd
+          (⊎_elim (λ same. omega arith) (λ after. omega arith)
+          (ahead u (get_or starts j 0) (get_or starts i 0) (omega arith)))
       | inr ge ↦ ge
     ]
 
@@ -145,7 +156,8 @@ cases_lt_pos (suc n) = inr (omega arith)
 AreStarts-first : (u : List ℕ) (n : ℕ) (starts : List ℕ) → AreStarts u n starts → get_or starts 0 0 ≡ 0
 AreStarts-first u n starts h =
     let first = h.placed 0 (omega (arith, h.counted)) in
-    position_once u (get_or starts 0 0) 0 (ap (λ q. q.line) first ∙ sym (ap (λ q. q.line) (position-zero u))) (ap (λ q. q.col) first ∙ sym (ap (λ q. q.col) (position-zero u)))
+    position_once u (get_or starts 0 0) 0 (ap (λ q. q.line) first ∙ sym (ap (λ q. q.line) (position-zero u)))
+    (ap (λ q. q.col) first ∙ sym (ap (λ q. q.col) (position-zero u)))
 
 -- a line that isn't in the table has no offset
 pub no_line : (u : List ℕ) (starts : List ℕ) (p : Pos) (i : ℕ)
@@ -189,7 +201,8 @@ offset_before_next u next p i there at =
 searched_starts : (u : List ℕ) (offset : ℕ) (found : Result ℕ ℕ)
     → offset ≤ length u
     → IsBinarySearchResult (λ y. nat_cmp y offset) (line_starts u) found
-    → MatchResult found (λ line. IsLineOf u (line_starts u) offset line) (λ next. (0 < next) × IsLineOf u (line_starts u) offset (next - 1))
+    → MatchResult found (λ line. IsLineOf u (line_starts u) offset line)
+    (λ next. (0 < next) × IsLineOf u (line_starts u) offset (next - 1))
 searched_starts u offset (Ok line) in_text search =
     let starts = line_starts u in
     let h = AreStarts-line_starts u in
@@ -197,21 +210,28 @@ searched_starts u offset (Ok line) in_text search =
     record {
       in_table = s.0;
       from = omega (arith, s.1);
-      placed = ap (position u) (sym s.1) ∙ h.placed line s.0 ∙ same_pos (record { line = line; col = 0 }) (record { line = line; col = offset - get_or starts line 0 }) refl (omega (arith, s.1));
+      placed =
+          ap (position u) (sym s.1)
+          ∙ h.placed line s.0
+          ∙ same_pos (record { line = line; col = 0 }) (record { line = line; col = offset - get_or starts line 0 })
+          refl (omega (arith, s.1));
     }
 searched_starts u offset (Err next) in_text search =
     let starts = line_starts u in
     let h = AreStarts-line_starts u in
     let s = searched starts offset (Err next) search (AreStarts-ordered u (length u) starts h) in
     let first = AreStarts-first u (length u) starts h in
-    let some : 0 < next = ⊎_elim (λ none. absurd (omega (arith, h.counted, first, s.2 0 (omega arith)))) (λ above. above) (cases_lt_pos next) in
+    let some : 0 < next = ⊎_elim (λ none. absurd (omega (arith, h.counted, first, s.2 0 (omega arith))))
+    (λ above. above) (cases_lt_pos next) in
     let in_table : next - 1 < length starts = omega (arith, s.0) in
     let from : get_or starts (next - 1) 0 ≤ offset = omega (arith, s.1 (next - 1) (omega arith)) in (
       some,
       record {
         in_table = in_table;
         from = from;
-        placed = position-from_start u (length u) starts (next - 1) offset h in_text in_table from (λ more. s.2 (next - 1 + 1) (omega arith) more);
+        placed =
+            position-from_start u (length u) starts (next - 1) offset h in_text in_table from
+            (λ more. s.2 (next - 1 + 1) (omega arith) more);
       },
     )
 
@@ -231,11 +251,13 @@ end_of_line u line = unwrap_or (slice_get (line_starts u) (line + 1)) (length u 
 
 -- it is the next line's start, or there is no next line and it is past the text
 end_of_line_cases : (u : List ℕ) (line : ℕ)
-    → ((line + 1 < length (line_starts u)) × (end_of_line u line ≡ get_or (line_starts u) (line + 1) 0)) ⊎ ((length (line_starts u) ≤ line + 1) × (end_of_line u line ≡ length u + 1))
+    → ((line + 1 < length (line_starts u)) × (end_of_line u line ≡ get_or (line_starts u) (line + 1) 0)) ⊎
+    ((length (line_starts u) ≤ line + 1) × (end_of_line u line ≡ length u + 1))
 end_of_line_cases u line =
     let starts = line_starts u in
     let end = λ (o : Option ℕ). unwrap_or o (length u + 1) in
-    ⊎_elim (λ more. inl (more, ap end (slice_get-get_or starts (line + 1) 0 more))) (λ last. inr (last, ap end (slice_get_past starts (line + 1) last))) (cases_lt (line + 1) (length starts))
+    ⊎_elim (λ more. inl (more, ap end (slice_get-get_or starts (line + 1) 0 more)))
+    (λ last. inr (last, ap end (slice_get_past starts (line + 1) last))) (cases_lt (line + 1) (length starts))
 
 -- a line's start by the table
 started : (u : List ℕ) (line start : ℕ)
@@ -243,8 +265,10 @@ started : (u : List ℕ) (line start : ℕ)
     → (line < length (line_starts u)) × (get_or (line_starts u) line 0 ≡ start)
 started u line start at =
     let starts = line_starts u in
-    let past : length starts ≤ line → ⊥ = λ ge. cc (slice_get_past starts line ge, at) in
-    (⊎_elim (λ lt. lt) (λ ge. absurd (past ge)) (cases_lt line (length starts)), get_or_from_slice_get starts line start 0 at)
+    let past : length starts ≤ line → ⊥ = λ ge. cc (slice_get_past starts line ge, at) in (
+      ⊎_elim (λ lt. lt) (λ ge. absurd (past ge)) (cases_lt line (length starts)),
+      get_or_from_slice_get starts line start 0 at,
+    )
 
 pub start_within : (u : List ℕ) (line start : ℕ) → slice_get (line_starts u) line ≡ Some start → start ≤ length u
 start_within u line start at =
@@ -268,11 +292,17 @@ offset_by_table u p start at below outside =
     let starts = line_starts u in
     let h = AreStarts-line_starts u in
     let s = started u p.line start at in
-    let in_text : start + p.col ≤ length u = ⊎_elim (λ next. omega (arith, next.1, h.within (p.line + 1) next.0)) (λ last. omega (arith, last.1)) (end_of_line_cases u p.line) in
-    let before_next : p.line + 1 < length starts → start + p.col < get_or starts (p.line + 1) 0 = λ more. ⊎_elim (λ next. omega (arith, next.1)) (λ last. absurd (omega arith)) (end_of_line_cases u p.line) in
+    let in_text : start + p.col ≤ length u = ⊎_elim (λ next. omega (arith, next.1, h.within (p.line + 1) next.0))
+    (λ last. omega (arith, last.1)) (end_of_line_cases u p.line) in
+    let before_next : p.line + 1 < length starts
+    → start + p.col < get_or starts (p.line + 1) 0 = λ more. ⊎_elim (λ next. omega (arith, next.1))
+    (λ last. absurd (omega arith)) (end_of_line_cases u p.line) in
     record {
       within = in_text;
-      placed = position-from_start u (length u) starts p.line (start + p.col) h in_text s.0 (omega (arith, s.1)) before_next ∙ same_pos (record { line = p.line; col = start + p.col - get_or starts p.line 0 }) p refl (omega (arith, s.1));
+      placed =
+          position-from_start u (length u) starts p.line (start + p.col) h in_text s.0 (omega (arith, s.1)) before_next
+          ∙ same_pos (record { line = p.line; col = start + p.col - get_or starts p.line 0 }) p refl
+          (omega (arith, s.1));
       whole = outside;
     }
 
@@ -295,7 +325,11 @@ no_offset_by_table u p start i at none is_offset =
     let h = AreStarts-line_starts u in
     let there : i ≡ start + p.col = offset_from_start u start p i (start_placed u p.line start at) is_offset in
     let below : start + p.col < end_of_line u p.line = ⊎_elim
-    (λ next. omega (arith, next.1, offset_before_next u (get_or (line_starts u) (p.line + 1) 0) p i (h.placed (p.line + 1) next.0) is_offset))
+    (λ next. omega (
+      arith,
+      next.1,
+      offset_before_next u (get_or (line_starts u) (p.line + 1) 0) p i (h.placed (p.line + 1) next.0) is_offset,
+    ))
     (λ last. omega (arith, last.1, is_offset.within))
     (end_of_line_cases u p.line) in
     false≢true (sym is_offset.whole ∙ ap (is_inside_cr_lf u) there ∙ none below)
@@ -305,13 +339,18 @@ pub line_starts_below-end : (u : List ℕ) (i : ℕ)
     → ends_line u i ≡ true
     → line_starts_below u (i + 1 + 1) ≡ line_starts_below u (i + 1) ++ (i + 1) ∷ []
 line_starts_below-end u i e =
-    line_starts_below-more u (i + 1) ∙ ap (λ (b : Bool). line_starts_below u (i + 1) ++ cond b ((i + 1) ∷ []) []) (eq-eqb (position u (i + 1)).col 0 (ap (λ q. q.col) (position-end u i e)))
+    line_starts_below-more u (i + 1)
+    ∙ ap (λ (b : Bool). line_starts_below u (i + 1) ++ cond b ((i + 1) ∷ []) [])
+    (eq-eqb (position u (i + 1)).col 0 (ap (λ q. q.col) (position-end u i e)))
 
 pub line_starts_below-on : (u : List ℕ) (i : ℕ)
     → ends_line u i ≡ false
     → line_starts_below u (i + 1 + 1) ≡ line_starts_below u (i + 1)
 line_starts_below-on u i e =
-    line_starts_below-more u (i + 1) ∙ ap (λ (b : Bool). line_starts_below u (i + 1) ++ cond b ((i + 1) ∷ []) []) (ne_eqb (position u (i + 1)).col 0 (λ z. omega (arith, ap (λ q. q.col) (position-on u i e), z))) ∙ append-nil (line_starts_below u (i + 1))
+    line_starts_below-more u (i + 1)
+    ∙ ap (λ (b : Bool). line_starts_below u (i + 1) ++ cond b ((i + 1) ∷ []) [])
+    (ne_eqb (position u (i + 1)).col 0 (λ z. omega (arith, ap (λ q. q.col) (position-on u i e), z)))
+    ∙ append-nil (line_starts_below u (i + 1))
 
 pub line_starts-below : (u : List ℕ) (n : ℕ) → n ≡ length u → line_starts u ≡ line_starts_below u (n + 1)
 unfolding line_starts
@@ -327,20 +366,26 @@ pub length-line_from : (u : List ℕ) (start : ℕ) → length (line_from u star
 length-line_from u start = length-prefix_len (λ c. not (is_line_terminator c)) (drop start u)
 
 line_len_le : (u : List ℕ) (start : ℕ) → start ≤ length u → start + line_len u start ≤ length u
-line_len_le u start h = omega (arith, prefix_len-le-length (λ c. not (is_line_terminator c)) (drop start u), length-drop start u)
+line_len_le u start h =
+    omega (arith, prefix_len-le-length (λ c. not (is_line_terminator c)) (drop start u), length-drop start u)
 
 in_line : (u : List ℕ) (start k : ℕ) → k < line_len u start → is_line_terminator (get_or u (start + k) 0) ≡ false
 in_line u start k h =
-    not-true (is_line_terminator (get_or u (start + k) 0)) (rw (← get_or-drop start u k 0) (prefix_len_passes (λ c. not (is_line_terminator c)) (drop start u) k 0 h))
+    not-true (is_line_terminator (get_or u (start + k) 0))
+    (rw (← get_or-drop start u k 0) (prefix_len_passes (λ c. not (is_line_terminator c)) (drop start u) k 0 h))
 
 at_line_end : (u : List ℕ) (start : ℕ)
     → start + line_len u start < length u
     → is_line_terminator (get_or u (start + line_len u start) 0) ≡ true
 at_line_end u start h =
-    not_false (is_line_terminator (get_or u (start + line_len u start) 0)) (rw (← get_or-drop start u (line_len u start) 0) (prefix_len_stops (λ c. not (is_line_terminator c)) (drop start u) 0 (omega (arith, length-drop start u))))
+    not_false (is_line_terminator (get_or u (start + line_len u start) 0))
+    (rw (← get_or-drop start u (line_len u start) 0)
+    (prefix_len_stops (λ c. not (is_line_terminator c)) (drop start u) 0 (omega (arith, length-drop start u))))
 
 not_cr : (c : ℕ) → is_line_terminator c ≡ false → eqb c 0x0D ≡ false
-not_cr c h = ne_eqb c 0x0D (λ e. let P : ℕ → Type 0 = λ y. is_line_terminator y ≡ false in absurd (false≢true (sym (subst P e h))))
+not_cr c h =
+    ne_eqb c 0x0D
+    (λ e. let P : ℕ → Type 0 = λ y. is_line_terminator y ≡ false in absurd (false≢true (sym (subst P e h))))
 
 -- on a line the column counts the units
 along_line : (u : List ℕ) (start k : ℕ)
@@ -350,8 +395,14 @@ along_line u start zero h = simp add-zero refl
 along_line u start (suc k) h =
     let on : ends_line u (start + k) ≡ false = rw (in_line u start k (omega arith)) refl in
     let so_far = along_line u start k (omega arith) in
-    let next : position u (start + suc k) ≡ record { line = (position u (start + k)).line; col = (position u (start + k)).col + 1 } = ap (position u) (omega arith) ∙ position-on u (start + k) on in
-    next ∙ same_pos (record { line = (position u (start + k)).line; col = (position u (start + k)).col + 1 }) (record { line = (position u start).line; col = (position u start).col + suc k }) (ap (λ q. q.line) so_far) (omega (arith, ap (λ q. q.col) so_far))
+    let next : position u (start + suc k)
+    ≡ record { line = (position u (start + k)).line; col = (position u (start + k)).col + 1 } = ap (position u)
+    (omega arith)
+    ∙ position-on u (start + k) on in
+    next
+    ∙ same_pos (record { line = (position u (start + k)).line; col = (position u (start + k)).col + 1 })
+    (record { line = (position u start).line; col = (position u start).col + suc k }) (ap (λ q. q.line) so_far)
+    (omega (arith, ap (λ q. q.col) so_far))
 
 -- on a line, its end included, no offset is inside a CR LF
 outside_in_line : (u : List ℕ) (start k : ℕ)
@@ -374,7 +425,10 @@ offset_in_line u p start in_text here in_line =
     let long : p.col ≤ line_len u start = omega (arith, length-line_from u start) in
     record {
       within = omega (arith, line_len_le u start in_text);
-      placed = along_line u start p.col long ∙ same_pos (record { line = (position u start).line; col = (position u start).col + p.col }) p (ap (λ q. q.line) here) (omega arith);
+      placed =
+          along_line u start p.col long
+          ∙ same_pos (record { line = (position u start).line; col = (position u start).col + p.col }) p
+          (ap (λ q. q.line) here) (omega arith);
       whole = outside_in_line u start p.col col long;
     }
 
@@ -386,7 +440,8 @@ later_line : (u : List ℕ) (start end i : ℕ)
     → (position u start).line < (position u i).line
 later_line u start end i ends from below =
     let line : (position u (end + 1)).line ≡ (position u end).line + 1 = ap (λ q. q.line) (position-end u end ends) in
-    let to_end : (position u start).line ≤ (position u end).line = ⊎_elim (λ same. omega arith) (λ after. omega arith) (ahead u start end from) in
+    let to_end : (position u start).line ≤ (position u end).line = ⊎_elim (λ same. omega arith) (λ after. omega arith)
+    (ahead u start end from) in
     ⊎_elim (λ same. omega arith) (λ after. omega arith) (ahead u (end + 1) i (omega arith))
 
 -- the LF of a CR LF ends the line
@@ -411,7 +466,8 @@ offset_past_line u p start i here past at =
     let terminator : is_line_terminator (get_or u end 0) ≡ true = at_line_end u start (omega (arith, at.within)) in
     elim (cases_Bool (is_inside_cr_lf u (suc end))) [
       | inl inside ↦
-          let apart : i ≢ suc end = λ e. let P : ℕ → Type 0 = λ k. is_inside_cr_lf u k ≡ false in false≢true (sym (subst P e at.whole) ∙ inside) in
+          let apart : i ≢ suc end = λ e. let P : ℕ → Type 0 = λ k. is_inside_cr_lf u k ≡ false in
+          false≢true (sym (subst P e at.whole) ∙ inside) in
           omega (arith, later_line u start (suc end) i (cr_lf-ends_line u end inside) (omega arith) (omega arith))
       | inr outside ↦
           let ends : ends_line u end ≡ true = rw (terminator, outside) refl in
@@ -431,9 +487,14 @@ IsPastLine-not_found u p none =
     elim (cases_lt p.line (length starts)) [
       | inl lt ↦
           let start = get_or starts p.line 0 in
-          let past : length (line_from u start) < p.col = ⊎_elim (λ below. below) (λ above. absurd (none (start + p.col) (offset_in_line u p start (h.within p.line lt) (h.placed p.line lt) above))) (cases_lt (length (line_from u start)) p.col) in
-          subst Past (sym (lines-at u p.line ∙ ap (option_map (line_from u)) (slice_get-get_or starts p.line 0 lt))) past
-      | inr ge ↦ subst Past (sym (lines-at u p.line ∙ ap (option_map (line_from u)) (slice_get_past starts p.line ge))) tt
+          let past : length (line_from u start) < p.col = ⊎_elim (λ below. below)
+          (λ above. absurd
+          (none (start + p.col) (offset_in_line u p start (h.within p.line lt) (h.placed p.line lt) above)))
+          (cases_lt (length (line_from u start)) p.col) in
+          subst Past (sym (lines-at u p.line ∙ ap (option_map (line_from u)) (slice_get-get_or starts p.line 0 lt)))
+          past
+      | inr ge ↦ subst Past (sym (lines-at u p.line ∙ ap (option_map (line_from u)) (slice_get_past starts p.line ge)))
+          tt
     ]
 
 not_found-IsPastLine : (u : List ℕ) (p : Pos) → IsPastLine u p → (i : ℕ) → IsOffset u p i → ⊥
@@ -444,7 +505,8 @@ not_found-IsPastLine u p past i at =
     elim (cases_lt p.line (length starts)) [
       | inl lt ↦
           let start = get_or starts p.line 0 in
-          let long : length (line_from u start) < p.col = subst Past (lines-at u p.line ∙ ap (option_map (line_from u)) (slice_get-get_or starts p.line 0 lt)) past in
+          let long : length (line_from u start) < p.col = subst Past
+          (lines-at u p.line ∙ ap (option_map (line_from u)) (slice_get-get_or starts p.line 0 lt)) past in
           offset_past_line u p start i (h.placed p.line lt) long at
       | inr ge ↦ no_line u starts p i h ge at
     ]
@@ -460,14 +522,16 @@ line_end_is u start end from in_text before stop =
     let rest = drop start u in
     let long : length rest ≡ length u - start = length-drop start u in
     let there : start + (end - start) ≡ end = omega arith in
-    let len : line_len u start ≡ end - start = prefix_len_is (λ c. not (is_line_terminator c)) rest (end - start) 0 (omega arith)
+    let len : line_len u start ≡ end - start = prefix_len_is (λ c. not (is_line_terminator c)) rest (end - start) 0
+    (omega arith)
     (λ k lt. rw (get_or-drop start u k 0, before (start + k) (omega arith) (omega arith)) refl)
     (λ lt. rw (get_or-drop start u (end - start) 0, there, stop (omega arith)) refl) in
     omega (arith, length-line_from u start)
 
 -- a line past the last has no offset
 pub offset_past_text : (u : List ℕ) (p : Pos) (i : ℕ) → (position u (length u)).line < p.line → IsOffset u p i → ⊥
-offset_past_text u p i past at = no_line u (line_starts u) p i (AreStarts-line_starts u) (omega (arith, (AreStarts-line_starts u).counted)) at
+offset_past_text u p i past at =
+    no_line u (line_starts u) p i (AreStarts-line_starts u) (omega (arith, (AreStarts-line_starts u).counted)) at
 
 -- what the search for an offset promises: it finds the one there is, and nothing exactly where the position is past its line
 pub record Finds (u : List ℕ) (p : Pos) (o : Option ℕ) : Type 0 where

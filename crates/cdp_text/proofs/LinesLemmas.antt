@@ -58,7 +58,9 @@ begun_with-are : (byte : ℕ) (text : List ℕ) (lines : List (List ℕ))
     → AreLines text lines
     → AreLines (byte ∷ text) (begun_with byte lines)
 begun_with-are byte text [] other h = record {
-  apart = All-cons IsOneLine (byte ∷ []) [] (All-cons (λ b. b ≢ 10) byte [] other (All-nil (λ b. b ≢ 10))) (All-nil IsOneLine);
+  apart =
+      All-cons IsOneLine (byte ∷ []) [] (All-cons (λ b. b ≢ 10) byte [] other (All-nil (λ b. b ≢ 10)))
+      (All-nil IsOneLine);
   together = elim h.together [
     | inl e ↦ let whole : text ≡ [] = e in inr (([], byte, rw whole, other), rw whole)
     | inr w ↦ absurd (omega (arith, simp length-append at (ap length w.1)))
@@ -66,7 +68,8 @@ begun_with-are byte text [] other h = record {
 }
 begun_with-are byte text (line ∷ lines) other h = record {
   apart = All-cons IsOneLine (byte ∷ line) lines
-      (All-cons (λ b. b ≢ 10) byte line other (All-head IsOneLine line lines h.apart)) (All-tail IsOneLine line lines h.apart);
+      (All-cons (λ b. b ≢ 10) byte line other (All-head IsOneLine line lines h.apart))
+      (All-tail IsOneLine line lines h.apart);
   together = elim h.together [
     | inl e ↦ inl (ap (λ t. byte ∷ t) e)
     | inr w ↦ inr ((byte ∷ w.0.0, w.0.1, ap (λ t. byte ∷ t) w.0.2, w.0.3), ap (λ t. byte ∷ t) w.1)
@@ -129,7 +132,9 @@ cuts-last (byte ∷ text) full h =
     let n = position_or_len is_line_feed (byte ∷ text) in
     let far = ltb-false n (length (byte ∷ text)) (position-None (ltb n (length (byte ∷ text))) n h) in
     let one : IsOneLine (byte ∷ text) = All-from_get_or (λ b. b ≢ 10) (byte ∷ text) 0
-    (λ k below. eqb-false (get_or (byte ∷ text) k 0) 10 (fails_before_first is_line_feed (byte ∷ text) k 0 (omega arith))) in
+    (λ k below. eqb-false (get_or (byte ∷ text) k 0) 10
+    (fails_before_first is_line_feed (byte ∷ text) k 0 (omega arith)))
+    in
     lines_of-last byte text one
 
 pub ruleset cuts = (cuts-parts, cuts-found, cuts-last, lines_of-only)

@@ -34,9 +34,11 @@ none_from_some (Some x) lacks = absurd (lacks x refl)
 
 -- what the text's own call says
 pub behind-strip : (front text : List ℕ) (r : Option (Bor (List ℕ)))
-    → MatchOption r (FindsTextPrefix front text None) (λ x. (n : ℕ) × FindsTextPrefix front text (Some n) × (x.now ≡ drop n text) × (length x.now + n ≡ length text))
+    → MatchOption r (FindsTextPrefix front text None)
+    (λ x. (n : ℕ) × FindsTextPrefix front text (Some n) × (x.now ≡ drop n text) × (length x.now + n ≡ length text))
     → option_map (λ rest. rest.now) r ≡ behind front text
-behind-strip front text None lacks = sym (none_from_some (behind front text) (λ rest is. lacks rest (behind-some front text rest is)))
+behind-strip front text None lacks =
+    sym (none_from_some (behind front text) (λ rest is. lacks rest (behind-some front text rest is)))
 behind-strip front text (Some x) found =
     let e : text ≡ front ++ x.now = rw found.2 found.1.1 in
     sym (rw e (behind-append front x.now))
@@ -46,21 +48,30 @@ pub halves-append : (separator : ℕ) (front back : List ℕ) → ((i : ℕ) →
     → halves separator (front ++ separator ∷ back) ≡ Some record { front = front; back = back }
 halves-append separator [] back lacks = rw (eq-eqb separator separator refl) refl
 halves-append separator (byte ∷ front) back lacks =
-    rw (ne_eqb byte separator (lacks 0 (omega arith)), halves-append separator front back (λ i below. lacks (suc i) (omega arith))) refl
+    rw (
+      ne_eqb byte separator (lacks 0 (omega arith)),
+      halves-append separator front back (λ i below. lacks (suc i) (omega arith)),
+    )
+    refl
 
 halves-none : (separator : ℕ) (text : List ℕ)
     → ((i : ℕ) → i < length text → get_or text i 0 ≢ separator)
     → halves separator text ≡ None
 halves-none separator [] lacks = refl
 halves-none separator (byte ∷ text) lacks =
-    rw (ne_eqb byte separator (lacks 0 (omega arith)), halves-none separator text (λ i below. lacks (suc i) (omega arith))) refl
+    rw (
+      ne_eqb byte separator (lacks 0 (omega arith)),
+      halves-none separator text (λ i below. lacks (suc i) (omega arith)),
+    )
+    refl
 
 -- what the text's own call says
 pub halves-split : (separator : ℕ) (text : List ℕ) (r : Option (Bor (List ℕ) × Bor (List ℕ)))
     → separator < 128
     → IsSplitOnceResult separator text r
     → option_map (λ parts. record { front = parts.0.now; back = parts.1.now }) r ≡ halves separator text
-halves-split separator text None small found = sym (halves-none separator text (split_parts separator text None found small))
+halves-split separator text None small found =
+    sym (halves-none separator text (split_parts separator text None found small))
 halves-split separator text (Some x) small found =
     let parts = split_parts separator text (Some x) found small in
     sym (rw parts.0 (halves-append separator x.0.now x.1.now parts.1))
@@ -70,7 +81,8 @@ pub halves-decimal : (n separator : ℕ) (back : List ℕ) → n < 2 ^ 64 → ¬
     → halves separator (decimal n ++ separator ∷ back) ≡ Some record { front = decimal n; back = back }
 halves-decimal n separator back small apart =
     let own = numerals_by_value _ tells_all_ascii_digits in
-    halves-append separator (decimal n) back (not_in_digits own (decimal n) separator (digits_decimal own n small) apart)
+    halves-append separator (decimal n) back
+    (not_in_digits own (decimal n) separator (digits_decimal own n small) apart)
 
 halves_step : (separator : ℕ) (b : Bool) (byte : ℕ) (text : List ℕ) (parts : Halves) → (b ≡ true → byte ≡ separator)
     → (o : Option Halves) → ((p : Halves) → o ≡ Some p → text ≡ p.front ++ separator ∷ p.back)
@@ -88,17 +100,20 @@ pub halves-some : (separator : ℕ) (text : List ℕ) (parts : Halves)
     → text ≡ parts.front ++ separator ∷ parts.back
 halves-some separator [] parts is = cc
 halves-some separator (byte ∷ text) parts is =
-    halves_step separator (eqb byte separator) byte text parts (eqb-true byte separator) (halves separator text) (halves-some separator text) is
+    halves_step separator (eqb byte separator) byte text parts (eqb-true byte separator) (halves separator text)
+    (halves-some separator text) is
 
 -- the same in words of the text
 pub behind-parts : (front text : List ℕ) (r : Option (Bor (List ℕ)))
-    → MatchOption r (FindsTextPrefix front text None) (λ x. (n : ℕ) × FindsTextPrefix front text (Some n) × (x.now ≡ drop n text) × (length x.now + n ≡ length text))
+    → MatchOption r (FindsTextPrefix front text None)
+    (λ x. (n : ℕ) × FindsTextPrefix front text (Some n) × (x.now ≡ drop n text) × (length x.now + n ≡ length text))
     → IfSome r (λ x. text ≡ front ++ x.now)
 behind-parts front text None lacks = tt
 behind-parts front text (Some x) found = rw found.2 found.1.1
 
 pub behind-lacks : (front text : List ℕ) (r : Option (Bor (List ℕ)))
-    → MatchOption r (FindsTextPrefix front text None) (λ x. (n : ℕ) × FindsTextPrefix front text (Some n) × (x.now ≡ drop n text) × (length x.now + n ≡ length text))
+    → MatchOption r (FindsTextPrefix front text None)
+    (λ x. (n : ℕ) × FindsTextPrefix front text (Some n) × (x.now ≡ drop n text) × (length x.now + n ≡ length text))
     → IfNone r ((rest : List ℕ) → text ≢ front ++ rest)
 behind-lacks front text None lacks = lacks
 behind-lacks front text (Some x) found = tt
@@ -106,7 +121,8 @@ behind-lacks front text (Some x) found = tt
 pub halves-parts : (separator : ℕ) (text : List ℕ) (r : Option (Bor (List ℕ) × Bor (List ℕ)))
     → separator < 128
     → IsSplitOnceResult separator text r
-    → IfSome r (λ x. (text ≡ x.0.now ++ separator ∷ x.1.now) × ((i : ℕ) → i < length x.0.now → get_or x.0.now i 0 ≢ separator))
+    → IfSome r
+    (λ x. (text ≡ x.0.now ++ separator ∷ x.1.now) × ((i : ℕ) → i < length x.0.now → get_or x.0.now i 0 ≢ separator))
 halves-parts separator text None small found = tt
 halves-parts separator text (Some x) small found = split_parts separator text (Some x) found small
 

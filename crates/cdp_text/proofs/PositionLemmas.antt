@@ -16,7 +16,8 @@ position-zero u = refl
 
 pub same_pos : (p q : Pos) → p.line ≡ q.line → p.col ≡ q.col → p ≡ q
 same_pos p q e f =
-    let along : p ≡ record { line = q.line; col = p.col } = ap (λ (l : ℕ). let r : Pos = record { line = l; col = p.col } in r) e in
+    let along : p ≡ record { line = q.line; col = p.col } = ap
+    (λ (l : ℕ). let r : Pos = record { line = l; col = p.col } in r) e in
     along ∙ ap (λ (k : ℕ). let r : Pos = record { line = q.line; col = k } in r) f
 
 -- q is d units behind p: on the same line, or on a later one
@@ -30,7 +31,9 @@ IsAhead-advanced p q false d h = ⊎_elim (λ same. inl (same.0, omega arith)) (
 ahead_by : (u : List ℕ) (i d : ℕ) → IsAhead (position u i) (position u (i + d)) d
 ahead_by u i zero = rw add-zero (inl (refl, omega arith))
 ahead_by u i (suc d) =
-    let next : position u (i + suc d) ≡ advanced (position u (i + d)) (ends_line u (i + d)) = ap (position u) (omega arith) ∙ position-next u (i + d) in
+    let next : position u (i + suc d) ≡ advanced (position u (i + d)) (ends_line u (i + d)) = ap (position u)
+    (omega arith)
+    ∙ position-next u (i + d) in
     let P : Pos → Type 0 = λ q. IsAhead (position u i) q (suc d) in
     subst P (sym next) (IsAhead-advanced (position u i) (position u (i + d)) (ends_line u (i + d)) d (ahead_by u i d))
 
@@ -48,8 +51,10 @@ pub position_once : (u : List ℕ) (i j : ℕ)
     → i ≡ j
 position_once u i j e f =
     elim (cases_lt i j) [
-      | inl lt ↦ let h : IsAhead (position u i) (position u j) (j - i) = ahead u i j (omega arith) in ⊎_elim (λ same. omega arith) (λ later. omega arith) h
-      | inr ge ↦ let h : IsAhead (position u j) (position u i) (i - j) = ahead u j i ge in ⊎_elim (λ same. omega arith) (λ later. omega arith) h
+      | inl lt ↦ let h : IsAhead (position u i) (position u j) (j - i) =
+          ahead u i j (omega arith) in ⊎_elim (λ same. omega arith) (λ later. omega arith) h
+      | inr ge ↦ let h : IsAhead (position u j) (position u i) (i - j) =
+          ahead u j i ge in ⊎_elim (λ same. omega arith) (λ later. omega arith) h
     ]
 
 pub IsOffset-once : (u : List ℕ) (p : Pos) (i j : ℕ) → IsOffset u p i → IsOffset u p j → i ≡ j
@@ -89,7 +94,8 @@ outside_at_start-by p false true e = absurd (omega arith)
 pub outside_at_start : (u : List ℕ) (i : ℕ) → (position u i).col ≡ 0 → is_inside_cr_lf u i ≡ false
 outside_at_start u zero e = refl
 outside_at_start u (suc i) e =
-    let next : position u (suc i) ≡ advanced (position u i) (ends_line u i) = ap (position u) (sym (add-one i)) ∙ position-next u i in
+    let next : position u (suc i) ≡ advanced (position u i) (ends_line u i) = ap (position u) (sym (add-one i))
+    ∙ position-next u i in
     let col : (advanced (position u i) (ends_line u i)).col ≡ 0 = sym (ap (λ q. q.col) next) ∙ e in
     outside_at_start-by (position u i) (is_line_terminator (slice_index u i)) (is_inside_cr_lf u (suc i)) col
 

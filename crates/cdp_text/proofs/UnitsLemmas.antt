@@ -34,7 +34,12 @@ utf16_chars-encode_utf16 c us s =
     let h : (c < 0xD800) ⊎ ((0xE000 ≤ c) × (c < 0x11_0000)) = scalar_cases c s in
     elim (cases_lt c 0x1_0000) [
       | inl lt ↦ rw (lt-ltb c 0x1_0000 lt) (one_unit c us (grind arith))
-      | inr ge ↦ rw (le-ltb c 0x1_0000 ge, two_units (0xD800 + (c - 0x1_0000) / 0x400) (0xDC00 + (c - 0x1_0000) % 0x400) us (omega arith) (omega arith) (omega arith) (omega arith)) (ap (λ d. Some d ∷ utf16_chars us) (omega arith))
+      | inr ge ↦ rw (
+        le-ltb c 0x1_0000 ge,
+        two_units (0xD800 + (c - 0x1_0000) / 0x400) (0xDC00 + (c - 0x1_0000) % 0x400) us (omega arith)
+            (omega arith) (omega arith) (omega arith),
+      )
+          (ap (λ d. Some d ∷ utf16_chars us) (omega arith))
     ]
 
 -- the units of characters spell them
@@ -42,7 +47,8 @@ utf16_lossy_chars-flat_map : (cs : List ℕ) → scalars cs ≡ true → utf16_l
 utf16_lossy_chars-flat_map [] s = rw utf16_chars-nil refl
 utf16_lossy_chars-flat_map (c ∷ cs) s =
     let both = and_parts (scalar c) (scalars cs) s in
-    rw (utf16_chars-encode_utf16 c (flat_map encode_utf16 cs) both.0) (ap (λ ds. c ∷ ds) (utf16_lossy_chars-flat_map cs both.1))
+    rw (utf16_chars-encode_utf16 c (flat_map encode_utf16 cs) both.0)
+    (ap (λ ds. c ∷ ds) (utf16_lossy_chars-flat_map cs both.1))
 
 -- the UTF-16 form of a text spells that text
 pub utf8_of-utf16_of : (bytes : List ℕ) → IsUtf8 bytes → utf8_of (utf16_of bytes) ≡ bytes

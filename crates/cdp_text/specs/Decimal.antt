@@ -5,7 +5,8 @@ use Rattle.std.specs.Str.Parse.{digits_value}
 
 -- the number of these digits, if there are only digits and it is below 2^64
 abbrev pub digits_number : List ℕ → Option ℕ
-digits_number digits = if all_ascii_digits digits && nat_lt (digits_value 10 digits) (2 ^ 64) then Some (digits_value 10 digits) else None
+digits_number digits =
+    if all_ascii_digits digits && nat_lt (digits_value 10 digits) (2 ^ 64) then Some (digits_value 10 digits) else None
 
 -- there is one byte, or there are more and the first isn't `0`
 abbrev pub begins_shortest : List ℕ → Bool

@@ -21,4 +21,5 @@ longer byte halves = record halves { front = byte ∷ halves.front }
 abbrev pub halves : ℕ → List ℕ → Option Halves
 halves separator [] = None
 halves separator (byte ∷ text) =
-    if byte == separator then Some record { front = []; back = text } else option_map (longer byte) (halves separator text)
+    if byte == separator then Some record { front = []; back = text } else option_map (longer byte)
+    (halves separator text)

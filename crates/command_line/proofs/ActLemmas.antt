@@ -45,7 +45,9 @@ use Rattle.command_line.proofs.SeatLemmas.{gone-seat, held-seat}
 
 -- what a call says of every history for which a host stands
 abbrev pub IsMeant : HostState → ℕ → Bool → Type 0
-IsMeant host s there = (scripts : List Script) (input : List (List ℕ)) (wait : Bool) (history : List Entry) → Stands scripts input wait host history
+IsMeant host s there =
+    (scripts : List Script) (input : List (List ℕ)) (wait : Bool) (history : List Entry)
+    → Stands scripts input wait host history
     → there ≡ is_there (whole scripts input wait history) s
 
 pub there-held : (host : HostState) (s : ℕ)
@@ -69,7 +71,8 @@ there-gone host s works gone stays scripts input wait history stood =
 
 -- ---- a line that may stand there only where this holds
 
-done_by : (scripts : List Script) (input : List (List ℕ)) (wait : Bool) (history : List Entry) (b : Bool) (entry : Entry) (texts : Option (List (List ℕ))) (new : HostState)
+done_by : (scripts : List Script) (input : List (List ℕ)) (wait : Bool) (history : List Entry) (b : Bool)
+    (entry : Entry) (texts : Option (List (List ℕ))) (new : HostState)
     → b ≡ true
     → texts ≡ Some (map output_text (output_at scripts (whole scripts input wait history) entry))
     → StandsBehind scripts input wait history entry new
@@ -78,7 +81,8 @@ done_by scripts input wait history true entry texts new is texts_are stands = (t
 done_by scripts input wait history false entry texts new is texts_are stands = cc
 
 -- the host behind a call with this entry
-stands-behind : (scripts : List Script) (input : List (List ℕ)) (wait : Bool) (history : List Entry) (old new : HostState) (entry : Entry)
+stands-behind : (scripts : List Script) (input : List (List ℕ)) (wait : Bool) (history : List Entry)
+    (old new : HostState) (entry : Entry)
     → old.broken ≡ false
     → Leaves old entry new
     → CarriesOn old entry new
@@ -97,10 +101,12 @@ pub attach-done : (old new : HostState) (s : ℕ) (texts : List (List ℕ))
     → texts ≡ output_text (Attached s) ∷ []
     → (scripts : List Script) (input : List (List ℕ)) (wait : Bool) (history : List Entry)
     → Stands scripts input wait old history
-    → Acts scripts input wait history (entry_at scripts (whole scripts input wait history) lines.Attach) (Some texts) new
+    → Acts scripts input wait history (entry_at scripts (whole scripts input wait history) lines.Attach) (Some texts)
+    new
 attach-done old new s texts works number leaves carries texts_are scripts input wait history stood =
     let m : Meaning Program = whole scripts input wait history in
-    let many : length old.meaning.seats ≡ length m.seats = stands-length (meaning_with old (printed_of m.program)) m (stood.means works) in (
+    let many : length old.meaning.seats ≡ length m.seats = stands-length (meaning_with old (printed_of m.program)) m
+    (stood.means works) in (
       ap (λ xs. Some xs) (texts_are ∙ ap (λ n. output_text (Attached n) ∷ []) (number ∙ ap (λ n. n + 1) many)),
       stands-behind scripts input wait history old new Attach works leaves carries stood,
     )
@@ -108,16 +114,26 @@ attach-done old new s texts works number leaves carries texts_are scripts input 
 -- whether the texts of an answer of a host's session fit
 abbrev pub AnswersFit : HostState → ℕ → List ℕ → Bool → Type 0
 AnswersFit host s text fit = (x : Session) → seat_of s host.meaning.seats ≡ seats.Attached x
-    → texts_fit (answer_of (situation host.scripts host.meaning.stop (parts_standing host.scripts host.meaning.program)) x text).session ≡ fit
+    → texts_fit
+    (answer_of (situation host.scripts host.meaning.stop (parts_standing host.scripts host.meaning.program))
+    x text).session ≡ fit
 
 -- they fit as the host keeps it where they do as its history says
-overruns-by : (scripts : List Script) (m : Meaning Program) (host : HostState) (taken : List (List ℕ)) (text : List ℕ) (seat : Seat Session) (fit : Bool)
+overruns-by : (scripts : List Script) (m : Meaning Program) (host : HostState) (taken : List (List ℕ)) (text : List ℕ)
+    (seat : Seat Session) (fit : Bool)
     → is_attached seat ≡ true
     → host.scripts ≡ scripts → StandsAs (meaning_with host taken) m
-    → ((x : Session) → seat ≡ seats.Attached x → texts_fit (answer_of (situation host.scripts host.meaning.stop (parts_standing host.scripts host.meaning.program)) x text).session ≡ fit)
+    → ((x : Session)
+    → seat ≡ seats.Attached x
+    → texts_fit
+    (answer_of (situation host.scripts host.meaning.stop (parts_standing host.scripts host.meaning.program))
+    x text).session ≡ fit)
     → overruns scripts m text seat ≡ not fit
 overruns-by scripts m host taken text (seats.Attached x) fit held same stands fits =
-    let F : List Script → Option Pause → Standing → Bool = λ ss q d. not (texts_fit (answer_of (situation ss q d) x text).session) in
+    let F : List Script
+    → Option Pause
+    → Standing
+    → Bool = λ ss q d. not (texts_fit (answer_of (situation ss q d) x text).session) in
     ap (λ k. F scripts k.stop (standing_of scripts k.program)) (sym stands.is)
     ∙ ap (λ ss. F ss host.meaning.stop (standing_of ss (meaning_with host taken).program)) (sym same)
     ∙ ap (λ d. F host.scripts host.meaning.stop d) (sym (standing-taken host.scripts host.meaning.program taken))
@@ -139,15 +155,18 @@ tell-done : (old new : HostState) (s : ℕ) (text : List ℕ) (fit : Bool) (text
     → texts ≡ map output_text (if not fit then Overran s ∷ [] else [])
     → (scripts : List Script) (input : List (List ℕ)) (wait : Bool) (history : List Entry)
     → Stands scripts input wait old history
-    → Acts scripts input wait history (entry_at scripts (whole scripts input wait history) (lines.Tell s text)) (Some texts) new
+    → Acts scripts input wait history (entry_at scripts (whole scripts input wait history) (lines.Tell s text))
+    (Some texts) new
 tell-done old new s text fit texts works held leaves carries fits texts_are scripts input wait history stood =
     let m : Meaning Program = whole scripts input wait history in
     let taken : List (List ℕ) = printed_of m.program in
     let stands = stood.means works in
     let same : seat_of s m.seats ≡ seat_of s old.meaning.seats = held-seat (meaning_with old taken) m s stands held in
     let over : overruns scripts m text (seat_of s m.seats) ≡ not fit =
-    ap (overruns scripts m text) same ∙ overruns-by scripts m old taken text (seat_of s old.meaning.seats) fit held stood.runs stands fits in
-    done_by scripts input wait history (is_there m s) (Tell s text) (Some texts) new (sym (there-held old s works held scripts input wait history stood))
+    ap (overruns scripts m text) same
+    ∙ overruns-by scripts m old taken text (seat_of s old.meaning.seats) fit held stood.runs stands fits in
+    done_by scripts input wait history (is_there m s) (Tell s text) (Some texts) new
+    (sym (there-held old s works held scripts input wait history stood))
     (ap (λ xs. Some xs) (texts_are ∙ overrun_lines s (not fit) (overruns scripts m text (seat_of s m.seats)) over))
     (stands-behind scripts input wait history old new (Tell s text) works leaves carries stood)
 
@@ -157,8 +176,10 @@ pub tell-kept : (old new : HostState) (s : ℕ) (text : List ℕ) (texts : List 
     → Leaves old (Tell s text) new → CarriesOn old (Tell s text) new → AnswersFit old s text true → texts ≡ []
     → (scripts : List Script) (input : List (List ℕ)) (wait : Bool) (history : List Entry)
     → Stands scripts input wait old history
-    → Acts scripts input wait history (entry_at scripts (whole scripts input wait history) (lines.Tell s text)) (Some texts) new
-tell-kept old new s text texts works held leaves carries fits none = tell-done old new s text true texts works held leaves carries fits none
+    → Acts scripts input wait history (entry_at scripts (whole scripts input wait history) (lines.Tell s text))
+    (Some texts) new
+tell-kept old new s text texts works held leaves carries fits none =
+    tell-done old new s text true texts works held leaves carries fits none
 
 pub tell-overrun : (old new : HostState) (s : ℕ) (text : List ℕ) (texts : List (List ℕ))
     → old.broken ≡ false
@@ -169,8 +190,10 @@ pub tell-overrun : (old new : HostState) (s : ℕ) (text : List ℕ) (texts : Li
     → texts ≡ output_text (Overran s) ∷ []
     → (scripts : List Script) (input : List (List ℕ)) (wait : Bool) (history : List Entry)
     → Stands scripts input wait old history
-    → Acts scripts input wait history (entry_at scripts (whole scripts input wait history) (lines.Tell s text)) (Some texts) new
-tell-overrun old new s text texts works held leaves carries fits line = tell-done old new s text false texts works held leaves carries fits line
+    → Acts scripts input wait history (entry_at scripts (whole scripts input wait history) (lines.Tell s text))
+    (Some texts) new
+tell-overrun old new s text texts works held leaves carries fits line =
+    tell-done old new s text false texts works held leaves carries fits line
 
 pub take-done : (old new : HostState) (s : ℕ) (handed texts : List (List ℕ))
     → old.broken ≡ false
@@ -181,13 +204,18 @@ pub take-done : (old new : HostState) (s : ℕ) (handed texts : List (List ℕ))
     → texts ≡ map output_text (map (To s) handed)
     → (scripts : List Script) (input : List (List ℕ)) (wait : Bool) (history : List Entry)
     → Stands scripts input wait old history
-    → Acts scripts input wait history (entry_at scripts (whole scripts input wait history) (lines.Take s)) (Some texts) new
+    → Acts scripts input wait history (entry_at scripts (whole scripts input wait history) (lines.Take s)) (Some texts)
+    new
 take-done old new s handed texts works held leaves carries handed_are texts_are scripts input wait history stood =
     let m : Meaning Program = whole scripts input wait history in
-    let same : seat_of s m.seats ≡ seat_of s old.meaning.seats = held-seat (meaning_with old (printed_of m.program)) m s (stood.means works) held in
+    let same : seat_of s m.seats ≡ seat_of s old.meaning.seats = held-seat (meaning_with old (printed_of m.program)) m s
+    (stood.means works) held in
     let waits : handed ≡ waiting (protocol scripts) (seat_of s m.seats) =
-    handed_are ∙ ap (λ ss. waiting (protocol ss) (seat_of s old.meaning.seats)) stood.runs ∙ ap (waiting (protocol scripts)) (sym same) in
-    done_by scripts input wait history (is_there m s) (Take s) (Some texts) new (sym (there-held old s works held scripts input wait history stood))
+    handed_are
+    ∙ ap (λ ss. waiting (protocol ss) (seat_of s old.meaning.seats)) stood.runs
+    ∙ ap (waiting (protocol scripts)) (sym same) in
+    done_by scripts input wait history (is_there m s) (Take s) (Some texts) new
+    (sym (there-held old s works held scripts input wait history stood))
     (ap (λ xs. Some xs) (texts_are ∙ ap (λ xs. map output_text (map (To s) xs)) waits))
     (stands-behind scripts input wait history old new (Take s) works leaves carries stood)
 
@@ -202,12 +230,14 @@ run-lines printed lost last =
     ∙ ap (λ xs. map output_text (map Out printed) ++ xs) (sym (map-append output_text (map Overran lost) (last ∷ [])))
     ∙ sym (map-append output_text (map Out printed) (map Overran lost ++ last ∷ []))
 
-pub run-texts : (printed : List (List ℕ)) (lost : List SessionLost) (steps : ℕ) (state : State) (first second all : List (List ℕ)) (last : List ℕ)
+pub run-texts : (printed : List (List ℕ)) (lost : List SessionLost) (steps : ℕ) (state : State)
+    (first second all : List (List ℕ)) (last : List ℕ)
     → first ≡ map output_text (map Out printed)
     → second ≡ first ++ map output_text (map Overran (overrun_in lost))
     → all ≡ second ++ last ∷ []
     → last ≡ output_text (RanTo steps state)
-    → all ≡ (map output_text (map Out printed) ++ map output_text (map Overran (overrun_in lost))) ++ output_text (RanTo steps state) ∷ []
+    → all ≡ (map output_text (map Out printed) ++ map output_text (map Overran (overrun_in lost))) ++ output_text
+    (RanTo steps state) ∷ []
 run-texts printed lost steps state first second all last prints loses ends line =
     ends
     ∙ ap (λ xs. xs ++ last ∷ []) (loses ∙ ap (λ xs. xs ++ map output_text (map Overran (overrun_in lost))) prints)
@@ -215,12 +245,14 @@ run-texts printed lost steps state first second all last prints loses ends line 
 
 -- A run of a host that lost nobody for want of memory: where it stood for this meaning, it made the longest run from there, and so it
 -- printed and lost what that did.
-record RunsAs (scripts : List Script) (moment most : ℕ) (m : Meaning Program) (steps : ℕ) (printed : List (List ℕ)) (lost : List SessionLost) : Type 0 where
+record RunsAs (scripts : List Script) (moment most : ℕ) (m : Meaning Program) (steps : ℕ) (printed : List (List ℕ))
+    (lost : List SessionLost) : Type 0 where
   long : steps ≡ longest (protocol scripts) moment most m
   prints : printed ≡ printed_at scripts moment [] steps m
   loses : overrun_in lost ≡ overrun_at scripts moment [] steps m
 
-runs-as : (scripts : List Script) (moment most : ℕ) (host m : Meaning Program) (n : Meaning Program) (steps : ℕ) (printed : List (List ℕ)) (lost : List SessionLost)
+runs-as : (scripts : List Script) (moment most : ℕ) (host m : Meaning Program) (n : Meaning Program) (steps : ℕ)
+    (printed : List (List ℕ)) (lost : List SessionLost)
     → StandsAs host m
     → RunsTo scripts moment most host steps printed lost n
     → lost_for_memory lost ≡ []
@@ -229,17 +261,29 @@ runs-as scripts moment most host m n steps printed lost stands runs nobody =
     let P = protocol scripts in
     let k : Meaning Program = runs.middle in
     let none : fallen_in k.seats ≡ [] = sym (lost-fallen 1 k.seats) ∙ ap lost_for_memory (sym runs.reports) ∙ nobody in
-    let reached : k ≡ after_steps P moment steps host = runs.longest.made.reached ∙ ap (λ gone. after_run P moment gone steps host) none ∙ run-none P steps moment host in
-    let before : fallen_in host.seats ≡ [] = sym (steps-fallen P steps moment host) ∙ ap (λ q. fallen_in q.seats) (sym reached) ∙ none in
-    let same : host ≡ m = stands.is ∙ ap (λ gone. with_seats (without gone m.seats) m) before ∙ ap (λ seats. with_seats seats m) (without-none m.seats) in
-    let there : k ≡ after_run P moment [] steps m = reached ∙ ap (after_steps P moment steps) same ∙ sym (run-none P steps moment m) in
+    let reached : k ≡ after_steps P moment steps host = runs.longest.made.reached
+    ∙ ap (λ gone. after_run P moment gone steps host) none
+    ∙ run-none P steps moment host in
+    let before : fallen_in host.seats ≡ [] = sym (steps-fallen P steps moment host)
+    ∙ ap (λ q. fallen_in q.seats) (sym reached)
+    ∙ none in
+    let same : host ≡ m = stands.is
+    ∙ ap (λ gone. with_seats (without gone m.seats) m) before
+    ∙ ap (λ seats. with_seats seats m) (without-none m.seats) in
+    let there : k ≡ after_run P moment [] steps m = reached
+    ∙ ap (after_steps P moment steps) same
+    ∙ sym (run-none P steps moment m) in
     record {
       long = made-longest P moment most steps host k runs.longest none ∙ ap (longest P moment most) same;
-      prints = runs.prints ∙ ap (λ q. printed_between q.program k.program) same ∙ ap (λ q. printed_between m.program q.program) there;
+      prints =
+          runs.prints
+          ∙ ap (λ q. printed_between q.program k.program) same
+          ∙ ap (λ q. printed_between m.program q.program) there;
       loses = ap overrun_in runs.reports ∙ ap (λ q. overrun_in (losses_from 1 q.seats)) there;
     }
 
-state-as : (scripts : List Script) (input : List (List ℕ)) (wait : Bool) (history : List Entry) (new : HostState) (entry : Entry) (state : State)
+state-as : (scripts : List Script) (input : List (List ℕ)) (wait : Bool) (history : List Entry) (new : HostState)
+    (entry : Entry) (state : State)
     → new.broken ≡ false
     → Stands scripts input wait new (history ++ entry ∷ [])
     → ((taken : List (List ℕ)) → state ≡ state_at new taken)
@@ -251,40 +295,58 @@ state-as scripts input wait history new entry state works stands tells =
     ∙ ap (λ m. state_of m) (stands.means works).is
     ∙ ap (λ m. state_of m) (longer scripts input wait history entry)
 
-pub run-done : (moment most : ℕ) (old new : HostState) (steps : ℕ) (printed texts : List (List ℕ)) (lost : List SessionLost) (state : State)
+pub run-done : (moment most : ℕ) (old new : HostState) (steps : ℕ) (printed texts : List (List ℕ))
+    (lost : List SessionLost) (state : State)
     → old.broken ≡ false → new.broken ≡ old.broken
-    → ((taken : List (List ℕ)) → RunsTo old.scripts moment most (meaning_with old taken) steps printed lost (meaning_with new (taken ++ printed)))
+    → ((taken : List (List ℕ))
+    → RunsTo old.scripts moment most (meaning_with old taken) steps printed lost
+    (meaning_with new (taken ++ printed)))
     → CarriesOn old (Ran steps moment (lost_for_memory lost)) new
     → lost_for_memory lost ≡ []
     → ((taken : List (List ℕ)) → state ≡ state_at new taken)
-    → texts ≡ (map output_text (map Out printed) ++ map output_text (map Overran (overrun_in lost))) ++ output_text (RanTo steps state) ∷ []
+    → texts ≡ (map output_text (map Out printed) ++ map output_text (map Overran (overrun_in lost))) ++ output_text
+    (RanTo steps state) ∷ []
     → (scripts : List Script) (input : List (List ℕ)) (wait : Bool) (history : List Entry)
     → Stands scripts input wait old history
-    → Acts scripts input wait history (entry_at scripts (whole scripts input wait history) (lines.Run most moment)) (Some texts) new
+    → Acts scripts input wait history (entry_at scripts (whole scripts input wait history) (lines.Run most moment))
+    (Some texts) new
 run-done moment most old new steps printed texts lost state works same runs carries nobody tells texts_are scripts input wait history stood =
     let m : Meaning Program = whole scripts input wait history in
     let taken : List (List ℕ) = printed_of m.program in
-    let R : List Script → Type 0 = λ ss. RunsTo ss moment most (meaning_with old taken) steps printed lost (meaning_with new (taken ++ printed)) in
-    let is = runs-as scripts moment most (meaning_with old taken) m (meaning_with new (taken ++ printed)) steps printed lost (stood.means works) (subst R stood.runs (runs taken)) nobody in
+    let R : List Script
+    → Type 0 = λ ss. RunsTo ss moment most (meaning_with old taken) steps printed lost
+    (meaning_with new (taken ++ printed)) in
+    let is = runs-as scripts moment most (meaning_with old taken) m (meaning_with new (taken ++ printed))
+    steps printed lost (stood.means works) (subst R stood.runs (runs taken)) nobody in
     let S : List ℕ → Type 0 = λ gone. Stands scripts input wait new (history ++ Ran steps moment gone ∷ []) in
-    let stands : Stands scripts input wait new (history ++ Ran steps moment [] ∷ []) = subst S nobody (carries scripts input wait history stood) in
-    let led : state ≡ state_of (apply scripts m (Ran steps moment [])) = state-as scripts input wait history new (Ran steps moment []) state (same ∙ works) stands tells in
+    let stands : Stands scripts input wait new (history ++ Ran steps moment [] ∷ []) = subst S nobody
+    (carries scripts input wait history stood) in
+    let led : state ≡ state_of (apply scripts m (Ran steps moment [])) = state-as scripts input wait history new
+    (Ran steps moment []) state (same ∙ works) stands tells in
     let all : texts ≡ map output_text (output_at scripts m (Ran steps moment [])) =
     texts_are
     ∙ run-lines printed (overrun_in lost) (RanTo steps state)
     ∙ ap (λ xs. map output_text (map Out xs ++ (map Overran (overrun_in lost) ++ RanTo steps state ∷ []))) is.prints
-    ∙ ap (λ xs. map output_text (map Out (printed_at scripts moment [] steps m) ++ (map Overran xs ++ RanTo steps state ∷ []))) is.loses
-    ∙ ap (λ x. map output_text (map Out (printed_at scripts moment [] steps m) ++ (map Overran (overrun_at scripts moment [] steps m) ++ RanTo steps x ∷ []))) led in
+    ∙ ap (λ xs. map output_text
+    (map Out (printed_at scripts moment [] steps m) ++ (map Overran xs ++ RanTo steps state ∷ [])))
+    is.loses
+    ∙ ap (λ x. map output_text
+    (map Out (printed_at scripts moment [] steps m) ++
+    (map Overran (overrun_at scripts moment [] steps m) ++ RanTo steps x ∷ [])))
+    led in
     let P : ℕ → Type 0 = λ k. Acts scripts input wait history (Some (Ran k moment [])) (Some texts) new in
     subst P is.long (ap (λ xs. Some xs) all, record { stands = stands; works = same ∙ works })
 
 -- ---- what is written of a line that was applied
 
-acts-output : (scripts : List Script) (input : List (List ℕ)) (wait : Bool) (history : List Entry) (o : Option Entry) (texts : List (List ℕ)) (new : HostState)
+acts-output : (scripts : List Script) (input : List (List ℕ)) (wait : Bool) (history : List Entry) (o : Option Entry)
+    (texts : List (List ℕ)) (new : HostState)
     → Acts scripts input wait history o (Some texts) new
     → line_output scripts (whole scripts input wait history) o ≡ joined texts
 acts-output scripts input wait history None texts new acts = cc
-acts-output scripts input wait history (Some entry) texts new acts = ap joined (sym (same_Some texts (map output_text (output_at scripts (whole scripts input wait history) entry)) acts.0))
+acts-output scripts input wait history (Some entry) texts new acts =
+    ap joined
+    (sym (same_Some texts (map output_text (output_at scripts (whole scripts input wait history) entry)) acts.0))
 
 entry-read : (scripts : List Script) (m : Meaning Program) (text : List ℕ) (line : lines.Line)
     → Some line ≡ line_of text
@@ -294,14 +356,18 @@ entry-read scripts m text line is = ap (λ o. option_and_then (entry_at scripts 
 -- what a line's entry writes is what was offered
 pub offers : (text : List ℕ) (line : lines.Line) (texts : List (List ℕ)) (old new : HostState)
     → Some line ≡ line_of text
-    → ((s : List Script) (i : List (List ℕ)) (w : Bool) (h : List Entry) → Stands s i w old h → Acts s i w h (entry_at s (whole s i w h) line) (Some texts) new)
+    → ((s : List Script) (i : List (List ℕ)) (w : Bool) (h : List Entry)
+    → Stands s i w old h
+    → Acts s i w h (entry_at s (whole s i w h) line) (Some texts) new)
     → (s : List Script) (i : List (List ℕ)) (w : Bool) (h : List Entry)
     → Stands s i w old h
     → line_output s (whole s i w h) (entry_of s (whole s i w h) text) ≡ joined texts
 offers text line texts old new is acts s i w h stood =
-    ap (λ o. line_output s (whole s i w h) o) (sym (entry-read s (whole s i w h) text line is)) ∙ acts-output s i w h (entry_at s (whole s i w h) line) texts new (acts s i w h stood)
+    ap (λ o. line_output s (whole s i w h) o) (sym (entry-read s (whole s i w h) text line is))
+    ∙ acts-output s i w h (entry_at s (whole s i w h) line) texts new (acts s i w h stood)
 
-acts-none : (scripts : List Script) (input : List (List ℕ)) (wait : Bool) (history : List Entry) (o : Option Entry) (new : HostState)
+acts-none : (scripts : List Script) (input : List (List ℕ)) (wait : Bool) (history : List Entry) (o : Option Entry)
+    (new : HostState)
     → Acts scripts input wait history o None new
     → o ≡ None
 acts-none scripts input wait history None new acts = refl
@@ -309,32 +375,45 @@ acts-none scripts input wait history (Some entry) new acts = let none = acts.0 i
 
 -- a line that was refused has no entry
 pub refuses : (text : List ℕ) (line : lines.Line) (old new : HostState) → Some line ≡ line_of text
-    → ((s : List Script) (i : List (List ℕ)) (w : Bool) (h : List Entry) → Stands s i w old h → Acts s i w h (entry_at s (whole s i w h) line) None new)
+    → ((s : List Script) (i : List (List ℕ)) (w : Bool) (h : List Entry)
+    → Stands s i w old h
+    → Acts s i w h (entry_at s (whole s i w h) line) None new)
     → (s : List Script) (i : List (List ℕ)) (w : Bool) (h : List Entry)
     → Stands s i w old h
     → entry_of s (whole s i w h) text ≡ None
 refuses text line old new is acts s i w h stood =
-    sym (entry-read s (whole s i w h) text line is) ∙ acts-none s i w h (entry_at s (whole s i w h) line) new (acts s i w h stood)
+    sym (entry-read s (whole s i w h) text line is)
+    ∙ acts-none s i w h (entry_at s (whole s i w h) line) new (acts s i w h stood)
 
-acts-play : (scripts : List Script) (input : List (List ℕ)) (wait : Bool) (history : List Entry) (o : Option Entry) (texts : List (List ℕ)) (new : HostState) (before now : Option (List ℕ))
+acts-play : (scripts : List Script) (input : List (List ℕ)) (wait : Bool) (history : List Entry) (o : Option Entry)
+    (texts : List (List ℕ)) (new : HostState) (before now : Option (List ℕ))
     → Acts scripts input wait history o (Some texts) new
     → now ≡ gains before (joined texts)
     → Plays scripts input wait history o new before now
 acts-play scripts input wait history None texts new before now acts written = absurd cc
-acts-play scripts input wait history (Some entry) texts new before now acts written =
-    (written ∙ ap (λ xs. gains before (joined xs)) (same_Some texts (map output_text (output_at scripts (whole scripts input wait history) entry)) acts.0), acts.1)
+acts-play scripts input wait history (Some entry) texts new before now acts written = (
+  written
+      ∙ ap (λ xs. gains before (joined xs))
+      (same_Some texts (map output_text (output_at scripts (whole scripts input wait history) entry))
+      acts.0),
+  acts.1,
+)
 
 -- a line that was applied, and whose lines of output were written
-pub plays : (text : List ℕ) (line : lines.Line) (texts : List (List ℕ)) (old new : HostState) (before now : Option (List ℕ))
+pub plays : (text : List ℕ) (line : lines.Line) (texts : List (List ℕ)) (old new : HostState)
+    (before now : Option (List ℕ))
     → Some line ≡ line_of text
-    → ((s : List Script) (i : List (List ℕ)) (w : Bool) (h : List Entry) → Stands s i w old h → Acts s i w h (entry_at s (whole s i w h) line) (Some texts) new)
+    → ((s : List Script) (i : List (List ℕ)) (w : Bool) (h : List Entry)
+    → Stands s i w old h
+    → Acts s i w h (entry_at s (whole s i w h) line) (Some texts) new)
     → now ≡ gains before (joined texts)
     → (s : List Script) (i : List (List ℕ)) (w : Bool) (h : List Entry)
     → Stands s i w old h
     → Plays s i w h (entry_of s (whole s i w h) text) new before now
 plays text line texts old new before now is acts written s i w h stood =
     let P : Option Entry → Type 0 = λ o. Plays s i w h o new before now in
-    subst P (entry-read s (whole s i w h) text line is) (acts-play s i w h (entry_at s (whole s i w h) line) texts new before now (acts s i w h stood) written)
+    subst P (entry-read s (whole s i w h) text line is)
+    (acts-play s i w h (entry_at s (whole s i w h) line) texts new before now (acts s i w h stood) written)
 
 pub less-as : (before now : Option (List ℕ)) (bytes all : List ℕ)
     → all ≡ bytes

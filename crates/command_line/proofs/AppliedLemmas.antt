@@ -25,9 +25,12 @@ may-stand : (scripts : List Script) (m : Meaning Program) (line : Line) (entry :
     → entry_at scripts m line ≡ Some entry
     → MayStand scripts m line entry
 may-stand scripts m Attach entry is = sym (same_Some Attached entry is)
-may-stand scripts m (Tell s text) entry is = let choice = choice-some (is_there m s) (Told s text) entry is in (choice.0, sym choice.1)
-may-stand scripts m (Take s) entry is = let choice = choice-some (is_there m s) (Taken s) entry is in (choice.0, sym choice.1)
-may-stand scripts m (Detach s) entry is = let choice = choice-some (is_there m s) (Detached s) entry is in (choice.0, sym choice.1)
+may-stand scripts m (Tell s text) entry is =
+    let choice = choice-some (is_there m s) (Told s text) entry is in (choice.0, sym choice.1)
+may-stand scripts m (Take s) entry is =
+    let choice = choice-some (is_there m s) (Taken s) entry is in (choice.0, sym choice.1)
+may-stand scripts m (Detach s) entry is =
+    let choice = choice-some (is_there m s) (Detached s) entry is in (choice.0, sym choice.1)
 may-stand scripts m (Run most moment) entry is =
     let n : ℕ = longest (protocol scripts) moment most m in
     (n, longest-exact (protocol scripts) moment most m, sym (same_Some (Ran n moment []) entry is))
@@ -38,10 +41,14 @@ may-not-stand : (scripts : List Script) (m : Meaning Program) (line : Line) (ent
     → entry_at scripts m line ≡ None
     → ¬ (MayStand scripts m line entry)
 may-not-stand scripts m Attach entry none stands = none-some Attached (sym none)
-may-not-stand scripts m (Tell s text) entry none stands = let e = unchosen (is_there m s) (Told s text) none in let t = stands.0 in cc
-may-not-stand scripts m (Take s) entry none stands = let e = unchosen (is_there m s) (Taken s) none in let t = stands.0 in cc
-may-not-stand scripts m (Detach s) entry none stands = let e = unchosen (is_there m s) (Detached s) none in let t = stands.0 in cc
-may-not-stand scripts m (Run most moment) entry none stands = none-some (Ran (longest (protocol scripts) moment most m) moment []) (sym none)
+may-not-stand scripts m (Tell s text) entry none stands =
+    let e = unchosen (is_there m s) (Told s text) none in let t = stands.0 in cc
+may-not-stand scripts m (Take s) entry none stands =
+    let e = unchosen (is_there m s) (Taken s) none in let t = stands.0 in cc
+may-not-stand scripts m (Detach s) entry none stands =
+    let e = unchosen (is_there m s) (Detached s) none in let t = stands.0 in cc
+may-not-stand scripts m (Run most moment) entry none stands =
+    none-some (Ran (longest (protocol scripts) moment most m) moment []) (sym none)
 may-not-stand scripts m Shut entry none stands = none-some ShutDown (sym none)
 
 entry-some : (scripts : List Script) (m : Meaning Program) (text : List ℕ) (entry : Entry) (o : Option Line)
@@ -49,36 +56,44 @@ entry-some : (scripts : List Script) (m : Meaning Program) (text : List ℕ) (en
     → option_and_then (entry_at scripts m) o ≡ Some entry
     → IsEntry scripts m text entry
 entry-some scripts m text entry None read is = absurd (none-some entry is)
-entry-some scripts m text entry (Some line) read is = record { line = line; is = line-some text line read; stands = may-stand scripts m line entry is }
+entry-some scripts m text entry (Some line) read is =
+    record { line = line; is = line-some text line read; stands = may-stand scripts m line entry is }
 
 entry-none : (scripts : List Script) (m : Meaning Program) (text : List ℕ)
     → entry_of scripts m text ≡ None
     → (entry : Entry)
     → ¬ (IsEntry scripts m text entry)
 entry-none scripts m text none entry is =
-    may-not-stand scripts m is.line entry (ap (λ o. option_and_then (entry_at scripts m) o) (sym (line-read text is.line is.is)) ∙ none) is.stands
+    may-not-stand scripts m is.line entry
+    (ap (λ o. option_and_then (entry_at scripts m) o) (sym (line-read text is.line is.is)) ∙ none) is.stands
 
 -- ---- all lines, where none is refused
 
 applied-first : (n : ℕ) (scripts : List Script) (m : Meaning Program) (text : List ℕ) (texts : List (List ℕ))
-    → ((entry : Entry) → refused scripts (n + 1) (apply scripts m entry) texts ≡ None → AreEntries scripts (apply scripts m entry) texts (entries scripts (apply scripts m entry) texts))
+    → ((entry : Entry)
+    → refused scripts (n + 1) (apply scripts m entry) texts ≡ None
+    → AreEntries scripts (apply scripts m entry) texts (entries scripts (apply scripts m entry) texts))
     → (o : Option Entry)
     → entry_of scripts m text ≡ o
     → option_map_or (λ entry. refused scripts (n + 1) (apply scripts m entry) texts) o (Some n) ≡ None
-    → AreEntries scripts m (text ∷ texts) (option_map_or (λ entry. entry ∷ entries scripts (apply scripts m entry) texts) o [])
+    → AreEntries scripts m (text ∷ texts)
+    (option_map_or (λ entry. entry ∷ entries scripts (apply scripts m entry) texts) o [])
 applied-first n scripts m text texts behind None is none = absurd (none-some n (sym none))
-applied-first n scripts m text texts behind (Some entry) is none = (entry-some scripts m text entry (line_of text) refl is, behind entry none)
+applied-first n scripts m text texts behind (Some entry) is none =
+    (entry-some scripts m text entry (line_of text) refl is, behind entry none)
 
 pub applied-all : (n : ℕ) (scripts : List Script) (m : Meaning Program) (texts : List (List ℕ))
     → refused scripts n m texts ≡ None
     → AreEntries scripts m texts (entries scripts m texts)
 applied-all n scripts m [] none = tt
 applied-all n scripts m (text ∷ texts) none =
-    applied-first n scripts m text texts (λ entry. applied-all (n + 1) scripts (apply scripts m entry) texts) (entry_of scripts m text) refl none
+    applied-first n scripts m text texts (λ entry. applied-all (n + 1) scripts (apply scripts m entry) texts)
+    (entry_of scripts m text) refl none
 
 -- ---- the first that is refused
 
-one-more : (n number : ℕ) (scripts : List Script) (m : Meaning Program) (text : List ℕ) (texts : List (List ℕ)) (entry : Entry) (behind : List Entry)
+one-more : (n number : ℕ) (scripts : List Script) (m : Meaning Program) (text : List ℕ) (texts : List (List ℕ))
+    (entry : Entry) (behind : List Entry)
     → IsEntry scripts m text entry
     → RefusesAt scripts (n + 1) (apply scripts m entry) texts behind number
     → RefusesAt scripts n m (text ∷ texts) (entry ∷ behind) number
@@ -93,11 +108,15 @@ one-more n number scripts m text texts entry behind is at = record {
 }
 
 refused-first : (n number : ℕ) (scripts : List Script) (m : Meaning Program) (text : List ℕ) (texts : List (List ℕ))
-    → ((entry : Entry) → refused scripts (n + 1) (apply scripts m entry) texts ≡ Some number → RefusesAt scripts (n + 1) (apply scripts m entry) texts (entries scripts (apply scripts m entry) texts) number)
+    → ((entry : Entry)
+    → refused scripts (n + 1) (apply scripts m entry) texts ≡ Some number
+    → RefusesAt scripts (n + 1) (apply scripts m entry) texts (entries scripts (apply scripts m entry) texts)
+    number)
     → (o : Option Entry)
     → entry_of scripts m text ≡ o
     → option_map_or (λ entry. refused scripts (n + 1) (apply scripts m entry) texts) o (Some n) ≡ Some number
-    → RefusesAt scripts n m (text ∷ texts) (option_map_or (λ entry. entry ∷ entries scripts (apply scripts m entry) texts) o []) number
+    → RefusesAt scripts n m (text ∷ texts)
+    (option_map_or (λ entry. entry ∷ entries scripts (apply scripts m entry) texts) o []) number
 refused-first n number scripts m text texts behind None is some = record {
   before = [];
   text = text;
@@ -108,11 +127,13 @@ refused-first n number scripts m text texts behind None is some = record {
   refused = entry-none scripts m text is;
 }
 refused-first n number scripts m text texts behind (Some entry) is some =
-    one-more n number scripts m text texts entry (entries scripts (apply scripts m entry) texts) (entry-some scripts m text entry (line_of text) refl is) (behind entry some)
+    one-more n number scripts m text texts entry (entries scripts (apply scripts m entry) texts)
+    (entry-some scripts m text entry (line_of text) refl is) (behind entry some)
 
 pub refused-one : (n number : ℕ) (scripts : List Script) (m : Meaning Program) (texts : List (List ℕ))
     → refused scripts n m texts ≡ Some number
     → RefusesAt scripts n m texts (entries scripts m texts) number
 refused-one n number scripts m [] some = absurd (none-some number some)
 refused-one n number scripts m (text ∷ texts) some =
-    refused-first n number scripts m text texts (λ entry. refused-one (n + 1) number scripts (apply scripts m entry) texts) (entry_of scripts m text) refl some
+    refused-first n number scripts m text texts
+    (λ entry. refused-one (n + 1) number scripts (apply scripts m entry) texts) (entry_of scripts m text) refl some

@@ -15,16 +15,20 @@ use Rattle.script_runs.proofs.PrintingLemmas.{whole-part as gained}
 -- ---- the replay in memory
 
 -- what is kept of a replay in memory is its output
-pub drilled : (n : ℕ) (script : Script) (scripts : List Script) (input : List (List ℕ)) (journal before now : List ℕ) (line : Option ℕ)
+pub drilled : (n : ℕ) (script : Script) (scripts : List Script) (input : List (List ℕ)) (journal before now : List ℕ)
+    (line : Option ℕ)
     → scripts ≡ script ∷ [] → input ≡ [] → journal ≡ drill_journal n → before ≡ []
     → WritesReplay scripts input false journal line (Some before) (Some now) → IsDrilled n script line now
 drilled n script scripts input journal before now line one none is began written =
     let w : WritesReplay scripts input false journal line (Some []) (Some now) =
     subst (λ (b : List ℕ). WritesReplay scripts input false journal line (Some b) (Some now)) began written in
     let here : now ≡ w.output = same_Some now w.output w.whole in
-    let all : IsReplay scripts input false journal line now = subst (λ (o : List ℕ). IsReplay scripts input false journal line o) (sym here) w.replay in
-    let told : IsReplay scripts input false (drill_journal n) line now = subst (λ (j : List ℕ). IsReplay scripts input false j line now) is all in
-    let empty : IsReplay scripts [] false (drill_journal n) line now = subst (λ (i : List (List ℕ)). IsReplay scripts i false (drill_journal n) line now) none told in
+    let all : IsReplay scripts input false journal line now = subst
+    (λ (o : List ℕ). IsReplay scripts input false journal line o) (sym here) w.replay in
+    let told : IsReplay scripts input false (drill_journal n) line now = subst
+    (λ (j : List ℕ). IsReplay scripts input false j line now) is all in
+    let empty : IsReplay scripts [] false (drill_journal n) line now = subst
+    (λ (i : List (List ℕ)). IsReplay scripts i false (drill_journal n) line now) none told in
     subst (λ (s : List Script). IsReplay s [] false (drill_journal n) line now) one empty
 
 -- ---- causes

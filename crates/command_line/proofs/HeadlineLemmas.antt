@@ -72,14 +72,18 @@ out-none : (scripts : List Script) (m : Meaning Program) (entry : Entry) (texts 
     → texts ≡ []
     → printed_of m.program ++ texts ≡ printed_of (apply scripts m entry).program
 out-none scripts m entry texts none empty =
-    ap (λ xs. printed_of m.program ++ xs) empty ∙ append-nil (printed_of m.program) ∙ ap printed_of (sym (call-program (protocol scripts) m entry none))
+    ap (λ xs. printed_of m.program ++ xs) empty
+    ∙ append-nil (printed_of m.program)
+    ∙ ap printed_of (sym (call-program (protocol scripts) m entry none))
 
 -- what an entry's lines say was printed comes behind what was printed before
 out-at : (scripts : List Script) (m : Meaning Program) (entry : Entry)
     → printed_of m.program ++ out_texts (output_at scripts m entry) ≡ printed_of (apply scripts m entry).program
 out-at scripts m Attach = out-none scripts m Attach [] refl refl
-out-at scripts m (Tell s text) = out-none scripts m (Tell s text) _ refl (out-overrun (overruns scripts m text (seat_of s m.seats)) s)
-out-at scripts m (Take s) = out-none scripts m (Take s) _ refl (out-sent s (waiting (protocol scripts) (seat_of s m.seats)))
+out-at scripts m (Tell s text) =
+    out-none scripts m (Tell s text) _ refl (out-overrun (overruns scripts m text (seat_of s m.seats)) s)
+out-at scripts m (Take s) =
+    out-none scripts m (Take s) _ refl (out-sent s (waiting (protocol scripts) (seat_of s m.seats)))
 out-at scripts m (Detach s) = out-none scripts m (Detach s) [] refl refl
 out-at scripts m (Ran n moment gone) =
     let printed : List (List ℕ) = printed_at scripts moment gone n m in
@@ -96,11 +100,14 @@ out-at scripts m (Ran n moment gone) =
 out-at scripts m Shut = out-none scripts m Shut [] refl refl
 
 out-all : (history : List Entry) (scripts : List Script) (m : Meaning Program)
-    → printed_of m.program ++ out_texts (output_of scripts m history) ≡ printed_of (fold (apply scripts) m history).program
+    → printed_of m.program ++ out_texts (output_of scripts m history) ≡ printed_of
+    (fold (apply scripts) m history).program
 out-all [] scripts m = append-nil (printed_of m.program)
 out-all (entry ∷ history) scripts m =
-    ap (λ xs. printed_of m.program ++ xs) (out-append (output_at scripts m entry) (output_of scripts (apply scripts m entry) history))
-    ∙ sym (append_assoc (printed_of m.program) (out_texts (output_at scripts m entry)) (out_texts (output_of scripts (apply scripts m entry) history)))
+    ap (λ xs. printed_of m.program ++ xs)
+    (out-append (output_at scripts m entry) (output_of scripts (apply scripts m entry) history))
+    ∙ sym (append_assoc (printed_of m.program) (out_texts (output_at scripts m entry))
+    (out_texts (output_of scripts (apply scripts m entry) history)))
     ∙ ap (λ xs. xs ++ out_texts (output_of scripts (apply scripts m entry) history)) (out-at scripts m entry)
     ∙ out-all history scripts (apply scripts m entry)
 
@@ -150,11 +157,14 @@ option-goes : (scripts : List Script) (m : Meaning Program) (text : List ℕ) (o
     → option_and_then (entry_at scripts m) o ≡ Some entry
     → GoesOn scripts m entry
 option-goes scripts m text None entry read is = cc
-option-goes scripts m text (Some line) entry read is = line-goes scripts m line entry (line-some text line read).in_form is
+option-goes scripts m text (Some line) entry read is =
+    line-goes scripts m line entry (line-some text line read).in_form is
 
 entries-go_by : (scripts : List Script) (m : Meaning Program) (texts : List (List ℕ)) (o : Option Entry)
     → ((entry : Entry) → o ≡ Some entry → GoesOn scripts m entry)
-    → ((entry : Entry) → FitsAll (protocol scripts) (apply scripts m entry) (entries scripts (apply scripts m entry) texts) × AreOfLines (entries scripts (apply scripts m entry) texts))
+    → ((entry : Entry)
+    → FitsAll (protocol scripts) (apply scripts m entry) (entries scripts (apply scripts m entry) texts)
+    × AreOfLines (entries scripts (apply scripts m entry) texts))
     → FitsAll (protocol scripts) m (option_map_or (λ entry. entry ∷ entries scripts (apply scripts m entry) texts) o [])
     × AreOfLines (option_map_or (λ entry. entry ∷ entries scripts (apply scripts m entry) texts) o [])
 entries-go_by scripts m texts None goes behind = (tt, tt)
@@ -214,10 +224,15 @@ state-told : (scripts : List Script) (input : List (List ℕ)) (moment made n : 
 state-told scripts input moment made n m is well =
     let k : Meaning Program = apply scripts m (Ran n moment []) in
     let r : Program = plain (made + n) scripts input in
-    ap (λ shut. state_name (state_by shut (has_thrown k.program) (is_over k.program) (is_paused k) (waits k.phase))) (run-shut (protocol scripts) moment [] n m)
-    ∙ ap (λ q. state_name (state_by m.shut (has_thrown q) (is_over q) (is_paused k) (waits k.phase))) (apply-plain scripts input made m (Ran n moment []) is)
-    ∙ ap (λ paused. state_name (state_by m.shut (has_thrown r) (is_over r) paused (waits k.phase))) (stopped-is scripts input moment made n m is well)
-    ∙ ap (λ held. state_name (state_by m.shut (has_thrown r) (is_over r) (is_stopped scripts input moment [] made m n) held)) (waits-is scripts moment n m)
+    ap (λ shut. state_name (state_by shut (has_thrown k.program) (is_over k.program) (is_paused k) (waits k.phase)))
+    (run-shut (protocol scripts) moment [] n m)
+    ∙ ap (λ q. state_name (state_by m.shut (has_thrown q) (is_over q) (is_paused k) (waits k.phase)))
+    (apply-plain scripts input made m (Ran n moment []) is)
+    ∙ ap (λ paused. state_name (state_by m.shut (has_thrown r) (is_over r) paused (waits k.phase)))
+    (stopped-is scripts input moment made n m is well)
+    ∙ ap (λ held. state_name
+    (state_by m.shut (has_thrown r) (is_over r) (is_stopped scripts input moment [] made m n) held))
+    (waits-is scripts moment n m)
     ∙ name_by m.shut (has_thrown r) (is_over r) (is_stopped scripts input moment [] made m n) (is_waiting m n)
 
 ran-overrun : (b : Bool) (s : ℕ) → ran_of (if b then Overran s ∷ [] else []) ≡ []
@@ -257,9 +272,11 @@ ran-all : (history : List Entry) (scripts : List Script) (input : List (List ℕ
 ran-all [] scripts input made m is well of = refl
 ran-all (entry ∷ history) scripts input made m is well of =
     ran-append (output_at scripts m entry) (output_of scripts (apply scripts m entry) history)
-    ∙ ap (λ xs. xs ++ ran_of (output_of scripts (apply scripts m entry) history)) (ran-entry scripts input made m entry is well of.0)
+    ∙ ap (λ xs. xs ++ ran_of (output_of scripts (apply scripts m entry) history))
+    (ran-entry scripts input made m entry is well of.0)
     ∙ ap (λ xs. ran_at scripts input made m entry ++ xs)
-    (ran-all history scripts input (made + steps_of entry) (apply scripts m entry) (apply-plain scripts input made m entry is)
+    (ran-all history scripts input (made + steps_of entry) (apply scripts m entry)
+    (apply-plain scripts input made m entry is)
     (paused-well-from (protocol scripts) m (entry ∷ []) (enabled-kept scripts) well) of.1)
 
 -- ---- which sessions are lost
@@ -310,7 +327,8 @@ sent-at : (scripts : List Script) (m : Meaning Program) (entry : Entry) (s : ℕ
     → to_of s (output_at scripts m entry) ≡ map escaped (handed_at (protocol scripts) s m entry)
 sent-at scripts m Attach s s_small of = refl
 sent-at scripts m (Tell n text) s s_small of = to-overrun s n (overruns scripts m text (seat_of n m.seats))
-sent-at scripts m (Take n) s s_small of = taken-by s n (waiting (protocol scripts) (seat_of n m.seats)) (n == s) s_small of refl
+sent-at scripts m (Take n) s s_small of =
+    taken-by s n (waiting (protocol scripts) (seat_of n m.seats)) (n == s) s_small of refl
 sent-at scripts m (Detach n) s s_small of = refl
 sent-at scripts m (Ran n moment gone) s s_small of =
     let printed : List (List ℕ) = printed_at scripts moment gone n m in
@@ -356,30 +374,42 @@ kept-first P handed seats.Left made keeps = keeps
 -- of the texts that are made for a session those that were handed out are the first; the others wait, while it is attached
 keeps-of : (scripts : List Script) (input : List (List ℕ)) (wait : Bool) (history : List Entry) (s : ℕ)
     → IsHistory scripts input wait history
-    → Keeps (protocol scripts) (sent_to scripts input wait s history) (seat_of s (whole scripts input wait history).seats) (texts_to s scripts input wait history)
-keeps-of scripts input wait history s fits = in-order (protocol scripts) (texts scripts) (sent scripts) s (start scripts input) wait history fits
+    → Keeps (protocol scripts) (sent_to scripts input wait s history)
+    (seat_of s (whole scripts input wait history).seats) (texts_to s scripts input wait history)
+keeps-of scripts input wait history s fits =
+    in-order (protocol scripts) (texts scripts) (sent scripts) s (start scripts input) wait history fits
 
 -- where a session is attached at the end, all texts that are made for it were sent, or wait
-sends-exact : (scripts : List Script) (input : List (List ℕ)) (wait : Bool) (history : List Entry) (s : ℕ) (lines : List (List ℕ))
+sends-exact : (scripts : List Script) (input : List (List ℕ)) (wait : Bool) (history : List Entry) (s : ℕ)
+    (lines : List (List ℕ))
     → IsHistory scripts input wait history
     → lines ≡ map escaped (sent_to scripts input wait s history) → is_there (whole scripts input wait history) s ≡ true
-    → lines ++ map escaped (waiting_to s scripts (whole scripts input wait history)) ≡ map escaped (texts_to s scripts input wait history)
+    → lines ++ map escaped (waiting_to s scripts (whole scripts input wait history)) ≡ map escaped
+    (texts_to s scripts input wait history)
 sends-exact scripts input wait history s lines fits are there =
     let m : Meaning Program = whole scripts input wait history in
     let handed : List (List ℕ) = sent_to scripts input wait s history in
     ap (λ xs. xs ++ map escaped (waiting_to s scripts m)) are
     ∙ sym (map-append escaped handed (waiting_to s scripts m))
-    ∙ ap (map escaped) (kept-all (protocol scripts) handed (seat_of s m.seats) (texts_to s scripts input wait history) there (keeps-of scripts input wait history s fits))
+    ∙ ap (map escaped)
+    (kept-all (protocol scripts) handed (seat_of s m.seats) (texts_to s scripts input wait history) there
+    (keeps-of scripts input wait history s fits))
 
 -- and of any session the texts that were sent are the first that were made
-sends-first : (scripts : List Script) (input : List (List ℕ)) (wait : Bool) (history : List Entry) (s : ℕ) (lines : List (List ℕ))
+sends-first : (scripts : List Script) (input : List (List ℕ)) (wait : Bool) (history : List Entry) (s : ℕ)
+    (lines : List (List ℕ))
     → IsHistory scripts input wait history
     → lines ≡ map escaped (sent_to scripts input wait s history)
     → IsPrefix lines (map escaped (texts_to s scripts input wait history))
 sends-first scripts input wait history s lines fits are =
     let handed : List (List ℕ) = sent_to scripts input wait s history in
-    let first = kept-first (protocol scripts) handed (seat_of s (whole scripts input wait history).seats) (texts_to s scripts input wait history) (keeps-of scripts input wait history s fits) in
-    (map escaped first.0, ap (map escaped) first.1 ∙ map-append escaped handed first.0 ∙ ap (λ xs. xs ++ map escaped first.0) (sym are))
+    let first = kept-first (protocol scripts) handed (seat_of s (whole scripts input wait history).seats)
+    (texts_to s scripts input wait history) (keeps-of scripts input wait history s fits) in (
+      map escaped first.0,
+      ap (map escaped) first.1
+          ∙ map-append escaped handed first.0
+          ∙ ap (λ xs. xs ++ map escaped first.0) (sym are),
+    )
 
 -- ---- the headline
 
@@ -393,12 +423,19 @@ headline-of lines scripts input wait =
     let goes = entries-go lines scripts first in
     let fits : IsHistory scripts input wait history = goes.0 in
     let begins = plain-start scripts input in
-    let well : IsPausedWell (protocol scripts) first = paused-well (protocol scripts) (start scripts input) wait [] (enabled-kept scripts) in
+    let well : IsPausedWell (protocol scripts) first = paused-well (protocol scripts) (start scripts input) wait []
+    (enabled-kept scripts) in
     let prints : out_texts shows ≡ printed_of (plain (steps_made history) scripts input) =
-    ap (λ xs. xs ++ out_texts shows) (sym (start-prints scripts input)) ∙ out-all history scripts first ∙ ap printed_of (goes-plainly scripts input wait history) in
+    ap (λ xs. xs ++ out_texts shows) (sym (start-prints scripts input))
+    ∙ out-all history scripts first
+    ∙ ap printed_of (goes-plainly scripts input wait history) in
     let cut = shown shows (lines-one shows) in
-    let sends : (s : ℕ) → s < 2 ^ 64 → behind_each (to_front s) (lines_of (output_bytes shows)) ≡ map escaped (sent_to scripts input wait s history) =
-    λ s s_small. ap (behind_each (to_front s)) cut ∙ to-each s shows ∙ sent-all history scripts first s s_small goes.1 in
+    let sends : (s : ℕ)
+    → s < 2 ^ 64
+    → behind_each (to_front s) (lines_of (output_bytes shows)) ≡ map escaped (sent_to scripts input wait s history) =
+    λ s s_small. ap (behind_each (to_front s)) cut
+    ∙ to-each s shows
+    ∙ sent-all history scripts first s s_small goes.1 in
     record {
       prints = record {
         lines = ap (behind_each (codes "out ")) cut ∙ out-each shows ∙ ap (map printed_escaped) prints;
@@ -407,13 +444,23 @@ headline-of lines scripts input wait =
       stops = record {
         is_history = fits;
         exactly = stops-exactly (protocol scripts) (start scripts input) wait history fits;
-        lines = ap (behind_each (codes "ran ")) cut ∙ ran-each shows ∙ ran-all history scripts input 0 first begins well goes.1;
+        lines =
+            ap (behind_each (codes "ran ")) cut
+            ∙ ran-each shows
+            ∙ ran-all history scripts input 0 first begins well goes.1;
       };
       sends = record {
         lines = sends;
         alone = λ s. alone (protocol scripts) s (start scripts input) wait history fits;
-        all = λ s s_small there. sends-exact scripts input wait history s (behind_each (to_front s) (lines_of (output_bytes shows))) fits (sends s s_small) there;
-        first = λ s s_small. sends-first scripts input wait history s (behind_each (to_front s) (lines_of (output_bytes shows))) fits (sends s s_small);
-        losses = ap (behind_each (codes "overrun ")) cut ∙ lost-each shows ∙ ap (map decimal) (lost-all history scripts first);
+        all =
+            λ s s_small there. sends-exact scripts input wait history s
+            (behind_each (to_front s) (lines_of (output_bytes shows))) fits (sends s s_small) there;
+        first =
+            λ s s_small. sends-first scripts input wait history s
+            (behind_each (to_front s) (lines_of (output_bytes shows))) fits (sends s s_small);
+        losses =
+            ap (behind_each (codes "overrun ")) cut
+            ∙ lost-each shows
+            ∙ ap (map decimal) (lost-all history scripts first);
       };
     }

@@ -52,7 +52,9 @@ memory_by false s all xs ys is = is
 
 memory-append : (xs ys : List SessionLost) → lost_for_memory (xs ++ ys) ≡ lost_for_memory xs ++ lost_for_memory ys
 memory-append [] ys = refl
-memory-append (lost ∷ xs) ys = memory_by (is_for_memory lost.loss) lost.session (lost_for_memory (xs ++ ys)) (lost_for_memory xs) (lost_for_memory ys) (memory-append xs ys)
+memory-append (lost ∷ xs) ys =
+    memory_by (is_for_memory lost.loss) lost.session (lost_for_memory (xs ++ ys)) (lost_for_memory xs)
+    (lost_for_memory ys) (memory-append xs ys)
 
 pub memory-more : (losses : List SessionLost) (i : ℕ) (d : SessionLost)
     → i < length losses

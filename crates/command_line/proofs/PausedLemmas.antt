@@ -21,7 +21,10 @@ use Rattle.cdp_host.proofs.WatchLemmas.{told-asks}
 
 -- a session that names a step has the debugger enabled when it was told of the stop
 abbrev pub NamesEnabled : {C T Q X : Type 0} → Protocol C T Q X → Type 0
-NamesEnabled {C} {T} {Q} {X} P = (number moment : ℕ) (t : T) (x : X) → P.names t x ≡ true → P.is_enabled (P.stopped number t (P.told moment t x)) ≡ true
+NamesEnabled {C} {T} {Q} {X} P =
+    (number moment : ℕ) (t : T) (x : X)
+    → P.names t x ≡ true
+    → P.is_enabled (P.stopped number t (P.told moment t x)) ≡ true
 
 stops-enabled : {C T Q X : Type 0}
     → (P : Protocol C T Q X)
@@ -35,7 +38,8 @@ stops-enabled {X = X} P enabled number moment t (Attached x) stops =
     let told : session_behind P number moment t x ≡ y = ap (λ b. if b then y else P.told moment t x) parts.1 in
     let fit : P.fits y ≡ true = ap P.fits (sym told) ∙ parts.0 in
     let is : seat_behind P true number moment t (Attached x) ≡ Attached y =
-    ap (λ b. if b then kept P y else lost_by Overrun) parts.0 ∙ ap (λ b. if b then Attached y else lost_by Overrun) fit in
+    ap (λ b. if b then kept P y else lost_by Overrun) parts.0
+    ∙ ap (λ b. if b then Attached y else lost_by Overrun) fit in
     ap (λ seat. is_enabled_seat P seat) is ∙ enabled number moment t x parts.1
 stops-enabled P enabled number moment t (Lost loss is_reported is_told) stops = absurd cc
 stops-enabled P enabled number moment t Left stops = absurd cc
@@ -50,7 +54,8 @@ some-each : {X : Type 0}
     → ((seat : Seat X) → f seat ≡ true → g (h seat) ≡ true)
     → (seats : List (Seat X)) → some f seats ≡ true → some g (each h seats) ≡ true
 some-each f g h more [] is = absurd cc
-some-each f g h more (seat ∷ seats) is = or_more (f seat) (some f seats) (g (h seat)) (some g (each h seats)) is (more seat) (some-each f g h more seats)
+some-each f g h more (seat ∷ seats) is =
+    or_more (f seat) (some f seats) (g (h seat)) (some g (each h seats)) is (more seat) (some-each f g h more seats)
 
 -- a report leaves who is enabled
 reported-enabled : {C T Q X : Type 0}
@@ -85,9 +90,11 @@ step-enabled : {C T Q X : Type 0}
     → (moment : ℕ) (gone : List ℕ) (m : Meaning C Q X) (b : Bool)
     → is_named P moment gone m.program m ≡ b
     → b ≡ true
-    → some (is_enabled_seat P) (each (seat_behind P b (next_number m.stops) moment (told_at P m.program m)) (without gone m.seats)) ≡ true
+    → some (is_enabled_seat P)
+    (each (seat_behind P b (next_number m.stops) moment (told_at P m.program m)) (without gone m.seats)) ≡ true
 step-enabled P enabled moment gone m true named is =
-    some-each (stops_for P (next_number m.stops) moment (told_at P m.program m)) (is_enabled_seat P) (seat_behind P true (next_number m.stops) moment (told_at P m.program m))
+    some-each (stops_for P (next_number m.stops) moment (told_at P m.program m)) (is_enabled_seat P)
+    (seat_behind P true (next_number m.stops) moment (told_at P m.program m))
     (stops-enabled P enabled (next_number m.stops) moment (told_at P m.program m)) (without gone m.seats) named
 step-enabled P enabled moment gone m false named is = absurd cc
 
@@ -96,13 +103,15 @@ pub run-paused : {C T Q X : Type 0}
     → (P : Protocol C T Q X)
     → NamesEnabled P
     → (moment : ℕ) (gone : List ℕ) (n : ℕ) (m : Meaning C Q X)
-    → is_paused (ran P (suc n) moment gone m) ≡ is_named P moment gone (after_steps P moment n m).program (after_steps P moment n m)
+    → is_paused (ran P (suc n) moment gone m) ≡ is_named P moment gone (after_steps P moment n m).program
+    (after_steps P moment n m)
 run-paused {C} {T} {Q} {X} P enabled moment gone n m =
     let k : Meaning C Q X = after_steps P moment n m in
     let l : Meaning C Q X = step P moment gone k in
     let named : Bool = is_named P moment gone k.program k in
     settled P (with_seats (each reported l.seats) l) named (step-stops P moment gone k)
-    (λ is. some-each (is_enabled_seat P) (is_enabled_seat P) reported (reported-enabled P) l.seats (step-enabled P enabled moment gone k named refl is))
+    (λ is. some-each (is_enabled_seat P) (is_enabled_seat P) reported (reported-enabled P) l.seats
+    (step-enabled P enabled moment gone k named refl is))
 
 -- one that makes none leaves it as it was
 pub rest-paused : {C T Q X : Type 0}
@@ -118,7 +127,11 @@ rest-paused {C} {T} {Q} {X} P moment m well =
 -- ---- what else a run leaves
 
 settled-shut : {C T Q X : Type 0} → (P : Protocol C T Q X) (m : Meaning C Q X) (enabled paused : Bool)
-    → (if enabled then m else if paused then record m { stop = None; seats = each (resumed_seat P) m.seats } else m).shut ≡ m.shut
+    → (if enabled then m else if paused then record m {
+      stop = None;
+      seats = each (resumed_seat P)
+          m.seats;
+    } else m).shut ≡ m.shut
 settled-shut P m true paused = refl
 settled-shut P m false true = refl
 settled-shut P m false false = refl
@@ -141,10 +154,16 @@ pub run-shut : {C T Q X : Type 0}
     → (ran P n moment gone m).shut ≡ m.shut
 run-shut {C} {T} {Q} {X} P moment gone n m =
     let k : Meaning C Q X = after_run P moment gone n m in
-    settled-shut P (with_seats (each reported k.seats) k) (some (is_enabled_seat P) (each reported k.seats)) (is_paused k) ∙ run-shut_by P moment gone n m
+    settled-shut P (with_seats (each reported k.seats) k) (some (is_enabled_seat P) (each reported k.seats))
+    (is_paused k)
+    ∙ run-shut_by P moment gone n m
 
 settled-phase : {C T Q X : Type 0} → (P : Protocol C T Q X) (m : Meaning C Q X) (enabled paused : Bool)
-    → (if enabled then m else if paused then record m { stop = None; seats = each (resumed_seat P) m.seats } else m).phase ≡ m.phase
+    → (if enabled then m else if paused then record m {
+      stop = None;
+      seats = each (resumed_seat P)
+          m.seats;
+    } else m).phase ≡ m.phase
 settled-phase P m true paused = refl
 settled-phase P m false true = refl
 settled-phase P m false false = refl
@@ -155,7 +174,8 @@ pub run-phase : {C T Q X : Type 0}
     → (ran P n moment gone m).phase ≡ (after_run P moment gone n m).phase
 run-phase {C} {T} {Q} {X} P moment gone n m =
     let k : Meaning C Q X = after_run P moment gone n m in
-    settled-phase P (with_seats (each reported k.seats) k) (some (is_enabled_seat P) (each reported k.seats)) (is_paused k)
+    settled-phase P (with_seats (each reported k.seats) k) (some (is_enabled_seat P) (each reported k.seats))
+    (is_paused k)
 
 -- ---- the sessions of a host
 
@@ -168,4 +188,5 @@ enabled_by t x false is named =
 -- a session without the debugger names no step, and being told changes none of its rules but its requests
 pub names-enabled : (scripts : List Script) → NamesEnabled (protocol scripts)
 names-enabled scripts number moment t x named =
-    ap (λ rules. rules.enabled) (told-asks (seen_behind scripts t) moment t x).rules ∙ enabled_by t x x.rules.enabled refl named
+    ap (λ rules. rules.enabled) (told-asks (seen_behind scripts t) moment t x).rules
+    ∙ enabled_by t x x.rules.enabled refl named

@@ -25,14 +25,18 @@ plain-as : (k made : ℕ) (scripts : List Script) (input : List (List ℕ))
 plain-as zero made scripts input = let e : made ≡ made + 0 = omega arith in ap (λ n. plain n scripts input) e
 plain-as (suc k) made scripts input =
     let e : suc (made + k) ≡ made + suc k = omega arith in
-    ap (next scripts) (plain-as k made scripts input) ∙ plain-next (made + k) scripts input ∙ ap (λ n. plain n scripts input) e
+    ap (next scripts) (plain-as k made scripts input)
+    ∙ plain-next (made + k) scripts input
+    ∙ ap (λ n. plain n scripts input) e
 
 -- the program goes its plain way, whatever an entry does
 pub apply-plain : (scripts : List Script) (input : List (List ℕ)) (made : ℕ) (m : Meaning Run) (entry : Entry)
     → m.program ≡ plain made scripts input
     → (apply scripts m entry).program ≡ plain (made + steps_of entry) scripts input
 apply-plain scripts input made m entry is =
-    entry-program (protocol scripts) m entry ∙ ap (plain_from (protocol scripts) (steps_of entry)) is ∙ plain-as (steps_of entry) made scripts input
+    entry-program (protocol scripts) m entry
+    ∙ ap (plain_from (protocol scripts) (steps_of entry)) is
+    ∙ plain-as (steps_of entry) made scripts input
 
 after-program : {C T Q X : Type 0}
     → (P : Protocol C T Q X) (moment n : ℕ) (m : meanings.Meaning C Q X)
@@ -50,7 +54,9 @@ pub steps-plain : (scripts : List Script) (input : List (List ℕ)) (made moment
     → m.program ≡ plain made scripts input
     → (after_steps (protocol scripts) moment n m).program ≡ plain (made + n) scripts input
 steps-plain scripts input made moment n m is =
-    after-program (protocol scripts) moment n m ∙ ap (plain_from (protocol scripts) n) is ∙ plain-as n made scripts input
+    after-program (protocol scripts) moment n m
+    ∙ ap (plain_from (protocol scripts) n) is
+    ∙ plain-as n made scripts input
 
 -- ---- output
 
@@ -59,15 +65,20 @@ steps-grow : (n : ℕ) (scripts : List Script) (r : Run)
 steps-grow zero scripts r = prefix-same (printed_of r)
 steps-grow (suc n) scripts r =
     let q : Run = plain_from (protocol scripts) n r in
-    prefix-trans (printed_of r) (printed_of q) (printed_of (next scripts q)) (steps-grow n scripts r) (next-prints scripts q)
+    prefix-trans (printed_of r) (printed_of q) (printed_of (next scripts q)) (steps-grow n scripts r)
+    (next-prints scripts q)
 
 between : (before after : List (List ℕ)) → IsPrefix before after → before ++ drop (length before) after ≡ after
 between before after part =
-    ap (λ xs. before ++ drop (length before) xs) part.1 ∙ ap (λ xs. before ++ xs) (drop-append_seam before part.0) ∙ sym part.1
+    ap (λ xs. before ++ drop (length before) xs) part.1
+    ∙ ap (λ xs. before ++ xs) (drop-append_seam before part.0)
+    ∙ sym part.1
 
 -- what a run prints comes behind what was printed before
 pub run-prints : (scripts : List Script) (moment : ℕ) (gone : List ℕ) (n : ℕ) (m : Meaning Run)
-    → printed_of m.program ++ printed_between m.program (after_run (protocol scripts) moment gone n m).program ≡ printed_of (plain_from (protocol scripts) n m.program)
+    → printed_of m.program ++ printed_between m.program
+    (after_run (protocol scripts) moment gone n m).program ≡ printed_of (plain_from (protocol scripts) n m.program)
 run-prints scripts moment gone n m =
     ap (λ r. printed_of m.program ++ printed_between m.program r) (run-program (protocol scripts) moment gone n m)
-    ∙ between (printed_of m.program) (printed_of (plain_from (protocol scripts) n m.program)) (steps-grow n scripts m.program)
+    ∙ between (printed_of m.program) (printed_of (plain_from (protocol scripts) n m.program))
+    (steps-grow n scripts m.program)

@@ -32,7 +32,8 @@ replays scripts input wait journal line is = record {
 
 -- ---- what is written of it
 
-writes-whole : (scripts : List Script) (input : List (List ℕ)) (wait : Bool) (journal : List ℕ) (line : Option ℕ) (old new : Option (List ℕ))
+writes-whole : (scripts : List Script) (input : List (List ℕ)) (wait : Bool) (journal : List ℕ) (line : Option ℕ)
+    (old new : Option (List ℕ))
     → refused scripts 1 (begin scripts input wait) (lines_of journal) ≡ line
     → new ≡ gains old (journal_output scripts (begin scripts input wait) (lines_of journal))
     → WritesReplay scripts input wait journal line old new
@@ -42,7 +43,8 @@ writes-whole scripts input wait journal line old new is whole = record {
   whole = whole;
 }
 
-pub writes-part : (scripts : List Script) (input : List (List ℕ)) (wait : Bool) (journal : List ℕ) (old new : Option (List ℕ))
+pub writes-part : (scripts : List Script) (input : List (List ℕ)) (wait : Bool) (journal : List ℕ)
+    (old new : Option (List ℕ))
     → GainsPrefix old new (journal_output scripts (begin scripts input wait) (lines_of journal))
     → WritesPart scripts input wait journal old new
 writes-part scripts input wait journal old new part = record {
@@ -52,7 +54,8 @@ writes-part scripts input wait journal old new part = record {
   part = part;
 }
 
-pub writes-less : (scripts : List Script) (input : List (List ℕ)) (wait : Bool) (journal : List ℕ) (old new : Option (List ℕ))
+pub writes-less : (scripts : List Script) (input : List (List ℕ)) (wait : Bool) (journal : List ℕ)
+    (old new : Option (List ℕ))
     → GainsLess old new (journal_output scripts (begin scripts input wait) (lines_of journal))
     → WritesLess scripts input wait journal old new
 writes-less scripts input wait journal old new less = record {
@@ -93,32 +96,39 @@ uncut-refused number (inr is) = cc
 
 -- what is known of the end of the lines, and of what was written by then
 abbrev HasEnd : ReplayEnd → List Script → List (List ℕ) → Bool → List ℕ → Type 0
-HasEnd e scripts input wait journal = IsCut e ⊎ (e ≡ end_of (refused scripts 1 (begin scripts input wait) (lines_of journal)))
+HasEnd e scripts input wait journal =
+    IsCut e ⊎ (e ≡ end_of (refused scripts 1 (begin scripts input wait) (lines_of journal)))
 
 abbrev HasOutput : ReplayEnd → List Script → List (List ℕ) → Bool → List ℕ → Option (List ℕ) → Option (List ℕ) → Type 0
 HasOutput e scripts input wait journal old new =
     IsCut e ⊎ (new ≡ gains old (journal_output scripts (begin scripts input wait) (lines_of journal)))
 
-writes-done : (scripts : List Script) (input : List (List ℕ)) (wait : Bool) (journal : List ℕ) (old new : Option (List ℕ))
+writes-done : (scripts : List Script) (input : List (List ℕ)) (wait : Bool) (journal : List ℕ)
+    (old new : Option (List ℕ))
     → HasEnd ends.Done scripts input wait journal → HasOutput ends.Done scripts input wait journal old new
     → WritesReplay scripts input wait journal None old new
 writes-done scripts input wait journal old new end output =
     let o = refused scripts 1 (begin scripts input wait) (lines_of journal) in
-    writes-whole scripts input wait journal None old new (none_of o (ended_by ends.Done o uncut-done end)) (wrote_by ends.Done old new _ uncut-done output)
+    writes-whole scripts input wait journal None old new (none_of o (ended_by ends.Done o uncut-done end))
+    (wrote_by ends.Done old new _ uncut-done output)
 
-writes-refused : (scripts : List Script) (input : List (List ℕ)) (wait : Bool) (journal : List ℕ) (line : ℕ) (old new : Option (List ℕ))
+writes-refused : (scripts : List Script) (input : List (List ℕ)) (wait : Bool) (journal : List ℕ) (line : ℕ)
+    (old new : Option (List ℕ))
     → HasEnd (ends.Refused line) scripts input wait journal
     → HasOutput (ends.Refused line) scripts input wait journal old new
     → WritesReplay scripts input wait journal (Some line) old new
 writes-refused scripts input wait journal line old new end output =
     let o = refused scripts 1 (begin scripts input wait) (lines_of journal) in
-    writes-whole scripts input wait journal (Some line) old new (some_of o line (ended_by (ends.Refused line) o (uncut-refused line) end))
+    writes-whole scripts input wait journal (Some line) old new
+    (some_of o line (ended_by (ends.Refused line) o (uncut-refused line) end))
     (wrote_by (ends.Refused line) old new _ (uncut-refused line) output)
 
-pub done-writes : (e : ReplayEnd) (scripts : List Script) (input : List (List ℕ)) (wait : Bool) (journal : List ℕ) (old new : Option (List ℕ))
+pub done-writes : (e : ReplayEnd) (scripts : List Script) (input : List (List ℕ)) (wait : Bool) (journal : List ℕ)
+    (old new : Option (List ℕ))
     → HasEnd e scripts input wait journal → HasOutput e scripts input wait journal old new
     → e ≡ ends.Done → WritesReplay scripts input wait journal None old new
-done-writes ends.Done scripts input wait journal old new end output is = writes-done scripts input wait journal old new end output
+done-writes ends.Done scripts input wait journal old new end output is =
+    writes-done scripts input wait journal old new end output
 done-writes (ends.Refused line) scripts input wait journal old new end output is = cc
 done-writes ends.WriteFault scripts input wait journal old new end output is = cc
 done-writes ends.Memory scripts input wait journal old new end output is = cc
@@ -126,7 +136,8 @@ done-writes ends.Memory scripts input wait journal old new end output is = cc
 same-line : (n line : ℕ) → ends.Refused n ≡ ends.Refused line → n ≡ line
 same-line n line is = cc
 
-pub refused-writes : (e : ReplayEnd) (scripts : List Script) (input : List (List ℕ)) (wait : Bool) (journal : List ℕ) (old new : Option (List ℕ))
+pub refused-writes : (e : ReplayEnd) (scripts : List Script) (input : List (List ℕ)) (wait : Bool) (journal : List ℕ)
+    (old new : Option (List ℕ))
     → HasEnd e scripts input wait journal → HasOutput e scripts input wait journal old new
     → (line : ℕ) → e ≡ ends.Refused line → WritesReplay scripts input wait journal (Some line) old new
 refused-writes ends.Done scripts input wait journal old new end output line is = cc

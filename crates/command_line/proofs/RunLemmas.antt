@@ -46,50 +46,72 @@ input_stands : (files : List Named) (o : Option (List ℕ)) (name : List ℕ) (l
     → HoldsLines files o lines
     → HoldsNoText files name r
     → ⊥
-input_stands files o name lines r is h n = text_stands files name lines r (subst (λ (x : Option (List ℕ)). HoldsLines files x lines) is h) n
+input_stands files o name lines r is h n =
+    text_stands files name lines r (subst (λ (x : Option (List ℕ)). HoldsLines files x lines) is h) n
 
-pub run_stands : (files : List Named) (sources : Sources) (scripts : List Script) (input : List (List ℕ)) (name : List ℕ) (r : Refusal)
+pub run_stands : (files : List Named) (sources : Sources) (scripts : List Script) (input : List (List ℕ))
+    (name : List ℕ) (r : Refusal)
     → HoldsSources files sources scripts input
     → IsRefusedIn files sources name r
     → ⊥
-run_stands files sources scripts input name r h (inl i) = input_stands files sources.input name input r i.named h.lines i.refused
-run_stands files sources scripts input name r h (inr i) = none_refused files sources.scripts scripts name r h.are i.refused
+run_stands files sources scripts input name r h (inl i) =
+    input_stands files sources.input name input r i.named h.lines i.refused
+run_stands files sources scripts input name r h (inr i) =
+    none_refused files sources.scripts scripts name r h.are i.refused
 
 -- ---- the status that the files decide
 
 -- one of these, where the files hold scripts and input
 abbrev IsTaken : ℕ → Sources → List Named → Type 0
-IsTaken n sources files = (scripts : List Script) (input : List (List ℕ)) → HoldsSources files sources scripts input → (n ≡ 0) ⊎ (n ≡ 8) ⊎ (n ≡ 1) ⊎ (n ≡ 4) ⊎ (n ≡ 5)
+IsTaken n sources files =
+    (scripts : List Script) (input : List (List ℕ))
+    → HoldsSources files sources scripts input
+    → (n ≡ 0) ⊎ (n ≡ 8) ⊎ (n ≡ 1) ⊎ (n ≡ 4) ⊎ (n ≡ 5)
 
-taken_of : (end : Outcome) (sources : Sources) (told : Option (List Named)) (before after : Faults) (was now : ℕ) (old new : Option (List ℕ))
+taken_of : (end : Outcome) (sources : Sources) (told : Option (List Named)) (before after : Faults) (was now : ℕ)
+    (old new : Option (List ℕ))
     → BecauseRun end sources told before after was now old new
     → Told told (IsTaken (status_of end) sources)
-taken_of ends.Done sources told before after was now old new h = told_always told (IsTaken 0 sources) (λ files scripts input holds. inl refl)
-taken_of (ends.Threw text) sources told before after was now old new h = told_always told (IsTaken 8 sources) (λ files scripts input holds. inr (inl refl))
-taken_of ends.OutOfMemory sources told before after was now old new h = told_always told (IsTaken 1 sources) (λ files scripts input holds. inr (inr (inl refl)))
+taken_of ends.Done sources told before after was now old new h =
+    told_always told (IsTaken 0 sources) (λ files scripts input holds. inl refl)
+taken_of (ends.Threw text) sources told before after was now old new h =
+    told_always told (IsTaken 8 sources) (λ files scripts input holds. inr (inl refl))
+taken_of ends.OutOfMemory sources told before after was now old new h =
+    told_always told (IsTaken 1 sources) (λ files scripts input holds. inr (inr (inl refl)))
 taken_of (ends.Refused name r) sources told before after was now old new h =
-    told_map told (λ files. IsRefusedIn files sources name.now r) (IsTaken 3 sources) (λ files i. λ scripts input holds. absurd (run_stands files sources scripts input name.now r holds i)) h.2
-taken_of (ends.CannotRead name) sources told before after was now old new h = told_always told (IsTaken 4 sources) (λ files scripts input holds. inr (inr (inr (inl refl))))
-taken_of ends.CannotWrite sources told before after was now old new h = told_always told (IsTaken 5 sources) (λ files scripts input holds. inr (inr (inr (inr refl))))
+    told_map told (λ files. IsRefusedIn files sources name.now r) (IsTaken 3 sources)
+    (λ files i. λ scripts input holds. absurd (run_stands files sources scripts input name.now r holds i)) h.2
+taken_of (ends.CannotRead name) sources told before after was now old new h =
+    told_always told (IsTaken 4 sources) (λ files scripts input holds. inr (inr (inr (inl refl))))
+taken_of ends.CannotWrite sources told before after was now old new h =
+    told_always told (IsTaken 5 sources) (λ files scripts input holds. inr (inr (inr (inr refl))))
 taken_of ends.Usage sources told before after was now old new h = absurd h
 taken_of (ends.LineRefused n) sources told before after was now old new h = absurd h
 
 -- one of these, where a file is refused
 abbrev IsLeft : ℕ → Sources → List Named → Type 0
-IsLeft n sources files = (name : List ℕ) (refusal : Refusal) → IsRefusedIn files sources name refusal → (n ≡ 3) ⊎ (n ≡ 1) ⊎ (n ≡ 4)
+IsLeft n sources files =
+    (name : List ℕ) (refusal : Refusal) → IsRefusedIn files sources name refusal → (n ≡ 3) ⊎ (n ≡ 1) ⊎ (n ≡ 4)
 
-left_of : (end : Outcome) (sources : Sources) (told : Option (List Named)) (before after : Faults) (was now : ℕ) (old new : Option (List ℕ))
+left_of : (end : Outcome) (sources : Sources) (told : Option (List Named)) (before after : Faults) (was now : ℕ)
+    (old new : Option (List ℕ))
     → BecauseRun end sources told before after was now old new
     → Told told (IsLeft (status_of end) sources)
 left_of ends.Done sources told before after was now old new h =
-    told_map told (λ files. RunsToEnd files sources old new) (IsLeft 0 sources) (λ files i. λ name r refused. absurd (run_stands files sources i.scripts i.input name r i.holds refused)) h.2
+    told_map told (λ files. RunsToEnd files sources old new) (IsLeft 0 sources)
+    (λ files i. λ name r refused. absurd (run_stands files sources i.scripts i.input name r i.holds refused)) h.2
 left_of (ends.Threw text) sources told before after was now old new h =
-    told_map told (λ files. RunsToThrow files sources (string_bytes text) old new) (IsLeft 8 sources) (λ files i. λ name r refused. absurd (run_stands files sources i.scripts i.input name r i.holds refused)) h.2
-left_of ends.OutOfMemory sources told before after was now old new h = told_always told (IsLeft 1 sources) (λ files name r refused. inr (inl refl))
-left_of (ends.Refused name r) sources told before after was now old new h = told_always told (IsLeft 3 sources) (λ files name q refused. inl refl)
-left_of (ends.CannotRead name) sources told before after was now old new h = told_always told (IsLeft 4 sources) (λ files name r refused. inr (inr refl))
+    told_map told (λ files. RunsToThrow files sources (string_bytes text) old new) (IsLeft 8 sources)
+    (λ files i. λ name r refused. absurd (run_stands files sources i.scripts i.input name r i.holds refused)) h.2
+left_of ends.OutOfMemory sources told before after was now old new h =
+    told_always told (IsLeft 1 sources) (λ files name r refused. inr (inl refl))
+left_of (ends.Refused name r) sources told before after was now old new h =
+    told_always told (IsLeft 3 sources) (λ files name q refused. inl refl)
+left_of (ends.CannotRead name) sources told before after was now old new h =
+    told_always told (IsLeft 4 sources) (λ files name r refused. inr (inr refl))
 left_of ends.CannotWrite sources told before after was now old new h =
-    told_map told (λ files. RunsShort files sources old new) (IsLeft 5 sources) (λ files i. λ name r refused. absurd (run_stands files sources i.scripts i.input name r i.holds refused)) h.2
+    told_map told (λ files. RunsShort files sources old new) (IsLeft 5 sources)
+    (λ files i. λ name r refused. absurd (run_stands files sources i.scripts i.input name r i.holds refused)) h.2
 left_of ends.Usage sources told before after was now old new h = absurd h
 left_of (ends.LineRefused n) sources told before after was now old new h = absurd h
 
@@ -100,31 +122,39 @@ given_run : (o : Option Command) (sources : Sources) (told : Option (List Named)
     → GivenRun o told P
 given_run o sources told P is h = rw is h
 
-pub taken_given : (o : Option Command) (sources : Sources) (told : Option (List Named)) (end : Outcome) (before after : Faults) (was now : ℕ) (old new : Option (List ℕ)) (status : ℕ)
+pub taken_given : (o : Option Command) (sources : Sources) (told : Option (List Named)) (end : Outcome)
+    (before after : Faults) (was now : ℕ) (old new : Option (List ℕ)) (status : ℕ)
     → o ≡ Some (Run sources)
     → status ≡ status_of end
     → BecauseRun end sources told before after was now old new
     → GivenRun o told (IsTaken status)
 taken_given o sources told end before after was now old new status is e h =
-    given_run o sources told (IsTaken status) is (subst (λ (n : ℕ). Told told (IsTaken n sources)) (sym e) (taken_of end sources told before after was now old new h))
+    given_run o sources told (IsTaken status) is
+    (subst (λ (n : ℕ). Told told (IsTaken n sources)) (sym e)
+    (taken_of end sources told before after was now old new h))
 
-pub left_given : (o : Option Command) (sources : Sources) (told : Option (List Named)) (end : Outcome) (before after : Faults) (was now : ℕ) (old new : Option (List ℕ)) (status : ℕ)
+pub left_given : (o : Option Command) (sources : Sources) (told : Option (List Named)) (end : Outcome)
+    (before after : Faults) (was now : ℕ) (old new : Option (List ℕ)) (status : ℕ)
     → o ≡ Some (Run sources)
     → status ≡ status_of end
     → BecauseRun end sources told before after was now old new
     → GivenRun o told (IsLeft status)
 left_given o sources told end before after was now old new status is e h =
-    given_run o sources told (IsLeft status) is (subst (λ (n : ℕ). Told told (IsLeft n sources)) (sym e) (left_of end sources told before after was now old new h))
+    given_run o sources told (IsLeft status) is
+    (subst (λ (n : ℕ). Told told (IsLeft n sources)) (sym e)
+    (left_of end sources told before after was now old new h))
 
 -- ---- before a step is made
 
 -- why a run ended so whose files weren't all taken
-pub unread : (end : Outcome) (sources : Sources) (told : Option (List Named)) (before after : Faults) (was : ℕ) (old : Option (List ℕ))
+pub unread : (end : Outcome) (sources : Sources) (told : Option (List Named)) (before after : Faults) (was : ℕ)
+    (old : Option (List ℕ))
     → BecauseSources end sources told before after
     → BecauseRun end sources told before after was was old old
 unread ends.Done sources told before after was old h = absurd h
 unread (ends.Threw text) sources told before after was old h = absurd h
-unread ends.OutOfMemory sources told before after was old h = (h, refl, told_always told (λ files. (old ≡ old) ⊎ RunsInPart files sources old old) (λ files. inl refl))
+unread ends.OutOfMemory sources told before after was old h =
+    (h, refl, told_always told (λ files. (old ≡ old) ⊎ RunsInPart files sources old old) (λ files. inl refl))
 unread ends.Usage sources told before after was old h = absurd h
 unread (ends.Refused name r) sources told before after was old h = (h.0, refl, h.1)
 unread (ends.CannotRead name) sources told before after was old h = (h.0, refl, h.1, h.2)

@@ -40,7 +40,8 @@ gone-by false mine seat is gone stays = ap (λ s. is_attached s) (sym is) ∙ go
 -- ---- the seats of a host
 
 host-seat : {C Q X : Type 0} → (host m : Meaning C Q X) (s : ℕ) → StandsAs host m
-    → seat_of s host.seats ≡ (if is_listed (fallen_in host.seats) s then fallen (seat_of s m.seats) else seat_of s m.seats)
+    → seat_of s host.seats ≡
+    (if is_listed (fallen_in host.seats) s then fallen (seat_of s m.seats) else seat_of s m.seats)
 host-seat host m s stands = ap (λ k. seat_of s k.seats) stands.is ∙ without-at (fallen_in host.seats) s m.seats
 
 -- a session that a host holds has the seat that the history says
@@ -50,7 +51,8 @@ pub held-seat : {C Q X : Type 0}
     → is_attached (seat_of s host.seats) ≡ true
     → seat_of s m.seats ≡ seat_of s host.seats
 held-seat host m s stands held =
-    held-by (is_listed (fallen_in host.seats) s) (seat_of s host.seats) (seat_of s m.seats) (host-seat host m s stands) held
+    held-by (is_listed (fallen_in host.seats) s) (seat_of s host.seats) (seat_of s m.seats) (host-seat host m s stands)
+    held
 
 -- one that it doesn't hold, and that wasn't lost for want of memory, isn't attached in the history
 pub gone-seat : {C Q X : Type 0}
@@ -59,4 +61,5 @@ pub gone-seat : {C Q X : Type 0}
     → is_attached (seat_of s host.seats) ≡ false
     → fell (seat_of s host.seats) ≡ false → is_attached (seat_of s m.seats) ≡ false
 gone-seat host m s stands gone stays =
-    gone-by (is_listed (fallen_in host.seats) s) (seat_of s host.seats) (seat_of s m.seats) (host-seat host m s stands) gone stays
+    gone-by (is_listed (fallen_in host.seats) s) (seat_of s host.seats) (seat_of s m.seats) (host-seat host m s stands)
+    gone stays

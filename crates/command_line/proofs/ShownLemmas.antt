@@ -29,7 +29,8 @@ text-line (Attached s) = refl
 text-line (To s text) = ap (λ xs. codes "to " ++ xs) (sym (append_assoc (decimal s) (32 ∷ escaped text) (10 ∷ [])))
 text-line (Out n) = refl
 text-line (Overran s) = refl
-text-line (RanTo steps state) = ap (λ xs. codes "ran " ++ xs) (sym (append_assoc (decimal steps) (32 ∷ state_name state) (10 ∷ [])))
+text-line (RanTo steps state) =
+    ap (λ xs. codes "ran " ++ xs) (sym (append_assoc (decimal steps) (32 ∷ state_name state) (10 ∷ [])))
 
 -- a line that ends with LF is cut off
 cut : (line rest : List ℕ) → is_one_line line ≡ true → lines_of (line ++ 10 ∷ rest) ≡ line ∷ lines_of rest
@@ -53,16 +54,25 @@ shown (line ∷ lines) one =
 ran-one : (n : ℕ) (word : List ℕ)
     → is_one_line word ≡ true
     → is_one_line (codes "ran " ++ (decimal n ++ 32 ∷ word)) ≡ true
-ran-one n word one = one-append (codes "ran ") (decimal n ++ 32 ∷ word) refl (one-append (decimal n) (32 ∷ word) (decimal-one n) one)
+ran-one n word one =
+    one-append (codes "ran ") (decimal n ++ 32 ∷ word) refl (one-append (decimal n) (32 ∷ word) (decimal-one n) one)
 
 -- no line holds LF
 pub lines-one : (lines : List Output) → are_one_line (map output_line lines) ≡ true
 lines-one [] = refl
-lines-one (Attached s ∷ lines) = rw (one-append (codes "attached ") (decimal s) refl (decimal-one s), lines-one lines) refl
+lines-one (Attached s ∷ lines) =
+    rw (one-append (codes "attached ") (decimal s) refl (decimal-one s), lines-one lines) refl
 lines-one (To s text ∷ lines) =
-    rw (one-append (codes "to ") (decimal s ++ 32 ∷ escaped text) refl (one-append (decimal s) (32 ∷ escaped text) (decimal-one s) (escaped-one text)), lines-one lines) refl
-lines-one (Out units ∷ lines) = rw (one-append (codes "out ") (printed_escaped units) refl (escaped-one (utf8_of units)), lines-one lines) refl
-lines-one (Overran s ∷ lines) = rw (one-append (codes "overrun ") (decimal s) refl (decimal-one s), lines-one lines) refl
+    rw (
+      one-append (codes "to ") (decimal s ++ 32 ∷ escaped text) refl
+          (one-append (decimal s) (32 ∷ escaped text) (decimal-one s) (escaped-one text)),
+      lines-one lines,
+    )
+    refl
+lines-one (Out units ∷ lines) =
+    rw (one-append (codes "out ") (printed_escaped units) refl (escaped-one (utf8_of units)), lines-one lines) refl
+lines-one (Overran s ∷ lines) =
+    rw (one-append (codes "overrun ") (decimal s) refl (decimal-one s), lines-one lines) refl
 lines-one (RanTo n Broken ∷ lines) = rw (ran-one n (codes "broken") refl, lines-one lines) refl
 lines-one (RanTo n Shut ∷ lines) = rw (ran-one n (codes "shut") refl, lines-one lines) refl
 lines-one (RanTo n Threw ∷ lines) = rw (ran-one n (codes "threw") refl, lines-one lines) refl
@@ -130,7 +140,8 @@ lost-each (RanTo steps state ∷ lines) = lost-each lines
 abbrev pub to_of : ℕ → List Output → List (List ℕ)
 to_of s [] = []
 to_of s (Attached n ∷ lines) = to_of s lines
-to_of s (To n text ∷ lines) = option_to_list (behind (decimal s ++ 32 ∷ []) (decimal n ++ 32 ∷ escaped text)) ++ to_of s lines
+to_of s (To n text ∷ lines) =
+    option_to_list (behind (decimal s ++ 32 ∷ []) (decimal n ++ 32 ∷ escaped text)) ++ to_of s lines
 to_of s (Out n ∷ lines) = to_of s lines
 to_of s (Overran n ∷ lines) = to_of s lines
 to_of s (RanTo steps state ∷ lines) = to_of s lines
@@ -138,13 +149,17 @@ to_of s (RanTo steps state ∷ lines) = to_of s lines
 pub to-each : (s : ℕ) (lines : List Output) → behind_each (to_front s) (map output_line lines) ≡ to_of s lines
 to-each s [] = refl
 to-each s (Attached n ∷ lines) = to-each s lines
-to-each s (To n text ∷ lines) = ap (λ rest. option_to_list (behind (decimal s ++ 32 ∷ []) (decimal n ++ 32 ∷ escaped text)) ++ rest) (to-each s lines)
+to-each s (To n text ∷ lines) =
+    ap (λ rest. option_to_list (behind (decimal s ++ 32 ∷ []) (decimal n ++ 32 ∷ escaped text)) ++ rest)
+    (to-each s lines)
 to-each s (Out n ∷ lines) = to-each s lines
 to-each s (Overran n ∷ lines) = to-each s lines
 to-each s (RanTo steps state ∷ lines) = to-each s lines
 
 own-text : (s : ℕ) (text : List ℕ) → behind (decimal s ++ 32 ∷ []) (decimal s ++ 32 ∷ text) ≡ Some text
-own-text s text = ap (behind (decimal s ++ 32 ∷ [])) (sym (append_assoc (decimal s) (32 ∷ []) text)) ∙ behind-append (decimal s ++ 32 ∷ []) text
+own-text s text =
+    ap (behind (decimal s ++ 32 ∷ [])) (sym (append_assoc (decimal s) (32 ∷ []) text))
+    ∙ behind-append (decimal s ++ 32 ∷ []) text
 
 -- a number before a space tells the session
 number-told : (s n : ℕ) (text rest : List ℕ)
@@ -172,7 +187,9 @@ to-own s (text ∷ texts) = rw (own-text s (escaped text)) (ap (λ rest. escaped
 pub to-others : (s n : ℕ) (texts : List (List ℕ)) → s < 2 ^ 64 → n < 2 ^ 64 → n ≢ s → to_of s (map (To n) texts) ≡ []
 to-others s n [] s_small n_small differ = refl
 to-others s n (text ∷ texts) s_small n_small differ =
-    rw (others-text s n (escaped text) (behind (decimal s ++ 32 ∷ []) (decimal n ++ 32 ∷ escaped text)) s_small n_small differ refl) (to-others s n texts s_small n_small differ)
+    rw (others-text s n (escaped text) (behind (decimal s ++ 32 ∷ []) (decimal n ++ 32 ∷ escaped text))
+    s_small n_small differ refl)
+    (to-others s n texts s_small n_small differ)
 
 pub to_of-append : (s : ℕ) (xs ys : List Output) → to_of s (xs ++ ys) ≡ to_of s xs ++ to_of s ys
 to_of-append s [] ys = refl

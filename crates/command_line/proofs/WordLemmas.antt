@@ -16,7 +16,8 @@ true_first false rest e = cc
 
 -- the words from a place on, by the first of them
 from_here : (words : List (String Global)) (i : ℕ) (x : String Global) → i < length words → x ≡ get_or words i x
-    → list_any is_option (map string_bytes (drop i words)) ≡ (is_option (string_bytes x) || list_any is_option (map string_bytes (drop (i + 1) words)))
+    → list_any is_option (map string_bytes (drop i words)) ≡
+    (is_option (string_bytes x) || list_any is_option (map string_bytes (drop (i + 1) words)))
 from_here words i x h is =
     ap (λ ws. list_any is_option (map string_bytes ws)) (drop_more words i x h)
     ∙ ap (λ y. list_any is_option (map string_bytes (y ∷ drop (i + 1) words))) (sym is)
@@ -36,7 +37,9 @@ pub next_word : (words : List (String Global)) (i : ℕ) (x : String Global) (wo
     → b ≡ false
     → list_any is_option (map string_bytes (drop (i + 1) words)) ≡ list_any is_option (map string_bytes (drop i words))
 next_word words i x word b h is w e f =
-    sym (from_here words i x h is ∙ false_first (is_option (string_bytes x)) (list_any is_option (map string_bytes (drop (i + 1) words))) (option_is x word b false w e f))
+    sym (from_here words i x h is
+    ∙ false_first (is_option (string_bytes x)) (list_any is_option (map string_bytes (drop (i + 1) words)))
+    (option_is x word b false w e f))
 
 pub option_found : (words : List (String Global)) (i : ℕ) (x : String Global) (word : List ℕ) (b : Bool)
     → i < length words
@@ -46,4 +49,6 @@ pub option_found : (words : List (String Global)) (i : ℕ) (x : String Global) 
     → b ≡ true
     → true ≡ list_any is_option (map string_bytes (drop i words))
 option_found words i x word b h is w e f =
-    true_first (is_option (string_bytes x)) (list_any is_option (map string_bytes (drop (i + 1) words))) (option_is x word b true w e f) ∙ sym (from_here words i x h is)
+    true_first (is_option (string_bytes x)) (list_any is_option (map string_bytes (drop (i + 1) words)))
+    (option_is x word b true w e f)
+    ∙ sym (from_here words i x h is)

@@ -18,7 +18,10 @@ MayStand scripts m Attach entry = entry ≡ Attached
 MayStand scripts m (Tell s text) entry = (is_there m s ≡ true) × (entry ≡ Told s text)
 MayStand scripts m (Take s) entry = (is_there m s ≡ true) × (entry ≡ Taken s)
 MayStand scripts m (Detach s) entry = (is_there m s ≡ true) × (entry ≡ Detached s)
-MayStand scripts m (Run most moment) entry = (n : ℕ) × IsLongest (protocol scripts) moment most m (after_steps (protocol scripts) moment n m) n × (entry ≡ Ran n moment [])
+MayStand scripts m (Run most moment) entry =
+    (n : ℕ)
+    × IsLongest (protocol scripts) moment most m (after_steps (protocol scripts) moment n m) n
+    × (entry ≡ Ran n moment [])
 MayStand scripts m Shut entry = entry ≡ ShutDown
 
 -- the text is a line of its form, which may stand there and has this entry
@@ -32,10 +35,12 @@ abbrev pub AreEntries : List Script → Meaning Program → List (List ℕ) → 
 AreEntries scripts m [] [] = Unit {0}
 AreEntries scripts m [] (entry ∷ entries) = ⊥
 AreEntries scripts m (text ∷ texts) [] = ⊥
-AreEntries scripts m (text ∷ texts) (entry ∷ entries) = IsEntry scripts m text entry × AreEntries scripts (apply scripts m entry) texts entries
+AreEntries scripts m (text ∷ texts) (entry ∷ entries) =
+    IsEntry scripts m text entry × AreEntries scripts (apply scripts m entry) texts entries
 
 -- the text of this number, where the first has the first number, isn't of its form or may not stand behind these entries, which are those of the texts before it
-pub record RefusesAt (scripts : List Script) (first : ℕ) (m : Meaning Program) (texts : List (List ℕ)) (entries : List Entry) (number : ℕ) : Type 0 where
+pub record RefusesAt (scripts : List Script) (first : ℕ) (m : Meaning Program) (texts : List (List ℕ))
+    (entries : List Entry) (number : ℕ) : Type 0 where
   pub before : List (List ℕ)
   pub text : List ℕ
   pub behind : List (List ℕ)

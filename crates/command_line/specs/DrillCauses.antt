@@ -74,7 +74,8 @@ abbrev pub BecauseDrill : Outcome → ℕ → ℕ → ℕ → Option (List ℕ) 
 BecauseDrill ends.Done n was now old new = (now ≡ was) × DrillsWhole n old new
 BecauseDrill ends.OutOfMemory n was now old new = (now ≡ was) × ((new ≡ old) ⊎ DrillsInPart n old new)
 BecauseDrill ends.CannotWrite n was now old new = Rose was now × DrillsShort n old new
-BecauseDrill (ends.Refused name r) n was now old new = (now ≡ was) × (new ≡ old) × (name.now ≡ script_name) × IsRefused [] (drill_source n) r
+BecauseDrill (ends.Refused name r) n was now old new =
+    (now ≡ was) × (new ≡ old) × (name.now ≡ script_name) × IsRefused [] (drill_source n) r
 BecauseDrill (ends.LineRefused line) n was now old new = (now ≡ was) × (new ≡ old) × DrillRefuses n line
 BecauseDrill ends.Usage n was now old new = ⊥
 BecauseDrill (ends.CannotRead name) n was now old new = ⊥

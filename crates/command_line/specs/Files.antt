@@ -15,7 +15,8 @@ HoldsLines files None lines = lines ≡ []
 HoldsLines files (Some name) lines = HoldsInput files name lines
 
 -- the files hold these scripts and these lines of input
-pub record HoldsSources (files : List Named) (sources : Sources) (scripts : List Script) (input : List (List ℕ)) : Type 0 where
+pub record HoldsSources (files : List Named) (sources : Sources) (scripts : List Script) (input : List (List ℕ))
+    : Type 0 where
   pub lines : HoldsLines files sources.input input
   pub are : AreScripts files sources.scripts scripts
 
@@ -51,7 +52,8 @@ IsReachedIn files sources name = (sources.input ≡ Some name) ⊎ IsReachedScri
 -- ---- a replay: its journal comes before its program
 
 -- the files hold this journal, and these scripts and lines of input
-pub record HoldsReplay (files : List Named) (request : Request) (journal : List ℕ) (scripts : List Script) (input : List (List ℕ)) : Type 0 where
+pub record HoldsReplay (files : List Named) (request : Request) (journal : List ℕ) (scripts : List Script)
+    (input : List (List ℕ)) : Type 0 where
   pub there : content_of request.journal files ≡ Some journal
   pub sources : HoldsSources files request.sources scripts input
 

@@ -19,23 +19,28 @@ use Rattle.command_line.specs.Shown.{losses_of, ran_texts, texts_to, to_front, w
 -- ---- its output, cut into lines
 
 -- the program prints what it prints without a debugger
-pub record PrintsPlainly (scripts : List Script) (input : List (List ℕ)) (history : List Entry) (output : List ℕ) : Type 0 where
+pub record PrintsPlainly (scripts : List Script) (input : List (List ℕ)) (history : List Entry) (output : List ℕ)
+    : Type 0 where
   -- the texts on the lines `out TEXT` are what the run without a debugger has printed after as many steps
-  pub lines : behind_each (codes "out ") (lines_of output) ≡ map printed_escaped (printed_of (plain (steps_made history) scripts input))
+  pub lines : behind_each (codes "out ") (lines_of output) ≡ map printed_escaped
+      (printed_of (plain (steps_made history) scripts input))
   -- these are a prefix of what it prints in any further steps, and all of that once it is over
   pub is_prefix : PrintsAsPlain scripts input (steps_made history) (plain (steps_made history) scripts input)
 
 -- it stops at exactly the steps that the rules of its sessions or the start rule name
-pub record StopsWhereNamed (scripts : List Script) (input : List (List ℕ)) (wait : Bool) (history : List Entry) (output : List ℕ) : Type 0 where
+pub record StopsWhereNamed (scripts : List Script) (input : List (List ℕ)) (wait : Bool) (history : List Entry)
+    (output : List ℕ) : Type 0 where
   -- each step of a run is made where the program is ready: it isn't paused, doesn't wait, wasn't shut, and owes no report of a loss
   pub is_history : IsHistory scripts input wait history
   -- it stops at each step that a session or the start rule names, but for one at which all that name it are lost, and at no other
   pub exactly : AllStopExactly (protocol scripts) (start scripts input) 0 (begin scripts input wait) history
   -- the lines `ran K STATE` tell each run's steps, and say `paused` exactly where it stops at the last of them
-  pub lines : behind_each (codes "ran ") (lines_of output) ≡ ran_texts scripts input 0 (begin scripts input wait) history
+  pub lines : behind_each (codes "ran ") (lines_of output) ≡ ran_texts scripts input 0 (begin scripts input wait)
+      history
 
 -- each session is sent exactly what a host with no other session sends it, given the program's steps, stops and resumes
-pub record SendsAsAlone (scripts : List Script) (input : List (List ℕ)) (wait : Bool) (history : List Entry) (output : List ℕ) : Type 0 where
+pub record SendsAsAlone (scripts : List Script) (input : List (List ℕ)) (wait : Bool) (history : List Entry)
+    (output : List ℕ) : Type 0 where
   -- the texts on the lines `to S TEXT` are those that the takes of the session S hand out
   pub lines : (s : ℕ)
       → s < 2 ^ 64
@@ -46,16 +51,20 @@ pub record SendsAsAlone (scripts : List Script) (input : List (List ℕ)) (wait 
   -- for a session that is attached at the end, the texts on its lines and those that wait for it are all answers and events that its
   -- commands and the steps make for it
   pub all : (s : ℕ) → s < 2 ^ 64 → is_there (whole scripts input wait history) s ≡ true
-      → behind_each (to_front s) (lines_of output) ++ map escaped (waiting_to s scripts (whole scripts input wait history)) ≡ map escaped (texts_to s scripts input wait history)
+      → behind_each (to_front s) (lines_of output) ++ map escaped
+      (waiting_to s scripts (whole scripts input wait history)) ≡ map escaped
+      (texts_to s scripts input wait history)
   -- for any session the texts on its lines are the first of these
   pub first : (s : ℕ)
       → s < 2 ^ 64
       → IsPrefix (behind_each (to_front s) (lines_of output)) (map escaped (texts_to s scripts input wait history))
   -- and the lines `overrun S` tell each session that is lost, since more texts would have waited for it than may
-  pub losses : behind_each (codes "overrun ") (lines_of output) ≡ map decimal (losses_of scripts (begin scripts input wait) history)
+  pub losses : behind_each (codes "overrun ") (lines_of output) ≡ map decimal
+      (losses_of scripts (begin scripts input wait) history)
 
 -- what holds of the output of a history of these scripts with their input, where they may be to wait
-pub record Headline (scripts : List Script) (input : List (List ℕ)) (wait : Bool) (history : List Entry) (output : List ℕ) : Type 0 where
+pub record Headline (scripts : List Script) (input : List (List ℕ)) (wait : Bool) (history : List Entry)
+    (output : List ℕ) : Type 0 where
   pub prints : PrintsPlainly scripts input history output
   pub stops : StopsWhereNamed scripts input wait history output
   pub sends : SendsAsAlone scripts input wait history output

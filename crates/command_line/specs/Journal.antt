@@ -30,9 +30,12 @@ entry_of scripts m bytes = option_and_then (entry_at scripts m) (line_of bytes)
 -- the history of a journal's lines, up to the first that is refused
 abbrev pub entries : List Script → Meaning Program → List (List ℕ) → List Entry
 entries scripts m [] = []
-entries scripts m (line ∷ lines) = option_map_or (λ entry. entry ∷ entries scripts (apply scripts m entry) lines) (entry_of scripts m line) []
+entries scripts m (line ∷ lines) =
+    option_map_or (λ entry. entry ∷ entries scripts (apply scripts m entry) lines) (entry_of scripts m line) []
 
 -- the number of the first line that is refused, where this one has the first number
 abbrev pub refused : List Script → ℕ → Meaning Program → List (List ℕ) → Option ℕ
 refused scripts number m [] = None
-refused scripts number m (line ∷ lines) = option_map_or (λ entry. refused scripts (number + 1) (apply scripts m entry) lines) (entry_of scripts m line) (Some number)
+refused scripts number m (line ∷ lines) =
+    option_map_or (λ entry. refused scripts (number + 1) (apply scripts m entry) lines) (entry_of scripts m line)
+    (Some number)

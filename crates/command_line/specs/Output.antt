@@ -76,7 +76,8 @@ output_at scripts m (Take s) = map (To s) (waiting (protocol scripts) (seat_of s
 output_at scripts m (Detach s) = []
 output_at scripts m (Ran n moment gone) =
     map Out (printed_at scripts moment gone n m)
-    ++ (map Overran (overrun_at scripts moment gone n m) ++ RanTo n (state_of (apply scripts m (Ran n moment gone))) ∷ [])
+    ++ (map Overran (overrun_at scripts moment gone n m) ++ RanTo n (state_of (apply scripts m (Ran n moment gone)))
+    ∷ [])
 output_at scripts m Shut = []
 
 -- the lines of output of a history

@@ -19,7 +19,8 @@ use Rattle.command_line.specs.declared.journal.ReplayEnd.TheVariants as ends
 -- ---- one line
 
 -- the host stands for the history with this entry
-pub record StandsBehind (scripts : List Script) (input : List (List ℕ)) (wait : Bool) (history : List Entry) (entry : Entry) (new : HostState) : Type 0 where
+pub record StandsBehind (scripts : List Script) (input : List (List ℕ)) (wait : Bool) (history : List Entry)
+    (entry : Entry) (new : HostState) : Type 0 where
   pub stands : Stands scripts input wait new (history ++ entry ∷ [])
   pub works : new.broken ≡ false
 
@@ -34,7 +35,8 @@ abbrev pub Acts : List Script
     → Type 0
 Acts scripts input wait history None lines new = lines ≡ None
 Acts scripts input wait history (Some entry) lines new =
-    (lines ≡ Some (map output_text (output_at scripts (whole scripts input wait history) entry))) × StandsBehind scripts input wait history entry new
+    (lines ≡ Some (map output_text (output_at scripts (whole scripts input wait history) entry)))
+    × StandsBehind scripts input wait history entry new
 
 -- a line that has this entry was applied, and its output was written
 abbrev pub Plays : List Script
@@ -48,7 +50,8 @@ abbrev pub Plays : List Script
     → Type 0
 Plays scripts input wait history None new before now = ⊥
 Plays scripts input wait history (Some entry) new before now =
-    (now ≡ gains before (output_bytes (output_at scripts (whole scripts input wait history) entry))) × StandsBehind scripts input wait history entry new
+    (now ≡ gains before (output_bytes (output_at scripts (whole scripts input wait history) entry)))
+    × StandsBehind scripts input wait history entry new
 
 -- what a line's entry writes; nothing where it is refused
 abbrev pub line_output : List Script → Meaning Program → Option Entry → List ℕ

@@ -14,7 +14,8 @@ use Rattle.command_line.specs.declared.journal.ReplayEnd.TheVariants as plays
 -- ---- of a sink that had this content before and after
 
 -- the files hold the replay, up to the line that is refused, if one is, and all of its output is written
-pub record ReplaysWhole (files : List Named) (request : Request) (line : Option ℕ) (before now : Option (List ℕ)) : Type 0 where
+pub record ReplaysWhole (files : List Named) (request : Request) (line : Option ℕ) (before now : Option (List ℕ))
+    : Type 0 where
   pub journal : List ℕ
   pub scripts : List Script
   pub input : List (List ℕ)
@@ -63,11 +64,20 @@ abbrev pub BecauseReplay : Outcome
     → Option (List ℕ)
     → Option (List ℕ)
     → Type 0
-BecauseReplay ends.Done request told before after was now old new = (after ≡ before) × (now ≡ was) × Told told (λ files. ReplaysWhole files request None old new)
-BecauseReplay (ends.LineRefused number) request told before after was now old new = (after ≡ before) × (now ≡ was) × Told told (λ files. ReplaysWhole files request (Some number) old new)
-BecauseReplay ends.OutOfMemory request told before after was now old new = (after ≡ before) × (now ≡ was) × Told told (λ files. (new ≡ old) ⊎ ReplaysInPart files request old new)
-BecauseReplay (ends.Refused name r) request told before after was now old new = (after ≡ before) × (now ≡ was) × Told told (λ files. IsRefusedBehind files request name.now r)
-BecauseReplay (ends.CannotRead name) request told before after was now old new = Blames (Read name.now) before after × (now ≡ was) × IsNamedBy request name.now × Told told (λ files. IsReachedBy files request name.now)
-BecauseReplay ends.CannotWrite request told before after was now old new = (after ≡ before) × Rose was now × Told told (λ files. ReplaysShort files request old new)
+BecauseReplay ends.Done request told before after was now old new =
+    (after ≡ before) × (now ≡ was) × Told told (λ files. ReplaysWhole files request None old new)
+BecauseReplay (ends.LineRefused number) request told before after was now old new =
+    (after ≡ before) × (now ≡ was) × Told told (λ files. ReplaysWhole files request (Some number) old new)
+BecauseReplay ends.OutOfMemory request told before after was now old new =
+    (after ≡ before) × (now ≡ was) × Told told (λ files. (new ≡ old) ⊎ ReplaysInPart files request old new)
+BecauseReplay (ends.Refused name r) request told before after was now old new =
+    (after ≡ before) × (now ≡ was) × Told told (λ files. IsRefusedBehind files request name.now r)
+BecauseReplay (ends.CannotRead name) request told before after was now old new =
+    Blames (Read name.now) before after
+    × (now ≡ was)
+    × IsNamedBy request name.now
+    × Told told (λ files. IsReachedBy files request name.now)
+BecauseReplay ends.CannotWrite request told before after was now old new =
+    (after ≡ before) × Rose was now × Told told (λ files. ReplaysShort files request old new)
 BecauseReplay ends.Usage request told before after was now old new = ⊥
 BecauseReplay (ends.Threw text) request told before after was now old new = ⊥

@@ -12,11 +12,13 @@ use Rattle.command_line.specs.Output.{output_bytes, output_of}
 -- these entries are those of all lines of a journal, or of the lines before the one of this number, which is refused
 abbrev pub AppliesUpTo : Option ℕ → List Script → List (List ℕ) → Bool → List (List ℕ) → List Entry → Type 0
 AppliesUpTo None scripts input wait texts history = AreEntries scripts (begin scripts input wait) texts history
-AppliesUpTo (Some number) scripts input wait texts history = RefusesAt scripts 1 (begin scripts input wait) texts history number
+AppliesUpTo (Some number) scripts input wait texts history =
+    RefusesAt scripts 1 (begin scripts input wait) texts history number
 
 -- This is the output of a journal's replay over a program, up to the line that is refused, if one is. The replay has a history, and
 -- the output shows what a debugger leaves of the run in it.
-pub record IsReplay (scripts : List Script) (input : List (List ℕ)) (wait : Bool) (journal : List ℕ) (line : Option ℕ) (output : List ℕ) : Type 0 where
+pub record IsReplay (scripts : List Script) (input : List (List ℕ)) (wait : Bool) (journal : List ℕ) (line : Option ℕ)
+    (output : List ℕ) : Type 0 where
   pub history : List Entry
   pub applied : AppliesUpTo line scripts input wait (lines_of journal) history
   pub writes : output ≡ output_bytes (output_of scripts (begin scripts input wait) history)
@@ -25,20 +27,23 @@ pub record IsReplay (scripts : List Script) (input : List (List ℕ)) (wait : Bo
 -- ---- of a sink that had this content before and after
 
 -- all of its output is written
-pub record WritesReplay (scripts : List Script) (input : List (List ℕ)) (wait : Bool) (journal : List ℕ) (line : Option ℕ) (before now : Option (List ℕ)) : Type 0 where
+pub record WritesReplay (scripts : List Script) (input : List (List ℕ)) (wait : Bool) (journal : List ℕ)
+    (line : Option ℕ) (before now : Option (List ℕ)) : Type 0 where
   pub output : List ℕ
   pub replay : IsReplay scripts input wait journal line output
   pub whole : now ≡ gains before output
 
 -- a first part of it is written
-pub record WritesPart (scripts : List Script) (input : List (List ℕ)) (wait : Bool) (journal : List ℕ) (before now : Option (List ℕ)) : Type 0 where
+pub record WritesPart (scripts : List Script) (input : List (List ℕ)) (wait : Bool) (journal : List ℕ)
+    (before now : Option (List ℕ)) : Type 0 where
   pub line : Option ℕ
   pub output : List ℕ
   pub replay : IsReplay scripts input wait journal line output
   pub part : GainsPrefix before now output
 
 -- and not all of it
-pub record WritesLess (scripts : List Script) (input : List (List ℕ)) (wait : Bool) (journal : List ℕ) (before now : Option (List ℕ)) : Type 0 where
+pub record WritesLess (scripts : List Script) (input : List (List ℕ)) (wait : Bool) (journal : List ℕ)
+    (before now : Option (List ℕ)) : Type 0 where
   pub line : Option ℕ
   pub output : List ℕ
   pub replay : IsReplay scripts input wait journal line output

@@ -23,7 +23,8 @@ sources_held sources = record { input = name_held sources.input; scripts = map s
 
 -- the request that is held
 abbrev pub request_held : HeldRequest → Request
-request_held request = record { wait = request.wait; journal = request.journal.now; sources = sources_held request.sources }
+request_held request =
+    record { wait = request.wait; journal = request.journal.now; sources = sources_held request.sources }
 
 -- the command that is held
 abbrev pub command_held : HeldCommand → Command

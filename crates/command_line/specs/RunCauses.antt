@@ -26,7 +26,8 @@ pub record RunsToEnd (files : List Named) (sources : Sources) (before now : Opti
   pub ended : HasEnded (terms_of_scripts scripts) input before now
 
 -- it has ended by a throw of a value that is shown so
-pub record RunsToThrow (files : List Named) (sources : Sources) (text : List ℕ) (before now : Option (List ℕ)) : Type 0 where
+pub record RunsToThrow (files : List Named) (sources : Sources) (text : List ℕ) (before now : Option (List ℕ))
+    : Type 0 where
   pub scripts : List Script
   pub input : List (List ℕ)
   pub holds : HoldsSources files sources scripts input
@@ -63,15 +64,21 @@ outcome_of_run runs.Memory = ends.OutOfMemory
 
 -- why a command ended so while its input was read; the counts are those of the shelf
 abbrev pub BecauseInput : Outcome → Option (List ℕ) → Option (List Named) → Faults → Faults → Type 0
-BecauseInput (ends.Refused name r) input told before after = (after ≡ before) × (input ≡ Some name.now) × Told told (λ files. HoldsNoText files name.now r)
-BecauseInput (ends.CannotRead name) input told before after = Blames (Read name.now) before after × (input ≡ Some name.now)
+BecauseInput (ends.Refused name r) input told before after =
+    (after ≡ before) × (input ≡ Some name.now) × Told told (λ files. HoldsNoText files name.now r)
+BecauseInput (ends.CannotRead name) input told before after =
+    Blames (Read name.now) before after × (input ≡ Some name.now)
 BecauseInput ends.OutOfMemory input told before after = after ≡ before
 BecauseInput end input told before after = ⊥
 
 -- why it ended so while its input and its scripts were read
 abbrev pub BecauseSources : Outcome → Sources → Option (List Named) → Faults → Faults → Type 0
-BecauseSources (ends.Refused name r) sources told before after = (after ≡ before) × Told told (λ files. IsRefusedIn files sources name.now r)
-BecauseSources (ends.CannotRead name) sources told before after = Blames (Read name.now) before after × IsNamed sources name.now × Told told (λ files. IsReachedIn files sources name.now)
+BecauseSources (ends.Refused name r) sources told before after =
+    (after ≡ before) × Told told (λ files. IsRefusedIn files sources name.now r)
+BecauseSources (ends.CannotRead name) sources told before after =
+    Blames (Read name.now) before after
+    × IsNamed sources name.now
+    × Told told (λ files. IsReachedIn files sources name.now)
 BecauseSources ends.OutOfMemory sources told before after = after ≡ before
 BecauseSources end sources told before after = ⊥
 
@@ -86,12 +93,21 @@ abbrev pub BecauseRun : Outcome
     → Option (List ℕ)
     → Option (List ℕ)
     → Type 0
-BecauseRun ends.Done sources told before after was now old new = (after ≡ before) × (now ≡ was) × Told told (λ files. RunsToEnd files sources old new)
-BecauseRun (ends.Threw text) sources told before after was now old new = (after ≡ before) × (now ≡ was) × Told told (λ files. RunsToThrow files sources (string_bytes text) old new)
-BecauseRun ends.OutOfMemory sources told before after was now old new = (after ≡ before) × (now ≡ was) × Told told (λ files. (new ≡ old) ⊎ RunsInPart files sources old new)
-BecauseRun (ends.Refused name r) sources told before after was now old new = (after ≡ before) × (now ≡ was) × Told told (λ files. IsRefusedIn files sources name.now r)
-BecauseRun (ends.CannotRead name) sources told before after was now old new = Blames (Read name.now) before after × (now ≡ was) × IsNamed sources name.now × Told told (λ files. IsReachedIn files sources name.now)
-BecauseRun ends.CannotWrite sources told before after was now old new = (after ≡ before) × Rose was now × Told told (λ files. RunsShort files sources old new)
+BecauseRun ends.Done sources told before after was now old new =
+    (after ≡ before) × (now ≡ was) × Told told (λ files. RunsToEnd files sources old new)
+BecauseRun (ends.Threw text) sources told before after was now old new =
+    (after ≡ before) × (now ≡ was) × Told told (λ files. RunsToThrow files sources (string_bytes text) old new)
+BecauseRun ends.OutOfMemory sources told before after was now old new =
+    (after ≡ before) × (now ≡ was) × Told told (λ files. (new ≡ old) ⊎ RunsInPart files sources old new)
+BecauseRun (ends.Refused name r) sources told before after was now old new =
+    (after ≡ before) × (now ≡ was) × Told told (λ files. IsRefusedIn files sources name.now r)
+BecauseRun (ends.CannotRead name) sources told before after was now old new =
+    Blames (Read name.now) before after
+    × (now ≡ was)
+    × IsNamed sources name.now
+    × Told told (λ files. IsReachedIn files sources name.now)
+BecauseRun ends.CannotWrite sources told before after was now old new =
+    (after ≡ before) × Rose was now × Told told (λ files. RunsShort files sources old new)
 BecauseRun ends.Usage sources told before after was now old new = ⊥
 BecauseRun (ends.LineRefused n) sources told before after was now old new = ⊥
 

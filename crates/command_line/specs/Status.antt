@@ -29,8 +29,10 @@ usage_said = codes "usage: debug_host run/replay/serve/send/drill" ++ 10 ∷ []
 abbrev pub refusal_said : List ℕ → Refusal → List ℕ
 refusal_said name refusals.NotUtf8 = codes "debug_host: " ++ name ++ (codes ": not UTF-8" ++ 10 ∷ [])
 refusal_said name (refusals.UnexpectedToken pos) =
-    codes "debug_host: " ++ (name ++ 58 ∷ (decimal pos.line ++ 58 ∷ (decimal pos.col ++ (codes ": unexpected token" ++ 10 ∷ []))))
-refusal_said name (refusals.TooLong units) = codes "debug_host: " ++ (name ++ (codes ": too long: " ++ (decimal units ++ (codes " units" ++ 10 ∷ []))))
+    codes "debug_host: " ++
+    (name ++ 58 ∷ (decimal pos.line ++ 58 ∷ (decimal pos.col ++ (codes ": unexpected token" ++ 10 ∷ []))))
+refusal_said name (refusals.TooLong units) =
+    codes "debug_host: " ++ (name ++ (codes ": too long: " ++ (decimal units ++ (codes " units" ++ 10 ∷ []))))
 refusal_said name refusals.TooDeep = codes "debug_host: " ++ name ++ (codes ": too deep" ++ 10 ∷ [])
 refusal_said name refusals.TooManyTokens = codes "debug_host: " ++ name ++ (codes ": too many tokens" ++ 10 ∷ [])
 

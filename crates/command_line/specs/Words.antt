@@ -51,13 +51,15 @@ names_behind_word (Some file) word words = record { input = Some file; names = w
 abbrev pub names_of : List (List ℕ) → Option Names
 names_of [] = None
 names_of (word ∷ words) =
-    if bytes_eq word (codes "--input") then names_behind_input words else Some (names_behind_word (behind (codes "--input=") word) word words)
+    if bytes_eq word (codes "--input") then names_behind_input words else Some
+    (names_behind_word (behind (codes "--input=") word) word words)
 
 -- `SCRIPT...`, at least one
 abbrev pub run_names : Option (List ℕ) → List (List ℕ) → Option Command
 run_names input [] = None
 run_names input (script ∷ scripts) =
-    if list_any is_option (script ∷ scripts) then None else Some (Run record { input = input; scripts = script ∷ scripts })
+    if list_any is_option (script ∷ scripts) then None else Some
+    (Run record { input = input; scripts = script ∷ scripts })
 
 -- the command `run`, by the words behind it
 abbrev pub run_of : Names → Option Command
@@ -69,7 +71,8 @@ replay_names wait input [] = None
 replay_names wait input (journal ∷ []) = None
 replay_names wait input (journal ∷ script ∷ scripts) =
     if list_any is_option (journal ∷ script ∷ scripts) then None
-    else Some (Replay record { wait = wait; journal = journal; sources = record { input = input; scripts = script ∷ scripts } })
+    else Some
+    (Replay record { wait = wait; journal = journal; sources = record { input = input; scripts = script ∷ scripts } })
 
 -- a replay, by its names
 abbrev pub replay_of : Bool → Names → Option Command
@@ -79,7 +82,8 @@ replay_of wait n = replay_names wait n.input n.names
 abbrev pub replay_words : List (List ℕ) → Option Command
 replay_words [] = None
 replay_words (word ∷ words) =
-    if bytes_eq word (codes "--wait") then option_and_then (replay_of true) (names_of words) else option_and_then (replay_of false) (names_of (word ∷ words))
+    if bytes_eq word (codes "--wait") then option_and_then (replay_of true) (names_of words) else option_and_then
+    (replay_of false) (names_of (word ∷ words))
 
 -- the greatest number of a drill
 abbrev pub most_drilled : ℕ

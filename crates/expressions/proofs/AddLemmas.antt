@@ -34,4 +34,6 @@ pub assigned : (here there : Bool) (a b : Expr)
     → here ≡ there
     → a ≡ b
     → (if here then source_literals a else []) ≡ (if there then source_literals b else [])
-assigned here there a b j k = ap (λ (x : Bool). if x then source_literals a else []) j ∙ ap (λ (e : Expr). if there then source_literals e else []) k
+assigned here there a b j k =
+    ap (λ (x : Bool). if x then source_literals a else []) j
+    ∙ ap (λ (e : Expr). if there then source_literals e else []) k

@@ -12,9 +12,12 @@ use Rattle.expressions.specs.Items.{alternate_literals}
 
 pub if_literals : (node : NodeId) (test : Expr) (consequent : Box Stmt) (alternate : Option (Box Stmt))
     → statement_literals (statement_view (tree.If node test consequent alternate))
-    ≡ expression_literals (expression_view test) ++ statement_literals (statement_view consequent.value) ++ alternate_literals alternate
+    ≡ expression_literals (expression_view test) ++ statement_literals (statement_view consequent.value)
+    ++ alternate_literals alternate
 if_literals node test consequent None =
-    ap statement_literals (view_if_then node test consequent) ∙ sym (append-nil (expression_literals (expression_view test) ++ statement_literals (statement_view consequent.value)))
+    ap statement_literals (view_if_then node test consequent)
+    ∙ sym (append-nil
+    (expression_literals (expression_view test) ++ statement_literals (statement_view consequent.value)))
 if_literals node test consequent (Some s) = ap statement_literals (view_if_else node test consequent s)
 
 -- the literals of a function that a parser's statement declares in a list
@@ -26,4 +29,27 @@ pub if_declared : (node : NodeId) (test : Expr) (consequent : Box Stmt) (alterna
 if_declared node test consequent None = ap declared_literals (view_if_then node test consequent)
 if_declared node test consequent (Some s) = ap declared_literals (view_if_else node test consequent s)
 
-pub ruleset expression_laws = (view_this, view_name, view_number, view_string, view_boolean, view_null, view_array, view_object, view_function, view_arrow, view_arrow_block, view_parenthesized, view_member, view_index, view_call, view_postfix, view_prefix, view_unary, view_binary, view_conditional, view_assign, view_comma)
+pub ruleset expression_laws = (
+  view_this,
+  view_name,
+  view_number,
+  view_string,
+  view_boolean,
+  view_null,
+  view_array,
+  view_object,
+  view_function,
+  view_arrow,
+  view_arrow_block,
+  view_parenthesized,
+  view_member,
+  view_index,
+  view_call,
+  view_postfix,
+  view_prefix,
+  view_unary,
+  view_binary,
+  view_conditional,
+  view_assign,
+  view_comma,
+)

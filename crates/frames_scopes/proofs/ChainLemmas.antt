@@ -32,7 +32,8 @@ live-age w (Scratch i) h = let l : i < length w.scratch = live-below IsScopeKind
 
 -- what a cell that is a scope has around it
 abbrev OuterOf : World → Addr → Option Cell → Type 0
-OuterOf w a (Some (cells.Bindings kind name outer names)) = SoundScope w outer × IsWithinOlder a (Some (cells.Bindings kind name outer names))
+OuterOf w a (Some (cells.Bindings kind name outer names)) =
+    SoundScope w outer × IsWithinOlder a (Some (cells.Bindings kind name outer names))
 OuterOf w a c = Unit {0}
 
 outer-of : (w : World) (a : Addr) (c : Option Cell) → IsSound w → IsNested w → read_cell w a ≡ c → OuterOf w a c
@@ -43,13 +44,17 @@ outer-of w a (Some (cells.Array vs)) s n e = tt
 outer-of w a (Some (cells.Text us)) s n e = tt
 outer-of w a (Some (cells.Function code m l o t)) s n e = tt
 outer-of w a (Some (cells.Bindings kind name outer names)) s n e =
-    let k : SoundCell w (cells.Bindings kind name outer names) = read-sound w a (cells.Bindings kind name outer names) e s in
+    let k : SoundCell w (cells.Bindings kind name outer names) = read-sound w a (cells.Bindings kind name outer names)
+    e s in
     (k.0, subst (λ o. IsWithinOlder a o) e (n.outward a))
 
 -- the rest of a chain behind a scope
 rest-chain : (n : ℕ) (w : World) (inside : Bool) (a : Addr) (kind : _) (name : List ℕ) (outer : Option Addr) (names : _)
     → age w a < suc n
-    → ((b : Addr) → SoundScope w (Some b) → age w b < n → IsChain w (still_inside kind inside) (Some b) (listed_within n w (still_inside kind inside) b))
+    → ((b : Addr)
+    → SoundScope w (Some b)
+    → age w b < n
+    → IsChain w (still_inside kind inside) (Some b) (listed_within n w (still_inside kind inside) b))
     → OuterOf w a (Some (cells.Bindings kind name outer names))
     → IsChain w (still_inside kind inside) outer (outward outer (listed_within n w (still_inside kind inside)))
 rest-chain n w inside a kind name None names l rec h = tt
@@ -61,7 +66,10 @@ link : (n : ℕ) (w : World) (inside : Bool) (a : Addr) (c : Option Cell)
     → read_cell w a ≡ c
     → Leads IsScopeKind c
     → age w a < suc n
-    → ((inner : Bool) (b : Addr) → SoundScope w (Some b) → age w b < n → IsChain w inner (Some b) (listed_within n w inner b))
+    → ((inner : Bool) (b : Addr)
+    → SoundScope w (Some b)
+    → age w b < n
+    → IsChain w inner (Some b) (listed_within n w inner b))
     → OuterOf w a c
     → IsChain w inside (Some a) (scope_listed inside a c (listed_within n w))
 link n w inside a None e h l rec o = absurd h
@@ -70,8 +78,12 @@ link n w inside a (Some (cells.Error class ps)) e h l rec o = absurd (cc)
 link n w inside a (Some (cells.Array vs)) e h l rec o = absurd (cc)
 link n w inside a (Some (cells.Text us)) e h l rec o = absurd (cc)
 link n w inside a (Some (cells.Function code m k s t)) e h l rec o = absurd (cc)
-link n w inside a (Some (cells.Bindings kind name outer names)) e h l rec o =
-    (record { kind = kind; name = name; outer = outer }, ap scope_parts e, refl, rest-chain n w inside a kind name outer names l (rec (still_inside kind inside)) o)
+link n w inside a (Some (cells.Bindings kind name outer names)) e h l rec o = (
+  record { kind = kind; name = name; outer = outer },
+  ap scope_parts e,
+  refl,
+  rest-chain n w inside a kind name outer names l (rec (still_inside kind inside)) o,
+)
 
 pub chain-within : (n : ℕ) (w : World) (inside : Bool) (a : Addr)
     → IsSound w
@@ -81,7 +93,8 @@ pub chain-within : (n : ℕ) (w : World) (inside : Bool) (a : Addr)
     → IsChain w inside (Some a) (listed_within n w inside a)
 chain-within zero w inside a s d h l = absurd (omega arith)
 chain-within (suc n) w inside a s d h l =
-    link n w inside a (read_cell w a) refl h l (λ inner b k m. chain-within n w inner b s d k m) (outer-of w a (read_cell w a) s d refl)
+    link n w inside a (read_cell w a) refl h l (λ inner b k m. chain-within n w inner b s d k m)
+    (outer-of w a (read_cell w a) s d refl)
 
 pub whole-chain : (w : World) (a : Addr) → IsSound w → IsNested w → SoundScope w (Some a) → HasWholeChain w a
 whole-chain w a s d h = chain-within (length w.base + length w.scratch) w true a s d h (live-age w a h)
@@ -114,8 +127,11 @@ outward-holds P (Some a) further h k = k a
 no-local-at : (a : Addr) (c : Option Cell) (further : Bool → Addr → List ListedScope)
     → ((b : Addr) → HasNoLocal (further false b))
     → HasNoLocal (scope_listed false a c further)
-no-local-at a (Some (cells.Bindings kind name outer names)) further h =
-    (none-local kind, outward-holds HasNoLocal outer (further (still_inside kind false)) tt (λ b. subst (λ i. HasNoLocal (further i b)) (sym (still-beyond kind)) (h b)))
+no-local-at a (Some (cells.Bindings kind name outer names)) further h = (
+  none-local kind,
+  outward-holds HasNoLocal outer (further (still_inside kind false)) tt
+      (λ b. subst (λ i. HasNoLocal (further i b)) (sym (still-beyond kind)) (h b)),
+)
 no-local-at a None further h = tt
 no-local-at a (Some (cells.Object ps)) further h = tt
 no-local-at a (Some (cells.Error class ps)) further h = tt
@@ -152,7 +168,9 @@ one-local-at : (a : Addr) (c : Option Cell) (further : Bool → Addr → List Li
     → HasOneLocal (scope_listed true a c further)
 one-local-at a (Some (cells.Bindings kind name outer names)) further h k = (
   one-local-behind kind outer further h,
-  outward-holds HasOneLocal outer (further (still_inside kind true)) tt (λ b. either-inside (λ i. HasOneLocal (further i b)) (k b) (weaker (further false b) (h b)) (still_inside kind true)),
+  outward-holds HasOneLocal outer (further (still_inside kind true)) tt
+      (λ b. either-inside (λ i. HasOneLocal (further i b)) (k b) (weaker (further false b) (h b))
+      (still_inside kind true)),
 )
 one-local-at a None further h k = tt
 one-local-at a (Some (cells.Object ps)) further h k = tt

@@ -44,7 +44,8 @@ arrived-here (Some k) f = refl
 
 listed-some : (scripts : List Script) (w : World) (m : Option Mark) (fs : List Frame) (d : ℕ) (f : Frame)
     → slice_get fs d ≡ Some f
-    → drop d (listed_frames scripts w m fs) ≡ shown_frame scripts w (record f { here = here_at m d f }) ∷ drop (suc d) (listed_frames scripts w m fs)
+    → drop d (listed_frames scripts w m fs) ≡ shown_frame scripts w (record f { here = here_at m d f }) ∷ drop (suc d)
+    (listed_frames scripts w m fs)
 listed-some scripts w m [] d f e = cc
 listed-some scripts w m (g ∷ fs) zero f e =
     let k : g ≡ f = cc in
@@ -63,7 +64,9 @@ listed-none scripts w m (g ∷ fs) (suc d) e = map-none (shown_frame scripts w) 
 -- ---- how many there are
 
 frames-length : (root : Addr) (t : Term) (s : State) → length (frames root t s) ≡ length s.frames
-frames-length root t s = scopes-length (shown_frames (active t) s.frames) (reversed_onto (scopes_at root t) []) ∙ shown-length (active t) s.frames
+frames-length root t s =
+    scopes-length (shown_frames (active t) s.frames) (reversed_onto (scopes_at root t) [])
+    ∙ shown-length (active t) s.frames
 
 map-length : {A B : Type 0} (g : A → B) (xs : List A) → length (map g xs) ≡ length xs
 map-length g [] = refl
@@ -76,19 +79,25 @@ listed-length scripts w m (f ∷ fs) = ap suc (map-length (shown_frame scripts w
 
 pub walk-length : (scripts : List Script) (root : Addr) (t : Term) (s : State)
     → length (walk scripts root t s) ≡ length s.frames
-walk-length scripts root t s = listed-length scripts s.world (at (spans_in scripts (spot_of s).source) t) (frames root t s) ∙ frames-length root t s
+walk-length scripts root t s =
+    listed-length scripts s.world (at (spans_in scripts (spot_of s).source) t) (frames root t s)
+    ∙ frames-length root t s
 
 -- ---- the walk
 
 pub walk-some : (scripts : List Script) (root : Addr) (t : Term) (s : State) (d : ℕ) (f : Frame)
     → frame_at d root t s ≡ Some f
-    → drop d (walk scripts root t s) ≡ shown_frame scripts s.world (record f { here = here_at (at (spans_in scripts (spot_of s).source) t) d f }) ∷ drop (d + 1) (walk scripts root t s)
-walk-some scripts root t s d f e = rw add-one (listed-some scripts s.world (at (spans_in scripts (spot_of s).source) t) (frames root t s) d f e)
+    → drop d (walk scripts root t s) ≡ shown_frame scripts s.world
+    (record f { here = here_at (at (spans_in scripts (spot_of s).source) t) d f }) ∷ drop (d + 1)
+    (walk scripts root t s)
+walk-some scripts root t s d f e =
+    rw add-one (listed-some scripts s.world (at (spans_in scripts (spot_of s).source) t) (frames root t s) d f e)
 
 pub walk-none : (scripts : List Script) (root : Addr) (t : Term) (s : State) (d : ℕ)
     → frame_at d root t s ≡ None
     → drop d (walk scripts root t s) ≡ []
-walk-none scripts root t s d e = listed-none scripts s.world (at (spans_in scripts (spot_of s).source) t) (frames root t s) d e
+walk-none scripts root t s d e =
+    listed-none scripts s.world (at (spans_in scripts (spot_of s).source) t) (frames root t s) d e
 
 pub walk-past : (scripts : List Script) (root : Addr) (t : Term) (s : State) (d : ℕ)
     → length s.frames ≤ d
@@ -98,7 +107,8 @@ walk-past scripts root t s d h =
     walk-none scripts root t s d (get-past (frames root t s) d (omega arith))
 
 -- the next one, at the place and as the code shows it
-pub walk-next : (scripts : List Script) (root : Addr) (t : Term) (s : State) (d : ℕ) (f : Frame) (h : Mark) (shown : ShownFrame)
+pub walk-next : (scripts : List Script) (root : Addr) (t : Term) (s : State) (d : ℕ) (f : Frame) (h : Mark)
+    (shown : ShownFrame)
     → frame_at d root t s ≡ Some f
     → h ≡ here_at (at (spans_in scripts (spot_of s).source) t) d f
     → shown ≡ shown_frame scripts s.world (record f { here = h })

@@ -78,10 +78,12 @@ made-within : (w : World) (r : Room) (n : Option ℕ) (c : Cell)
     → IsWithinOlder (next_address w n) (Some c)
     → (a : Addr)
     → IsWithinOlder a (read_cell (record (with_cell w n c) { room = r }) a)
-made-within w r None c h k (Base i) = get-append (λ j o. IsWithinOlder (Base j) o) (λ j. tt) w.base c (λ j. h (Base j)) k i
+made-within w r None c h k (Base i) =
+    get-append (λ j o. IsWithinOlder (Base j) o) (λ j. tt) w.base c (λ j. h (Base j)) k i
 made-within w r None c h k (Scratch i) = h (Scratch i)
 made-within w r (Some n) c h k (Base i) = h (Base i)
-made-within w r (Some n) c h k (Scratch i) = get-append (λ j o. IsWithinOlder (Scratch j) o) (λ j. tt) w.scratch c (λ j. h (Scratch j)) k i
+made-within w r (Some n) c h k (Scratch i) =
+    get-append (λ j o. IsWithinOlder (Scratch j) o) (λ j. tt) w.scratch c (λ j. h (Scratch j)) k i
 
 made-own : (w : World) (r : Room) (n : Option ℕ) (c : Cell)
     → HasOwnCells n w.scratch
@@ -94,9 +96,14 @@ pub making-nested : (w : World) (c : Cell) → IsNested w → SoundCell w c → 
 making-nested w c h k =
     let v : World = record (with_cell w w.start c) { room = room_less w.room (weight c) } in
     let P : Addr → World → Type 0 = λ a u. IsNested u in
-    fine_if (nat_lt 0 w.room.cells) counted.Cells (if nat_le (weight c) w.room.units then fine (next_address w w.start) v else full counted.Units) P
+    fine_if (nat_lt 0 w.room.cells) counted.Cells
+    (if nat_le (weight c) w.room.units then fine (next_address w w.start) v else full counted.Units) P
     (fine_if (nat_le (weight c) w.room.units) counted.Units (fine (next_address w w.start) v) P
-    (record { outward = made-within w v.room w.start c h.outward (new-within w w.start c h.own k); own = made-own w v.room w.start c h.own refl }))
+    (record {
+      outward = made-within w v.room w.start c h.outward
+          (new-within w w.start c h.own k);
+      own = made-own w v.room w.start c h.own refl;
+    }))
 
 -- ---- writing
 
@@ -124,7 +131,8 @@ changed-within a (cells.Error class ps) (changes.Declare d b) h = tt
 changed-within a (cells.Error class ps) (changes.Bind d v) h = tt
 changed-within a (cells.Array vs) (changes.Put k v) h = tt
 changed-within a (cells.Array vs) (changes.Remove k) h = tt
-changed-within a (cells.Array vs) (changes.Element i v) h = within_if a (nat_le i (length vs)) (cells.Array (with_element vs i v)) tt
+changed-within a (cells.Array vs) (changes.Element i v) h =
+    within_if a (nat_le i (length vs)) (cells.Array (with_element vs i v)) tt
 changed-within a (cells.Array vs) (changes.Length l) h = within_if a (nat_le l (length vs)) (cells.Array (take l vs)) tt
 changed-within a (cells.Array vs) (changes.Declare d b) h = tt
 changed-within a (cells.Array vs) (changes.Bind d v) h = tt
@@ -136,8 +144,10 @@ changed-within a (cells.Bindings k n o ns) (changes.Element i v) h = tt
 changed-within a (cells.Bindings k n o ns) (changes.Length l) h = tt
 changed-within a (cells.Bindings k n None ns) (changes.Declare d b) h = tt
 changed-within a (cells.Bindings k n (Some o) ns) (changes.Declare d b) h = h
-changed-within a (cells.Bindings k n None ns) (changes.Bind d v) h = within_if a (is_some (binding_of ns d)) (cells.Bindings k n None (bound ns d v)) tt
-changed-within a (cells.Bindings k n (Some o) ns) (changes.Bind d v) h = within_if a (is_some (binding_of ns d)) (cells.Bindings k n (Some o) (bound ns d v)) h
+changed-within a (cells.Bindings k n None ns) (changes.Bind d v) h =
+    within_if a (is_some (binding_of ns d)) (cells.Bindings k n None (bound ns d v)) tt
+changed-within a (cells.Bindings k n (Some o) ns) (changes.Bind d v) h =
+    within_if a (is_some (binding_of ns d)) (cells.Bindings k n (Some o) (bound ns d v)) h
 
 set-within : (w : World) (r : Room) (x : Addr) (new : Cell)
     → ((a : Addr) → IsWithinOlder a (read_cell w a))
@@ -147,7 +157,8 @@ set-within : (w : World) (r : Room) (x : Addr) (new : Cell)
 set-within w r (Base j) new h k (Base i) = get-set (λ m o. IsWithinOlder (Base m) o) w.base j new (λ m. h (Base m)) k i
 set-within w r (Base j) new h k (Scratch i) = h (Scratch i)
 set-within w r (Scratch j) new h k (Base i) = h (Base i)
-set-within w r (Scratch j) new h k (Scratch i) = get-set (λ m o. IsWithinOlder (Scratch m) o) w.scratch j new (λ m. h (Scratch m)) k i
+set-within w r (Scratch j) new h k (Scratch i) =
+    get-set (λ m o. IsWithinOlder (Scratch m) o) w.scratch j new (λ m. h (Scratch m)) k i
 
 none-set : (cs : List Cell) (j : ℕ) (c : Cell) → cs ≡ [] → slice_set cs j c ≡ []
 none-set [] j c e = refl
@@ -158,8 +169,11 @@ set-own : (w : World) (r : Room) (n : Option ℕ) (x : Addr) (new : Cell)
     → w.start ≡ n
     → let v : World = record (replaced w x new) { room = r } in HasOwnCells v.start v.scratch
 set-own w r n (Base j) new h e = let P : Option ℕ → Type 0 = λ m. HasOwnCells m w.scratch in subst P (sym e) h
-set-own w r None (Scratch j) new h e = let P : Option ℕ → Type 0 = λ m. HasOwnCells m (slice_set w.scratch j new) in subst P (sym e) (none-set w.scratch j new h)
-set-own w r (Some n) (Scratch j) new h e = let P : Option ℕ → Type 0 = λ m. HasOwnCells m (slice_set w.scratch j new) in subst P (sym e) tt
+set-own w r None (Scratch j) new h e =
+    let P : Option ℕ → Type 0 = λ m. HasOwnCells m (slice_set w.scratch j new) in
+    subst P (sym e) (none-set w.scratch j new h)
+set-own w r (Some n) (Scratch j) new h e =
+    let P : Option ℕ → Type 0 = λ m. HasOwnCells m (slice_set w.scratch j new) in subst P (sym e) tt
 
 written-nested : (w : World) (a : Addr) (old : Cell) (o : Option Cell)
     → IsNested w

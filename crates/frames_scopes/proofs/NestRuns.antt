@@ -52,7 +52,10 @@ mutual
   at-live w scope (standing v place) o h = (o, tt)
   at-live w scope (part f now later) o h = part-live w scope f now later o h.0 (λ inner k. in-live w inner now k h.1)
 
-  in-live : (w : World) (scope : Addr) (ts : Terms) → SoundScope w (Some scope) → SoundTerms w ts → AllLive w (scopes_in scope ts)
+  in-live : (w : World) (scope : Addr) (ts : Terms)
+      → SoundScope w (Some scope)
+      → SoundTerms w ts
+      → AllLive w (scopes_in scope ts)
   in-live w scope end o h = (o, tt)
   in-live w scope (more (done v) ts) o h = in-live w scope ts o h.1
   in-live w scope (more (standing v place) ts) o h = (o, tt)
@@ -90,7 +93,8 @@ frame-live : (w : World) (fs : List Frame) (d : ℕ) (f : Frame)
     → slice_get fs d ≡ Some f
     → SoundScope w (Some f.scope)
 frame-live w [] d f h e = cc
-frame-live w (g ∷ fs) zero f h e = let k : g ≡ f = cc in let P : Frame → Type 0 = λ x. SoundScope w (Some x.scope) in subst P k h.0
+frame-live w (g ∷ fs) zero f h e =
+    let k : g ≡ f = cc in let P : Frame → Type 0 = λ x. SoundScope w (Some x.scope) in subst P k h.0
 frame-live w (g ∷ fs) (suc d) f h e = frame-live w fs d f h.1 e
 
 -- ---- configurations
@@ -102,8 +106,10 @@ pub whole-chains : (p : Program) (t : Term) (s : State)
     → HasWholeChains t s
 whole-chains p t s h k n d f e =
     let b : HasBuiltIns s.world = h.built_ins in
-    let scopes : AllLive s.world (reversed_onto (scopes_at script_scope t) []) = reversed-live s.world (scopes_at script_scope t) [] (at-live s.world script_scope t b.scripts k) tt in
-    let live : FramesLive s.world (frames script_scope t s) = with-live s.world (shown_frames (active t) s.frames) (reversed_onto (scopes_at script_scope t) []) (shown-live s.world (active t) s.frames h.frames) scopes in
+    let scopes : AllLive s.world (reversed_onto (scopes_at script_scope t) []) = reversed-live s.world
+    (scopes_at script_scope t) [] (at-live s.world script_scope t b.scripts k) tt in
+    let live : FramesLive s.world (frames script_scope t s) = with-live s.world (shown_frames (active t) s.frames)
+    (reversed_onto (scopes_at script_scope t) []) (shown-live s.world (active t) s.frames h.frames) scopes in
     whole-chain s.world f.scope h.world n (frame-live s.world (frames script_scope t s) d f live e)
 
 run-whole : (p : Program) (r : Run) → SoundRun p r → IsNested (state_of r).world → RunHasWholeChains r
@@ -123,8 +129,11 @@ plain-nested : (k : ℕ) (ss : List Script) (input : List (List ℕ))
 plain-nested k ss input =
     let ts : Terms = terms_of_scripts ss in
     let t : Term = settled scripts (placed_scripts ts) end in
-    steps-nested k (program_of ts) script_scope (start ts input) (start-scope ts input t) (scripts-sound zero ss input) (start-nested ts input t)
+    steps-nested k (program_of ts) script_scope (start ts input) (start-scope ts input t) (scripts-sound zero ss input)
+    (start-nested ts input t)
 
 pub plain-whole : (k : ℕ) (ss : List Script) (input : List (List ℕ))
     → RunHasWholeChains (plain k (terms_of_scripts ss) input)
-plain-whole k ss input = run-whole (program_of (terms_of_scripts ss)) (plain k (terms_of_scripts ss) input) (scripts-sound k ss input) (plain-nested k ss input)
+plain-whole k ss input =
+    run-whole (program_of (terms_of_scripts ss)) (plain k (terms_of_scripts ss) input) (scripts-sound k ss input)
+    (plain-nested k ss input)

@@ -65,17 +65,20 @@ perform-nested (leave c) s h k = h
 perform-nested (make c k) s h a =
     let P : Addr → World → Type 0 = λ x v. Leads (λ kind. kind ≡ kind_of c) (read_cell v x) in
     after-nested s (make_cell s.world c) (λ x. perform (k x)) (λ x v. Later s.world v × P x v) h
-    (making-nested s.world c h a.0) (both (make_cell s.world c) s.world P (making-keeps s.world c) (making-leads s.world c))
+    (making-nested s.world c h a.0)
+    (both (make_cell s.world c) s.world P (making-keeps s.world c) (making-leads s.world c))
     (λ x v n q. perform-nested (k x) (with_world s v) n (a.1 v x q.0 q.1))
 perform-nested (write x c k) s h a =
     after-nested s (write_cell s.world x c) (λ u. perform k) (λ u v. Keeps s.world v) h
     (writing-nested s.world x c h) (writing-keeps s.world x c)
     (λ u v n q. let l = q.kinds in perform-nested k (with_world s v) n (a.1 v l))
 perform-nested (print vs text) s h k =
-    outside-nested (is_evaluation s.world) s (goes (done values.Undefined) (record s { printed = s.printed ++ text ∷ [] }) _) h h
+    outside-nested (is_evaluation s.world) s
+    (goes (done values.Undefined) (record s { printed = s.printed ++ text ∷ [] }) _) h h
 perform-nested (take_line k) s h a =
     let u : State = record s { input = other_lines s.input } in
-    outside-nested (is_evaluation s.world) s (perform (k (first_line s.input)) u) h (perform-nested (k (first_line s.input)) u h (a (first_line s.input)))
+    outside-nested (is_evaluation s.world) s (perform (k (first_line s.input)) u) h
+    (perform-nested (k (first_line s.input)) u h (a (first_line s.input)))
 perform-nested (set_here m k) s h a = perform-nested k (with_here s m) h a
 perform-nested (push_frame f k) s h a = perform-nested k (record s { frames = f ∷ s.frames }) h a.1
 perform-nested (pop_frame k) s h a = perform-nested k (record s { frames = rest_of s.frames }) h a
@@ -108,12 +111,14 @@ around-nested : (p : Program) (scope : Addr) (f : Form) (later : Terms) (s : Sta
     → IsNested s.world
     → WalkNested x
     → MoveNested (around p scope f later s x)
-around-nested p scope f later s (all_values vs) h o n k g q d e = perform-nested (row p s scope f vs later) s d (row-sound p s scope f vs later h o n q k)
+around-nested p scope f later s (all_values vs) h o n k g q d e =
+    perform-nested (row p s scope f vs later) s d (row-sound p s scope f vs later h o n q k)
 around-nested p scope f later s (moved (goes now t told)) h o n k g q d e = e
 around-nested p scope f later s (moved (travels c t)) h o n k g q d e =
     let l = later_of s t g in
     perform-nested (taken scope f c later) t e
-    (taken-sound t.world scope f c later (sound-scope s.world t.world l (Some scope) o) (sound-form s.world t.world l f n) q.1 (sound-terms s.world t.world l later k))
+    (taken-sound t.world scope f c later (sound-scope s.world t.world l (Some scope) o)
+    (sound-form s.world t.world l f n) q.1 (sound-terms s.world t.world l later k))
 around-nested p scope f later s (moved (has_effect t)) h o n k g q d e = e
 around-nested p scope f later s (moved (is_full what t)) h o n k g q d e = e
 
@@ -128,7 +133,8 @@ mutual
   next-nested p scope (standing v place) s h o k d = d
   next-nested p scope (part f now later) s h o k d =
       let inner : SoundScope s.world (Some (scope_in f scope)) = inner-sound s.world f scope k.0 o in
-      around-nested p scope f later s (walk p (scope_in f scope) now s) h o k.0 k.2 (walk-follows p (scope_in f scope) now s) (walk-sound p (scope_in f scope) now s h inner k.1) d
+      around-nested p scope f later s (walk p (scope_in f scope) now s) h o k.0 k.2
+      (walk-follows p (scope_in f scope) now s) (walk-sound p (scope_in f scope) now s h inner k.1) d
       (walk-nested p (scope_in f scope) now s h inner k.1 d)
 
   walk-nested : (p : Program) (scope : Addr) (ts : Terms) (s : State)
@@ -138,9 +144,12 @@ mutual
       → IsNested s.world
       → WalkNested (walk p scope ts s)
   walk-nested p scope end s h o k d = tt
-  walk-nested p scope (more (done v) ts) s h o k d = with_value-nested v (walk p scope ts s) (walk-nested p scope ts s h o k.1 d)
+  walk-nested p scope (more (done v) ts) s h o k d =
+      with_value-nested v (walk p scope ts s) (walk-nested p scope ts s h o k.1 d)
   walk-nested p scope (more (standing v place) ts) s h o k d = d
-  walk-nested p scope (more (part f now later) ts) s h o k d = nested-inside (λ t. more t ts) (next p scope (part f now later) s) (next-nested p scope (part f now later) s h o k.0 d)
+  walk-nested p scope (more (part f now later) ts) s h o k d =
+      nested-inside (λ t. more t ts) (next p scope (part f now later) s)
+      (next-nested p scope (part f now later) s h o k.0 d)
 
 -- ---- runs
 
@@ -171,4 +180,7 @@ pub steps-nested : (k : ℕ) (p : Program) (scope : Addr) (r : Run)
 steps-nested zero p scope r o h d = d
 steps-nested (suc k) p scope r o h d =
     let q : Run = step_in p scope r in
-    steps-nested k p scope q (sound-scope (state_of r).world (state_of q).world (later_of (state_of r) (state_of q) (step-follows p scope r)) (Some scope) o) (step-sound p scope r o h) (step-nested p scope r o h d)
+    steps-nested k p scope q
+    (sound-scope (state_of r).world (state_of q).world (later_of (state_of r) (state_of q) (step-follows p scope r))
+    (Some scope) o)
+    (step-sound p scope r o h) (step-nested p scope r o h d)

@@ -20,7 +20,11 @@ abbrev pub IsChain : World → Bool → Option Addr → List ListedScope → Typ
 IsChain w inside None [] = Unit {0}
 IsChain w inside None (l ∷ ls) = ⊥
 IsChain w inside (Some a) [] = ⊥
-IsChain w inside (Some a) (l ∷ ls) = (s : ScopeParts) × (scope_parts (read_cell w a) ≡ Some s) × (l ≡ record { kind = listed_as s.kind inside; scope = a }) × IsChain w (still_inside s.kind inside) s.outer ls
+IsChain w inside (Some a) (l ∷ ls) =
+    (s : ScopeParts)
+    × (scope_parts (read_cell w a) ≡ Some s)
+    × (l ≡ record { kind = listed_as s.kind inside; scope = a })
+    × IsChain w (still_inside s.kind inside) s.outer ls
 
 -- the scopes of a frame with this innermost one are all that are around it
 abbrev pub HasWholeChain : World → Addr → Type 0

@@ -47,7 +47,13 @@ name_of_scope (Some s) = s.name
 
 -- a listed scope with the name that it shows
 abbrev pub shown_scope : World → ListedScope → ShownScope
-shown_scope w l = record { kind = shown_kind l.kind; name = name_on (shown_kind l.kind) (name_of_scope (scope_parts (read_cell w l.scope))); bindings = l.scope }
+shown_scope w l =
+    record {
+      kind = shown_kind l.kind;
+      name = name_on (shown_kind l.kind)
+          (name_of_scope (scope_parts (read_cell w l.scope)));
+      bindings = l.scope;
+    }
 
 -- those of a frame with this innermost scope, from it outward
 abbrev pub shown_scopes : World → Addr → List ShownScope

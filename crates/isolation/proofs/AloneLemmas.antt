@@ -19,7 +19,8 @@ and-not false = refl
 
 -- a program with a session in this seat
 abbrev alone_with : {C Q X : Type 0} → Meaning C Q X → Seat X → Alone C Q X
-alone_with m seat = record { program = m.program; first = is_first m.phase; stop = m.stop; stops = m.stops; seat = seat }
+alone_with m seat =
+    record { program = m.program; first = is_first m.phase; stop = m.stop; stops = m.stops; seat = seat }
 
 same-seat : {C Q X : Type 0} → (m : Meaning C Q X) (a b : Seat X) → a ≡ b → alone_with m a ≡ alone_with m b
 same-seat m a b is = ap (λ seat. alone_with m seat) is
@@ -64,7 +65,8 @@ asked-alone : {C T Q X : Type 0} → (P : Protocol C T Q X) (s : ℕ) (m : Meani
     → alone_at s (asked P resumes wakes m) ≡ goes_on P (has_resumed m (asked P resumes wakes m)) (alone_at s m)
 asked-alone P s m true wakes = resume-alone P s m
 asked-alone P s m false true =
-    settle-alone P s (record m { phase = woken m.phase }) ∙ ap (λ a. goes_on P (has_resumed m (asked P false true m)) a) (woken-alone s m)
+    settle-alone P s (record m { phase = woken m.phase })
+    ∙ ap (λ a. goes_on P (has_resumed m (asked P false true m)) a) (woken-alone s m)
 asked-alone P s m false false = settle-alone P s m
 
 -- ---- the session's own entries
@@ -74,7 +76,8 @@ own : {C T Q X : Type 0} → (P : Protocol C T Q X) (s : ℕ) (m k : Meaning C Q
     → seat_of s m.seats ≢ Left
     → alone_at s k ≡ goes_on P (has_resumed m k) (alone_at s (with_seat s seat m))
     → alone_at s k ≡ goes_on P (has_resumed m k) (alone_with m seat)
-own P s m k seat there goes = goes ∙ ap (λ a. goes_on P (has_resumed m k) a) (same-seat m _ _ (put-same s seat m.seats there))
+own P s m k seat there goes =
+    goes ∙ ap (λ a. goes_on P (has_resumed m k) a) (same-seat m _ _ (put-same s seat m.seats there))
 
 -- behind a text whose reply fits, or doesn't
 told-choice : {C T Q X : Type 0}
@@ -83,7 +86,8 @@ told-choice : {C T Q X : Type 0}
     → (let k = if b then asked P resumes wakes (with_seat s (Attached y) m) else settle P (with_seat s Left m) in
     alone_at s k ≡ goes_on P (has_resumed m k) (alone_with m (if b then Attached y else Left)))
 told-choice P s m resumes wakes y true there =
-    own P s m (asked P resumes wakes (with_seat s (Attached y) m)) (Attached y) there (asked-alone P s (with_seat s (Attached y) m) resumes wakes)
+    own P s m (asked P resumes wakes (with_seat s (Attached y) m)) (Attached y) there
+    (asked-alone P s (with_seat s (Attached y) m) resumes wakes)
 told-choice P s m resumes wakes y false there =
     own P s m (settle P (with_seat s Left m)) Left there (settle-alone P s (with_seat s Left m))
 
@@ -117,7 +121,8 @@ detach-own P s m (Attached x) is =
     own P s m (settle P (with_seat s Left m)) Left (attached-there _ x is) (settle-alone P s (with_seat s Left m))
 detach-own P s m (Lost loss is_reported is_told) is =
     let k = with_seat s (Lost loss is_reported true) m in
-    own P s m k (Lost loss is_reported true) (lost-there _ (Lost loss is_reported is_told) is (λ same. cc)) (stayed-alone P m (alone_at s k))
+    own P s m k (Lost loss is_reported true) (lost-there _ (Lost loss is_reported is_told) is (λ same. cc))
+    (stayed-alone P m (alone_at s k))
 detach-own P s m Left is = absent P s m Left is
 
 take-own : {C T Q X : Type 0} → (P : Protocol C T Q X) (s : ℕ) (m : Meaning C Q X) (seat : Seat X)
@@ -144,7 +149,8 @@ told-other : {C T Q X : Type 0}
     → (let k = if b then asked P resumes wakes (with_seat r (Attached y) m) else settle P (with_seat r Left m) in
     alone_at s k ≡ goes_on P (has_resumed m k) (alone_at s m))
 told-other P r s m resumes wakes y true other =
-    others P r s m (asked P resumes wakes (with_seat r (Attached y) m)) (Attached y) other (asked-alone P s (with_seat r (Attached y) m) resumes wakes)
+    others P r s m (asked P resumes wakes (with_seat r (Attached y) m)) (Attached y) other
+    (asked-alone P s (with_seat r (Attached y) m) resumes wakes)
 told-other P r s m resumes wakes y false other =
     others P r s m (settle P (with_seat r Left m)) Left other (settle-alone P s (with_seat r Left m))
 
@@ -159,7 +165,8 @@ tell-other P r s text m Left other = stayed-alone P m (alone_at s m)
 
 detach-other : {C T Q X : Type 0} → (P : Protocol C T Q X) (r s : ℕ) (m : Meaning C Q X) (seat : Seat X) → r ≢ s
     → alone_at s (detach P r m seat) ≡ goes_on P (has_resumed m (detach P r m seat)) (alone_at s m)
-detach-other P r s m (Attached x) other = others P r s m (settle P (with_seat r Left m)) Left other (settle-alone P s (with_seat r Left m))
+detach-other P r s m (Attached x) other =
+    others P r s m (settle P (with_seat r Left m)) Left other (settle-alone P s (with_seat r Left m))
 detach-other P r s m (Lost loss is_reported is_told) other =
     let k = with_seat r (Lost loss is_reported true) m in
     others P r s m k (Lost loss is_reported true) other (stayed-alone P m (alone_at s k))
@@ -180,7 +187,8 @@ listed-alone m seat false = refl
 
 without-alone : {C Q X : Type 0} → (s : ℕ) (gone : List ℕ) (m : Meaning C Q X)
     → alone_with m (seat_of s (without gone m.seats)) ≡ unless_listed (is_listed gone s) (alone_at s m)
-without-alone s gone m = same-seat m _ _ (without-at gone s m.seats) ∙ listed-alone m (seat_of s m.seats) (is_listed gone s)
+without-alone s gone m =
+    same-seat m _ _ (without-at gone s m.seats) ∙ listed-alone m (seat_of s m.seats) (is_listed gone s)
 
 step-alone : {C T Q X : Type 0} → (P : Protocol C T Q X) (s moment : ℕ) (gone : List ℕ) (m : Meaning C Q X)
     → alone_at s (step P moment gone m)
@@ -198,7 +206,8 @@ stop-flag false q = refl
 -- a step stops the program exactly where it is named
 pub step-stops : {C T Q X : Type 0} → (P : Protocol C T Q X) (moment : ℕ) (gone : List ℕ) (m : Meaning C Q X)
     → is_paused (step P moment gone m) ≡ is_named P moment gone m.program m
-step-stops P moment gone m = stop-flag (is_named P moment gone m.program m) (P.pause (next_number m.stops) (P.next m.program))
+step-stops P moment gone m =
+    stop-flag (is_named P moment gone m.program m) (P.pause (next_number m.stops) (P.next m.program))
 
 -- a program that is ready isn't paused
 pub ready-goes : {C T Q X : Type 0} → (P : Protocol C T Q X) (m : Meaning C Q X) → is_ready P m ≡ true
@@ -213,7 +222,8 @@ passing-alone : {C T Q X : Type 0} → (P : Protocol C T Q X) (s n moment : ℕ)
 passing-alone P s zero moment m ready = refl
 passing-alone P s (suc n) moment m ready =
     let after = step P moment [] m in
-    let goes : is_named P moment [] m.program m ≡ false = sym (step-stops P moment [] m) ∙ ready-goes P after (ready (suc zero) (omega arith)) in
+    let goes : is_named P moment [] m.program m ≡ false = sym (step-stops P moment [] m)
+    ∙ ready-goes P after (ready (suc zero) (omega arith)) in
     passing-alone P s n moment after (λ j below. ready (suc j) (omega (arith, below)))
     ∙ ap (λ a. passing P moment n a) (step-alone P s moment [] m ∙ ap (λ b. one_step P moment b (alone_at s m)) goes)
 
@@ -226,7 +236,8 @@ run-alone P s zero moment gone m ready = without-alone s gone m
 run-alone P s (suc n) moment gone m ready =
     let before = after_steps P moment n m in
     step-alone P s moment gone before
-    ∙ ap (λ b. one_step P moment b (unless_listed (is_listed gone s) (alone_at s before))) (sym (step-stops P moment gone before))
+    ∙ ap (λ b. one_step P moment b (unless_listed (is_listed gone s) (alone_at s before)))
+    (sym (step-stops P moment gone before))
     ∙ ap (λ a. one_step P moment (is_paused (step P moment gone before)) (unless_listed (is_listed gone s) a))
     (passing-alone P s n moment m ready)
 
@@ -257,10 +268,12 @@ see_all P s a (seen ∷ view) = see_all P s (see P s a seen) view
 solo-append : {C T Q X : Type 0} → (P : Protocol C T Q X) (s : ℕ) (a : Alone C Q X) (xs ys : List Seen)
     → solo P s a (xs ++ ys) ≡ solo P s a xs ++ solo P s (see_all P s a xs) ys
 solo-append P s a [] ys = refl
-solo-append P s a (x ∷ xs) ys = ap (λ rest. given P a x ++ rest) (solo-append P s (see P s a x) xs ys) ∙ sym (append_assoc (given P a x) _ _)
+solo-append P s a (x ∷ xs) ys =
+    ap (λ rest. given P a x ++ rest) (solo-append P s (see P s a x) xs ys) ∙ sym (append_assoc (given P a x) _ _)
 
 -- what one entry does to a session and hands out to it
-pub record Follows {C T Q X : Type 0} (P : Protocol C T Q X) (s : ℕ) (m k : Meaning C Q X) (texts : List (List ℕ)) (seen : List Seen) : Type 0 where
+pub record Follows {C T Q X : Type 0} (P : Protocol C T Q X) (s : ℕ) (m k : Meaning C Q X) (texts : List (List ℕ))
+    (seen : List Seen) : Type 0 where
   pub goes : alone_at s k ≡ see_all P s (alone_at s m) seen
   pub hands : texts ≡ solo P s (alone_at s m) seen
 
@@ -296,7 +309,11 @@ take-follows : {C T Q X : Type 0} → (P : Protocol C T Q X) (s r : ℕ) (m : Me
     (if b then Took ∷ [] else [])
 take-follows P s r m true is =
     let e : r ≡ s = eqb-true r s is in
-    rw e record { goes = take-own P s m (seat_of s m.seats) refl; hands = sym (append-nil (waiting P (seat_of s m.seats))) }
+    rw e record {
+      goes = take-own P s m (seat_of s m.seats) refl;
+      hands = sym
+          (append-nil (waiting P (seat_of s m.seats)));
+    }
 take-follows P s r m false is = record { goes = take-other P r s m (seat_of r m.seats) (differ r s is); hands = refl }
 
 attach-follows : {C T Q X : Type 0} → (P : Protocol C T Q X) (s : ℕ) (m : Meaning C Q X) (b : Bool)
@@ -304,9 +321,18 @@ attach-follows : {C T Q X : Type 0} → (P : Protocol C T Q X) (s : ℕ) (m : Me
     → Follows P s m (apply P m Attach) [] (if b then Came ∷ [] else [])
 attach-follows P s m true is =
     let e : length m.seats + 1 ≡ s = eqb-true (length m.seats + 1) s is in
-    record { goes = rw (← e) (same-seat m _ _ (append-new (Attached (P.fresh (length m.seats + 1))) m.seats)); hands = refl }
+    record {
+      goes = rw (← e)
+          (same-seat m _ _ (append-new (Attached (P.fresh (length m.seats + 1))) m.seats));
+      hands = refl;
+    }
 attach-follows P s m false is =
-    record { goes = same-seat m _ _ (append-old s (Attached (P.fresh (length m.seats + 1))) m.seats (differ (length m.seats + 1) s is)); hands = refl }
+    record {
+      goes = same-seat m _ _
+          (append-old s (Attached (P.fresh (length m.seats + 1))) m.seats
+          (differ (length m.seats + 1) s is));
+      hands = refl;
+    }
 
 -- what each entry does to a session is what its view of it does
 pub follows : {C T Q X : Type 0} → (P : Protocol C T Q X) (s : ℕ) (m : Meaning C Q X) (entry : Entry)
@@ -330,7 +356,8 @@ alone-from P s m (entry ∷ history) fits =
     let one = follows P s m entry fits.0 in
     ap (λ first. first ++ handed_of P s (apply P m entry) history) one.hands
     ∙ ap (λ rest. solo P s (alone_at s m) (view_at P s m entry) ++ rest)
-    (alone-from P s (apply P m entry) history fits.1 ∙ ap (λ a. solo P s a (view P s (apply P m entry) history)) one.goes)
+    (alone-from P s (apply P m entry) history fits.1
+    ∙ ap (λ a. solo P s a (view P s (apply P m entry) history)) one.goes)
     ∙ sym (solo-append P s (alone_at s m) (view_at P s m entry) (view P s (apply P m entry) history))
 
 -- before the first entry no session was attached, whatever its number
@@ -346,7 +373,8 @@ pub alone : {C T Q X : Type 0} → (P : Protocol C T Q X) (s : ℕ) (c : C) (wai
     → FitsAll P (begin c wait) history
     → handed_of P s (begin c wait) history ≡ solo P s (unborn c wait) (view P s (begin c wait) history)
 alone P s c wait history fits =
-    alone-from P s (begin c wait) history fits ∙ ap (λ a. solo P s a (view P s (begin c wait) history)) (unborn-at s c wait)
+    alone-from P s (begin c wait) history fits
+    ∙ ap (λ a. solo P s a (view P s (begin c wait) history)) (unborn-at s c wait)
 
 -- a session is handed the same over two histories of which it sees the same
 pub same-views : {C T Q X : Type 0} → (P : Protocol C T Q X) (s : ℕ) (c : C) (wait : Bool) (history other : List Entry)
@@ -354,4 +382,6 @@ pub same-views : {C T Q X : Type 0} → (P : Protocol C T Q X) (s : ℕ) (c : C)
     → view P s (begin c wait) history ≡ view P s (begin c wait) other
     → handed_of P s (begin c wait) history ≡ handed_of P s (begin c wait) other
 same-views P s c wait history other fits fits_other same =
-    alone P s c wait history fits ∙ ap (λ seen. solo P s (unborn c wait) seen) same ∙ sym (alone P s c wait other fits_other)
+    alone P s c wait history fits
+    ∙ ap (λ seen. solo P s (unborn c wait) seen) same
+    ∙ sym (alone P s c wait other fits_other)

@@ -32,7 +32,8 @@ unlisted-step r s news false small later = later
 -- the numbers of those that fell are none below the first one's
 unlisted : {X : Type 0} → (r s : ℕ) (news : List (Seat X)) → r < s → is_listed (fallen_from s news) r ≡ false
 unlisted r s [] small = refl
-unlisted r s (new ∷ news) small = unlisted-step r s news (fell new) small (unlisted r (s + 1) news (omega (arith, small)))
+unlisted r s (new ∷ news) small =
+    unlisted-step r s news (fell new) small (unlisted r (s + 1) news (omega (arith, small)))
 
 -- a number below the first one's is nobody's
 pub without-below : {X : Type 0} → (r s : ℕ) (numbers : List ℕ) (olds : List (Seat X)) → r < s
@@ -40,7 +41,8 @@ pub without-below : {X : Type 0} → (r s : ℕ) (numbers : List ℕ) (olds : Li
 without-below r s numbers [] small = refl
 without-below r s numbers (old ∷ olds) small =
     rw (below-differs r s small)
-    (ap (λ rest. (if is_listed numbers s then fallen old else old) ∷ rest) (without-below r (s + 1) numbers olds (omega (arith, small))))
+    (ap (λ rest. (if is_listed numbers s then fallen old else old) ∷ rest)
+    (without-below r (s + 1) numbers olds (omega (arith, small))))
 
 -- ---- seats without those that fell
 
@@ -58,7 +60,8 @@ mids-step : {X : Type 0} → (s : ℕ) (old : Seat X) (olds news : List (Seat X)
     ≡ without_from (if b then s ∷ fallen_from (s + 1) news else fallen_from (s + 1) news) s (old ∷ olds)
 mids-step s old olds news true later =
     rw (itself s)
-    (ap (λ rest. fallen old ∷ rest) (later ∙ sym (without-below s (s + 1) (fallen_from (s + 1) news) olds (omega arith))))
+    (ap (λ rest. fallen old ∷ rest)
+    (later ∙ sym (without-below s (s + 1) (fallen_from (s + 1) news) olds (omega arith))))
 mids-step s old olds news false later =
     rw (unlisted s (s + 1) news (omega arith)) (ap (λ rest. old ∷ rest) later)
 

@@ -30,7 +30,8 @@ reached-none : {C T Q X : Type 0}
     → HasMade P moment m n k
     → fallen_in n.seats ≡ []
     → n ≡ after_steps P moment k m
-reached-none P moment k m n made none = made.reached ∙ ap (λ gone. after_run P moment gone k m) none ∙ run-none P k moment m
+reached-none P moment k m n made none =
+    made.reached ∙ ap (λ gone. after_run P moment gone k m) none ∙ run-none P k moment m
 
 ready-sum : {C T Q X : Type 0} → (P : Protocol C T Q X) (moment j k : ℕ) (m : Meaning C Q X)
     → ((i : ℕ) → i < j → is_ready P (after_steps P moment i m) ≡ true)
@@ -39,7 +40,8 @@ ready-sum : {C T Q X : Type 0} → (P : Protocol C T Q X) (moment j k : ℕ) (m 
 ready-sum P moment zero k m first others i below = others i (omega (arith, below))
 ready-sum P moment (suc j) k m first others zero below = first zero (omega arith)
 ready-sum P moment (suc j) k m first others (suc i) below =
-    ready-sum P moment j k (step P moment [] m) (λ h small. first (suc h) (omega (arith, small))) others i (omega (arith, below))
+    ready-sum P moment j k (step P moment [] m) (λ h small. first (suc h) (omega (arith, small))) others i
+    (omega (arith, below))
 
 run-more : {C T Q X : Type 0} → (P : Protocol C T Q X) (moment j k : ℕ) (gone : List ℕ) (m : Meaning C Q X) → 0 < k
     → after_run P moment gone k (after_steps P moment j m) ≡ after_run P moment gone (j + k) m
@@ -78,7 +80,8 @@ longest-of P moment (suc most) zero m within ready (inl is) = absurd (omega (ari
 longest-of P moment (suc most) zero m within ready (inr stays) = rw stays refl
 longest-of P moment (suc most) (suc k) m within ready full =
     let e : k ≡ longest P moment most (step P moment [] m) =
-    longest-of P moment most k (step P moment [] m) (omega (arith, within)) (λ j below. ready (suc j) (omega (arith, below)))
+    longest-of P moment most k (step P moment [] m) (omega (arith, within))
+    (λ j below. ready (suc j) (omega (arith, below)))
     (one_less P moment most k m full) in
     let go : is_ready P m ≡ true = ready zero (omega arith) in
     rw go (omega (arith, e))
@@ -122,13 +125,16 @@ full_by P moment most m true go is =
       full = full_more P moment most k m is.full;
     } in
     subst (λ i. IsFull P moment (suc most) m i) e one
-full_by P moment most m false stays is = record { within = omega arith; ready = λ j below. absurd (omega (arith, below)); full = inr stays }
+full_by P moment most m false stays is =
+    record { within = omega arith; ready = λ j below. absurd (omega (arith, below)); full = inr stays }
 
 longest-full : {C T Q X : Type 0}
     → (P : Protocol C T Q X) (moment most : ℕ) (m : Meaning C Q X)
     → IsFull P moment most m (longest P moment most m)
-longest-full P moment zero m = record { within = omega arith; ready = λ j below. absurd (omega (arith, below)); full = inl refl }
-longest-full P moment (suc most) m = full_by P moment most m (is_ready P m) refl (longest-full P moment most (step P moment [] m))
+longest-full P moment zero m =
+    record { within = omega arith; ready = λ j below. absurd (omega (arith, below)); full = inl refl }
+longest-full P moment (suc most) m =
+    full_by P moment most m (is_ready P m) refl (longest-full P moment most (step P moment [] m))
 
 -- steps that are made where the program is ready are a stretch
 pub made-ready : {C T Q X : Type 0} → (P : Protocol C T Q X) (moment k : ℕ) (m : Meaning C Q X)
@@ -166,7 +172,8 @@ unnamed_stays : {C T Q X : Type 0}
     → P.fits x ≡ true
     → (if P.fits (if names then s else d) then Attached d else lost_by Overrun) ≡ Attached x
 unnamed_stays P true s d x unnamed same fit = absurd cc
-unnamed_stays P false s d x unnamed same fit = let fits : P.fits d ≡ true = ap (λ y. P.fits y) same ∙ fit in rw fits (ap (λ y. Attached y) same)
+unnamed_stays P false s d x unnamed same fit =
+    let fits : P.fits d ≡ true = ap (λ y. P.fits y) same ∙ fit in rw fits (ap (λ y. Attached y) same)
 
 quiet-seat : {C T Q X : Type 0}
     → (P : Protocol C T Q X) (number moment : ℕ) (t : T) (seat : Seat X)
@@ -194,7 +201,8 @@ quiet-each : {C T Q X : Type 0}
 quiet-each P number moment t [] silent unnamed fit = refl
 quiet-each P number moment t (seat ∷ seats) silent unnamed fit =
     let parts = or_parts (names_seat P t seat) (some (names_seat P t) seats) unnamed in
-    ap (λ first. first ∷ each (seat_behind P false number moment t) seats) (quiet-seat P number moment t seat silent parts.0 fit.0)
+    ap (λ first. first ∷ each (seat_behind P false number moment t) seats)
+    (quiet-seat P number moment t seat silent parts.0 fit.0)
     ∙ ap (λ more. seat ∷ more) (quiet-each P number moment t seats silent parts.1 fit.1)
 
 quiet-behind : {C T Q X : Type 0} → (P : Protocol C T Q X) (moment : ℕ) (t : T) (c : C) (b : Bool) (m : Meaning C Q X)
@@ -206,7 +214,8 @@ quiet-behind {C} {T} {Q} {X} P moment t c b m runs goes quiet fit passes =
     let g : List (Seat X) → List (Seat X) = each (seat_behind P false (next_number m.stops) moment t) in
     ap (λ a. behind P moment [] t c a m) passes
     ∙ ap (λ seats. f Running None (g seats)) (without-none m.seats)
-    ∙ ap (λ seats. f Running None seats) (quiet-each P (next_number m.stops) moment t m.seats quiet.silent quiet.unnamed fit)
+    ∙ ap (λ seats. f Running None seats)
+    (quiet-each P (next_number m.stops) moment t m.seats quiet.silent quiet.unnamed fit)
     ∙ ap (λ p. f p None m.seats) (sym runs)
     ∙ ap (λ o. f m.phase o m.seats) (sym goes)
 
@@ -222,9 +231,12 @@ quiet-step P moment m runs goes quiet fit =
     let t = P.tells false m.program in
     let first : told_at P m.program m ≡ t = ap (λ p. P.tells (is_first p) m.program) runs in
     let stops_at : List (Seat _) → Bool = λ seats. some (stops_for P (next_number m.stops) moment t) seats in
-    ap (λ a. behind P moment [] a (P.next m.program) (some (stops_for P (next_number m.stops) moment a) (without [] m.seats)) m) first
+    ap (λ a. behind P moment [] a (P.next m.program)
+    (some (stops_for P (next_number m.stops) moment a) (without [] m.seats)) m)
+    first
     ∙ quiet-behind P moment t (P.next m.program) (stops_at (without [] m.seats)) m runs goes quiet fit
-    (ap (λ seats. stops_at seats) (without-none m.seats) ∙ quiet-some P (next_number m.stops) moment t m.seats quiet.unnamed)
+    (ap (λ seats. stops_at seats) (without-none m.seats)
+    ∙ quiet-some P (next_number m.stops) moment t m.seats quiet.unnamed)
 
 -- ---- a stretch of which nobody is told before its end
 
@@ -242,8 +254,11 @@ quiet-steps : {C T Q X : Type 0}
 quiet-steps P moment zero m goes runs quiet fit = refl
 quiet-steps P moment (suc j) m goes runs quiet fit =
     after-suc P j moment m
-    ∙ ap (λ k. step P moment [] k) (quiet-steps P moment j m goes (λ some_made. runs (omega arith)) (λ i below. quiet i (omega (arith, below))) fit)
-    ∙ quiet-step P moment (record m { program = plain P j m.program }) (runs (omega arith)) goes (quiet j (omega arith)) fit
+    ∙ ap (λ k. step P moment [] k)
+    (quiet-steps P moment j m goes (λ some_made. runs (omega arith)) (λ i below. quiet i (omega (arith, below)))
+    fit)
+    ∙ quiet-step P moment (record m { program = plain P j m.program }) (runs (omega arith)) goes (quiet j (omega arith))
+    fit
 
 ready-there : {C T Q X : Type 0}
     → (P : Protocol C T Q X) (c : C) (m : Meaning C Q X)
@@ -264,11 +279,15 @@ last-step P moment zero gone m b t some_made goes runs quiet fit tells stops = a
 last-step P moment (suc j) gone m b t some_made goes runs quiet fit tells stops =
     let e : suc j - 1 ≡ j = omega arith in
     let c = plain P j m.program in
-    let told_there : t ≡ P.tells (is_first m.phase) c = tells ∙ ap (λ i. P.tells (is_first m.phase) (plain P i m.program)) e in
+    let told_there : t ≡ P.tells (is_first m.phase) c = tells
+    ∙ ap (λ i. P.tells (is_first m.phase) (plain P i m.program)) e in
     ap (λ a. behind P moment gone t (P.next c) a m) stops
-    ∙ ap (λ u. behind P moment gone u (P.next c) (some (stops_for P (next_number m.stops) moment u) (without gone m.seats)) m) told_there
+    ∙ ap (λ u. behind P moment gone u (P.next c)
+    (some (stops_for P (next_number m.stops) moment u) (without gone m.seats)) m)
+    told_there
     ∙ ap (λ k. step P moment gone k)
-    (sym (quiet-steps P moment j m goes (λ more. runs (omega (arith, more))) (λ i below. quiet i (omega (arith, below))) fit))
+    (sym (quiet-steps P moment j m goes (λ more. runs (omega (arith, more))) (λ i below. quiet i (omega (arith, below)))
+    fit))
 
 -- such a stretch, by what its last step told and whether it stopped the program
 pub stretch-made : {C T Q X : Type 0}
@@ -281,11 +300,13 @@ pub stretch-made : {C T Q X : Type 0}
     → n ≡ behind P moment (fallen_in n.seats) t (plain P k m.program) b m
     → HasMade P moment m n k
 stretch-made P moment k m b t n some_made free runs quiet fit on tells stops is =
-    let goes : m.stop ≡ None = none-stop m.stop (or_parts (is_paused m) (waits m.phase || (m.shut || some waits_for_report m.seats)) free).0 in
+    let goes : m.stop ≡ None = none-stop m.stop
+    (or_parts (is_paused m) (waits m.phase || (m.shut || some waits_for_report m.seats)) free).0 in
     record {
       reached = is ∙ last-step P moment k (fallen_in n.seats) m b t some_made goes runs quiet fit tells stops;
       ready = λ j below.
           ap (λ q. is_ready P q)
-          (quiet-steps P moment j m goes (λ more. runs (omega (arith, more, below))) (λ i small. quiet i (omega (arith, small, below))) fit)
+          (quiet-steps P moment j m goes (λ more. runs (omega (arith, more, below)))
+          (λ i small. quiet i (omega (arith, small, below))) fit)
           ∙ ready-there P (plain P j m.program) m free (on j below);
     }

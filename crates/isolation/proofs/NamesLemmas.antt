@@ -29,7 +29,8 @@ none-in : {X : Type 0}
     → test (seat_in i seats) ≡ false
 none-in test nobody i [] none = nobody
 none-in test nobody zero (seat ∷ seats) none = (or_parts (test seat) (some test seats) none).0
-none-in test nobody (suc i) (seat ∷ seats) none = none-in test nobody i seats (or_parts (test seat) (some test seats) none).1
+none-in test nobody (suc i) (seat ∷ seats) none =
+    none-in test nobody i seats (or_parts (test seat) (some test seats) none).1
 
 none-at : {X : Type 0}
     → (test : Seat X → Bool)
@@ -50,7 +51,8 @@ none-found : {X : Type 0}
     → ((i : ℕ) → test (seat_in i seats) ≡ false)
     → some test seats ≡ false
 none-found test [] none = refl
-none-found test (seat ∷ seats) none = or_from (test seat) (some test seats) (none zero) (none-found test seats (λ i. none (suc i)))
+none-found test (seat ∷ seats) none =
+    or_from (test seat) (some test seats) (none zero) (none-found test seats (λ i. none (suc i)))
 
 -- where no other seat is so, one is found where this one is
 one-in : {X : Type 0}
@@ -61,7 +63,8 @@ one-in : {X : Type 0}
     → some test seats ≡ test (seat_in i seats)
 one-in test nobody i [] others = sym nobody
 one-in test nobody zero (seat ∷ seats) others =
-    either-none (test seat) (some test seats) (none-found test seats (λ k. others (suc k) (λ same. absurd (omega (arith, same)))))
+    either-none (test seat) (some test seats)
+    (none-found test seats (λ k. others (suc k) (λ same. absurd (omega (arith, same)))))
 one-in test nobody (suc i) (seat ∷ seats) others =
     ap (λ b. b || some test seats) (others zero (λ same. absurd (omega (arith, same))))
     ∙ one-in test nobody i seats (λ k other. others (suc k) (λ same. other (omega (arith, same))))
@@ -72,8 +75,10 @@ one-at : {X : Type 0}
     → (s : ℕ) (seats : List (Seat X))
     → ((r : ℕ) → r ≢ s → test (seat_of r seats) ≡ false)
     → some test seats ≡ test (seat_of s seats)
-one-at test nobody zero seats others = none-found test seats (λ i. others (suc i) (λ same. absurd (omega (arith, same)))) ∙ sym nobody
-one-at test nobody (suc i) seats others = one-in test nobody i seats (λ k other. others (suc k) (λ same. other (omega (arith, same))))
+one-at test nobody zero seats others =
+    none-found test seats (λ i. others (suc i) (λ same. absurd (omega (arith, same)))) ∙ sym nobody
+one-at test nobody (suc i) seats others =
+    one-in test nobody i seats (λ k other. others (suc k) (λ same. other (omega (arith, same))))
 
 -- ---- a step that is passed
 
@@ -83,7 +88,8 @@ ready-told : {C T Q X : Type 0}
     → is_ready P m ≡ true
     → some waits_for_report m.seats ≡ false
 ready-told P m ready =
-    let held = or_parts (is_paused m) (waits m.phase || (m.shut || some waits_for_report m.seats)) (ready-parts P m ready).0 in
+    let held = or_parts (is_paused m) (waits m.phase || (m.shut || some waits_for_report m.seats))
+    (ready-parts P m ready).0 in
     let begun = or_parts (waits m.phase) (m.shut || some waits_for_report m.seats) held.1 in
     (or_parts m.shut (some waits_for_report m.seats) begun.1).1
 
@@ -111,7 +117,8 @@ unnamed_by false named y none waits = absurd cc
 unnamed-behind : {C T Q X : Type 0} → (P : Protocol C T Q X) (number moment : ℕ) (t : T) (seat : Seat X)
     → stops_for P number moment t seat ≡ false → waits_for_report (seat_behind P false number moment t seat) ≡ false
     → names_seat P t seat ≡ false
-unnamed-behind P number moment t (Attached x) none waits = unnamed_by (survives P number moment t x) (P.names t x) (P.told moment t x) none waits
+unnamed-behind P number moment t (Attached x) none waits =
+    unnamed_by (survives P number moment t x) (P.names t x) (P.told moment t x) none waits
 unnamed-behind P number moment t (Lost loss is_reported is_told) none waits = refl
 unnamed-behind P number moment t Left none waits = refl
 
@@ -126,7 +133,8 @@ unnamed-step P moment m ready = sym (step-stops P moment [] m) ∙ ready-goes P 
 seat-passed : {C T Q X : Type 0}
     → (P : Protocol C T Q X) (moment r : ℕ) (m : Meaning C Q X)
     → is_ready P (step P moment [] m) ≡ true
-    → seat_of r (step P moment [] m).seats ≡ seat_behind P false (next_number m.stops) moment (told_at P m.program m) (seat_of r m.seats)
+    → seat_of r (step P moment [] m).seats ≡ seat_behind P false (next_number m.stops) moment (told_at P m.program m)
+    (seat_of r m.seats)
 seat-passed P moment r m ready =
     let number = next_number m.stops in
     let t = told_at P m.program m in
@@ -139,7 +147,8 @@ seat-passed P moment r m ready =
 told-passed : {C T Q X : Type 0}
     → (P : Protocol C T Q X) (moment r : ℕ) (m : Meaning C Q X)
     → is_ready P (step P moment [] m) ≡ true
-    → waits_for_report (seat_behind P false (next_number m.stops) moment (told_at P m.program m) (seat_of r m.seats)) ≡ false
+    → waits_for_report (seat_behind P false (next_number m.stops) moment (told_at P m.program m) (seat_of r m.seats))
+    ≡ false
 told-passed P moment r m ready =
     ap (λ seat. waits_for_report seat) (sym (seat-passed P moment r m ready))
     ∙ none-at waits_for_report refl r (step P moment [] m).seats (ready-told P (step P moment [] m) ready)
@@ -152,7 +161,8 @@ names-step : {C T Q X : Type 0}
     → names_seat P u (seat_of r (step P moment [] m).seats) ≡ names_seat P u (seat_of r m.seats)
 names-step P moment r u m steady ready =
     ap (λ seat. names_seat P u seat) (seat-passed P moment r m ready)
-    ∙ names-behind P (next_number m.stops) moment (told_at P m.program m) u (seat_of r m.seats) steady (told-passed P moment r m ready)
+    ∙ names-behind P (next_number m.stops) moment (told_at P m.program m) u (seat_of r m.seats) steady
+    (told-passed P moment r m ready)
 
 -- and it didn't name the step
 unnamed-passed : {C T Q X : Type 0}
@@ -163,8 +173,10 @@ unnamed-passed P moment r m ready =
     let number = next_number m.stops in
     let t = told_at P m.program m in
     let named : some (stops_for P number moment t) m.seats ≡ false
-    = ap (λ seats. some (stops_for P number moment t) seats) (sym (without-none m.seats)) ∙ unnamed-step P moment m ready in
-    unnamed-behind P number moment t (seat_of r m.seats) (none-at (stops_for P number moment t) refl r m.seats named) (told-passed P moment r m ready)
+    = ap (λ seats. some (stops_for P number moment t) seats) (sym (without-none m.seats))
+    ∙ unnamed-step P moment m ready in
+    unnamed-behind P number moment t (seat_of r m.seats) (none-at (stops_for P number moment t) refl r m.seats named)
+    (told-passed P moment r m ready)
 
 -- ---- steps that are passed
 
@@ -196,30 +208,37 @@ listed_stop P number moment t false seat none = quiet-stops P number moment t se
 -- one that names the step is attached behind it where it survives it
 own_stop : {C T Q X : Type 0} → (P : Protocol C T Q X) (number moment : ℕ) (t : T) (x : X) (fits named : Bool)
     → (named ≡ true → P.fits (P.stopped number t (P.told moment t x)) ≡ fits)
-    → (fits && named) ≡ (named && is_attached (if fits then told_of P (fits && named) number moment t x else lost_by Overrun))
-own_stop P number moment t x true true room = let fit : P.fits (P.stopped number t (P.told moment t x)) ≡ true = room refl in rw fit refl
+    → (fits && named) ≡
+    (named && is_attached (if fits then told_of P (fits && named) number moment t x else lost_by Overrun))
+own_stop P number moment t x true true room =
+    let fit : P.fits (P.stopped number t (P.told moment t x)) ≡ true = room refl in rw fit refl
 own_stop P number moment t x true false room = refl
 own_stop P number moment t x false true room = refl
 own_stop P number moment t x false false room = refl
 
 kept_stop : {C T Q X : Type 0} → (P : Protocol C T Q X) (number moment : ℕ) (t : T) (seat : Seat X)
-    → stops_for P number moment t seat ≡ (names_seat P t seat && is_attached (seat_behind P (stops_for P number moment t seat) number moment t seat))
+    → stops_for P number moment t seat ≡
+    (names_seat P t seat && is_attached (seat_behind P (stops_for P number moment t seat) number moment t seat))
 kept_stop P number moment t (Attached x) =
     let y = P.told moment t x in
     let z = P.stopped number t y in
-    own_stop P number moment t x (survives P number moment t x) (P.names t x) (λ is. ap (λ b. P.fits (if b then z else y)) (sym is))
+    own_stop P number moment t x (survives P number moment t x) (P.names t x)
+    (λ is. ap (λ b. P.fits (if b then z else y)) (sym is))
 kept_stop P number moment t (Lost loss is_reported is_told) = refl
 kept_stop P number moment t Left = refl
 
 lost_stop : {C T Q X : Type 0} → (P : Protocol C T Q X) (number moment : ℕ) (t : T) (seat : Seat X)
-    → stops_for P number moment t (fallen seat) ≡ (names_seat P t seat && is_attached (seat_behind P (stops_for P number moment t (fallen seat)) number moment t (fallen seat)))
+    → stops_for P number moment t (fallen seat) ≡
+    (names_seat P t seat && is_attached
+    (seat_behind P (stops_for P number moment t (fallen seat)) number moment t (fallen seat)))
 lost_stop P number moment t (Attached x) = sym (and_right (P.names t x) false refl)
 lost_stop P number moment t (Lost loss is_reported is_told) = refl
 lost_stop P number moment t Left = refl
 
 stop_either : {C T Q X : Type 0} → (P : Protocol C T Q X) (number moment : ℕ) (t : T) (listed : Bool) (seat : Seat X)
     → (let w = if listed then fallen seat else seat in
-    stops_for P number moment t w ≡ (names_seat P t seat && is_attached (seat_behind P (stops_for P number moment t w) number moment t w)))
+    stops_for P number moment t w ≡
+    (names_seat P t seat && is_attached (seat_behind P (stops_for P number moment t w) number moment t w)))
 stop_either P number moment t true seat = lost_stop P number moment t seat
 stop_either P number moment t false seat = kept_stop P number moment t seat
 
@@ -243,7 +262,9 @@ last-stop P number moment t b listed seat w new is stops behind =
 step-named : {C T Q X : Type 0}
     → (P : Protocol C T Q X) (moment s : ℕ) (gone : List ℕ) (m : Meaning C Q X)
     → NamesAlone P s m
-    → is_paused (step P moment gone m) ≡ (names_seat P (told_at P m.program m) (seat_of s m.seats) && is_attached (seat_of s (step P moment gone m).seats))
+    → is_paused (step P moment gone m) ≡
+    (names_seat P (told_at P m.program m) (seat_of s m.seats) && is_attached
+    (seat_of s (step P moment gone m).seats))
 step-named P moment s gone m alone =
     let number = next_number m.stops in
     let t = told_at P m.program m in
@@ -253,7 +274,8 @@ step-named P moment s gone m alone =
     ap (λ seat. stops_for P number moment t seat) (without-at gone r m.seats)
     ∙ listed_stop P number moment t (is_listed gone r) (seat_of r m.seats) (alone t r other)) in
     step-stops P moment gone m
-    ∙ last-stop P number moment t b (is_listed gone s) (seat_of s m.seats) (seat_of s (without gone m.seats)) (seat_of s (step P moment gone m).seats)
+    ∙ last-stop P number moment t b (is_listed gone s) (seat_of s m.seats) (seat_of s (without gone m.seats))
+    (seat_of s (step P moment gone m).seats)
     (without-at gone s m.seats) stops (each-at (seat_behind P b number moment t) refl s (without gone m.seats))
 
 -- ---- a run
@@ -266,13 +288,15 @@ pub stops-first : {C T Q X : Type 0}
     → ((j : ℕ) → j < n → is_ready P (after_steps P moment j m) ≡ true)
     → StopsAtFirstNamed P c made moment gone s x m n
 stops-first P c made moment gone s x m n steady at begun is alone ready =
-    let told_there : (j : ℕ) → told_at P (after_steps P moment j m).program (after_steps P moment j m) ≡ P.tells false (plain P (made + j) c)
+    let told_there : (j : ℕ)
+    → told_at P (after_steps P moment j m).program (after_steps P moment j m) ≡ P.tells false (plain P (made + j) c)
     = λ j.
     let k = after_steps P moment j m in
     ap (λ b. P.tells b k.program) (first-kept P j moment m begun)
     ∙ ap (λ d. P.tells false d) (steps-program P moment j m ∙ ap (λ d. plain P j d) at ∙ sym (plain-more P made j c)) in
     let named_there : (j : ℕ) → j < n
-    → names_seat P (told_at P (after_steps P moment j m).program (after_steps P moment j m)) (seat_of s (after_steps P moment j m).seats)
+    → names_seat P (told_at P (after_steps P moment j m).program (after_steps P moment j m))
+    (seat_of s (after_steps P moment j m).seats)
     ≡ P.names (P.tells false (plain P (made + j) c)) x
     = λ j small.
     let k = after_steps P moment j m in
@@ -289,7 +313,8 @@ stops-first P c made moment gone s x m n steady at begun is alone ready =
           let k = after_steps P moment j m in
           let e : n ≡ suc j = omega (arith, last) in
           let alone_there : NamesAlone P s k
-          = λ t r other. names-kept P j moment r t m steady (λ i below. ready i (omega (arith, below, e))) ∙ alone t r other in
+          = λ t r other. names-kept P j moment r t m steady (λ i below. ready i (omega (arith, below, e)))
+          ∙ alone t r other in
           let run : after_run P moment gone n m ≡ step P moment gone k = ap (λ i. after_run P moment gone i m) e in
           ap (λ l. is_paused l) run
           ∙ step-named P moment s gone k alone_there

@@ -17,7 +17,8 @@ use Rattle.isolation.proofs.FallenLemmas.{fallen-twice, mids-less}
 passed-session : {C T Q X : Type 0} → (P : Protocol C T Q X) (number moment : ℕ) (t : T) (x : X) (lasts named : Bool)
     → P.fits (if named then P.stopped number t (P.told moment t x) else P.told moment t x) ≡ lasts
     → (lasts && named) ≡ false
-    → (if lasts then Attached (if named then P.stopped number t (P.told moment t x) else P.told moment t x) else lost_by Overrun)
+    → (if lasts then Attached (if named then P.stopped number t (P.told moment t x) else P.told moment t x)
+    else lost_by Overrun)
     ≡ (if lasts then Attached (P.told moment t x) else lost_by Overrun)
 passed-session P number moment t x true true fits none = absurd cc
 passed-session P number moment t x true false fits none = refl
@@ -28,14 +29,20 @@ passed-seat : {C T Q X : Type 0}
     → (P : Protocol C T Q X) (number moment : ℕ) (t : T) (seat : Seat X)
     → stops_for P number moment t seat ≡ false
     → watched P number moment t seat ≡ seat_behind P false number moment t seat
-passed-seat P number moment t (Attached x) none = passed-session P number moment t x (survives P number moment t x) (P.names t x) refl none
+passed-seat P number moment t (Attached x) none =
+    passed-session P number moment t x (survives P number moment t x) (P.names t x) refl none
 passed-seat P number moment t (Lost loss is_reported is_told) none = refl
 passed-seat P number moment t Left none = refl
 
 passed-one : {C T Q X : Type 0} → (P : Protocol C T Q X) (number moment : ℕ) (t : T) (old new : Seat X) (flag : Bool)
     → Watches P number moment t old new flag → flag ≡ false → Behind P false number moment t old new flag
 passed-one P number moment t old new flag w none =
-    record { is = w.is ∙ passed-seat P number moment t (mid old new) (sym w.names ∙ none); names = w.names; room = w.room }
+    record {
+      is = w.is
+          ∙ passed-seat P number moment t (mid old new) (sym w.names ∙ none);
+      names = w.names;
+      room = w.room;
+    }
 
 -- a step that no session names is behind the first pass
 pub behind-passed : {C T Q X : Type 0}
@@ -49,8 +56,10 @@ behind-passed P number moment t [] (new ∷ news) flags over none = absurd over
 behind-passed P number moment t (old ∷ olds) [] flags over none = absurd over
 behind-passed P number moment t (old ∷ olds) (new ∷ news) [] over none = absurd over
 behind-passed P number moment t (old ∷ olds) (new ∷ news) (flag ∷ flags) over none =
-    let parts = or_parts flag (any_set flags) none in
-    (passed-one P number moment t old new flag over.0 parts.0, behind-passed P number moment t olds news flags over.1 parts.1)
+    let parts = or_parts flag (any_set flags) none in (
+      passed-one P number moment t old new flag over.0 parts.0,
+      behind-passed P number moment t olds news flags over.1 parts.1,
+    )
 
 -- ---- a step that the program stops at
 
@@ -89,7 +98,8 @@ stopped-fell P number t Left is = refl
 named-session : {C T Q X : Type 0} → (P : Protocol C T Q X) (number moment : ℕ) (t : T) (x : X) (lasts named : Bool)
     → P.fits (if named then P.stopped number t (P.told moment t x) else P.told moment t x) ≡ lasts
     → (lasts && named) ≡ true
-    → (if lasts then Attached (if named then P.stopped number t (P.told moment t x) else P.told moment t x) else lost_by Overrun)
+    → (if lasts then Attached (if named then P.stopped number t (P.told moment t x) else P.told moment t x)
+    else lost_by Overrun)
     ≡ (if lasts then kept P (P.stopped number t (P.told moment t x)) else lost_by Overrun)
 named-session P number moment t x true true fits names = rw fits refl
 named-session P number moment t x true false fits names = absurd cc
@@ -100,14 +110,16 @@ named-seat : {C T Q X : Type 0}
     → (P : Protocol C T Q X) (number moment : ℕ) (t : T) (seat : Seat X)
     → stops_for P number moment t seat ≡ true
     → watched P number moment t seat ≡ seat_behind P true number moment t seat
-named-seat P number moment t (Attached x) names = named-session P number moment t x (survives P number moment t x) (P.names t x) refl names
+named-seat P number moment t (Attached x) names =
+    named-session P number moment t x (survives P number moment t x) (P.names t x) refl names
 named-seat P number moment t (Lost loss is_reported is_told) names = absurd cc
 named-seat P number moment t Left names = absurd cc
 
 unnamed-session : {C T Q X : Type 0} → (P : Protocol C T Q X) (number moment : ℕ) (t : T) (x : X) (lasts named : Bool)
     → (lasts && named) ≡ false
     → stopped_seat P number t
-    (if lasts then Attached (if named then P.stopped number t (P.told moment t x) else P.told moment t x) else lost_by Overrun)
+    (if lasts then Attached (if named then P.stopped number t (P.told moment t x) else P.told moment t x)
+    else lost_by Overrun)
     ≡ (if lasts then kept P (P.stopped number t (P.told moment t x)) else lost_by Overrun)
 unnamed-session P number moment t x true true none = absurd cc
 unnamed-session P number moment t x true false none = refl
@@ -118,7 +130,8 @@ unnamed-seat : {C T Q X : Type 0}
     → (P : Protocol C T Q X) (number moment : ℕ) (t : T) (seat : Seat X)
     → stops_for P number moment t seat ≡ false
     → stopped_seat P number t (watched P number moment t seat) ≡ seat_behind P true number moment t seat
-unnamed-seat P number moment t (Attached x) none = unnamed-session P number moment t x (survives P number moment t x) (P.names t x) none
+unnamed-seat P number moment t (Attached x) none =
+    unnamed-session P number moment t x (survives P number moment t x) (P.names t x) none
 unnamed-seat P number moment t (Lost loss is_reported is_told) none = refl
 unnamed-seat P number moment t Left none = refl
 
@@ -145,7 +158,8 @@ stopped-low : {C T Q X : Type 0} → (P : Protocol C T Q X) (number moment : ℕ
 stopped-low P number moment t old middle true is low =
     ap (λ seat. fallen seat) (is ∙ watched-fallen P number moment t old) ∙ fallen-twice old
 stopped-low P number moment t old middle false is low =
-    ap (λ seat. fallen seat) is ∙ watched-then-fallen P number moment t old (ap (λ seat. fell (fallen seat)) (sym is) ∙ low)
+    ap (λ seat. fallen seat) is
+    ∙ watched-then-fallen P number moment t old (ap (λ seat. fell (fallen seat)) (sym is) ∙ low)
 
 -- none fell
 stopped-high : {C T Q X : Type 0}
@@ -173,7 +187,9 @@ stopped-unnamed : {C T Q X : Type 0}
 stopped-unnamed P number moment t old middle new true fall w hears =
     let is : new ≡ fallen middle = hears ∙ stopped-fallen P number t middle in
     let low : fell (fallen middle) ≡ true = ap (λ seat. fell seat) (sym is) ∙ fall in (
-      is ∙ stopped-low P number moment t old middle (fell middle) w.is low ∙ sym (behind-fallen P true number moment t old),
+      is
+          ∙ stopped-low P number moment t old middle (fell middle) w.is low
+          ∙ sym (behind-fallen P true number moment t old),
       sym (unnamed-fallen P number moment t old),
     )
 stopped-unnamed P number moment t old middle new false fall w hears =
@@ -188,7 +204,11 @@ stopped-one : {C T Q X : Type 0}
 stopped-one P number moment t old middle new true w h =
     let same : mid old middle ≡ mid old new = ap (λ seat. mid old seat) (sym h.is) in
     record {
-      is = h.is ∙ w.is ∙ named-seat P number moment t (mid old middle) (sym w.names) ∙ ap (λ seat. seat_behind P true number moment t seat) same;
+      is =
+          h.is
+          ∙ w.is
+          ∙ named-seat P number moment t (mid old middle) (sym w.names)
+          ∙ ap (λ seat. seat_behind P true number moment t seat) same;
       names = w.names ∙ ap (λ seat. stops_for P number moment t seat) same;
       room = h.room;
     }
@@ -208,8 +228,10 @@ behind-stopped P number moment t [] (here ∷ middle) news flags first second = 
 behind-stopped P number moment t (old ∷ olds) [] news flags first second = absurd first
 behind-stopped P number moment t (old ∷ olds) (here ∷ middle) news [] first second = absurd first
 behind-stopped P number moment t (old ∷ olds) (here ∷ middle) [] (flag ∷ flags) first second = absurd second
-behind-stopped P number moment t (old ∷ olds) (here ∷ middle) (new ∷ news) (flag ∷ flags) first second =
-    (stopped-one P number moment t old here new flag first.0 second.0, behind-stopped P number moment t olds middle news flags first.1 second.1)
+behind-stopped P number moment t (old ∷ olds) (here ∷ middle) (new ∷ news) (flag ∷ flags) first second = (
+  stopped-one P number moment t old here new flag first.0 second.0,
+  behind-stopped P number moment t olds middle news flags first.1 second.1,
+)
 
 -- ---- all seats behind a step
 

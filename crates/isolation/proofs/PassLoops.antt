@@ -18,7 +18,8 @@ along-first R (old ∷ olds) (here ∷ news) (flag ∷ flags) d new e same small
     (subst (λ seat. R seat new flag) first r, rest)
 
 along-step : {X : Type 0}
-    → (R : Seat X → Seat X → Bool → Type 0) (i : ℕ) (olds news : List (Seat X)) (flags : List Bool) (d new : Seat X) (e : Bool)
+    → (R : Seat X → Seat X → Bool → Type 0) (i : ℕ) (olds news : List (Seat X)) (flags : List Bool) (d new : Seat X)
+    (e : Bool)
     → GoesAlong R i olds news flags
     → i < length news
     → i < length flags
@@ -41,10 +42,12 @@ pub along-next : {X : Type 0}
     → GoesAlong R (i + 1) olds (slice_set news i new) flags
 along-next R i olds news flags d new e goes small few r =
     let is : suc i ≡ i + 1 = omega arith in
-    subst (λ k. GoesAlong R k olds (slice_set news i new) flags) is (along-step R i olds news flags d new e goes small few r)
+    subst (λ k. GoesAlong R k olds (slice_set news i new) flags) is
+    (along-step R i olds news flags d new e goes small few r)
 
 set-first : {X : Type 0}
-    → (R : Seat X → Seat X → Bool → Type 0) (olds news : List (Seat X)) (flags : List Bool) (d new : Seat X) (flag : Bool)
+    → (R : Seat X → Seat X → Bool → Type 0) (olds news : List (Seat X)) (flags : List Bool) (d new : Seat X)
+    (flag : Bool)
     → news ≡ olds → 0 < length news → 0 < length flags → R (slice_index_or news 0 d) new flag
     → GoesAlong R (suc zero) olds (slice_set news 0 new) (slice_set flags 0 flag)
 set-first R olds [] flags d new flag same small few r = absurd (omega (arith, small))
@@ -74,7 +77,8 @@ pub along-set : {X : Type 0}
     → GoesAlong R (i + 1) olds (slice_set news i new) (slice_set flags i flag)
 along-set R i olds news flags d new flag goes small few r =
     let is : suc i ≡ i + 1 = omega arith in
-    subst (λ k. GoesAlong R k olds (slice_set news i new) (slice_set flags i flag)) is (set-step R i olds news flags d new flag goes small few r)
+    subst (λ k. GoesAlong R k olds (slice_set news i new) (slice_set flags i flag)) is
+    (set-step R i olds news flags d new flag goes small few r)
 
 along-end : {X : Type 0} → (R : Seat X → Seat X → Bool → Type 0) (olds news : List (Seat X)) (flags : List Bool)
     → news ≡ olds → length news ≤ 0 → length flags ≡ length news → Over R olds news flags
@@ -112,7 +116,8 @@ on-step : {X : Type 0} → (R : Seat X → Seat X → Type 0) (i : ℕ) (olds ne
 on-step R zero olds news d new goes small r = on-first R olds news d new goes small r
 on-step R (suc i) [] news d new goes small r = absurd goes
 on-step R (suc i) (old ∷ olds) [] d new goes small r = absurd goes
-on-step R (suc i) (old ∷ olds) (here ∷ news) d new goes small r = (goes.0, on-step R i olds news d new goes.1 (omega (arith, small)) r)
+on-step R (suc i) (old ∷ olds) (here ∷ news) d new goes small r =
+    (goes.0, on-step R i olds news d new goes.1 (omega (arith, small)) r)
 
 pub on-next : {X : Type 0} → (R : Seat X → Seat X → Type 0) (i : ℕ) (olds news : List (Seat X)) (d new : Seat X)
     → GoesOn R i olds news

@@ -29,7 +29,9 @@ each-fits : {C T Q X : Type 0} → (P : Protocol C T Q X) (f : Seat X → Seat X
 each-fits P f [] keeps all = tt
 each-fits P f (seat ∷ seats) keeps all = (keeps seat all.0, each-fits P f seats keeps all.1)
 
-pub put-in-fits : {C T Q X : Type 0} → (P : Protocol C T Q X) (i : ℕ) (new : Seat X) (seats : List (Seat X)) → Fits P new
+pub put-in-fits : {C T Q X : Type 0}
+    → (P : Protocol C T Q X) (i : ℕ) (new : Seat X) (seats : List (Seat X))
+    → Fits P new
     → AllFit P seats
     → AllFit P (put_in i new seats)
 put-in-fits P i new [] fits all = tt
@@ -107,7 +109,8 @@ behind-choice P room stops number moment t x false is = tt
 behind-fits : {C T Q X : Type 0} → (P : Protocol C T Q X) → HasRoom P
     → (stops : Bool) (number moment : ℕ) (t : T) (seat : Seat X)
     → Fits P seat → Fits P (seat_behind P stops number moment t seat)
-behind-fits P room stops number moment t (Attached x) fits = behind-choice P room stops number moment t x (survives P number moment t x) refl
+behind-fits P room stops number moment t (Attached x) fits =
+    behind-choice P room stops number moment t x (survives P number moment t x) refl
 behind-fits P room stops number moment t (Lost loss is_reported is_told) fits = tt
 behind-fits P room stops number moment t Left fits = tt
 
@@ -180,13 +183,15 @@ steps-fit : {C T Q X : Type 0} → (P : Protocol C T Q X) → HasRoom P → (mom
     → AllFit P m.seats
     → AllFit P (after_steps P moment n m).seats
 steps-fit P room moment zero m all = all
-steps-fit P room moment (suc n) m all = steps-fit P room moment n (step P moment [] m) (step-fits P room moment [] m all)
+steps-fit P room moment (suc n) m all =
+    steps-fit P room moment n (step P moment [] m) (step-fits P room moment [] m all)
 
 run-fits : {C T Q X : Type 0} → (P : Protocol C T Q X) → HasRoom P
     → (moment : ℕ) (gone : List ℕ) (n : ℕ) (m : Meaning C Q X)
     → AllFit P m.seats → AllFit P (after_run P moment gone n m).seats
 run-fits P room moment gone zero m all = without-fits P gone m.seats all
-run-fits P room moment gone (suc n) m all = step-fits P room moment gone (after_steps P moment n m) (steps-fit P room moment n m all)
+run-fits P room moment gone (suc n) m all =
+    step-fits P room moment gone (after_steps P moment n m) (steps-fit P room moment n m all)
 
 entry-fits : {C T Q X : Type 0} → (P : Protocol C T Q X) → HasRoom P → (m : Meaning C Q X) (entry : Entry)
     → AllFit P m.seats

@@ -32,7 +32,8 @@ put-other-in i j new [] other = refl
 put-other-in zero zero new (seat ∷ seats) other = absurd (other refl)
 put-other-in zero (suc j) new (seat ∷ seats) other = refl
 put-other-in (suc i) zero new (seat ∷ seats) other = refl
-put-other-in (suc i) (suc j) new (seat ∷ seats) other = put-other-in i j new seats (λ same. other (ap (λ n. suc n) same))
+put-other-in (suc i) (suc j) new (seat ∷ seats) other =
+    put-other-in i j new seats (λ same. other (ap (λ n. suc n) same))
 
 pub put-other : {X : Type 0} → (r s : ℕ) (new : Seat X) (seats : List (Seat X)) → r ≢ s
     → seat_of s (put r new seats) ≡ seat_of s seats

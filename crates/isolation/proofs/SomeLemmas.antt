@@ -15,7 +15,8 @@ pub some-found : {X : Type 0}
     → some f seats ≡ true
 some-found f i [] d small is = absurd (omega (arith, small))
 some-found f zero (seat ∷ seats) d small is = ap (λ b. b || some f seats) is
-some-found f (suc i) (seat ∷ seats) d small is = ap (λ b. f seat || b) (some-found f i seats d (omega (arith, small)) is) ∙ or_right (f seat) true refl
+some-found f (suc i) (seat ∷ seats) d small is =
+    ap (λ b. f seat || b) (some-found f i seats d (omega (arith, small)) is) ∙ or_right (f seat) true refl
 
 -- one more isn't
 none_next : {X : Type 0} → (f : Seat X → Bool) (i : ℕ) (seats : List (Seat X)) (d : Seat X)
@@ -34,7 +35,9 @@ pub none-more : {X : Type 0} → (f : Seat X → Bool) (i : ℕ) (seats : List (
     → some f (take i seats) ≡ false
     → f (slice_index_or seats i d) ≡ false
     → some f (take (i + 1) seats) ≡ false
-none-more f i seats d small before is = let e : suc i ≡ i + 1 = omega arith in ap (λ n. some f (take n seats)) (sym e) ∙ none_next f i seats d small before is
+none-more f i seats d small before is =
+    let e : suc i ≡ i + 1 = omega arith in
+    ap (λ n. some f (take n seats)) (sym e) ∙ none_next f i seats d small before is
 
 -- none is
 pub none-done : {X : Type 0}
@@ -56,7 +59,8 @@ pub set-found : (i : ℕ) (flags : List Bool) (d : Bool)
     → any_set flags ≡ true
 set-found i [] d small is = absurd (omega (arith, small))
 set-found zero (flag ∷ flags) d small is = ap (λ b. b || any_set flags) is
-set-found (suc i) (flag ∷ flags) d small is = ap (λ b. flag || b) (set-found i flags d (omega (arith, small)) is) ∙ or_right flag true refl
+set-found (suc i) (flag ∷ flags) d small is =
+    ap (λ b. flag || b) (set-found i flags d (omega (arith, small)) is) ∙ or_right flag true refl
 
 unset_next : (i : ℕ) (flags : List Bool) (d : Bool)
     → i < length flags
@@ -74,7 +78,9 @@ pub unset-more : (i : ℕ) (flags : List Bool) (d : Bool)
     → any_set (take i flags) ≡ false
     → slice_index_or flags i d ≡ false
     → any_set (take (i + 1) flags) ≡ false
-unset-more i flags d small before is = let e : suc i ≡ i + 1 = omega arith in ap (λ n. any_set (take n flags)) (sym e) ∙ unset_next i flags d small before is
+unset-more i flags d small before is =
+    let e : suc i ≡ i + 1 = omega arith in
+    ap (λ n. any_set (take n flags)) (sym e) ∙ unset_next i flags d small before is
 
 pub unset-done : (i : ℕ) (flags : List Bool) → length flags ≤ i → any_set (take i flags) ≡ false → any_set flags ≡ false
 unset-done i [] done before = refl

@@ -59,7 +59,8 @@ mids-in i [] [] same = refl
 mids-in i [] (new ∷ news) same = absurd cc
 mids-in i (old ∷ olds) [] same = absurd cc
 mids-in zero (old ∷ olds) (new ∷ news) same = head-same new (mid old new) news (mids olds news) same
-mids-in (suc i) (old ∷ olds) (new ∷ news) same = mids-in i olds news (tail-same new (mid old new) news (mids olds news) same)
+mids-in (suc i) (old ∷ olds) (new ∷ news) same =
+    mids-in i olds news (tail-same new (mid old new) news (mids olds news) same)
 
 mids-at : {X : Type 0}
     → (s : ℕ) (olds news : List (Seat X))
@@ -80,7 +81,8 @@ mids-put-in i seat [] [] same = refl
 mids-put-in i seat [] (new ∷ news) same = absurd cc
 mids-put-in i seat (old ∷ olds) [] same = absurd cc
 mids-put-in zero seat (old ∷ olds) (new ∷ news) same =
-    both-same seat (mid seat seat) news (mids olds news) (sym (mid-self seat)) (tail-same new (mid old new) news (mids olds news) same)
+    both-same seat (mid seat seat) news (mids olds news) (sym (mid-self seat))
+    (tail-same new (mid old new) news (mids olds news) same)
 mids-put-in (suc i) seat (old ∷ olds) (new ∷ news) same =
     both-same new (mid old new) (put_in i seat news) (mids (put_in i seat olds) (put_in i seat news))
     (head-same new (mid old new) news (mids olds news) same)
@@ -135,7 +137,9 @@ same-host : {C Q X : Type 0}
     → fallen_in host.seats ≡ []
     → host ≡ m
 same-host host m is none =
-    is ∙ ap (λ numbers. with_seats (without numbers m.seats) m) none ∙ ap (λ seats. with_seats seats m) (without-none m.seats)
+    is
+    ∙ ap (λ numbers. with_seats (without numbers m.seats) m) none
+    ∙ ap (λ seats. with_seats seats m) (without-none m.seats)
 
 -- ---- what goes on doesn't resume
 
@@ -162,7 +166,8 @@ put-sinks s seat m news same = record { rest = refl; sunk = mids-put s seat m.se
 settle-sinks : {C T Q X : Type 0} → (P : Protocol C T Q X) (host m : Meaning C Q X) → is_paused m ≡ false → Sinks host m
     → Sinks (settle P host) (settle P m)
 settle-sinks P host m goes sinks =
-    sinks-as host (settle P host) m (settle P m) (settle-same P host (paused-same host m sinks ∙ goes)) (settle-same P m goes) sinks
+    sinks-as host (settle P host) m (settle P m) (settle-same P host (paused-same host m sinks ∙ goes))
+    (settle-same P m goes) sinks
 
 -- a program that waited begins
 abbrev begun : {C Q X : Type 0} → Meaning C Q X → Meaning C Q X
@@ -173,7 +178,8 @@ asked-sinks : {C T Q X : Type 0}
     → is_paused m ≡ false
     → Sinks host m → Sinks (asked P resumes wakes host) (asked P resumes wakes m)
 asked-sinks P host m true wakes goes sinks =
-    sinks-as host (resume P host) m (resume P m) (resume-same P host (paused-same host m sinks ∙ goes)) (resume-same P m goes) sinks
+    sinks-as host (resume P host) m (resume P m) (resume-same P host (paused-same host m sinks ∙ goes))
+    (resume-same P m goes) sinks
 asked-sinks P host m false true goes sinks =
     settle-sinks P (begun host) (begun m) goes (record { rest = ap (λ k. begun k) sinks.rest; sunk = sinks.sunk })
 asked-sinks P host m false false goes sinks = settle-sinks P host m goes sinks
@@ -181,7 +187,8 @@ asked-sinks P host m false false goes sinks = settle-sinks P host m goes sinks
 told-sinks : {C T Q X : Type 0}
     → (P : Protocol C T Q X) (s : ℕ) (m : Meaning C Q X) (news : List (Seat X)) (y : X) (resumes wakes b : Bool)
     → is_paused m ≡ false → news ≡ mids m.seats news
-    → Sinks (if b then asked P resumes wakes (with_seat s (Attached y) (with_seats news m)) else settle P (with_seat s Left (with_seats news m)))
+    → Sinks (if b then asked P resumes wakes (with_seat s (Attached y) (with_seats news m)) else settle P
+    (with_seat s Left (with_seats news m)))
     (if b then asked P resumes wakes (with_seat s (Attached y) m) else settle P (with_seat s Left m))
 told-sinks P s m news y resumes wakes true goes same =
     asked-sinks P (with_seat s (Attached y) (with_seats news m)) (with_seat s (Attached y) m) resumes wakes goes
@@ -280,7 +287,8 @@ stands-more P host m entry new stands held leaves =
 fell-goes : {C Q X : Type 0} → (s : ℕ) (host : Meaning C Q X) (b : Bool) → is_paused host ≡ b
     → (is_paused host ≡ true → fallen_in host.seats ≡ []) → fell (seat_of s host.seats) ≡ true → is_paused host ≡ false
 fell-goes s host true paused there fallen_there =
-    let same : true ≡ false = sym fallen_there ∙ fell-at s host.seats (none-fallen host.seats (there paused)) in absurd cc
+    let same : true ≡ false = sym fallen_there ∙ fell-at s host.seats (none-fallen host.seats (there paused)) in
+    absurd cc
 fell-goes s host false goes there fallen_there = goes
 
 -- a session that another host holds as attached
@@ -291,7 +299,8 @@ left-sinks : {C T Q X : Type 0}
     → is_attached seat ≡ true
     → Sinks (with_seat s Left (with_seats news m)) (detach P s m seat)
 left-sinks P s m news (Attached x) goes same attached =
-    sinks-as (with_seat s Left (with_seats news m)) (with_seat s Left (with_seats news m)) (with_seat s Left m) (settle P (with_seat s Left m))
+    sinks-as (with_seat s Left (with_seats news m)) (with_seat s Left (with_seats news m)) (with_seat s Left m)
+    (settle P (with_seat s Left m))
     refl (settle-same P (with_seat s Left m) goes) (put-sinks s Left m news same)
 left-sinks P s m news (Lost loss is_reported is_told) goes same attached = absurd cc
 left-sinks P s m news Left goes same attached = absurd cc
@@ -302,11 +311,13 @@ pub stands-detach-fallen : {C T Q X : Type 0} → (P : Protocol C T Q X) (host m
     → StandsAs (with_seat s Left host) (apply P m (Detach s))
 stands-detach-fallen P host m s is_told stands at attached =
     let sinks = less-sinks host m stands.is in
-    let goes : is_paused host ≡ false = fell-goes s host (is_paused host) refl stands.all_there (ap (λ seat. fell seat) at) in
+    let goes : is_paused host ≡ false = fell-goes s host (is_paused host) refl stands.all_there
+    (ap (λ seat. fell seat) at) in
     let going : is_paused m ≡ false = sym (paused-same host m sinks) ∙ goes in
     record {
       is = sinks-less (with_seat s Left host) (apply P m (Detach s))
-          (sinks-as (with_seat s Left (with_seats host.seats m)) (with_seat s Left host) (apply P m (Detach s)) (apply P m (Detach s))
+          (sinks-as (with_seat s Left (with_seats host.seats m)) (with_seat s Left host) (apply P m (Detach s))
+          (apply P m (Detach s))
           (ap (λ k. with_seat s Left k) sinks.rest) refl
           (left-sinks P s m host.seats (seat_of s m.seats) going sinks.sunk attached));
       all_there = λ paused. let same : false ≡ true = sym goes ∙ paused in absurd cc;
@@ -319,10 +330,12 @@ put-stands host m s seat stands stays =
     let sinks = less-sinks host m stands.is in
     record {
       is = sinks-less (with_seat s seat host) (with_seat s seat m)
-          (sinks-as (with_seat s seat (with_seats host.seats m)) (with_seat s seat host) (with_seat s seat m) (with_seat s seat m)
+          (sinks-as (with_seat s seat (with_seats host.seats m)) (with_seat s seat host) (with_seat s seat m)
+          (with_seat s seat m)
           (ap (λ k. with_seat s seat k) sinks.rest) refl (put-sinks s seat m host.seats sinks.sunk));
       all_there = λ paused.
-          fallen-none (put s seat host.seats) (fell-put s seat host.seats stays (none-fallen host.seats (stands.all_there paused)));
+          fallen-none (put s seat host.seats)
+          (fell-put s seat host.seats stays (none-fallen host.seats (stands.all_there paused)));
     }
 
 told-fell : (X : Type 0) → (loss : Loss) (is_reported is_told : Bool)
@@ -424,7 +437,8 @@ ready-none : {C T Q X : Type 0}
     → is_ready P host ≡ true
     → fallen_in host.seats ≡ []
 ready-none P host ready =
-    let held : is_held host ≡ false = not-true _ (and_parts (not (is_held host)) (not (P.is_over host.program)) ready).0 in
+    let held : is_held host ≡ false = not-true _
+    (and_parts (not (is_held host)) (not (P.is_over host.program)) ready).0 in
     let second = (or_parts (is_paused host) _ held).1 in
     let third = (or_parts (waits host.phase) _ second).1 in
     waits-fallen host.seats (or_parts host.shut _ third).1
@@ -446,7 +460,9 @@ reaches : {C T Q X : Type 0}
 reaches P moment zero host m k stands made =
     sinks-less k m (sinks-twice k host m (less-sinks k host made.reached) (less-sinks host m stands.is))
 reaches P moment (suc n) host m k stands made =
-    made.reached ∙ ap (λ old. after_run P moment (fallen_in k.seats) (suc n) old) (ready-same P host m stands (made.ready zero (omega arith)))
+    made.reached
+    ∙ ap (λ old. after_run P moment (fallen_in k.seats) (suc n) old)
+    (ready-same P host m stands (made.ready zero (omega arith)))
 
 -- behind a run that reported all who fell
 pub stands-ran : {C T Q X : Type 0} → (P : Protocol C T Q X) (moment n : ℕ) (host m k : Meaning C Q X)
@@ -464,7 +480,9 @@ pub fits-ran : {C T Q X : Type 0} → (P : Protocol C T Q X) (moment n : ℕ) (h
     → StandsAs host m → HasMade P moment host k n → FitsEntry P m (Ran n moment (fallen_in k.seats))
 fits-ran P moment zero host m k stands made j small = absurd (omega (arith, small))
 fits-ran P moment (suc n) host m k stands made j small =
-    ap (λ old. is_ready P (after_steps P moment j old)) (sym (ready-same P host m stands (made.ready zero (omega arith)))) ∙ made.ready j small
+    ap (λ old. is_ready P (after_steps P moment j old))
+    (sym (ready-same P host m stands (made.ready zero (omega arith))))
+    ∙ made.ready j small
 
 -- ---- a history tells of all who fell
 
@@ -486,7 +504,8 @@ none-asked P m false false none = none-settle P m none
 none-told : {C T Q X : Type 0}
     → (P : Protocol C T Q X) (s : ℕ) (m : Meaning C Q X) (y : X) (resumes wakes b : Bool)
     → some fell m.seats ≡ false
-    → some fell (if b then asked P resumes wakes (with_seat s (Attached y) m) else settle P (with_seat s Left m)).seats ≡ false
+    → some fell
+    (if b then asked P resumes wakes (with_seat s (Attached y) m) else settle P (with_seat s Left m)).seats ≡ false
 none-told P s m y resumes wakes true none =
     none-asked P (with_seat s (Attached y) m) resumes wakes (fell-put s (Attached y) m.seats refl none)
 none-told P s m y resumes wakes false none = none-settle P (with_seat s Left m) (fell-put s Left m.seats refl none)
@@ -515,7 +534,8 @@ none-detach : {C T Q X : Type 0}
     → some fell m.seats ≡ false → some fell (detach P s m seat).seats ≡ false
 none-detach P s m (Attached x) at none = none-settle P (with_seat s Left m) (fell-put s Left m.seats refl none)
 none-detach {C} {T} {Q} {X} P s m (Lost loss is_reported is_told) at none =
-    let stays : fell {X = X} (Lost loss is_reported is_told) ≡ false = ap (λ seat. fell seat) (sym at) ∙ fell-at s m.seats none in
+    let stays : fell {X = X} (Lost loss is_reported is_told) ≡ false = ap (λ seat. fell seat) (sym at)
+    ∙ fell-at s m.seats none in
     fell-put s (Lost loss is_reported true) m.seats (told-fell X loss is_reported is_told ∙ stays) none
 none-detach P s m Left at none = none
 
@@ -551,7 +571,8 @@ fallen-from : {X : Type 0}
     → is_attached old ≡ true
 fallen-from (Attached x) new is_told stays is at = refl
 fallen-from (Lost loss is_reported was_told) new is_told stays is at =
-    let same : new ≡ fallen (Lost loss is_reported was_told) = is ∙ ap (λ seat. mid (Lost loss is_reported was_told) seat) at in
+    let same : new ≡ fallen (Lost loss is_reported was_told) = is
+    ∙ ap (λ seat. mid (Lost loss is_reported was_told) seat) at in
     let differs : true ≡ false = sym (ap (λ seat. fell seat) at) ∙ ap (λ seat. fell seat) same ∙ stays in absurd cc
 fallen-from Left new is_told stays is at =
     let same : new ≡ Left = is ∙ ap (λ seat. mid Left seat) at in absurd cc

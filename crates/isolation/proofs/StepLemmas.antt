@@ -49,7 +49,8 @@ pub ready-none : {C T Q X : Type 0}
     → is_ready P n ≡ true
     → fallen_in n.seats ≡ []
 ready-none P n ready =
-    let held = or_parts (is_paused n) (waits n.phase || (n.shut || some waits_for_report n.seats)) (ready-parts P n ready).0 in
+    let held = or_parts (is_paused n) (waits n.phase || (n.shut || some waits_for_report n.seats))
+    (ready-parts P n ready).0 in
     let begun = or_parts (waits n.phase) (n.shut || some waits_for_report n.seats) held.1 in
     let open_still = or_parts n.shut (some waits_for_report n.seats) begun.1 in
     waits-fallen n.seats open_still.1
@@ -63,7 +64,9 @@ fallen-each f same s (seat ∷ seats) =
 
 -- whether the texts of a step fit, no session falls at it
 fell-told : {C T Q X : Type 0} → (P : Protocol C T Q X) (b stops fits : Bool) (x y : X)
-    → fell (if fits then (if stops then (if b then Attached x else lost_by Overrun) else Attached y) else lost_by Overrun) ≡ false
+    → fell (if fits then (if stops then (if b then Attached x else lost_by Overrun) else Attached y)
+    else lost_by Overrun)
+    ≡ false
 fell-told P true true true x y = refl
 fell-told P false true true x y = refl
 fell-told P b false true x y = refl
@@ -83,6 +86,8 @@ pub steps-fallen : {C T Q X : Type 0} → (P : Protocol C T Q X) (k moment : ℕ
 steps-fallen P zero moment m = refl
 steps-fallen P (suc k) moment m =
     steps-fallen P k moment (step P moment [] m)
-    ∙ fallen-each (seat_behind P (is_named P moment [] m.program m) (next_number m.stops) moment (told_at P m.program m))
-    (fell-behind P (is_named P moment [] m.program m) (next_number m.stops) moment (told_at P m.program m)) 1 (without [] m.seats)
+    ∙ fallen-each
+    (seat_behind P (is_named P moment [] m.program m) (next_number m.stops) moment (told_at P m.program m))
+    (fell-behind P (is_named P moment [] m.program m) (next_number m.stops) moment (told_at P m.program m)) 1
+    (without [] m.seats)
     ∙ ap (λ seats. fallen_in seats) (without-none m.seats)

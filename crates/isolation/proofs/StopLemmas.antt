@@ -20,7 +20,8 @@ plain-next P (suc k) c = ap (λ d. P.next d) (plain-next P k c)
 pub plain-more : {C T Q X : Type 0} → (P : Protocol C T Q X) (a b : ℕ) (c : C)
     → plain P (a + b) c ≡ plain P b (plain P a c)
 plain-more P a zero c = let e : a + zero ≡ a = omega arith in rw e refl
-plain-more P a (suc b) c = let e : a + suc b ≡ suc (a + b) = omega arith in rw e (ap (λ d. P.next d) (plain-more P a b c))
+plain-more P a (suc b) c =
+    let e : a + suc b ≡ suc (a + b) = omega arith in rw e (ap (λ d. P.next d) (plain-more P a b c))
 
 pub steps-program : {C T Q X : Type 0} → (P : Protocol C T Q X) (moment n : ℕ) (m : Meaning C Q X)
     → (after_steps P moment n m).program ≡ plain P n m.program
@@ -91,7 +92,8 @@ entry-program P m (Tell s text) = tell-program P s text m (seat_of s m.seats)
 entry-program P m (Take s) = take-program P s m (seat_of s m.seats)
 entry-program P m (Detach s) = detach-program P s m (seat_of s m.seats)
 entry-program P m (Ran n moment gone) =
-    let k = after_run P moment gone n m in settle-program P (with_seats (each reported k.seats) k) ∙ run-program P moment gone n m
+    let k = after_run P moment gone n m in
+    settle-program P (with_seats (each reported k.seats) k) ∙ run-program P moment gone n m
 entry-program P m Shut = refl
 
 -- from any meaning
@@ -126,7 +128,9 @@ run-stops P c made moment gone m n at ready =
           ∙ ready-goes P (after_steps P moment (suc j) m) (ready (suc j) (omega (arith, below)));
       stops_there = λ j is.
           let k = after_steps P moment j m in
-          ap (λ i. is_paused (after_run P moment gone i m)) is ∙ step-stops P moment gone k ∙ ap (λ d. is_named P moment gone d k) (where_at j);
+          ap (λ i. is_paused (after_run P moment gone i m)) is
+          ∙ step-stops P moment gone k
+          ∙ ap (λ d. is_named P moment gone d k) (where_at j);
     }
 
 entry-stops : {C T Q X : Type 0} → (P : Protocol C T Q X) (c : C) (made : ℕ) (m : Meaning C Q X) (entry : Entry)
@@ -146,7 +150,8 @@ stops-exactly-from P c made m [] at fits = tt
 stops-exactly-from P c made m (entry ∷ history) at fits = (
   entry-stops P c made m entry at fits.0,
   stops-exactly-from P c (made + steps_of entry) (apply P m entry) history
-      (entry-program P m entry ∙ ap (λ d. plain P (steps_of entry) d) at ∙ sym (plain-more P made (steps_of entry) c)) fits.1,
+      (entry-program P m entry ∙ ap (λ d. plain P (steps_of entry) d) at ∙ sym (plain-more P made (steps_of entry) c))
+      fits.1,
 )
 
 -- each run of a history stops exactly where a session asks for it
@@ -265,20 +270,24 @@ run-there : {C T Q X : Type 0} → (P : Protocol C T Q X) (moment : ℕ) (gone :
     → IsThere P (after_run P moment gone n m).program (after_run P moment gone n m).stop
 run-there P moment gone zero m there = there
 run-there P moment gone (suc n) m there =
-    let k = after_steps P moment n m in stop-there P (next_number k.stops) (P.next k.program) (is_named P moment gone k.program k)
+    let k = after_steps P moment n m in
+    stop-there P (next_number k.stops) (P.next k.program) (is_named P moment gone k.program k)
 
 entry-well : {C T Q X : Type 0} → (P : Protocol C T Q X) (m : Meaning C Q X) (entry : Entry) → KeepsEnabled P
     → IsPausedWell P m
     → IsPausedWell P (apply P m entry)
 entry-well P m Attach keeps well = record {
-  enabled = λ paused. some-append (is_enabled_seat P) m.seats (Attached (P.fresh (length m.seats + 1)) ∷ []) (well.enabled paused);
+  enabled =
+      λ paused. some-append (is_enabled_seat P) m.seats (Attached (P.fresh (length m.seats + 1)) ∷ [])
+      (well.enabled paused);
   there = well.there;
 }
 entry-well P m (Tell s text) keeps well = tell-well P s text m (seat_of s m.seats) well
 entry-well P m (Take s) keeps well = take-well P s m (seat_of s m.seats) keeps refl well
 entry-well P m (Detach s) keeps well = detach-well P s m (seat_of s m.seats) refl well
 entry-well P m (Ran n moment gone) keeps well =
-    let k = after_run P moment gone n m in settle-well P (with_seats (each reported k.seats) k) (run-there P moment gone n m well.there)
+    let k = after_run P moment gone n m in
+    settle-well P (with_seats (each reported k.seats) k) (run-there P moment gone n m well.there)
 entry-well P m Shut keeps well = record { enabled = well.enabled; there = well.there }
 
 -- from any meaning that is paused well
@@ -286,7 +295,8 @@ pub paused-well-from : {C T Q X : Type 0} → (P : Protocol C T Q X) (m : Meanin
     → KeepsEnabled P
     → IsPausedWell P m → IsPausedWell P (fold (apply P) m history)
 paused-well-from P m [] keeps well = well
-paused-well-from P m (entry ∷ history) keeps well = paused-well-from P (apply P m entry) history keeps (entry-well P m entry keeps well)
+paused-well-from P m (entry ∷ history) keeps well =
+    paused-well-from P (apply P m entry) history keeps (entry-well P m entry keeps well)
 
 -- a program is paused only where a session has the debugger enabled, and at a stop of where it stands
 pub paused-well : {C T Q X : Type 0} → (P : Protocol C T Q X) (c : C) (wait : Bool) (history : List Entry)

@@ -76,7 +76,8 @@ reply-goes P E sent handed made texts y true is =
     (kept-keeps P handed (made ++ texts ++ E.resumed y) (P.resumed y) (P.fits (P.resumed y))
     (here-more handed (P.outbox y) (made ++ texts) (E.resumed y) (P.outbox (P.resumed y)) is (sent.resumed y)))
 reply-goes P E sent handed made texts y false is =
-    subst (λ l. Keeps P handed Left l) (append_assoc made texts (E.resumed y)) (lost-rest handed (P.outbox y) (made ++ texts) (E.resumed y) is)
+    subst (λ l. Keeps P handed Left l) (append_assoc made texts (E.resumed y))
+    (lost-rest handed (P.outbox y) (made ++ texts) (E.resumed y) is)
 
 told-goes : {C T Q X : Type 0} → (P : Protocol C T Q X) (E : Texts P) → AreSent P E
     → (text : List ℕ) (handed made : List (List ℕ))
@@ -109,7 +110,8 @@ took-keeps : {C T Q X : Type 0} → (P : Protocol C T Q X) (E : Texts P) → Are
     → Keeps P handed seat made → Keeps P (handed ++ waiting P seat) (took P seat) (made ++ [])
 took-keeps P E sent handed made (Attached x) keeps =
     ap (λ l. handed ++ P.outbox x ++ l) (sent.emptied x) ∙ ap (λ l. l ++ []) keeps
-took-keeps P E sent handed made (Lost loss is_reported is_told) keeps = rw (append-nil handed) (rest-more handed made [] keeps)
+took-keeps P E sent handed made (Lost loss is_reported is_told) keeps =
+    rw (append-nil handed) (rest-more handed made [] keeps)
 took-keeps P E sent handed made Left keeps = rw (append-nil handed) (rest-more handed made [] keeps)
 
 -- a detach
@@ -156,13 +158,16 @@ behind-keeps : {C T Q X : Type 0} → (P : Protocol C T Q X) (E : Texts P) → A
     → Keeps P handed (if b then told_of P stops number moment t x else lost_by Overrun)
     (made ++ (E.told moment t x ++ (if stops then E.stopped number t (P.told moment t x) else [])))
 behind-keeps P E sent stops number moment t x handed made false is =
-    lost-rest handed (P.outbox x) made (E.told moment t x ++ (if stops then E.stopped number t (P.told moment t x) else [])) is
+    lost-rest handed (P.outbox x) made
+    (E.told moment t x ++ (if stops then E.stopped number t (P.told moment t x) else [])) is
 behind-keeps P E sent true number moment t x handed made true is =
     let y = P.told moment t x in
     let new = E.stopped number t y in
     kept-keeps P handed (made ++ (E.told moment t x ++ new)) (P.stopped number t y) (P.fits (P.stopped number t y))
     (here-more handed (P.outbox x) made (E.told moment t x ++ new) (P.outbox (P.stopped number t y)) is
-    (sent.stopped number t y ∙ ap (λ l. l ++ new) (sent.told moment t x) ∙ append_assoc (P.outbox x) (E.told moment t x) new))
+    (sent.stopped number t y
+    ∙ ap (λ l. l ++ new) (sent.told moment t x)
+    ∙ append_assoc (P.outbox x) (E.told moment t x) new))
 behind-keeps P E sent false number moment t x handed made true is =
     let new = E.told moment t x in
     here-more handed (P.outbox x) made (new ++ []) (P.outbox (P.told moment t x)) is
@@ -175,7 +180,8 @@ step-keeps : {C T Q X : Type 0} → (P : Protocol C T Q X) (E : Texts P) → Are
     (made ++ step_texts P E moment stops a seat)
 step-keeps P E sent moment stops handed made a (Attached x) keeps =
     let t = P.tells a.first a.program in
-    behind-keeps P E sent stops (next_number a.stops) moment t x handed made (survives P (next_number a.stops) moment t x) keeps
+    behind-keeps P E sent stops (next_number a.stops) moment t x handed made
+    (survives P (next_number a.stops) moment t x) keeps
 step-keeps P E sent moment stops handed made a (Lost loss is_reported is_told) keeps = rest-more handed made [] keeps
 step-keeps P E sent moment stops handed made a Left keeps = rest-more handed made [] keeps
 
@@ -188,7 +194,8 @@ passing-keeps P E sent moment (suc n) handed made a keeps =
     let b = one_step P moment false a in
     let new = step_texts P E moment false a a.seat in
     subst (λ l. Keeps P handed (passing P moment n b).seat l) (append_assoc made new (passing_texts P E moment n b))
-    (passing-keeps P E sent moment n handed (made ++ new) b (step-keeps P E sent moment false handed made a a.seat keeps))
+    (passing-keeps P E sent moment n handed (made ++ new) b
+    (step-keeps P E sent moment false handed made a a.seat keeps))
 
 run-keeps : {C T Q X : Type 0} → (P : Protocol C T Q X) (E : Texts P) → AreSent P E
     → (moment n : ℕ) (stops listed : Bool)
@@ -199,9 +206,11 @@ run-keeps P E sent moment zero stops listed handed made a keeps =
 run-keeps P E sent moment (suc n) stops listed handed made a keeps =
     let b = unless_listed listed (passing P moment n a) in
     let before = passing_texts P E moment n a in
-    subst (λ l. Keeps P handed (one_step P moment stops b).seat l) (append_assoc made before (step_texts P E moment stops b b.seat))
+    subst (λ l. Keeps P handed (one_step P moment stops b).seat l)
+    (append_assoc made before (step_texts P E moment stops b b.seat))
     (step-keeps P E sent moment stops handed (made ++ before) b b.seat
-    (listed-keeps P handed (made ++ before) listed (passing P moment n a) (passing-keeps P E sent moment n handed made a keeps)))
+    (listed-keeps P handed (made ++ before) listed (passing P moment n a)
+    (passing-keeps P E sent moment n handed made a keeps)))
 
 -- ---- what a session sees, but its coming
 
@@ -240,7 +249,8 @@ passed-keeps P E sent n moment stops listed resumed handed made a keeps =
     let new = run_texts P E moment n stops listed a in
     let last = goes_on P resumed (with_report b) in
     subst (λ l. Keeps P handed last.seat l)
-    (ap (λ l. made ++ new ++ l) (reported-texts P E resumed b.seat) ∙ append_assoc made new (resume_texts P E resumed b.seat))
+    (ap (λ l. made ++ new ++ l) (reported-texts P E resumed b.seat)
+    ∙ append_assoc made new (resume_texts P E resumed b.seat))
     (goes-keeps P E sent resumed handed (made ++ new) (with_report b)
     (reported-keeps P handed (made ++ new) b.seat (run-keeps P E sent moment n stops listed handed made a keeps)))
 
@@ -254,18 +264,22 @@ seen-keeps P E sent s handed made a (Told text true) other keeps =
 seen-keeps P E sent s handed made a (Told text false) other keeps =
     not-handed P handed _ _ (told-stays P E sent text handed made a a.seat keeps)
 seen-keeps P E sent s handed made a Took other keeps = took-keeps P E sent handed made a.seat keeps
-seen-keeps P E sent s handed made a (Went true) other keeps = not-handed P handed _ _ (went-goes P handed made a.seat keeps)
-seen-keeps P E sent s handed made a (Went false) other keeps = not-handed P handed _ _ (went-keeps P handed made a.seat keeps)
+seen-keeps P E sent s handed made a (Went true) other keeps =
+    not-handed P handed _ _ (went-goes P handed made a.seat keeps)
+seen-keeps P E sent s handed made a (Went false) other keeps =
+    not-handed P handed _ _ (went-keeps P handed made a.seat keeps)
 seen-keeps P E sent s handed made a (Passed n moment stops listed resumed) other keeps =
     not-handed P handed _ _ (passed-keeps P E sent n moment stops listed resumed handed made a keeps)
-seen-keeps P E sent s handed made a Resumed other keeps = not-handed P handed _ _ (goes-keeps P E sent true handed made a keeps)
+seen-keeps P E sent s handed made a Resumed other keeps =
+    not-handed P handed _ _ (goes-keeps P E sent true handed made a keeps)
 
 made_of-append : {C T Q X : Type 0}
     → (P : Protocol C T Q X) (E : Texts P) (s : ℕ) (a : Alone C Q X) (xs ys : List Seen)
     → made_of P E s a (xs ++ ys) ≡ made_of P E s a xs ++ made_of P E s (see_all P s a xs) ys
 made_of-append P E s a [] ys = refl
 made_of-append P E s a (x ∷ xs) ys =
-    ap (λ rest. made_at P E a x ++ rest) (made_of-append P E s (see P s a x) xs ys) ∙ sym (append_assoc (made_at P E a x) _ _)
+    ap (λ rest. made_at P E a x ++ rest) (made_of-append P E s (see P s a x) xs ys)
+    ∙ sym (append_assoc (made_at P E a x) _ _)
 
 view-keeps : {C T Q X : Type 0} → (P : Protocol C T Q X) (E : Texts P) → AreSent P E
     → (s : ℕ) (handed made : List (List ℕ))
@@ -275,15 +289,18 @@ view-keeps P E sent s handed made a [] other keeps = not-handed P handed _ _ (sa
 view-keeps P E sent s handed made a (x ∷ xs) other keeps =
     let b = see P s a x in
     let last = see_all P s b xs in
-    subst (λ l. Keeps P l last.seat (made ++ (made_at P E a x ++ made_of P E s b xs))) (append_assoc handed (given P a x) (solo P s b xs))
-    (subst (λ l. Keeps P (handed ++ given P a x ++ solo P s b xs) last.seat l) (append_assoc made (made_at P E a x) (made_of P E s b xs))
+    subst (λ l. Keeps P l last.seat (made ++ (made_at P E a x ++ made_of P E s b xs)))
+    (append_assoc handed (given P a x) (solo P s b xs))
+    (subst (λ l. Keeps P (handed ++ given P a x ++ solo P s b xs) last.seat l)
+    (append_assoc made (made_at P E a x) (made_of P E s b xs))
     (view-keeps P E sent s (handed ++ given P a x) (made ++ made_at P E a x) b xs other.1
     (seen-keeps P E sent s handed made a x other.0 keeps)))
 
 -- ---- a session that isn't there
 
 -- nothing is handed out to it or made for it, and it doesn't come by itself
-record StaysAway {C T Q X : Type 0} (P : Protocol C T Q X) (E : Texts P) (s : ℕ) (a : Alone C Q X) (seen : Seen) : Type 0 where
+record StaysAway {C T Q X : Type 0} (P : Protocol C T Q X) (E : Texts P) (s : ℕ) (a : Alone C Q X) (seen : Seen)
+    : Type 0 where
   pub away : (see P s a seen).seat ≡ Left
   pub gives : given P a seen ≡ []
   pub makes : made_at P E a seen ≡ []
@@ -295,7 +312,8 @@ unless-away false a is = is
 
 step-away : {C T Q X : Type 0} → (P : Protocol C T Q X) (moment : ℕ) (stops : Bool) (a : Alone C Q X) → a.seat ≡ Left
     → (one_step P moment stops a).seat ≡ Left
-step-away P moment stops a is = ap (λ seat. seat_behind P stops (next_number a.stops) moment (P.tells a.first a.program) seat) is
+step-away P moment stops a is =
+    ap (λ seat. seat_behind P stops (next_number a.stops) moment (P.tells a.first a.program) seat) is
 
 passing-away : {C T Q X : Type 0} → (P : Protocol C T Q X) (moment n : ℕ) (a : Alone C Q X) → a.seat ≡ Left
     → (passing P moment n a).seat ≡ Left
@@ -307,7 +325,8 @@ run-away : {C T Q X : Type 0} → (P : Protocol C T Q X) (moment n : ℕ) (stops
     → (run P moment n stops listed a).seat ≡ Left
 run-away P moment zero stops listed a is = unless-away listed a is
 run-away P moment (suc n) stops listed a is =
-    step-away P moment stops (unless_listed listed (passing P moment n a)) (unless-away listed (passing P moment n a) (passing-away P moment n a is))
+    step-away P moment stops (unless_listed listed (passing P moment n a))
+    (unless-away listed (passing P moment n a) (passing-away P moment n a is))
 
 step-silent : {C T Q X : Type 0} → (P : Protocol C T Q X) (E : Texts P) (moment : ℕ) (stops : Bool) (a : Alone C Q X)
     → a.seat ≡ Left
@@ -440,7 +459,8 @@ told-length : {C T Q X : Type 0}
     → (P : Protocol C T Q X) (s : ℕ) (m : Meaning C Q X) (resumes wakes : Bool) (y : X) (b : Bool)
     → length (if b then asked P resumes wakes (with_seat s (Attached y) m) else settle P (with_seat s Left m)).seats
     ≡ length m.seats
-told-length P s m resumes wakes y true = asked-length P (with_seat s (Attached y) m) resumes wakes ∙ put-length s (Attached y) m.seats
+told-length P s m resumes wakes y true =
+    asked-length P (with_seat s (Attached y) m) resumes wakes ∙ put-length s (Attached y) m.seats
 told-length P s m resumes wakes y false = settle-length P (with_seat s Left m) ∙ put-length s Left m.seats
 
 tell-length : {C T Q X : Type 0} → (P : Protocol C T Q X) (s : ℕ) (text : List ℕ) (m : Meaning C Q X) (seat : Seat X)
@@ -466,7 +486,9 @@ detach-length P s m Left = refl
 step-length : {C T Q X : Type 0} → (P : Protocol C T Q X) (moment : ℕ) (gone : List ℕ) (m : Meaning C Q X)
     → length (step P moment gone m).seats ≡ length m.seats
 step-length P moment gone m =
-    let f : Seat _ → Seat _ = seat_behind P (is_named P moment gone m.program m) (next_number m.stops) moment (told_at P m.program m) in
+    let f : Seat _
+    → Seat _ = seat_behind P (is_named P moment gone m.program m) (next_number m.stops) moment (told_at P m.program m)
+    in
     each-length f (without gone m.seats) ∙ without-length gone 1 m.seats
 
 steps-length : {C T Q X : Type 0} → (P : Protocol C T Q X) (moment n : ℕ) (m : Meaning C Q X)
@@ -498,7 +520,8 @@ at-behind (suc i) seats below = in-behind i seats below
 -- ---- one entry
 
 -- what was handed out and made for a session: nothing, as long as it wasn't attached
-record KeepsTexts {C T Q X : Type 0} (P : Protocol C T Q X) (s : ℕ) (m : Meaning C Q X) (handed made : List (List ℕ)) : Type 0 where
+record KeepsTexts {C T Q X : Type 0} (P : Protocol C T Q X) (s : ℕ) (m : Meaning C Q X) (handed made : List (List ℕ))
+    : Type 0 where
   pub keeps : Keeps P handed (seat_of s m.seats) made
   pub none : length m.seats < s → (handed ≡ []) × (made ≡ [])
 
@@ -548,7 +571,8 @@ attach-stands P E sent s m handed made true is follow stands =
     }
 attach-stands P E sent s m handed made false is follow stands =
     let longer = append-length (Attached (P.fresh (length m.seats + 1))) m.seats in
-    others-stand P E sent s m (apply P m Attach) handed made [] [] follow tt (λ below. omega (arith, longer, below)) stands
+    others-stand P E sent s m (apply P m Attach) handed made [] [] follow tt (λ below. omega (arith, longer, below))
+    stands
 
 entry-stands : {C T Q X : Type 0} → (P : Protocol C T Q X) (E : Texts P) → AreSent P E → (s : ℕ) (m : Meaning C Q X)
     (handed made : List (List ℕ)) (entry : Entry) → FitsEntry P m entry → KeepsTexts P s m handed made
@@ -597,7 +621,8 @@ history-stands P E sent s m handed made (entry ∷ history) fits stands =
     (ap (λ b. here ++ made_of P E s b rest) (follows P s m entry fits.0).goes ∙ sym (made_of-append P E s a seen rest))
     (subst (λ l. Keeps P l last (made ++ (here ++ there))) (append_assoc handed now later)
     (subst (λ l. Keeps P (handed ++ now ++ later) last l) (append_assoc made here there)
-    (history-stands P E sent s k (handed ++ now) (made ++ here) history fits.1 (entry-stands P E sent s m handed made entry fits.0 stands))))
+    (history-stands P E sent s k (handed ++ now) (made ++ here) history fits.1
+    (entry-stands P E sent s m handed made entry fits.0 stands))))
 
 unborn-keeps : {C T Q X : Type 0} → (P : Protocol C T Q X) (s : ℕ) → Keeps P [] (seat_of {X = X} s []) []
 unborn-keeps P zero = ([], refl)
@@ -613,4 +638,5 @@ in-order P E sent s c wait history fits =
     subst (λ a. Keeps P (handed_of P s (begin c wait) history) (seat_of s (whole P c wait history).seats)
     (made_of P E s a (view P s (begin c wait) history)))
     (unborn-at s c wait)
-    (history-stands P E sent s (begin c wait) [] [] history fits (record { keeps = unborn-keeps P s; none = λ below. (refl, refl) }))
+    (history-stands P E sent s (begin c wait) [] [] history fits
+    (record { keeps = unborn-keeps P s; none = λ below. (refl, refl) }))

@@ -39,9 +39,11 @@ abbrev pub view_at : {C T Q X : Type 0} → Protocol C T Q X → ℕ → Meaning
 view_at P s m Attach = if length m.seats + 1 == s then Came ∷ [] else []
 view_at P s m (Tell r text) = if r == s then Told text (has_resumed m (apply P m (Tell r text))) ∷ [] else mark (has_resumed m (apply P m (Tell r text)))
 view_at P s m (Take r) = if r == s then Took ∷ [] else []
-view_at P s m (Detach r) = if r == s then Went (has_resumed m (apply P m (Detach r))) ∷ [] else mark (has_resumed m (apply P m (Detach r)))
+view_at P s m (Detach r) =
+    if r == s then Went (has_resumed m (apply P m (Detach r))) ∷ [] else mark (has_resumed m (apply P m (Detach r)))
 view_at P s m (Ran n moment gone) =
-    Passed n moment (is_paused (after_run P moment gone n m)) (is_listed gone s) (has_resumed (after_run P moment gone n m) (apply P m (Ran n moment gone))) ∷ []
+    Passed n moment (is_paused (after_run P moment gone n m)) (is_listed gone s)
+    (has_resumed (after_run P moment gone n m) (apply P m (Ran n moment gone))) ∷ []
 view_at P s m Shut = []
 
 -- what it sees of a history
@@ -71,7 +73,8 @@ goes_on P false a = a
 
 -- its seat behind a text
 abbrev pub replied : {C T Q X : Type 0} → Protocol C T Q X → List ℕ → Alone C Q X → Seat X → Seat X
-replied P text a (Attached x) = if P.fits (P.reply a.stop a.program text x) then Attached (P.reply a.stop a.program text x) else Left
+replied P text a (Attached x) =
+    if P.fits (P.reply a.stop a.program text x) then Attached (P.reply a.stop a.program text x) else Left
 replied P text a (Lost loss is_reported is_told) = Lost loss is_reported is_told
 replied P text a Left = Left
 
@@ -138,4 +141,5 @@ solo P s a (seen ∷ view) = given P a seen ++ solo P s (see P s a seen) view
 
 -- what of a host one session sees
 abbrev pub alone_at : {C Q X : Type 0} → ℕ → Meaning C Q X → Alone C Q X
-alone_at s m = record { program = m.program; first = is_first m.phase; stop = m.stop; stops = m.stops; seat = seat_of s m.seats }
+alone_at s m =
+    record { program = m.program; first = is_first m.phase; stop = m.stop; stops = m.stops; seat = seat_of s m.seats }

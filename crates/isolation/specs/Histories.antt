@@ -38,7 +38,8 @@ asked P false false m = settle P m
 abbrev pub told : {C T Q X : Type 0} → Protocol C T Q X → ℕ → List ℕ → Meaning C Q X → X → Meaning C Q X
 told P s text m x =
     if P.fits (P.reply m.stop m.program text x)
-    then asked P (P.resumes m.stop m.program text x) (P.wakes m.stop m.program text x) (with_seat s (Attached (P.reply m.stop m.program text x)) m)
+    then asked P (P.resumes m.stop m.program text x) (P.wakes m.stop m.program text x)
+    (with_seat s (Attached (P.reply m.stop m.program text x)) m)
     else settle P (with_seat s Left m)
 
 -- a text of a session, if it is attached
@@ -61,7 +62,8 @@ detach P s m Left = m
 
 -- so many steps, which report the losses
 abbrev pub ran : {C T Q X : Type 0} → Protocol C T Q X → ℕ → ℕ → List ℕ → Meaning C Q X → Meaning C Q X
-ran P n moment gone m = settle P (with_seats (each reported (after_run P moment gone n m).seats) (after_run P moment gone n m))
+ran P n moment gone m =
+    settle P (with_seats (each reported (after_run P moment gone n m).seats) (after_run P moment gone n m))
 
 -- one entry; one of a session that isn't attached changes nothing that others see
 abbrev pub apply : {C T Q X : Type 0} → Protocol C T Q X → Meaning C Q X → Entry → Meaning C Q X

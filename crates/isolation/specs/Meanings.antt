@@ -20,7 +20,8 @@ pub record Meaning (C Q X : Type 0) : Type 0 where
 
 -- with the program seen in another way
 abbrev pub mapped : {C D Q X : Type 0} → (C → D) → Meaning C Q X → Meaning D Q X
-mapped f m = record { program = f m.program; phase = m.phase; stop = m.stop; stops = m.stops; shut = m.shut; seats = m.seats }
+mapped f m =
+    record { program = f m.program; phase = m.phase; stop = m.stop; stops = m.stops; shut = m.shut; seats = m.seats }
 
 -- with other seats
 abbrev pub with_seats : {C Q X : Type 0} → List (Seat X) → Meaning C Q X → Meaning C Q X
@@ -97,7 +98,8 @@ told_of P false number moment t x = Attached (P.told moment t x)
 
 -- a seat behind such a step; a session whose texts don't fit is lost
 abbrev pub seat_behind : {C T Q X : Type 0} → Protocol C T Q X → Bool → ℕ → ℕ → T → Seat X → Seat X
-seat_behind P stops number moment t (Attached x) = if survives P number moment t x then told_of P stops number moment t x else lost_by Overrun
+seat_behind P stops number moment t (Attached x) =
+    if survives P number moment t x then told_of P stops number moment t x else lost_by Overrun
 seat_behind P stops number moment t (Lost loss is_reported is_told) = Lost loss is_reported is_told
 seat_behind P stops number moment t Left = Left
 
@@ -124,7 +126,8 @@ behind P moment gone t c stops m = record {
 -- one step of the program at a moment, which loses the sessions of the listed numbers for want of memory: the program stops exactly
 -- where another session names the step and isn't lost at it
 abbrev pub step : {C T Q X : Type 0} → Protocol C T Q X → ℕ → List ℕ → Meaning C Q X → Meaning C Q X
-step P moment gone m = behind P moment gone (told_at P m.program m) (P.next m.program) (is_named P moment gone m.program m) m
+step P moment gone m =
+    behind P moment gone (told_at P m.program m) (P.next m.program) (is_named P moment gone m.program m) m
 
 -- so many steps at a moment, with memory for all sessions
 abbrev pub after_steps : {C T Q X : Type 0} → Protocol C T Q X → ℕ → ℕ → Meaning C Q X → Meaning C Q X

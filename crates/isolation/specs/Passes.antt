@@ -12,18 +12,21 @@ use Rattle.isolation.specs.declared.seat.Seat.{Seat}
 -- ---- one seat
 
 -- the session of the seat watched the step, unless memory wanted, and this says whether it named it
-pub record Watches {C T Q X : Type 0} (P : Protocol C T Q X) (number moment : ℕ) (t : T) (old new : Seat X) (named : Bool) : Type 0 where
+pub record Watches {C T Q X : Type 0} (P : Protocol C T Q X) (number moment : ℕ) (t : T) (old new : Seat X)
+    (named : Bool) : Type 0 where
   pub is : new ≡ watched P number moment t (mid old new)
   pub names : named ≡ stops_for P number moment t (mid old new)
   pub room : Fits P new
 
 -- it was told of the stop, unless memory wanted; one that named it was told before
-pub record HearsOf {C T Q X : Type 0} (P : Protocol C T Q X) (number : ℕ) (t : T) (old new : Seat X) (named : Bool) : Type 0 where
+pub record HearsOf {C T Q X : Type 0} (P : Protocol C T Q X) (number : ℕ) (t : T) (old new : Seat X) (named : Bool)
+    : Type 0 where
   pub is : new ≡ (if named then old else stopped_seat P number t (mid old new))
   pub room : Fits P new
 
 -- what both passes come to
-pub record Behind {C T Q X : Type 0} (P : Protocol C T Q X) (stops : Bool) (number moment : ℕ) (t : T) (old new : Seat X) (named : Bool) : Type 0 where
+pub record Behind {C T Q X : Type 0} (P : Protocol C T Q X) (stops : Bool) (number moment : ℕ) (t : T)
+    (old new : Seat X) (named : Bool) : Type 0 where
   pub is : new ≡ seat_behind P stops number moment t (mid old new)
   pub names : named ≡ stops_for P number moment t (mid old new)
   pub room : Fits P new

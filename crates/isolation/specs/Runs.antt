@@ -15,7 +15,8 @@ pub record HasMade {C T Q X : Type 0} (P : Protocol C T Q X) (moment : ℕ) (m n
   pub ready : (j : ℕ) → j < k → is_ready P (after_steps P moment j m) ≡ true
 
 -- the length of a run of at most so many steps that led there: nothing but that number or where it led ends it
-pub record IsLongest {C T Q X : Type 0} (P : Protocol C T Q X) (moment most : ℕ) (m n : Meaning C Q X) (k : ℕ) : Type 0 where
+pub record IsLongest {C T Q X : Type 0} (P : Protocol C T Q X) (moment most : ℕ) (m n : Meaning C Q X) (k : ℕ)
+    : Type 0 where
   pub within : k ≤ most
   pub made : HasMade P moment m n k
   pub full : (k ≡ most) ⊎ (is_ready P n ≡ false)

@@ -79,7 +79,8 @@ is_listed (r ∷ numbers) s = s == r || is_listed numbers s
 -- the first seat is that of the session of this number: those of the listed numbers are lost
 abbrev pub without_from : {X : Type 0} → List ℕ → ℕ → List (Seat X) → List (Seat X)
 without_from numbers s [] = []
-without_from numbers s (seat ∷ seats) = (if is_listed numbers s then fallen seat else seat) ∷ without_from numbers (s + 1) seats
+without_from numbers s (seat ∷ seats) =
+    (if is_listed numbers s then fallen seat else seat) ∷ without_from numbers (s + 1) seats
 
 -- the sessions of these numbers are lost for want of memory
 abbrev pub without : {X : Type 0} → List ℕ → List (Seat X) → List (Seat X)

@@ -40,7 +40,8 @@ pub record StandsAs {C Q X : Type 0} (host m : Meaning C Q X) : Type 0 where
   pub all_there : is_paused host ≡ true → fallen_in host.seats ≡ []
 
 -- what an entry that makes no step leaves of a host: what it means, but for sessions that its resume lost for want of memory
-pub record LeavesAs {C T Q X : Type 0} (P : Protocol C T Q X) (old : Meaning C Q X) (entry : Entry) (new : Meaning C Q X) : Type 0 where
+pub record LeavesAs {C T Q X : Type 0} (P : Protocol C T Q X) (old : Meaning C Q X) (entry : Entry)
+    (new : Meaning C Q X) : Type 0 where
   pub is : new ≡ less new.seats (apply P old entry)
   pub all_there : is_paused new ≡ true → fallen_in new.seats ≡ []
 

@@ -40,7 +40,8 @@ abbrev pub reply_texts : {C T Q X : Type 0}
     → Alone C Q X
     → Seat X
     → List (List ℕ)
-reply_texts P E text resumed a (Attached x) = E.reply a.stop a.program text x ++ resume_texts P E resumed (Attached (P.reply a.stop a.program text x))
+reply_texts P E text resumed a (Attached x) =
+    E.reply a.stop a.program text x ++ resume_texts P E resumed (Attached (P.reply a.stop a.program text x))
 reply_texts P E text resumed a (Lost loss is_reported is_told) = []
 reply_texts P E text resumed a Left = []
 
@@ -54,14 +55,17 @@ abbrev pub step_texts : {C T Q X : Type 0}
     → Seat X
     → List (List ℕ)
 step_texts P E moment stops a (Attached x) =
-    E.told moment (P.tells a.first a.program) x ++ (if stops then E.stopped (next_number a.stops) (P.tells a.first a.program) (P.told moment (P.tells a.first a.program) x) else [])
+    E.told moment (P.tells a.first a.program) x ++
+    (if stops then E.stopped (next_number a.stops) (P.tells a.first a.program)
+    (P.told moment (P.tells a.first a.program) x) else [])
 step_texts P E moment stops a (Lost loss is_reported is_told) = []
 step_texts P E moment stops a Left = []
 
 -- those of so many steps at which it doesn't
 abbrev pub passing_texts : {C T Q X : Type 0} → (P : Protocol C T Q X) → Texts P → ℕ → ℕ → Alone C Q X → List (List ℕ)
 passing_texts P E moment zero a = []
-passing_texts P E moment (suc n) a = step_texts P E moment false a a.seat ++ passing_texts P E moment n (one_step P moment false a)
+passing_texts P E moment (suc n) a =
+    step_texts P E moment false a a.seat ++ passing_texts P E moment n (one_step P moment false a)
 
 -- those of a run
 abbrev pub run_texts : {C T Q X : Type 0}
@@ -75,7 +79,8 @@ abbrev pub run_texts : {C T Q X : Type 0}
     → List (List ℕ)
 run_texts P E moment zero stops listed a = []
 run_texts P E moment (suc n) stops listed a =
-    passing_texts P E moment n a ++ step_texts P E moment stops (unless_listed listed (passing P moment n a)) (unless_listed listed (passing P moment n a)).seat
+    passing_texts P E moment n a ++ step_texts P E moment stops (unless_listed listed (passing P moment n a))
+    (unless_listed listed (passing P moment n a)).seat
 
 -- the texts that are made for a session by what it sees; one whose texts don't fit is lost with them
 abbrev pub made_at : {C T Q X : Type 0} → (P : Protocol C T Q X) → Texts P → Alone C Q X → Seen → List (List ℕ)

@@ -32,7 +32,9 @@ kids-some t at mid k h e =
     let n : ℕ = mid - (at + 1) in
     let m : mid - at ≡ suc n = omega arith in
     let s : suc at ≡ at + 1 = omega arith in
-    ap (λ x. take x (drop at t.kids.items)) m ∙ ap (λ xs. take (suc n) xs) (drop_some t.kids.items at k e) ∙ ap (λ x. k ∷ take n (drop x t.kids.items)) s
+    ap (λ x. take x (drop at t.kids.items)) m
+    ∙ ap (λ xs. take (suc n) xs) (drop_some t.kids.items at k e)
+    ∙ ap (λ x. k ∷ take n (drop x t.kids.items)) s
 
 pub kids-none : (t : NodeTable) (at mid : ℕ) → slice_get t.kids.items at ≡ None → kids_between t at mid ≡ []
 kids-none t at mid e = ap (λ xs. take (mid - at) xs) (drop_none t.kids.items at e) ∙ take-nil (mid - at)
@@ -49,7 +51,8 @@ pub terms_same : (a b : ℕ → Term) (i : ℕ) (ks : List ℕ)
     → EachBelow i ks
     → terms a ks ≡ terms b ks
 terms_same a b i [] same below = refl
-terms_same a b i (k ∷ ks) same below = ap (λ t. more t (terms a ks)) (same k below.0) ∙ ap (more (b k)) (terms_same a b i ks same below.1)
+terms_same a b i (k ∷ ks) same below =
+    ap (λ t. more t (terms a ks)) (same k below.0) ∙ ap (more (b k)) (terms_same a b i ks same below.1)
 
 pub literal-tree : (t : NodeTable) (n : ℕ) (node : Node) (v : Value)
     → slice_get t.nodes.items n ≡ Some node
@@ -59,7 +62,10 @@ pub literal-tree : (t : NodeTable) (n : ℕ) (node : Node) (v : Value)
     → tree ts t n ≡ done v
 unfolding tree
 literal-tree t n node v e l c ts =
-    let P : Bool → Term = λ b. if b then done (constant_at t node.info) else part (form_of ts t node.op node.info) (terms (tree_within ts t n) (kids_between t node.first node.mid)) (terms (tree_within ts t n) (kids_between t node.mid node.end)) in
+    let P : Bool
+    → Term = λ b. if b then done (constant_at t node.info) else part (form_of ts t node.op node.info)
+    (terms (tree_within ts t n) (kids_between t node.first node.mid))
+    (terms (tree_within ts t n) (kids_between t node.mid node.end)) in
     ap (node_term ts t (tree_within ts t n)) e ∙ ap P l ∙ ap done (sym c)
 
 pub no-tree : (t : NodeTable) (n : ℕ)
@@ -86,7 +92,9 @@ each_later m (suc i) (suc n) k (x ∷ xs) h b = each_later m i n k xs (omega ari
 pub now-below : (t : NodeTable) (n : ℕ) (node : Node)
     → IsNode t n node
     → EachBelow n (kids_between t node.first node.mid)
-now-below t n node i = each_first n (node.end - node.first) (node.mid - node.first) (drop node.first t.kids.items) (omega (arith, i.now, i.later)) i.before
+now-below t n node i =
+    each_first n (node.end - node.first) (node.mid - node.first) (drop node.first t.kids.items)
+    (omega (arith, i.now, i.later)) i.before
 
 pub later-below : (t : NodeTable) (n : ℕ) (node : Node)
     → IsNode t n node
@@ -94,8 +102,12 @@ pub later-below : (t : NodeTable) (n : ℕ) (node : Node)
 later-below t n node i =
     let xs : List ℕ = t.kids.items in
     let k : node.first + (node.mid - node.first) ≡ node.mid = omega (arith, i.now) in
-    let e : drop (node.mid - node.first) (drop node.first xs) ≡ drop node.mid xs = drop-drop (node.mid - node.first) node.first xs ∙ ap (λ j. drop j xs) k in
-    subst (λ (ys : List ℕ). EachBelow n (take (node.end - node.mid) ys)) e (each_later n (node.mid - node.first) (node.end - node.first) (node.end - node.mid) (drop node.first xs) (omega (arith, i.now, i.later)) i.before)
+    let e : drop (node.mid - node.first) (drop node.first xs) ≡ drop node.mid xs = drop-drop (node.mid - node.first)
+    node.first xs
+    ∙ ap (λ j. drop j xs) k in
+    subst (λ (ys : List ℕ). EachBelow n (take (node.end - node.mid) ys)) e
+    (each_later n (node.mid - node.first) (node.end - node.first) (node.end - node.mid) (drop node.first xs)
+    (omega (arith, i.now, i.later)) i.before)
 
 node_same : (ts : List (List ℕ)) (t : NodeTable) (a b : ℕ → Term) (n : ℕ) (o : Option Node)
     → ((k : ℕ) → k < n → a k ≡ b k)
@@ -103,8 +115,12 @@ node_same : (ts : List (List ℕ)) (t : NodeTable) (a b : ℕ → Term) (n : ℕ
     → node_term ts t a o ≡ node_term ts t b o
 node_same ts t a b n None same i = refl
 node_same ts t a b n (Some node) same i =
-    ap (λ us. if is_literal node.op then done (constant_at t node.info) else part (form_of ts t node.op node.info) us (terms a (kids_between t node.mid node.end))) (terms_same a b n (kids_between t node.first node.mid) same (now-below t n node i))
-    ∙ ap (λ us. if is_literal node.op then done (constant_at t node.info) else part (form_of ts t node.op node.info) (terms b (kids_between t node.first node.mid)) us) (terms_same a b n (kids_between t node.mid node.end) same (later-below t n node i))
+    ap (λ us. if is_literal node.op then done (constant_at t node.info) else part (form_of ts t node.op node.info) us
+    (terms a (kids_between t node.mid node.end)))
+    (terms_same a b n (kids_between t node.first node.mid) same (now-below t n node i))
+    ∙ ap (λ us. if is_literal node.op then done (constant_at t node.info) else part (form_of ts t node.op node.info)
+    (terms b (kids_between t node.first node.mid)) us)
+    (terms_same a b n (kids_between t node.mid node.end) same (later-below t n node i))
 
 tree_same : (ts : List (List ℕ)) (t : NodeTable)
     → IsTable t
@@ -115,7 +131,8 @@ tree_same : (ts : List (List ℕ)) (t : NodeTable)
 tree_same ts t table zero g n h k = absurd (omega arith)
 tree_same ts t table (suc f) zero n h k = absurd (omega arith)
 tree_same ts t table (suc f) (suc g) n h k =
-    node_same ts t (tree_within ts t f) (tree_within ts t g) n (slice_get t.nodes.items n) (λ j l. tree_same ts t table f g j (omega arith) (omega arith)) (table.nodes n)
+    node_same ts t (tree_within ts t f) (tree_within ts t g) n (slice_get t.nodes.items n)
+    (λ j l. tree_same ts t table f g j (omega arith) (omega arith)) (table.nodes n)
 
 one_level : (ts : List (List ℕ)) (t : NodeTable)
     → IsTable t
@@ -123,18 +140,22 @@ one_level : (ts : List (List ℕ)) (t : NodeTable)
     → tree ts t n ≡ node_term ts t (tree ts t) (slice_get t.nodes.items n)
 unfolding tree
 one_level ts t table n =
-    node_same ts t (tree_within ts t n) (tree ts t) n (slice_get t.nodes.items n) (λ j l. tree_same ts t table n (suc j) j l (omega arith)) (table.nodes n)
+    node_same ts t (tree_within ts t n) (tree ts t) n (slice_get t.nodes.items n)
+    (λ j l. tree_same ts t table n (suc j) j l (omega arith)) (table.nodes n)
 
 pub tree-at : (t : NodeTable) (n : ℕ) (node : Node)
     → IsTable t
     → slice_get t.nodes.items n ≡ Some node
     → is_literal node.op ≡ false
     → (ts : List (List ℕ))
-    → tree ts t n ≡ part (form_of ts t node.op node.info) (trees ts t node.first node.mid) (trees ts t node.mid node.end)
+    → tree ts t n ≡ part (form_of ts t node.op node.info) (trees ts t node.first node.mid)
+    (trees ts t node.mid node.end)
 tree-at t n node table e l ts =
     one_level ts t table n
     ∙ ap (node_term ts t (tree ts t)) e
-    ∙ ap (λ b. if b then done (constant_at t node.info) else part (form_of ts t node.op node.info) (trees ts t node.first node.mid) (trees ts t node.mid node.end)) l
+    ∙ ap (λ b. if b then done (constant_at t node.info) else part (form_of ts t node.op node.info)
+    (trees ts t node.first node.mid) (trees ts t node.mid node.end))
+    l
 
 pub node-at : (t : NodeTable) (n : ℕ) (node : Node)
     → IsTable t

@@ -34,7 +34,8 @@ abbrev pub node_term : List (List ℕ) → NodeTable → (ℕ → Term) → Opti
 node_term ts t at None = done values.Undefined
 node_term ts t at (Some n) =
     if is_literal n.op then done (constant_at t n.info)
-    else part (form_of ts t n.op n.info) (terms at (kids_between t n.first n.mid)) (terms at (kids_between t n.mid n.end))
+    else part (form_of ts t n.op n.info) (terms at (kids_between t n.first n.mid))
+    (terms at (kids_between t n.mid n.end))
 
 -- the tree of a node, down to so many levels
 abbrev pub tree_within : List (List ℕ) → NodeTable → ℕ → ℕ → Term

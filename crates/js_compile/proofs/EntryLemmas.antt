@@ -238,18 +238,43 @@ always_named ops.DeleteMember n name b us u e = ap (λ s. named_form ops.DeleteM
 always_named _ n name b us u e = absurd cc
 
 pub has_bare : (ts : List (List ℕ)) (t : NodeTable) (op : Op) → is_bare op ≡ true → HasForm ts t op 0 (bare_form op)
-has_bare ts t op b = record { is = λ us u g e. always_bare op b us u; source = bare_is_task_only op b; inner = bare_is_literal op b; turns = λ l. refl; place = bare_place op t 0 (length t.nodes.items) b }
+has_bare ts t op b =
+    record {
+      is = λ us u g e. always_bare op b us u;
+      source = bare_is_task_only op b;
+      inner = bare_is_literal op b;
+      turns = λ l. refl;
+      place = bare_place op t 0
+          (length t.nodes.items) b;
+    }
 
 pub has_placed : (ts : List (List ℕ)) (t : NodeTable) (op : Op) (n : ℕ)
     → is_placed op ≡ true
     → HasForm ts t op n (placed_form op n)
-has_placed ts t op n b = record { is = λ us u g e. always_placed op n b us u; source = placed_is_task_only op b; inner = placed_is_literal op b; turns = λ l. placed_turns op n b l; place = placed_place op t n (length t.nodes.items) b }
+has_placed ts t op n b =
+    record {
+      is = λ us u g e. always_placed op n b us u;
+      source = placed_is_task_only op b;
+      inner = placed_is_literal op b;
+      turns = λ l. placed_turns op n b l;
+      place = placed_place op t n
+          (length t.nodes.items) b;
+    }
 
 pub has_named : (ts : List (List ℕ)) (t : NodeTable) (op : Op) (n : ℕ) (name : List ℕ)
     → is_named op ≡ true
     → Known ts n name
     → HasForm ts t op n (named_form op name)
-has_named ts t op n name b k = record { is = λ us u g e. always_named op n name b us u (k us g); source = named_is_task_only op b; inner = named_is_literal op b; turns = λ l. named_turns op n b l; place = named_place op t n (length t.nodes.items) b }
+has_named ts t op n name b k =
+    record {
+      is = λ us u g e. always_named op n name b us u
+          (k us g);
+      source = named_is_task_only op b;
+      inner = named_is_literal op b;
+      turns = λ l. named_turns op n b l;
+      place = named_place op t n
+          (length t.nodes.items) b;
+    }
 
 -- ---- with an entry
 
@@ -258,28 +283,61 @@ pub script_known : (ts : List (List ℕ)) (t : NodeTable) (n : ℕ) (e : ScriptE
     → AreBindings ts e.names bs
     → HasForm ts t ops.Script n (forms.Script e.number bs)
 unfolding form_of
-script_known ts t n e bs h k = record { is = λ us u g w. ap (script_form us) (begins_at t.scripts.items u.scripts.items n e w.scripts h) ∙ ap (forms.Script e.number) (k us g); source = refl; inner = refl; turns = λ l. absurd cc; place = tt }
+script_known ts t n e bs h k =
+    record {
+      is = λ us u g w. ap (script_form us) (begins_at t.scripts.items u.scripts.items n e w.scripts h)
+          ∙ ap (forms.Script e.number) (k us g);
+      source = refl;
+      inner = refl;
+      turns = λ l. absurd cc;
+      place = tt;
+    }
 
 pub for_known : (ts : List (List ℕ)) (t : NodeTable) (n : ℕ) (e : ForEntry) (bs : List Binding)
     → slice_get t.fors.items n ≡ Some e
     → AreBindings ts e.names bs
     → HasForm ts t ops.EnterFor n (forms.EnterFor e.node e.constant bs)
 unfolding form_of
-for_known ts t n e bs h k = record { is = λ us u g w. ap (for_form us) (begins_at t.fors.items u.fors.items n e w.fors h) ∙ ap (forms.EnterFor e.node e.constant) (k us g); source = refl; inner = refl; turns = λ l. absurd cc; place = tt }
+for_known ts t n e bs h k =
+    record {
+      is = λ us u g w. ap (for_form us) (begins_at t.fors.items u.fors.items n e w.fors h)
+          ∙ ap (forms.EnterFor e.node e.constant)
+          (k us g);
+      source = refl;
+      inner = refl;
+      turns = λ l. absurd cc;
+      place = tt;
+    }
 
 pub for_of_known : (ts : List (List ℕ)) (t : NodeTable) (n : ℕ) (e : ForOfEntry) (b : Binding)
     → slice_get t.for_ofs.items n ≡ Some e
     → IsBinding ts e.slot b
     → HasForm ts t ops.EnterForOf n (forms.EnterForOf e.node b)
 unfolding form_of
-for_of_known ts t n e b h k = record { is = λ us u g w. ap (for_of_form us) (begins_at t.for_ofs.items u.for_ofs.items n e w.for_ofs h) ∙ ap (forms.EnterForOf e.node) (k us g); source = refl; inner = refl; turns = λ l. absurd cc; place = tt }
+for_of_known ts t n e b h k =
+    record {
+      is = λ us u g w. ap (for_of_form us) (begins_at t.for_ofs.items u.for_ofs.items n e w.for_ofs h)
+          ∙ ap (forms.EnterForOf e.node) (k us g);
+      source = refl;
+      inner = refl;
+      turns = λ l. absurd cc;
+      place = tt;
+    }
 
 pub block_known : (ts : List (List ℕ)) (t : NodeTable) (n : ℕ) (ss : List Slot) (bs : List Binding)
     → slice_get t.blocks.items n ≡ Some ss
     → AreBindings ts ss bs
     → HasForm ts t ops.Block n (forms.Block bs)
 unfolding form_of
-block_known ts t n ss bs h k = record { is = λ us u g w. ap (block_form us) (begins_at t.blocks.items u.blocks.items n ss w.blocks h) ∙ ap forms.Block (k us g); source = refl; inner = refl; turns = λ l. absurd cc; place = tt }
+block_known ts t n ss bs h k =
+    record {
+      is = λ us u g w. ap (block_form us) (begins_at t.blocks.items u.blocks.items n ss w.blocks h)
+          ∙ ap forms.Block (k us g);
+      source = refl;
+      inner = refl;
+      turns = λ l. absurd cc;
+      place = tt;
+    }
 
 pub function_known : (ts : List (List ℕ)) (t : NodeTable) (n : ℕ) (e : FunctionEntry) (f : FunctionForm)
     → slice_get t.functions.items n ≡ Some e
@@ -287,7 +345,16 @@ pub function_known : (ts : List (List ℕ)) (t : NodeTable) (n : ℕ) (e : Funct
     → e.at ≡ length t.nodes.items
     → HasForm ts t ops.Function n (forms.Function f)
 unfolding form_of
-function_known ts t n e f h k a = record { is = λ us u g w. ap (function_form us) (begins_at t.functions.items u.functions.items n e w.functions h) ∙ ap forms.Function (k us g); source = refl; inner = refl; turns = λ l. absurd cc; place = subst (IsEntryAt (length t.nodes.items)) (sym h) a }
+function_known ts t n e f h k a =
+    record {
+      is = λ us u g w. ap (function_form us) (begins_at t.functions.items u.functions.items n e w.functions h)
+          ∙ ap forms.Function (k us g);
+      source = refl;
+      inner = refl;
+      turns = λ l. absurd cc;
+      place = subst
+          (IsEntryAt (length t.nodes.items)) (sym h) a;
+    }
 
 pub method_known : (ts : List (List ℕ)) (t : NodeTable) (n : ℕ) (e : FunctionEntry) (f : FunctionForm)
     → slice_get t.functions.items n ≡ Some e
@@ -295,7 +362,16 @@ pub method_known : (ts : List (List ℕ)) (t : NodeTable) (n : ℕ) (e : Functio
     → e.at ≡ length t.nodes.items
     → HasForm ts t ops.Method n (forms.Method f)
 unfolding form_of
-method_known ts t n e f h k a = record { is = λ us u g w. ap (method_form us) (begins_at t.functions.items u.functions.items n e w.functions h) ∙ ap forms.Method (k us g); source = refl; inner = refl; turns = λ l. absurd cc; place = subst (IsEntryAt (length t.nodes.items)) (sym h) a }
+method_known ts t n e f h k a =
+    record {
+      is = λ us u g w. ap (method_form us) (begins_at t.functions.items u.functions.items n e w.functions h)
+          ∙ ap forms.Method (k us g);
+      source = refl;
+      inner = refl;
+      turns = λ l. absurd cc;
+      place = subst
+          (IsEntryAt (length t.nodes.items)) (sym h) a;
+    }
 
 get_map : {X Y : Type 0} (f : X → Y) (xs : List X) (i : ℕ) (x : X)
     → slice_get xs i ≡ Some x
@@ -309,33 +385,77 @@ pub object_known : (ts : List (List ℕ)) (t : NodeTable) (n : ℕ) (es : Vec Me
     → AreMembers ts es.items ms
     → HasForm ts t ops.Object n (forms.Object ms)
 unfolding form_of
-object_known ts t n es ms h k = record { is = λ us u g w. ap (object_form us) (get_map (λ (v : Vec MemberEntry). v.items) u.objects.items n es (begins_at t.objects.items u.objects.items n es w.objects h)) ∙ ap forms.Object (k us g); source = refl; inner = refl; turns = λ l. absurd cc; place = tt }
+object_known ts t n es ms h k =
+    record {
+      is = λ us u g w. ap (object_form us)
+          (get_map (λ (v : Vec MemberEntry). v.items) u.objects.items n es
+          (begins_at t.objects.items u.objects.items n es w.objects h))
+          ∙ ap forms.Object (k us g);
+      source = refl;
+      inner = refl;
+      turns = λ l. absurd cc;
+      place = tt;
+    }
 
 pub call_known : (ts : List (List ℕ)) (t : NodeTable) (n : ℕ) (e : CallEntry)
     → slice_get t.calls.items n ≡ Some e
     → HasForm ts t ops.Call n (forms.Call e.place e.statement)
 unfolding form_of
-call_known ts t n e h = record { is = λ us u g w. ap call_form (begins_at t.calls.items u.calls.items n e w.calls h); source = refl; inner = refl; turns = λ l. absurd cc; place = tt }
+call_known ts t n e h =
+    record {
+      is = λ us u g w. ap call_form
+          (begins_at t.calls.items u.calls.items n e w.calls h);
+      source = refl;
+      inner = refl;
+      turns = λ l. absurd cc;
+      place = tt;
+    }
 
 pub name_call_known : (ts : List (List ℕ)) (t : NodeTable) (n : ℕ) (e : CallEntry) (name : List ℕ)
     → slice_get t.calls.items n ≡ Some e
     → Known ts e.name.number name
     → HasForm ts t ops.CallOfName n (forms.CallOf (references.Name name) e.place e.statement)
 unfolding form_of
-name_call_known ts t n e name h k = record { is = λ us u g w. ap (name_call_form us) (begins_at t.calls.items u.calls.items n e w.calls h) ∙ ap (λ s. forms.CallOf (references.Name s) e.place e.statement) (k us g); source = refl; inner = refl; turns = λ l. absurd cc; place = tt }
+name_call_known ts t n e name h k =
+    record {
+      is = λ us u g w. ap (name_call_form us) (begins_at t.calls.items u.calls.items n e w.calls h)
+          ∙ ap (λ s. forms.CallOf (references.Name s) e.place e.statement)
+          (k us g);
+      source = refl;
+      inner = refl;
+      turns = λ l. absurd cc;
+      place = tt;
+    }
 
 pub member_call_known : (ts : List (List ℕ)) (t : NodeTable) (n : ℕ) (e : CallEntry) (name : List ℕ)
     → slice_get t.calls.items n ≡ Some e
     → Known ts e.name.number name
     → HasForm ts t ops.CallOfMember n (forms.CallOf (references.Member name) e.place e.statement)
 unfolding form_of
-member_call_known ts t n e name h k = record { is = λ us u g w. ap (member_call_form us) (begins_at t.calls.items u.calls.items n e w.calls h) ∙ ap (λ s. forms.CallOf (references.Member s) e.place e.statement) (k us g); source = refl; inner = refl; turns = λ l. absurd cc; place = tt }
+member_call_known ts t n e name h k =
+    record {
+      is = λ us u g w. ap (member_call_form us) (begins_at t.calls.items u.calls.items n e w.calls h)
+          ∙ ap (λ s. forms.CallOf (references.Member s) e.place e.statement)
+          (k us g);
+      source = refl;
+      inner = refl;
+      turns = λ l. absurd cc;
+      place = tt;
+    }
 
 pub index_call_known : (ts : List (List ℕ)) (t : NodeTable) (n : ℕ) (e : CallEntry)
     → slice_get t.calls.items n ≡ Some e
     → HasForm ts t ops.CallOfIndex n (forms.CallOf references.Index e.place e.statement)
 unfolding form_of
-index_call_known ts t n e h = record { is = λ us u g w. ap index_call_form (begins_at t.calls.items u.calls.items n e w.calls h); source = refl; inner = refl; turns = λ l. absurd cc; place = tt }
+index_call_known ts t n e h =
+    record {
+      is = λ us u g w. ap index_call_form
+          (begins_at t.calls.items u.calls.items n e w.calls h);
+      source = refl;
+      inner = refl;
+      turns = λ l. absurd cc;
+      place = tt;
+    }
 
 -- ---- equal forms
 

@@ -31,7 +31,8 @@ pub begins_more : {X : Type 0} (xs ys zs : List X) → ys ≡ xs ++ zs → Begin
 begins_more xs ys zs e = record { rest = zs; is = e }
 
 pub begins_twice : {X : Type 0} (xs ys zs : List X) → Begins xs ys → Begins ys zs → Begins xs zs
-begins_twice xs ys zs b c = record { rest = b.rest ++ c.rest; is = c.is ∙ ap (λ us. us ++ c.rest) b.is ∙ append_assoc xs b.rest c.rest }
+begins_twice xs ys zs b c =
+    record { rest = b.rest ++ c.rest; is = c.is ∙ ap (λ us. us ++ c.rest) b.is ∙ append_assoc xs b.rest c.rest }
 
 pub begins_length : {X : Type 0} (xs ys : List X) → Begins xs ys → length xs ≤ length ys
 begins_length xs ys b = omega (arith, ap length b.is, length-append xs b.rest)
@@ -70,7 +71,8 @@ pub begins_between : (xs ys : List ℕ) (from to : ℕ)
     → to ≤ length xs
     → take (to - from) (drop from ys) ≡ take (to - from) (drop from xs)
 begins_between xs ys from to b h k =
-    ap (λ zs. take (to - from) (drop from zs)) b.is ∙ ap (λ zs. take (to - from) zs) (drop-append-le from xs b.rest (omega arith))
+    ap (λ zs. take (to - from) (drop from zs)) b.is
+    ∙ ap (λ zs. take (to - from) zs) (drop-append-le from xs b.rest (omega arith))
     ∙ take-append-le (to - from) (drop from xs) b.rest (omega (arith, length-drop from xs))
 
 -- ---- tables that go on
@@ -107,13 +109,22 @@ pub keeps_same : (t : NodeTable) → Keeps t t
 keeps_same t = record { entries = extends_same t; table = λ h. h; places = λ h. h; sources = refl }
 
 pub keeps_twice : (t u v : NodeTable) → Keeps t u → Keeps u v → Keeps t v
-keeps_twice t u v g h = record { entries = extends_twice t u v g.entries h.entries; table = λ k. h.table (g.table k); places = λ k. h.places (g.places k); sources = h.sources ∙ g.sources }
+keeps_twice t u v g h =
+    record {
+      entries = extends_twice t u v g.entries h.entries;
+      table = λ k. h.table (g.table k);
+      places = λ k. h.places
+          (g.places k);
+      sources = h.sources
+          ∙ g.sources;
+    }
 
 pub grows_same : (ts : List (List ℕ)) (t : NodeTable) → Grows ts t ts t
 grows_same ts t = record { names = goes_on_same ts; table = keeps_same t }
 
 pub grows_twice : (ts us vs : List (List ℕ)) (t u v : NodeTable) → Grows ts t us u → Grows us u vs v → Grows ts t vs v
-grows_twice ts us vs t u v g h = record { names = goes-then ts us vs g.names h.names; table = keeps_twice t u v g.table h.table }
+grows_twice ts us vs t u v g h =
+    record { names = goes-then ts us vs g.names h.names; table = keeps_twice t u v g.table h.table }
 
 pub grows_then : (ts us : List (List ℕ)) (t u : NodeTable) → GoesOn ts us → Keeps t u → Grows ts t us u
 grows_then ts us t u g k = record { names = g; table = k }
@@ -125,7 +136,11 @@ node_kept : (t u : NodeTable) (n : ℕ) (o : Option Node)
     → IsNodeAt u n o
 node_kept t u n None b i = tt
 node_kept t u n (Some node) b i = record {
-  before = subst (EachBelow n) (sym (begins_between t.kids.items u.kids.items node.first node.end b (omega (arith, i.now, i.later)) i.within)) i.before;
+  before =
+      subst (EachBelow n)
+      (sym (begins_between t.kids.items u.kids.items node.first node.end b (omega (arith, i.now, i.later))
+      i.within))
+      i.before;
   now = i.now;
   later = i.later;
   within = omega (arith, i.within, begins_length t.kids.items u.kids.items b);
@@ -135,8 +150,15 @@ node_kept t u n (Some node) b i = record {
 
 pub same_nodes : (t u : NodeTable) → u.nodes ≡ t.nodes → u.kids ≡ t.kids → IsTable t → IsTable u
 same_nodes t u e k i =
-    let b : Begins t.kids.items u.kids.items = record { rest = []; is = ap (λ v. v.items) k ∙ sym (append-nil t.kids.items) } in record {
-      nodes = λ n. subst (λ (o : Option Node). IsNodeAt u n o) (ap (λ v. slice_get v.items n) (sym e)) (node_kept t u n (slice_get t.nodes.items n) b (i.nodes n));
+    let b : Begins t.kids.items u.kids.items = record {
+      rest = [];
+      is = ap (λ v. v.items) k
+          ∙ sym (append-nil t.kids.items);
+    } in
+    record {
+      nodes =
+          λ n. subst (λ (o : Option Node). IsNodeAt u n o) (ap (λ v. slice_get v.items n) (sym e))
+          (node_kept t u n (slice_get t.nodes.items n) b (i.nodes n));
     }
 
 entry_kept : (xs ys : List FunctionEntry) (i n : ℕ) (o : Option FunctionEntry)
@@ -151,8 +173,10 @@ placed_kept : (t u : NodeTable) (op : Op) (info n : ℕ)
     → Begins t.functions.items u.functions.items
     → IsPlacedAt t op info n
     → IsPlacedAt u op info n
-placed_kept t u ops.Function info n b h = entry_kept t.functions.items u.functions.items info n (slice_get t.functions.items info) refl b h
-placed_kept t u ops.Method info n b h = entry_kept t.functions.items u.functions.items info n (slice_get t.functions.items info) refl b h
+placed_kept t u ops.Function info n b h =
+    entry_kept t.functions.items u.functions.items info n (slice_get t.functions.items info) refl b h
+placed_kept t u ops.Method info n b h =
+    entry_kept t.functions.items u.functions.items info n (slice_get t.functions.items info) refl b h
 placed_kept t u _ info n b h = tt
 
 node_placed : (t u : NodeTable) (n : ℕ) (o : Option Node)
@@ -167,7 +191,11 @@ pub same_places : (t u : NodeTable)
     → Begins t.functions.items u.functions.items
     → HasPlaces t
     → HasPlaces u
-same_places t u e b h = record { nodes = λ n. subst (λ (o : Option Node). IsPlacedNode u n o) (ap (λ v. slice_get v.items n) (sym e)) (node_placed t u n (slice_get t.nodes.items n) b (h.nodes n)) }
+same_places t u e b h =
+    record {
+      nodes = λ n. subst (λ (o : Option Node). IsPlacedNode u n o) (ap (λ v. slice_get v.items n) (sym e))
+          (node_placed t u n (slice_get t.nodes.items n) b (h.nodes n));
+    }
 
 -- ---- one more node
 
@@ -237,7 +265,10 @@ below_more m n (k ∷ ks) h b = (omega (arith, b.0), below_more m n ks h b.1)
 length_both : (t u : NodeTable) (op : Op) (info n : ℕ) (now later : List ℕ)
     → IsNodeAdded t u op info now later n
     → length u.kids.items ≡ length t.kids.items + length now + length later
-length_both t u op info n now later a = ap length a.kids ∙ length-append (t.kids.items ++ now) later ∙ ap (λ k. k + length later) (length-append t.kids.items now)
+length_both t u op info n now later a =
+    ap length a.kids
+    ∙ length-append (t.kids.items ++ now) later
+    ∙ ap (λ k. k + length later) (length-append t.kids.items now)
 
 node_new : (t u : NodeTable) (op : Op) (info n : ℕ) (now later : List ℕ)
     → IsNodeAdded t u op info now later n
@@ -247,7 +278,11 @@ node_new : (t u : NodeTable) (op : Op) (info n : ℕ) (now later : List ℕ)
     → (is_loop op ≡ true → info ≡ 0)
     → IsNode u (length t.nodes.items) (node_behind t.kids.items op info now later)
 node_new t u op info n now later a b c s l = record {
-  before = subst (EachBelow (length t.nodes.items)) (sym (all_behind t.kids.items now later u.kids.items (length t.kids.items) (length t.kids.items + length now + length later) a.kids refl refl)) (below_both (length t.nodes.items) now later b c);
+  before =
+      subst (EachBelow (length t.nodes.items))
+      (sym (all_behind t.kids.items now later u.kids.items (length t.kids.items)
+      (length t.kids.items + length now + length later) a.kids refl refl))
+      (below_both (length t.nodes.items) now later b c);
   now = omega arith;
   later = omega arith;
   within = omega (arith, length_both t u op info n now later a);
@@ -259,7 +294,9 @@ cases : (i n : ℕ) → (i < n) ⊎ ((i ≡ n) ⊎ (n < i))
 cases zero zero = inr (inl refl)
 cases zero (suc n) = inl (omega arith)
 cases (suc i) zero = inr (inr (omega arith))
-cases (suc i) (suc n) = elim (cases i n) [ inl h ↦ inl (omega arith) | inr (inl e) ↦ inr (inl (ap suc e)) | inr (inr h) ↦ inr (inr (omega arith)) ]
+cases (suc i) (suc n) =
+    elim (cases i n)
+    [ inl h ↦ inl (omega arith) | inr (inl e) ↦ inr (inl (ap suc e)) | inr (inr h) ↦ inr (inr (omega arith)) ]
 
 nodes_more : (t u : NodeTable) (node : Node)
     → IsTable t
@@ -270,10 +307,14 @@ nodes_more : (t u : NodeTable) (node : Node)
     → (k < length t.nodes.items) ⊎ ((k ≡ length t.nodes.items) ⊎ (length t.nodes.items < k))
     → IsNodeAt u k (slice_get u.nodes.items k)
 nodes_more t u node i b e new k (inl h) =
-    subst (λ (o : Option Node). IsNodeAt u k o) (sym (ap (λ ns. slice_get ns k) e ∙ front t.nodes.items (node ∷ []) k h)) (node_kept t u k (slice_get t.nodes.items k) b (i.nodes k))
+    subst (λ (o : Option Node). IsNodeAt u k o)
+    (sym (ap (λ ns. slice_get ns k) e ∙ front t.nodes.items (node ∷ []) k h))
+    (node_kept t u k (slice_get t.nodes.items k) b (i.nodes k))
 nodes_more t u node i b e new k (inr (inl h)) =
     let P : ℕ → Type 0 = λ j. IsNodeAt u j (slice_get u.nodes.items j) in
-    subst P (sym h) (subst (λ (o : Option Node). IsNodeAt u (length t.nodes.items) o) (sym (ap (λ ns. slice_get ns (length t.nodes.items)) e ∙ last_of t.nodes.items node)) new)
+    subst P (sym h)
+    (subst (λ (o : Option Node). IsNodeAt u (length t.nodes.items) o)
+    (sym (ap (λ ns. slice_get ns (length t.nodes.items)) e ∙ last_of t.nodes.items node)) new)
 nodes_more t u node i b e new k (inr (inr h)) =
     subst (λ (o : Option Node). IsNodeAt u k o) (sym (ap (λ ns. slice_get ns k) e ∙ past t.nodes.items node k h)) tt
 
@@ -286,10 +327,15 @@ places_more : (t u : NodeTable) (node : Node)
     → (k < length t.nodes.items) ⊎ ((k ≡ length t.nodes.items) ⊎ (length t.nodes.items < k))
     → IsPlacedNode u k (slice_get u.nodes.items k)
 places_more t u node h b e p k (inl l) =
-    subst (λ (o : Option Node). IsPlacedNode u k o) (sym (ap (λ ns. slice_get ns k) e ∙ front t.nodes.items (node ∷ []) k l)) (node_placed t u k (slice_get t.nodes.items k) b (h.nodes k))
+    subst (λ (o : Option Node). IsPlacedNode u k o)
+    (sym (ap (λ ns. slice_get ns k) e ∙ front t.nodes.items (node ∷ []) k l))
+    (node_placed t u k (slice_get t.nodes.items k) b (h.nodes k))
 places_more t u node h b e p k (inr (inl l)) =
     let P : ℕ → Type 0 = λ j. IsPlacedNode u j (slice_get u.nodes.items j) in
-    subst P (sym l) (subst (λ (o : Option Node). IsPlacedNode u (length t.nodes.items) o) (sym (ap (λ ns. slice_get ns (length t.nodes.items)) e ∙ last_of t.nodes.items node)) (placed_kept t u node.op node.info (length t.nodes.items) b p))
+    subst P (sym l)
+    (subst (λ (o : Option Node). IsPlacedNode u (length t.nodes.items) o)
+    (sym (ap (λ ns. slice_get ns (length t.nodes.items)) e ∙ last_of t.nodes.items node))
+    (placed_kept t u node.op node.info (length t.nodes.items) b p))
 places_more t u node h b e p k (inr (inr l)) =
     subst (λ (o : Option Node). IsPlacedNode u k o) (sym (ap (λ ns. slice_get ns k) e ∙ past t.nodes.items node k l)) tt
 
@@ -304,40 +350,62 @@ pub node_keeps : (t u : NodeTable) (op : Op) (info n : ℕ) (now later : List �
 node_keeps t u op info n now later a b c s l p =
     let g = node_extends t u op info n now later a in record {
       entries = g;
-      table = λ i. record { nodes = λ k. nodes_more t u (node_behind t.kids.items op info now later) i g.kids a.nodes (node_new t u op info n now later a b c s l) k (cases k (length t.nodes.items)) };
-      places = λ h. record { nodes = λ k. places_more t u (node_behind t.kids.items op info now later) h g.functions a.nodes p k (cases k (length t.nodes.items)) };
+      table =
+          λ i. record {
+            nodes = λ k. nodes_more t u (node_behind t.kids.items op info now later) i g.kids a.nodes
+                (node_new t u op info n now later a b c s l) k (cases k (length t.nodes.items));
+          };
+      places =
+          λ h. record {
+            nodes = λ k. places_more t u (node_behind t.kids.items op info now later)
+                h g.functions a.nodes p k (cases k (length t.nodes.items));
+          };
       sources = a.sources;
     }
 
 node_below : (t u : NodeTable) (op : Op) (info n : ℕ) (now later : List ℕ)
     → IsNodeAdded t u op info now later n
     → n < length u.nodes.items
-node_below t u op info n now later a = omega (arith, a.number, ap length a.nodes, length-append t.nodes.items (node_behind t.kids.items op info now later ∷ []))
+node_below t u op info n now later a =
+    omega (
+      arith,
+      a.number,
+      ap length a.nodes,
+      length-append t.nodes.items (node_behind t.kids.items op info now later ∷ []),
+    )
 
 node_later : (t u v : NodeTable) (op : Op) (info n : ℕ) (now later : List ℕ)
     → IsNodeAdded t u op info now later n
     → Extends u v
     → slice_get v.nodes.items n ≡ Some (node_behind t.kids.items op info now later)
-node_later t u v op info n now later a g = begins_at u.nodes.items v.nodes.items n (node_behind t.kids.items op info now later) g.nodes (added_at t.nodes.items u.nodes.items (node_behind t.kids.items op info now later) n a.nodes a.number)
+node_later t u v op info n now later a g =
+    begins_at u.nodes.items v.nodes.items n (node_behind t.kids.items op info now later) g.nodes
+    (added_at t.nodes.items u.nodes.items (node_behind t.kids.items op info now later) n a.nodes a.number)
 
 now_later : (t u v : NodeTable) (op : Op) (info n : ℕ) (now later : List ℕ)
     → IsNodeAdded t u op info now later n
     → Extends u v
     → kids_between v (length t.kids.items) (length t.kids.items + length now) ≡ now
 now_later t u v op info n now later a g =
-    begins_between u.kids.items v.kids.items (length t.kids.items) (length t.kids.items + length now) g.kids (omega arith) (omega (arith, length_both t u op info n now later a))
-    ∙ now_behind t.kids.items now later u.kids.items (length t.kids.items) (length t.kids.items + length now) a.kids refl refl
+    begins_between u.kids.items v.kids.items (length t.kids.items) (length t.kids.items + length now) g.kids
+    (omega arith) (omega (arith, length_both t u op info n now later a))
+    ∙ now_behind t.kids.items now later u.kids.items (length t.kids.items) (length t.kids.items + length now)
+    a.kids refl refl
 
 later_later : (t u v : NodeTable) (op : Op) (info n : ℕ) (now later : List ℕ)
     → IsNodeAdded t u op info now later n
     → Extends u v
     → kids_between v (length t.kids.items + length now) (length t.kids.items + length now + length later) ≡ later
 later_later t u v op info n now later a g =
-    begins_between u.kids.items v.kids.items (length t.kids.items + length now) (length t.kids.items + length now + length later) g.kids (omega arith) (omega (arith, length_both t u op info n now later a))
-    ∙ later_behind t.kids.items now later u.kids.items (length t.kids.items + length now) (length t.kids.items + length now + length later) a.kids refl refl
+    begins_between u.kids.items v.kids.items (length t.kids.items + length now)
+    (length t.kids.items + length now + length later) g.kids (omega arith)
+    (omega (arith, length_both t u op info n now later a))
+    ∙ later_behind t.kids.items now later u.kids.items (length t.kids.items + length now)
+    (length t.kids.items + length now + length later) a.kids refl refl
 
 -- a form over parts
-inner_tree : (ts us : List (List ℕ)) (t u v : NodeTable) (op : Op) (info n : ℕ) (now later : List ℕ) (f : Form) (xs ys : Terms)
+inner_tree : (ts us : List (List ℕ)) (t u v : NodeTable) (op : Op) (info n : ℕ) (now later : List ℕ) (f : Form)
+    (xs ys : Terms)
     → IsNodeAdded t u op info now later n
     → HasForm ts t op info f
     → HaveTrees ts t now xs
@@ -356,12 +424,16 @@ inner_tree ts us t u v op info n now later f xs ys a h x y (suc fuel) l g e =
     let last = length t.kids.items + length now + length later in
     let k : length t.nodes.items ≤ fuel = omega (arith, a.number) in
     ap (node_term us v at) (node_later t u v op info n now later a e)
-    ∙ ap (λ b. if b then done (constant_at v info) else part (form_of us v op info) (terms at (kids_between v first mid)) (terms at (kids_between v mid last))) h.inner
+    ∙ ap (λ b. if b then done (constant_at v info) else part (form_of us v op info)
+    (terms at (kids_between v first mid)) (terms at (kids_between v mid last)))
+    h.inner
     ∙ ap (λ q. part q (terms at (kids_between v first mid)) (terms at (kids_between v mid last))) (h.is us v g w)
-    ∙ ap (λ q. part f q (terms at (kids_between v mid last))) (ap (terms at) (now_later t u v op info n now later a e) ∙ x.are us v fuel k g w)
+    ∙ ap (λ q. part f q (terms at (kids_between v mid last)))
+    (ap (terms at) (now_later t u v op info n now later a e) ∙ x.are us v fuel k g w)
     ∙ ap (λ q. part f xs q) (ap (terms at) (later_later t u v op info n now later a e) ∙ y.are us v fuel k g w)
 
-pub node_tree : (ts : List (List ℕ)) (t u : NodeTable) (op : Op) (info n : ℕ) (now later : List ℕ) (f : Form) (xs ys : Terms)
+pub node_tree : (ts : List (List ℕ)) (t u : NodeTable) (op : Op) (info n : ℕ) (now later : List ℕ) (f : Form)
+    (xs ys : Terms)
     → IsNodeAdded t u op info now later n
     → HasForm ts t op info f
     → HaveTrees ts t now xs
@@ -434,5 +506,6 @@ pub trees_more : (ts : List (List ℕ)) (t : NodeTable) (ns ms : List ℕ) (xs :
 trees_more ts t ns ms xs n x h k e = record {
   below = subst (EachBelow (length t.nodes.items)) (sym e) (below_push (length t.nodes.items) n ns h.below k.below);
   are = λ us u fuel l g w. ap (terms (tree_within us u fuel)) e ∙ terms_push (tree_within us u fuel) ns n
-      ∙ ap (λ q. joined q (one (tree_within us u fuel n))) (h.are us u fuel l g w) ∙ ap (λ q. joined xs (one q)) (k.is us u fuel (omega (arith, k.below)) g w);
+      ∙ ap (λ q. joined q (one (tree_within us u fuel n))) (h.are us u fuel l g w)
+      ∙ ap (λ q. joined xs (one q)) (k.is us u fuel (omega (arith, k.below)) g w);
 }

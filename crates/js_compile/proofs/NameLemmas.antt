@@ -34,7 +34,10 @@ bindings_more : (ts us : List (List ℕ)) (ss : List Slot) (s : Slot) (bs : List
     → GoesOn ts us
     → IsBinding us s b
     → AreBindings us (ss ++ s ∷ []) (bs ++ b ∷ [])
-bindings_more ts us ss s bs b h g k vs l = bindings-append vs ss (s ∷ []) ∙ ap (λ xs. xs ++ binding_at vs s ∷ []) (h vs (goes-then ts us vs g l)) ∙ ap (λ x. bs ++ x ∷ []) (k vs l)
+bindings_more ts us ss s bs b h g k vs l =
+    bindings-append vs ss (s ∷ [])
+    ∙ ap (λ xs. xs ++ binding_at vs s ∷ []) (h vs (goes-then ts us vs g l))
+    ∙ ap (λ x. bs ++ x ∷ []) (k vs l)
 
 pub bindings_step : (ts us : List (List ℕ)) (ss rs : List Slot) (s : Slot) (items : List Binding) (i : ℕ) (b : Binding)
     → AreBindings ts ss (take i items)
@@ -62,7 +65,10 @@ pub texts_step : (ts us : List (List ℕ)) (ns rs : List NameId) (n : NameId) (i
     → x ≡ get_or items i x
     → AreTexts us rs (take (i + 1) items)
 texts_step ts us ns rs n items i x h g k e l is vs m =
-    ap (texts_of vs) e ∙ texts_append vs ns n ∙ ap (λ xs. xs ++ name_of vs n.number ∷ []) (h vs (goes-then ts us vs g m)) ∙ ap (λ y. take i items ++ y ∷ []) (k vs m)
+    ap (texts_of vs) e
+    ∙ texts_append vs ns n
+    ∙ ap (λ xs. xs ++ name_of vs n.number ∷ []) (h vs (goes-then ts us vs g m))
+    ∙ ap (λ y. take i items ++ y ∷ []) (k vs m)
     ∙ ap (λ y. take i items ++ y ∷ []) is ∙ sym (take_more items i x l)
 
 members_append : (ts : List (List ℕ)) (es : List MemberEntry) (e : MemberEntry)
@@ -70,7 +76,8 @@ members_append : (ts : List (List ℕ)) (es : List MemberEntry) (e : MemberEntry
 members_append ts [] e = refl
 members_append ts (d ∷ es) e = ap (λ xs. member_of ts d ∷ xs) (members_append ts es e)
 
-pub members_step : (ts us : List (List ℕ)) (es rs : List MemberEntry) (n : MemberEntry) (items : List Member) (i : ℕ) (x : Member)
+pub members_step : (ts us : List (List ℕ)) (es rs : List MemberEntry) (n : MemberEntry) (items : List Member) (i : ℕ)
+    (x : Member)
     → AreMembers ts es (take i items)
     → GoesOn ts us
     → IsMember us n x
@@ -79,5 +86,8 @@ pub members_step : (ts us : List (List ℕ)) (es rs : List MemberEntry) (n : Mem
     → x ≡ get_or items i x
     → AreMembers us rs (take (i + 1) items)
 members_step ts us es rs n items i x h g k e l is vs m =
-    ap (members_of vs) e ∙ members_append vs es n ∙ ap (λ xs. xs ++ member_of vs n ∷ []) (h vs (goes-then ts us vs g m)) ∙ ap (λ y. take i items ++ y ∷ []) (k vs m)
+    ap (members_of vs) e
+    ∙ members_append vs es n
+    ∙ ap (λ xs. xs ++ member_of vs n ∷ []) (h vs (goes-then ts us vs g m))
+    ∙ ap (λ y. take i items ++ y ∷ []) (k vs m)
     ∙ ap (λ y. take i items ++ y ∷ []) is ∙ sym (take_more items i x l)

@@ -15,6 +15,10 @@ pub number_set : (xs : List ℕ) (i x n : ℕ)
     → number_at (slice_set xs i n) x ≡ (if nat_eq i x then n else number_at xs x)
 number_set [] i x n h = absurd (omega arith)
 number_set (y ∷ xs) zero zero n h = refl
-number_set (y ∷ xs) zero (suc x) n h = let e : false ≡ nat_eq 0 (suc x) = grind arith in number_if false (nat_eq 0 (suc x)) n (number_at xs x) e
-number_set (y ∷ xs) (suc i) zero n h = let e : false ≡ nat_eq (suc i) 0 = grind arith in number_if false (nat_eq (suc i) 0) n y e
-number_set (y ∷ xs) (suc i) (suc x) n h = number_set xs i x n (omega arith) ∙ number_if (nat_eq i x) (nat_eq (suc i) (suc x)) n (number_at xs x) (eq_suc i x (nat_eq i x) refl)
+number_set (y ∷ xs) zero (suc x) n h =
+    let e : false ≡ nat_eq 0 (suc x) = grind arith in number_if false (nat_eq 0 (suc x)) n (number_at xs x) e
+number_set (y ∷ xs) (suc i) zero n h =
+    let e : false ≡ nat_eq (suc i) 0 = grind arith in number_if false (nat_eq (suc i) 0) n y e
+number_set (y ∷ xs) (suc i) (suc x) n h =
+    number_set xs i x n (omega arith)
+    ∙ number_if (nat_eq i x) (nat_eq (suc i) (suc x)) n (number_at xs x) (eq_suc i x (nat_eq i x) refl)

@@ -40,15 +40,25 @@ same_node : (ts : List (List ℕ)) (t : NodeTable) (es : Vec SourceEntry) (a b :
     → node_term ts (with_sources t es) a o ≡ node_term ts t b o
 same_node ts t es a b None h = refl
 same_node ts t es a b (Some node) h =
-    ap (λ v. if is_literal node.op then done v else part (form_of ts (with_sources t es) node.op node.info) (terms a (kids_between t node.first node.mid)) (terms a (kids_between t node.mid node.end))) (same_constant t es node.info)
-    ∙ ap (λ f. if is_literal node.op then done (constant_at t node.info) else part f (terms a (kids_between t node.first node.mid)) (terms a (kids_between t node.mid node.end))) (same_form ts t es node.op node.info)
-    ∙ ap (λ us. if is_literal node.op then done (constant_at t node.info) else part (form_of ts t node.op node.info) us (terms a (kids_between t node.mid node.end))) (same_terms a b h (kids_between t node.first node.mid))
-    ∙ ap (λ us. if is_literal node.op then done (constant_at t node.info) else part (form_of ts t node.op node.info) (terms b (kids_between t node.first node.mid)) us) (same_terms a b h (kids_between t node.mid node.end))
+    ap (λ v. if is_literal node.op then done v else part (form_of ts (with_sources t es) node.op node.info)
+    (terms a (kids_between t node.first node.mid)) (terms a (kids_between t node.mid node.end)))
+    (same_constant t es node.info)
+    ∙ ap (λ f. if is_literal node.op then done (constant_at t node.info) else part f
+    (terms a (kids_between t node.first node.mid)) (terms a (kids_between t node.mid node.end)))
+    (same_form ts t es node.op node.info)
+    ∙ ap (λ us. if is_literal node.op then done (constant_at t node.info) else part (form_of ts t node.op node.info) us
+    (terms a (kids_between t node.mid node.end)))
+    (same_terms a b h (kids_between t node.first node.mid))
+    ∙ ap (λ us. if is_literal node.op then done (constant_at t node.info) else part (form_of ts t node.op node.info)
+    (terms b (kids_between t node.first node.mid)) us)
+    (same_terms a b h (kids_between t node.mid node.end))
 
 same_within : (ts : List (List ℕ)) (t : NodeTable) (es : Vec SourceEntry) (fuel n : ℕ)
     → tree_within ts (with_sources t es) fuel n ≡ tree_within ts t fuel n
 same_within ts t es zero n = refl
-same_within ts t es (suc fuel) n = same_node ts t es (tree_within ts (with_sources t es) fuel) (tree_within ts t fuel) (slice_get t.nodes.items n) (same_within ts t es fuel)
+same_within ts t es (suc fuel) n =
+    same_node ts t es (tree_within ts (with_sources t es) fuel) (tree_within ts t fuel) (slice_get t.nodes.items n)
+    (same_within ts t es fuel)
 
 same_tree : (ts : List (List ℕ)) (t : NodeTable) (es : Vec SourceEntry) (n : ℕ)
     → tree ts (with_sources t es) n ≡ tree ts t n
@@ -57,7 +67,8 @@ same_tree ts t es n = same_within ts t es (suc n) n
 
 same_trees : (ts : List (List ℕ)) (t : NodeTable) (es : Vec SourceEntry) (from to : ℕ)
     → trees ts (with_sources t es) from to ≡ trees ts t from to
-same_trees ts t es from to = same_terms (tree ts (with_sources t es)) (tree ts t) (same_tree ts t es) (kids_between t from to)
+same_trees ts t es from to =
+    same_terms (tree ts (with_sources t es)) (tree ts t) (same_tree ts t es) (kids_between t from to)
 
 same_code : (ts : List (List ℕ)) (t : NodeTable) (es : Vec SourceEntry) (f : FunctionEntry) (o : Option Node)
     → code_of_node ts (with_sources t es) f o ≡ code_of_node ts t f o
@@ -87,7 +98,8 @@ indexed_push t (d ∷ ss) [] s e h k = absurd h
 indexed_push t (d ∷ ss) (f ∷ es) s e h k = (h.0, indexed_push t ss es s e h.1 k)
 
 -- one more source
-pub indexed_more : (t : NodeTable) (all sources : List SourceEntry) (i : ℕ) (s e : SourceEntry) (old new : List SourceEntry)
+pub indexed_more : (t : NodeTable) (all sources : List SourceEntry) (i : ℕ) (s e : SourceEntry)
+    (old new : List SourceEntry)
     → sources ≡ all
     → AreIndexed t (take i all) old
     → IsIndexed t s e
@@ -96,9 +108,14 @@ pub indexed_more : (t : NodeTable) (all sources : List SourceEntry) (i : ℕ) (s
     → new ≡ old ++ e ∷ []
     → AreIndexed t (take (i + 1) all) new
 indexed_more t all sources i s e old new same h k is l n =
-    let q : take (i + 1) sources ≡ take i sources ++ s ∷ [] = take_more sources i s l ∙ ap (λ y. take i sources ++ y ∷ []) (sym is) in
-    let r : take (i + 1) all ≡ take i all ++ s ∷ [] = ap (take (i + 1)) (sym same) ∙ q ∙ ap (λ ss. take i ss ++ s ∷ []) same in
-    subst (λ (ss : List SourceEntry). AreIndexed t ss new) (sym r) (subst (λ (es : List SourceEntry). AreIndexed t (take i all ++ s ∷ []) es) (sym n) (indexed_push t (take i all) old s e h k))
+    let q : take (i + 1) sources ≡ take i sources ++ s ∷ [] = take_more sources i s l
+    ∙ ap (λ y. take i sources ++ y ∷ []) (sym is) in
+    let r : take (i + 1) all ≡ take i all ++ s ∷ [] = ap (take (i + 1)) (sym same)
+    ∙ q
+    ∙ ap (λ ss. take i ss ++ s ∷ []) same in
+    subst (λ (ss : List SourceEntry). AreIndexed t ss new) (sym r)
+    (subst (λ (es : List SourceEntry). AreIndexed t (take i all ++ s ∷ []) es) (sym n)
+    (indexed_push t (take i all) old s e h k))
 
 -- ---- all of them
 
@@ -110,9 +127,14 @@ program_same ts t us [] (e ∷ es) h = absurd h
 program_same ts t us (s ∷ ss) [] h = absurd h
 program_same ts t us (s ∷ ss) (e ∷ es) h =
     let k : IsIndexed t s e = h.0 in
-    ap (λ x. let r : SourceTree = record { source = e.source; tree = x } in r ∷ source_trees ts (with_sources t us) es) (same_tree ts t us e.root)
-    ∙ ap (λ x. let r : SourceTree = record { source = x; tree = tree ts t e.root } in r ∷ source_trees ts (with_sources t us) es) k.source
-    ∙ ap (λ x. let r : SourceTree = record { source = s.source; tree = tree ts t x } in r ∷ source_trees ts (with_sources t us) es) k.root
+    ap (λ x. let r : SourceTree = record { source = e.source; tree = x } in r ∷ source_trees ts (with_sources t us) es)
+    (same_tree ts t us e.root)
+    ∙ ap (λ x. let r : SourceTree = record { source = x; tree = tree ts t e.root } in
+    r ∷ source_trees ts (with_sources t us) es)
+    k.source
+    ∙ ap (λ x. let r : SourceTree = record { source = s.source; tree = tree ts t x } in
+    r ∷ source_trees ts (with_sources t us) es)
+    k.root
     ∙ ap (λ ps. source_tree ts t s ∷ ps) (program_same ts t us ss es h.1)
 
 found_same : (t : NodeTable) (us : Vec SourceEntry) (ss es : List SourceEntry)
@@ -127,7 +149,9 @@ found_same t us (s ∷ ss) [] h ts i e g x = absurd h
 found_same t us (s ∷ ss) (f ∷ es) h ts zero e g x =
     let k : IsIndexed t s f = h.0 in
     let q : f ≡ e = cc in
-    ap (function_in x) (same_tree ts t us e.root) ∙ subst (λ (y : SourceEntry). function_in x (tree ts t y.root) ≡ indexed_code ts t y x) q (k.finds ts x) ∙ sym (same_number ts t us (slice_get e.functions.items x))
+    ap (function_in x) (same_tree ts t us e.root)
+    ∙ subst (λ (y : SourceEntry). function_in x (tree ts t y.root) ≡ indexed_code ts t y x) q (k.finds ts x)
+    ∙ sym (same_number ts t us (slice_get e.functions.items x))
 found_same t us (s ∷ ss) (f ∷ es) h ts (suc i) e g x = found_same t us ss es h.1 ts i e g x
 
 indexed_compiled : (ts : List (List ℕ)) (xs : Terms) (t : NodeTable) (es : Vec SourceEntry) (root : ℕ)
@@ -149,4 +173,6 @@ pub code_compiled : (ts : List (List ℕ)) (xs : Terms) (c d : ScriptCode) (o : 
     → IsCompiled ts xs d.table d.root
 code_compiled ts xs c d o e h k =
     let n : HaveNodes ts xs (Some c) = subst (λ (p : Option ScriptCode). HaveNodes ts xs p) e h in
-    subst (λ (r : ℕ). IsCompiled ts xs d.table r) (sym k.root) (subst (λ (t : NodeTable). IsCompiled ts xs t c.root) (sym k.others) (indexed_compiled ts xs c.table d.table.sources c.root n k.sources))
+    subst (λ (r : ℕ). IsCompiled ts xs d.table r) (sym k.root)
+    (subst (λ (t : NodeTable). IsCompiled ts xs t c.root) (sym k.others)
+    (indexed_compiled ts xs c.table d.table.sources c.root n k.sources))

@@ -45,7 +45,8 @@ literal_trees (Ok n) u v info none x c a = λ ts. literal_node ts u v info n non
 
 -- ---- forms over parts
 
-pub part_grows : (ts us : List (List ℕ)) (t u v : NodeTable) (o : Option Entry) (e : Entry) (n : ℕ) (now later : List ℕ) (f : Form)
+pub part_grows : (ts us : List (List ℕ)) (t u v : NodeTable) (o : Option Entry) (e : Entry) (n : ℕ) (now later : List ℕ)
+    (f : Form)
     → Grows ts t us u
     → Enters us u f o
     → o ≡ Some e
@@ -58,10 +59,15 @@ part_grows ts us t u v o e n now later f g h s a b c =
     let m = begins_length t.nodes.items u.nodes.items g.table.entries.nodes in
     record {
       names = g.names;
-      table = keeps_twice t u v g.table (node_keeps u v e.op e.info n now later a (below_more (length t.nodes.items) (length u.nodes.items) now m b) (below_more (length t.nodes.items) (length u.nodes.items) later m c) k.source k.turns k.place);
+      table =
+          keeps_twice t u v g.table
+          (node_keeps u v e.op e.info n now later a
+          (below_more (length t.nodes.items) (length u.nodes.items) now m b)
+          (below_more (length t.nodes.items) (length u.nodes.items) later m c) k.source k.turns k.place);
     }
 
-pub part_tree : (ts us : List (List ℕ)) (t u v : NodeTable) (o : Option Entry) (e : Entry) (n : ℕ) (now later : List ℕ) (f : Form)
+pub part_tree : (ts us : List (List ℕ)) (t u v : NodeTable) (o : Option Entry) (e : Entry) (n : ℕ) (now later : List ℕ)
+    (f : Form)
     → Grows ts t us u
     → Enters us u f o
     → o ≡ Some e
@@ -72,7 +78,8 @@ pub part_tree : (ts us : List (List ℕ)) (t u v : NodeTable) (o : Option Entry)
     → HasTree us v n (semantics.part f xs ys)
 part_tree ts us t u v o e n now later f g h s a xs ys x y =
     let k : Enters us u f (Some e) = subst (λ (x : Option Entry). Enters us u f x) s h in
-    node_tree us u v e.op e.info n now later f xs ys a k (trees_stay ts us t u now xs g x) (trees_stay ts us t u later ys g y)
+    node_tree us u v e.op e.info n now later f xs ys a k (trees_stay ts us t u now xs g x)
+    (trees_stay ts us t u later ys g y)
 
 -- ---- terms
 
@@ -98,7 +105,9 @@ pub now_none : (ts : List (List ℕ)) (t : NodeTable) (o : Option (Vec ℕ)) (x 
     → HoldsAll ts t (terms_view now) o
     → is_plain (term_view x) ≡ false
 now_none ts t o x f now later e n h =
-    ap is_plain (ap term_view e ∙ view_part f now later) ∙ ap (λ b. is_plain_form f.value && (b && are_plain (terms_view later))) (parts_none ts t o (terms_view now) n h) ∙ and_right (is_plain_form f.value) false refl
+    ap is_plain (ap term_view e ∙ view_part f now later)
+    ∙ ap (λ b. is_plain_form f.value && (b && are_plain (terms_view later))) (parts_none ts t o (terms_view now) n h)
+    ∙ and_right (is_plain_form f.value) false refl
 
 pub later_none : (ts : List (List ℕ)) (t : NodeTable) (o : Option (Vec ℕ)) (x : Term) (f : Box Form) (now later : Terms)
     → x ≡ views.Part f now later
@@ -106,31 +115,39 @@ pub later_none : (ts : List (List ℕ)) (t : NodeTable) (o : Option (Vec ℕ)) (
     → HoldsAll ts t (terms_view later) o
     → is_plain (term_view x) ≡ false
 later_none ts t o x f now later e n h =
-    ap is_plain (ap term_view e ∙ view_part f now later) ∙ ap (λ b. is_plain_form f.value && (are_plain (terms_view now) && b)) (parts_none ts t o (terms_view later) n h)
-    ∙ ap (λ b. is_plain_form f.value && b) (and_right (are_plain (terms_view now)) false refl) ∙ and_right (is_plain_form f.value) false refl
+    ap is_plain (ap term_view e ∙ view_part f now later)
+    ∙ ap (λ b. is_plain_form f.value && (are_plain (terms_view now) && b)) (parts_none ts t o (terms_view later) n h)
+    ∙ ap (λ b. is_plain_form f.value && b) (and_right (are_plain (terms_view now)) false refl)
+    ∙ and_right (is_plain_form f.value) false refl
 
 parts_some : (ts : List (List ℕ)) (t : NodeTable) (o : Option (Vec ℕ)) (ns : Vec ℕ) (xs : semantics.Terms)
     → o ≡ Some ns
     → HoldsAll ts t xs o
     → HaveTrees ts t ns.items xs
-parts_some ts t o ns xs e h = let k : HoldsAll ts t xs (Some ns) = subst (λ (p : Option (Vec ℕ)). HoldsAll ts t xs p) e h in k
+parts_some ts t o ns xs e h =
+    let k : HoldsAll ts t xs (Some ns) = subst (λ (p : Option (Vec ℕ)). HoldsAll ts t xs p) e h in k
 
-pub parts_grow : (r : Result (Option ℕ) AllocError) (ts us vs ws : List (List ℕ)) (t u v w : NodeTable) (o p : Option (Vec ℕ)) (now later : Vec ℕ) (xs ys : semantics.Terms)
+pub parts_grow : (r : Result (Option ℕ) AllocError) (ts us vs ws : List (List ℕ)) (t u v w : NodeTable)
+    (o p : Option (Vec ℕ)) (now later : Vec ℕ) (xs ys : semantics.Terms)
     → Grows ts t us u
     → Grows us u vs v
     → o ≡ Some now
     → HoldsAll us u xs o
     → p ≡ Some later
     → HoldsAll vs v ys p
-    → (EachBelow (length v.nodes.items) now.items → EachBelow (length v.nodes.items) later.items → OnOk r (Grows vs v ws w))
+    → (EachBelow (length v.nodes.items) now.items
+    → EachBelow (length v.nodes.items) later.items
+    → OnOk r (Grows vs v ws w))
     → OnOk r (Grows ts t ws w)
 parts_grow (Err e) ts us vs ws t u v w o p now later xs ys g h a x b y k = tt
 parts_grow (Ok n) ts us vs ws t u v w o p now later xs ys g h a x b y k =
     let c = parts_some us u o now xs a x in
     let d = parts_some vs v p later ys b y in
-    grows_twice ts vs ws t v w (grows_twice ts us vs t u v g h) (k (trees_stay us vs u v now.items xs h c).below d.below)
+    grows_twice ts vs ws t v w (grows_twice ts us vs t u v g h)
+    (k (trees_stay us vs u v now.items xs h c).below d.below)
 
-pub parts_tree : (r : Result (Option ℕ) AllocError) (us vs ws : List (List ℕ)) (u v w : NodeTable) (o p : Option (Vec ℕ)) (ns ms : Vec ℕ) (x : Term) (f : Box Form) (g : Form) (now later : Terms)
+pub parts_tree : (r : Result (Option ℕ) AllocError) (us vs ws : List (List ℕ)) (u v w : NodeTable)
+    (o p : Option (Vec ℕ)) (ns ms : Vec ℕ) (x : Term) (f : Box Form) (g : Form) (now later : Terms)
     → x ≡ views.Part f now later
     → g ≡ f.value
     → Grows us u vs v
@@ -138,15 +155,24 @@ pub parts_tree : (r : Result (Option ℕ) AllocError) (us vs ws : List (List ℕ
     → HoldsAll us u (terms_view now) o
     → p ≡ Some ms
     → HoldsAll vs v (terms_view later) p
-    → ((xs ys : semantics.Terms) → HaveTrees vs v ns.items xs → HaveTrees vs v ms.items ys → IfOk r (λ n. Holds ws w (semantics.part g xs ys) n))
+    → ((xs ys : semantics.Terms)
+    → HaveTrees vs v ns.items xs
+    → HaveTrees vs v ms.items ys
+    → IfOk r (λ n. Holds ws w (semantics.part g xs ys) n))
     → IfOk r (λ n. Holds ws w (term_view x) n)
 parts_tree r us vs ws u v w o p ns ms x f g now later e d h a y b z k =
-    let q : semantics.part g (terms_view now) (terms_view later) ≡ term_view x = ap (λ c. semantics.part c (terms_view now) (terms_view later)) d ∙ sym (ap term_view e ∙ view_part f now later) in
-    subst (λ (c : semantics.Term). IfOk r (λ n. Holds ws w c n)) q (k (terms_view now) (terms_view later) (trees_stay us vs u v ns.items (terms_view now) h (parts_some us u o ns (terms_view now) a y)) (parts_some vs v p ms (terms_view later) b z))
+    let q : semantics.part g (terms_view now) (terms_view later) ≡ term_view x = ap
+    (λ c. semantics.part c (terms_view now) (terms_view later)) d
+    ∙ sym (ap term_view e ∙ view_part f now later) in
+    subst (λ (c : semantics.Term). IfOk r (λ n. Holds ws w c n)) q
+    (k (terms_view now) (terms_view later)
+    (trees_stay us vs u v ns.items (terms_view now) h (parts_some us u o ns (terms_view now) a y))
+    (parts_some vs v p ms (terms_view later) b z))
 
 -- ---- terms in order
 
-pub items_go_on : (ts us : List (List ℕ)) (t u : NodeTable) (ns ms : List ℕ) (items : List Term) (i : ℕ) (x : Term) (n : ℕ) (o : Option ℕ)
+pub items_go_on : (ts us : List (List ℕ)) (t u : NodeTable) (ns ms : List ℕ) (items : List Term) (i : ℕ) (x : Term)
+    (n : ℕ) (o : Option ℕ)
     → HaveTrees ts t ns (listed_view (take i items))
     → GoesOn ts us
     → Extends t u
@@ -158,11 +184,17 @@ pub items_go_on : (ts us : List (List ℕ)) (t u : NodeTable) (ns ms : List ℕ)
     → HaveTrees us u ms (listed_view (take (i + 1) items))
 items_go_on ts us t u ns ms items i x n o h g w s k e l is =
     let j : Holds us u (term_view x) (Some n) = subst (λ (p : Option ℕ). Holds us u (term_view x) p) s k in
-    let q : listed_view (take (i + 1) items) ≡ semantics.joined (listed_view (take i items)) (semantics.one (term_view x)) =
-    ap listed_view (take_more items i x l) ∙ listed_view-append (take i items) (get_or items i x ∷ []) ∙ ap (λ y. semantics.joined (listed_view (take i items)) (semantics.one (term_view y))) (sym is) in
-    subst (HaveTrees us u ms) (sym q) (trees_more us u ns ms (listed_view (take i items)) n (term_view x) (trees_go_on ts us t u ns (listed_view (take i items)) g w h) j e)
+    let q : listed_view (take (i + 1) items) ≡ semantics.joined (listed_view (take i items))
+    (semantics.one (term_view x)) =
+    ap listed_view (take_more items i x l)
+    ∙ listed_view-append (take i items) (get_or items i x ∷ [])
+    ∙ ap (λ y. semantics.joined (listed_view (take i items)) (semantics.one (term_view y))) (sym is) in
+    subst (HaveTrees us u ms) (sym q)
+    (trees_more us u ns ms (listed_view (take i items)) n (term_view x)
+    (trees_go_on ts us t u ns (listed_view (take i items)) g w h) j e)
 
-pub items_step : (ts us : List (List ℕ)) (t u : NodeTable) (ns ms : List ℕ) (items : List Term) (i : ℕ) (x : Term) (n : ℕ) (o : Option ℕ)
+pub items_step : (ts us : List (List ℕ)) (t u : NodeTable) (ns ms : List ℕ) (items : List Term) (i : ℕ) (x : Term)
+    (n : ℕ) (o : Option ℕ)
     → HaveTrees ts t ns (listed_view (take i items))
     → Grows ts t us u
     → o ≡ Some n
@@ -171,7 +203,8 @@ pub items_step : (ts us : List (List ℕ)) (t u : NodeTable) (ns ms : List ℕ) 
     → i < length items
     → x ≡ get_or items i x
     → HaveTrees us u ms (listed_view (take (i + 1) items))
-items_step ts us t u ns ms items i x n o h g s k e l is = items_go_on ts us t u ns ms items i x n o h g.names g.table.entries s k e l is
+items_step ts us t u ns ms items i x n o h g s k e l is =
+    items_go_on ts us t u ns ms items i x n o h g.names g.table.entries s k e l is
 
 one_none : (items : List Term) (i : ℕ) (d : Term)
     → i < length items
@@ -179,7 +212,9 @@ one_none : (items : List Term) (i : ℕ) (d : Term)
     → are_plain (listed_view items) ≡ false
 one_none [] i d l h = absurd (omega arith)
 one_none (x ∷ items) zero d l h = ap (λ b. b && are_plain (listed_view items)) h
-one_none (x ∷ items) (suc i) d l h = ap (λ b. is_plain (term_view x) && b) (one_none items i d (omega arith) h) ∙ and_right (is_plain (term_view x)) false refl
+one_none (x ∷ items) (suc i) d l h =
+    ap (λ b. is_plain (term_view x) && b) (one_none items i d (omega arith) h)
+    ∙ and_right (is_plain (term_view x)) false refl
 
 pub items_none : (ts : List (List ℕ)) (t : NodeTable) (items all : List Term) (i : ℕ) (x : Term) (o : Option ℕ)
     → i < length items

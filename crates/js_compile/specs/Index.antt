@@ -44,7 +44,9 @@ code_found ts t index x = code_of_number ts t (Some (number_at index x))
 
 -- an index with the functions of a node's tree before those that it had
 abbrev pub IsFilled : NodeTable → ℕ → List ℕ → List ℕ → Type 0
-IsFilled t n old new = (ts : List (List ℕ)) (x : ℕ) → code_found ts t new x ≡ first_code (function_in x (tree ts t n)) (code_found ts t old x)
+IsFilled t n old new =
+    (ts : List (List ℕ)) (x : ℕ)
+    → code_found ts t new x ≡ first_code (function_in x (tree ts t n)) (code_found ts t old x)
 
 -- a source with its index
 pub record IsIndexed (t : NodeTable) (s e : SourceEntry) : Type 0 where

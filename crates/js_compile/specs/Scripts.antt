@@ -42,7 +42,8 @@ AddsSource t u number (Some root) = IsSourceAdded t u number root
 
 -- the sources with their trees, however names and table go on
 abbrev pub IsProgram : List (List ℕ) → NodeTable → Program → Type 0
-IsProgram ts t p = (us : List (List ℕ)) (u : NodeTable) → GoesOn ts us → Extends t u → source_trees us u t.sources.items ≡ p
+IsProgram ts t p =
+    (us : List (List ℕ)) (u : NodeTable) → GoesOn ts us → Extends t u → source_trees us u t.sources.items ≡ p
 
 -- the nodes stand for the scripts, however the names go on
 pub record HasNodes (ts : List (List ℕ)) (xs : Terms) (t : NodeTable) (root : ℕ) : Type 0 where

@@ -33,7 +33,8 @@ ExpressionWithin most answer = IfOk answer (λ x. (x.1 ≡ height (expression_vi
 
 -- while the spans grew from `old` to `new`, the expression was read from `start`, and its nodes were placed
 abbrev pub ExpressionPlaced : List Span → List Span → List Token → Answer (Box Expr) → Type 0
-ExpressionPlaced old new start answer = IfOk answer (λ x. Placed true old new (expression_places x.0.value) start (tokens_view x.2.now))
+ExpressionPlaced old new start answer =
+    IfOk answer (λ x. Placed true old new (expression_places x.0.value) start (tokens_view x.2.now))
 
 -- ---- statements
 
@@ -47,4 +48,5 @@ StatementWithin most answer = IfOk answer (λ x. (x.1 ≡ height_of_statement (s
 
 -- while the spans grew from `old` to `new`, the statement was read from `start`, and its nodes were placed
 abbrev pub StatementPlaced : List Span → List Span → List Token → Answer Stmt → Type 0
-StatementPlaced old new start answer = IfOk answer (λ x. Placed true old new (statement_places x.0) start (tokens_view x.2.now))
+StatementPlaced old new start answer =
+    IfOk answer (λ x. Placed true old new (statement_places x.0) start (tokens_view x.2.now))

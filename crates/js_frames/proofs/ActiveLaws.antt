@@ -35,7 +35,8 @@ leftmost_gap (v ∷ vs) r us h = ap (behind v) (leftmost_gap vs r us h)
 -- what is about to be reduced in a part is so in the forms around it
 pub active-within : (gs : List Gap) (r : Term) → is_done r ≡ false → active (plugged gs r) ≡ active r
 active-within [] r h = refl
-active-within (g ∷ gs) r h = active-within gs (filled g r) refl ∙ ap (active_of g.form) (leftmost_gap g.before r g.after h)
+active-within (g ∷ gs) r h =
+    active-within gs (filled g r) refl ∙ ap (active_of g.form) (leftmost_gap g.before r g.after h)
 
 leftmost_values : (vs : List Value) → leftmost (dones vs) ≡ only_values vs
 leftmost_values [] = refl
@@ -46,7 +47,9 @@ leftmost_values (v ∷ vs) = ap (behind v) (leftmost_values vs)
 pub active-row : (ts : List (List ℕ)) (t : NodeTable) (w : Wide) (ws : List Wide)
     → active (term_at ts t (w ∷ ws) points.Row) ≡ reduces (task_form ts t w) w.values
 unfolding term_at
-active-row ts t w ws = active-within (gaps_of ts t ws) (redex_of ts t w) refl ∙ ap (active_of (task_form ts t w)) (leftmost_values w.values)
+active-row ts t w ws =
+    active-within (gaps_of ts t ws) (redex_of ts t w) refl
+    ∙ ap (active_of (task_form ts t w)) (leftmost_values w.values)
 
 pub active-stands : (ts : List (List ℕ)) (t : NodeTable) (ws : List Wide) (v : Value) (place : Spot)
     → active (term_at ts t ws (points.Stands v place)) ≡ stands v place
@@ -61,7 +64,8 @@ active-done ts t ws v e = ap (λ us. active (plugged (gaps_of ts t us) (done v))
 
 -- a node without parts, with the parts that are kept
 abbrev pub leaf : List (List ℕ) → NodeTable → ℕ → Node → Term
-leaf ts t n node = part (form_of ts t node.op node.info) end (terms (tree_within ts t n) (kids_between t node.mid node.end))
+leaf ts t n node =
+    part (form_of ts t node.op node.info) end (terms (tree_within ts t n) (kids_between t node.mid node.end))
 
 pub leaf-tree : (ts : List (List ℕ)) (t : NodeTable) (n : ℕ) (node : Node)
     → slice_get t.nodes.items n ≡ Some node
@@ -70,10 +74,13 @@ pub leaf-tree : (ts : List (List ℕ)) (t : NodeTable) (n : ℕ) (node : Node)
 unfolding tree
 leaf-tree ts t n node e l =
     let at : ℕ → Term = tree_within ts t n in
-    let P : Bool → Term = λ b. if b then done (constant_at t node.info) else part (form_of ts t node.op node.info) (terms at (kids_between t node.first node.mid)) (terms at (kids_between t node.mid node.end)) in
+    let P : Bool
+    → Term = λ b. if b then done (constant_at t node.info) else part (form_of ts t node.op node.info)
+    (terms at (kids_between t node.first node.mid)) (terms at (kids_between t node.mid node.end)) in
     ap (node_term ts t at) e
     ∙ ap P l.value
-    ∙ ap (λ ks. part (form_of ts t node.op node.info) (terms at ks) (terms at (kids_between t node.mid node.end))) (kids-end t node.first node.mid (omega (arith, l.parts)))
+    ∙ ap (λ ks. part (form_of ts t node.op node.info) (terms at ks) (terms at (kids_between t node.mid node.end)))
+    (kids-end t node.first node.mid (omega (arith, l.parts)))
 
 pub active-leaf : (ts : List (List ℕ)) (t : NodeTable) (ws : List Wide) (n : ℕ) (node : Node)
     → slice_get t.nodes.items n ≡ Some node
@@ -128,7 +135,8 @@ leaf-kind ts t ws n node p q e i h =
 pub stands-kind : (ts : List (List ℕ)) (t : NodeTable) (ws : List Wide) (v : Value) (place : Spot) (p : Point)
     → p ≡ points.Stands v place
     → active_kind (active (term_at ts t ws p)) ≡ plain
-stands-kind ts t ws v place p q = ap (λ (x : Point). active_kind (active (term_at ts t ws x))) q ∙ ap active_kind (active-stands ts t ws v place)
+stands-kind ts t ws v place p q =
+    ap (λ (x : Point). active_kind (active (term_at ts t ws x))) q ∙ ap active_kind (active-stands ts t ws v place)
 
 pub done-kind : (ts : List (List ℕ)) (t : NodeTable) (ws : List Wide) (v : Value) (p : Point)
     → p ≡ points.Done v
@@ -136,7 +144,8 @@ pub done-kind : (ts : List (List ℕ)) (t : NodeTable) (ws : List Wide) (v : Val
     → active_kind (active (term_at ts t ws p)) ≡ plain
 done-kind ts t ws v p q h =
     let P : Point → Type 0 = λ x. IsAt t ws x in
-    ap (λ (x : Point). active_kind (active (term_at ts t ws x))) q ∙ ap active_kind (active-done ts t ws v (subst P q h))
+    ap (λ (x : Point). active_kind (active (term_at ts t ws x))) q
+    ∙ ap active_kind (active-done ts t ws v (subst P q h))
 
 -- ---- what it says
 

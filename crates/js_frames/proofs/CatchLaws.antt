@@ -63,9 +63,11 @@ stands_throw : (ts : List (List ℕ)) (t : NodeTable) (ws : List Wide) (v : Valu
     → thrown (term_at ts t ws (points.Stands v place)) ≡ Some (record { value = v; uncaught = not (catches ws) })
 stands_throw ts t ws v place =
     let x : Term = term_at ts t ws (points.Stands v place) in
-    ap (λ a. standing_of a (is_caught x)) (active-stands ts t ws v place) ∙ ap (λ b. standing_of (stands v place) b) (caught_stands ts t ws v place)
+    ap (λ a. standing_of a (is_caught x)) (active-stands ts t ws v place)
+    ∙ ap (λ b. standing_of (stands v place) b) (caught_stands ts t ws v place)
 
-pub stands-throw : (ts : List (List ℕ)) (t : NodeTable) (ws : List Wide) (v : Value) (place : Spot) (p : Point) (b : Bool)
+pub stands-throw : (ts : List (List ℕ)) (t : NodeTable) (ws : List Wide) (v : Value) (place : Spot) (p : Point)
+    (b : Bool)
     → p ≡ points.Stands v place
     → b ≡ catches ws
     → standing_throw (Some (record { value = v; uncaught = not b })) ≡ thrown (term_at ts t ws p)
@@ -88,7 +90,8 @@ none_leaf : (ts : List (List ℕ)) (t : NodeTable) (ws : List Wide) (n : ℕ) (o
     → IsLeafAt o
     → None ≡ thrown (term_at ts t ws (points.Leaf n))
 none_leaf ts t ws n None e l = absurd l
-none_leaf ts t ws n (Some node) e l = none_of (term_at ts t ws (points.Leaf n)) (form_of ts t node.op node.info) [] (active-leaf ts t ws n node e l)
+none_leaf ts t ws n (Some node) e l =
+    none_of (term_at ts t ws (points.Leaf n)) (form_of ts t node.op node.info) [] (active-leaf ts t ws n node e l)
 
 none_done : (ts : List (List ℕ)) (t : NodeTable) (ws : List Wide) (v : Value)
     → ws ≡ []

@@ -59,10 +59,12 @@ task_by : (b : Bool) (outer within : Addr) (now : Terms) (xs ys : List Addr)
 task_by true outer within now xs ys e = ap (λ zs. reversed_onto zs (outer ∷ ys)) e
 task_by false outer within now xs ys e = ap (λ zs. reversed_onto zs ys) e
 
-scopes_task : (ts : List (List ℕ)) (t : NodeTable) (root : Addr) (w : Wide) (ws : List Wide) (now later : Terms) (xs : List Addr)
+scopes_task : (ts : List (List ℕ)) (t : NodeTable) (root : Addr) (w : Wide) (ws : List Wide) (now later : Terms)
+    (xs : List Addr)
     → scope_in (task_form ts t w) (scope_of root ws) ≡ w.inner
     → scopes_in w.inner now ≡ xs
-    → reversed_onto (scopes_at (scope_of root ws) (part (task_form ts t w) now later)) (call_scopes root ws) ≡ reversed_onto xs (call_scopes root (w ∷ ws))
+    → reversed_onto (scopes_at (scope_of root ws) (part (task_form ts t w) now later)) (call_scopes root ws)
+    ≡ reversed_onto xs (call_scopes root (w ∷ ws))
 scopes_task ts t root w ws now later xs s e =
     let outer : Addr = scope_of root ws in
     let ys : List Addr = call_scopes root ws in
@@ -76,11 +78,13 @@ scopes_task ts t root w ws now later xs s e =
 pub scopes-within : (ts : List (List ℕ)) (t : NodeTable) (root : Addr) (ws : List Wide) (r : Term)
     → is_done r ≡ false
     → InScopes t root ws
-    → reversed_onto (scopes_at root (plugged (gaps_of ts t ws) r)) [] ≡ reversed_onto (scopes_at (scope_of root ws) r) (call_scopes root ws)
+    → reversed_onto (scopes_at root (plugged (gaps_of ts t ws) r)) [] ≡ reversed_onto (scopes_at (scope_of root ws) r)
+    (call_scopes root ws)
 scopes-within ts t root [] r h s = refl
 scopes-within ts t root (w ∷ ws) r h s =
     scopes-within ts t root ws (filled (gap_of ts t w) r) refl s.1
-    ∙ scopes_task ts t root w ws (gap_parts (gap_of ts t w) r) (later_of ts t w) (scopes_at w.inner r) (s.0 ts) (scopes_gap w.values r (gap_of ts t w).after w.inner h)
+    ∙ scopes_task ts t root w ws (gap_parts (gap_of ts t w) r) (later_of ts t w) (scopes_at w.inner r) (s.0 ts)
+    (scopes_gap w.values r (gap_of ts t w).after w.inner h)
 
 pub scopes-row : (ts : List (List ℕ)) (t : NodeTable) (root : Addr) (ws : List Wide)
     → IsAt t ws points.Row
@@ -90,7 +94,8 @@ unfolding term_at
 scopes-row ts t root [] h s = absurd h
 scopes-row ts t root (w ∷ ws) h s =
     scopes-within ts t root ws (redex_of ts t w) refl s.1
-    ∙ scopes_task ts t root w ws (dones w.values) (later_of ts t w) (w.inner ∷ []) (s.0 ts) (scopes_values w.values w.inner)
+    ∙ scopes_task ts t root w ws (dones w.values) (later_of ts t w) (w.inner ∷ []) (s.0 ts)
+    (scopes_values w.values w.inner)
 
 pub scopes-stands : (ts : List (List ℕ)) (t : NodeTable) (root : Addr) (ws : List Wide) (v : Value) (place : Spot)
     → InScopes t root ws
@@ -102,7 +107,9 @@ pub scopes-done : (ts : List (List ℕ)) (t : NodeTable) (root : Addr) (ws : Lis
     → ws ≡ []
     → reversed_onto (scopes_at root (term_at ts t ws (points.Done v))) [] ≡ frame_scopes root ws
 unfolding term_at
-scopes-done ts t root ws v e = ap (λ us. reversed_onto (scopes_at root (plugged (gaps_of ts t us) (done v))) []) e ∙ ap (λ us. frame_scopes root us) (sym e)
+scopes-done ts t root ws v e =
+    ap (λ us. reversed_onto (scopes_at root (plugged (gaps_of ts t us) (done v))) []) e
+    ∙ ap (λ us. frame_scopes root us) (sym e)
 
 -- a node without parts has no scope of its own
 not_frame : (op : Op) → is_task_only op ≡ false → is_frame op ≡ false
@@ -115,8 +122,12 @@ scopes_node : (ts : List (List ℕ)) (t : NodeTable) (node : Node) (n : ℕ) (sc
 scopes_node ts t node n scope k =
     let f : Form = form_of ts t node.op node.info in
     let same : form_in ts t node.op node.info scope None ≡ f = node-form ts t node.op node.info scope k.source k.turns in
-    let stays : scope_in f scope ≡ scope = ap (λ g. scope_in g scope) (sym same) ∙ node-scope ts t node.op node.info scope scope k.source k.turns in
-    let leaves : is_leaving (kind_of f) ≡ false = ap (λ g. is_leaving (kind_of g)) (sym same) ∙ ap is_leaving (form-kind ts t node.op node.info scope None) ∙ leaving-op t node.op node.info ∙ not_frame node.op k.source in
+    let stays : scope_in f scope ≡ scope = ap (λ g. scope_in g scope) (sym same)
+    ∙ node-scope ts t node.op node.info scope scope k.source k.turns in
+    let leaves : is_leaving (kind_of f) ≡ false = ap (λ g. is_leaving (kind_of g)) (sym same)
+    ∙ ap is_leaving (form-kind ts t node.op node.info scope None)
+    ∙ leaving-op t node.op node.info
+    ∙ not_frame node.op k.source in
     scopes_part f scope end _
     ∙ ap (λ b. scopes_by b scope (scope_in f scope) end) leaves
     ∙ ap (λ a. a ∷ []) stays
@@ -132,7 +143,8 @@ scopes_leaf ts t root ws n None e i l s = absurd l
 scopes_leaf ts t root ws n (Some node) e i l s =
     ap (λ x. reversed_onto (scopes_at root (plugged (gaps_of ts t ws) x)) []) (leaf-tree ts t n node e l)
     ∙ scopes-within ts t root ws (leaf ts t n node) refl s
-    ∙ ap (λ xs. reversed_onto xs (call_scopes root ws)) (scopes_node ts t node n (scope_of root ws) (node-at t n node e i))
+    ∙ ap (λ xs. reversed_onto xs (call_scopes root ws))
+    (scopes_node ts t node n (scope_of root ws) (node-at t n node e i))
 
 -- wherever a machine stands
 pub scopes-at : (ts : List (List ℕ)) (t : NodeTable) (root : Addr) (ws : List Wide) (p : Point)
@@ -148,7 +160,9 @@ scopes-at ts t root ws (points.Done v) i h s = scopes-done ts t root ws v h
 -- ---- one task after another
 
 calls_from : (root : Addr) (ws : List Wide) (i : ℕ)
-    → call_scopes root (drop i ws) ≡ (if is_frame_at (slice_get ws i) then scope_of root (drop (suc i) ws) ∷ call_scopes root (drop (suc i) ws) else call_scopes root (drop (suc i) ws))
+    → call_scopes root (drop i ws) ≡
+    (if is_frame_at (slice_get ws i) then scope_of root (drop (suc i) ws) ∷ call_scopes root (drop (suc i) ws)
+    else call_scopes root (drop (suc i) ws))
 calls_from root [] zero = refl
 calls_from root [] (suc i) = refl
 calls_from root (w ∷ ws) zero = refl
@@ -156,10 +170,15 @@ calls_from root (w ∷ ws) (suc i) = calls_from root ws i
 
 calls_at : (root : Addr) (ws : List Wide) (i : ℕ) (b : Bool)
     → b ≡ is_frame_at (slice_get ws i)
-    → call_scopes root (drop i ws) ≡ (if b then scope_of root (drop (i + 1) ws) ∷ call_scopes root (drop (i + 1) ws) else call_scopes root (drop (i + 1) ws))
+    → call_scopes root (drop i ws) ≡
+    (if b then scope_of root (drop (i + 1) ws) ∷ call_scopes root (drop (i + 1) ws) else call_scopes root
+    (drop (i + 1) ws))
 calls_at root ws i b e =
     let s : suc i ≡ i + 1 = omega arith in
-    let P : Bool → ℕ → List Addr = λ c n. if c then scope_of root (drop n ws) ∷ call_scopes root (drop n ws) else call_scopes root (drop n ws) in
+    let P : Bool
+    → ℕ
+    → List Addr = λ c n. if c then scope_of root (drop n ws) ∷ call_scopes root (drop n ws) else call_scopes root
+    (drop n ws) in
     calls_from root ws i ∙ ap (λ c. P c (suc i)) (sym e) ∙ ap (P b) s
 
 -- behind the first entry
@@ -182,9 +201,14 @@ pub calls-here : (root : Addr) (ws : List Wide) (d i left : ℕ) (b : Bool) (a :
     → a ≡ scope_of root (drop (i + 1) ws)
     → Some a ≡ slice_get (frame_scopes root ws) d
 calls-here root ws d i left b a n h e p z s =
-    let P : Bool → List Addr = λ c. if c then scope_of root (drop (i + 1) ws) ∷ call_scopes root (drop (i + 1) ws) else call_scopes root (drop (i + 1) ws) in
+    let P : Bool
+    → List Addr = λ c. if c then scope_of root (drop (i + 1) ws) ∷ call_scopes root (drop (i + 1) ws)
+    else call_scopes root (drop (i + 1) ws) in
     ap (λ x. Some x) s
-    ∙ sym (sym (behind_first (scope_of root ws) (call_scopes root ws) d n) ∙ h ∙ ap (λ k. slice_get (call_scopes root (drop i ws)) k) z ∙ ap (λ xs. slice_get xs 0) (calls_at root ws i b e ∙ ap P p))
+    ∙ sym (sym (behind_first (scope_of root ws) (call_scopes root ws) d n)
+    ∙ h
+    ∙ ap (λ k. slice_get (call_scopes root (drop i ws)) k) z
+    ∙ ap (λ xs. slice_get xs 0) (calls_at root ws i b e ∙ ap P p))
 
 -- it isn't
 pub calls-passed : (root : Addr) (ws : List Wide) (d i left : ℕ) (b : Bool)
@@ -194,8 +218,12 @@ pub calls-passed : (root : Addr) (ws : List Wide) (d i left : ℕ) (b : Bool)
     → (left ≡ 0 → ⊥)
     → Left root ws d (i + 1) (left - 1)
 calls-passed root ws d i left b h e p n =
-    let P : Bool → List Addr = λ c. if c then scope_of root (drop (i + 1) ws) ∷ call_scopes root (drop (i + 1) ws) else call_scopes root (drop (i + 1) ws) in
-    h ∙ ap (λ xs. slice_get xs left) (calls_at root ws i b e ∙ ap P p) ∙ sym (behind_first (scope_of root (drop (i + 1) ws)) (call_scopes root (drop (i + 1) ws)) left n)
+    let P : Bool
+    → List Addr = λ c. if c then scope_of root (drop (i + 1) ws) ∷ call_scopes root (drop (i + 1) ws)
+    else call_scopes root (drop (i + 1) ws) in
+    h
+    ∙ ap (λ xs. slice_get xs left) (calls_at root ws i b e ∙ ap P p)
+    ∙ sym (behind_first (scope_of root (drop (i + 1) ws)) (call_scopes root (drop (i + 1) ws)) left n)
 
 -- no call's body is passed
 pub calls-on : (root : Addr) (ws : List Wide) (d i left : ℕ) (b : Bool)
@@ -204,7 +232,9 @@ pub calls-on : (root : Addr) (ws : List Wide) (d i left : ℕ) (b : Bool)
     → b ≡ false
     → Left root ws d (i + 1) left
 calls-on root ws d i left b h e p =
-    let P : Bool → List Addr = λ c. if c then scope_of root (drop (i + 1) ws) ∷ call_scopes root (drop (i + 1) ws) else call_scopes root (drop (i + 1) ws) in
+    let P : Bool
+    → List Addr = λ c. if c then scope_of root (drop (i + 1) ws) ∷ call_scopes root (drop (i + 1) ws)
+    else call_scopes root (drop (i + 1) ws) in
     h ∙ ap (λ xs. slice_get xs left) (calls_at root ws i b e ∙ ap P p)
 
 -- there are fewer of them
@@ -214,7 +244,9 @@ pub calls-none : (root : Addr) (ws : List Wide) (d i left : ℕ)
     → length ws ≤ i
     → None ≡ slice_get (frame_scopes root ws) d
 calls-none root ws d i left n h l =
-    sym (sym (behind_first (scope_of root ws) (call_scopes root ws) d n) ∙ h ∙ ap (λ us. slice_get (call_scopes root us) left) (drop_all i ws l))
+    sym (sym (behind_first (scope_of root ws) (call_scopes root ws) d n)
+    ∙ h
+    ∙ ap (λ us. slice_get (call_scopes root us) left) (drop_all i ws l))
 
 -- ---- the scope of one task
 

@@ -77,9 +77,12 @@ none_scoped (g ∷ fs) (x ∷ xs) (suc d) h = none_scoped fs xs d h
 pub frame-none : (d : ℕ) (root : Addr) (x : Term) (w : World) (c : Context) (taken : List (List ℕ))
     → slice_get c.frames d ≡ None
     → None ≡ frame_at d root x (state_of w c taken)
-frame-none d root x w c taken h = sym (none_scoped (shown_frames (active x) c.frames) (reversed_onto (scopes_at root x) []) d (none-shown (active x) c.frames d h))
+frame-none d root x w c taken h =
+    sym (none_scoped (shown_frames (active x) c.frames) (reversed_onto (scopes_at root x) []) d
+    (none-shown (active x) c.frames d h))
 
-pub frame-some : (d : ℕ) (root : Addr) (x : Term) (w : World) (c : Context) (taken : List (List ℕ)) (f g : Frame) (scopes : List Addr) (o : Option Addr)
+pub frame-some : (d : ℕ) (root : Addr) (x : Term) (w : World) (c : Context) (taken : List (List ℕ)) (f g : Frame)
+    (scopes : List Addr) (o : Option Addr)
     → slice_get (shown_frames (active x) c.frames) d ≡ Some f
     → reversed_onto (scopes_at root x) [] ≡ scopes
     → o ≡ slice_get scopes d

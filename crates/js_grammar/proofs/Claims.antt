@@ -28,7 +28,8 @@ abbrev pub NoElse : Statement → List Token → Type 0
 NoElse s r = ends_in_if s ≡ true → is_kind kinds.Else (head_of r) ≡ false
 
 -- a statement or a declaration of other names than those taken
-pub record TakesItem (context : Context) (taken : List Identifier) (n : ℕ) (ts : List Token) (s : Statement) (r : List Token) : Type 0 where
+pub record TakesItem (context : Context) (taken : List Identifier) (n : ℕ) (ts : List Token) (s : Statement)
+    (r : List Token) : Type 0 where
   pub marks : Matches (flat_statement s) ts r
   pub well : WellStatement context s
   pub fresh : AreFresh taken (declared_by s)
@@ -44,7 +45,8 @@ pub record TakesStatement (context : Context) (n : ℕ) (ts : List Token) (s : S
   pub height : height_of_statement s ≤ n
 
 -- statements in braces, each at most n high
-pub record TakesBlock (context : Context) (taken : List Identifier) (n : ℕ) (ts : List Token) (ss : Statements) (r : List Token) : Type 0 where
+pub record TakesBlock (context : Context) (taken : List Identifier) (n : ℕ) (ts : List Token) (ss : Statements)
+    (r : List Token) : Type 0 where
   pub marks : Matches (flats.in_braces (flat_statements ss)) ts r
   pub well : WellStatements context ss
   pub fresh : AreFresh taken (declared_names ss)
@@ -122,7 +124,11 @@ Sane an_expression e = Well e
 Sane (optional k) e = WellOptional e
 Sane (arguments k) es = AreAssignments es
 Sane ended e = Well e
-Sane (declared constant taken) ds = (is_some_declarator ds ≡ true) × WellDeclarators ds × IsInitialized constant ds × AreFresh taken (names_of_declarators ds)
+Sane (declared constant taken) ds =
+    (is_some_declarator ds ≡ true)
+    × WellDeclarators ds
+    × IsInitialized constant ds
+    × AreFresh taken (names_of_declarators ds)
 Sane (a_statement context) s = WellStatement context s × (is_statement s ≡ true)
 Sane (a_block context taken) ss = AreFresh taken (declared_names ss) × WellStatements context ss
 Sane (in_braces context taken) ss = AreFresh taken (declared_names ss) × WellStatements context ss
@@ -169,13 +175,23 @@ pub record TakesAll (n : ℕ) (is : List Item) (ts : List Token) (vs : Values is
 
 -- where what reads below a node is sound, so is what reads the items of a production
 abbrev pub SeqSound : Type 0
-SeqSound = (n : ℕ) (b : Below) → SoundBelow n b → (is : List Item) (ts : List Token) (x : Values is × List Token) → seq b is ts ≡ Ok x → TakesAll n is ts x.0 x.1
+SeqSound =
+    (n : ℕ) (b : Below)
+    → SoundBelow n b
+    → (is : List Item) (ts : List Token) (x : Values is × List Token)
+    → seq b is ts ≡ Ok x
+    → TakesAll n is ts x.0 x.1
 
 -- ---- what is well-formed is read
 
 -- nothing goes on with an expression that ends so
 abbrev pub Stops : Edge → List Token → Type 0
-Stops plain r = (link (head_of r) ≡ no_link) × (update_near (head_of r) ≡ None) × (operator (head_of r) ≡ None) × (joint (head_of r) ≡ no_joint) × (is_arrow (head_of r) ≡ false)
+Stops plain r =
+    (link (head_of r) ≡ no_link)
+    × (update_near (head_of r) ≡ None)
+    × (operator (head_of r) ≡ None)
+    × (joint (head_of r) ≡ no_joint)
+    × (is_arrow (head_of r) ≡ false)
 Stops update r = (operator (head_of r) ≡ None) × (joint (head_of r) ≡ no_joint)
 Stops braces r = Unit {0}
 
@@ -185,7 +201,8 @@ NoComma r = is_kind kinds.Comma (head_of r) ≡ false
 
 -- what goes on with an operation is no operator that binds so tightly
 abbrev pub StopsOperation : ℕ → Edge → List Token → Type 0
-StopsOperation m plain r = (link (head_of r) ≡ no_link) × (update_near (head_of r) ≡ None) × (operator_from m (operator (head_of r)) ≡ None)
+StopsOperation m plain r =
+    (link (head_of r) ≡ no_link) × (update_near (head_of r) ≡ None) × (operator_from m (operator (head_of r)) ≡ None)
 StopsOperation m update r = operator_from m (operator (head_of r)) ≡ None
 StopsOperation m braces r = Unit {0}
 
@@ -429,4 +446,13 @@ all_fit (i ∷ is) = fits i is && all_fit is
 
 -- where every well-formed tree is read below a node, so are the items of a production that fit
 abbrev pub SeqAgain : Type 0
-SeqAgain = (n : ℕ) (b : Below) → AgainBelow n b → (is : List Item) (vs : Values is) (ts r : List Token) → AllSane is vs → height_all is vs ≤ n → all_fit is ≡ true → EndsLast is vs r → Matches (marks is vs) ts r → seq b is ts ≡ Ok (vs, r)
+SeqAgain =
+    (n : ℕ) (b : Below)
+    → AgainBelow n b
+    → (is : List Item) (vs : Values is) (ts r : List Token)
+    → AllSane is vs
+    → height_all is vs ≤ n
+    → all_fit is ≡ true
+    → EndsLast is vs r
+    → Matches (marks is vs) ts r
+    → seq b is ts ≡ Ok (vs, r)

@@ -73,7 +73,8 @@ pub expression_again_whole : (n : ℕ) (ts : List Token) (e : Expression)
     → height e ≤ n
     → parse_expression n ts ≡ Ok e
 unfolding parse_expression
-expression_again_whole n ts e i h = rw ((again_below n).expression e i.well h ts [] i.spelled (stops_at_end (edge e)) refl) refl
+expression_again_whole n ts e i h =
+    rw ((again_below n).expression e i.well h ts [] i.spelled (stops_at_end (edge e)) refl) refl
 
 pub function_again_whole : (n : ℕ) (ts : List Token) (e : Expression)
     → IsFunction ts e
@@ -81,14 +82,16 @@ pub function_again_whole : (n : ℕ) (ts : List Token) (e : Expression)
     → parse_function n ts ≡ Ok e
 unfolding parse_function
 function_again_whole zero ts e i h = absurd (omega (arith, height_positive e))
-function_again_whole (suc n) ts e i h = rw (function_code_again seq_again n (below n) (again_below n) e i.form i.well h ts i.spelled) refl
+function_again_whole (suc n) ts e i h =
+    rw (function_code_again seq_again n (below n) (again_below n) e i.form i.well h ts i.spelled) refl
 
 pub script_again_whole : (n : ℕ) (earlier : List Identifier) (ts : List Token) (body : Statements)
     → IsScript earlier ts body
     → height_of_statements body ≤ n
     → parse_script n earlier ts ≡ Ok body
 unfolding parse_script
-script_again_whole n earlier ts body i h = rw (statements_again n (below n) (again_below n) top earlier body i.well.1 i.well.0 h ts [] i.spelled refl) refl
+script_again_whole n earlier ts body i h =
+    rw (statements_again n (below n) (again_below n) top earlier body i.well.1 i.well.0 h ts [] i.spelled refl) refl
 
 -- ---- one tree
 

@@ -45,7 +45,8 @@ less_deep : {A : Type 0} (f g : Reader A)
 less_deep {A} f g h ts k e = by_answer (f ts) refl
   where
     by_answer : (x : Read A) → f ts ≡ x → (j : ℕ) × (f ts ≡ Err (deep j))
-    by_answer (Ok x) q = absurd (ended_not_deep x.0 x.1 k (ap (λ (x : Read A). whole x) (sym (answers_so f g h ts x q)) ∙ e))
+    by_answer (Ok x) q =
+        absurd (ended_not_deep x.0 x.1 k (ap (λ (x : Read A). whole x) (sym (answers_so f g h ts x q)) ∙ e))
     by_answer (Err (stuck i)) q =
         let s = sticks_again f g h ts i q in
         let is : g ts ≡ Err (stuck (length s.1)) = ap (λ (l : List Token). g l) s.2 ∙ s.4 s.1 refl in
@@ -74,16 +75,20 @@ too_deep_from {A} Is height_of n low mid high h h' d lives again ts k e =
     let p = less_deep mid high h' ts k e in
     let l : LivesIn Is ts (deep p.0) = lives ts (deep p.0) p.1 in
     let a : DeepAt mid ts p.0 = (d (length ts)).at ts (omega arith) p.0 p.1 in
-    let parts : ts ≡ (a.before ++ (a.here ∷ [])) ++ a.left = a.parts ∙ sym (append_assoc a.before (a.here ∷ []) a.left) in
-    let front : l.before ≡ a.before ++ (a.here ∷ []) = same_front l.before l.left (a.before ++ (a.here ∷ [])) a.left (sym l.parts ∙ parts) (l.counted ∙ sym a.counted) in
+    let parts : ts ≡ (a.before ++ (a.here ∷ [])) ++ a.left = a.parts
+    ∙ sym (append_assoc a.before (a.here ∷ []) a.left) in
+    let front : l.before ≡ a.before ++ (a.here ∷ []) = same_front l.before l.left (a.before ++ (a.here ∷ [])) a.left
+    (sym l.parts ∙ parts) (l.counted ∙ sym a.counted) in
     record {
       before = l.before;
       left = l.left;
       parts = l.parts;
       begins = l.begins;
       deeper = λ rest t is. above (height_of t) n (λ le.
-          let read : mid (l.before ++ rest) ≡ Ok (t, []) = answers_so low mid h (l.before ++ rest) (t, []) (whole_ok (low (l.before ++ rest)) t (again (l.before ++ rest) t is le)) in
-          let same : l.before ++ rest ≡ a.before ++ (a.here ∷ rest) = ap (λ (b : List Token). b ++ rest) front ∙ append_assoc a.before (a.here ∷ []) rest in
+          let read : mid (l.before ++ rest) ≡ Ok (t, []) = answers_so low mid h (l.before ++ rest) (t, [])
+          (whole_ok (low (l.before ++ rest)) t (again (l.before ++ rest) t is le)) in
+          let same : l.before ++ rest ≡ a.before ++ (a.here ∷ rest) = ap (λ (b : List Token). b ++ rest) front
+          ∙ append_assoc a.before (a.here ∷ []) rest in
           a.never rest (t, []) (ap (λ (l : List Token). mid l) (sym same) ∙ read));
     }
 
@@ -98,7 +103,8 @@ expression_deeper : (n : ℕ) (ts : List Token) (k : ℕ)
 unfolding parse_expression
 expression_deeper n ts k e =
     let q : Kept n = kept n in
-    too_deep_from IsExpression height n (below n).expression (room n).expression (below (raised n)).expression q.down.expression q.up.expression (λ j. q.deepens.expression j)
+    too_deep_from IsExpression height n (below n).expression (room n).expression
+    (below (raised n)).expression q.down.expression q.up.expression (λ j. q.deepens.expression j)
     (λ ts d p. begins_so (λ us t g m. record { well = g.0; spelled = m }) (q.alive.expression ts d p))
     (λ ts t is le. expression_again_whole n ts t is le) ts k e
 
@@ -113,27 +119,35 @@ script_deeper : (n : ℕ) (earlier : List Identifier) (ts : List Token) (k : ℕ
 unfolding parse_script
 script_deeper n earlier ts k e =
     let q : Kept n = kept n in
-    too_deep_from (IsScript earlier) height_of_statements n (λ ts. items_at (below n) top earlier ts) (λ ts. items_at (room n) top earlier ts) (λ ts. items_at (below (raised n)) top earlier ts)
-    (items_at_follows (below n) (room n) (pair_down n q) top earlier) (items_at_follows (room n) (below (raised n)) (pair_up n q) top earlier)
+    too_deep_from (IsScript earlier) height_of_statements n (λ ts. items_at (below n) top earlier ts)
+    (λ ts. items_at (room n) top earlier ts) (λ ts. items_at (below (raised n)) top earlier ts)
+    (items_at_follows (below n) (room n) (pair_down n q) top earlier)
+    (items_at_follows (room n) (below (raised n)) (pair_up n q) top earlier)
     (λ j. items_at_deepens (room n) (pair_own n q) q.deepens j top earlier)
-    (λ ts d p. begins_so (λ us t g m. record { well = g; spelled = m }) (items_at_lives (raised n) (room n) (room_sound n q) q.alive top earlier ts d p))
+    (λ ts d p. begins_so (λ us t g m. record { well = g; spelled = m })
+    (items_at_lives (raised n) (room n) (room_sound n q) q.alive top earlier ts d p))
     (λ ts t is le. script_again_whole n earlier ts t is le) ts k e
 
 pub script_too_deep : (n : ℕ) (earlier : List Identifier) (ts : List Token) (k : ℕ)
     → parse_script (n + 3) earlier ts ≡ Err (deep k)
     → TooDeepFrom (IsScript earlier) height_of_statements ts n
-script_too_deep n earlier ts k e = script_deeper n earlier ts k (ap (λ (m : ℕ). parse_script m earlier ts) (sym (three_more n)) ∙ e)
+script_too_deep n earlier ts k e =
+    script_deeper n earlier ts k (ap (λ (m : ℕ). parse_script m earlier ts) (sym (three_more n)) ∙ e)
 
 -- ---- functions
 
 one_deepens : (b : Below) → Pair b b → DeepBelow b → (n : ℕ) → Deepens n (λ ts. arrow_of_one b ts)
 unfolding arrow_of_one
-one_deepens b p d n = deep_then n (λ ts. name_at ts) (λ s ts. arrow_rest b (trees.one_name s) (s ∷ []) ts) name_follows (name_deepens n) (λ s. arrow_rest_deepens b p d n (trees.one_name s) (s ∷ []))
+one_deepens b p d n =
+    deep_then n (λ ts. name_at ts) (λ s ts. arrow_rest b (trees.one_name s) (s ∷ []) ts) name_follows (name_deepens n)
+    (λ s. arrow_rest_deepens b p d n (trees.one_name s) (s ∷ []))
 
 code_by_deepens : (b : Below) → Pair b b → DeepBelow b → (n : ℕ) (v : Start) → Deepens n (λ ts. function_code_by b v ts)
 code_by_deepens b p d n classes.function_word = deep_past n (λ ts. function_at b ts) (function_deepens b p d n)
 code_by_deepens b p d n (classes.a_name s) = one_deepens b p d n
-code_by_deepens b p d n classes.parenthesis = deep_then n (λ ts. parameters_at ts) (λ ps ts. arrow_rest b (trees.name_list ps) ps ts) parameters_follows (parameters_deepens n) (λ ps. arrow_rest_deepens b p d n (trees.name_list ps) ps)
+code_by_deepens b p d n classes.parenthesis =
+    deep_then n (λ ts. parameters_at ts) (λ ps ts. arrow_rest b (trees.name_list ps) ps ts) parameters_follows
+    (parameters_deepens n) (λ ps. arrow_rest_deepens b p d n (trees.name_list ps) ps)
 code_by_deepens b p d n _ = deep_sticks n
 
 abbrev code_reader : Below → Reader Expression
@@ -159,10 +173,13 @@ function_deeper zero ts k e =
     record { before = l.before; left = l.left; parts = l.parts; begins = l.begins; deeper = λ rest t is. height_positive t }
 function_deeper (suc n) ts k e =
     let q : Kept n = kept n in
-    too_deep_from IsFunction height (suc n) (code_reader (below n)) (code_reader (room n)) (code_reader (below (raised n)))
-    (function_code_follows (below n) (room n) (pair_down n q)) (function_code_follows (room n) (below (raised n)) (pair_up n q))
+    too_deep_from IsFunction height (suc n) (code_reader (below n)) (code_reader (room n))
+    (code_reader (below (raised n)))
+    (function_code_follows (below n) (room n) (pair_down n q))
+    (function_code_follows (room n) (below (raised n)) (pair_up n q))
     (code_deepens (room n) (pair_own n q) q.deepens)
-    (λ ts d p. begins_so (λ us t g m. record { form = g.1; well = g.0.0; spelled = m }) (function_code_lives (raised n) (room n) (room_sound n q) q.alive (start (head_of ts)) ts d refl p))
+    (λ ts d p. begins_so (λ us t g m. record { form = g.1; well = g.0.0; spelled = m })
+    (function_code_lives (raised n) (room n) (room_sound n q) q.alive (start (head_of ts)) ts d refl p))
     (λ ts t is le. code_again n ts t is le) ts k e
 
 pub function_too_deep : (n : ℕ) (ts : List Token) (k : ℕ)

@@ -46,12 +46,20 @@ abbrev IsUnary : UnaryOperator → TokenKind → Type 0
 IsUnary u k = (k ≡ unary_kind u) × ((e : Expression) → takes u e ≡ true)
 
 unary_by : (u : UnaryOperator) (k : TokenKind) → prefix_by k ≡ a_unary u → IsUnary u k
-unary_by u kinds.Void e = let is : unaries.Void ≡ u = cc in subst (λ (u : UnaryOperator). IsUnary u kinds.Void) is (refl, λ e. refl)
-unary_by u kinds.Typeof e = let is : unaries.Typeof ≡ u = cc in subst (λ (u : UnaryOperator). IsUnary u kinds.Typeof) is (refl, λ e. refl)
-unary_by u kinds.Plus e = let is : unaries.Plus ≡ u = cc in subst (λ (u : UnaryOperator). IsUnary u kinds.Plus) is (refl, λ e. refl)
-unary_by u kinds.Minus e = let is : unaries.Minus ≡ u = cc in subst (λ (u : UnaryOperator). IsUnary u kinds.Minus) is (refl, λ e. refl)
-unary_by u kinds.BitwiseNot e = let is : unaries.BitwiseNot ≡ u = cc in subst (λ (u : UnaryOperator). IsUnary u kinds.BitwiseNot) is (refl, λ e. refl)
-unary_by u kinds.LogicalNot e = let is : unaries.LogicalNot ≡ u = cc in subst (λ (u : UnaryOperator). IsUnary u kinds.LogicalNot) is (refl, λ e. refl)
+unary_by u kinds.Void e =
+    let is : unaries.Void ≡ u = cc in subst (λ (u : UnaryOperator). IsUnary u kinds.Void) is (refl, λ e. refl)
+unary_by u kinds.Typeof e =
+    let is : unaries.Typeof ≡ u = cc in subst (λ (u : UnaryOperator). IsUnary u kinds.Typeof) is (refl, λ e. refl)
+unary_by u kinds.Plus e =
+    let is : unaries.Plus ≡ u = cc in subst (λ (u : UnaryOperator). IsUnary u kinds.Plus) is (refl, λ e. refl)
+unary_by u kinds.Minus e =
+    let is : unaries.Minus ≡ u = cc in subst (λ (u : UnaryOperator). IsUnary u kinds.Minus) is (refl, λ e. refl)
+unary_by u kinds.BitwiseNot e =
+    let is : unaries.BitwiseNot ≡ u = cc in
+    subst (λ (u : UnaryOperator). IsUnary u kinds.BitwiseNot) is (refl, λ e. refl)
+unary_by u kinds.LogicalNot e =
+    let is : unaries.LogicalNot ≡ u = cc in
+    subst (λ (u : UnaryOperator). IsUnary u kinds.LogicalNot) is (refl, λ e. refl)
 unary_by u _ e = absurd cc
 
 pub prefix_unary : (u : UnaryOperator) (o : Option Token)

@@ -44,7 +44,8 @@ left_count : {A : Type 0} (g : Reader A) (ts : List Token) (x : Read A) (k : ℕ
     → (s : Seen g ts x)
     → length s.left ≡ k
 left_count {A} g ts (Ok (a, [])) k e s = absurd cc
-left_count {A} g ts (Ok (a, y ∷ ys)) k e s = ap (λ (l : List Token). length l) (same_left a s.left (y ∷ ys) s.same) ∙ stuck_is {A = A} (suc (length ys)) k e
+left_count {A} g ts (Ok (a, y ∷ ys)) k e s =
+    ap (λ (l : List Token). length l) (same_left a s.left (y ∷ ys) s.same) ∙ stuck_is {A = A} (suc (length ys)) k e
 left_count {A} g ts (Err (stuck j)) k e s = same_count {A = A} (length s.left) j s.same ∙ stuck_is {A = A} j k e
 left_count {A} g ts (Err (deep j)) k e s = absurd cc
 
@@ -56,7 +57,8 @@ whole_moved : {A : Type 0} (g : Reader A) (ts : List Token) (x : Read A) (k : �
     → head_of r ≡ head_of s.left
     → whole (moved x r) ≡ Err (stuck (length r))
 whole_moved {A} g ts (Ok (a, [])) k e s r h = absurd cc
-whole_moved {A} g ts (Ok (a, y ∷ ys)) k e s r h = goes_past a r y (h ∙ ap (λ (l : List Token). head_of l) (same_left a s.left (y ∷ ys) s.same))
+whole_moved {A} g ts (Ok (a, y ∷ ys)) k e s r h =
+    goes_past a r y (h ∙ ap (λ (l : List Token). head_of l) (same_left a s.left (y ∷ ys) s.same))
 whole_moved {A} g ts (Err (stuck j)) k e s r h = refl
 whole_moved {A} g ts (Err (deep j)) k e s r h = absurd cc
 
@@ -78,10 +80,14 @@ pub stays : {A : Type 0} (f g : Reader A)
     → (r : List Token) → head_of r ≡ head_of left → whole (g (before ++ r)) ≡ Err (stuck (length r))
 stays {A} f g h ts k before left e p c r q =
     let s : Seen g ts (f ts) = clear_whole (f ts) k g ts e (h.at ts) in
-    let front : s.pre ≡ before = same_front s.pre s.left before left (sym s.parts ∙ p) (left_count g ts (f ts) k e s ∙ sym c) in
-    let back : s.left ≡ left = append_cancel_left before s.left left (ap (λ (p : List Token). p ++ s.left) (sym front) ∙ sym s.parts ∙ p) in
+    let front : s.pre ≡ before = same_front s.pre s.left before left (sym s.parts ∙ p)
+    (left_count g ts (f ts) k e s ∙ sym c) in
+    let back : s.left ≡ left = append_cancel_left before s.left left
+    (ap (λ (p : List Token). p ++ s.left) (sym front) ∙ sym s.parts ∙ p) in
     let alike : head_of r ≡ head_of s.left = q ∙ ap (λ (l : List Token). head_of l) (sym back) in
-    ap (λ (p : List Token). whole (g (p ++ r))) (sym front) ∙ ap (λ (x : Read A). whole x) (s.again r alike) ∙ whole_moved g ts (f ts) k e s r alike
+    ap (λ (p : List Token). whole (g (p ++ r))) (sym front)
+    ∙ ap (λ (x : Read A). whole x) (s.again r alike)
+    ∙ whole_moved g ts (f ts) k e s r alike
 
 not_both : {A : Type 0} (x : Result A Fault) (k : ℕ) (t : A) → x ≡ Err (stuck k) → x ≡ Ok t → ⊥
 not_both x k t e h = absurd cc
@@ -98,13 +104,17 @@ pub leaves : {A : Type 0} (Is : List Token → A → Type 0) (height_of : A → 
 leaves Is height_of read h again n ts k before [] e p c = λ q.
     let t = q.0 in
     let m : ℕ = max n (height_of t) in
-    not_both (whole (read m (before ++ []))) 0 t (stays (read n) (read m) (h n m (omega arith)) ts k before [] e p c [] refl) (ap (λ (l : List Token). whole (read m l)) (append-nil before) ∙ again m before t q.1 (omega arith))
+    not_both (whole (read m (before ++ []))) 0 t
+    (stays (read n) (read m) (h n m (omega arith)) ts k before [] e p c [] refl)
+    (ap (λ (l : List Token). whole (read m l)) (append-nil before) ∙ again m before t q.1 (omega arith))
 leaves Is height_of read h again n ts k before (y ∷ left) e p c = λ q.
     let t = q.1.0 in
     let m : ℕ = max n (height_of t) in
     let r : List Token = y ∷ q.0 in
-    not_both (whole (read m (before ++ r))) (length r) t (stays (read n) (read m) (h n m (omega arith)) ts k before (y ∷ left) e p c r refl)
-    (ap (λ (l : List Token). whole (read m l)) (sym (append_assoc before (y ∷ []) q.0)) ∙ again m ((before ++ (y ∷ [])) ++ q.0) t q.1.1 (omega arith))
+    not_both (whole (read m (before ++ r))) (length r) t
+    (stays (read n) (read m) (h n m (omega arith)) ts k before (y ∷ left) e p c r refl)
+    (ap (λ (l : List Token). whole (read m l)) (sym (append_assoc before (y ∷ []) q.0))
+    ∙ again m ((before ++ (y ∷ [])) ++ q.0) t q.1.1 (omega arith))
 
 -- ---- whole sources
 
@@ -116,7 +126,8 @@ pub expression_leaves : (n : ℕ) (ts : List Token) (k : ℕ) (before left : Lis
     → Leaves IsExpression before left
 unfolding parse_expression
 expression_leaves n ts k before left e p c =
-    leaves IsExpression height (λ m ts. (below m).expression ts) (λ n m le. (follows_below n m le).expression) (λ m ts t i l. expression_again_whole m ts t i l) n ts k before left e p c
+    leaves IsExpression height (λ m ts. (below m).expression ts) (λ n m le. (follows_below n m le).expression)
+    (λ m ts t i l. expression_again_whole m ts t i l) n ts k before left e p c
 
 pub script_leaves : (n : ℕ) (earlier : List Identifier) (ts : List Token) (k : ℕ) (before left : List Token)
     → parse_script n earlier ts ≡ Err (stuck k)
@@ -125,7 +136,9 @@ pub script_leaves : (n : ℕ) (earlier : List Identifier) (ts : List Token) (k :
     → Leaves (IsScript earlier) before left
 unfolding parse_script
 script_leaves n earlier ts k before left e p c =
-    leaves (IsScript earlier) height_of_statements (λ m ts. items_at (below m) top earlier ts) (λ n m le. items_follows_below n m le top earlier) (λ m ts t i l. script_again_whole m earlier ts t i l) n ts k before left e p c
+    leaves (IsScript earlier) height_of_statements (λ m ts. items_at (below m) top earlier ts)
+    (λ n m le. items_follows_below n m le top earlier) (λ m ts t i l. script_again_whole m earlier ts t i l)
+    n ts k before left e p c
 
 -- what parse_function reads by
 abbrev pub function_reader : ℕ → Reader Expression
@@ -148,4 +161,6 @@ pub function_leaves : (n : ℕ) (ts : List Token) (k : ℕ) (before left : List 
     → length left ≡ k
     → Leaves IsFunction before left
 function_leaves n ts k before left e p c =
-    leaves IsFunction height function_reader function_reader_follows (λ m ts t i l. sym (function_whole m ts) ∙ function_again_whole m ts t i l) n ts k before left (sym (function_whole n ts) ∙ e) p c
+    leaves IsFunction height function_reader function_reader_follows
+    (λ m ts t i l. sym (function_whole m ts) ∙ function_again_whole m ts t i l) n ts k before left
+    (sym (function_whole n ts) ∙ e) p c

@@ -93,7 +93,13 @@ unfolding below
 own_zero = record {
   follows = from_none (below zero);
   spans = record {
-    names = record { follows = deepens (λ ts. Err (deep (length ts))); alone = λ t ts e h. inl (suc (length ts), refl); past = λ t ts e. tt };
+    names =
+        record {
+          follows = deepens (λ ts. Err (deep (length ts)));
+          alone = λ t ts e h. inl
+              (suc (length ts), refl);
+          past = λ t ts e. tt;
+        };
     closes = λ ts e. tt;
   };
 }
@@ -132,21 +138,29 @@ items_follows_below n m le context taken = items_at_follows (below n) (below m) 
 
 one_follows : (b c : Below) → Pair b c → Follows (λ ts. arrow_of_one b ts) (λ ts. arrow_of_one c ts)
 unfolding arrow_of_one
-one_follows b c p = binds (λ ts. name_at ts) (λ ts. name_at ts) (λ n ts. arrow_rest b (trees.one_name n) (n ∷ []) ts) (λ n ts. arrow_rest c (trees.one_name n) (n ∷ []) ts) name_follows (λ n. arrow_rest_follows b c p (trees.one_name n) (n ∷ []))
+one_follows b c p =
+    binds (λ ts. name_at ts) (λ ts. name_at ts) (λ n ts. arrow_rest b (trees.one_name n) (n ∷ []) ts)
+    (λ n ts. arrow_rest c (trees.one_name n) (n ∷ []) ts) name_follows
+    (λ n. arrow_rest_follows b c p (trees.one_name n) (n ∷ []))
 
 code_by_follows : (b c : Below)
     → Pair b c
     → (v : Start)
     → Follows (λ ts. function_code_by b v ts) (λ ts. function_code_by c v ts)
-code_by_follows b c p classes.function_word = past (λ ts. function_at b ts) (λ ts. function_at c ts) (function_follows b c p)
+code_by_follows b c p classes.function_word =
+    past (λ ts. function_at b ts) (λ ts. function_at c ts) (function_follows b c p)
 code_by_follows b c p (classes.a_name s) = one_follows b c p
-code_by_follows b c p classes.parenthesis = binds (λ ts. parameters_at ts) (λ ts. parameters_at ts) (λ ps ts. arrow_rest b (trees.name_list ps) ps ts) (λ ps ts. arrow_rest c (trees.name_list ps) ps ts) parameters_follows (λ ps. arrow_rest_follows b c p (trees.name_list ps) ps)
+code_by_follows b c p classes.parenthesis =
+    binds (λ ts. parameters_at ts) (λ ts. parameters_at ts) (λ ps ts. arrow_rest b (trees.name_list ps) ps ts)
+    (λ ps ts. arrow_rest c (trees.name_list ps) ps ts) parameters_follows
+    (λ ps. arrow_rest_follows b c p (trees.name_list ps) ps)
 code_by_follows b c p _ = sticks
 
 pub function_code_follows : (b c : Below)
     → Pair b c
     → Follows (λ ts. function_code_by b (start (head_of ts)) ts) (λ ts. function_code_by c (start (head_of ts)) ts)
-function_code_follows b c p = peeks start (λ v ts. function_code_by b v ts) (λ v ts. function_code_by c v ts) (code_by_follows b c p)
+function_code_follows b c p =
+    peeks start (λ v ts. function_code_by b v ts) (λ v ts. function_code_by c v ts) (code_by_follows b c p)
 
 -- how names in parentheses are gone over
 pub spans_below : (n : ℕ) → Spans (below n)

@@ -69,7 +69,8 @@ pub function_read : (n : ℕ) (ts : List Token) (e : Expression)
 unfolding parse_function
 function_read zero ts e h = absurd cc
 function_read (suc n) ts e h =
-    let t = function_code_sound seq_sound n (below n) (sound_below n) (start (head_of ts)) ts (e, []) refl (whole_ok (function_code_by (below n) (start (head_of ts)) ts) e h) in
+    let t = function_code_sound seq_sound n (below n) (sound_below n) (start (head_of ts)) ts (e, []) refl
+    (whole_ok (function_code_by (below n) (start (head_of ts)) ts) e h) in
     (record { form = t.1; well = t.0.well; spelled = t.0.marks }, t.0.height)
 
 pub script_read : (n : ℕ) (earlier : List Identifier) (ts : List Token) (body : Statements)
@@ -77,5 +78,6 @@ pub script_read : (n : ℕ) (earlier : List Identifier) (ts : List Token) (body 
     → IsScript earlier ts body × (height_of_statements body ≤ n)
 unfolding parse_script
 script_read n earlier ts body h =
-    let t = items_at_sound n (below n) (sound_below n) top earlier ts (body, []) (whole_ok (items_at (below n) top earlier ts) body h) in
+    let t = items_at_sound n (below n) (sound_below n) top earlier ts (body, [])
+    (whole_ok (items_at (below n) top earlier ts) body h) in
     (record { well = (t.fresh, t.well); spelled = t.marks }, t.height)

@@ -79,7 +79,8 @@ reserved_not_free = refl
 
 free_not_reserved : (n : List ℕ) → is_free n ≡ true → (k : TokenKind) → IsListed (k, n) reserved_words → ⊥
 free_not_reserved n f k l =
-    let h : not (is_free n) ≡ true = all_listed (λ (e : TokenKind × List ℕ). not (is_free e.1)) reserved_words reserved_not_free (k, n) l in
+    let h : not (is_free n) ≡ true = all_listed (λ (e : TokenKind × List ℕ). not (is_free e.1))
+    reserved_words reserved_not_free (k, n) l in
     let no : false ≡ true = rw f at h in
     cc
 
@@ -103,5 +104,7 @@ pub kind_token : (k : TokenKind) → IsToken k (text_of_kind k) []
 unfolding reserved_words punctuators
 kind_token kinds.Name = free_token (120 ∷ []) refl
 kind_token kinds.Number = number refl (record { numeral = refl; safe = omega arith }) refl
-kind_token kinds.String = string refl ([], record { quote = 34; characters = []; quoted = refl; spelled = refl; each = tt; stands_for = refl })
+kind_token kinds.String =
+    string refl
+    ([], record { quote = 34; characters = []; quoted = refl; spelled = refl; each = tt; stands_for = refl })
 kind_token k = fixed_token k refl

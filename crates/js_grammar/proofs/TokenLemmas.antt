@@ -69,7 +69,8 @@ pub name_sound : (ts : List Token) (y : Identifier × List Token)
 unfolding name_at
 name_sound ts y e =
     let t = test_ok (is_kind kinds.Name (head_of ts)) (Ok (text_of (head_of ts), tail_of ts)) (stuck (length ts)) y e in
-    subst (λ (y : Identifier × List Token). Matches (token (identifier y.0) ∷ []) ts y.1) (ok_is (text_of (head_of ts), tail_of ts) y t.1) (name_next (head_of ts) t.0, refl)
+    subst (λ (y : Identifier × List Token). Matches (token (identifier y.0) ∷ []) ts y.1)
+    (ok_is (text_of (head_of ts), tail_of ts) y t.1) (name_next (head_of ts) t.0, refl)
 
 pub text_is : (n : Identifier) (o : Option Token)
     → IsNext (identifier n) o
@@ -88,19 +89,21 @@ pub fresh_sound : (taken : List Identifier) (ts : List Token) (y : Identifier ×
     → fresh_name taken ts ≡ Ok y
     → Matches (token (identifier y.0) ∷ []) ts y.1 × (is_among taken y.0 ≡ false)
 unfolding fresh_name
-fresh_sound taken ts y e = elim (cond_ok (is_among taken (text_of (head_of ts))) (Err (stuck (length ts))) (name_at ts) y e) [
-  | inl q ↦ absurd cc
-  | inr q ↦
-      let m = name_sound ts y q.1 in
-      (m, ap (λ (n : Identifier). is_among taken n) (sym (text_is y.0 (head_of ts) m.0).1) ∙ q.0)
-]
+fresh_sound taken ts y e =
+    elim (cond_ok (is_among taken (text_of (head_of ts))) (Err (stuck (length ts))) (name_at ts) y e) [
+      | inl q ↦ absurd cc
+      | inr q ↦
+          let m = name_sound ts y q.1 in
+          (m, ap (λ (n : Identifier). is_among taken n) (sym (text_is y.0 (head_of ts) m.0).1) ∙ q.0)
+    ]
 
 pub fresh_again : (taken : List Identifier) (n : Identifier) (ts r : List Token)
     → Matches (token (identifier n) ∷ []) ts r
     → is_among taken n ≡ false
     → fresh_name taken ts ≡ Ok (n, r)
 unfolding fresh_name
-fresh_again taken n ts r m f = rw (ap (λ (n : Identifier). is_among taken n) (text_is n (head_of ts) m.0).1 ∙ f) (name_again n ts r m)
+fresh_again taken n ts r m f =
+    rw (ap (λ (n : Identifier). is_among taken n) (text_is n (head_of ts) m.0).1 ∙ f) (name_again n ts r m)
 
 pub word_sound : (ts : List Token) (y : List ℕ × List Token)
     → word_at ts ≡ Ok y
@@ -108,7 +111,8 @@ pub word_sound : (ts : List Token) (y : List ℕ × List Token)
 unfolding word_at
 word_sound ts y e =
     let t = test_ok (is_word_next (head_of ts)) (Ok (text_of (head_of ts), tail_of ts)) (stuck (length ts)) y e in
-    subst (λ (y : List ℕ × List Token). Matches (token (identifier_name y.0) ∷ []) ts y.1) (ok_is (text_of (head_of ts), tail_of ts) y t.1) (word_next (head_of ts) t.0, refl)
+    subst (λ (y : List ℕ × List Token). Matches (token (identifier_name y.0) ∷ []) ts y.1)
+    (ok_is (text_of (head_of ts), tail_of ts) y t.1) (word_next (head_of ts) t.0, refl)
 
 word_is : (n : List ℕ) (o : Option Token) → IsNext (identifier_name n) o → (is_word_next o ≡ true) × (text_of o ≡ n)
 word_is n None m = absurd m
@@ -126,12 +130,15 @@ pub semicolon_sound : (end : End) (ts : List Token) (y : Unit {0} × List Token)
     → semicolon_at end ts ≡ Ok y
     → Matches (semicolon end ∷ []) ts y.1
 unfolding semicolon_at
-semicolon_sound end ts y e = elim (cond_ok (is_kind kinds.Semicolon (head_of ts)) (Ok (tt, tail_of ts)) (cond (absent end (head_of ts)) (Ok (tt, ts)) (Err (stuck (length ts)))) y e) [
-  | inl q ↦ inl (next_is kinds.Semicolon (head_of ts) q.0, ap (λ (p : Unit {0} × List Token). p.1) (ok_is (tt, tail_of ts) y q.1))
-  | inr q ↦
-      let t = test_ok (absent end (head_of ts)) (Ok (tt, ts)) (stuck (length ts)) y q.1 in
-      inr (t.0, ap (λ (p : Unit {0} × List Token). p.1) (ok_is (tt, ts) y t.1))
-]
+semicolon_sound end ts y e =
+    elim (cond_ok (is_kind kinds.Semicolon (head_of ts)) (Ok (tt, tail_of ts))
+    (cond (absent end (head_of ts)) (Ok (tt, ts)) (Err (stuck (length ts)))) y e) [
+      | inl q ↦ inl
+          (next_is kinds.Semicolon (head_of ts) q.0, ap (λ (p : Unit {0} × List Token). p.1) (ok_is (tt, tail_of ts) y q.1))
+      | inr q ↦
+          let t = test_ok (absent end (head_of ts)) (Ok (tt, ts)) (stuck (length ts)) y q.1 in
+          inr (t.0, ap (λ (p : Unit {0} × List Token). p.1) (ok_is (tt, ts) y t.1))
+    ]
 
 absent_is : (end : End) (o : Option Token) → absent end o ≡ true → is_kind kinds.Semicolon o ≡ false
 absent_is end None a = refl
@@ -147,5 +154,6 @@ pub semicolon_again : (end : End) (ts r : List Token)
     → Matches (semicolon end ∷ []) ts r
     → semicolon_at end ts ≡ Ok (tt, r)
 unfolding semicolon_at
-semicolon_again end ts r (inl m) = rw (next_again kinds.Semicolon (head_of ts) m.0) (ap (λ (l : List Token). Ok (tt, l)) m.1)
+semicolon_again end ts r (inl m) =
+    rw (next_again kinds.Semicolon (head_of ts) m.0) (ap (λ (l : List Token). Ok (tt, l)) m.1)
 semicolon_again end ts r (inr m) = rw (absent_is end (head_of ts) m.0, m.0) (ap (λ (l : List Token). Ok (tt, l)) m.1)

@@ -22,7 +22,11 @@ AreAlike [] [] = Unit {0}
 AreAlike [] (u ∷ us) = ⊥
 AreAlike (t ∷ ts) [] = ⊥
 AreAlike (t ∷ ts) (u ∷ us) =
-    (t.kind ≡ u.kind) × (t.string_value ≡ u.string_value) × (t.numeric_value ≡ u.numeric_value) × (t.newline_before ≡ u.newline_before) × AreAlike ts us
+    (t.kind ≡ u.kind)
+    × (t.string_value ≡ u.string_value)
+    × (t.numeric_value ≡ u.numeric_value)
+    × (t.newline_before ≡ u.newline_before)
+    × AreAlike ts us
 
 -- Tokens that can be written behind these make them a source in the language.
 pub record BeginsWritten {Tree : Type 0} (Is : List Token → Tree → Type 0) (ts : List Token) : Type 0 where
@@ -45,7 +49,8 @@ pub record LeavesAt {Tree : Type 0} (Is : List Token → Tree → Type 0) (ts : 
   pub leaves : Leaves Is before left
 
 -- Some first tokens begin the language, and only trees that are deeper than n begin with them.
-pub record TooDeepFrom {Tree : Type 0} (Is : List Token → Tree → Type 0) (height_of : Tree → ℕ) (ts : List Token) (n : ℕ) : Type 0 where
+pub record TooDeepFrom {Tree : Type 0} (Is : List Token → Tree → Type 0) (height_of : Tree → ℕ) (ts : List Token)
+    (n : ℕ) : Type 0 where
   pub before : List Token
   pub left : List Token
   pub parts : ts ≡ before ++ left

@@ -70,7 +70,9 @@ pub keeps-trans : (u v w : World) → Keeps u v → Keeps v w → Keeps u w
 keeps-trans u v w h k = record {
   start = k.start ∙ h.start;
   kinds = λ a. stays-trans (read_cell u a) (read_cell v a) (read_cell w a) (h.kinds a) (k.kinds a);
-  others = let P : Option ℕ → Type 0 = λ o. OthersStay o v w in others-trans u.start u v w h.others (subst P h.start k.others);
+  others =
+      let P : Option ℕ → Type 0 = λ o. OthersStay o v w in
+      others-trans u.start u v w h.others (subst P h.start k.others);
 }
 
 -- ---- making
@@ -85,7 +87,8 @@ made_kinds w r (Some n) c (Scratch i) = stays-append w.scratch c i
 pub made_others : (w : World) (r : Room) (o : Option ℕ) (c : Cell)
     → OthersStay o w (record (with_cell w o c) { room = r })
 made_others w r None c = tt
-made_others w r (Some n) c = (refl, λ h. (omega (arith, length-append w.scratch (c ∷ [])), take-append-le n w.scratch (c ∷ []) h))
+made_others w r (Some n) c =
+    (refl, λ h. (omega (arith, length-append w.scratch (c ∷ [])), take-append-le n w.scratch (c ∷ []) h))
 
 pub made_start : (w : World) (r : Room) (o : Option ℕ) (c : Cell)
     → let v : World = record (with_cell w o c) { room = r } in v.start ≡ w.start
@@ -96,7 +99,8 @@ pub making-keeps : (w : World) (c : Cell) → AfterFine (make_cell w c) (λ a v.
 making-keeps w c =
     let v : World = record (with_cell w w.start c) { room = room_less w.room (weight c) } in
     let P : Addr → World → Type 0 = λ a u. Keeps w u in
-    fine_if (nat_lt 0 w.room.cells) counted.Cells (if nat_le (weight c) w.room.units then fine (next_address w w.start) v else full counted.Units) P
+    fine_if (nat_lt 0 w.room.cells) counted.Cells
+    (if nat_le (weight c) w.room.units then fine (next_address w w.start) v else full counted.Units) P
     (fine_if (nat_le (weight c) w.room.units) counted.Units (fine (next_address w w.start) v) P
     (record { start = made_start w v.room w.start c; kinds = made_kinds w v.room w.start c; others = made_others w v.room w.start c }))
 
@@ -126,8 +130,10 @@ changed-kind (cells.Error class ps) (changes.Declare d b) = tt
 changed-kind (cells.Error class ps) (changes.Bind d v) = tt
 changed-kind (cells.Array vs) (changes.Put k v) = tt
 changed-kind (cells.Array vs) (changes.Remove k) = tt
-changed-kind (cells.Array vs) (changes.Element i v) = kept_if (nat_le i (length vs)) (cells.Array vs) (cells.Array (with_element vs i v)) refl
-changed-kind (cells.Array vs) (changes.Length l) = kept_if (nat_le l (length vs)) (cells.Array vs) (cells.Array (take l vs)) refl
+changed-kind (cells.Array vs) (changes.Element i v) =
+    kept_if (nat_le i (length vs)) (cells.Array vs) (cells.Array (with_element vs i v)) refl
+changed-kind (cells.Array vs) (changes.Length l) =
+    kept_if (nat_le l (length vs)) (cells.Array vs) (cells.Array (take l vs)) refl
 changed-kind (cells.Array vs) (changes.Declare d b) = tt
 changed-kind (cells.Array vs) (changes.Bind d v) = tt
 changed-kind (cells.Text us) ch = tt
@@ -137,7 +143,8 @@ changed-kind (cells.Bindings k n o ns) (changes.Remove key) = tt
 changed-kind (cells.Bindings k n o ns) (changes.Element i v) = tt
 changed-kind (cells.Bindings k n o ns) (changes.Length l) = tt
 changed-kind (cells.Bindings k n o ns) (changes.Declare d b) = refl
-changed-kind (cells.Bindings k n o ns) (changes.Bind d v) = kept_if (is_some (binding_of ns d)) (cells.Bindings k n o ns) (cells.Bindings k n o _) refl
+changed-kind (cells.Bindings k n o ns) (changes.Bind d v) =
+    kept_if (is_some (binding_of ns d)) (cells.Bindings k n o ns) (cells.Bindings k n o _) refl
 
 pub set_kinds : (w : World) (r : Room) (a : Addr) (old new : Cell)
     → read_cell w a ≡ Some old
@@ -168,7 +175,8 @@ pub set-keeps : (w : World) (r : Room) (a : Addr) (old new : Cell)
     → kind_of new ≡ kind_of old
     → is_own w.start a ≡ true
     → Keeps w (record (replaced w a new) { room = r })
-set-keeps w r a old new e k own = record { start = set_start w r a new; kinds = set_kinds w r a old new e k; others = set_others w.start w r a new own }
+set-keeps w r a old new e k own =
+    record { start = set_start w r a new; kinds = set_kinds w r a old new e k; others = set_others w.start w r a new own }
 
 pub written_keeps : (w : World) (a : Addr) (old : Cell) (o : Option Cell)
     → read_cell w a ≡ Some old
@@ -179,7 +187,8 @@ written_keeps w a old None e k own = keeps-same w
 written_keeps w a old (Some new) e k own =
     let v : World = record (replaced w a new) { room = room_after w.room (weight old) (weight new) } in
     let P : Unit {0} → World → Type 0 = λ u x. Keeps w x in
-    fine_if (nat_le (weight new) (w.room.units + weight old)) counted.Units (fine tt v) P (set-keeps w v.room a old new e k own)
+    fine_if (nat_le (weight new) (w.room.units + weight old)) counted.Units (fine tt v) P
+    (set-keeps w v.room a old new e k own)
 
 pub written_at_keeps : (w : World) (a : Addr) (ch : Change) (o : Option Cell)
     → read_cell w a ≡ o

@@ -35,7 +35,9 @@ within-none : (v : ℕ) → 4294967295 ≤ v → (if nat_lt v (2 ^ 32 - 1) then 
 within-none v h = grind arith
 
 pub index-some : (key : List ℕ) (v : ℕ) → digits_value 10 key ≡ v → v < 4294967295 → Some v ≡ index_within key
-index-some key v e h = let P : ℕ → Type 0 = λ d. Some v ≡ (if nat_lt d (2 ^ 32 - 1) then Some d else None) in subst P (sym e) (sym (within-some v h))
+index-some key v e h =
+    let P : ℕ → Type 0 = λ d. Some v ≡ (if nat_lt d (2 ^ 32 - 1) then Some d else None) in
+    subst P (sym e) (sym (within-some v h))
 
 pub index-none : (key : List ℕ) → 4294967295 ≤ digits_value 10 key → None ≡ index_within key
 index-none key h = sym (within-none (digits_value 10 key) h)
@@ -52,5 +54,7 @@ pub value-past : (key : List ℕ) (i n : ℕ)
     → all_ascii_digits (drop i key) ≡ true
     → n * 10 + (get_or key i 0 - 48) ≤ digits_value_after 10 n (drop i key)
 value-past [] i n h d = absurd (omega arith)
-value-past (u ∷ us) zero n h d = let e = digit-of u (first_digit (is_ascii_digit u) (all_ascii_digits us) d) in omega (arith, e, after-grows us (n * 10 + digit_value u))
+value-past (u ∷ us) zero n h d =
+    let e = digit-of u (first_digit (is_ascii_digit u) (all_ascii_digits us) d) in
+    omega (arith, e, after-grows us (n * 10 + digit_value u))
 value-past (u ∷ us) (suc i) n h d = value-past us i n (omega arith) d

@@ -58,14 +58,17 @@ made_others w r (Some n) c (Scratch i) = cell-append w.scratch c i
 has_made : (w : World) (r : Room) (o : Option ℕ) (c : Cell)
     → HasMadeCell w c (next_address w o) (record (with_cell w o c) { room = r })
 has_made w r None c = record { fresh = get-end w.base; made = get-last w.base c; others = made_others w r None c }
-has_made w r (Some n) c = record { fresh = get-end w.scratch; made = get-last w.scratch c; others = made_others w r (Some n) c }
+has_made w r (Some n) c =
+    record { fresh = get-end w.scratch; made = get-last w.scratch c; others = made_others w r (Some n) c }
 
 pub making-makes : (w : World) (c : Cell) → AfterFine (make_cell w c) (λ a v. HasMadeCell w c a v)
 making-makes w c =
     let v : World = record (with_cell w w.start c) { room = room_less w.room (weight c) } in
     let P : Addr → World → Type 0 = λ a u. HasMadeCell w c a u in
-    fine_if (nat_lt 0 w.room.cells) counted.Cells (if nat_le (weight c) w.room.units then fine (next_address w w.start) v else full counted.Units) P
-    (fine_if (nat_le (weight c) w.room.units) counted.Units (fine (next_address w w.start) v) P (has_made w v.room w.start c))
+    fine_if (nat_lt 0 w.room.cells) counted.Cells
+    (if nat_le (weight c) w.room.units then fine (next_address w w.start) v else full counted.Units) P
+    (fine_if (nat_le (weight c) w.room.units) counted.Units (fine (next_address w w.start) v) P
+    (has_made w v.room w.start c))
 
 -- ---- writing
 
@@ -98,7 +101,11 @@ written_one w a old ch (Some new) e q =
     let v : World = record (replaced w a new) { room = room_after w.room (weight old) (weight new) } in
     let P : Unit {0} → World → Type 0 = λ u x. HasWritten w a ch x in
     fine_if (nat_le (weight new) (w.room.units + weight old)) counted.Units (fine tt v) P
-    (record { cell = set_read w v.room a old new e ∙ sym (after-is w a old ch (Some new) e q); others = set_others w v.room a new })
+    (record {
+      cell = set_read w v.room a old new e
+          ∙ sym (after-is w a old ch (Some new) e q);
+      others = set_others w v.room a new;
+    })
 
 written_at_one : (w : World) (a : Addr) (ch : Change) (o : Option Cell)
     → read_cell w a ≡ o

@@ -20,11 +20,14 @@ has_if false c n m e = e ∙ grind arith
 
 pub has-place : (ps : List Property) (key : List ℕ) → has_key ps key ≡ nat_lt (key_place ps key) (length ps)
 has-place [] key = grind arith
-has-place (p ∷ ps) key = has_if (same_units p.key key) (has_key ps key) (key_place ps key) (length ps) (has-place ps key)
+has-place (p ∷ ps) key =
+    has_if (same_units p.key key) (has_key ps key) (key_place ps key) (length ps) (has-place ps key)
 
 value_if : (b : Bool) (p : Property) (ps : List Property) (key : List ℕ) (v : Value) (d : Property)
     → with_value ps key v ≡ slice_set ps (key_place ps key) (record (get_or ps (key_place ps key) d) { value = v }) →
-    (if b then record p { value = v } ∷ ps else p ∷ with_value ps key v) ≡ slice_set (p ∷ ps) (if b then 0 else 1 + key_place ps key) (record (get_or (p ∷ ps) (if b then 0 else 1 + key_place ps key) d) { value = v })
+    (if b then record p { value = v } ∷ ps else p ∷ with_value ps key v) ≡ slice_set (p ∷ ps)
+    (if b then 0 else 1 + key_place ps key)
+    (record (get_or (p ∷ ps) (if b then 0 else 1 + key_place ps key) d) { value = v })
 value_if true p ps key v d e = refl
 value_if false p ps key v d e = rw (one_plus (key_place ps key)) (ap {B = List Property} (λ qs. p ∷ qs) e)
 
@@ -45,20 +48,25 @@ without-place (p ∷ ps) key = without_if (same_units p.key key) p ps key (witho
 
 placed_if : (b : Bool) (p : Property) (ps : List Property) (new : Property)
     → placed ps new ≡ insert ps (new_place ps (index_of_key new.key)) new
-    → (if b then new ∷ p ∷ ps else p ∷ placed ps new) ≡ insert (p ∷ ps) (if b then 0 else 1 + new_place ps (index_of_key new.key)) new
+    → (if b then new ∷ p ∷ ps else p ∷ placed ps new) ≡ insert (p ∷ ps)
+    (if b then 0 else 1 + new_place ps (index_of_key new.key)) new
 placed_if true p ps new e = refl
-placed_if false p ps new e = rw (one_plus (new_place ps (index_of_key new.key))) (ap {B = List Property} (λ qs. p ∷ qs) e)
+placed_if false p ps new e =
+    rw (one_plus (new_place ps (index_of_key new.key))) (ap {B = List Property} (λ qs. p ∷ qs) e)
 
 pub placed-place : (ps : List Property) (new : Property)
     → placed ps new ≡ insert ps (new_place ps (index_of_key new.key)) new
 placed-place [] new = refl
-placed-place (p ∷ ps) new = placed_if (stands_before (index_of_key new.key) (index_of_key p.key)) p ps new (placed-place ps new)
+placed-place (p ∷ ps) new =
+    placed_if (stands_before (index_of_key new.key) (index_of_key p.key)) p ps new (placed-place ps new)
 
 -- ---- a name's binding
 
 bound_if : (t : Bool) (b : Binding) (bs : List Binding) (n : List ℕ) (v : Value) (d : Binding)
     → bound bs n v ≡ slice_set bs (name_place bs n) (record (get_or bs (name_place bs n) d) { value = Some v }) →
-    (if t then record b { value = Some v } ∷ bs else b ∷ bound bs n v) ≡ slice_set (b ∷ bs) (if t then 0 else 1 + name_place bs n) (record (get_or (b ∷ bs) (if t then 0 else 1 + name_place bs n) d) { value = Some v })
+    (if t then record b { value = Some v } ∷ bs else b ∷ bound bs n v) ≡ slice_set (b ∷ bs)
+    (if t then 0 else 1 + name_place bs n)
+    (record (get_or (b ∷ bs) (if t then 0 else 1 + name_place bs n) d) { value = Some v })
 bound_if true b bs n v d e = refl
 bound_if false b bs n v d e = rw (one_plus (name_place bs n)) (ap {B = List Binding} (λ cs. b ∷ cs) e)
 
@@ -113,7 +121,8 @@ pub put-at : (ps qs : List Property) (key : List ℕ) (v : Value) (at : ℕ) (r 
 put-at ps qs key v at r e f h g =
     let Q : ℕ → Type 0 = λ i. i < length qs in
     let k : key_place qs key < length qs = subst Q f h in
-    let w : slice_set qs (key_place qs key) (record (get_or qs (key_place qs key) r) { value = v }) ≡ with_value qs key v = sym (value-place qs key v r) in
+    let w : slice_set qs (key_place qs key) (record (get_or qs (key_place qs key) r) { value = v })
+    ≡ with_value qs key v = sym (value-place qs key v r) in
     let R : ℕ → Type 0 = λ i. slice_set qs i (record (get_or qs i r) { value = v }) ≡ with_value qs key v in
     let x : slice_set qs at (record (get_or qs at r) { value = v }) ≡ with_value qs key v = subst R (sym f) w in
     let S : Property → Type 0 = λ s. slice_set qs at (record s { value = v }) ≡ with_value qs key v in

@@ -105,18 +105,28 @@ pub made_sound : (w : World) (r : Room) (o : Option ℕ) (c : Cell)
 made_sound w r None c h k =
     let v : World = record (with_cell w None c) { room = r } in
     let l : Later w v = made_kinds w r None c in
-    record { base_cells = cells-append v w.base c (sound_cells w v l w.base h.base_cells) (sound_cell w v l c k); scratch_cells = sound_cells w v l w.scratch h.scratch_cells }
+    record {
+      base_cells = cells-append v w.base c (sound_cells w v l w.base h.base_cells)
+          (sound_cell w v l c k);
+      scratch_cells = sound_cells w v l w.scratch h.scratch_cells;
+    }
 made_sound w r (Some n) c h k =
     let v : World = record (with_cell w (Some n) c) { room = r } in
     let l : Later w v = made_kinds w r (Some n) c in
-    record { base_cells = sound_cells w v l w.base h.base_cells; scratch_cells = cells-append v w.scratch c (sound_cells w v l w.scratch h.scratch_cells) (sound_cell w v l c k) }
+    record {
+      base_cells = sound_cells w v l w.base h.base_cells;
+      scratch_cells = cells-append v w.scratch c
+          (sound_cells w v l w.scratch h.scratch_cells) (sound_cell w v l c k);
+    }
 
 pub making-sound : (w : World) (c : Cell) → IsSound w → SoundCell w c → AfterFine (make_cell w c) (λ a v. IsSound v)
 making-sound w c h k =
     let v : World = record (with_cell w w.start c) { room = room_less w.room (weight c) } in
     let P : Addr → World → Type 0 = λ a u. IsSound u in
-    fine_if (nat_lt 0 w.room.cells) counted.Cells (if nat_le (weight c) w.room.units then fine (next_address w w.start) v else full counted.Units) P
-    (fine_if (nat_le (weight c) w.room.units) counted.Units (fine (next_address w w.start) v) P (made_sound w v.room w.start c h k))
+    fine_if (nat_lt 0 w.room.cells) counted.Cells
+    (if nat_le (weight c) w.room.units then fine (next_address w w.start) v else full counted.Units) P
+    (fine_if (nat_le (weight c) w.room.units) counted.Units (fine (next_address w w.start) v) P
+    (made_sound w v.room w.start c h k))
 
 -- ---- changes
 
@@ -148,7 +158,8 @@ pub place_new : (w : World) (ps : List Property) (new : Property)
     → SoundValue w new.value
     → SoundProperties w (placed ps new)
 place_new w [] new h k = (k, tt)
-place_new w (p ∷ ps) new h k = place_new_if w (stands_before (index_of_key new.key) (index_of_key p.key)) p ps new h k (place_new w ps new h.1 k)
+place_new w (p ∷ ps) new h k =
+    place_new_if w (stands_before (index_of_key new.key) (index_of_key p.key)) p ps new h k (place_new w ps new h.1 k)
 
 pub put_sound_if : (w : World) (b : Bool) (ps : List Property) (key : List ℕ) (v : Value)
     → SoundProperties w ps
@@ -248,8 +259,11 @@ changed-sound w (cells.Error class ps) (changes.Declare d b) h s = tt
 changed-sound w (cells.Error class ps) (changes.Bind d v) h s = tt
 changed-sound w (cells.Array vs) (changes.Put k v) h s = tt
 changed-sound w (cells.Array vs) (changes.Remove k) h s = tt
-changed-sound w (cells.Array vs) (changes.Element i v) h s = some_if w (nat_le i (length vs)) (cells.Array (with_element vs i v)) (element_if w (nat_lt i (length vs)) vs i v h s)
-changed-sound w (cells.Array vs) (changes.Length l) h s = some_if w (nat_le l (length vs)) (cells.Array (take l vs)) (values-take w vs l h)
+changed-sound w (cells.Array vs) (changes.Element i v) h s =
+    some_if w (nat_le i (length vs)) (cells.Array (with_element vs i v))
+    (element_if w (nat_lt i (length vs)) vs i v h s)
+changed-sound w (cells.Array vs) (changes.Length l) h s =
+    some_if w (nat_le l (length vs)) (cells.Array (take l vs)) (values-take w vs l h)
 changed-sound w (cells.Array vs) (changes.Declare d b) h s = tt
 changed-sound w (cells.Array vs) (changes.Bind d v) h s = tt
 changed-sound w (cells.Text us) ch h s = tt
@@ -259,7 +273,8 @@ changed-sound w (cells.Bindings k n o ns) (changes.Remove key) h s = tt
 changed-sound w (cells.Bindings k n o ns) (changes.Element i v) h s = tt
 changed-sound w (cells.Bindings k n o ns) (changes.Length l) h s = tt
 changed-sound w (cells.Bindings k n o ns) (changes.Declare d b) h s = (h.0, names-append w ns d b h.1)
-changed-sound w (cells.Bindings k n o ns) (changes.Bind d v) h s = some_if w (is_some (binding_of ns d)) (cells.Bindings k n o (bound ns d v)) (h.0, bind_sound w ns d v h.1 s)
+changed-sound w (cells.Bindings k n o ns) (changes.Bind d v) h s =
+    some_if w (is_some (binding_of ns d)) (cells.Bindings k n o (bound ns d v)) (h.0, bind_sound w ns d v h.1 s)
 
 -- ---- writing
 
@@ -272,11 +287,19 @@ pub set_sound : (w : World) (r : Room) (a : Addr) (old new : Cell)
 set_sound w r (Base j) old new e k h s =
     let v : World = record (replaced w (Base j) new) { room = r } in
     let l : Later w v = set_kinds w r (Base j) old new e k in
-    record { base_cells = cells-set v w.base j new (sound_cells w v l w.base h.base_cells) (sound_cell w v l new s); scratch_cells = sound_cells w v l w.scratch h.scratch_cells }
+    record {
+      base_cells = cells-set v w.base j new (sound_cells w v l w.base h.base_cells)
+          (sound_cell w v l new s);
+      scratch_cells = sound_cells w v l w.scratch h.scratch_cells;
+    }
 set_sound w r (Scratch j) old new e k h s =
     let v : World = record (replaced w (Scratch j) new) { room = r } in
     let l : Later w v = set_kinds w r (Scratch j) old new e k in
-    record { base_cells = sound_cells w v l w.base h.base_cells; scratch_cells = cells-set v w.scratch j new (sound_cells w v l w.scratch h.scratch_cells) (sound_cell w v l new s) }
+    record {
+      base_cells = sound_cells w v l w.base h.base_cells;
+      scratch_cells = cells-set v w.scratch j new
+          (sound_cells w v l w.scratch h.scratch_cells) (sound_cell w v l new s);
+    }
 
 pub written_sound : (w : World) (a : Addr) (old : Cell) (o : Option Cell)
     → read_cell w a ≡ Some old
@@ -288,7 +311,8 @@ written_sound w a old None e k h s = h
 written_sound w a old (Some new) e k h s =
     let v : World = record (replaced w a new) { room = room_after w.room (weight old) (weight new) } in
     let P : Unit {0} → World → Type 0 = λ u x. IsSound x in
-    fine_if (nat_le (weight new) (w.room.units + weight old)) counted.Units (fine tt v) P (set_sound w v.room a old new e k h s)
+    fine_if (nat_le (weight new) (w.room.units + weight old)) counted.Units (fine tt v) P
+    (set_sound w v.room a old new e k h s)
 
 pub written_at_sound : (w : World) (a : Addr) (ch : Change) (o : Option Cell)
     → read_cell w a ≡ o
@@ -296,7 +320,8 @@ pub written_at_sound : (w : World) (a : Addr) (ch : Change) (o : Option Cell)
     → SoundChange w ch
     → AfterFine (written_at w a o ch) (λ u v. IsSound v)
 written_at_sound w a ch None e h s = h
-written_at_sound w a ch (Some old) e h s = written_sound w a old (changed old ch) e (changed-kind old ch) h (changed-sound w old ch (read-sound w a old e h) s)
+written_at_sound w a ch (Some old) e h s =
+    written_sound w a old (changed old ch) e (changed-kind old ch) h (changed-sound w old ch (read-sound w a old e h) s)
 
 pub own_sound : (w : World) (a : Addr) (ch : Change) (b : Bool)
     → IsSound w
@@ -327,5 +352,7 @@ pub making-leads : (w : World) (c : Cell)
 making-leads w c =
     let v : World = record (with_cell w w.start c) { room = room_less w.room (weight c) } in
     let P : Addr → World → Type 0 = λ a u. Leads (λ k. k ≡ kind_of c) (read_cell u a) in
-    fine_if (nat_lt 0 w.room.cells) counted.Cells (if nat_le (weight c) w.room.units then fine (next_address w w.start) v else full counted.Units) P
-    (fine_if (nat_le (weight c) w.room.units) counted.Units (fine (next_address w w.start) v) P (made_leads w v.room w.start c))
+    fine_if (nat_lt 0 w.room.cells) counted.Cells
+    (if nat_le (weight c) w.room.units then fine (next_address w w.start) v else full counted.Units) P
+    (fine_if (nat_le (weight c) w.room.units) counted.Units (fine (next_address w w.start) v) P
+    (made_leads w v.room w.start c))

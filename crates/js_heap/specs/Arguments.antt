@@ -13,4 +13,5 @@ argument (v ∷ vs) (suc i) = argument vs i
 -- parameters with their arguments
 abbrev pub parameters_from : ℕ → List (List ℕ) → List Value → List Binding
 parameters_from i [] args = []
-parameters_from i (n ∷ ns) args = record { name = n; constant = false; value = Some (argument args i) } ∷ parameters_from (i + 1) ns args
+parameters_from i (n ∷ ns) args =
+    record { name = n; constant = false; value = Some (argument args i) } ∷ parameters_from (i + 1) ns args

@@ -72,11 +72,13 @@ globals =
 
 -- the property `message` of an error, which isn't enumerable (20.5.1.1)
 abbrev pub message_property : Value → Property
-message_property v = record { key = codes "message"; value = v; writable = true; enumerable = false; configurable = true }
+message_property v =
+    record { key = codes "message"; value = v; writable = true; enumerable = false; configurable = true }
 
 -- a property of a built-in object, which holds a built-in function
 abbrev property : Bool → List ℕ → BuiltIn → Property
-property enumerable key f = record { key = key; value = function_value f; writable = true; enumerable = enumerable; configurable = true }
+property enumerable key f =
+    record { key = key; value = function_value f; writable = true; enumerable = enumerable; configurable = true }
 
 -- the cell of a built-in function, with its name and its length
 abbrev pub built_in_function : BuiltIn → List ℕ → ℕ → Cell
@@ -126,4 +128,5 @@ first_literal = 24
 
 -- the world before the first step, for the string literals of the scripts; none of these cells counts
 abbrev pub first_world : List (List ℕ) → World
-first_world literals = record { base = built_in_cells ++ literal_cells literals; scratch = []; start = None; room = base_room }
+first_world literals =
+    record { base = built_in_cells ++ literal_cells literals; scratch = []; start = None; room = base_room }

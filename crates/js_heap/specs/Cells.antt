@@ -71,8 +71,11 @@ changed (cells.Object ps) (changes.Put k v) = Some (cells.Object (put_property p
 changed (cells.Object ps) (changes.Remove k) = Some (cells.Object (without_key ps k))
 changed (cells.Error class ps) (changes.Put k v) = Some (cells.Error class (put_property ps k v))
 changed (cells.Error class ps) (changes.Remove k) = Some (cells.Error class (without_key ps k))
-changed (cells.Array vs) (changes.Element i v) = if nat_le i (length vs) then Some (cells.Array (with_element vs i v)) else None
+changed (cells.Array vs) (changes.Element i v) =
+    if nat_le i (length vs) then Some (cells.Array (with_element vs i v)) else None
 changed (cells.Array vs) (changes.Length l) = if nat_le l (length vs) then Some (cells.Array (take l vs)) else None
-changed (cells.Bindings k n o ns) (changes.Declare d constant) = Some (cells.Bindings k n o (ns ++ declared d constant ∷ []))
-changed (cells.Bindings k n o ns) (changes.Bind d v) = if is_some (binding_of ns d) then Some (cells.Bindings k n o (bound ns d v)) else None
+changed (cells.Bindings k n o ns) (changes.Declare d constant) =
+    Some (cells.Bindings k n o (ns ++ declared d constant ∷ []))
+changed (cells.Bindings k n o ns) (changes.Bind d v) =
+    if is_some (binding_of ns d) then Some (cells.Bindings k n o (bound ns d v)) else None
 changed _ _ = None

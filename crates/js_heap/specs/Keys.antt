@@ -50,7 +50,8 @@ stands_before None other = false
 -- a new property at its place in the order of own keys (10.1.11)
 abbrev pub placed : List Property → Property → List Property
 placed [] new = new ∷ []
-placed (p ∷ ps) new = if stands_before (index_of_key new.key) (index_of_key p.key) then new ∷ p ∷ ps else p ∷ placed ps new
+placed (p ∷ ps) new =
+    if stands_before (index_of_key new.key) (index_of_key p.key) then new ∷ p ∷ ps else p ∷ placed ps new
 
 -- a property as assignment makes it (10.1.9.2)
 abbrev pub assigned : List ℕ → Value → Property

@@ -38,7 +38,9 @@ safe z = if nat_lt (nat_abs z) (2 ^ 53) then a_number z else not_safe
 
 -- a divisor 0 and a division with a rest have no safe integer
 abbrev pub quotient : ℤ → ℤ → Result
-quotient y z = if same_integer z (pos 0) then not_safe else (if same_integer (int_rem y z) (pos 0) then safe (int_div y z) else not_safe)
+quotient y z =
+    if same_integer z (pos 0) then not_safe else
+    (if same_integer (int_rem y z) (pos 0) then safe (int_div y z) else not_safe)
 
 -- the rest has the dividend's sign (6.1.6.1.6)
 abbrev pub remainder : ℤ → ℤ → Result

@@ -25,7 +25,8 @@ bad_key = an_error classes.TypeError (codes "Property key must be a string or a 
 
 -- the error of a property that is read of undefined or null
 abbrev pub cannot_read : List ℕ → List ℕ → Result
-cannot_read what key = an_error classes.TypeError (codes "Cannot read properties of " ++ what ++ codes " (reading '" ++ key ++ codes "')")
+cannot_read what key =
+    an_error classes.TypeError (codes "Cannot read properties of " ++ what ++ codes " (reading '" ++ key ++ codes "')")
 
 -- the message where a property of undefined or null is written or deleted
 abbrev pub cannot_set : List ℕ → List ℕ → List ℕ

@@ -24,7 +24,8 @@ found_outward (Some a) further = further a
 
 -- what is found from the scope of this cell on
 abbrev pub found_in : Addr → Option Cell → List ℕ → (Addr → Option Found) → Option Found
-found_in a (Some (cells.Bindings k n outer ns)) name further = found_here a (binding_of ns name) (found_outward outer further)
+found_in a (Some (cells.Bindings k n outer ns)) name further =
+    found_here a (binding_of ns name) (found_outward outer further)
 found_in a _ name further = None
 
 -- from the scope at an address outward; no chain of scopes is longer than the cells are many

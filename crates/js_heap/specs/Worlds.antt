@@ -110,7 +110,8 @@ Later w v = (a : Addr) → KindStays (read_cell w a) (read_cell v a)
 -- in an evaluation, the program's cells and those of earlier evaluations stay as they are
 abbrev pub OthersStay : Option ℕ → World → World → Type 0
 OthersStay None w v = Unit {0}
-OthersStay (Some n) w v = (v.base ≡ w.base) × (n ≤ length w.scratch → (n ≤ length v.scratch) × (take n v.scratch ≡ take n w.scratch))
+OthersStay (Some n) w v =
+    (v.base ≡ w.base) × (n ≤ length w.scratch → (n ≤ length v.scratch) × (take n v.scratch ≡ take n w.scratch))
 
 -- what every change of a world keeps: which cells may be written, each cell's kind, and in an evaluation the cells of others
 pub record Keeps (w v : World) : Type 0 where

@@ -188,13 +188,16 @@ abbrev mutual
   flat null = a kinds.Null
   flat (array es) = in_order (a kinds.LeftBracket ∷ flat_expressions es ∷ trailing es ∷ a kinds.RightBracket ∷ [])
   flat (object ps) = in_order (a kinds.LeftBrace ∷ flat_properties ps ∷ trailing_property ps ∷ a kinds.RightBrace ∷ [])
-  flat (function n ps body) = in_order (a kinds.Function ∷ flat_optional_name n ∷ flat_parameters ps ∷ in_braces (flat_statements body) ∷ [])
+  flat (function n ps body) =
+      in_order (a kinds.Function ∷ flat_optional_name n ∷ flat_parameters ps ∷ in_braces (flat_statements body) ∷ [])
   flat (arrow ps e) = in_order (flat_arrow_parameters ps ∷ beside_last kinds.Arrow ∷ flat e ∷ [])
-  flat (arrow_block ps body) = in_order (flat_arrow_parameters ps ∷ beside_last kinds.Arrow ∷ in_braces (flat_statements body) ∷ [])
+  flat (arrow_block ps body) =
+      in_order (flat_arrow_parameters ps ∷ beside_last kinds.Arrow ∷ in_braces (flat_statements body) ∷ [])
   flat (parenthesized e) = in_order (a kinds.LeftParenthesis ∷ flat e ∷ a kinds.RightParenthesis ∷ [])
   flat (member e n) = in_order (flat e ∷ a kinds.Dot ∷ (token (identifier_name n) ∷ []) ∷ [])
   flat (index e k) = in_order (flat e ∷ a kinds.LeftBracket ∷ flat k ∷ a kinds.RightBracket ∷ [])
-  flat (call f es) = in_order (flat f ∷ a kinds.LeftParenthesis ∷ flat_expressions es ∷ trailing es ∷ a kinds.RightParenthesis ∷ [])
+  flat (call f es) =
+      in_order (flat f ∷ a kinds.LeftParenthesis ∷ flat_expressions es ∷ trailing es ∷ a kinds.RightParenthesis ∷ [])
   flat (postfix o e) = in_order (flat e ∷ beside_last (update_kind o) ∷ [])
   flat (prefix o e) = in_order (a (update_kind o) ∷ flat e ∷ [])
   flat (unary o e) = in_order (a (unary_kind o) ∷ flat e ∷ [])
@@ -266,13 +269,16 @@ abbrev mutual
   flat_statement (for_lexical c ds t u s) =
       in_order (a kinds.For ∷ a kinds.LeftParenthesis ∷ let_or_const c ∷ flat_declarators ds ∷ a kinds.Semicolon ∷ flat_optional t ∷ a kinds.Semicolon ∷ flat_optional u ∷ a kinds.RightParenthesis ∷ flat_statement s ∷ [])
   flat_statement (for_of c n e s) =
-      in_order (a kinds.For ∷ a kinds.LeftParenthesis ∷ let_or_const c ∷ an_identifier n ∷ an_identifier (codes "of") ∷ flat e ∷ a kinds.RightParenthesis ∷ flat_statement s ∷ [])
+      in_order (a kinds.For ∷ a kinds.LeftParenthesis ∷ let_or_const c ∷ an_identifier n ∷ an_identifier (codes "of")
+      ∷ flat e ∷ a kinds.RightParenthesis ∷ flat_statement s ∷ [])
   flat_statement continue = in_order (a kinds.Continue ∷ ends after_word ∷ [])
   flat_statement break = in_order (a kinds.Break ∷ ends after_word ∷ [])
   flat_statement (return omitted) = in_order (a kinds.Return ∷ ends after_word ∷ [])
-  flat_statement (return (present e)) = in_order (a kinds.Return ∷ on_line (flat e) ∷ ends (after_expression (edge e)) ∷ [])
+  flat_statement (return (present e)) =
+      in_order (a kinds.Return ∷ on_line (flat e) ∷ ends (after_expression (edge e)) ∷ [])
   flat_statement (throw e) = in_order (a kinds.Throw ∷ on_line (flat e) ∷ ends (after_expression (edge e)) ∷ [])
-  flat_statement (try ss h f) = in_order (a kinds.Try ∷ in_braces (flat_statements ss) ∷ flat_handler h ∷ flat_finalizer f ∷ [])
+  flat_statement (try ss h f) =
+      in_order (a kinds.Try ∷ in_braces (flat_statements ss) ∷ flat_handler h ∷ flat_finalizer f ∷ [])
   flat_statement debugger = in_order (a kinds.Debugger ∷ ends after_word ∷ [])
   flat_statement (declared_function n ps body) =
       in_order (a kinds.Function ∷ an_identifier n ∷ flat_parameters ps ∷ in_braces (flat_statements body) ∷ [])

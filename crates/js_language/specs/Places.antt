@@ -95,9 +95,12 @@ finally_if_some (Some ps) = plain (a kinds.Finally) ++ ps
 -- ---- one level of each type, with the pieces of its parts in their places
 
 -- a level of a tree whose parts are the places that they have
-abbrev pub Pieces : (Type 0 → Type 0 → Type 0 → Type 0 → Type 0 → Type 0 → Type 0 → Type 0 → Type 0 → Type 0 → Type 0 → Type 0)
+abbrev pub Pieces :
+    (Type 0 → Type 0 → Type 0 → Type 0 → Type 0 → Type 0 → Type 0 → Type 0 → Type 0 → Type 0 → Type 0 → Type 0)
     → Type 0
-Pieces F = F (List Place) (List Place) (List Place) (List Place) (List Place) (List Place) (List Place) (List Place) (List Place) (List Place) (List Place)
+Pieces F =
+    F (List Place) (List Place) (List Place) (List Place) (List Place) (List Place) (List Place) (List Place)
+    (List Place) (List Place) (List Place)
 
 -- the places of an expression
 abbrev pub expression_pieces : Pieces Expr-F → List Place
@@ -107,21 +110,44 @@ expression_pieces (Expr-F.Number node value) = node_of node (plain (a_symbol (nu
 expression_pieces (Expr-F.String node value) = node_of node (plain (a_symbol (string_literal value)) ∷ [])
 expression_pieces (Expr-F.Boolean node value) = node_of node (plain (flat_boolean value) ∷ [])
 expression_pieces (Expr-F.Null node) = node_of node (plain (a kinds.Null) ∷ [])
-expression_pieces (Expr-F.Array node elements) = node_of node (plain (a kinds.LeftBracket) ∷ elements ∷ may_stand kinds.Comma ∷ plain (a kinds.RightBracket) ∷ [])
-expression_pieces (Expr-F.Object node properties) = node_of node (plain (a kinds.LeftBrace) ∷ properties ∷ may_stand kinds.Comma ∷ plain (a kinds.RightBrace) ∷ [])
-expression_pieces (Expr-F.Function node name parameters body) = node_of node (plain (a kinds.Function) ∷ plain (flat_optional_name name) ∷ plain (flat_parameters parameters) ∷ in_braces body ∷ [])
-expression_pieces (Expr-F.Arrow node parameters body) = node_of node (plain (flat_arrow_parameters (parameters_view parameters)) ∷ plain (a kinds.Arrow) ∷ body.value ∷ [])
-expression_pieces (Expr-F.ArrowBlock node parameters body) = node_of node (plain (flat_arrow_parameters (parameters_view parameters)) ∷ plain (a kinds.Arrow) ∷ in_braces body ∷ [])
-expression_pieces (Expr-F.Parenthesized node inner) = node_of node (plain (a kinds.LeftParenthesis) ∷ inner.value ∷ plain (a kinds.RightParenthesis) ∷ [])
-expression_pieces (Expr-F.Member node object name) = node_of node (object.value ∷ plain (a kinds.Dot) ∷ plain (a_symbol (identifier_name name)) ∷ [])
-expression_pieces (Expr-F.Index node object key) = node_of node (object.value ∷ plain (a kinds.LeftBracket) ∷ key.value ∷ plain (a kinds.RightBracket) ∷ [])
-expression_pieces (Expr-F.Call node callee parentheses arguments) = node_of node (callee.value ∷ node_of parentheses (plain (a kinds.LeftParenthesis) ∷ arguments ∷ may_stand kinds.Comma ∷ plain (a kinds.RightParenthesis) ∷ []) ∷ [])
-expression_pieces (Expr-F.Postfix node operator operand) = node_of node (operand.value ∷ plain (a (update_kind operator)) ∷ [])
-expression_pieces (Expr-F.Prefix node operator operand) = node_of node (plain (a (update_kind operator)) ∷ operand.value ∷ [])
-expression_pieces (Expr-F.Unary node operator operand) = node_of node (plain (a (unary_kind operator)) ∷ operand.value ∷ [])
-expression_pieces (Expr-F.Binary node operator left right) = node_of node (left.value ∷ plain (a (binary_kind operator)) ∷ right.value ∷ [])
-expression_pieces (Expr-F.Conditional node test consequent alternate) = node_of node (test.value ∷ plain (a kinds.Question) ∷ consequent.value ∷ plain (a kinds.Colon) ∷ alternate.value ∷ [])
-expression_pieces (Expr-F.Assign node operator target value) = node_of node (target.value ∷ plain (a (assign_kind operator)) ∷ value.value ∷ [])
+expression_pieces (Expr-F.Array node elements) =
+    node_of node (plain (a kinds.LeftBracket) ∷ elements ∷ may_stand kinds.Comma ∷ plain (a kinds.RightBracket) ∷ [])
+expression_pieces (Expr-F.Object node properties) =
+    node_of node (plain (a kinds.LeftBrace) ∷ properties ∷ may_stand kinds.Comma ∷ plain (a kinds.RightBrace) ∷ [])
+expression_pieces (Expr-F.Function node name parameters body) =
+    node_of node
+    (plain (a kinds.Function) ∷ plain (flat_optional_name name) ∷ plain (flat_parameters parameters)
+    ∷ in_braces body ∷ [])
+expression_pieces (Expr-F.Arrow node parameters body) =
+    node_of node (plain (flat_arrow_parameters (parameters_view parameters)) ∷ plain (a kinds.Arrow) ∷ body.value ∷ [])
+expression_pieces (Expr-F.ArrowBlock node parameters body) =
+    node_of node
+    (plain (flat_arrow_parameters (parameters_view parameters)) ∷ plain (a kinds.Arrow) ∷ in_braces body ∷ [])
+expression_pieces (Expr-F.Parenthesized node inner) =
+    node_of node (plain (a kinds.LeftParenthesis) ∷ inner.value ∷ plain (a kinds.RightParenthesis) ∷ [])
+expression_pieces (Expr-F.Member node object name) =
+    node_of node (object.value ∷ plain (a kinds.Dot) ∷ plain (a_symbol (identifier_name name)) ∷ [])
+expression_pieces (Expr-F.Index node object key) =
+    node_of node (object.value ∷ plain (a kinds.LeftBracket) ∷ key.value ∷ plain (a kinds.RightBracket) ∷ [])
+expression_pieces (Expr-F.Call node callee parentheses arguments) =
+    node_of node
+    (callee.value ∷ node_of parentheses
+    (plain (a kinds.LeftParenthesis) ∷ arguments ∷ may_stand kinds.Comma ∷ plain (a kinds.RightParenthesis)
+    ∷ [])
+    ∷ [])
+expression_pieces (Expr-F.Postfix node operator operand) =
+    node_of node (operand.value ∷ plain (a (update_kind operator)) ∷ [])
+expression_pieces (Expr-F.Prefix node operator operand) =
+    node_of node (plain (a (update_kind operator)) ∷ operand.value ∷ [])
+expression_pieces (Expr-F.Unary node operator operand) =
+    node_of node (plain (a (unary_kind operator)) ∷ operand.value ∷ [])
+expression_pieces (Expr-F.Binary node operator left right) =
+    node_of node (left.value ∷ plain (a (binary_kind operator)) ∷ right.value ∷ [])
+expression_pieces (Expr-F.Conditional node test consequent alternate) =
+    node_of node
+    (test.value ∷ plain (a kinds.Question) ∷ consequent.value ∷ plain (a kinds.Colon) ∷ alternate.value ∷ [])
+expression_pieces (Expr-F.Assign node operator target value) =
+    node_of node (target.value ∷ plain (a (assign_kind operator)) ∷ value.value ∷ [])
 expression_pieces (Expr-F.Comma node expressions) = node_of node (expressions ∷ [])
 
 -- the places of the key of a member, which is no node of its own
@@ -129,34 +155,61 @@ abbrev pub key_pieces : Pieces PropertyName-F → List Place
 key_pieces (PropertyName-F.Word name) = plain (a_symbol (identifier_name name))
 key_pieces (PropertyName-F.StringLiteral value) = plain (a_symbol (string_literal value))
 key_pieces (PropertyName-F.NumericLiteral value) = plain (a_symbol (numeric_literal value.value))
-key_pieces (PropertyName-F.Computed key) = in_turn (plain (a kinds.LeftBracket) ∷ key ∷ plain (a kinds.RightBracket) ∷ [])
+key_pieces (PropertyName-F.Computed key) =
+    in_turn (plain (a kinds.LeftBracket) ∷ key ∷ plain (a kinds.RightBracket) ∷ [])
 
 -- the places of a member of an object literal, of which a method alone is a node
 abbrev pub property_pieces : Pieces PropertyDefinition-F → List Place
 property_pieces (PropertyDefinition-F.Shorthand name) = plain (an_identifier name)
 property_pieces (PropertyDefinition-F.Value key value) = in_turn (key ∷ plain (a kinds.Colon) ∷ value ∷ [])
-property_pieces (PropertyDefinition-F.Method node key parameters body) = node_of node (key ∷ plain (flat_parameters parameters) ∷ in_braces body ∷ [])
+property_pieces (PropertyDefinition-F.Method node key parameters body) =
+    node_of node (key ∷ plain (flat_parameters parameters) ∷ in_braces body ∷ [])
 
 -- the places of a statement or declaration
 abbrev pub statement_pieces : Pieces Stmt-F → List Place
 statement_pieces (Stmt-F.Block block) = block
-statement_pieces (Stmt-F.If node test consequent None) = node_of node (plain (a kinds.If) ∷ in_parentheses test ∷ consequent.value ∷ [])
-statement_pieces (Stmt-F.If node test consequent (Some alternate)) = node_of node (plain (a kinds.If) ∷ in_parentheses test ∷ consequent.value ∷ plain (a kinds.Else) ∷ alternate.value ∷ [])
-statement_pieces (Stmt-F.Lexical node constant declarators) = node_of node (plain (let_or_const constant) ∷ declarators ∷ may_stand kinds.Semicolon ∷ [])
+statement_pieces (Stmt-F.If node test consequent None) =
+    node_of node (plain (a kinds.If) ∷ in_parentheses test ∷ consequent.value ∷ [])
+statement_pieces (Stmt-F.If node test consequent (Some alternate)) =
+    node_of node
+    (plain (a kinds.If) ∷ in_parentheses test ∷ consequent.value ∷ plain (a kinds.Else) ∷ alternate.value ∷ [])
+statement_pieces (Stmt-F.Lexical node constant declarators) =
+    node_of node (plain (let_or_const constant) ∷ declarators ∷ may_stand kinds.Semicolon ∷ [])
 statement_pieces (Stmt-F.Empty node) = node_of node (plain (a kinds.Semicolon) ∷ [])
 statement_pieces (Stmt-F.Expression node expression) = node_of node (expression ∷ may_stand kinds.Semicolon ∷ [])
-statement_pieces (Stmt-F.DoWhile node body test) = node_of node (plain (a kinds.Do) ∷ body.value ∷ plain (a kinds.While) ∷ in_parentheses test ∷ may_stand kinds.Semicolon ∷ [])
-statement_pieces (Stmt-F.While node test body) = node_of node (plain (a kinds.While) ∷ in_parentheses test ∷ body.value ∷ [])
-statement_pieces (Stmt-F.For node initializer test update body) = node_of node (plain (a kinds.For) ∷ plain (a kinds.LeftParenthesis) ∷ (if_some initializer) ∷ plain (a kinds.Semicolon) ∷ (if_some test) ∷ plain (a kinds.Semicolon) ∷ (if_some update) ∷ plain (a kinds.RightParenthesis) ∷ body.value ∷ [])
-statement_pieces (Stmt-F.ForLexical node constant declarators test update body) = node_of node (plain (a kinds.For) ∷ plain (a kinds.LeftParenthesis) ∷ plain (let_or_const constant) ∷ declarators ∷ plain (a kinds.Semicolon) ∷ (if_some test) ∷ plain (a kinds.Semicolon) ∷ (if_some update) ∷ plain (a kinds.RightParenthesis) ∷ body.value ∷ [])
-statement_pieces (Stmt-F.ForOf node constant name list body) = node_of node (plain (a kinds.For) ∷ plain (a kinds.LeftParenthesis) ∷ plain (let_or_const constant) ∷ plain (an_identifier name) ∷ plain (an_identifier (codes "of")) ∷ list ∷ plain (a kinds.RightParenthesis) ∷ body.value ∷ [])
+statement_pieces (Stmt-F.DoWhile node body test) =
+    node_of node
+    (plain (a kinds.Do) ∷ body.value ∷ plain (a kinds.While) ∷ in_parentheses test ∷ may_stand kinds.Semicolon ∷ [])
+statement_pieces (Stmt-F.While node test body) =
+    node_of node (plain (a kinds.While) ∷ in_parentheses test ∷ body.value ∷ [])
+statement_pieces (Stmt-F.For node initializer test update body) =
+    node_of node
+    (plain (a kinds.For) ∷ plain (a kinds.LeftParenthesis) ∷ (if_some initializer) ∷ plain (a kinds.Semicolon) ∷
+    (if_some test) ∷ plain (a kinds.Semicolon) ∷ (if_some update) ∷ plain (a kinds.RightParenthesis)
+    ∷ body.value ∷ [])
+statement_pieces (Stmt-F.ForLexical node constant declarators test update body) =
+    node_of node
+    (plain (a kinds.For) ∷ plain (a kinds.LeftParenthesis) ∷ plain (let_or_const constant) ∷ declarators ∷ plain
+    (a kinds.Semicolon) ∷ (if_some test) ∷ plain (a kinds.Semicolon) ∷ (if_some update) ∷ plain
+    (a kinds.RightParenthesis) ∷ body.value ∷ [])
+statement_pieces (Stmt-F.ForOf node constant name list body) =
+    node_of node
+    (plain (a kinds.For) ∷ plain (a kinds.LeftParenthesis) ∷ plain (let_or_const constant) ∷ plain
+    (an_identifier name) ∷ plain (an_identifier (codes "of")) ∷ list ∷ plain (a kinds.RightParenthesis)
+    ∷ body.value ∷ [])
 statement_pieces (Stmt-F.Continue node) = node_of node (plain (a kinds.Continue) ∷ may_stand kinds.Semicolon ∷ [])
 statement_pieces (Stmt-F.Break node) = node_of node (plain (a kinds.Break) ∷ may_stand kinds.Semicolon ∷ [])
-statement_pieces (Stmt-F.Return node value) = node_of node (plain (a kinds.Return) ∷ (if_some value) ∷ may_stand kinds.Semicolon ∷ [])
-statement_pieces (Stmt-F.Throw node value) = node_of node (plain (a kinds.Throw) ∷ value ∷ may_stand kinds.Semicolon ∷ [])
-statement_pieces (Stmt-F.Try node block handler finalizer) = node_of node (plain (a kinds.Try) ∷ block ∷ (if_some handler) ∷ (finally_if_some finalizer) ∷ [])
+statement_pieces (Stmt-F.Return node value) =
+    node_of node (plain (a kinds.Return) ∷ (if_some value) ∷ may_stand kinds.Semicolon ∷ [])
+statement_pieces (Stmt-F.Throw node value) =
+    node_of node (plain (a kinds.Throw) ∷ value ∷ may_stand kinds.Semicolon ∷ [])
+statement_pieces (Stmt-F.Try node block handler finalizer) =
+    node_of node (plain (a kinds.Try) ∷ block ∷ (if_some handler) ∷ (finally_if_some finalizer) ∷ [])
 statement_pieces (Stmt-F.Debugger node) = node_of node (plain (a kinds.Debugger) ∷ may_stand kinds.Semicolon ∷ [])
-statement_pieces (Stmt-F.FunctionDeclaration node name parameters body) = node_of node (plain (a kinds.Function) ∷ plain (an_identifier name) ∷ plain (flat_parameters parameters) ∷ in_braces body ∷ [])
+statement_pieces (Stmt-F.FunctionDeclaration node name parameters body) =
+    node_of node
+    (plain (a kinds.Function) ∷ plain (an_identifier name) ∷ plain (flat_parameters parameters)
+    ∷ in_braces body ∷ [])
 
 -- the places of a block
 abbrev pub block_pieces : Pieces layers.Block-F → List Place
@@ -190,47 +243,80 @@ statements_pieces ss = in_turn ss.items.items
 
 -- the places of an expression
 unfoldable pub expression_places : Expr → List Place
-expression_places = fold-Expr (List Place) (List Place) (List Place) (List Place) (List Place) (List Place) (List Place) (List Place) (List Place) (List Place) (List Place) expression_pieces property_pieces key_pieces statement_pieces block_pieces catch_pieces declarator_pieces declarators_pieces expressions_pieces properties_pieces statements_pieces
+expression_places =
+    fold-Expr (List Place) (List Place) (List Place) (List Place) (List Place) (List Place) (List Place) (List Place)
+    (List Place) (List Place) (List Place)
+    expression_pieces property_pieces key_pieces statement_pieces block_pieces catch_pieces declarator_pieces declarators_pieces expressions_pieces properties_pieces statements_pieces
 
 -- the places of a member of an object literal
 unfoldable pub property_places : PropertyDefinition → List Place
-property_places = fold-PropertyDefinition (List Place) (List Place) (List Place) (List Place) (List Place) (List Place) (List Place) (List Place) (List Place) (List Place) (List Place) expression_pieces property_pieces key_pieces statement_pieces block_pieces catch_pieces declarator_pieces declarators_pieces expressions_pieces properties_pieces statements_pieces
+property_places =
+    fold-PropertyDefinition (List Place) (List Place) (List Place) (List Place) (List Place) (List Place) (List Place)
+    (List Place) (List Place) (List Place) (List Place)
+    expression_pieces property_pieces key_pieces statement_pieces block_pieces catch_pieces declarator_pieces declarators_pieces expressions_pieces properties_pieces statements_pieces
 
 -- the places of the key of a member
 unfoldable pub key_places : PropertyName → List Place
-key_places = fold-PropertyName (List Place) (List Place) (List Place) (List Place) (List Place) (List Place) (List Place) (List Place) (List Place) (List Place) (List Place) expression_pieces property_pieces key_pieces statement_pieces block_pieces catch_pieces declarator_pieces declarators_pieces expressions_pieces properties_pieces statements_pieces
+key_places =
+    fold-PropertyName (List Place) (List Place) (List Place) (List Place) (List Place) (List Place) (List Place)
+    (List Place) (List Place) (List Place) (List Place)
+    expression_pieces property_pieces key_pieces statement_pieces block_pieces catch_pieces declarator_pieces declarators_pieces expressions_pieces properties_pieces statements_pieces
 
 -- the places of a statement or declaration
 unfoldable pub statement_places : Stmt → List Place
-statement_places = fold-Stmt (List Place) (List Place) (List Place) (List Place) (List Place) (List Place) (List Place) (List Place) (List Place) (List Place) (List Place) expression_pieces property_pieces key_pieces statement_pieces block_pieces catch_pieces declarator_pieces declarators_pieces expressions_pieces properties_pieces statements_pieces
+statement_places =
+    fold-Stmt (List Place) (List Place) (List Place) (List Place) (List Place) (List Place) (List Place) (List Place)
+    (List Place) (List Place) (List Place)
+    expression_pieces property_pieces key_pieces statement_pieces block_pieces catch_pieces declarator_pieces declarators_pieces expressions_pieces properties_pieces statements_pieces
 
 -- the places of a block
 unfoldable pub block_places : Block → List Place
-block_places = fold-Block (List Place) (List Place) (List Place) (List Place) (List Place) (List Place) (List Place) (List Place) (List Place) (List Place) (List Place) expression_pieces property_pieces key_pieces statement_pieces block_pieces catch_pieces declarator_pieces declarators_pieces expressions_pieces properties_pieces statements_pieces
+block_places =
+    fold-Block (List Place) (List Place) (List Place) (List Place) (List Place) (List Place) (List Place) (List Place)
+    (List Place) (List Place) (List Place)
+    expression_pieces property_pieces key_pieces statement_pieces block_pieces catch_pieces declarator_pieces declarators_pieces expressions_pieces properties_pieces statements_pieces
 
 -- the places of a catch
 unfoldable pub catch_places : Catch → List Place
-catch_places = fold-Catch (List Place) (List Place) (List Place) (List Place) (List Place) (List Place) (List Place) (List Place) (List Place) (List Place) (List Place) expression_pieces property_pieces key_pieces statement_pieces block_pieces catch_pieces declarator_pieces declarators_pieces expressions_pieces properties_pieces statements_pieces
+catch_places =
+    fold-Catch (List Place) (List Place) (List Place) (List Place) (List Place) (List Place) (List Place) (List Place)
+    (List Place) (List Place) (List Place)
+    expression_pieces property_pieces key_pieces statement_pieces block_pieces catch_pieces declarator_pieces declarators_pieces expressions_pieces properties_pieces statements_pieces
 
 -- the places of a declarator
 unfoldable pub declarator_places : Declarator → List Place
-declarator_places = fold-Declarator (List Place) (List Place) (List Place) (List Place) (List Place) (List Place) (List Place) (List Place) (List Place) (List Place) (List Place) expression_pieces property_pieces key_pieces statement_pieces block_pieces catch_pieces declarator_pieces declarators_pieces expressions_pieces properties_pieces statements_pieces
+declarator_places =
+    fold-Declarator (List Place) (List Place) (List Place) (List Place) (List Place) (List Place) (List Place)
+    (List Place) (List Place) (List Place) (List Place)
+    expression_pieces property_pieces key_pieces statement_pieces block_pieces catch_pieces declarator_pieces declarators_pieces expressions_pieces properties_pieces statements_pieces
 
 -- the places of the declarators of a declaration
 unfoldable pub declarators_places : Declarators → List Place
-declarators_places = fold-Declarators (List Place) (List Place) (List Place) (List Place) (List Place) (List Place) (List Place) (List Place) (List Place) (List Place) (List Place) expression_pieces property_pieces key_pieces statement_pieces block_pieces catch_pieces declarator_pieces declarators_pieces expressions_pieces properties_pieces statements_pieces
+declarators_places =
+    fold-Declarators (List Place) (List Place) (List Place) (List Place) (List Place) (List Place) (List Place)
+    (List Place) (List Place) (List Place) (List Place)
+    expression_pieces property_pieces key_pieces statement_pieces block_pieces catch_pieces declarator_pieces declarators_pieces expressions_pieces properties_pieces statements_pieces
 
 -- the places of a list of expressions
 unfoldable pub expressions_places : Exprs → List Place
-expressions_places = fold-Exprs (List Place) (List Place) (List Place) (List Place) (List Place) (List Place) (List Place) (List Place) (List Place) (List Place) (List Place) expression_pieces property_pieces key_pieces statement_pieces block_pieces catch_pieces declarator_pieces declarators_pieces expressions_pieces properties_pieces statements_pieces
+expressions_places =
+    fold-Exprs (List Place) (List Place) (List Place) (List Place) (List Place) (List Place) (List Place) (List Place)
+    (List Place) (List Place) (List Place)
+    expression_pieces property_pieces key_pieces statement_pieces block_pieces catch_pieces declarator_pieces declarators_pieces expressions_pieces properties_pieces statements_pieces
 
 -- the places of the members of an object literal
 unfoldable pub properties_places : PropertyDefinitions → List Place
-properties_places = fold-PropertyDefinitions (List Place) (List Place) (List Place) (List Place) (List Place) (List Place) (List Place) (List Place) (List Place) (List Place) (List Place) expression_pieces property_pieces key_pieces statement_pieces block_pieces catch_pieces declarator_pieces declarators_pieces expressions_pieces properties_pieces statements_pieces
+properties_places =
+    fold-PropertyDefinitions (List Place) (List Place) (List Place) (List Place) (List Place) (List Place) (List Place)
+    (List Place) (List Place) (List Place) (List Place)
+    expression_pieces property_pieces key_pieces statement_pieces block_pieces catch_pieces declarator_pieces declarators_pieces expressions_pieces properties_pieces statements_pieces
 
 -- the places of a list of statements
 unfoldable pub statements_places : Stmts → List Place
-statements_places = fold-Stmts (List Place) (List Place) (List Place) (List Place) (List Place) (List Place) (List Place) (List Place) (List Place) (List Place) (List Place) expression_pieces property_pieces key_pieces statement_pieces block_pieces catch_pieces declarator_pieces declarators_pieces expressions_pieces properties_pieces statements_pieces
+statements_places =
+    fold-Stmts (List Place) (List Place) (List Place) (List Place) (List Place) (List Place) (List Place) (List Place)
+    (List Place) (List Place) (List Place)
+    expression_pieces property_pieces key_pieces statement_pieces block_pieces catch_pieces declarator_pieces declarators_pieces expressions_pieces properties_pieces statements_pieces
 
 -- the places of an expression that may be left out
 abbrev pub optional_places : Option Expr → List Place

@@ -222,7 +222,8 @@ abbrev mutual
   -- 15.2
   Well (function n ps body) = DifferIn ps body × WellStatements function_body body
   -- 15.3: ConciseBody doesn't begin with {
-  Well (arrow ps e) = AreFresh [] (names_of_parameters ps) × Well e × (an_assignment ≤ level e) × (begins_with_brace (flat e) ≡ false)
+  Well (arrow ps e) =
+      AreFresh [] (names_of_parameters ps) × Well e × (an_assignment ≤ level e) × (begins_with_brace (flat e) ≡ false)
   -- 15.3
   Well (arrow_block ps body) = DifferIn (names_of_parameters ps) body × WellStatements function_body body
   -- 13.2.9
@@ -240,7 +241,8 @@ abbrev mutual
   -- 13.7 to 13.13: operators of one level go together from the left
   Well (binary o l r) = Well l × (strength o ≤ level l) × Well r × (strength o < level r)
   -- 13.14
-  Well (conditional t c e) = Well t × (an_operation ≤ level t) × Well c × (an_assignment ≤ level c) × Well e × (an_assignment ≤ level e)
+  Well (conditional t c e) =
+      Well t × (an_operation ≤ level t) × Well c × (an_assignment ≤ level c) × Well e × (an_assignment ≤ level e)
   -- 13.15, 13.15.1
   Well (assign o t v) = Well t × (is_target t ≡ true) × Well v × (an_assignment ≤ level v)
   -- 13.16; all at one level in the project's trees
@@ -286,23 +288,41 @@ abbrev mutual
   -- 14.2, 14.2.1: the names that a block declares differ
   WellStatement c (block ss) = AreFresh [] (declared_names ss) × WellStatements c ss
   -- 14.3.1
-  WellStatement c (lexical constant ds) = (is_some_declarator ds ≡ true) × WellDeclarators ds × IsInitialized constant ds
+  WellStatement c (lexical constant ds) =
+      (is_some_declarator ds ≡ true) × WellDeclarators ds × IsInitialized constant ds
   -- 14.5: an ExpressionStatement doesn't begin with { or function
-  WellStatement c (expression e) = Well e × (begins_with_brace (flat e) ≡ false) × (begins_with_function (flat e) ≡ false)
+  WellStatement c (expression e) =
+      Well e × (begins_with_brace (flat e) ≡ false) × (begins_with_function (flat e) ≡ false)
   -- 14.6
   WellStatement c (if_then e s) = Well e × WellStatement c s × (is_statement s ≡ true)
   -- 14.6: an else goes with the nearest if
-  WellStatement c (if_else e s t) = Well e × WellStatement c s × (is_statement s ≡ true) × (ends_in_if s ≡ false) × WellStatement c t × (is_statement t ≡ true)
+  WellStatement c (if_else e s t) =
+      Well e
+      × WellStatement c s
+      × (is_statement s ≡ true)
+      × (ends_in_if s ≡ false)
+      × WellStatement c t
+      × (is_statement t ≡ true)
   -- 14.7.2
   WellStatement c (do_while s e) = WellStatement (loop_body c) s × (is_statement s ≡ true) × Well e
   -- 14.7.3
   WellStatement c (while e s) = Well e × WellStatement (loop_body c) s × (is_statement s ≡ true)
   -- 14.7.4
-  WellStatement c (for i t u s) = WellOptional i × WellOptional t × WellOptional u × WellStatement (loop_body c) s × (is_statement s ≡ true)
+  WellStatement c (for i t u s) =
+      WellOptional i × WellOptional t × WellOptional u × WellStatement (loop_body c) s × (is_statement s ≡ true)
   -- 14.7.4, 14.7.4.1: the names of the head differ
-  WellStatement c (for_lexical constant ds t u s) = (is_some_declarator ds ≡ true) × WellDeclarators ds × IsInitialized constant ds × AreFresh [] (names_of_declarators ds) × WellOptional t × WellOptional u × WellStatement (loop_body c) s × (is_statement s ≡ true)
+  WellStatement c (for_lexical constant ds t u s) =
+      (is_some_declarator ds ≡ true)
+      × WellDeclarators ds
+      × IsInitialized constant ds
+      × AreFresh [] (names_of_declarators ds)
+      × WellOptional t
+      × WellOptional u
+      × WellStatement (loop_body c) s
+      × (is_statement s ≡ true)
   -- 14.7.5
-  WellStatement c (for_of constant n e s) = Well e × (an_assignment ≤ level e) × WellStatement (loop_body c) s × (is_statement s ≡ true)
+  WellStatement c (for_of constant n e s) =
+      Well e × (an_assignment ≤ level e) × WellStatement (loop_body c) s × (is_statement s ≡ true)
   -- 14.8.1, 14.9.1
   WellStatement c continue = c.in_loop ≡ true
   WellStatement c break = c.in_loop ≡ true
@@ -311,7 +331,12 @@ abbrev mutual
   -- 14.14
   WellStatement c (throw e) = Well e
   -- 14.15
-  WellStatement c (try ss h f) = AreFresh [] (declared_names ss) × WellStatements c ss × WellHandler c h × WellFinalizer c f × (is_handled h f ≡ true)
+  WellStatement c (try ss h f) =
+      AreFresh [] (declared_names ss)
+      × WellStatements c ss
+      × WellHandler c h
+      × WellFinalizer c f
+      × (is_handled h f ≡ true)
   -- 15.2
   WellStatement c (declared_function n ps body) = DifferIn ps body × WellStatements function_body body
   -- 14.4, 14.16

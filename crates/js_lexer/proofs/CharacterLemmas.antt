@@ -60,10 +60,20 @@ braced q n us w h z e l =
     let len : length (take n us) ≡ n = omega (arith, length-take n us) in
     let brace = first_is 125 (drop n us) e in
     let text : take (n + 1) us ≡ take n us ++ codes "}" = take-add n 1 us ∙ ap (λ l. take n us ++ take 1 l) brace in
-    let fits : n + 1 ≤ length us = omega (arith, ap (λ (l : List ℕ). length l) brace, ap (λ (l : List ℕ). length l) (take-append-drop n us), length-append (take n us) (drop n us)) in
+    let fits : n + 1 ≤ length us = omega (
+      arith,
+      ap (λ (l : List ℕ). length l) brace,
+      ap (λ (l : List ℕ). length l) (take-append-drop n us),
+      length-append (take n us) (drop n us),
+    )
+    in
     let k : suc (suc (suc (n + 1))) ≡ n + 4 = omega arith in
     let some : not (eqb (length (take n us)) 0) ≡ true = rw (len, z) refl in
-    subst (λ (k : ℕ). (1 ≤ k) × (k ≤ length (92 ∷ 117 ∷ 123 ∷ us)) × IsCharacter q (take k (92 ∷ 117 ∷ 123 ∷ us)) (Some (digits_value 16 0 (take n us))) (drop k (92 ∷ 117 ∷ 123 ∷ us))) k
+    subst (λ (k : ℕ). (1 ≤ k)
+    × (k ≤ length (92 ∷ 117 ∷ 123 ∷ us))
+    × IsCharacter q (take k (92 ∷ 117 ∷ 123 ∷ us)) (Some (digits_value 16 0 (take n us)))
+    (drop k (92 ∷ 117 ∷ 123 ∷ us)))
+    k
     (omega arith, omega arith, code_point (take n us) (ap (λ l. 92 ∷ 117 ∷ 123 ∷ l) text) refl (rw (h, some) refl) l)
 
 good_code_point : (q : ℕ) (us : List ℕ) → Good q (92 ∷ 117 ∷ 123 ∷ us) (code_point_at us)
@@ -72,8 +82,13 @@ good_code_point q us = by_tests (leading is_hex us) (leading_within is_hex us) (
     by_tests : (n : ℕ)
         → n ≤ length us
         → list_all is_hex (take n us) ≡ true
-        → Good q (92 ∷ 117 ∷ 123 ∷ us) (let value : ℕ = digits_value 16 0 (take n us) in cond (not (eqb n 0) && begins (λ c. eqb c 125) (drop n us) && leb value 0x10FFFF) (found (n + 4) (Some value)) None)
-    by_tests n w h = by_three (eqb n 0) refl (begins (λ c. eqb c 125) (drop n us)) refl (leb (digits_value 16 0 (take n us)) 0x10FFFF) refl
+        → Good q (92 ∷ 117 ∷ 123 ∷ us)
+        (let value : ℕ = digits_value 16 0 (take n us) in
+        cond (not (eqb n 0) && begins (λ c. eqb c 125) (drop n us) && leb value 0x10FFFF)
+        (found (n + 4) (Some value)) None)
+    by_tests n w h =
+        by_three (eqb n 0) refl (begins (λ c. eqb c 125) (drop n us)) refl
+        (leb (digits_value 16 0 (take n us)) 0x10FFFF) refl
       where
         by_three : (x : Bool)
             → eqb n 0 ≡ x
@@ -81,7 +96,8 @@ good_code_point q us = by_tests (leading is_hex us) (leading_within is_hex us) (
             → begins (λ c. eqb c 125) (drop n us) ≡ y
             → (z : Bool)
             → leb (digits_value 16 0 (take n us)) 0x10FFFF ≡ z
-            → Good q (92 ∷ 117 ∷ 123 ∷ us) (cond (not x && y && z) (found (n + 4) (Some (digits_value 16 0 (take n us)))) None)
+            → Good q (92 ∷ 117 ∷ 123 ∷ us)
+            (cond (not x && y && z) (found (n + 4) (Some (digits_value 16 0 (take n us)))) None)
         by_three true e y f z g = tt
         by_three false e false f z g = tt
         by_three false e true f false g = tt
@@ -92,7 +108,8 @@ good_unicode q [] = tt
 good_unicode q (u ∷ us) = by_test (eqb u 123) refl
   where
     by_test : (b : Bool) → eqb u 123 ≡ b → Good q (92 ∷ 117 ∷ u ∷ us) (cond b (code_point_at us) (unit_at (u ∷ us)))
-    by_test true e = subst (λ (u : ℕ). Good q (92 ∷ 117 ∷ u ∷ us) (code_point_at us)) (sym (eqb-true u 123 e)) (good_code_point q us)
+    by_test true e =
+        subst (λ (u : ℕ). Good q (92 ∷ 117 ∷ u ∷ us) (code_point_at us)) (sym (eqb-true u 123 e)) (good_code_point q us)
     by_test false e = good_unit q (u ∷ us)
 
 is_single_by : (d x u t : Bool) → d ≡ false → x ≡ false → u ≡ false → t ≡ false → not (d || x || u || t) ≡ true
@@ -110,14 +127,19 @@ good_escape q (c ∷ us) = by_zero (eqb c 48) refl
         → is_line_terminator c ≡ b
         → Good q (92 ∷ c ∷ us) (cond b (found 2 None) (found 2 (Some (single_value c))))
     by_line true d x u r e = (omega arith, omega arith, continuation c refl refl e r)
-    by_line false d x u r e = (omega arith, omega arith, single c refl refl (is_single_by (is_digit c) (eqb c 120) (eqb c 117) (is_line_terminator c) d x u e))
+    by_line false d x u r e = (
+      omega arith,
+      omega arith,
+      single c refl refl (is_single_by (is_digit c) (eqb c 120) (eqb c 117) (is_line_terminator c) d x u e),
+    )
 
     by_return : (r : Bool)
         → is_digit c ≡ false
         → eqb c 120 ≡ false
         → eqb c 117 ≡ false
         → ((eqb c 13) && begins (λ d. eqb d 10) us) ≡ r
-        → Good q (92 ∷ c ∷ us) (cond r (found 3 None) (cond (is_line_terminator c) (found 2 None) (found 2 (Some (single_value c)))))
+        → Good q (92 ∷ c ∷ us)
+        (cond r (found 3 None) (cond (is_line_terminator c) (found 2 None) (found 2 (Some (single_value c)))))
     by_return true d x u e =
         let a = and_parts (eqb c 13) (begins (λ d. eqb d 10) us) e in
         let l = first_is 10 us a.1 in
@@ -129,20 +151,33 @@ good_escape q (c ∷ us) = by_zero (eqb c 48) refl
         → is_digit c ≡ false
         → eqb c 120 ≡ false
         → eqb c 117 ≡ u
-        → Good q (92 ∷ c ∷ us) (cond u (unicode_at us) (cond ((eqb c 13) && begins (λ d. eqb d 10) us) (found 3 None) (cond (is_line_terminator c) (found 2 None) (found 2 (Some (single_value c))))))
-    by_u true d x e = subst (λ (c : ℕ). Good q (92 ∷ c ∷ us) (unicode_at us)) (sym (eqb-true c 117 e)) (good_unicode q us)
+        → Good q (92 ∷ c ∷ us)
+        (cond u (unicode_at us)
+        (cond ((eqb c 13) && begins (λ d. eqb d 10) us) (found 3 None)
+        (cond (is_line_terminator c) (found 2 None) (found 2 (Some (single_value c))))))
+    by_u true d x e =
+        subst (λ (c : ℕ). Good q (92 ∷ c ∷ us) (unicode_at us)) (sym (eqb-true c 117 e)) (good_unicode q us)
     by_u false d x e = by_return ((eqb c 13) && begins (λ d. eqb d 10) us) d x e refl
 
     by_x : (x : Bool)
         → is_digit c ≡ false
         → eqb c 120 ≡ x
-        → Good q (92 ∷ c ∷ us) (cond x (hex_at us) (cond (eqb c 117) (unicode_at us) (cond ((eqb c 13) && begins (λ d. eqb d 10) us) (found 3 None) (cond (is_line_terminator c) (found 2 None) (found 2 (Some (single_value c)))))))
+        → Good q (92 ∷ c ∷ us)
+        (cond x (hex_at us)
+        (cond (eqb c 117) (unicode_at us)
+        (cond ((eqb c 13) && begins (λ d. eqb d 10) us) (found 3 None)
+        (cond (is_line_terminator c) (found 2 None) (found 2 (Some (single_value c)))))))
     by_x true d e = subst (λ (c : ℕ). Good q (92 ∷ c ∷ us) (hex_at us)) (sym (eqb-true c 120 e)) (good_hex q us)
     by_x false d e = by_u (eqb c 117) d e refl
 
     by_digit : (d : Bool)
         → is_digit c ≡ d
-        → Good q (92 ∷ c ∷ us) (cond d None (cond (eqb c 120) (hex_at us) (cond (eqb c 117) (unicode_at us) (cond ((eqb c 13) && begins (λ d. eqb d 10) us) (found 3 None) (cond (is_line_terminator c) (found 2 None) (found 2 (Some (single_value c))))))))
+        → Good q (92 ∷ c ∷ us)
+        (cond d None
+        (cond (eqb c 120) (hex_at us)
+        (cond (eqb c 117) (unicode_at us)
+        (cond ((eqb c 13) && begins (λ d. eqb d 10) us) (found 3 None)
+        (cond (is_line_terminator c) (found 2 None) (found 2 (Some (single_value c))))))))
     by_digit true e = tt
     by_digit false e = by_x (eqb c 120) e refl
 
@@ -155,7 +190,13 @@ good_escape q (c ∷ us) = by_zero (eqb c 48) refl
 
     by_zero : (z : Bool)
         → eqb c 48 ≡ z
-        → Good q (92 ∷ c ∷ us) (cond z (cond (begins is_digit us) None (found 2 (Some 0))) (cond (is_digit c) None (cond (eqb c 120) (hex_at us) (cond (eqb c 117) (unicode_at us) (cond ((eqb c 13) && begins (λ d. eqb d 10) us) (found 3 None) (cond (is_line_terminator c) (found 2 None) (found 2 (Some (single_value c)))))))))
+        → Good q (92 ∷ c ∷ us)
+        (cond z (cond (begins is_digit us) None (found 2 (Some 0)))
+        (cond (is_digit c) None
+        (cond (eqb c 120) (hex_at us)
+        (cond (eqb c 117) (unicode_at us)
+        (cond ((eqb c 13) && begins (λ d. eqb d 10) us) (found 3 None)
+        (cond (is_line_terminator c) (found 2 None) (found 2 (Some (single_value c)))))))))
     by_zero true e = by_next (begins is_digit us) e refl
     by_zero false e = by_digit (is_digit c) refl
 
@@ -212,13 +253,16 @@ continuation_known : (q c : ℕ) (m : List ℕ)
     → is_line_terminator c ≡ true
     → ((eqb c 13) && begins (λ d. eqb d 10) m) ≡ false
     → IsFound q (92 ∷ c ∷ []) None m
-continuation_known q c m e f = line_cases c (λ c. IsFound q (92 ∷ c ∷ []) None m) e (omega arith, refl) (λ p. (omega arith, by_next p f)) (omega arith, refl) (omega arith, refl)
+continuation_known q c m e f =
+    line_cases c (λ c. IsFound q (92 ∷ c ∷ []) None m) e (omega arith, refl) (λ p. (omega arith, by_next p f))
+    (omega arith, refl) (omega arith, refl)
   where
     by_next : c ≡ 13
         → ((eqb c 13) && begins (λ d. eqb d 10) m) ≡ false
         → cond (begins (λ d. eqb d 10) m) (found 3 None) (found 2 None) ≡ found 2 None
     by_next p f =
-        let g : begins (λ d. eqb d 10) m ≡ false = subst (λ (c : ℕ). ((eqb c 13) && begins (λ d. eqb d 10) m) ≡ false) p f in
+        let g : begins (λ d. eqb d 10) m ≡ false = subst (λ (c : ℕ). ((eqb c 13) && begins (λ d. eqb d 10) m) ≡ false)
+        p f in
         rw g refl
 
 -- a unit that fails a test is not one that passes it
@@ -230,7 +274,8 @@ apart p c d e f = by_test (eqb c d) refl
     by_test false g = refl
 
 single_known : (q c : ℕ) (m : List ℕ) → is_single c ≡ true → IsFound q (92 ∷ c ∷ []) (Some (single_value c)) m
-single_known q c m e = (omega arith, by_tests (is_digit c) refl (eqb c 120) refl (eqb c 117) refl (is_line_terminator c) refl e)
+single_known q c m e =
+    (omega arith, by_tests (is_digit c) refl (eqb c 120) refl (eqb c 117) refl (is_line_terminator c) refl e)
   where
     by_tests : (d : Bool)
         → is_digit c ≡ d
@@ -258,7 +303,8 @@ unit_known q a b c d m e = (omega arith, by_brace (eqb a 123) refl)
   where
     by_brace : (t : Bool)
         → eqb a 123 ≡ t
-        → cond t (code_point_at (b ∷ c ∷ d ∷ m)) (unit_at (a ∷ b ∷ c ∷ d ∷ m)) ≡ found 6 (Some (digits_value 16 0 (a ∷ b ∷ c ∷ d ∷ [])))
+        → cond t (code_point_at (b ∷ c ∷ d ∷ m)) (unit_at (a ∷ b ∷ c ∷ d ∷ m)) ≡ found 6
+        (Some (digits_value 16 0 (a ∷ b ∷ c ∷ d ∷ [])))
     by_brace true f =
         let h : is_hex a ≡ is_hex 123 = ap is_hex (eqb-true a 123 f) in
         let g = (and_parts (is_hex a) (list_all is_hex (b ∷ c ∷ d ∷ [])) e).0 in
@@ -276,8 +322,10 @@ code_point_known q ds m e h =
     let front : take (length ds) (ds ++ (125 ∷ m)) ≡ ds = take-append_seam ds (125 ∷ m) in
     let back : drop (length ds) (ds ++ (125 ∷ m)) ≡ 125 ∷ m = drop-append_seam ds (125 ∷ m) in
     let small : leb (digits_value 16 0 ds) 0x10FFFF ≡ true = le-leb (digits_value 16 0 ds) 0x10FFFF h in
-    let len : length ds + 4 ≡ suc (suc (suc (length (ds ++ codes "}")))) = omega (arith, length-append ds (codes "}")) in
-    let here : code_point_at (ds ++ (125 ∷ m)) ≡ found (length ds + 4) (Some (digits_value 16 0 ds)) = rw (n, front, back, a.1, small) refl in
+    let len : length ds + 4 ≡ suc (suc (suc (length (ds ++ codes "}")))) = omega (arith, length-append ds (codes "}"))
+    in
+    let here : code_point_at (ds ++ (125 ∷ m)) ≡ found (length ds + 4) (Some (digits_value 16 0 ds)) = rw
+    (n, front, back, a.1, small) refl in
     (omega arith, ap code_point_at joined ∙ here ∙ ap (λ n. found n (Some (digits_value 16 0 ds))) len)
 
 pub character_known : (q : ℕ) (t : List ℕ) (v : Option ℕ) (m : List ℕ) → IsCharacter q t v m → IsFound q t v m

@@ -103,8 +103,11 @@ no_comment_by : (us vs : List ℕ)
     → (y : Bool)
     → is_prefix_of (codes "/*") vs ≡ y
     → (x || y) ≡ false
-no_comment_by us vs a o true p y q = let b = agree_begins (codes "//") us vs refl a p in let no : true ≡ false = rw b at o in cc
-no_comment_by us vs a o false p true q = either_false (is_prefix_of (codes "//") us) (is_prefix_of (codes "/*") us) (agree_begins (codes "/*") us vs refl a q) o
+no_comment_by us vs a o true p y q =
+    let b = agree_begins (codes "//") us vs refl a p in let no : true ≡ false = rw b at o in cc
+no_comment_by us vs a o false p true q =
+    either_false (is_prefix_of (codes "//") us) (is_prefix_of (codes "/*") us)
+    (agree_begins (codes "/*") us vs refl a q) o
   where
     either_false : (x y : Bool) → y ≡ true → (x || y) ≡ false → true ≡ false
     either_false true y e f = f
@@ -112,7 +115,8 @@ no_comment_by us vs a o false p true q = either_false (is_prefix_of (codes "//")
 no_comment_by us vs a o false p false q = refl
 
 agree_comment : (us vs : List ℕ) → Agree us vs → opens_comment us ≡ false → opens_comment vs ≡ false
-agree_comment us vs a o = no_comment_by us vs a o (is_prefix_of (codes "//") vs) refl (is_prefix_of (codes "/*") vs) refl
+agree_comment us vs a o =
+    no_comment_by us vs a o (is_prefix_of (codes "//") vs) refl (is_prefix_of (codes "/*") vs) refl
 
 -- ---- the token at the front
 
@@ -147,8 +151,10 @@ word_again here vs s w a =
     let n = leading is_word_part here in
     let t = take n here in
     let start : begins is_word_start (t ++ vs) ≡ true = first_same is_word_start n here vs w.0 w.1 ∙ s in
-    let l : leading is_word_part (t ++ vs) ≡ length t = leading_exact is_word_part t vs (leading_all is_word_part here) (agree_next is_word_part not_part (drop n here) vs a (leading_stops is_word_part here)) in
-    let is : token_at (t ++ vs) ≡ found (kind_in reserved_words t) (length t) = rw (start, l, take-append_seam t vs) refl in
+    let l : leading is_word_part (t ++ vs) ≡ length t = leading_exact is_word_part t vs (leading_all is_word_part here)
+    (agree_next is_word_part not_part (drop n here) vs a (leading_stops is_word_part here)) in
+    let is : token_at (t ++ vs) ≡ found (kind_in reserved_words t) (length t) = rw (start, l, take-append_seam t vs)
+    refl in
     is ∙ ap (λ n. found (kind_in reserved_words t) n) (taken n here w.1)
 
 number_again : (here vs : List ℕ)
@@ -164,8 +170,18 @@ number_again here vs s d w some ends a =
     let t = take n here in
     let start : begins is_word_start (t ++ vs) ≡ false = first_same is_word_start n here vs w.0 w.1 ∙ s in
     let digit : begins is_digit (t ++ vs) ≡ true = first_same is_digit n here vs w.0 w.1 ∙ d in
-    let l : leading is_word_part (t ++ vs) ≡ length t = leading_exact is_word_part t vs (leading_all is_word_part here) (agree_next is_word_part not_part (drop n here) vs a (leading_stops is_word_part here)) in
-    let is : token_at (t ++ vs) ≡ found Number (length t) = rw (start, digit, l, take-append_seam t vs, drop-append_seam t vs, some, agree_next goes_on not_going_on (drop n here) vs a ends) refl in
+    let l : leading is_word_part (t ++ vs) ≡ length t = leading_exact is_word_part t vs (leading_all is_word_part here)
+    (agree_next is_word_part not_part (drop n here) vs a (leading_stops is_word_part here)) in
+    let is : token_at (t ++ vs) ≡ found Number (length t) = rw (
+      start,
+      digit,
+      l,
+      take-append_seam t vs,
+      drop-append_seam t vs,
+      some,
+      agree_next goes_on not_going_on (drop n here) vs a ends,
+    )
+    refl in
     is ∙ ap (λ n. found Number n) (taken n here w.1)
 
 solid_marks : list_all (λ (e : TokenKind × List ℕ). is_solid e.1) punctuators ≡ true
@@ -177,7 +193,8 @@ same_mark : (j k : TokenKind) (t u : List ℕ) → IsListed (j, t) punctuators �
 same_mark j k t u l m e =
     let x : TokenKind × ℕ = (j, length t) in
     let y : TokenKind × ℕ = (k, length u) in
-    let is : Some x ≡ Some y = sym (mark_alone j t [] l tt) ∙ (ap (λ (t : List ℕ). token_at (t ++ [])) e ∙ mark_alone k u [] m tt) in
+    let is : Some x ≡ Some y = sym (mark_alone j t [] l tt)
+    ∙ (ap (λ (t : List ℕ). token_at (t ++ [])) e ∙ mark_alone k u [] m tt) in
     ap (λ (z : TokenKind × ℕ). z.0) (some_same x y is)
 
 same_front : (t u here : List ℕ)
@@ -185,7 +202,10 @@ same_front : (t u here : List ℕ)
     → here ≡ u ++ drop (length u) here
     → length t ≡ length u
     → t ≡ u
-same_front t u here p q e = sym (take-append_seam t (drop (length t) here)) ∙ (ap (take (length t)) (sym p) ∙ (ap (λ n. take n here) e ∙ (ap (take (length u)) q ∙ take-append_seam u (drop (length u) here))))
+same_front t u here p q e =
+    sym (take-append_seam t (drop (length t) here))
+    ∙ (ap (take (length t)) (sym p)
+    ∙ (ap (λ n. take n here) e ∙ (ap (take (length u)) q ∙ take-append_seam u (drop (length u) here))))
 
 mark_by : (here vs : List ℕ) (k : TokenKind) (n : ℕ)
     → Firsts punctuators here (Some (k, n))
@@ -194,8 +214,12 @@ mark_by : (here vs : List ℕ) (k : TokenKind) (n : ℕ)
     → Firsts punctuators (take n here ++ vs) o
     → o ≡ found k n
 mark_by here vs k n f a o h =
-    let front : take n here ≡ f.text = ap (λ n. take n here) (sym f.len) ∙ ap (take (length f.text)) f.here ∙ take-append_seam f.text (drop (length f.text) here) in
-    let begin : is_prefix_of f.text (take n here ++ vs) ≡ true = ap (λ (t : List ℕ). is_prefix_of f.text (t ++ vs)) front ∙ prefix_self f.text vs in
+    let front : take n here ≡ f.text = ap (λ n. take n here) (sym f.len)
+    ∙ ap (take (length f.text)) f.here
+    ∙ take-append_seam f.text (drop (length f.text) here) in
+    let begin : is_prefix_of f.text (take n here ++ vs) ≡ true = ap (λ (t : List ℕ). is_prefix_of f.text (t ++ vs))
+    front
+    ∙ prefix_self f.text vs in
     by_found front begin o h
   where
     by_found : take n here ≡ f.text
@@ -206,12 +230,16 @@ mark_by here vs k n f a o h =
     by_found front begin None h = absurd (h.none (k, f.text) f.listed begin)
     by_found front begin (Some x) h =
         let low : length f.text ≤ x.1 = h.longest punctuators_descend (k, f.text) f.listed begin in
-        let there : is_prefix_of h.text (take n here ++ vs) ≡ true = ap (is_prefix_of h.text) h.here ∙ prefix_self h.text (drop (length h.text) (take n here ++ vs)) in
-        let agree : Agree here (take n here ++ vs) = subst (λ (us : List ℕ). Agree us (take n here ++ vs)) (take-append-drop n here) (agree_behind (take n here) (drop n here) vs a) in
-        let before : is_prefix_of h.text here ≡ true = agree_begins h.text here (take n here ++ vs) (all_listed (λ e. is_solid e.1) punctuators solid_marks (x.0, h.text) h.listed) agree there in
+        let there : is_prefix_of h.text (take n here ++ vs) ≡ true = ap (is_prefix_of h.text) h.here
+        ∙ prefix_self h.text (drop (length h.text) (take n here ++ vs)) in
+        let agree : Agree here (take n here ++ vs) = subst (λ (us : List ℕ). Agree us (take n here ++ vs))
+        (take-append-drop n here) (agree_behind (take n here) (drop n here) vs a) in
+        let before : is_prefix_of h.text here ≡ true = agree_begins h.text here (take n here ++ vs)
+        (all_listed (λ e. is_solid e.1) punctuators solid_marks (x.0, h.text) h.listed) agree there in
         let high : length h.text ≤ n = f.longest punctuators_descend (x.0, h.text) h.listed before in
         let same : x.1 ≡ n = omega (arith, low, high, h.len, f.len) in
-        let text : h.text ≡ f.text = same_front h.text f.text here (prefix_is h.text here before) f.here (omega (arith, same, h.len, f.len)) in
+        let text : h.text ≡ f.text = same_front h.text f.text here (prefix_is h.text here before) f.here
+        (omega (arith, same, h.len, f.len)) in
         let kind : x.0 ≡ k = same_mark x.0 k h.text f.text h.listed f.listed text in
         rw (kind, same) refl
 
@@ -229,9 +257,12 @@ mark_again here vs k n s d q o w e a =
     let start : begins is_word_start us ≡ false = first_same is_word_start n here vs w.0 w.1 ∙ s in
     let digit : begins is_digit us ≡ false = first_same is_digit n here vs w.0 w.1 ∙ d in
     let quote : begins is_quote us ≡ false = first_same is_quote n here vs w.0 w.1 ∙ q in
-    let agree : Agree here us = subst (λ (vs : List ℕ). Agree vs us) (take-append-drop n here) (agree_behind (take n here) (drop n here) vs a) in
-    let f : Firsts punctuators here (found k n) = subst (λ (o : Option (TokenKind × ℕ)). Firsts punctuators here o) e (first_is punctuators here) in
-    rw (start, digit, quote, agree_comment here us agree o) (mark_by here vs k n f a (first_in punctuators us) (first_is punctuators us))
+    let agree : Agree here us = subst (λ (vs : List ℕ). Agree vs us) (take-append-drop n here)
+    (agree_behind (take n here) (drop n here) vs a) in
+    let f : Firsts punctuators here (found k n) = subst (λ (o : Option (TokenKind × ℕ)). Firsts punctuators here o) e
+    (first_is punctuators here) in
+    rw (start, digit, quote, agree_comment here us agree o)
+    (mark_by here vs k n f a (first_in punctuators us) (first_is punctuators us))
 
 string_again : (here vs : List ℕ) (k : TokenKind) (n : ℕ)
     → begins is_quote here ≡ true
@@ -249,7 +280,8 @@ string_again (c ∷ us) vs k n q e a = by_test (begins (λ d. eqb d c) (drop (ru
         let x : TokenKind × ℕ = (String, run (character_len c) 0 us + 2) in
         let y : TokenKind × ℕ = (k, n) in
         let is : x ≡ y = some_same x y e in
-        let here : token_at (take x.1 (c ∷ us) ++ vs) ≡ found String x.1 = string_alone (take x.1 (c ∷ us)) vs l.1 ∙ ap (λ n. found String n) (taken x.1 (c ∷ us) l.0) in
+        let here : token_at (take x.1 (c ∷ us) ++ vs) ≡ found String x.1 = string_alone (take x.1 (c ∷ us)) vs l.1
+        ∙ ap (λ n. found String n) (taken x.1 (c ∷ us) l.0) in
         subst (λ (z : TokenKind × ℕ). token_at (take z.1 (c ∷ us) ++ vs) ≡ Some z) is here
     by_test false b e = absurd cc
 
@@ -258,22 +290,28 @@ by_number : (here vs : List ℕ) (k : TokenKind) (n : ℕ)
     → begins is_word_start here ≡ false
     → begins is_digit here ≡ true
     → (b : Bool)
-    → (is_some (number_of (take (leading is_word_part here) here)) && not (begins goes_on (drop (leading is_word_part here) here))) ≡ b
+    → (is_some (number_of (take (leading is_word_part here) here)) && not
+    (begins goes_on (drop (leading is_word_part here) here)))
+    ≡ b
     → cond b (found Number (leading is_word_part here)) None ≡ found k n
     → Again here vs (k, n)
 by_number here vs k n w s d true t e =
     let x : TokenKind × ℕ = (Number, leading is_word_part here) in
     let y : TokenKind × ℕ = (k, n) in
     let is : x ≡ y = some_same x y e in
-    let p = and_parts (is_some (number_of (take (leading is_word_part here) here))) (not (begins goes_on (drop (leading is_word_part here) here))) t in
-    subst (λ (z : TokenKind × ℕ). Again here vs z) is (number_again here vs s d (subst (λ n. Within here n) (sym (ap (λ (z : TokenKind × ℕ). z.1) is)) w) p.0 (not_true (begins goes_on (drop (leading is_word_part here) here)) p.1))
+    let p = and_parts (is_some (number_of (take (leading is_word_part here) here)))
+    (not (begins goes_on (drop (leading is_word_part here) here))) t in
+    subst (λ (z : TokenKind × ℕ). Again here vs z) is
+    (number_again here vs s d (subst (λ n. Within here n) (sym (ap (λ (z : TokenKind × ℕ). z.1) is)) w) p.0
+    (not_true (begins goes_on (drop (leading is_word_part here) here)) p.1))
 by_number here vs k n w s d false t e = absurd cc
 
 token_again : (here vs : List ℕ) (k : TokenKind) (n : ℕ) → token_at here ≡ found k n → Again here vs (k, n)
 unfolding token_at
 token_again here vs k n e =
     let f = longest_here here k n e in
-    by_tests (f.1, f.0) (begins is_word_start here) refl (begins is_digit here) refl (begins is_quote here) refl (opens_comment here) refl e
+    by_tests (f.1, f.0) (begins is_word_start here) refl (begins is_digit here) refl (begins is_quote here) refl
+    (opens_comment here) refl e
   where
     by_tests : Within here n
         → (a : Bool)
@@ -284,14 +322,23 @@ token_again here vs k n e =
         → begins is_quote here ≡ q
         → (c : Bool)
         → opens_comment here ≡ c
-        → cond a (word_token (leading is_word_part here) here) (cond b (number_token (leading is_word_part here) here) (cond q (string_token here) (cond c None (first_in punctuators here)))) ≡ found k n
+        → cond a (word_token (leading is_word_part here) here)
+        (cond b (number_token (leading is_word_part here) here)
+        (cond q (string_token here) (cond c None (first_in punctuators here))))
+        ≡ found k n
         → Again here vs (k, n)
     by_tests w true s b d q f c g e =
-        let x : TokenKind × ℕ = (kind_in reserved_words (take (leading is_word_part here) here), leading is_word_part here) in
+        let x : TokenKind
+        × ℕ = (kind_in reserved_words (take (leading is_word_part here) here), leading is_word_part here) in
         let y : TokenKind × ℕ = (k, n) in
         let is : x ≡ y = some_same x y e in
-        subst (λ (z : TokenKind × ℕ). Again here vs z) is (word_again here vs s (subst (λ n. Within here n) (sym (ap (λ (z : TokenKind × ℕ). z.1) is)) w))
-    by_tests w false s true d q f c g e = by_number here vs k n w s d (is_some (number_of (take (leading is_word_part here) here)) && not (begins goes_on (drop (leading is_word_part here) here))) refl e
+        subst (λ (z : TokenKind × ℕ). Again here vs z) is
+        (word_again here vs s (subst (λ n. Within here n) (sym (ap (λ (z : TokenKind × ℕ). z.1) is)) w))
+    by_tests w false s true d q f c g e =
+        by_number here vs k n w s d
+        (is_some (number_of (take (leading is_word_part here) here)) && not
+        (begins goes_on (drop (leading is_word_part here) here)))
+        refl e
     by_tests w false s false d true f c g e = string_again here vs k n f e
     by_tests w false s false d false f true g e = absurd cc
     by_tests w false s false d false f false g e = mark_again here vs k n s d f g w e
@@ -300,7 +347,8 @@ token_again here vs k n e =
 
 piece_again : (t us vs : List ℕ) → ends_line us ≡ ends_line vs → IsGapPiece t us → IsGapPiece t vs
 piece_again t us vs e (blank c p q) = blank c p q
-piece_again t us vs e (line_comment h) = line_comment (record { body = h.body; spelled = h.spelled; one_line = h.one_line; ended = sym e ∙ h.ended })
+piece_again t us vs e (line_comment h) =
+    line_comment (record { body = h.body; spelled = h.spelled; one_line = h.one_line; ended = sym e ∙ h.ended })
 piece_again t us vs e (block_comment h) = block_comment h
 
 ends_again : (l us vs : List ℕ) → ends_line us ≡ ends_line vs → ends_line (l ++ us) ≡ ends_line (l ++ vs)
@@ -312,7 +360,8 @@ each_again : (ts : List (List ℕ)) (us vs : List ℕ)
     → Each (λ text more. IsGapPiece text more) ts us
     → Each (λ text more. IsGapPiece text more) ts vs
 each_again [] us vs e h = tt
-each_again (t ∷ ts) us vs e h = (piece_again t (concat ts ++ us) (concat ts ++ vs) (ends_again (concat ts) us vs e) h.0, each_again ts us vs e h.1)
+each_again (t ∷ ts) us vs e h =
+    (piece_again t (concat ts ++ us) (concat ts ++ vs) (ends_again (concat ts) us vs e) h.0, each_again ts us vs e h.1)
 
 gap_again : (us vs : List ℕ)
     → ends_line (drop (gap_len us) us) ≡ ends_line vs
@@ -321,7 +370,9 @@ gap_again : (us vs : List ℕ)
 unfolding gap_len
 gap_again us vs e z =
     let m = (gap_is us).made in
-    subst (λ (l : List ℕ). run gap_piece 0 (l ++ vs) ≡ length l) (sym m.joined) (run_exact (λ text more. IsGapPiece text more) gap_piece gap_knows m.pieces vs (each_again m.pieces (drop (gap_len us) us) vs e m.each) z)
+    subst (λ (l : List ℕ). run gap_piece 0 (l ++ vs) ≡ length l) (sym m.joined)
+    (run_exact (λ text more. IsGapPiece text more) gap_piece gap_knows m.pieces vs
+    (each_again m.pieces (drop (gap_len us) us) vs e m.each) z)
 
 not_blank : (us : List ℕ) → gap_piece us ≡ 0 → begins is_blank us ≡ false
 not_blank us z = by_test (begins is_blank us) refl z
@@ -346,16 +397,26 @@ record Cut (at : ℕ) (us : List ℕ) (before : List Lent) : Type 0 where
   place : at + length front ≡ end_after at before
   again : (more : List ℕ)
       → Breaks more
-      → items (suc (length (front ++ more))) at (front ++ more) ≡ tokens_then before (items (suc (length more)) (at + length front) more)
+      → items (suc (length (front ++ more))) at (front ++ more) ≡ tokens_then before
+      (items (suc (length more)) (at + length front) more)
 
 abbrev token_here : ℕ → List ℕ → TokenKind → ℕ → Lent
-token_here at us k n = record { kind = k; text = take n (drop (gap_len us) us); start = at + gap_len us; newline_before = has_line_terminator (take (gap_len us) us) }
+token_here at us k n =
+    record {
+      kind = k;
+      text = take n
+          (drop (gap_len us) us);
+      start = at + gap_len us;
+      newline_before = has_line_terminator (take (gap_len us) us);
+    }
 
 -- one token again, with what comes behind it
 step_again : (at : ℕ) (us vs : List ℕ) (k : TokenKind) (n : ℕ)
     → token_at (drop (gap_len us) us) ≡ found k n
     → Agree (drop n (drop (gap_len us) us)) vs
-    → items (suc (length (take (gap_len us) us ++ (take n (drop (gap_len us) us) ++ vs)))) at (take (gap_len us) us ++ (take n (drop (gap_len us) us) ++ vs)) ≡ Ok (token_here at us k n) ∷ items (suc (length vs)) (at + gap_len us + n) vs
+    → items (suc (length (take (gap_len us) us ++ (take n (drop (gap_len us) us) ++ vs)))) at
+    (take (gap_len us) us ++ (take n (drop (gap_len us) us) ++ vs)) ≡ Ok (token_here at us k n) ∷ items
+    (suc (length vs)) (at + gap_len us + n) vs
 step_again at us vs k n e a =
     let g = gap_len us in
     let here = drop g us in
@@ -363,7 +424,8 @@ step_again at us vs k n e a =
     let behind = take n here ++ vs in
     let all = take g us ++ behind in
     let token : token_at behind ≡ found k n = token_again here vs k n e a in
-    let seen : begins is_blank behind ≡ false = first_same is_blank n here vs f.1 f.0 ∙ not_blank here (gap_is us).ended in
+    let seen : begins is_blank behind ≡ false = first_same is_blank n here vs f.1 f.0
+    ∙ not_blank here (gap_is us).ended in
     let z : gap_piece behind ≡ 0 = no_comment behind (longest_here behind k n token).2 seen in
     let wide : length (take g us) ≡ g = taken g us (gap_within us) in
     let long : length (take n here) ≡ n = taken n here f.0 in
@@ -385,21 +447,33 @@ cut_token at us k n bs e c =
     let f = longest_here here k n e in
     let wide : length (take g us) ≡ g = taken g us (gap_within us) in
     let long : length (take n here) ≡ n = taken n here f.0 in
-    let joined : (more : List ℕ) → (take g us ++ (take n here ++ c.front)) ++ more ≡ take g us ++ (take n here ++ (c.front ++ more)) = λ more. append_assoc (take g us) (take n here ++ c.front) more ∙ ap (λ l. take g us ++ l) (append_assoc (take n here) c.front more) in
-    let place : at + g + n + length c.front ≡ at + length (take g us ++ (take n here ++ c.front)) = omega (arith, length-append (take g us) (take n here ++ c.front), length-append (take n here) c.front, wide, long) in
+    let joined : (more : List ℕ)
+    → (take g us ++ (take n here ++ c.front)) ++ more ≡ take g us ++ (take n here ++ (c.front ++ more))
+    = λ more. append_assoc (take g us) (take n here ++ c.front) more
+    ∙ ap (λ l. take g us ++ l) (append_assoc (take n here) c.front more) in
+    let place : at + g + n + length c.front ≡ at + length (take g us ++ (take n here ++ c.front)) = omega
+    (arith, length-append (take g us) (take n here ++ c.front), length-append (take n here) c.front, wide, long) in
     record {
       front = take g us ++ (take n here ++ c.front);
       rest = c.rest;
-      parts = sym (take-append-drop g us) ∙ (ap (λ l. take g us ++ l) (sym (take-append-drop n here) ∙ ap (λ l. take n here ++ l) c.parts) ∙ sym (joined c.rest));
+      parts =
+          sym (take-append-drop g us)
+          ∙ (ap (λ l. take g us ++ l) (sym (take-append-drop n here) ∙ ap (λ l. take n here ++ l) c.parts)
+          ∙ sym (joined c.rest));
       place = sym place ∙ (c.place ∙ ap (λ k. end_after (at + g + k) bs) (sym long));
       again = λ more b.
-          let agree : Agree (drop n here) (c.front ++ more) = subst (λ (us : List ℕ). Agree us (c.front ++ more)) (sym c.parts) (agree_behind c.front c.rest more (agree_breaks c.rest more b)) in
+          let agree : Agree (drop n here) (c.front ++ more) = subst (λ (us : List ℕ). Agree us (c.front ++ more))
+          (sym c.parts) (agree_behind c.front c.rest more (agree_breaks c.rest more b)) in
           let step = step_again at us (c.front ++ more) k n e agree in
           let all = take g us ++ (take n here ++ (c.front ++ more)) in
           let left = items (suc (length more)) (at + length (take g us ++ (take n here ++ c.front))) more in
-          let next : items (suc (length (c.front ++ more))) (at + g + n) (c.front ++ more) ≡ tokens_then bs left = c.again more b ∙ ap (λ at. tokens_then bs (items (suc (length more)) at more)) place in
-          let whole : items (suc (length all)) at all ≡ tokens_then (token_here at us k n ∷ bs) left = step ∙ ap (λ (is : List (Result Lent ℕ)). Ok (token_here at us k n) ∷ is) next in
-          subst (λ (l : List ℕ). items (suc (length l)) at l ≡ tokens_then (token_here at us k n ∷ bs) left) (sym (joined more)) whole;
+          let next : items (suc (length (c.front ++ more))) (at + g + n) (c.front ++ more)
+          ≡ tokens_then bs left = c.again more b
+          ∙ ap (λ at. tokens_then bs (items (suc (length more)) at more)) place in
+          let whole : items (suc (length all)) at all ≡ tokens_then (token_here at us k n ∷ bs) left = step
+          ∙ ap (λ (is : List (Result Lent ℕ)). Ok (token_here at us k n) ∷ is) next in
+          subst (λ (l : List ℕ). items (suc (length l)) at l ≡ tokens_then (token_here at us k n ∷ bs) left)
+          (sym (joined more)) whole;
     }
 
 none_first : (at : ℕ) (us : List ℕ) (b : Lent) (is : List (Result Lent ℕ))
@@ -422,13 +496,23 @@ cut_by at us b bs left e go (Some t) h =
     let s = one_more at us t h in
     let first : token_here at us t.0 t.1 ≡ b = cc in
     let later : items (suc (length rest)) (at + gap_len us + t.1) rest ≡ tokens_then bs left = cc in
-    subst (λ (b : Lent). Cut at us (b ∷ bs)) first (cut_token at us t.0 t.1 bs h (go (at + gap_len us + t.1) rest later))
+    subst (λ (b : Lent). Cut at us (b ∷ bs)) first
+    (cut_token at us t.0 t.1 bs h (go (at + gap_len us + t.1) rest later))
 
 cut : (before : List Lent) (at : ℕ) (us : List ℕ) (left : List (Result Lent ℕ))
     → items (suc (length us)) at us ≡ tokens_then before left
     → Cut at us before
-cut [] at us left e = record { front = []; rest = us; parts = refl; place = omega arith; again = λ more b. ap (λ at. items (suc (length more)) at more) (omega arith) }
-cut (b ∷ bs) at us left e = cut_by at us b bs left e (λ at us e. cut bs at us left e) (token_at (drop (gap_len us) us)) refl
+cut [] at us left e =
+    record {
+      front = [];
+      rest = us;
+      parts = refl;
+      place = omega arith;
+      again = λ more b. ap
+          (λ at. items (suc (length more)) at more) (omega arith);
+    }
+cut (b ∷ bs) at us left e =
+    cut_by at us b bs left e (λ at us e. cut bs at us left e) (token_at (drop (gap_len us) us)) refl
 
 pub first_tokens : (source : List ℕ) (before : List Lent) (left : List (Result Lent ℕ))
     → items_of source ≡ tokens_then before left
@@ -439,5 +523,9 @@ first_tokens source before left e ts h =
     let c = cut before 0 source left e in
     let place : 0 + length c.front ≡ end_after 0 before = c.place in
     let wide : length c.front ≡ end_after 0 before = omega (arith, place) in
-    let front : take (end_after 0 before) source ≡ c.front = ap (λ n. take n source) (sym wide) ∙ (ap (λ us. take (length c.front) us) c.parts ∙ take-append_seam c.front c.rest) in
-    ap (λ us. items_of (us ++ written ts)) front ∙ (c.again (written ts) (breaks ts) ∙ (ap (λ at. tokens_then before (items (suc (length (written ts))) at (written ts))) place ∙ ap (λ (is : List (Result Lent ℕ)). tokens_then before is) (written_are (end_after 0 before) ts h)))
+    let front : take (end_after 0 before) source ≡ c.front = ap (λ n. take n source) (sym wide)
+    ∙ (ap (λ us. take (length c.front) us) c.parts ∙ take-append_seam c.front c.rest) in
+    ap (λ us. items_of (us ++ written ts)) front
+    ∙ (c.again (written ts) (breaks ts)
+    ∙ (ap (λ at. tokens_then before (items (suc (length (written ts))) at (written ts))) place
+    ∙ ap (λ (is : List (Result Lent ℕ)). tokens_then before is) (written_are (end_after 0 before) ts h)))

@@ -141,15 +141,25 @@ word_front : (us : List ℕ) → begins is_word_start us ≡ true → Front us (
 word_front us b = let w = word_taken us b in record {
   within = leading_within is_word_part us;
   some = w.0;
-  token = kind_token (kind_in reserved_words (take (leading is_word_part us) us)) (take (leading is_word_part us) us) (drop (leading is_word_part us) us) w.1 (kind_is reserved_words (take (leading is_word_part us) us));
+  token =
+      kind_token (kind_in reserved_words (take (leading is_word_part us) us)) (take (leading is_word_part us) us)
+      (drop (leading is_word_part us) us) w.1 (kind_is reserved_words (take (leading is_word_part us) us));
   longest = λ t m p s. elim s [
-    | a_word w ↦ subst (λ (l : List ℕ). length t ≤ leading is_word_part l) (sym p) (leading_longest is_word_part t m (word_parts t w))
-    | a_number h f ↦ absurd (start_no_digit us b (subst (λ (l : List ℕ). begins is_digit l ≡ true) (sym p) (begins_front is_digit t m (number_begins t h))))
+    | a_word w ↦ subst (λ (l : List ℕ). length t ≤ leading is_word_part l) (sym p)
+        (leading_longest is_word_part t m (word_parts t w))
+    | a_number h f ↦ absurd
+        (start_no_digit us b
+        (subst (λ (l : List ℕ). begins is_digit l ≡ true) (sym p) (begins_front is_digit t m (number_begins t h))))
     | a_string h ↦ (
-        let x = (quote_first us (subst (λ (l : List ℕ). begins is_quote l ≡ true) (sym p) (begins_front is_quote t m (literal_begins t h)))).0 in
+        let x = (quote_first us
+        (subst (λ (l : List ℕ). begins is_quote l ≡ true) (sym p)
+        (begins_front is_quote t m (literal_begins t h)))).0 in
         absurd cc
         )
-    | a_punctuator k l ↦ absurd (start_no_mark us b (subst (λ (l : List ℕ). begins is_mark l ≡ true) (sym p) (begins_front is_mark t m (punctuator_is_mark k t l))))
+    | a_punctuator k l ↦ absurd
+        (start_no_mark us b
+        (subst (λ (l : List ℕ). begins is_mark l ≡ true) (sym p)
+        (begins_front is_mark t m (punctuator_is_mark k t l))))
   ];
 }
 
@@ -159,7 +169,8 @@ number_len : (us t m : List ℕ)
     → IsNumber t
     → begins goes_on m ≡ false
     → leading is_word_part us ≡ length t
-number_len us t m p h f = ap (leading is_word_part) p ∙ leading_exact is_word_part t m (number_parts t h) (number_ends m f)
+number_len us t m p h f =
+    ap (leading is_word_part) p ∙ leading_exact is_word_part t m (number_parts t h) (number_ends m f)
 
 digit_shape : (us : List ℕ)
     → begins is_digit us ≡ true
@@ -167,12 +178,20 @@ digit_shape : (us : List ℕ)
     → us ≡ t ++ m
     → Shape t m
     → IsNumber t × (begins goes_on m ≡ false)
-digit_shape us b t m p (a_word w) = absurd (start_no_digit us (subst (λ (l : List ℕ). begins is_word_start l ≡ true) (sym p) (begins_front is_word_start t m (word_begins t w))) b)
+digit_shape us b t m p (a_word w) =
+    absurd (start_no_digit us
+    (subst (λ (l : List ℕ). begins is_word_start l ≡ true) (sym p)
+    (begins_front is_word_start t m (word_begins t w)))
+    b)
 digit_shape us b t m p (a_number h f) = (h, f)
 digit_shape us b t m p (a_string h) =
-    let x = (quote_first us (subst (λ (l : List ℕ). begins is_quote l ≡ true) (sym p) (begins_front is_quote t m (literal_begins t h)))).1 in
+    let x = (quote_first us
+    (subst (λ (l : List ℕ). begins is_quote l ≡ true) (sym p)
+    (begins_front is_quote t m (literal_begins t h)))).1 in
     absurd cc
-digit_shape us b t m p (a_punctuator k l) = absurd (digit_no_mark us b (subst (λ (l : List ℕ). begins is_mark l ≡ true) (sym p) (begins_front is_mark t m (punctuator_is_mark k t l))))
+digit_shape us b t m p (a_punctuator k l) =
+    absurd (digit_no_mark us b
+    (subst (λ (l : List ℕ). begins is_mark l ≡ true) (sym p) (begins_front is_mark t m (punctuator_is_mark k t l))))
 
 digit_taken : (us : List ℕ) → begins is_digit us ≡ true → 0 < leading is_word_part us
 digit_taken [] e = absurd cc
@@ -183,7 +202,9 @@ digit_taken (u ∷ us) e = by_start (is_word_start u)
     by_start false = rw e (omega arith)
 
 number_front : (us : List ℕ) → begins is_digit us ≡ true → Front us (number_token (leading is_word_part us) us)
-number_front us b = by_tests (leading is_word_part us) refl (is_some (number_of (take (leading is_word_part us) us))) refl (begins goes_on (drop (leading is_word_part us) us)) refl
+number_front us b =
+    by_tests (leading is_word_part us) refl (is_some (number_of (take (leading is_word_part us) us))) refl
+    (begins goes_on (drop (leading is_word_part us) us)) refl
   where
     no_such : (n : ℕ)
         → leading is_word_part us ≡ n
@@ -227,19 +248,24 @@ number_front us b = by_tests (leading is_word_part us) refl (is_some (number_of 
 
 quote_shape : (us : List ℕ) → begins is_quote us ≡ true → (t m : List ℕ) → us ≡ t ++ m → Shape t m → IsStringLiteral t
 quote_shape us b t m p (a_word w) =
-    let x : begins is_word_start us ≡ true = subst (λ (l : List ℕ). begins is_word_start l ≡ true) (sym p) (begins_front is_word_start t m (word_begins t w)) in
+    let x : begins is_word_start us ≡ true = subst (λ (l : List ℕ). begins is_word_start l ≡ true) (sym p)
+    (begins_front is_word_start t m (word_begins t w)) in
     let y = (quote_first us b).0 in
     absurd cc
 quote_shape us b t m p (a_number h f) =
-    let x : begins is_digit us ≡ true = subst (λ (l : List ℕ). begins is_digit l ≡ true) (sym p) (begins_front is_digit t m (number_begins t h)) in
+    let x : begins is_digit us ≡ true = subst (λ (l : List ℕ). begins is_digit l ≡ true) (sym p)
+    (begins_front is_digit t m (number_begins t h)) in
     let y = (quote_first us b).1 in
     absurd cc
 quote_shape us b t m p (a_string h) = h
-quote_shape us b t m p (a_punctuator k l) = absurd (quote_no_mark us b (subst (λ (l : List ℕ). begins is_mark l ≡ true) (sym p) (begins_front is_mark t m (punctuator_is_mark k t l))))
+quote_shape us b t m p (a_punctuator k l) =
+    absurd (quote_no_mark us b
+    (subst (λ (l : List ℕ). begins is_mark l ≡ true) (sym p) (begins_front is_mark t m (punctuator_is_mark k t l))))
 
 string_front : (us : List ℕ) → begins is_quote us ≡ true → Front us (string_token us)
 string_front [] b = absurd cc
-string_front (q ∷ us) b = by_end (run (character_len q) 0 us) refl (begins (λ c. eqb c q) (drop (run (character_len q) 0 us) us)) refl
+string_front (q ∷ us) b =
+    by_end (run (character_len q) 0 us) refl (begins (λ c. eqb c q) (drop (run (character_len q) 0 us) us)) refl
   where
     by_end : (n : ℕ)
         → run (character_len q) 0 us ≡ n
@@ -257,7 +283,8 @@ string_front (q ∷ us) b = by_end (run (character_len q) 0 us) refl (begins (λ
     by_end n r false e = record {
       none = λ t m p s.
           let k = literal_known q us t m p (quote_shape (q ∷ us) b t m p s) in
-          let x : begins (λ c. eqb c q) (drop n us) ≡ true = subst (λ (n : ℕ). begins (λ c. eqb c q) (drop n us) ≡ true) r k.1 in
+          let x : begins (λ c. eqb c q) (drop n us) ≡ true = subst (λ (n : ℕ). begins (λ c. eqb c q) (drop n us) ≡ true)
+          r k.1 in
           cc;
     }
 
@@ -270,13 +297,16 @@ mark_shape : (us : List ℕ)
     → Shape t m
     → (k : TokenKind) × IsListed (k, t) punctuators
 mark_shape us a b q t m p (a_word w) =
-    let x : begins is_word_start us ≡ true = subst (λ (l : List ℕ). begins is_word_start l ≡ true) (sym p) (begins_front is_word_start t m (word_begins t w)) in
+    let x : begins is_word_start us ≡ true = subst (λ (l : List ℕ). begins is_word_start l ≡ true) (sym p)
+    (begins_front is_word_start t m (word_begins t w)) in
     absurd cc
 mark_shape us a b q t m p (a_number h f) =
-    let x : begins is_digit us ≡ true = subst (λ (l : List ℕ). begins is_digit l ≡ true) (sym p) (begins_front is_digit t m (number_begins t h)) in
+    let x : begins is_digit us ≡ true = subst (λ (l : List ℕ). begins is_digit l ≡ true) (sym p)
+    (begins_front is_digit t m (number_begins t h)) in
     absurd cc
 mark_shape us a b q t m p (a_string h) =
-    let x : begins is_quote us ≡ true = subst (λ (l : List ℕ). begins is_quote l ≡ true) (sym p) (begins_front is_quote t m (literal_begins t h)) in
+    let x : begins is_quote us ≡ true = subst (λ (l : List ℕ). begins is_quote l ≡ true) (sym p)
+    (begins_front is_quote t m (literal_begins t h)) in
     absurd cc
 mark_shape us a b q t m p (a_punctuator k l) = (k, l)
 
@@ -295,20 +325,32 @@ punctuator_front us a b q = by_found (first_in punctuators us) (first_is punctua
     stands t m p = ap (is_prefix_of t) p ∙ prefix_self t m
 
     by_found : (o : Option (TokenKind × ℕ)) → Firsts punctuators us o → Front us o
-    by_found None h = record { none = λ t m p s. let l = mark_shape us a b q t m p s in h.none (l.0, t) l.1 (stands t m p) }
+    by_found None h =
+        record { none = λ t m p s. let l = mark_shape us a b q t m p s in h.none (l.0, t) l.1 (stands t m p) }
     by_found (Some found) h =
-        let front : take found.1 us ≡ h.text = ap (λ n. take n us) (sym h.len) ∙ ap (take (length h.text)) h.here ∙ take-append_seam h.text (drop (length h.text) us) in
+        let front : take found.1 us ≡ h.text = ap (λ n. take n us) (sym h.len)
+        ∙ ap (take (length h.text)) h.here
+        ∙ take-append_seam h.text (drop (length h.text) us) in
         record {
-          within = omega (arith, ap (λ (l : List ℕ). length l) h.here, length-append h.text (drop (length h.text) us), h.len);
+          within =
+              omega (
+                arith,
+                ap (λ (l : List ℕ). length l) h.here,
+                length-append h.text (drop (length h.text) us),
+                h.len,
+              );
           some = omega (arith, h.len, some_mark h.text (punctuator_is_mark found.0 h.text h.listed));
           token = subst (λ (l : List ℕ). IsToken found.0 l (drop found.1 us)) (sym front) (punctuator h.listed);
-          longest = λ t m p s. let l = mark_shape us a b q t m p s in h.longest punctuators_descend (l.0, t) l.1 (stands t m p);
+          longest =
+              λ t m p s. let l = mark_shape us a b q t m p s in
+              h.longest punctuators_descend (l.0, t) l.1 (stands t m p);
         }
 
 -- the token at the front, where no comment begins
 token_front : (us : List ℕ) → opens_comment us ≡ false → Front us (token_at us)
 unfolding token_at
-token_front us o = by_tests (begins is_word_start us) refl (begins is_digit us) refl (begins is_quote us) refl (opens_comment us) o
+token_front us o =
+    by_tests (begins is_word_start us) refl (begins is_digit us) refl (begins is_quote us) refl (opens_comment us) o
   where
     by_tests : (a : Bool)
         → begins is_word_start us ≡ a
@@ -318,7 +360,10 @@ token_front us o = by_tests (begins is_word_start us) refl (begins is_digit us) 
         → begins is_quote us ≡ q
         → (c : Bool)
         → c ≡ false
-        → Front us (cond a (word_token (leading is_word_part us) us) (cond b (number_token (leading is_word_part us) us) (cond q (string_token us) (cond c None (first_in punctuators us)))))
+        → Front us
+        (cond a (word_token (leading is_word_part us) us)
+        (cond b (number_token (leading is_word_part us) us)
+        (cond q (string_token us) (cond c None (first_in punctuators us)))))
     by_tests true e b f q h c g = word_front us e
     by_tests false e true f q h c g = number_front us f
     by_tests false e false f true h c g = string_front us h
@@ -361,7 +406,9 @@ longest_here us k n e = by_comment (opens_comment us) refl
           o,
           record {
             here = record { token = f.token; no_comment = ap opens_comment whole ∙ o };
-            longest = λ j t m p h. omega (arith, f.longest t m (sym whole ∙ p) (shape_of j t m h.token), f.within, length-take n us);
+            longest =
+                λ j t m p h. omega
+                (arith, f.longest t m (sym whole ∙ p) (shape_of j t m h.token), f.within, length-take n us);
           },
         )
 
@@ -374,10 +421,12 @@ none_here us e k t m p h =
 -- a token of the kind of numbers is a number
 number_token_is : (k : TokenKind) (t m : List ℕ) → IsToken k t m → k ≡ Number → IsNumber t
 number_token_is k t m (name e w n) p = absurd cc
-number_token_is k t m (reserved l) p = absurd (number_not_reserved t (subst (λ (k : TokenKind). IsListed (k, t) reserved_words) p l))
+number_token_is k t m (reserved l) p =
+    absurd (number_not_reserved t (subst (λ (k : TokenKind). IsListed (k, t) reserved_words) p l))
 number_token_is k t m (number e h f) p = h
 number_token_is k t m (string e h) p = absurd cc
-number_token_is k t m (punctuator l) p = absurd (number_not_mark t (subst (λ (k : TokenKind). IsListed (k, t) punctuators) p l))
+number_token_is k t m (punctuator l) p =
+    absurd (number_not_mark t (subst (λ (k : TokenKind). IsListed (k, t) punctuators) p l))
 
 pub number_here : (us : List ℕ) (k : TokenKind) (n : ℕ) → token_at us ≡ Some (k, n) → k ≡ Number → IsNumber (take n us)
 number_here us k n e p = number_token_is k (take n us) (drop n us) (longest_here us k n e).3.here.token p

@@ -25,11 +25,13 @@ pub close_at : (us : List ℕ)
 close_at [] h = absurd (omega arith)
 close_at (u ∷ us) h = by_test (λ l. close_at us l) (is_prefix_of (codes "*/") (u ∷ us)) refl h
   where
-    by_test : (before_close us < length us → drop (before_close us) us ≡ codes "*/" ++ drop (suc (suc (before_close us))) us)
+    by_test :
+        (before_close us < length us → drop (before_close us) us ≡ codes "*/" ++ drop (suc (suc (before_close us))) us)
         → (b : Bool)
         → is_prefix_of (codes "*/") (u ∷ us) ≡ b
         → cond b 0 (suc (before_close us)) < suc (length us)
-        → drop (cond b 0 (suc (before_close us))) (u ∷ us) ≡ codes "*/" ++ drop (suc (suc (cond b 0 (suc (before_close us))))) (u ∷ us)
+        → drop (cond b 0 (suc (before_close us))) (u ∷ us) ≡ codes "*/" ++ drop
+        (suc (suc (cond b 0 (suc (before_close us))))) (u ∷ us)
     by_test go true e l = prefix_is (codes "*/") (u ∷ us) e
     by_test go false e l = go (omega arith)
 
@@ -48,7 +50,8 @@ nothing_in (b ∷ before) after e = cc
 -- no */ stands before the first one
 close_first : (us before after : List ℕ) → take (before_close us) us ≡ before ++ (codes "*/" ++ after) → ⊥
 close_first [] before after e = nothing_in before after e
-close_first (u ∷ us) before after e = by_test (λ b a f. close_first us b a f) (is_prefix_of (codes "*/") (u ∷ us)) refl before e
+close_first (u ∷ us) before after e =
+    by_test (λ b a f. close_first us b a f) (is_prefix_of (codes "*/") (u ∷ us)) refl before e
   where
     by_test : ((b a : List ℕ) → take (before_close us) us ≡ b ++ (codes "*/" ++ a) → ⊥)
         → (c : Bool)
@@ -68,7 +71,9 @@ close_exact : (body m : List ℕ)
     → ((before after : List ℕ) → body ≡ before ++ (codes "*/" ++ after) → ⊥)
     → before_close (body ++ (codes "*/" ++ m)) ≡ length body
 close_exact [] m h = refl
-close_exact (b ∷ body) m h = by_test (close_exact body m (λ before after e. h (b ∷ before) after (ap (λ l. b ∷ l) e))) (is_prefix_of (codes "*/") (b ∷ (body ++ (codes "*/" ++ m)))) refl
+close_exact (b ∷ body) m h =
+    by_test (close_exact body m (λ before after e. h (b ∷ before) after (ap (λ l. b ∷ l) e)))
+    (is_prefix_of (codes "*/") (b ∷ (body ++ (codes "*/" ++ m)))) refl
   where
     second : (body : List ℕ)
         → ((before after : List ℕ) → b ∷ body ≡ before ++ (codes "*/" ++ after) → ⊥)
@@ -96,7 +101,8 @@ Found us n = (n ≤ length us) × IsGapPiece (take n us) (drop n us)
 
 none_from_all : (p : ℕ → Bool) (us : List ℕ) → list_all (λ c. not (p c)) us ≡ true → list_any p us ≡ false
 none_from_all p [] e = refl
-none_from_all p (u ∷ us) e = by_test (λ f. none_from_all p us f) (p u) (and_parts (not (p u)) (list_all (λ c. not (p c)) us) e)
+none_from_all p (u ∷ us) e =
+    by_test (λ f. none_from_all p us f) (p u) (and_parts (not (p u)) (list_all (λ c. not (p c)) us) e)
   where
     by_test : (list_all (λ c. not (p c)) us ≡ true → list_any p us ≡ false)
         → (b : Bool)
@@ -134,7 +140,8 @@ line_found us = (
   line_comment (record {
     body = take (line_len us) us;
     spelled = refl;
-    one_line = none_from_all is_line_terminator (take (line_len us) us) (leading_all (λ c. not (is_line_terminator c)) us);
+    one_line =
+        none_from_all is_line_terminator (take (line_len us) us) (leading_all (λ c. not (is_line_terminator c)) us);
     ended = line_ends (drop (line_len us) us) (leading_stops (λ c. not (is_line_terminator c)) us);
   }),
 )
@@ -144,7 +151,9 @@ block_found us h = (
   omega (arith, close_fits us h),
   block_comment (record {
     body = take (before_close us) us;
-    spelled = ap (λ l. 47 ∷ 42 ∷ l) (take-add (before_close us) 2 us ∙ ap (λ l. take (before_close us) us ++ take 2 l) (close_at us h));
+    spelled =
+        ap (λ l. 47 ∷ 42 ∷ l)
+        (take-add (before_close us) 2 us ∙ ap (λ l. take (before_close us) us ++ take 2 l) (close_at us h));
     next = close_first us;
   }),
 )
@@ -163,16 +172,21 @@ finds_by us n true b c d p q r s e = subst (λ (k : ℕ). Found us k) e (blank_f
 finds_by us n false true c d p q r s e =
     let w : us ≡ 47 ∷ 47 ∷ drop 2 us = prefix_is (codes "//") us q in
     let k : suc (suc (line_len (drop 2 us))) ≡ suc n = ap line_len (sym w) ∙ e in
-    subst (λ (k : ℕ). Found us k) k (subst (λ (l : List ℕ). Found l (suc (suc (line_len (drop 2 us))))) (sym w) (line_found (drop 2 us)))
+    subst (λ (k : ℕ). Found us k) k
+    (subst (λ (l : List ℕ). Found l (suc (suc (line_len (drop 2 us))))) (sym w) (line_found (drop 2 us)))
 finds_by us n false false true true p q r s e =
     let w : us ≡ 47 ∷ 42 ∷ drop 2 us = prefix_is (codes "/*") us r in
     let k : suc (suc (before_close (drop 2 us) + 2)) ≡ suc n = omega arith in
-    subst (λ (k : ℕ). Found us k) k (subst (λ (l : List ℕ). Found l (suc (suc (before_close (drop 2 us) + 2)))) (sym w) (block_found (drop 2 us) (ltb-true (before_close (drop 2 us)) (length (drop 2 us)) s)))
+    subst (λ (k : ℕ). Found us k) k
+    (subst (λ (l : List ℕ). Found l (suc (suc (before_close (drop 2 us) + 2)))) (sym w)
+    (block_found (drop 2 us) (ltb-true (before_close (drop 2 us)) (length (drop 2 us)) s)))
 finds_by us n false false true false p q r s e = absurd cc
 finds_by us n false false false d p q r s e = absurd cc
 
 pub gap_finds : Finds (λ text more. IsGapPiece text more) gap_piece
-gap_finds us n e = finds_by us n (begins is_blank us) (is_prefix_of (codes "//") us) (is_prefix_of (codes "/*") us) (ltb (before_close (drop 2 us)) (length (drop 2 us))) refl refl refl refl e
+gap_finds us n e =
+    finds_by us n (begins is_blank us) (is_prefix_of (codes "//") us) (is_prefix_of (codes "/*") us)
+    (ltb (before_close (drop 2 us)) (length (drop 2 us))) refl refl refl refl e
 
 abbrev Known : List ℕ → List ℕ → Type 0
 Known t m = (0 < length t) × (gap_piece (t ++ m) ≡ length t)
@@ -183,7 +197,11 @@ line_known : (body m : List ℕ)
     → Known (47 ∷ 47 ∷ body) m
 line_known body m e f = (
   omega arith,
-  omega (arith, leading_exact (λ c. not (is_line_terminator c)) body m (all_from_none is_line_terminator body e) (line_ended m f)),
+  omega (
+    arith,
+    leading_exact (λ c. not (is_line_terminator c)) body m (all_from_none is_line_terminator body e)
+        (line_ended m f),
+  ),
 )
 
 closed_len : (b n m t : ℕ) → n ≡ b + 2 + m → t ≡ b + 2 → cond (ltb b n) (b + 4) 0 ≡ suc (suc t)
@@ -193,15 +211,19 @@ block_known : (body m : List ℕ)
     → ((before after : List ℕ) → body ≡ before ++ (codes "*/" ++ after) → ⊥)
     → Known (47 ∷ 42 ∷ (body ++ codes "*/")) m
 block_known body m h =
-    let e : before_close ((body ++ codes "*/") ++ m) ≡ length body = ap before_close (append_assoc body (codes "*/") m) ∙ close_exact body m h in
-    let l : length ((body ++ codes "*/") ++ m) ≡ length body + 2 + length m = omega (arith, length-append (body ++ codes "*/") m, length-append body (codes "*/")) in (
+    let e : before_close ((body ++ codes "*/") ++ m) ≡ length body = ap before_close (append_assoc body (codes "*/") m)
+    ∙ close_exact body m h in
+    let l : length ((body ++ codes "*/") ++ m) ≡ length body + 2 + length m = omega
+    (arith, length-append (body ++ codes "*/") m, length-append body (codes "*/")) in (
       omega arith,
-      rw e (closed_len (length body) (length ((body ++ codes "*/") ++ m)) (length m) (length (body ++ codes "*/")) l (length-append body (codes "*/"))),
+      rw e (closed_len (length body) (length ((body ++ codes "*/") ++ m)) (length m) (length (body ++ codes "*/")) l
+          (length-append body (codes "*/"))),
     )
 
 knows_by : (t m : List ℕ) → IsGapPiece t m → Known t m
 knows_by t m (blank c e f) = subst (λ (t : List ℕ). Known t m) (sym e) (omega arith, rw f refl)
-knows_by t m (line_comment h) = subst (λ (t : List ℕ). Known t m) (sym h.spelled) (line_known h.body m h.one_line h.ended)
+knows_by t m (line_comment h) =
+    subst (λ (t : List ℕ). Known t m) (sym h.spelled) (line_known h.body m h.one_line h.ended)
 knows_by t m (block_comment h) = subst (λ (t : List ℕ). Known t m) (sym h.spelled) (block_known h.body m h.next)
 
 pub gap_knows : Knows (λ text more. IsGapPiece text more) gap_piece

@@ -25,7 +25,8 @@ parts_found q us n e = by_found (character_at q us) (good_character q us) e
         → found_len o ≡ suc n
         → (suc n ≤ length us) × IsPart q (take (suc n) us) (drop (suc n) us)
     by_found None h e = absurd cc
-    by_found (Some c) h e = subst (λ (k : ℕ). (k ≤ length us) × IsPart q (take k us) (drop k us)) e (h.1, (c.value, h.2))
+    by_found (Some c) h e =
+        subst (λ (k : ℕ). (k ≤ length us) × IsPart q (take k us) (drop k us)) e (h.1, (c.value, h.2))
 
 parts_known : (q : ℕ) → Knows (IsPart q) (character_len q)
 parts_known q t m h = let k = character_known q t h.0 m h.1 in (k.0, ap found_len k.1)
@@ -96,7 +97,9 @@ pub decoded_more : (q : ℕ) (us : List ℕ) (c : Character)
 decoded_more q [] c e p l = absurd (omega arith)
 decoded_more q (u ∷ us) c e p l =
     let k : suc (c.len - 1) ≡ c.len = omega arith in
-    ap (decoded_by (λ n. decoded q (n - 1) us)) e ∙ ap (λ w. units_of c.value ++ w) (decoded_skips q (c.len - 1) us (omega arith) ∙ ap (λ n. decoded q 0 (drop n (u ∷ us))) k)
+    ap (decoded_by (λ n. decoded q (n - 1) us)) e
+    ∙ ap (λ w. units_of c.value ++ w)
+    (decoded_skips q (c.len - 1) us (omega arith) ∙ ap (λ n. decoded q 0 (drop n (u ∷ us))) k)
 
 decoded_exact : (q : ℕ) (cs : List Spelled) (m : List ℕ)
     → AreCharacters q cs m
@@ -107,8 +110,12 @@ decoded_exact q (c ∷ cs) m h z =
     let k = character_known q c.text c.value (spelling cs ++ m) h.0 in
     let joined : (c.text ++ spelling cs) ++ m ≡ c.text ++ (spelling cs ++ m) = append_assoc c.text (spelling cs) m in
     let some : 1 ≤ length c.text = k.0 in
-    let more = decoded_more q (c.text ++ (spelling cs ++ m)) (record { len = length c.text; value = c.value }) k.1 some (omega (arith, length-append c.text (spelling cs ++ m))) in
-    ap (decoded q 0) joined ∙ more ∙ ap (λ w. units_of c.value ++ w) (ap (decoded q 0) (drop-append_seam c.text (spelling cs ++ m)) ∙ decoded_exact q cs m h.1 z)
+    let more = decoded_more q (c.text ++ (spelling cs ++ m)) (record { len = length c.text; value = c.value }) k.1 some
+    (omega (arith, length-append c.text (spelling cs ++ m))) in
+    ap (decoded q 0) joined
+    ∙ more
+    ∙ ap (λ w. units_of c.value ++ w)
+    (ap (decoded q 0) (drop-append_seam c.text (spelling cs ++ m)) ∙ decoded_exact q cs m h.1 z)
 
 -- no character begins with the literal's quote
 quote_ends : (q : ℕ) (m : List ℕ) → is_quote q ≡ true → character_at q (q ∷ m) ≡ None
@@ -122,7 +129,9 @@ quote_ends q m e = by_tests (eqb q 34) refl (eqb q 39) refl e
 -- a literal stands for what its value says, and for nothing else
 pub value_is : (text value : List ℕ) → IsString text value → string_value text ≡ value
 value_is text value h =
-    ap string_value h.spelled ∙ decoded_exact h.quote h.characters (h.quote ∷ []) h.each (quote_ends h.quote [] h.quoted) ∙ sym h.stands_for
+    ap string_value h.spelled
+    ∙ decoded_exact h.quote h.characters (h.quote ∷ []) h.each (quote_ends h.quote [] h.quoted)
+    ∙ sym h.stands_for
 
 pub literal_value : (text : List ℕ) → IsStringLiteral text → IsString text (string_value text)
 literal_value text h = subst (λ (v : List ℕ). IsString text v) (sym (value_is text h.0 h.1)) h.1
@@ -136,12 +145,23 @@ pub literal_found : (q n : ℕ) (us : List ℕ)
     → begins (λ c. eqb c q) (drop n us) ≡ true
     → (n + 2 ≤ length (q ∷ us)) × IsStringLiteral (take (n + 2) (q ∷ us))
 literal_found q n us e r f =
-    let is : IsRun (IsPart q) (character_len q) us n = subst (λ (n : ℕ). IsRun (IsPart q) (character_len q) us n) r (run_is (IsPart q) (character_len q) (parts_found q) us) in
+    let is : IsRun (IsPart q) (character_len q) us n = subst (λ (n : ℕ). IsRun (IsPart q) (character_len q) us n) r
+    (run_is (IsPart q) (character_len q) (parts_found q) us) in
     let rest : drop n us ≡ q ∷ drop 1 (drop n us) = first_is q (drop n us) f in
-    let each : Each (IsPart q) is.made.pieces (q ∷ []) = parts_before q is.made.pieces (drop 1 (drop n us)) [] q (subst (λ (l : List ℕ). Each (IsPart q) is.made.pieces l) rest is.made.each) in
+    let each : Each (IsPart q) is.made.pieces (q ∷ []) = parts_before q is.made.pieces (drop 1 (drop n us)) [] q
+    (subst (λ (l : List ℕ). Each (IsPart q) is.made.pieces l) rest is.made.each) in
     let values = with_values q is.made.pieces (q ∷ []) each in
-    let fits : n + 1 ≤ length us = omega (arith, ap (λ (l : List ℕ). length l) rest, ap (λ (l : List ℕ). length l) (take-append-drop n us), length-append (take n us) (drop n us), length-take n us) in
-    let body : take (n + 1) us ≡ spelling values.characters ++ (q ∷ []) = take-add n 1 us ∙ ap (λ l. take n us ++ take 1 l) rest ∙ ap (λ l. l ++ (q ∷ [])) (is.made.joined ∙ sym values.same) in
+    let fits : n + 1 ≤ length us = omega (
+      arith,
+      ap (λ (l : List ℕ). length l) rest,
+      ap (λ (l : List ℕ). length l) (take-append-drop n us),
+      length-append (take n us) (drop n us),
+      length-take n us,
+    )
+    in
+    let body : take (n + 1) us ≡ spelling values.characters ++ (q ∷ []) = take-add n 1 us
+    ∙ ap (λ l. take n us ++ take 1 l) rest
+    ∙ ap (λ l. l ++ (q ∷ [])) (is.made.joined ∙ sym values.same) in
     let k : suc (n + 1) ≡ n + 2 = omega arith in (
       omega arith,
       subst (λ (k : ℕ). IsStringLiteral (take k (q ∷ us))) k (
@@ -163,11 +183,14 @@ literal_run : (q : ℕ) (cs : List Spelled) (m : List ℕ)
     → AreCharacters q cs (q ∷ [])
     → run (character_len q) 0 (spelling cs ++ (q ∷ m)) ≡ length (spelling cs)
 literal_run q cs m e h =
-    run_exact (IsPart q) (character_len q) (parts_known q) (map (λ c. c.text) cs) (q ∷ m) (parts_before q (map (λ c. c.text) cs) [] m q (without_values q cs (q ∷ []) h)) (ap found_len (quote_ends q m e))
+    run_exact (IsPart q) (character_len q) (parts_known q) (map (λ c. c.text) cs) (q ∷ m)
+    (parts_before q (map (λ c. c.text) cs) [] m q (without_values q cs (q ∷ []) h))
+    (ap found_len (quote_ends q m e))
 
 -- so many units behind this quote are characters, and then the quote stands
 abbrev EndsAt : ℕ → List ℕ → ℕ → Type 0
-EndsAt q us n = (n ≡ run (character_len q) 0 us + 2) × (begins (λ c. eqb c q) (drop (run (character_len q) 0 us) us) ≡ true)
+EndsAt q us n =
+    (n ≡ run (character_len q) 0 us + 2) × (begins (λ c. eqb c q) (drop (run (character_len q) 0 us) us) ≡ true)
 
 literal_ends : (q : ℕ) (cs : List Spelled) (m : List ℕ)
     → is_quote q ≡ true
@@ -185,12 +208,15 @@ literal_known q us t m p h =
     let w : q ∷ us ≡ s.quote ∷ ((spelling s.characters ++ (s.quote ∷ [])) ++ m) = p ∙ ap (λ t. t ++ m) s.spelled in
     let same : s.quote ≡ q = cc in
     let front : us ≡ (spelling s.characters ++ (s.quote ∷ [])) ++ m = cc in
-    let body : us ≡ spelling s.characters ++ (s.quote ∷ m) = front ∙ append_assoc (spelling s.characters) (s.quote ∷ []) m in
-    let len : length (spelling s.characters) + 2 ≡ length t = omega (arith, ap (λ (l : List ℕ). length l) s.spelled, length-append (spelling s.characters) (s.quote ∷ [])) in
+    let body : us ≡ spelling s.characters ++ (s.quote ∷ m) = front
+    ∙ append_assoc (spelling s.characters) (s.quote ∷ []) m in
+    let len : length (spelling s.characters) + 2 ≡ length t = omega
+    (arith, ap (λ (l : List ℕ). length l) s.spelled, length-append (spelling s.characters) (s.quote ∷ [])) in
     let ends = literal_ends s.quote s.characters m s.quoted s.each in
     subst (λ (n : ℕ). EndsAt q us n) len
     (subst (λ (l : List ℕ). EndsAt q l (length (spelling s.characters) + 2)) (sym body)
-    (subst (λ (c : ℕ). EndsAt c (spelling s.characters ++ (s.quote ∷ m)) (length (spelling s.characters) + 2)) same ends))
+    (subst (λ (c : ℕ). EndsAt c (spelling s.characters ++ (s.quote ∷ m)) (length (spelling s.characters) + 2))
+    same ends))
 
 -- what a literal begins with
 pub literal_begins : (t : List ℕ) → IsStringLiteral t → begins is_quote t ≡ true

@@ -16,7 +16,9 @@ grows base v d w b h = omega (arith, mul-le-mul_left v b)
 -- further digits make no value smaller
 pub digits_value_grows : (base v : ℕ) (ds : List ℕ) → 1 ≤ base → v ≤ digits_value base v ds
 digits_value_grows base v [] b = omega arith
-digits_value_grows base v (d ∷ ds) b = grows base v (digit_value d) (digits_value base (v * base + digit_value d) ds) b (digits_value_grows base (v * base + digit_value d) ds b)
+digits_value_grows base v (d ∷ ds) b =
+    grows base v (digit_value d) (digits_value base (v * base + digit_value d) ds) b
+    (digits_value_grows base (v * base + digit_value d) ds b)
 
 -- a value that is too great after a digit is too great in the end
 pub too_great : (base v i whole : ℕ) (ds : List ℕ)
@@ -26,7 +28,8 @@ pub too_great : (base v i whole : ℕ) (ds : List ℕ)
     → 2 ^ 53 ≤ v * base + digit_value (get_or ds i 0)
     → ltb whole (2 ^ 53) ≡ false
 too_great base v i whole ds b l e h =
-    let next : digits_value base v (drop i ds) ≡ digits_value base (v * base + digit_value (get_or ds i 0)) (drop (suc i) ds) = ap (digits_value base v) (drop-cons ds i 0 l) in
+    let next : digits_value base v (drop i ds) ≡ digits_value base (v * base + digit_value (get_or ds i 0))
+    (drop (suc i) ds) = ap (digits_value base v) (drop-cons ds i 0 l) in
     let more = digits_value_grows base (v * base + digit_value (get_or ds i 0)) (drop (suc i) ds) b in
     let above : 2 ^ 53 ≤ whole = omega arith in
     grind (arith, nat_tests)
@@ -57,7 +60,8 @@ digits_begin : (ds : List ℕ)
     → not (eqb (length ds) 0) ≡ true
     → begins is_digit ds ≡ true
 digits_begin [] e f = absurd cc
-digits_begin (d ∷ ds) e f = digit_is_decimal d (and_parts (ltb (digit_value d) 10) (list_all (λ c. ltb (digit_value c) 10) ds) e).0
+digits_begin (d ∷ ds) e f =
+    digit_is_decimal d (and_parts (ltb (digit_value d) 10) (list_all (λ c. ltb (digit_value c) 10) ds) e).0
 
 -- a numeral begins with a digit, and a word could hold its units
 pub record IsNumeral (text : List ℕ) : Type 0 where
@@ -93,7 +97,9 @@ numeral_is (z ∷ c ∷ ds) e = by_test (eqb z 48 && not (eqb (base_of c) 10)) r
   where
     by_test : (b : Bool)
         → (eqb z 48 && not (eqb (base_of c) 10)) ≡ b
-        → (let parts : ℕ × List ℕ = cond b (base_of c, ds) (10, z ∷ c ∷ ds) in cond (eqb parts.0 10) (is_decimal parts.1) (are_digits parts.0 parts.1)) ≡ true
+        → (let parts : ℕ × List ℕ = cond b (base_of c, ds) (10, z ∷ c ∷ ds) in
+        cond (eqb parts.0 10) (is_decimal parts.1) (are_digits parts.0 parts.1))
+        ≡ true
         → IsNumeral (z ∷ c ∷ ds)
     by_test true f h = based_is z c ds (eqb (base_of c) 10) refl f h
     by_test false f h = decimal_is (z ∷ c ∷ ds) h

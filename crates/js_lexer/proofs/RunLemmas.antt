@@ -21,11 +21,13 @@ pub run_more : (piece : List ℕ → ℕ) (us : List ℕ) (n : ℕ)
     → run piece 0 us ≡ n + run piece 0 (drop n us)
 run_more piece [] n e p q = absurd (omega arith)
 run_more piece (u ∷ us) zero e p q = absurd (omega arith)
-run_more piece (u ∷ us) (suc n) e p q = ap (behind (λ n. run piece n us)) e ∙ omega (arith, run_skips piece n us (omega arith))
+run_more piece (u ∷ us) (suc n) e p q =
+    ap (behind (λ n. run piece n us)) e ∙ omega (arith, run_skips piece n us (omega arith))
 
 pub run_within : (piece : List ℕ → ℕ) (k : ℕ) (us : List ℕ) → run piece k us ≤ length us
 run_within piece k [] = omega arith
-run_within piece zero (u ∷ us) = by_piece (λ n. run piece n us) (length us) (λ n. run_within piece n us) (piece (u ∷ us))
+run_within piece zero (u ∷ us) =
+    by_piece (λ n. run piece n us) (length us) (λ n. run_within piece n us) (piece (u ∷ us))
   where
     by_piece : (go : ℕ → ℕ) (l : ℕ) → ((n : ℕ) → go n ≤ l) → (n : ℕ) → behind go n ≤ suc l
     by_piece go l h zero = omega arith
@@ -51,7 +53,9 @@ longer : (P : List ℕ → List ℕ → Type 0) (piece : List ℕ → ℕ) (us :
     → IsRun P piece us (n + k)
 longer P piece us n k p r =
     let e : drop k (drop n us) ≡ drop (n + k) us = drop-drop k n us in
-    let whole : concat r.made.pieces ++ drop k (drop n us) ≡ drop n us = ap (λ l. l ++ drop k (drop n us)) (sym r.made.joined) ∙ take-append-drop k (drop n us) in
+    let whole : concat r.made.pieces ++ drop k (drop n us) ≡ drop n us = ap (λ l. l ++ drop k (drop n us))
+    (sym r.made.joined)
+    ∙ take-append-drop k (drop n us) in
     record {
       made = subst (λ (m : List ℕ). AreMadeOf P (take (n + k) us) m) e (record {
         pieces = take n us ∷ r.made.pieces;
@@ -68,12 +72,14 @@ run_by : (P : List ℕ → List ℕ → Type 0) (piece : List ℕ → ℕ) (us :
     → piece us ≡ n
     → IsRun P piece us (run piece 0 us)
 run_by P piece us f h zero e =
-    subst (λ (k : ℕ). IsRun P piece us k) (sym (run_stops piece us e)) (record { made = record { pieces = []; joined = refl; each = tt }; ended = e })
+    subst (λ (k : ℕ). IsRun P piece us k) (sym (run_stops piece us e))
+    (record { made = record { pieces = []; joined = refl; each = tt }; ended = e })
 run_by P piece us f h (suc n) e =
     let found = f us n e in
     let l : suc n ≤ length us = found.0 in
     subst (λ (k : ℕ). IsRun P piece us k) (sym (run_more piece us (suc n) e (omega arith) l))
-    (longer P piece us (suc n) (run piece 0 (drop (suc n) us)) found.1 (h (drop (suc n) us) (omega (arith, length-drop (suc n) us))))
+    (longer P piece us (suc n) (run piece 0 (drop (suc n) us)) found.1
+    (h (drop (suc n) us) (omega (arith, length-drop (suc n) us))))
 
 run_below : (P : List ℕ → List ℕ → Type 0) (piece : List ℕ → ℕ)
     → Finds P piece
@@ -102,7 +108,11 @@ run_exact P piece k (t ∷ ts) m h z =
     let here = k t (concat ts ++ m) h.0 in
     let some : 0 < length t = here.0 in
     let l : length t ≤ length (t ++ (concat ts ++ m)) = omega (arith, length-append t (concat ts ++ m)) in
-    let rest : run piece 0 (drop (length t) (t ++ (concat ts ++ m))) ≡ length (concat ts) = ap (run piece 0) (drop-append_seam t (concat ts ++ m)) ∙ run_exact P piece k ts m h.1 z in
-    ap (run piece 0) (append_assoc t (concat ts) m) ∙ run_more piece (t ++ (concat ts ++ m)) (length t) here.1 some l ∙ omega (arith, rest, length-append t (concat ts))
+    let rest : run piece 0 (drop (length t) (t ++ (concat ts ++ m))) ≡ length (concat ts) = ap (run piece 0)
+    (drop-append_seam t (concat ts ++ m))
+    ∙ run_exact P piece k ts m h.1 z in
+    ap (run piece 0) (append_assoc t (concat ts) m)
+    ∙ run_more piece (t ++ (concat ts ++ m)) (length t) here.1 some l
+    ∙ omega (arith, rest, length-append t (concat ts))
 
 pub ruleset run_steps = (run_stops, run_more)

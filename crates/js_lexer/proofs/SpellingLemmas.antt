@@ -20,4 +20,5 @@ prefix_self [] m = refl
 prefix_self (c ∷ t) m = rw (eq-eqb c c refl) (prefix_self t m)
 
 pub prefix_fits : (t us : List ℕ) → is_prefix_of t us ≡ true → length t ≤ length us
-prefix_fits t us e = omega (arith, ap (λ (l : List ℕ). length l) (prefix_is t us e), length-append t (drop (length t) us))
+prefix_fits t us e =
+    omega (arith, ap (λ (l : List ℕ). length l) (prefix_is t us e), length-append t (drop (length t) us))

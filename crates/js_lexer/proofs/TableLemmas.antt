@@ -110,7 +110,9 @@ first_here e es us b = record {
   len = refl;
   longest = λ d f l h. elim l [
     | inl q ↦ omega (arith, ap (λ (x : Entry). length x.1) q)
-    | inr l ↦ leb-true (length f.1) (length e.1) (all_listed (λ d. leb (length d.1) (length e.1)) es (and_parts (list_all (λ d. leb (length d.1) (length e.1)) es) (descends es) d).0 f l)
+    | inr l ↦ leb-true (length f.1) (length e.1)
+        (all_listed (λ d. leb (length d.1) (length e.1)) es
+        (and_parts (list_all (λ d. leb (length d.1) (length e.1)) es) (descends es) d).0 f l)
   ];
 }
 

@@ -46,20 +46,26 @@ past_by : (n m at g : ℕ) (newline : Bool) (us : List ℕ)
 past_by n m at g newline us p q h None e = item_none (λ a r. items n a r) (λ a r. items m a r) at newline (drop g us)
 past_by n m at g newline us p q h (Some t) e =
     let s = token_some (drop g us) t e in
-    ap (λ ts. Ok (record { kind = t.0; text = take t.1 (drop g us); start = at; newline_before = newline }) ∷ ts) (h (at + t.1) (drop t.1 (drop g us)) (omega (arith, s.0, s.1, length-drop g us, length-drop t.1 (drop g us))) (omega (arith, s.0, s.1, length-drop g us, length-drop t.1 (drop g us))))
+    ap (λ ts. Ok (record { kind = t.0; text = take t.1 (drop g us); start = at; newline_before = newline }) ∷ ts)
+    (h (at + t.1) (drop t.1 (drop g us)) (omega (arith, s.0, s.1, length-drop g us, length-drop t.1 (drop g us)))
+    (omega (arith, s.0, s.1, length-drop g us, length-drop t.1 (drop g us))))
 
 items_past : (n m at : ℕ) (us : List ℕ) → length us < n → length us < m → items n at us ≡ items m at us
 unfolding items
 items_past zero m at us p q = absurd (omega arith)
 items_past (suc n) zero at us p q = absurd (omega arith)
-items_past (suc n) (suc m) at us p q = past_by n m (at + gap_len us) (gap_len us) (has_line_terminator (take (gap_len us) us)) us p q (λ a r x y. items_past n m a r x y) (token_at (drop (gap_len us) us)) refl
+items_past (suc n) (suc m) at us p q =
+    past_by n m (at + gap_len us) (gap_len us) (has_line_terminator (take (gap_len us) us)) us p q
+    (λ a r x y. items_past n m a r x y) (token_at (drop (gap_len us) us)) refl
 
 pub no_more : (at : ℕ) (us : List ℕ)
     → token_at (drop (gap_len us) us) ≡ None
     → length (drop (gap_len us) us) ≡ 0
     → items (suc (length us)) at us ≡ []
 unfolding items
-no_more at us e z = rw e (nothing (λ a r. items (length us) a r) (at + gap_len us) (has_line_terminator (take (gap_len us) us)) (drop (gap_len us) us) z)
+no_more at us e z =
+    rw e (nothing (λ a r. items (length us) a r) (at + gap_len us) (has_line_terminator (take (gap_len us) us))
+    (drop (gap_len us) us) z)
   where
     nothing : (go : ℕ → List ℕ → List (Result Lent ℕ)) (at : ℕ) (newline : Bool) (r : List ℕ)
         → length r ≡ 0
@@ -72,7 +78,9 @@ pub bad_one : (at : ℕ) (us : List ℕ)
     → 0 < length (drop (gap_len us) us)
     → items (suc (length us)) at us ≡ Err (at + gap_len us) ∷ []
 unfolding items
-bad_one at us e z = rw e (bad (λ a r. items (length us) a r) (at + gap_len us) (has_line_terminator (take (gap_len us) us)) (drop (gap_len us) us) z)
+bad_one at us e z =
+    rw e (bad (λ a r. items (length us) a r) (at + gap_len us) (has_line_terminator (take (gap_len us) us))
+    (drop (gap_len us) us) z)
   where
     bad : (go : ℕ → List ℕ → List (Result Lent ℕ)) (at : ℕ) (newline : Bool) (r : List ℕ)
         → 0 < length r
@@ -81,12 +89,33 @@ bad_one at us e z = rw e (bad (λ a r. items (length us) a r) (at + gap_len us) 
     bad go at newline (u ∷ us) z = refl
 
 pub one_more : (at : ℕ) (us : List ℕ) (t : TokenKind × ℕ) → token_at (drop (gap_len us) us) ≡ Some t
-    → items (suc (length us)) at us ≡ Ok (record { kind = t.0; text = take t.1 (drop (gap_len us) us); start = at + gap_len us; newline_before = has_line_terminator (take (gap_len us) us) }) ∷ items (suc (length (drop t.1 (drop (gap_len us) us)))) (at + gap_len us + t.1) (drop t.1 (drop (gap_len us) us))
+    → items (suc (length us)) at us ≡ Ok
+    (record {
+      kind = t.0;
+      text = take t.1
+          (drop (gap_len us) us);
+      start = at + gap_len us;
+      newline_before = has_line_terminator
+          (take (gap_len us) us);
+    })
+    ∷ items (suc (length (drop t.1 (drop (gap_len us) us)))) (at + gap_len us + t.1)
+    (drop t.1 (drop (gap_len us) us))
 unfolding items
 one_more at us t e =
     let s = token_some (drop (gap_len us) us) t e in
-    rw e (ap (λ ts. Ok (record { kind = t.0; text = take t.1 (drop (gap_len us) us); start = at + gap_len us; newline_before = has_line_terminator (take (gap_len us) us) }) ∷ ts)
-    (items_past (length us) (suc (length (drop t.1 (drop (gap_len us) us)))) (at + gap_len us + t.1) (drop t.1 (drop (gap_len us) us)) (omega (arith, s.0, s.1, length-drop (gap_len us) us, length-drop t.1 (drop (gap_len us) us))) (omega arith)))
+    rw e (ap (λ ts. Ok
+    (record {
+      kind = t.0;
+      text = take t.1
+          (drop (gap_len us) us);
+      start = at + gap_len us;
+      newline_before = has_line_terminator
+          (take (gap_len us) us);
+    })
+    ∷ ts)
+    (items_past (length us) (suc (length (drop t.1 (drop (gap_len us) us)))) (at + gap_len us + t.1)
+    (drop t.1 (drop (gap_len us) us))
+    (omega (arith, s.0, s.1, length-drop (gap_len us) us, length-drop t.1 (drop (gap_len us) us))) (omega arith)))
 
 -- ---- the tiles
 
@@ -108,7 +137,8 @@ tile_by n at g us lt w run h here p (Some t) e =
     let text_length : length (take t.1 here) ≡ t.1 = omega (arith, length-take t.1 here) in
     let whole : drop g us ≡ take t.1 here ++ drop t.1 here = p ∙ sym (take-append-drop t.1 here) in
     let place : at + length (take g us) + length (take t.1 here) ≡ at + g + t.1 = omega arith in
-    let rest : Tile (at + g + t.1) (drop t.1 here) (items n (at + g + t.1) (drop t.1 here)) = h (at + g + t.1) (drop t.1 here) (omega (arith, length-drop t.1 here, length-drop g us, ap (λ (l : List ℕ). length l) p)) in (
+    let rest : Tile (at + g + t.1) (drop t.1 here) (items n (at + g + t.1) (drop t.1 here)) = h (at + g + t.1)
+    (drop t.1 here) (omega (arith, length-drop t.1 here, length-drop g us, ap (λ (l : List ℕ). length l) p)) in (
       take g us,
       drop t.1 here,
       sym (take-append-drop g us) ∙ ap (λ l. take g us ++ l) whole,
@@ -121,7 +151,9 @@ tile_by n at g us lt w run h here p (Some t) e =
       subst (λ (a : ℕ). Tile a (drop t.1 here) (items n (at + g + t.1) (drop t.1 here))) (sym place) rest,
     )
 tile_by n at g us lt w run h [] p None e =
-    let all : take g us ≡ us = sym (append-nil (take g us)) ∙ ap (λ l. take g us ++ l) (sym p) ∙ take-append-drop g us in
+    let all : take g us ≡ us = sym (append-nil (take g us))
+    ∙ ap (λ l. take g us ++ l) (sym p)
+    ∙ take-append-drop g us in
     subst (λ (l : List ℕ). IsGap l []) all (subst (λ (l : List ℕ). IsGap (take g us) l) p run.made)
 tile_by n at g us lt w run h (u ∷ r) p None e =
     let gap_length : length (take g us) ≡ g = omega (arith, length-take g us) in
@@ -142,7 +174,9 @@ tile_by n at g us lt w run h (u ∷ r) p None e =
 tile_below : (n at : ℕ) (us : List ℕ) → length us < n → Tile at us (items n at us)
 unfolding items
 tile_below zero at us h = absurd (omega arith)
-tile_below (suc n) at us h = tile_by n at (gap_len us) us h (gap_within us) (gap_is us) (λ a r l. tile_below n a r l) (drop (gap_len us) us) refl (token_at (drop (gap_len us) us)) refl
+tile_below (suc n) at us h =
+    tile_by n at (gap_len us) us h (gap_within us) (gap_is us) (λ a r l. tile_below n a r l) (drop (gap_len us) us) refl
+    (token_at (drop (gap_len us) us)) refl
 
 -- the items of some units tile them
 pub tiles : (at : ℕ) (us : List ℕ) → Tile at us (items (suc (length us)) at us)

@@ -55,7 +55,8 @@ word_alone : (t more : List ℕ)
 unfolding token_at
 word_alone t more w b =
     let s : begins is_word_start (t ++ more) ≡ true = begins_front is_word_start t more (word_begins t w) in
-    let n : leading is_word_part (t ++ more) ≡ length t = leading_exact is_word_part t more (word_parts t w) (no_part more b) in
+    let n : leading is_word_part (t ++ more) ≡ length t = leading_exact is_word_part t more (word_parts t w)
+    (no_part more b) in
     rw (s, n, take-append_seam t more) refl
 
 same_kinds : list_all (λ (e : Entry). sameb the_type (kind_in reserved_words e.1) e.0) reserved_words ≡ true
@@ -63,7 +64,9 @@ unfolding reserved_words
 same_kinds = refl
 
 reserved_kind : (k : TokenKind) (t : List ℕ) → IsListed (k, t) reserved_words → kind_in reserved_words t ≡ k
-reserved_kind k t l = same_true the_type tt (kind_in reserved_words t) k (all_listed (λ e. sameb the_type (kind_in reserved_words e.1) e.0) reserved_words same_kinds (k, t) l)
+reserved_kind k t l =
+    same_true the_type tt (kind_in reserved_words t) k
+    (all_listed (λ e. sameb the_type (kind_in reserved_words e.1) e.0) reserved_words same_kinds (k, t) l)
 
 name_kind : (t : List ℕ) → ((k : TokenKind) → IsListed (k, t) reserved_words → ⊥) → kind_in reserved_words t ≡ Name
 name_kind t n = elim (kind_is reserved_words t).either [
@@ -77,7 +80,8 @@ number_alone : (t more : List ℕ) → IsNumber t → Breaks more → token_at (
 unfolding token_at
 number_alone t more h b =
     let d : begins is_digit (t ++ more) ≡ true = begins_front is_digit t more (number_begins t h) in
-    let n : leading is_word_part (t ++ more) ≡ length t = leading_exact is_word_part t more (number_parts t h) (no_part more b) in
+    let n : leading is_word_part (t ++ more) ≡ length t = leading_exact is_word_part t more (number_parts t h)
+    (no_part more b) in
     by_start (begins is_word_start (t ++ more)) refl d n
   where
     by_start : (s : Bool)
@@ -86,7 +90,8 @@ number_alone t more h b =
         → leading is_word_part (t ++ more) ≡ length t
         → token_at (t ++ more) ≡ found Number (length t)
     by_start true s d n = absurd (start_no_digit (t ++ more) s d)
-    by_start false s d n = rw (s, d, n, take-append_seam t more, drop-append_seam t more, number_some t h, no_going_on more b) refl
+    by_start false s d n =
+        rw (s, d, n, take-append_seam t more, drop-append_seam t more, number_some t h, no_going_on more b) refl
 
 string_front : (q : ℕ) (us t m : List ℕ)
     → q ∷ us ≡ t ++ m
@@ -109,7 +114,9 @@ string_alone t more h = by_first (t ++ more) refl (begins_front is_quote t more 
     by_first [] p b =
         let none : begins is_quote [] ≡ true = ap (begins is_quote) p ∙ b in
         absurd cc
-    by_first (q ∷ us) p b = subst (λ (us : List ℕ). token_at us ≡ found String (length t)) p (string_front q us t more p h (ap (begins is_quote) p ∙ b))
+    by_first (q ∷ us) p b =
+        subst (λ (us : List ℕ). token_at us ≡ found String (length t)) p
+        (string_front q us t more p h (ap (begins is_quote) p ∙ b))
 
 -- ---- punctuators
 
@@ -137,16 +144,21 @@ pub mark_alone : (k : TokenKind) (t more : List ℕ)
     → IsListed (k, t) punctuators
     → Breaks more
     → token_at (t ++ more) ≡ found k (length t)
-mark_alone k t [] l b = found_is (k, t) (token_at (t ++ [])) (all_listed (λ e. is_found e (token_at (e.1 ++ []))) punctuators marks_last (k, t) l)
+mark_alone k t [] l b =
+    found_is (k, t) (token_at (t ++ []))
+    (all_listed (λ e. is_found e (token_at (e.1 ++ []))) punctuators marks_last (k, t) l)
 mark_alone k t (c ∷ more) l b =
     let line = b.0 in
-    rw b.1 (found_is (k, t) (token_at (t ++ blank_before line ∷ more)) (all_listed (λ e. is_found e (token_at (e.1 ++ blank_before line ∷ more))) punctuators (marks_before line more) (k, t) l))
+    rw b.1 (found_is (k, t) (token_at (t ++ blank_before line ∷ more))
+    (all_listed (λ e. is_found e (token_at (e.1 ++ blank_before line ∷ more))) punctuators (marks_before line more)
+    (k, t) l))
 
 -- ---- one token
 
 alone : (k : TokenKind) (t more : List ℕ) → IsToken k t [] → Breaks more → token_at (t ++ more) ≡ found k (length t)
 alone k t more (name e w n) b = word_alone t more w b ∙ ap (λ k. found k (length t)) (name_kind t n ∙ sym e)
-alone k t more (reserved l) b = word_alone t more (reserved_is_word k t l) b ∙ ap (λ k. found k (length t)) (reserved_kind k t l)
+alone k t more (reserved l) b =
+    word_alone t more (reserved_is_word k t l) b ∙ ap (λ k. found k (length t)) (reserved_kind k t l)
 alone k t more (number e h f) b = number_alone t more h b ∙ ap (λ k. found k (length t)) (sym e)
 alone k t more (string e h) b = string_alone t more h ∙ ap (λ k. found k (length t)) (sym e)
 alone k t more (punctuator l) b = mark_alone k t more l b
@@ -184,7 +196,8 @@ token_seen k t (name e w n) = seen_by is_word_start start_seen t (word_begins t 
 token_seen k t (reserved l) = seen_by is_word_start start_seen t (word_begins t (reserved_is_word k t l))
 token_seen k t (number e h f) = seen_by is_digit digit_seen t (number_begins t h)
 token_seen k t (string e h) = seen_by is_quote quote_seen t (literal_begins t h)
-token_seen k t (punctuator l) = not_true (begins is_blank t) (all_listed (λ e. not (begins is_blank e.1)) punctuators marks_seen (k, t) l)
+token_seen k t (punctuator l) =
+    not_true (begins is_blank t) (all_listed (λ e. not (begins is_blank e.1)) punctuators marks_seen (k, t) l)
 
 seen_before : (t more : List ℕ) → 0 < length t → begins is_blank t ≡ false → begins is_blank (t ++ more) ≡ false
 seen_before [] more some e = absurd (omega arith)
@@ -206,8 +219,10 @@ no_comment us o b = by_tests (is_prefix_of (codes "//") us) refl (is_prefix_of (
 -- one unit of white space alone is the gap
 gap_is_one : (line : Bool) (us : List ℕ) → gap_piece us ≡ 0 → gap_len (blank_before line ∷ us) ≡ 1
 unfolding gap_len
-gap_is_one true us z = run_more gap_piece (10 ∷ us) 1 refl (omega arith) (omega arith) ∙ ap (λ n. 1 + n) (run_stops gap_piece us z)
-gap_is_one false us z = run_more gap_piece (32 ∷ us) 1 refl (omega arith) (omega arith) ∙ ap (λ n. 1 + n) (run_stops gap_piece us z)
+gap_is_one true us z =
+    run_more gap_piece (10 ∷ us) 1 refl (omega arith) (omega arith) ∙ ap (λ n. 1 + n) (run_stops gap_piece us z)
+gap_is_one false us z =
+    run_more gap_piece (32 ∷ us) 1 refl (omega arith) (omega arith) ∙ ap (λ n. 1 + n) (run_stops gap_piece us z)
 
 line_told : (line : Bool) (us : List ℕ) → has_line_terminator (take 1 (blank_before line ∷ us)) ≡ line
 line_told true us = refl
@@ -225,11 +240,14 @@ token_of at t = Ok (record { kind = t.kind; text = t.text; start = at + 1; newli
 one_written : (at : ℕ) (t : Written) (more : List ℕ)
     → gap_len (blank_before t.newline_before ∷ (t.text ++ more)) ≡ 1
     → token_at (t.text ++ more) ≡ found t.kind (length t.text)
-    → items (suc (length (blank_before t.newline_before ∷ (t.text ++ more)))) at (blank_before t.newline_before ∷ (t.text ++ more)) ≡ token_of at t ∷ items (suc (length more)) (at + 1 + length t.text) more
+    → items (suc (length (blank_before t.newline_before ∷ (t.text ++ more)))) at
+    (blank_before t.newline_before ∷ (t.text ++ more)) ≡ token_of at t ∷ items (suc (length more))
+    (at + 1 + length t.text) more
 one_written at t more g e =
     let us = blank_before t.newline_before ∷ (t.text ++ more) in
     let here : token_at (drop (gap_len us) us) ≡ found t.kind (length t.text) = rw g e in
-    rw (g, line_told t.newline_before (t.text ++ more), take-append_seam t.text more, drop-append_seam t.text more) at (one_more at us (t.kind, length t.text) here)
+    rw (g, line_told t.newline_before (t.text ++ more), take-append_seam t.text more, drop-append_seam t.text more) at
+    (one_more at us (t.kind, length t.text) here)
 
 nothing_left : (at : ℕ) → items (suc (length (written []))) at (written []) ≡ []
 unfolding token_at gap_len punctuators
@@ -244,7 +262,8 @@ written_are at (t ∷ ts) h =
     let here = alone t.kind t.text more h.0 (breaks ts) in
     let f = longest_here (t.text ++ more) t.kind (length t.text) here in
     let z = no_comment (t.text ++ more) f.2 (seen_before t.text more f.1 (token_seen t.kind t.text h.0)) in
-    one_written at t more (gap_is_one t.newline_before (t.text ++ more) z) here ∙ ap (λ (is : List (Result Lent ℕ)). token_of at t ∷ is) (written_are (at + 1 + length t.text) ts h.1)
+    one_written at t more (gap_is_one t.newline_before (t.text ++ more) z) here
+    ∙ ap (λ (is : List (Result Lent ℕ)). token_of at t ∷ is) (written_are (at + 1 + length t.text) ts h.1)
 
 pub tokens_written : (ts : List Written) → AreTokens ts → items_of (written ts) ≡ lent 0 ts
 tokens_written ts h = written_are 0 ts h

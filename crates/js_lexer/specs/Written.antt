@@ -28,7 +28,8 @@ written (t ∷ ts) = blank_before t.newline_before ∷ (t.text ++ written ts)
 abbrev pub lent : ℕ → List Written → List (Result Lent ℕ)
 lent at [] = []
 lent at (t ∷ ts) =
-    Ok (record { kind = t.kind; text = t.text; start = at + 1; newline_before = t.newline_before }) ∷ lent (at + 1 + length t.text) ts
+    Ok (record { kind = t.kind; text = t.text; start = at + 1; newline_before = t.newline_before }) ∷ lent
+    (at + 1 + length t.text) ts
 
 -- these tokens, and then these items
 abbrev pub tokens_then : List Lent → List (Result Lent ℕ) → List (Result Lent ℕ)

@@ -36,12 +36,17 @@ left_more : (j k : ℕ) (p : Program) (a : Addr) (r : Run)
     → RunsFor j p a r
     → RunsFor k p a (steps_in j p a r)
     → RunsFor (j + k) p a r
-left_more zero k p a r h i = let P : ℕ → Type 0 = λ n. RunsFor n p a r in let e : k ≡ zero + k = omega arith in subst P e i
-left_more (suc j) k p a r h i = let P : ℕ → Type 0 = λ n. RunsFor n p a r in let e : suc (j + k) ≡ suc j + k = omega arith in subst P e (h.0, left_more j k p a (step_in p a r) h.1 i)
+left_more zero k p a r h i =
+    let P : ℕ → Type 0 = λ n. RunsFor n p a r in let e : k ≡ zero + k = omega arith in subst P e i
+left_more (suc j) k p a r h i =
+    let P : ℕ → Type 0 = λ n. RunsFor n p a r in
+    let e : suc (j + k) ≡ suc j + k = omega arith in
+    subst P e (h.0, left_more j k p a (step_in p a r) h.1 i)
 
 taken_for : (k : ℕ) (p : Program) (r : Run) → RunsFor k p script_scope r → steps_taken k p r ≡ k
 taken_for zero p r h = refl
-taken_for (suc k) p (running t s) h = ap (λ n. n + 1) (taken_for k p (step_in p script_scope (running t s)) h.1) ∙ add-one k
+taken_for (suc k) p (running t s) h =
+    ap (λ n. n + 1) (taken_for k p (step_in p script_scope (running t s)) h.1) ∙ add-one k
 taken_for (suc k) p (over f s) h = absurd h.0
 
 taken_over : (k j : ℕ) (p : Program) (r : Run)
@@ -50,10 +55,13 @@ taken_over : (k j : ℕ) (p : Program) (r : Run)
     → steps_taken (k + j) p r ≡ k
 taken_over zero zero p r h o = refl
 taken_over zero (suc j) p (running t s) h o = absurd o
-taken_over zero (suc j) p (over f s) h o = let e : zero + suc j ≡ suc j = omega arith in ap (λ n. steps_taken n p (over f s)) e
+taken_over zero (suc j) p (over f s) h o =
+    let e : zero + suc j ≡ suc j = omega arith in ap (λ n. steps_taken n p (over f s)) e
 taken_over (suc k) j p (running t s) h o =
     let e : suc k + j ≡ suc (k + j) = omega arith in
-    ap (λ n. steps_taken n p (running t s)) e ∙ ap (λ n. n + 1) (taken_over k j p (step_in p script_scope (running t s)) h.1 o) ∙ add-one k
+    ap (λ n. steps_taken n p (running t s)) e
+    ∙ ap (λ n. n + 1) (taken_over k j p (step_in p script_scope (running t s)) h.1 o)
+    ∙ add-one k
 taken_over (suc k) j p (over f s) h o = absurd h.0
 
 -- ---- machines
@@ -75,12 +83,15 @@ made-more m n o v w x j k h c kept runs left = record {
   code = more_code m n o h.code c;
   kept = kept;
   runs = λ taken.
-      runs taken ∙ ap (λ p. steps_in k p script_scope (run_at n w taken)) (same_program m n h.code) ∙ ap (steps_in k (program_of m) script_scope) (h.runs taken)
+      runs taken
+      ∙ ap (λ p. steps_in k p script_scope (run_at n w taken)) (same_program m n h.code)
+      ∙ ap (steps_in k (program_of m) script_scope) (h.runs taken)
       ∙ sym (steps-more j k (program_of m) script_scope (run_at m v taken));
   left = λ taken.
       let P : Program → Type 0 = λ p. RunsFor k p script_scope (run_at n w taken) in
       let Q : Run → Type 0 = RunsFor k (program_of m) script_scope in
-      left_more j k (program_of m) script_scope (run_at m v taken) (h.left taken) (subst Q (h.runs taken) (subst P (same_program m n h.code) (left taken)));
+      left_more j k (program_of m) script_scope (run_at m v taken) (h.left taken)
+      (subst Q (h.runs taken) (subst P (same_program m n h.code) (left taken)));
 }
 
 -- all steps are made
@@ -91,7 +102,9 @@ pub made-all : (m n : Machine) (v w : World) (most k : ℕ)
 made-all m n v w most k h e = record {
   code = h.code;
   reached = λ taken. h.runs taken ∙ ap (λ i. steps_in i (program_of m) script_scope (run_at m v taken)) e;
-  counted = λ taken. sym (taken_for k (program_of m) (run_at m v taken) (h.left taken)) ∙ ap (λ i. steps_taken i (program_of m) (run_at m v taken)) e;
+  counted =
+      λ taken. sym (taken_for k (program_of m) (run_at m v taken) (h.left taken))
+      ∙ ap (λ i. steps_taken i (program_of m) (run_at m v taken)) e;
 }
 
 end_over : (e : End) (t : Term) (s : State) → IsKept (Some e) → IsOver (run_by (Some e) t s)
@@ -111,12 +124,15 @@ made_over m n v w k left most h e o = record {
   reached = λ taken.
       let r : Run = run_at m v taken in
       let P : Run → Type 0 = IsOver in
-      h.runs taken ∙ sym (over_stays left (program_of m) script_scope (steps_in k (program_of m) script_scope r) (subst P (h.runs taken) (o taken)))
+      h.runs taken
+      ∙ sym (over_stays left (program_of m) script_scope (steps_in k (program_of m) script_scope r)
+      (subst P (h.runs taken) (o taken)))
       ∙ sym (steps-more k left (program_of m) script_scope r) ∙ ap (λ i. steps_in i (program_of m) script_scope r) e;
   counted = λ taken.
       let r : Run = run_at m v taken in
       let P : Run → Type 0 = IsOver in
-      sym (taken_over k left (program_of m) r (h.left taken) (subst P (h.runs taken) (o taken))) ∙ ap (λ i. steps_taken i (program_of m) r) e;
+      sym (taken_over k left (program_of m) r (h.left taken) (subst P (h.runs taken) (o taken)))
+      ∙ ap (λ i. steps_taken i (program_of m) r) e;
 }
 
 pub made-ended : (m n : Machine) (v w : World) (k left most : ℕ) (e : End)
@@ -127,7 +143,9 @@ pub made-ended : (m n : Machine) (v w : World) (k left most : ℕ) (e : End)
 made-ended m n v w k left most e is h sum =
     let K : Option End → Type 0 = IsKept in
     let O : State → Option End → Type 0 = λ s o. IsOver (run_by o (term_of n) s) in
-    made_over m n v w k left most h sum (λ taken. subst (O (state_of n w taken)) (sym is) (end_over e (term_of n) (state_of n w taken) (subst K is h.kept)))
+    made_over m n v w k left most h sum
+    (λ taken. subst (O (state_of n w taken)) (sym is)
+    (end_over e (term_of n) (state_of n w taken) (subst K is h.kept)))
 
 -- a run that makes no step though it may has ended
 abbrev HasEnded : Option End → Type 0
@@ -160,7 +178,8 @@ pub made-stopped : (m n : Machine) (v w : World) (k left most : ℕ) (why : Why)
     → HasMadeSteps m v n w k
     → k + left ≡ most
     → HasRunWithin m v n w most k
-made-stopped m n v w k left most why is h c made sum = ended_by m n v w k left most (end_of_run why) is (none_ended why left h c) made sum
+made-stopped m n v w k left most why is h c made sum =
+    ended_by m n v w k left most (end_of_run why) is (none_ended why left h c) made sum
 
 -- the machine wasn't given up
 kept_by : (why : Why) → (why ≡ whys.Memory → ⊥) → IsKept (end_of_run why)
@@ -210,7 +229,8 @@ pub made-still : (m n o : Machine) (v w x : World) (most left k : ℕ) (why : Wh
 made-still m n o v w x most left k why h l i r lo c z =
     let C : ℕ → Type 0 = λ j. CountsAs why j left in
     let sum : most - (left - k) + left ≡ most = omega arith in
-    made-stopped m o v x (most - (left - k)) left most why r.end lo (subst C z c) (made-on m n o v w x most left k why h l i r) sum
+    made-stopped m o v x (most - (left - k)) left most why r.end lo (subst C z c)
+    (made-on m n o v w x most left k why h l i r) sum
 
 pub made-whole : (m n : Machine) (v w : World) (most left : ℕ)
     → HasMadeSteps m v n w (most - left)
@@ -227,7 +247,9 @@ pub made-some : (m n : Machine) (v w : World) (most left : ℕ)
     → left ≤ most
     → is_some n.ended ≡ true
     → HasRunWithin m v n w most (most - left)
-made-some m n v w most left h l is = let sum : most - left + left ≡ most = omega arith in ended_by m n v w (most - left) left most n.ended refl (some_ended n.ended is) h sum
+made-some m n v w most left h l is =
+    let sum : most - left + left ≡ most = omega arith in
+    ended_by m n v w (most - left) left most n.ended refl (some_ended n.ended is) h sum
 
 -- ---- from the start
 
@@ -235,13 +257,19 @@ pub plain-reached : (ts : Terms) (input : List (List ℕ)) (s : Started) (n : Ma
     → IsStarted ts input s
     → HasRunWithin s.machine (heap_world s.machine.names s.heap) n w most k
     → run_at n w [] ≡ plain most ts input
-plain-reached ts input s n w most k h r = r.reached [] ∙ ap (λ p. steps_in most p script_scope (run_at s.machine (heap_world s.machine.names s.heap) [])) h.program ∙ ap (steps_in most (runs.program_of ts) script_scope) h.run
+plain-reached ts input s n w most k h r =
+    r.reached []
+    ∙ ap (λ p. steps_in most p script_scope (run_at s.machine (heap_world s.machine.names s.heap) [])) h.program
+    ∙ ap (steps_in most (runs.program_of ts) script_scope) h.run
 
 pub plain-counted : (ts : Terms) (input : List (List ℕ)) (s : Started) (n : Machine) (w : World) (most k : ℕ)
     → IsStarted ts input s
     → HasRunWithin s.machine (heap_world s.machine.names s.heap) n w most k
     → k ≡ steps_taken most (runs.program_of ts) (start ts input)
-plain-counted ts input s n w most k h r = r.counted [] ∙ ap (λ p. steps_taken most p (run_at s.machine (heap_world s.machine.names s.heap) [])) h.program ∙ ap (steps_taken most (runs.program_of ts)) h.run
+plain-counted ts input s n w most k h r =
+    r.counted []
+    ∙ ap (λ p. steps_taken most p (run_at s.machine (heap_world s.machine.names s.heap) [])) h.program
+    ∙ ap (steps_taken most (runs.program_of ts)) h.run
 
 pub started-kept : (ts : Terms) (input : List (List ℕ)) (s : Started) → IsStarted ts input s → IsKept s.machine.ended
 started-kept ts input s h = let P : Option End → Type 0 = IsKept in subst P (sym h.going) tt

@@ -14,7 +14,8 @@ use Rattle.js_compile.specs.Scripts.{IsCompiled}
 use Rattle.js_compile.proofs.NameLemmas.{goes_on_same}
 
 -- the term and the state are those of the start
-pub starts-so : (xs : Terms) (input : List (List ℕ)) (ts : List (List ℕ)) (t : NodeTable) (root : ℕ) (u : Term) (w : World) (c : Context) (ws : List Wide)
+pub starts-so : (xs : Terms) (input : List (List ℕ)) (ts : List (List ℕ)) (t : NodeTable) (root : ℕ) (u : Term)
+    (w : World) (c : Context) (ws : List Wide)
     → IsCompiled ts (placed_scripts xs) t root
     → ws ≡ []
     → resettled (gaps_of ts t ws) (settle (tree ts t root)) ≡ u
@@ -22,6 +23,9 @@ pub starts-so : (xs : Terms) (input : List (List ℕ)) (ts : List (List ℕ)) (t
     → c ≡ start_context input
     → run_of u (state_of w c []) ≡ start xs input
 starts-so xs input ts t root u w c ws h none e hw hc =
-    ap (λ x. run_of x (state_of w c [])) (sym e ∙ ap (λ vs. resettled (gaps_of ts t vs) (settle (tree ts t root))) none ∙ ap settle (h.tree ts (goes_on_same ts)))
+    ap (λ x. run_of x (state_of w c []))
+    (sym e
+    ∙ ap (λ vs. resettled (gaps_of ts t vs) (settle (tree ts t root))) none
+    ∙ ap settle (h.tree ts (goes_on_same ts)))
     ∙ ap (λ x. run_of (settled scripts (placed_scripts xs) end) (state_of x c [])) hw
     ∙ ap (λ x. run_of (settled scripts (placed_scripts xs) end) (state_of (first_world (literals_of xs)) x [])) hc

@@ -31,8 +31,11 @@ pub range_counts : (first count : ℕ) → Counts first (range_with_len first co
 range_counts first zero = omega arith
 range_counts first (suc k) =
     let on : first + 1 ≡ suc first = omega arith in
-    let end : suc first + k ≡ first + suc k = omega arith in
-    (refl, subst (λ m. Counts (suc first) (range_with_len m k) (first + suc k)) (sym on) (subst (λ m. Counts (suc first) (range_with_len (suc first) k) m) end (range_counts (suc first) k)))
+    let end : suc first + k ≡ first + suc k = omega arith in (
+      refl,
+      subst (λ m. Counts (suc first) (range_with_len m k) (first + suc k)) (sym on)
+          (subst (λ m. Counts (suc first) (range_with_len (suc first) k) m) end (range_counts (suc first) k)),
+    )
 
 -- ---- what is made by numbering
 
@@ -49,7 +52,11 @@ give_fits x = record { says = λ first next c. ap (λ n. counted x n) c }
 
 pub leaf_fits : {B : Type 0} (make : ℕ → B) (n : ℕ) → Fits (leaf make) (n ∷ []) (make n)
 unfolding leaf
-leaf_fits make n = record { says = λ first next c. ap (λ m. counted (make m) (suc first)) (sym c.0) ∙ ap (λ m. counted (make n) m) c.1 }
+leaf_fits make n =
+    record {
+      says = λ first next c. ap (λ m. counted (make m) (suc first)) (sym c.0)
+          ∙ ap (λ m. counted (make n) m) c.1;
+    }
 
 pub both_fits : {A B : Type 0} (f : Numbering A) (g : Numbering B) (ms ns : List ℕ) (x : A) (y : B)
     → Fits f ms x
@@ -59,7 +66,9 @@ unfolding both
 both_fits f g ms ns x y p q = record { says = λ first next c. joined first next (split first ms ns next c) }
   where
     joined : (first next : ℕ) → Split first ms ns next → both f g first ≡ counted (x, y) next
-    joined first next s = ap (λ z. and_then z (g z.next)) (p.says first s.middle s.before) ∙ ap (λ z. and_then (counted x s.middle) z) (q.says s.middle next s.behind)
+    joined first next s =
+        ap (λ z. and_then z (g z.next)) (p.says first s.middle s.before)
+        ∙ ap (λ z. and_then (counted x s.middle) z) (q.says s.middle next s.behind)
 
 pub of_part_fits : {A B : Type 0} (make : A → B) (f : Numbering A) (ns : List ℕ) (x : A)
     → Fits f ns x
@@ -74,7 +83,10 @@ unfolding node
 node_fits make n f ns x p = record { says = λ first next c. around first next (split first ns (n ∷ []) next c) }
   where
     around : (first next : ℕ) → Split first ns (n ∷ []) next → node make f first ≡ counted (make n x) next
-    around first next s = ap (λ z. closed make z) (p.says first s.middle s.before) ∙ ap (λ m. counted (make m x) (suc s.middle)) (sym s.behind.0) ∙ ap (λ m. counted (make n x) m) s.behind.1
+    around first next s =
+        ap (λ z. closed make z) (p.says first s.middle s.before)
+        ∙ ap (λ m. counted (make m x) (suc s.middle)) (sym s.behind.0)
+        ∙ ap (λ m. counted (make n x) m) s.behind.1
 
 -- nothing behind
 pub end_fits : {A : Type 0} (f : Numbering A) (ns : List ℕ) (x : A) → Fits f ns x → Fits f (ns ++ []) x
@@ -86,7 +98,9 @@ pub carried : {Tree A : Type 0} (f : Tree → Numbering A) (t u : Tree) (ps qs :
     → x ≡ y
     → Fits (f u) (numbers_of qs) y
     → Fits (f t) (numbers_of ps) x
-carried f t u ps qs x y p q r h = subst (λ v. Fits (f v) (numbers_of ps) x) (sym p) (subst (λ os. Fits (f u) (numbers_of os) x) (sym q) (subst (λ z. Fits (f u) (numbers_of qs) z) (sym r) h))
+carried f t u ps qs x y p q r h =
+    subst (λ v. Fits (f v) (numbers_of ps) x) (sym p)
+    (subst (λ os. Fits (f u) (numbers_of os) x) (sym q) (subst (λ z. Fits (f u) (numbers_of qs) z) (sym r) h))
 
 -- ---- the numbers of places
 
@@ -107,7 +121,8 @@ numbers_turn [] = refl
 numbers_turn (ps ∷ pieces) = numbers_append ps (in_turn pieces) ∙ ap (λ ns. numbers_of ps ++ ns) (numbers_turn pieces)
 
 numbers_node : (n : NodeId) (pieces : List (List Place)) → numbers_of (node_of n pieces) ≡ numbers_in pieces ++ n.0 ∷ []
-numbers_node n pieces = numbers_append (in_turn pieces) (closes n.0 ∷ []) ∙ ap (λ ns. ns ++ n.0 ∷ []) (numbers_turn pieces)
+numbers_node n pieces =
+    numbers_append (in_turn pieces) (closes n.0 ∷ []) ∙ ap (λ ns. ns ++ n.0 ∷ []) (numbers_turn pieces)
 
 pub quiet : (ms : List Mark) → numbers_of (plain ms) ≡ []
 quiet [] = refl
@@ -119,11 +134,16 @@ quiet (trailing_comma ∷ ms) = quiet ms
 numbers_behind : (pieces : List (List Place)) → numbers_of (behind_commas pieces) ≡ numbers_in pieces
 numbers_behind [] = refl
 numbers_behind (ps ∷ pieces) =
-    numbers_append ps (in_turn (behind_commas pieces ∷ [])) ∙ ap (λ ns. numbers_of ps ++ ns) (numbers_turn (behind_commas pieces ∷ []) ∙ append-nil (numbers_of (behind_commas pieces)) ∙ numbers_behind pieces)
+    numbers_append ps (in_turn (behind_commas pieces ∷ []))
+    ∙ ap (λ ns. numbers_of ps ++ ns)
+    (numbers_turn (behind_commas pieces ∷ [])
+    ∙ append-nil (numbers_of (behind_commas pieces))
+    ∙ numbers_behind pieces)
 
 numbers_commas : (pieces : List (List Place)) → numbers_of (with_commas pieces) ≡ numbers_in pieces
 numbers_commas [] = refl
-numbers_commas (ps ∷ pieces) = numbers_append ps (behind_commas pieces) ∙ ap (λ ns. numbers_of ps ++ ns) (numbers_behind pieces)
+numbers_commas (ps ∷ pieces) =
+    numbers_append ps (behind_commas pieces) ∙ ap (λ ns. numbers_of ps ++ ns) (numbers_behind pieces)
 
 -- ---- what is made of pieces
 
@@ -140,12 +160,16 @@ commas_fit f pieces x p = subst (λ ns. Fits f ns x) (sym (numbers_commas pieces
 pub form_fits : {A B : Type 0} (make : ℕ → A → B) (n : NodeId) (f : Numbering A) (pieces : List (List Place)) (x : A)
     → Fits f (numbers_in pieces) x
     → Fits (node make f) (numbers_of (node_of n pieces)) (make n.0 x)
-form_fits make n f pieces x p = subst (λ ns. Fits (node make f) ns (make n.0 x)) (sym (numbers_node n pieces)) (node_fits make n.0 f (numbers_in pieces) x p)
+form_fits make n f pieces x p =
+    subst (λ ns. Fits (node make f) ns (make n.0 x)) (sym (numbers_node n pieces))
+    (node_fits make n.0 f (numbers_in pieces) x p)
 
 pub lone_fits : {B : Type 0} (make : ℕ → B) (n : NodeId) (pieces : List (List Place))
     → numbers_in pieces ≡ []
     → Fits (leaf make) (numbers_of (node_of n pieces)) (make n.0)
-lone_fits make n pieces e = subst (λ ns. Fits (leaf make) ns (make n.0)) (sym (numbers_node n pieces ∙ ap (λ ns. ns ++ n.0 ∷ []) e)) (leaf_fits make n.0)
+lone_fits make n pieces e =
+    subst (λ ns. Fits (leaf make) ns (make n.0)) (sym (numbers_node n pieces ∙ ap (λ ns. ns ++ n.0 ∷ []) e))
+    (leaf_fits make n.0)
 
 -- tokens alone
 pub quiet_fits : {A : Type 0} (ms : List Mark) (f : Numbering A) (ns : List ℕ) (x : A)
@@ -159,9 +183,14 @@ quiet_end ms = append-nil (numbers_of (plain ms)) ∙ quiet ms
 pub braces_fit : {A : Type 0} (f : Numbering A) (ps : List Place) (x : A)
     → Fits f (numbers_of ps) x
     → Fits f (numbers_of (in_braces ps)) x
-braces_fit f ps x p = subst (λ ns. Fits f ns x) (sym (numbers_turn (plain (a kinds.LeftBrace) ∷ ps ∷ plain (a kinds.RightBrace) ∷ []))) (end_fits f (numbers_of ps) x p)
+braces_fit f ps x p =
+    subst (λ ns. Fits f ns x) (sym (numbers_turn (plain (a kinds.LeftBrace) ∷ ps ∷ plain (a kinds.RightBrace) ∷ [])))
+    (end_fits f (numbers_of ps) x p)
 
 pub parentheses_fit : {A : Type 0} (f : Numbering A) (ps : List Place) (x : A)
     → Fits f (numbers_of ps) x
     → Fits f (numbers_of (in_parentheses ps)) x
-parentheses_fit f ps x p = subst (λ ns. Fits f ns x) (sym (numbers_turn (plain (a kinds.LeftParenthesis) ∷ ps ∷ plain (a kinds.RightParenthesis) ∷ []))) (end_fits f (numbers_of ps) x p)
+parentheses_fit f ps x p =
+    subst (λ ns. Fits f ns x)
+    (sym (numbers_turn (plain (a kinds.LeftParenthesis) ∷ ps ∷ plain (a kinds.RightParenthesis) ∷ [])))
+    (end_fits f (numbers_of ps) x p)

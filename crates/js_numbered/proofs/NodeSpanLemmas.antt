@@ -25,7 +25,8 @@ next_true kind (Some t) h = true_same the_type t.kind kind h
 
 next_false : (kind : TokenKind) (next : Option Token) → (IsNext (fixed kind) next → ⊥) → is_kind kind next ≡ false
 next_false kind None h = refl
-next_false kind (Some t) h = false_from_ne_true (sameb the_type t.kind kind) (λ e. h (same_true the_type tt t.kind kind e))
+next_false kind (Some t) h =
+    false_from_ne_true (sameb the_type t.kind kind) (λ e. h (same_true the_type tt t.kind kind e))
 
 left_there : (kind : TokenKind) (ts : List Token) → IsNext (fixed kind) (head_of ts) → left_behind kind ts ≡ tail_of ts
 left_there kind ts h = rw (next_true kind (head_of ts) h) refl
@@ -67,15 +68,23 @@ opened_start : (spans : List Span) (n : ℕ) (ps : List Place) (before : ℕ) (t
     → is_number n (openings_of ps) ≡ true
     → (span_of spans n).start ≡ node_start n ps ts
 opened_start spans n [] before ts left s e = absurd cc
-opened_start spans n (opens m ∷ ps) before ts left s e = start_step spans n m (start_of (head_of ts)) (node_start n ps ts) (nat_eq n m) (is_number n (openings_of ps)) (eqb-true n m) s.0 (λ h. opened_start spans n ps before ts left s.1 h) e
+opened_start spans n (opens m ∷ ps) before ts left s e =
+    start_step spans n m (start_of (head_of ts)) (node_start n ps ts) (nat_eq n m) (is_number n (openings_of ps))
+    (eqb-true n m) s.0 (λ h. opened_start spans n ps before ts left s.1 h) e
 opened_start spans n (closes m ∷ ps) before ts left s e = opened_start spans n ps before ts left s.1 e
-opened_start spans n (stands y ∷ ps) before ts left s e = opened_start spans n ps (end_of (head_of ts)) (tail_of ts) left s.1 e
-opened_start spans n (stands_maybe kind ∷ ps) before ts left (inl s) e = opened_start spans n ps (end_of (head_of ts)) (tail_of ts) left s.1 e ∙ ap (λ us. node_start n ps us) (sym (left_there kind ts s.0))
-opened_start spans n (stands_maybe kind ∷ ps) before ts left (inr s) e = opened_start spans n ps before ts left s.1 e ∙ ap (λ us. node_start n ps us) (sym (left_absent kind ts s.0))
+opened_start spans n (stands y ∷ ps) before ts left s e =
+    opened_start spans n ps (end_of (head_of ts)) (tail_of ts) left s.1 e
+opened_start spans n (stands_maybe kind ∷ ps) before ts left (inl s) e =
+    opened_start spans n ps (end_of (head_of ts)) (tail_of ts) left s.1 e
+    ∙ ap (λ us. node_start n ps us) (sym (left_there kind ts s.0))
+opened_start spans n (stands_maybe kind ∷ ps) before ts left (inr s) e =
+    opened_start spans n ps before ts left s.1 e ∙ ap (λ us. node_start n ps us) (sym (left_absent kind ts s.0))
 
 no_start : (n : ℕ) (ps : List Place) (ts : List Token) → is_number n (openings_of ps) ≡ false → node_start n ps ts ≡ 0
 no_start n [] ts e = refl
-no_start n (opens m ∷ ps) ts e = zero_step (start_of (head_of ts)) (node_start n ps ts) (nat_eq n m) (is_number n (openings_of ps)) (λ h. no_start n ps ts h) e
+no_start n (opens m ∷ ps) ts e =
+    zero_step (start_of (head_of ts)) (node_start n ps ts) (nat_eq n m) (is_number n (openings_of ps))
+    (λ h. no_start n ps ts h) e
 no_start n (closes m ∷ ps) ts e = no_start n ps ts e
 no_start n (stands y ∷ ps) ts e = no_start n ps (tail_of ts) e
 no_start n (stands_maybe kind ∷ ps) ts e = no_start n ps (left_behind kind ts) e
@@ -97,17 +106,28 @@ closed_end : (spans : List Span) (n : ℕ) (ps : List Place) (before : ℕ) (ts 
     → (span_of spans n).end ≡ node_end n ps before ts
 closed_end spans n [] before ts left s e = absurd cc
 closed_end spans n (opens m ∷ ps) before ts left s e = closed_end spans n ps before ts left s.1 e
-closed_end spans n (closes m ∷ ps) before ts left s e = end_step spans n m before (node_end n ps before ts) (nat_eq n m) (is_number n (numbers_of ps)) (eqb-true n m) s.0 (λ h. closed_end spans n ps before ts left s.1 h) e
-closed_end spans n (stands y ∷ ps) before ts left s e = closed_end spans n ps (end_of (head_of ts)) (tail_of ts) left s.1 e
-closed_end spans n (stands_maybe kind ∷ ps) before ts left (inl s) e = closed_end spans n ps (end_of (head_of ts)) (tail_of ts) left s.1 e ∙ ap (λ us. node_end n ps (end_of (head_of ts)) us) (sym (left_there kind ts s.0)) ∙ ap (λ k. node_end n ps k (left_behind kind ts)) (sym (end_there kind before ts s.0))
-closed_end spans n (stands_maybe kind ∷ ps) before ts left (inr s) e = closed_end spans n ps before ts left s.1 e ∙ ap (λ us. node_end n ps before us) (sym (left_absent kind ts s.0)) ∙ ap (λ k. node_end n ps k (left_behind kind ts)) (sym (end_absent kind before ts s.0))
+closed_end spans n (closes m ∷ ps) before ts left s e =
+    end_step spans n m before (node_end n ps before ts) (nat_eq n m) (is_number n (numbers_of ps)) (eqb-true n m) s.0
+    (λ h. closed_end spans n ps before ts left s.1 h) e
+closed_end spans n (stands y ∷ ps) before ts left s e =
+    closed_end spans n ps (end_of (head_of ts)) (tail_of ts) left s.1 e
+closed_end spans n (stands_maybe kind ∷ ps) before ts left (inl s) e =
+    closed_end spans n ps (end_of (head_of ts)) (tail_of ts) left s.1 e
+    ∙ ap (λ us. node_end n ps (end_of (head_of ts)) us) (sym (left_there kind ts s.0))
+    ∙ ap (λ k. node_end n ps k (left_behind kind ts)) (sym (end_there kind before ts s.0))
+closed_end spans n (stands_maybe kind ∷ ps) before ts left (inr s) e =
+    closed_end spans n ps before ts left s.1 e
+    ∙ ap (λ us. node_end n ps before us) (sym (left_absent kind ts s.0))
+    ∙ ap (λ k. node_end n ps k (left_behind kind ts)) (sym (end_absent kind before ts s.0))
 
 no_end : (n : ℕ) (ps : List Place) (before : ℕ) (ts : List Token)
     → is_number n (numbers_of ps) ≡ false
     → node_end n ps before ts ≡ 0
 no_end n [] before ts e = refl
 no_end n (opens m ∷ ps) before ts e = no_end n ps before ts e
-no_end n (closes m ∷ ps) before ts e = zero_step before (node_end n ps before ts) (nat_eq n m) (is_number n (numbers_of ps)) (λ h. no_end n ps before ts h) e
+no_end n (closes m ∷ ps) before ts e =
+    zero_step before (node_end n ps before ts) (nat_eq n m) (is_number n (numbers_of ps)) (λ h. no_end n ps before ts h)
+    e
 no_end n (stands y ∷ ps) before ts e = no_end n ps (end_of (head_of ts)) (tail_of ts) e
 no_end n (stands_maybe kind ∷ ps) before ts e = no_end n ps (end_behind kind before ts) (left_behind kind ts) e
 
@@ -128,7 +148,8 @@ out_step n m false rest apart e = record { apart = apart refl; others = e }
 out_of_range : (n first count : ℕ) → first ≤ n → is_number n (range_with_len first count) ≡ false → first + count ≤ n
 out_of_range n first zero le e = omega (arith, le)
 out_of_range n first (suc k) le e =
-    let s : IsApart n first (is_number n (range_with_len (first + 1) k)) = out_step n first (nat_eq n first) (is_number n (range_with_len (first + 1) k)) (eqb-false n first) e in
+    let s : IsApart n first (is_number n (range_with_len (first + 1) k)) = out_step n first (nat_eq n first)
+    (is_number n (range_with_len (first + 1) k)) (eqb-false n first) e in
     let apart : n ≡ first → ⊥ = s.apart in
     let r : (first + 1) + k ≤ n = out_of_range n (first + 1) k (omega (arith, le, apart)) s.others in
     omega (arith, r)
@@ -143,7 +164,9 @@ past spans n e =
 -- ---- the span
 
 as_span : (s : Span) (a b : ℕ) → s.start ≡ a → s.end ≡ b → s ≡ record { start = a; end = b }
-as_span s a b p q = ap (λ (k : ℕ). let t : Span = record { start = k; end = s.end } in t) p ∙ ap (λ (k : ℕ). let t : Span = record { start = a; end = k } in t) q
+as_span s a b p q =
+    ap (λ (k : ℕ). let t : Span = record { start = k; end = s.end } in t) p
+    ∙ ap (λ (k : ℕ). let t : Span = record { start = a; end = k } in t) q
 
 start_of_none : (spans : List Span) (n : ℕ) (ps : List Place) (ts : List Token) (begins : Bool)
     → is_number n (openings_of ps) ≡ begins
@@ -159,10 +182,14 @@ span_by : (spans : List Span) (n : ℕ) (ps : List Place) (ts : List Token) (end
     → AreSpans spans ps 0 ts []
     → numbers_of ps ≡ range_with_len 0 (length spans)
     → span_of spans n ≡ node_span n ps ts
-span_by spans n ps ts true e opened s is = as_span (span_of spans n) _ _ (opened_start spans n ps 0 ts [] s (opened n e)) (closed_end spans n ps 0 ts [] s e)
+span_by spans n ps ts true e opened s is =
+    as_span (span_of spans n) _ _ (opened_start spans n ps 0 ts [] s (opened n e)) (closed_end spans n ps 0 ts [] s e)
 span_by spans n ps ts false e opened s is =
-    let none : span_of spans n ≡ record { start = 0; end = 0 } = past spans n (subst (λ ns. is_number n ns ≡ false) is e) in
-    as_span (span_of spans n) _ _ (start_of_none spans n ps ts (is_number n (openings_of ps)) refl s (ap (λ (t : Span). t.start) none)) (ap (λ (t : Span). t.end) none ∙ sym (no_end n ps 0 ts e))
+    let none : span_of spans n ≡ record { start = 0; end = 0 } = past spans n
+    (subst (λ ns. is_number n ns ≡ false) is e) in
+    as_span (span_of spans n) _ _
+    (start_of_none spans n ps ts (is_number n (openings_of ps)) refl s (ap (λ (t : Span). t.start) none))
+    (ap (λ (t : Span). t.end) none ∙ sym (no_end n ps 0 ts e))
 
 -- the span of each node is found in its tree's places
 pub span_found : (spans : List Span) (e : Expr) (ts : List Token)
@@ -170,4 +197,6 @@ pub span_found : (spans : List Span) (e : Expr) (ts : List Token)
     → numbers_of (expression_places e) ≡ range_with_len 0 (length spans)
     → (n : ℕ)
     → span_of spans n ≡ node_span n (expression_places e) ts
-span_found spans e ts s is n = span_by spans n (expression_places e) ts (is_number n (numbers_of (expression_places e))) refl (expression-stands e).opened s is
+span_found spans e ts s is n =
+    span_by spans n (expression_places e) ts (is_number n (numbers_of (expression_places e))) refl
+    (expression-stands e).opened s is

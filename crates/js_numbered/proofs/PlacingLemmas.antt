@@ -66,7 +66,8 @@ either_step false one all other on e = on e
 
 among_first : (n : ℕ) (ms ns : List ℕ) → is_number n ms ≡ true → is_number n (ms ++ ns) ≡ true
 among_first n [] ns e = absurd cc
-among_first n (m ∷ ms) ns e = first_step (nat_eq n m) (is_number n ms) (is_number n (ms ++ ns)) (λ h. among_first n ms ns h) e
+among_first n (m ∷ ms) ns e =
+    first_step (nat_eq n m) (is_number n ms) (is_number n (ms ++ ns)) (λ h. among_first n ms ns h) e
 
 among_last : (n : ℕ) (ms ns : List ℕ) → is_number n ns ≡ true → is_number n (ms ++ ns) ≡ true
 among_last n [] ns e = e
@@ -76,7 +77,8 @@ among_either : (n : ℕ) (ms ns : List ℕ)
     → is_number n (ms ++ ns) ≡ true
     → (is_number n ms ≡ true) ⊎ (is_number n ns ≡ true)
 among_either n [] ns e = inr e
-among_either n (m ∷ ms) ns e = either_step (nat_eq n m) (is_number n ms) (is_number n (ms ++ ns)) (is_number n ns) (λ h. among_either n ms ns h) e
+among_either n (m ∷ ms) ns e =
+    either_step (nat_eq n m) (is_number n ms) (is_number n (ms ++ ns)) (is_number n ns) (λ h. among_either n ms ns h) e
 
 -- ---- nodes that have begun
 
@@ -85,21 +87,34 @@ opened_either : (n : ℕ) (ps qs : List Place)
     → AreOpened qs
     → (is_number n (numbers_of ps) ≡ true) ⊎ (is_number n (numbers_of qs) ≡ true)
     → is_number n (openings_of (ps ++ qs)) ≡ true
-opened_either n ps qs p q (inl e) = subst (λ ns. is_number n ns ≡ true) (sym (openings_append ps qs)) (among_first n (openings_of ps) (openings_of qs) (p n e))
-opened_either n ps qs p q (inr e) = subst (λ ns. is_number n ns ≡ true) (sym (openings_append ps qs)) (among_last n (openings_of ps) (openings_of qs) (q n e))
+opened_either n ps qs p q (inl e) =
+    subst (λ ns. is_number n ns ≡ true) (sym (openings_append ps qs))
+    (among_first n (openings_of ps) (openings_of qs) (p n e))
+opened_either n ps qs p q (inr e) =
+    subst (λ ns. is_number n ns ≡ true) (sym (openings_append ps qs))
+    (among_last n (openings_of ps) (openings_of qs) (q n e))
 
 opened_append : (ps qs : List Place) → AreOpened ps → AreOpened qs → AreOpened (ps ++ qs)
-opened_append ps qs p q n e = opened_either n ps qs p q (among_either n (numbers_of ps) (numbers_of qs) (subst (λ ns. is_number n ns ≡ true) (numbers_append ps qs) e))
+opened_append ps qs p q n e =
+    opened_either n ps qs p q
+    (among_either n (numbers_of ps) (numbers_of qs) (subst (λ ns. is_number n ns ≡ true) (numbers_append ps qs) e))
 
 opened_in : (n m : ℕ) (ps : List Place)
     → AreOpened ps
     → (is_number m (numbers_of ps) ≡ true) ⊎ (is_number m (n ∷ []) ≡ true)
     → is_number m (openings_of (enclosed n ps)) ≡ true
-opened_in n m ps p (inl e) = later (nat_eq m n) (is_number m (openings_of (ps ++ (closes n ∷ [])))) (subst (λ ns. is_number m ns ≡ true) (sym (openings_append ps (closes n ∷ []))) (among_first m (openings_of ps) [] (p m e)))
-opened_in n m ps p (inr e) = here (nat_eq m n) (is_number m (openings_of (ps ++ (closes n ∷ [])))) (alone (nat_eq m n) e)
+opened_in n m ps p (inl e) =
+    later (nat_eq m n) (is_number m (openings_of (ps ++ (closes n ∷ []))))
+    (subst (λ ns. is_number m ns ≡ true) (sym (openings_append ps (closes n ∷ [])))
+    (among_first m (openings_of ps) [] (p m e)))
+opened_in n m ps p (inr e) =
+    here (nat_eq m n) (is_number m (openings_of (ps ++ (closes n ∷ [])))) (alone (nat_eq m n) e)
 
 opened_node : (n : ℕ) (ps : List Place) → AreOpened ps → AreOpened (enclosed n ps)
-opened_node n ps p m e = opened_in n m ps p (among_either m (numbers_of ps) (n ∷ []) (subst (λ ns. is_number m ns ≡ true) (numbers_append ps (closes n ∷ [])) e))
+opened_node n ps p m e =
+    opened_in n m ps p
+    (among_either m (numbers_of ps) (n ∷ [])
+    (subst (λ ns. is_number m ns ≡ true) (numbers_append ps (closes n ∷ [])) e))
 
 opened_quiet : (ps : List Place) → numbers_of ps ≡ [] → AreOpened ps
 opened_quiet ps none n e = let f : is_number n [] ≡ true = subst (λ ns. is_number n ns ≡ true) none e in absurd cc
@@ -119,7 +134,8 @@ AllStand [] (ps ∷ pieces) = ⊥
 AllStand (f ∷ fs) [] = ⊥
 
 quiet_stands : (ps : List Place) (f : Placing) → numbers_of ps ≡ [] → Fits f [] ps → Stand f ps
-quiet_stands ps f none fits = record { fits = subst (λ ns. Fits f ns ps) (sym none) fits; opened = opened_quiet ps none }
+quiet_stands ps f none fits =
+    record { fits = subst (λ ns. Fits f ns ps) (sym none) fits; opened = opened_quiet ps none }
 
 pub tokens-stand : (ms : List Mark) → Stand (tokens ms) (plain ms)
 unfolding tokens
@@ -135,15 +151,22 @@ nothing-stands = quiet_stands [] (in_row []) refl (give_fits [])
 
 pub before-stands : (f g : Placing) (ps qs : List Place) → Stand f ps → Stand g qs → Stand (before f g) (ps ++ qs)
 before-stands f g ps qs p q =
-    let fits : Fits (before f g) (numbers_of ps ++ numbers_of qs) (ps ++ qs) = of_part_fits (λ x. x.0 ++ x.1) (both f g) (numbers_of ps ++ numbers_of qs) (ps, qs) (both_fits f g (numbers_of ps) (numbers_of qs) ps qs p.fits q.fits) in
-    record { fits = subst (λ ns. Fits (before f g) ns (ps ++ qs)) (sym (numbers_append ps qs)) fits; opened = opened_append ps qs p.opened q.opened }
+    let fits : Fits (before f g) (numbers_of ps ++ numbers_of qs) (ps ++ qs) = of_part_fits (λ x. x.0 ++ x.1) (both f g)
+    (numbers_of ps ++ numbers_of qs) (ps, qs) (both_fits f g (numbers_of ps) (numbers_of qs) ps qs p.fits q.fits)
+    in
+    record {
+      fits = subst (λ ns. Fits (before f g) ns (ps ++ qs)) (sym (numbers_append ps qs))
+          fits;
+      opened = opened_append ps qs p.opened q.opened;
+    }
 
 pub row-stands : (fs : List Placing) (pieces : List (List Place))
     → AllStand fs pieces
     → Stand (in_row fs) (in_turn pieces)
 unfolding in_row
 row-stands [] [] all = nothing-stands
-row-stands (f ∷ fs) (ps ∷ pieces) all = before-stands f (in_row fs) ps (in_turn pieces) all.0 (row-stands fs pieces all.1)
+row-stands (f ∷ fs) (ps ∷ pieces) all =
+    before-stands f (in_row fs) ps (in_turn pieces) all.0 (row-stands fs pieces all.1)
 row-stands [] (ps ∷ pieces) all = absurd all
 row-stands (f ∷ fs) [] all = absurd all
 
@@ -152,8 +175,13 @@ node_around : (n : ℕ) (fs : List Placing) (ps : List Place)
     → Stand (node_placed fs) (enclosed n ps)
 unfolding node_placed
 node_around n fs ps p =
-    let fits : Fits (node_placed fs) (numbers_of ps ++ n ∷ []) (enclosed n ps) = node_fits (λ n ps. enclosed n ps) n (in_row fs) (numbers_of ps) ps p.fits in
-    record { fits = subst (λ ns. Fits (node_placed fs) ns (enclosed n ps)) (sym (numbers_append ps (closes n ∷ []))) fits; opened = opened_node n ps p.opened }
+    let fits : Fits (node_placed fs) (numbers_of ps ++ n ∷ []) (enclosed n ps) = node_fits (λ n ps. enclosed n ps) n
+    (in_row fs) (numbers_of ps) ps p.fits in
+    record {
+      fits = subst (λ ns. Fits (node_placed fs) ns (enclosed n ps)) (sym (numbers_append ps (closes n ∷ [])))
+          fits;
+      opened = opened_node n ps p.opened;
+    }
 
 pub node-stands : (n : NodeId) (fs : List Placing) (pieces : List (List Place))
     → AllStand fs pieces
@@ -161,17 +189,26 @@ pub node-stands : (n : NodeId) (fs : List Placing) (pieces : List (List Place))
 node-stands n fs pieces all = node_around n.0 fs (in_turn pieces) (row-stands fs pieces all)
 
 pub braces-stand : (f : Placing) (ps : List Place) → Stand f ps → Stand (braced f) (in_braces ps)
-braces-stand f ps p = row-stands (tokens (a kinds.LeftBrace) ∷ f ∷ tokens (a kinds.RightBrace) ∷ []) (plain (a kinds.LeftBrace) ∷ ps ∷ plain (a kinds.RightBrace) ∷ []) (tokens-stand (a kinds.LeftBrace), (p, (tokens-stand (a kinds.RightBrace), tt)))
+braces-stand f ps p =
+    row-stands (tokens (a kinds.LeftBrace) ∷ f ∷ tokens (a kinds.RightBrace) ∷ [])
+    (plain (a kinds.LeftBrace) ∷ ps ∷ plain (a kinds.RightBrace) ∷ [])
+    (tokens-stand (a kinds.LeftBrace), (p, (tokens-stand (a kinds.RightBrace), tt)))
 
 pub parentheses-stand : (f : Placing) (ps : List Place) → Stand f ps → Stand (parenthesized f) (in_parentheses ps)
-parentheses-stand f ps p = row-stands (tokens (a kinds.LeftParenthesis) ∷ f ∷ tokens (a kinds.RightParenthesis) ∷ []) (plain (a kinds.LeftParenthesis) ∷ ps ∷ plain (a kinds.RightParenthesis) ∷ []) (tokens-stand (a kinds.LeftParenthesis), (p, (tokens-stand (a kinds.RightParenthesis), tt)))
+parentheses-stand f ps p =
+    row-stands (tokens (a kinds.LeftParenthesis) ∷ f ∷ tokens (a kinds.RightParenthesis) ∷ [])
+    (plain (a kinds.LeftParenthesis) ∷ ps ∷ plain (a kinds.RightParenthesis) ∷ [])
+    (tokens-stand (a kinds.LeftParenthesis), (p, (tokens-stand (a kinds.RightParenthesis), tt)))
 
 behind-stand : (fs : List Placing) (pieces : List (List Place))
     → AllStand fs pieces
     → Stand (each_behind_comma fs) (behind_commas pieces)
 unfolding each_behind_comma in_row
 behind-stand [] [] all = nothing-stands
-behind-stand (f ∷ fs) (ps ∷ pieces) all = row-stands (tokens (a kinds.Comma) ∷ f ∷ each_behind_comma fs ∷ []) (plain (a kinds.Comma) ∷ ps ∷ behind_commas pieces ∷ []) (tokens-stand (a kinds.Comma), (all.0, (behind-stand fs pieces all.1, tt)))
+behind-stand (f ∷ fs) (ps ∷ pieces) all =
+    row-stands (tokens (a kinds.Comma) ∷ f ∷ each_behind_comma fs ∷ [])
+    (plain (a kinds.Comma) ∷ ps ∷ behind_commas pieces ∷ [])
+    (tokens-stand (a kinds.Comma), (all.0, (behind-stand fs pieces all.1, tt)))
 behind-stand [] (ps ∷ pieces) all = absurd all
 behind-stand (f ∷ fs) [] all = absurd all
 
@@ -180,7 +217,8 @@ pub commas-stand : (fs : List Placing) (pieces : List (List Place))
     → Stand (comma_separated fs) (with_commas pieces)
 unfolding comma_separated in_row
 commas-stand [] [] all = nothing-stands
-commas-stand (f ∷ fs) (ps ∷ pieces) all = before-stands f (each_behind_comma fs) ps (behind_commas pieces) all.0 (behind-stand fs pieces all.1)
+commas-stand (f ∷ fs) (ps ∷ pieces) all =
+    before-stands f (each_behind_comma fs) ps (behind_commas pieces) all.0 (behind-stand fs pieces all.1)
 commas-stand [] (ps ∷ pieces) all = absurd all
 commas-stand (f ∷ fs) [] all = absurd all
 

@@ -42,23 +42,33 @@ abbrev mutual
   expression_numbered (trees.array es) = node (λ n xs. array_made n xs) (expressions_numbered es)
   expression_numbered (trees.object ps) = node (λ n xs. object_made n xs) (properties_numbered ps)
   expression_numbered (trees.function x ps body) = node (λ n b. function_made n x ps b) (statements_numbered body)
-  expression_numbered (trees.arrow ps e) = node (λ n x. arrow_made n (parameter_names ps) (returned_body x)) (expression_numbered e)
-  expression_numbered (trees.arrow_block ps body) = node (λ n b. arrow_made n (parameter_names ps) b) (statements_numbered body)
+  expression_numbered (trees.arrow ps e) =
+      node (λ n x. arrow_made n (parameter_names ps) (returned_body x)) (expression_numbered e)
+  expression_numbered (trees.arrow_block ps body) =
+      node (λ n b. arrow_made n (parameter_names ps) b) (statements_numbered body)
   expression_numbered (trees.parenthesized e) = node (λ n x. parenthesized_made n x) (expression_numbered e)
   expression_numbered (trees.member e key) = node (λ n x. member_made n x key) (expression_numbered e)
-  expression_numbered (trees.index e k) = node (λ n x. index_made n x.0 x.1) (both (expression_numbered e) (expression_numbered k))
-  expression_numbered (trees.call f es) = node (λ n x. call_made n x.0 x.1.0 x.1.1) (both (expression_numbered f) (arguments_node (expressions_numbered es)))
+  expression_numbered (trees.index e k) =
+      node (λ n x. index_made n x.0 x.1) (both (expression_numbered e) (expression_numbered k))
+  expression_numbered (trees.call f es) =
+      node (λ n x. call_made n x.0 x.1.0 x.1.1)
+      (both (expression_numbered f) (arguments_node (expressions_numbered es)))
   expression_numbered (trees.postfix o e) = node (λ n x. update_made n o false x) (expression_numbered e)
   expression_numbered (trees.prefix o e) = node (λ n x. update_made n o true x) (expression_numbered e)
   expression_numbered (trees.unary o e) = node (λ n x. unary_made n o x) (expression_numbered e)
-  expression_numbered (trees.binary o l r) = node (λ n x. binary_made n o x.0 x.1) (both (expression_numbered l) (expression_numbered r))
-  expression_numbered (trees.conditional t a b) = node (λ n x. conditional_made n x.0 x.1.0 x.1.1) (both (expression_numbered t) (both (expression_numbered a) (expression_numbered b)))
-  expression_numbered (trees.assign o t e) = node (λ n x. assign_made n o x.0 x.1) (both (expression_numbered t) (expression_numbered e))
+  expression_numbered (trees.binary o l r) =
+      node (λ n x. binary_made n o x.0 x.1) (both (expression_numbered l) (expression_numbered r))
+  expression_numbered (trees.conditional t a b) =
+      node (λ n x. conditional_made n x.0 x.1.0 x.1.1)
+      (both (expression_numbered t) (both (expression_numbered a) (expression_numbered b)))
+  expression_numbered (trees.assign o t e) =
+      node (λ n x. assign_made n o x.0 x.1) (both (expression_numbered t) (expression_numbered e))
   expression_numbered (trees.comma es) = node (λ n xs. comma_made n xs) (expressions_numbered es)
 
   pub expressions_numbered : Expressions → Numbering (List Made)
   expressions_numbered trees.no_expressions = give []
-  expressions_numbered (trees.an_expression e es) = of_part (λ x. x.0 ∷ x.1) (both (expression_numbered e) (expressions_numbered es))
+  expressions_numbered (trees.an_expression e es) =
+      of_part (λ x. x.0 ∷ x.1) (both (expression_numbered e) (expressions_numbered es))
 
   pub optional_numbered : OptionalExpression → Numbering (Option Made)
   optional_numbered trees.omitted = give None
@@ -72,39 +82,57 @@ abbrev mutual
 
   pub property_numbered : Property → Numbering PropertyMade
   property_numbered (trees.shorthand n) = give (value_property (fixed_key n) (name_made 0 n))
-  property_numbered (trees.value k e) = of_part (λ x. value_property x.0 x.1) (both (key_numbered k) (expression_numbered e))
-  property_numbered (trees.method k ps body) = node (λ n x. method_property n x.0 ps x.1) (both (key_numbered k) (statements_numbered body))
+  property_numbered (trees.value k e) =
+      of_part (λ x. value_property x.0 x.1) (both (key_numbered k) (expression_numbered e))
+  property_numbered (trees.method k ps body) =
+      node (λ n x. method_property n x.0 ps x.1) (both (key_numbered k) (statements_numbered body))
 
   pub properties_numbered : Properties → Numbering (List PropertyMade)
   properties_numbered trees.no_properties = give []
-  properties_numbered (trees.a_property p ps) = of_part (λ x. x.0 ∷ x.1) (both (property_numbered p) (properties_numbered ps))
+  properties_numbered (trees.a_property p ps) =
+      of_part (λ x. x.0 ∷ x.1) (both (property_numbered p) (properties_numbered ps))
 
   pub declarator_numbered : trees.Declarator → Numbering DeclaratorMade
   declarator_numbered (trees.declarator n e) = of_part (λ x. a_declarator_made n x) (optional_numbered e)
 
   pub declarators_numbered : trees.Declarators → Numbering (List DeclaratorMade)
   declarators_numbered trees.no_declarators = give []
-  declarators_numbered (trees.a_declarator d ds) = of_part (λ x. x.0 ∷ x.1) (both (declarator_numbered d) (declarators_numbered ds))
+  declarators_numbered (trees.a_declarator d ds) =
+      of_part (λ x. x.0 ∷ x.1) (both (declarator_numbered d) (declarators_numbered ds))
 
   pub statement_numbered : Statement → Numbering Item
   statement_numbered (trees.block ss) = of_part (λ b. block_item b) (block_node (statements_numbered ss))
   statement_numbered (trees.lexical constant ds) = node (λ n x. lexical_item n constant x) (declarators_numbered ds)
   statement_numbered trees.empty = leaf (λ n. empty_item)
   statement_numbered (trees.expression e) = node (λ n x. expression_item n x) (expression_numbered e)
-  statement_numbered (trees.if_then e s) = node (λ n x. if_item n x.0 x.1 None) (both (expression_numbered e) (statement_numbered s))
-  statement_numbered (trees.if_else e s t) = node (λ n x. if_item n x.0 x.1.0 (Some x.1.1)) (both (expression_numbered e) (both (statement_numbered s) (statement_numbered t)))
-  statement_numbered (trees.do_while s e) = node (λ n x. do_while_item n x.0 x.1) (both (statement_numbered s) (expression_numbered e))
-  statement_numbered (trees.while e s) = node (λ n x. while_item n x.0 x.1) (both (expression_numbered e) (statement_numbered s))
-  statement_numbered (trees.for i t u s) = node (λ n x. for_item n x.0 x.1.0 x.1.1.0 x.1.1.1) (both (optional_numbered i) (both (optional_numbered t) (both (optional_numbered u) (statement_numbered s))))
-  statement_numbered (trees.for_lexical constant ds t u s) = node (λ n x. for_lexical_item n constant x.0 x.1.0 x.1.1.0 x.1.1.1) (both (declarators_numbered ds) (both (optional_numbered t) (both (optional_numbered u) (statement_numbered s))))
-  statement_numbered (trees.for_of constant name e s) = node (λ n x. for_of_item n constant name x.0 x.1) (both (expression_numbered e) (statement_numbered s))
+  statement_numbered (trees.if_then e s) =
+      node (λ n x. if_item n x.0 x.1 None) (both (expression_numbered e) (statement_numbered s))
+  statement_numbered (trees.if_else e s t) =
+      node (λ n x. if_item n x.0 x.1.0 (Some x.1.1))
+      (both (expression_numbered e) (both (statement_numbered s) (statement_numbered t)))
+  statement_numbered (trees.do_while s e) =
+      node (λ n x. do_while_item n x.0 x.1) (both (statement_numbered s) (expression_numbered e))
+  statement_numbered (trees.while e s) =
+      node (λ n x. while_item n x.0 x.1) (both (expression_numbered e) (statement_numbered s))
+  statement_numbered (trees.for i t u s) =
+      node (λ n x. for_item n x.0 x.1.0 x.1.1.0 x.1.1.1)
+      (both (optional_numbered i) (both (optional_numbered t) (both (optional_numbered u) (statement_numbered s))))
+  statement_numbered (trees.for_lexical constant ds t u s) =
+      node (λ n x. for_lexical_item n constant x.0 x.1.0 x.1.1.0 x.1.1.1)
+      (both (declarators_numbered ds)
+      (both (optional_numbered t) (both (optional_numbered u) (statement_numbered s))))
+  statement_numbered (trees.for_of constant name e s) =
+      node (λ n x. for_of_item n constant name x.0 x.1) (both (expression_numbered e) (statement_numbered s))
   statement_numbered trees.continue = leaf (λ n. continue_item n)
   statement_numbered trees.break = leaf (λ n. break_item n)
   statement_numbered (trees.return e) = node (λ n x. return_item n x) (optional_numbered e)
   statement_numbered (trees.throw e) = node (λ n x. throw_item n x) (expression_numbered e)
-  statement_numbered (trees.try ss h f) = node (λ n x. try_item n x.0 x.1.0 x.1.1) (both (block_node (statements_numbered ss)) (both (handler_numbered h) (finalizer_numbered f)))
+  statement_numbered (trees.try ss h f) =
+      node (λ n x. try_item n x.0 x.1.0 x.1.1)
+      (both (block_node (statements_numbered ss)) (both (handler_numbered h) (finalizer_numbered f)))
   statement_numbered trees.debugger = leaf (λ n. debugger_item n)
-  statement_numbered (trees.declared_function name ps body) = node (λ n b. function_item n name ps b) (statements_numbered body)
+  statement_numbered (trees.declared_function name ps body) =
+      node (λ n b. function_item n name ps b) (statements_numbered body)
 
   pub handler_numbered : Handler → Numbering (Option CatchMade)
   handler_numbered trees.no_catch = give None
@@ -116,7 +144,8 @@ abbrev mutual
 
   pub statements_numbered : Statements → Numbering Items
   statements_numbered trees.no_statements = give no_items
-  statements_numbered (trees.a_statement s ss) = of_part (λ x. and_items x.0 x.1) (both (statement_numbered s) (statements_numbered ss))
+  statements_numbered (trees.a_statement s ss) =
+      of_part (λ x. and_items x.0 x.1) (both (statement_numbered s) (statements_numbered ss))
 
 -- what is made of an expression whose nodes have the numbers from 0 on
 unfoldable pub numbered_made : Expression → Made

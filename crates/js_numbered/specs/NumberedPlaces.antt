@@ -65,21 +65,48 @@ abbrev mutual
   expression_placed (trees.string us) = node_placed (tokens (a_symbol (string_literal us)) ∷ [])
   expression_placed (trees.boolean b) = node_placed (tokens (flat_boolean b) ∷ [])
   expression_placed trees.null = node_placed (tokens (a kinds.Null) ∷ [])
-  expression_placed (trees.array es) = node_placed (tokens (a kinds.LeftBracket) ∷ comma_separated (expressions_placed es) ∷ optional_token kinds.Comma ∷ tokens (a kinds.RightBracket) ∷ [])
-  expression_placed (trees.object ps) = node_placed (tokens (a kinds.LeftBrace) ∷ comma_separated (properties_placed ps) ∷ optional_token kinds.Comma ∷ tokens (a kinds.RightBrace) ∷ [])
-  expression_placed (trees.function x ps body) = node_placed (tokens (a kinds.Function) ∷ tokens (flat_optional_name x) ∷ tokens (flat_parameters ps) ∷ braced (in_row (statements_placed body)) ∷ [])
-  expression_placed (trees.arrow ps e) = node_placed (tokens (flat_arrow_parameters ps) ∷ tokens (a kinds.Arrow) ∷ expression_placed e ∷ [])
-  expression_placed (trees.arrow_block ps body) = node_placed (tokens (flat_arrow_parameters ps) ∷ tokens (a kinds.Arrow) ∷ braced (in_row (statements_placed body)) ∷ [])
-  expression_placed (trees.parenthesized e) = node_placed (tokens (a kinds.LeftParenthesis) ∷ expression_placed e ∷ tokens (a kinds.RightParenthesis) ∷ [])
-  expression_placed (trees.member e key) = node_placed (expression_placed e ∷ tokens (a kinds.Dot) ∷ tokens (a_symbol (identifier_name key)) ∷ [])
-  expression_placed (trees.index e k) = node_placed (expression_placed e ∷ tokens (a kinds.LeftBracket) ∷ expression_placed k ∷ tokens (a kinds.RightBracket) ∷ [])
-  expression_placed (trees.call f es) = node_placed (expression_placed f ∷ node_placed (tokens (a kinds.LeftParenthesis) ∷ comma_separated (expressions_placed es) ∷ optional_token kinds.Comma ∷ tokens (a kinds.RightParenthesis) ∷ []) ∷ [])
+  expression_placed (trees.array es) =
+      node_placed
+      (tokens (a kinds.LeftBracket) ∷ comma_separated (expressions_placed es) ∷ optional_token kinds.Comma ∷ tokens
+      (a kinds.RightBracket) ∷ [])
+  expression_placed (trees.object ps) =
+      node_placed
+      (tokens (a kinds.LeftBrace) ∷ comma_separated (properties_placed ps) ∷ optional_token kinds.Comma ∷ tokens
+      (a kinds.RightBrace) ∷ [])
+  expression_placed (trees.function x ps body) =
+      node_placed
+      (tokens (a kinds.Function) ∷ tokens (flat_optional_name x) ∷ tokens (flat_parameters ps) ∷ braced
+      (in_row (statements_placed body)) ∷ [])
+  expression_placed (trees.arrow ps e) =
+      node_placed (tokens (flat_arrow_parameters ps) ∷ tokens (a kinds.Arrow) ∷ expression_placed e ∷ [])
+  expression_placed (trees.arrow_block ps body) =
+      node_placed
+      (tokens (flat_arrow_parameters ps) ∷ tokens (a kinds.Arrow) ∷ braced (in_row (statements_placed body)) ∷ [])
+  expression_placed (trees.parenthesized e) =
+      node_placed (tokens (a kinds.LeftParenthesis) ∷ expression_placed e ∷ tokens (a kinds.RightParenthesis) ∷ [])
+  expression_placed (trees.member e key) =
+      node_placed (expression_placed e ∷ tokens (a kinds.Dot) ∷ tokens (a_symbol (identifier_name key)) ∷ [])
+  expression_placed (trees.index e k) =
+      node_placed
+      (expression_placed e ∷ tokens (a kinds.LeftBracket) ∷ expression_placed k ∷ tokens (a kinds.RightBracket)
+      ∷ [])
+  expression_placed (trees.call f es) =
+      node_placed
+      (expression_placed f ∷ node_placed
+      (tokens (a kinds.LeftParenthesis) ∷ comma_separated (expressions_placed es)
+      ∷ optional_token kinds.Comma ∷ tokens (a kinds.RightParenthesis) ∷ [])
+      ∷ [])
   expression_placed (trees.postfix o e) = node_placed (expression_placed e ∷ tokens (a (update_kind o)) ∷ [])
   expression_placed (trees.prefix o e) = node_placed (tokens (a (update_kind o)) ∷ expression_placed e ∷ [])
   expression_placed (trees.unary o e) = node_placed (tokens (a (unary_kind o)) ∷ expression_placed e ∷ [])
-  expression_placed (trees.binary o l r) = node_placed (expression_placed l ∷ tokens (a (binary_kind o)) ∷ expression_placed r ∷ [])
-  expression_placed (trees.conditional t c e) = node_placed (expression_placed t ∷ tokens (a kinds.Question) ∷ expression_placed c ∷ tokens (a kinds.Colon) ∷ expression_placed e ∷ [])
-  expression_placed (trees.assign o t e) = node_placed (expression_placed t ∷ tokens (a (assign_kind o)) ∷ expression_placed e ∷ [])
+  expression_placed (trees.binary o l r) =
+      node_placed (expression_placed l ∷ tokens (a (binary_kind o)) ∷ expression_placed r ∷ [])
+  expression_placed (trees.conditional t c e) =
+      node_placed
+      (expression_placed t ∷ tokens (a kinds.Question) ∷ expression_placed c ∷ tokens (a kinds.Colon)
+      ∷ expression_placed e ∷ [])
+  expression_placed (trees.assign o t e) =
+      node_placed (expression_placed t ∷ tokens (a (assign_kind o)) ∷ expression_placed e ∷ [])
   expression_placed (trees.comma es) = node_placed (comma_separated (expressions_placed es) ∷ [])
 
   -- of each of these expressions
@@ -97,13 +124,15 @@ abbrev mutual
   key_placed (trees.word_key us) = tokens (a_symbol (identifier_name us))
   key_placed (trees.string_key us) = tokens (a_symbol (string_literal us))
   key_placed (trees.number_key v) = tokens (a_symbol (numeric_literal v))
-  key_placed (trees.computed_key e) = in_row (tokens (a kinds.LeftBracket) ∷ expression_placed e ∷ tokens (a kinds.RightBracket) ∷ [])
+  key_placed (trees.computed_key e) =
+      in_row (tokens (a kinds.LeftBracket) ∷ expression_placed e ∷ tokens (a kinds.RightBracket) ∷ [])
 
   -- of a member of an object literal, of which a method alone is a node
   pub property_placed : Property → Placing
   property_placed (trees.shorthand n) = tokens (an_identifier n)
   property_placed (trees.value k e) = in_row (key_placed k ∷ tokens (a kinds.Colon) ∷ expression_placed e ∷ [])
-  property_placed (trees.method k ps body) = node_placed (key_placed k ∷ tokens (flat_parameters ps) ∷ braced (in_row (statements_placed body)) ∷ [])
+  property_placed (trees.method k ps body) =
+      node_placed (key_placed k ∷ tokens (flat_parameters ps) ∷ braced (in_row (statements_placed body)) ∷ [])
 
   -- of each of these members
   pub properties_placed : Properties → List Placing
@@ -126,33 +155,67 @@ abbrev mutual
 
   pub statement_placed : Statement → Placing
   statement_placed (trees.block ss) = node_placed (braced (in_row (statements_placed ss)) ∷ [])
-  statement_placed (trees.lexical constant ds) = node_placed (tokens (let_or_const constant) ∷ comma_separated (declarators_placed ds) ∷ optional_token kinds.Semicolon ∷ [])
+  statement_placed (trees.lexical constant ds) =
+      node_placed
+      (tokens (let_or_const constant) ∷ comma_separated (declarators_placed ds)
+      ∷ optional_token kinds.Semicolon ∷ [])
   statement_placed trees.empty = node_placed (tokens (a kinds.Semicolon) ∷ [])
   statement_placed (trees.expression e) = node_placed (expression_placed e ∷ optional_token kinds.Semicolon ∷ [])
-  statement_placed (trees.if_then e s) = node_placed (tokens (a kinds.If) ∷ parenthesized (expression_placed e) ∷ statement_placed s ∷ [])
-  statement_placed (trees.if_else e s t) = node_placed (tokens (a kinds.If) ∷ parenthesized (expression_placed e) ∷ statement_placed s ∷ tokens (a kinds.Else) ∷ statement_placed t ∷ [])
-  statement_placed (trees.do_while s e) = node_placed (tokens (a kinds.Do) ∷ statement_placed s ∷ tokens (a kinds.While) ∷ parenthesized (expression_placed e) ∷ optional_token kinds.Semicolon ∷ [])
-  statement_placed (trees.while e s) = node_placed (tokens (a kinds.While) ∷ parenthesized (expression_placed e) ∷ statement_placed s ∷ [])
-  statement_placed (trees.for i t u s) = node_placed (tokens (a kinds.For) ∷ tokens (a kinds.LeftParenthesis) ∷ optional_placed i ∷ tokens (a kinds.Semicolon) ∷ optional_placed t ∷ tokens (a kinds.Semicolon) ∷ optional_placed u ∷ tokens (a kinds.RightParenthesis) ∷ statement_placed s ∷ [])
-  statement_placed (trees.for_lexical constant ds t u s) = node_placed (tokens (a kinds.For) ∷ tokens (a kinds.LeftParenthesis) ∷ tokens (let_or_const constant) ∷ comma_separated (declarators_placed ds) ∷ tokens (a kinds.Semicolon) ∷ optional_placed t ∷ tokens (a kinds.Semicolon) ∷ optional_placed u ∷ tokens (a kinds.RightParenthesis) ∷ statement_placed s ∷ [])
-  statement_placed (trees.for_of constant name e s) = node_placed (tokens (a kinds.For) ∷ tokens (a kinds.LeftParenthesis) ∷ tokens (let_or_const constant) ∷ tokens (an_identifier name) ∷ tokens (an_identifier (codes "of")) ∷ expression_placed e ∷ tokens (a kinds.RightParenthesis) ∷ statement_placed s ∷ [])
+  statement_placed (trees.if_then e s) =
+      node_placed (tokens (a kinds.If) ∷ parenthesized (expression_placed e) ∷ statement_placed s ∷ [])
+  statement_placed (trees.if_else e s t) =
+      node_placed
+      (tokens (a kinds.If) ∷ parenthesized (expression_placed e) ∷ statement_placed s ∷ tokens (a kinds.Else)
+      ∷ statement_placed t ∷ [])
+  statement_placed (trees.do_while s e) =
+      node_placed
+      (tokens (a kinds.Do) ∷ statement_placed s ∷ tokens (a kinds.While) ∷ parenthesized (expression_placed e)
+      ∷ optional_token kinds.Semicolon ∷ [])
+  statement_placed (trees.while e s) =
+      node_placed (tokens (a kinds.While) ∷ parenthesized (expression_placed e) ∷ statement_placed s ∷ [])
+  statement_placed (trees.for i t u s) =
+      node_placed
+      (tokens (a kinds.For) ∷ tokens (a kinds.LeftParenthesis) ∷ optional_placed i ∷ tokens (a kinds.Semicolon)
+      ∷ optional_placed t ∷ tokens (a kinds.Semicolon) ∷ optional_placed u ∷ tokens (a kinds.RightParenthesis)
+      ∷ statement_placed s ∷ [])
+  statement_placed (trees.for_lexical constant ds t u s) =
+      node_placed
+      (tokens (a kinds.For) ∷ tokens (a kinds.LeftParenthesis) ∷ tokens (let_or_const constant) ∷ comma_separated
+      (declarators_placed ds) ∷ tokens (a kinds.Semicolon) ∷ optional_placed t ∷ tokens (a kinds.Semicolon)
+      ∷ optional_placed u ∷ tokens (a kinds.RightParenthesis) ∷ statement_placed s ∷ [])
+  statement_placed (trees.for_of constant name e s) =
+      node_placed
+      (tokens (a kinds.For) ∷ tokens (a kinds.LeftParenthesis) ∷ tokens (let_or_const constant) ∷ tokens
+      (an_identifier name) ∷ tokens (an_identifier (codes "of")) ∷ expression_placed e ∷ tokens
+      (a kinds.RightParenthesis) ∷ statement_placed s ∷ [])
   statement_placed trees.continue = node_placed (tokens (a kinds.Continue) ∷ optional_token kinds.Semicolon ∷ [])
   statement_placed trees.break = node_placed (tokens (a kinds.Break) ∷ optional_token kinds.Semicolon ∷ [])
-  statement_placed (trees.return e) = node_placed (tokens (a kinds.Return) ∷ optional_placed e ∷ optional_token kinds.Semicolon ∷ [])
-  statement_placed (trees.throw e) = node_placed (tokens (a kinds.Throw) ∷ expression_placed e ∷ optional_token kinds.Semicolon ∷ [])
-  statement_placed (trees.try ss h f) = node_placed (tokens (a kinds.Try) ∷ node_placed (braced (in_row (statements_placed ss)) ∷ []) ∷ handler_placed h ∷ finalizer_placed f ∷ [])
+  statement_placed (trees.return e) =
+      node_placed (tokens (a kinds.Return) ∷ optional_placed e ∷ optional_token kinds.Semicolon ∷ [])
+  statement_placed (trees.throw e) =
+      node_placed (tokens (a kinds.Throw) ∷ expression_placed e ∷ optional_token kinds.Semicolon ∷ [])
+  statement_placed (trees.try ss h f) =
+      node_placed
+      (tokens (a kinds.Try) ∷ node_placed (braced (in_row (statements_placed ss)) ∷ [])
+      ∷ handler_placed h ∷ finalizer_placed f ∷ [])
   statement_placed trees.debugger = node_placed (tokens (a kinds.Debugger) ∷ optional_token kinds.Semicolon ∷ [])
-  statement_placed (trees.declared_function name ps body) = node_placed (tokens (a kinds.Function) ∷ tokens (an_identifier name) ∷ tokens (flat_parameters ps) ∷ braced (in_row (statements_placed body)) ∷ [])
+  statement_placed (trees.declared_function name ps body) =
+      node_placed
+      (tokens (a kinds.Function) ∷ tokens (an_identifier name) ∷ tokens (flat_parameters ps) ∷ braced
+      (in_row (statements_placed body)) ∷ [])
 
   -- of a catch, which may be left out and is no node of its own
   pub handler_placed : Handler → Placing
   handler_placed trees.no_catch = in_row []
-  handler_placed (trees.catch n ss) = in_row (tokens (a kinds.Catch) ∷ tokens (flat_catch_parameter n) ∷ node_placed (braced (in_row (statements_placed ss)) ∷ []) ∷ [])
+  handler_placed (trees.catch n ss) =
+      in_row (tokens (a kinds.Catch) ∷ tokens (flat_catch_parameter n) ∷ node_placed
+      (braced (in_row (statements_placed ss)) ∷ []) ∷ [])
 
   -- of a finally, which may be left out and is no node of its own
   pub finalizer_placed : Finalizer → Placing
   finalizer_placed trees.no_finally = in_row []
-  finalizer_placed (trees.finally ss) = before (tokens (a kinds.Finally)) (node_placed (braced (in_row (statements_placed ss)) ∷ []))
+  finalizer_placed (trees.finally ss) =
+      before (tokens (a kinds.Finally)) (node_placed (braced (in_row (statements_placed ss)) ∷ []))
 
   -- of each of these statements
   pub statements_placed : Statements → List Placing

@@ -23,7 +23,8 @@ pub pop-some : (a : Addr) (vs : List Value) (l : ℕ)
     → (l ≡ 0 → ⊥)
     → pop_last a vs ≡ write a (changes.Length (l - 1)) (give (last_of vs))
 pop-some a [] l e h = absurd (h e)
-pop-some a (v ∷ vs) l e h = let d : length vs ≡ l - 1 = omega arith in ap (λ n. write a (changes.Length n) (give (last_of (v ∷ vs)))) d
+pop-some a (v ∷ vs) l e h =
+    let d : length vs ≡ l - 1 = omega arith in ap (λ n. write a (changes.Length n) (give (last_of (v ∷ vs)))) d
 
 pub ruleset pop_rules = (pop-none, pop-some)
 
@@ -48,12 +49,15 @@ part_some xs None None m n e = cc
 pub slice-none : {A : Type 0} (xs : List A) (args : List Value)
     → both_places (place (length xs) 0 (argument args 0)) (place (length xs) (length xs) (argument args 1)) ≡ None
     → slice_places xs args ≡ None
-slice-none xs args e = part_none xs (place (length xs) 0 (argument args 0)) (place (length xs) (length xs) (argument args 1)) e
+slice-none xs args e =
+    part_none xs (place (length xs) 0 (argument args 0)) (place (length xs) (length xs) (argument args 1)) e
 
 pub slice-some : {A : Type 0} (xs : List A) (args : List Value) (m n : ℕ)
-    → both_places (place (length xs) 0 (argument args 0)) (place (length xs) (length xs) (argument args 1)) ≡ Some (m, n)
+    → both_places (place (length xs) 0 (argument args 0)) (place (length xs) (length xs) (argument args 1)) ≡ Some
+    (m, n)
     → slice_places xs args ≡ Some (take (n - m) (drop m xs))
-slice-some xs args m n e = part_some xs (place (length xs) 0 (argument args 0)) (place (length xs) (length xs) (argument args 1)) m n e
+slice-some xs args m n e =
+    part_some xs (place (length xs) 0 (argument args 0)) (place (length xs) (length xs) (argument args 1)) m n e
 
 pub ruleset slice_rules = (slice-none, slice-some)
 

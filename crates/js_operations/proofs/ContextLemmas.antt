@@ -74,7 +74,8 @@ pub prints-none : (w : World) (c d : Context) (text : List ℕ)
     → d ≡ c
     → is_evaluation w ≡ true
     → Prints text w c (Err Effect) d
-prints-none w c d text e p = let P : Context → Type 0 = λ x. Prints text w c (Err Effect) x in subst P (sym e) (prints_none w c text p)
+prints-none w c d text e p =
+    let P : Context → Type 0 = λ x. Prints text w c (Err Effect) x in subst P (sym e) (prints_none w c text p)
 
 -- ---- frames
 

@@ -36,7 +36,9 @@ refused_by : {A : Type 0} (t : Tried A) (r : Refused) (s : State) (w : World) (k
     after t s k ≡ ended (stop_of (is_evaluation s.world) r) (with_world s w)
 refused_by t refusals.Effect s w k h e said = ap (λ x. after x s k) h ∙ ap (λ v. has_effect (with_world s v)) (sym e)
 refused_by t (refusals.Full what) s w k h e said =
-    ap (λ x. after x s k) h ∙ full_by (is_evaluation s.world) what s refl ∙ ap (λ v. ended (stop_of (is_evaluation s.world) (refusals.Full what)) (with_world s v)) (sym e)
+    ap (λ x. after x s k) h
+    ∙ full_by (is_evaluation s.world) what s refl
+    ∙ ap (λ v. ended (stop_of (is_evaluation s.world) (refusals.Full what)) (with_world s v)) (sym e)
 refused_by t refusals.Memory s w k h e said = absurd said
 
 makes_by : (v w : World) (c : Cell) (r : Result Addr Refused)
@@ -78,7 +80,8 @@ writes_by v w a c (Ok u) h e = λ s k. ap (λ t. after t (with_world s v) (λ u.
 writes_by v w a c (Err r) h e = λ s k said. refused_by (write_cell v a c) r (with_world s v) w (λ u. perform k) h e said
 
 -- a cell is changed
-pub written-by : {S : Type 0} (f : S → World) (x y : S) (a : Addr) (c : Change) (r : Result (Unit {0}) Refused) (q : Result (Unit {0}) ActionEnd)
+pub written-by : {S : Type 0} (f : S → World) (x y : S) (a : Addr) (c : Change) (r : Result (Unit {0}) Refused)
+    (q : Result (Unit {0}) ActionEnd)
     → Tries (write_cell (f x) a c) r (f y)
     → OnErr r (y ≡ x)
     → q ≡ answered (is_evaluation (f y)) r
@@ -104,21 +107,26 @@ pub yields-err : {A : Type 0} (f : (A → Action) → Action) (v w : World) (r :
     → ((s : State) (k : A → Action) → Stops (f k) (with_world s v) e (with_world s w))
     → Yields f v r w
 yields-err {A} f v w (Ok a) e h k = absurd h
-yields-err {A} f v w (Err d) e h k = let P : ActionEnd → Type 0 = λ x. (s : State) (c : A → Action) → Stops (f c) (with_world s v) x (with_world s w) in subst P (sym h) k
+yields-err {A} f v w (Err d) e h k =
+    let P : ActionEnd → Type 0 = λ x. (s : State) (c : A → Action) → Stops (f c) (with_world s v) x (with_world s w) in
+    subst P (sym h) k
 
 pub gives-err : (a : Action) (v w : World) (r : Result Value ActionEnd) (e : ActionEnd)
     → IsErrAnd r (λ d. d ≡ e)
     → ((s : State) → Stops a (with_world s v) e (with_world s w))
     → Gives a v r w
 gives-err a v w (Ok u) e h k = absurd h
-gives-err a v w (Err d) e h k = let P : ActionEnd → Type 0 = λ x. (s : State) → Stops a (with_world s v) x (with_world s w) in subst P (sym h) k
+gives-err a v w (Err d) e h k =
+    let P : ActionEnd → Type 0 = λ x. (s : State) → Stops a (with_world s v) x (with_world s w) in subst P (sym h) k
 
 pub passes-err : {A : Type 0} (f : Action → Action) (v w : World) (r : Result A ActionEnd) (e : ActionEnd)
     → IsErrAnd r (λ d. d ≡ e)
     → ((s : State) (k : Action) → Stops (f k) (with_world s v) e (with_world s w))
     → Passes f v r w
 passes-err f v w (Ok a) e h k = absurd h
-passes-err f v w (Err d) e h k = let P : ActionEnd → Type 0 = λ x. (s : State) (c : Action) → Stops (f c) (with_world s v) x (with_world s w) in subst P (sym h) k
+passes-err f v w (Err d) e h k =
+    let P : ActionEnd → Type 0 = λ x. (s : State) (c : Action) → Stops (f c) (with_world s v) x (with_world s w) in
+    subst P (sym h) k
 
 -- ---- results and texts that are given
 

@@ -51,7 +51,8 @@ part-none w ts v vs h = ap (λ o. with_parts ts (with_part o (joined_parts w vs)
 pub part-some : (w : World) (ts : List (List ℕ)) (t : List ℕ) (v : Value) (vs : List Value)
     → Some t ≡ joined_part w v
     → with_parts (ts ++ t ∷ []) (joined_parts w vs) ≡ with_parts ts (joined_parts w (v ∷ vs))
-part-some w ts t v vs h = parts-more ts t (joined_parts w vs) ∙ ap (λ o. with_parts ts (with_part o (joined_parts w vs))) h
+part-some w ts t v vs h =
+    parts-more ts t (joined_parts w vs) ∙ ap (λ o. with_parts ts (with_part o (joined_parts w vs))) h
 
 pub ruleset part_rules = (part-none, part-some, parts-all)
 
@@ -72,7 +73,9 @@ occurs_cons : (i u : ℕ) (xs r vs : List ℕ)
     → begins_with xs vs ≡ false
     → first_occurrence i xs vs ≡ first_occurrence (i + 1) r vs
 occurs_cons i u xs r vs e h =
-    let P : List ℕ → Type 0 = λ ys. begins_with ys vs ≡ false → first_occurrence i ys vs ≡ first_occurrence (i + 1) r vs in
+    let P : List ℕ
+    → Type 0 = λ ys. begins_with ys vs ≡ false
+    → first_occurrence i ys vs ≡ first_occurrence (i + 1) r vs in
     subst P (sym e) (λ g. rw g refl) h
 
 pub occurs-step : (us vs : List ℕ) (i : ℕ) (b : Bool)
@@ -85,7 +88,8 @@ occurs-step us vs i b h f g =
     let t : take (length us - i) (drop i us) ≡ drop i us = take_all (length us - i) (drop i us) l in
     let e : begins_with (drop i us) vs ≡ false = ap (λ xs. begins_with xs vs) (sym t) ∙ sym f ∙ g in
     let n : suc i ≡ i + 1 = omega arith in
-    occurs_cons i (get_or us i 0) (drop i us) (drop (suc i) us) vs (drop-cons us i 0 h) e ∙ ap (λ m. first_occurrence (i + 1) (drop m us) vs) n
+    occurs_cons i (get_or us i 0) (drop i us) (drop (suc i) us) vs (drop-cons us i 0 h) e
+    ∙ ap (λ m. first_occurrence (i + 1) (drop m us) vs) n
 
 not_begun : (vs : List ℕ) (b : Bool) → b ≡ (length vs == 0) → b ≡ false → begins_with [] vs ≡ false
 not_begun [] b e f = cc
@@ -112,8 +116,10 @@ pub indices-step : (ks ns : List (List ℕ)) (vs : List Value) (i : ℕ) (t : Li
 indices-step ks ns vs i t e f h k =
     let m : ns ≡ ks ++ decimal i ∷ [] = e ∙ ap (λ x. ks ++ x ∷ []) f in
     let d : drop i vs ≡ get_or vs i values.Undefined ∷ drop (i + 1) vs = cons_at vs i values.Undefined h in
-    let s : ks ++ indices_from i (drop i vs) ≡ ks ++ (decimal i ∷ indices_from (i + 1) (drop (i + 1) vs)) = ap (λ xs. ks ++ indices_from i xs) d in
-    let j : (ks ++ decimal i ∷ []) ++ indices_from (i + 1) (drop (i + 1) vs) ≡ ks ++ (decimal i ∷ indices_from (i + 1) (drop (i + 1) vs)) = simp append_assoc in
+    let s : ks ++ indices_from i (drop i vs) ≡ ks ++ (decimal i ∷ indices_from (i + 1) (drop (i + 1) vs)) = ap
+    (λ xs. ks ++ indices_from i xs) d in
+    let j : (ks ++ decimal i ∷ []) ++ indices_from (i + 1) (drop (i + 1) vs) ≡ ks ++
+    (decimal i ∷ indices_from (i + 1) (drop (i + 1) vs)) = simp append_assoc in
     ap (λ xs. xs ++ indices_from (i + 1) (drop (i + 1) vs)) m ∙ j ∙ sym s ∙ k
 
 -- ---- joins, as far as they came
@@ -122,16 +128,21 @@ none_of : (o p : Option (List ℕ)) → ((t : List ℕ) → o ≡ Some t → ⊥
 none_of None p h e = e
 none_of (Some t) p h e = absurd (h t refl)
 
-pub part-fails : (w : World) (ts : List (List ℕ)) (vs : List Value) (i : ℕ) (o : Option (List ℕ)) (all : Option (List (List ℕ)))
+pub part-fails : (w : World) (ts : List (List ℕ)) (vs : List Value) (i : ℕ) (o : Option (List ℕ))
+    (all : Option (List (List ℕ)))
     → with_parts ts (joined_parts w (drop i vs)) ≡ all
     → i < length vs
     → o ≡ joined_part w (get_or vs i values.Undefined)
     → ((t : List ℕ) → o ≡ Some t → ⊥)
     → None ≡ all
 part-fails w ts vs i o all h l e n =
-    sym (part-none w ts (get_or vs i values.Undefined) (drop (i + 1) vs) (none_of o (joined_part w (get_or vs i values.Undefined)) n e)) ∙ ap (λ xs. with_parts ts (joined_parts w xs)) (sym (cons_at vs i values.Undefined l)) ∙ h
+    sym (part-none w ts (get_or vs i values.Undefined) (drop (i + 1) vs)
+    (none_of o (joined_part w (get_or vs i values.Undefined)) n e))
+    ∙ ap (λ xs. with_parts ts (joined_parts w xs)) (sym (cons_at vs i values.Undefined l))
+    ∙ h
 
-pub part-goes : (w : World) (ts ns : List (List ℕ)) (t : List ℕ) (vs : List Value) (i : ℕ) (o : Option (List ℕ)) (all : Option (List (List ℕ)))
+pub part-goes : (w : World) (ts ns : List (List ℕ)) (t : List ℕ) (vs : List Value) (i : ℕ) (o : Option (List ℕ))
+    (all : Option (List (List ℕ)))
     → with_parts ts (joined_parts w (drop i vs)) ≡ all
     → i < length vs
     → o ≡ joined_part w (get_or vs i values.Undefined)
@@ -139,13 +150,17 @@ pub part-goes : (w : World) (ts ns : List (List ℕ)) (t : List ℕ) (vs : List 
     → ns ≡ ts ++ t ∷ []
     → with_parts ns (joined_parts w (drop (i + 1) vs)) ≡ all
 part-goes w ts ns t vs i o all h l e n f =
-    ap (λ xs. with_parts xs (joined_parts w (drop (i + 1) vs))) f ∙ part-some w ts t (get_or vs i values.Undefined) (drop (i + 1) vs) (sym n ∙ e) ∙ ap (λ xs. with_parts ts (joined_parts w xs)) (sym (cons_at vs i values.Undefined l)) ∙ h
+    ap (λ xs. with_parts xs (joined_parts w (drop (i + 1) vs))) f
+    ∙ part-some w ts t (get_or vs i values.Undefined) (drop (i + 1) vs) (sym n ∙ e)
+    ∙ ap (λ xs. with_parts ts (joined_parts w xs)) (sym (cons_at vs i values.Undefined l))
+    ∙ h
 
 pub part-ends : (w : World) (ts : List (List ℕ)) (vs : List Value) (i : ℕ) (all : Option (List (List ℕ)))
     → with_parts ts (joined_parts w (drop i vs)) ≡ all
     → length vs ≤ i
     → Some ts ≡ all
-part-ends w ts vs i all h l = sym (parts-all ts) ∙ ap (λ xs. with_parts ts (joined_parts w xs)) (sym (drop_all i vs l)) ∙ h
+part-ends w ts vs i all h l =
+    sym (parts-all ts) ∙ ap (λ xs. with_parts ts (joined_parts w xs)) (sym (drop_all i vs l)) ∙ h
 
 -- ---- keys
 
@@ -170,5 +185,10 @@ pub keys-step : (ks ns : List (List ℕ)) (ps : List Property) (i : ℕ) (o : Op
 keys-step ks ns ps i o e f h k =
     let n : ns ≡ ks ++ key_if (slice_get ps i) = e ∙ ap (λ x. ks ++ key_if x) f in
     let s : suc i ≡ i + 1 = omega arith in
-    let j : (ks ++ key_if (slice_get ps i)) ++ enumerable_keys (drop (suc i) ps) ≡ ks ++ (key_if (slice_get ps i) ++ enumerable_keys (drop (suc i) ps)) = simp append_assoc in
-    ap (λ x. ns ++ enumerable_keys (drop x ps)) (sym s) ∙ ap (λ xs. xs ++ enumerable_keys (drop (suc i) ps)) n ∙ j ∙ ap (λ xs. ks ++ xs) (sym (keys_from ps i h)) ∙ k
+    let j : (ks ++ key_if (slice_get ps i)) ++ enumerable_keys (drop (suc i) ps) ≡ ks ++
+    (key_if (slice_get ps i) ++ enumerable_keys (drop (suc i) ps)) = simp append_assoc in
+    ap (λ x. ns ++ enumerable_keys (drop x ps)) (sym s)
+    ∙ ap (λ xs. xs ++ enumerable_keys (drop (suc i) ps)) n
+    ∙ j
+    ∙ ap (λ xs. ks ++ xs) (sym (keys_from ps i h))
+    ∙ k

@@ -57,7 +57,8 @@ found_is_written name (Some f) v = refl
 pub written-kept : (name : List ℕ) (o : Option FoundSlot) (p : Option Found) (v : Value)
     → kept_slot o ≡ kept_found p
     → slot_written name o v ≡ name_written name p v
-written-kept name o p v e = slot_is_written name o v ∙ ap (λ k. written_kept name v k) e ∙ sym (found_is_written name p v)
+written-kept name o p v e =
+    slot_is_written name o v ∙ ap (λ k. written_kept name v k) e ∙ sym (found_is_written name p v)
 
 type_of_kept : World → List ℕ → Option Kept → Action
 type_of_kept w name None = make_text (codes "undefined") give
@@ -99,6 +100,8 @@ pub constant-fails : (name : List ℕ) (o : Option FoundSlot) (f : FoundSlot) (v
     → Ends (fail classes.TypeError (codes "Assignment to constant variable.")) x e w →
     (s : State) (k : Action) → Stops (with_written (slot_written name o v) k) (with_world s x) e (with_world s w)
 constant-fails name o f v x w e i p q h = λ s k.
-    let r : slot_written name o v ≡ refused classes.TypeError (codes "Assignment to constant variable.") = ap (λ y. slot_written name y v) i ∙ bound_constant name f.constant f.value f.scope v p q in
+    let r : slot_written name o v ≡ refused classes.TypeError (codes "Assignment to constant variable.") = ap
+    (λ y. slot_written name y v) i
+    ∙ bound_constant name f.constant f.value f.scope v p q in
     let P : Written → Type 0 = λ y. Stops (with_written y k) (with_world s x) e (with_world s w) in
     subst P (sym r) (h s)

@@ -51,9 +51,11 @@ deleted_property w _ key = tt
 pub written-property : (w : World) (o : Value) (key : List ℕ) (v : Value) (r : Written)
     → r ≡ property_written w o key v
     → IsOfProperty r
-written-property w o key v r e = let P : Written → Type 0 = λ x. IsOfProperty x in subst P (sym e) (written_property w o key v)
+written-property w o key v r e =
+    let P : Written → Type 0 = λ x. IsOfProperty x in subst P (sym e) (written_property w o key v)
 
 pub deleted-property : (w : World) (o : Value) (key : List ℕ) (r : Written)
     → r ≡ property_deleted w o key
     → IsOfProperty r
-deleted-property w o key r e = let P : Written → Type 0 = λ x. IsOfProperty x in subst P (sym e) (deleted_property w o key)
+deleted-property w o key r e =
+    let P : Written → Type 0 = λ x. IsOfProperty x in subst P (sym e) (deleted_property w o key)

@@ -10,7 +10,8 @@ regroup t s u r = simp append_assoc
 pub between-behind : (separator : List ℕ) (t : List ℕ) (ts : List (List ℕ))
     → between separator (t ∷ ts) ≡ t ++ behind_each separator ts
 between-behind separator t [] = sym (append-nil t)
-between-behind separator t (u ∷ ts) = ap (λ r. t ++ separator ++ r) (between-behind separator u ts) ∙ regroup t separator u (behind_each separator ts)
+between-behind separator t (u ∷ ts) =
+    ap (λ r. t ++ separator ++ r) (between-behind separator u ts) ∙ regroup t separator u (behind_each separator ts)
 
 pub between-first : (separator : List ℕ) (ts : List (List ℕ)) (d : List ℕ)
     → 0 < length ts

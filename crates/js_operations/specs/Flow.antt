@@ -48,7 +48,8 @@ Ends a v e w = (s : State) → Stops a (with_world s v) e (with_world s w)
 
 -- the action goes on with this value in that world, or it ends
 abbrev pub Yields : {A : Type 0} → ((A → Action) → Action) → World → Result A ActionEnd → World → Type 0
-Yields {A} f v (Ok a) w = (s : State) (k : A → Action) → performed (f k) (with_world s v) ≡ performed (k a) (with_world s w)
+Yields {A} f v (Ok a) w =
+    (s : State) (k : A → Action) → performed (f k) (with_world s v) ≡ performed (k a) (with_world s w)
 Yields {A} f v (Err e) w = (s : State) (k : A → Action) → Stops (f k) (with_world s v) e (with_world s w)
 
 -- the same where the continuation takes no value
@@ -79,7 +80,8 @@ answered evaluation (Err r) = Err (stop_of evaluation r)
 
 -- an error is made
 abbrev pub with_error : ErrorClass → List ℕ → (Value → Action) → Action
-with_error class message k = make_text message (λ m. make (cells.Error class (message_property m ∷ [])) (λ e. k (values.Object e)))
+with_error class message k =
+    make_text message (λ m. make (cells.Error class (message_property m ∷ [])) (λ e. k (values.Object e)))
 
 -- a value that is raised, if it was made
 abbrev pub raised_or : Result Value ActionEnd → ActionEnd

@@ -58,7 +58,8 @@ some_by : (Is : List Token → Expression → Type 0) (read : TreeReader)
 some_by Is read reads source e i =
     let r : read (tokens_of source) ≡ Ok e = reads.complete (tokens_of source) e i.0.is i.1 in
     short_some read e source (nat_le (length source) MOST_UNITS) (le-leb (length source) MOST_UNITS i.0.short)
-    (good_some read e (bad_place source) (tokens_of source) i.0.all_good (le-leb (length (tokens_of source)) MOST_TOKENS i.0.few) r)
+    (good_some read e (bad_place source) (tokens_of source) i.0.all_good
+    (le-leb (length (tokens_of source)) MOST_TOKENS i.0.few) r)
 
 -- ---- a source without one
 
@@ -96,7 +97,13 @@ none_by Is read reads source lacks =
     short_none read source (nat_le (length source) MOST_UNITS) (λ short.
     good_none read (bad_place source) (tokens_of source) (λ good few e r.
     let s = reads.sound (tokens_of source) e r in
-    let t : IsTreeOf Is source e = record { short = test_le (length source) MOST_UNITS short; all_good = good; few = test_le (length (tokens_of source)) MOST_TOKENS few; is = s.0 } in
+    let t : IsTreeOf Is source e = record {
+      short = test_le (length source)
+          MOST_UNITS short;
+      all_good = good;
+      few = test_le (length (tokens_of source)) MOST_TOKENS few;
+      is = s.0;
+    } in
     lacks e (t, s.1)))
 
 -- ---- what is answered for a source
@@ -106,11 +113,16 @@ unless_memory : (Is : List Token → Expression → Type 0) (read : TreeReader)
     → (source : List ℕ) (f : ParseFault)
     → ((e : Expression) → IsSource Is height source e → f ≡ faults.Memory)
     → UnlessMemory (tree_by read source ≡ None) f
-unless_memory Is read reads source (faults.TooLong units) only = none_by Is read reads source (λ e i. let m : faults.TooLong units ≡ faults.Memory = only e i in cc)
-unless_memory Is read reads source (faults.Token at) only = none_by Is read reads source (λ e i. let m : faults.Token at ≡ faults.Memory = only e i in cc)
-unless_memory Is read reads source (faults.Syntax at) only = none_by Is read reads source (λ e i. let m : faults.Syntax at ≡ faults.Memory = only e i in cc)
-unless_memory Is read reads source (faults.TooMany at) only = none_by Is read reads source (λ e i. let m : faults.TooMany at ≡ faults.Memory = only e i in cc)
-unless_memory Is read reads source faults.TooDeep only = none_by Is read reads source (λ e i. let m : faults.TooDeep ≡ faults.Memory = only e i in cc)
+unless_memory Is read reads source (faults.TooLong units) only =
+    none_by Is read reads source (λ e i. let m : faults.TooLong units ≡ faults.Memory = only e i in cc)
+unless_memory Is read reads source (faults.Token at) only =
+    none_by Is read reads source (λ e i. let m : faults.Token at ≡ faults.Memory = only e i in cc)
+unless_memory Is read reads source (faults.Syntax at) only =
+    none_by Is read reads source (λ e i. let m : faults.Syntax at ≡ faults.Memory = only e i in cc)
+unless_memory Is read reads source (faults.TooMany at) only =
+    none_by Is read reads source (λ e i. let m : faults.TooMany at ≡ faults.Memory = only e i in cc)
+unless_memory Is read reads source faults.TooDeep only =
+    none_by Is read reads source (λ e i. let m : faults.TooDeep ≡ faults.Memory = only e i in cc)
 unless_memory Is read reads source faults.Memory only = tt
 
 fails_by : {A : Type 0} (Is : List Token → Expression → Type 0) (read : TreeReader)
@@ -122,10 +134,12 @@ fails_by Is read reads source look (Ok x) only = tt
 fails_by Is read reads source look (Err f) only = unless_memory Is read reads source f only
 
 reads_expressions : Reads IsExpression (parse_expression MOST_HEIGHT)
-reads_expressions = record { sound = λ ts e r. expression_read MOST_HEIGHT ts e r; complete = λ ts e i l. expression_again_whole MOST_HEIGHT ts e i l }
+reads_expressions =
+    record { sound = λ ts e r. expression_read MOST_HEIGHT ts e r; complete = λ ts e i l. expression_again_whole MOST_HEIGHT ts e i l }
 
 reads_functions : Reads IsFunction (parse_function MOST_HEIGHT)
-reads_functions = record { sound = λ ts e r. function_read MOST_HEIGHT ts e r; complete = λ ts e i l. function_again_whole MOST_HEIGHT ts e i l }
+reads_functions =
+    record { sound = λ ts e r. function_read MOST_HEIGHT ts e r; complete = λ ts e i l. function_again_whole MOST_HEIGHT ts e i l }
 
 -- the tree of a source
 pub expression_some : (source : List ℕ) (e : Expression)
@@ -145,13 +159,15 @@ pub expression_none : {A : Type 0} (source : List ℕ) (look : A → Expression)
     → ((e : Expression) → IsSource IsExpression height source e → OkOrMemory (λ x. look x ≡ e) answer)
     → IfErr answer (λ f. UnlessMemory (expression_of source ≡ None) f)
 unfolding expression_of
-expression_none source look answer only = fails_by IsExpression (parse_expression MOST_HEIGHT) reads_expressions source look answer only
+expression_none source look answer only =
+    fails_by IsExpression (parse_expression MOST_HEIGHT) reads_expressions source look answer only
 
 pub function_none : {A : Type 0} (source : List ℕ) (look : A → Expression) (answer : Result A ParseFault)
     → ((e : Expression) → IsSource IsFunction height source e → OkOrMemory (λ x. look x ≡ e) answer)
     → IfErr answer (λ f. UnlessMemory (function_of source ≡ None) f)
 unfolding function_of
-function_none source look answer only = fails_by IsFunction (parse_function MOST_HEIGHT) reads_functions source look answer only
+function_none source look answer only =
+    fails_by IsFunction (parse_function MOST_HEIGHT) reads_functions source look answer only
 
 -- ---- the tree that a source has by definition
 
@@ -179,7 +195,8 @@ record IsGood (read : TreeReader) (bad : Option ℕ) (ts : List Token) (e : Expr
 good_is : (read : TreeReader) (e : Expression) (bad : Option ℕ) (ts : List Token)
     → tree_of_tokens read bad ts ≡ Some e
     → IsGood read bad ts e
-good_is read e None ts is = record { good = refl; tokens = tokens_are read e ts (nat_le (length ts) MOST_TOKENS) refl is }
+good_is read e None ts is =
+    record { good = refl; tokens = tokens_are read e ts (nat_le (length ts) MOST_TOKENS) refl is }
 good_is read e (Some at) ts is = absurd cc
 
 short_is : (Is : List Token → Expression → Type 0) (read : TreeReader)
@@ -189,9 +206,17 @@ short_is : (Is : List Token → Expression → Type 0) (read : TreeReader)
     → (if short then tree_of_tokens read (bad_place source) (tokens_of source) else None) ≡ Some e
     → IsSource Is height source e
 short_is Is read reads source e true short is =
-    let g : IsGood read (bad_place source) (tokens_of source) e = good_is read e (bad_place source) (tokens_of source) is in
+    let g : IsGood read (bad_place source) (tokens_of source) e = good_is read e (bad_place source) (tokens_of source)
+    is in
     let s = reads.sound (tokens_of source) e g.tokens.is in
-    let t : IsTreeOf Is source e = record { short = test_le (length source) MOST_UNITS short; all_good = g.good; few = test_le (length (tokens_of source)) MOST_TOKENS g.tokens.few; is = s.0 } in
+    let t : IsTreeOf Is source e = record {
+      short = test_le (length source)
+          MOST_UNITS short;
+      all_good = g.good;
+      few = test_le (length (tokens_of source))
+          MOST_TOKENS g.tokens.few;
+      is = s.0;
+    } in
     (t, s.1)
 short_is Is read reads source e false short is = absurd cc
 
@@ -199,11 +224,15 @@ pub expression_is : (source : List ℕ) (e : Expression)
     → expression_of source ≡ Some e
     → IsSource IsExpression height source e
 unfolding expression_of
-expression_is source e is = short_is IsExpression (parse_expression MOST_HEIGHT) reads_expressions source e (nat_le (length source) MOST_UNITS) refl is
+expression_is source e is =
+    short_is IsExpression (parse_expression MOST_HEIGHT) reads_expressions source e (nat_le (length source) MOST_UNITS)
+    refl is
 
 pub function_is : (source : List ℕ) (e : Expression) → function_of source ≡ Some e → IsSource IsFunction height source e
 unfolding function_of
-function_is source e is = short_is IsFunction (parse_function MOST_HEIGHT) reads_functions source e (nat_le (length source) MOST_UNITS) refl is
+function_is source e is =
+    short_is IsFunction (parse_function MOST_HEIGHT) reads_functions source e (nat_le (length source) MOST_UNITS)
+    refl is
 
 -- a source that has no tree
 pub expression_lacks : (source : List ℕ)

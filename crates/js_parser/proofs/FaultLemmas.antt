@@ -36,7 +36,12 @@ goes_on (x ∷ a) b (y ∷ c) d p le =
     let heads : x ≡ y = cc in
     let tails : a ++ b ≡ c ++ d = cc in
     let g : GoesOn a b c d = goes_on a b c d tails (omega arith) in
-    record { middle = g.middle; front = ap (λ (c : List Token). y ∷ c) g.front ∙ ap (λ (z : Token). z ∷ (a ++ g.middle)) (sym heads); back = g.back }
+    record {
+      middle = g.middle;
+      front = ap (λ (c : List Token). y ∷ c) g.front
+          ∙ ap (λ (z : Token). z ∷ (a ++ g.middle)) (sym heads);
+      back = g.back;
+    }
 
 -- past the place where the language is left no tokens begin it
 left_by : {Tree : Type 0} (Is : List Token → Tree → Type 0) (before left middle d : List Token)
@@ -48,7 +53,8 @@ left_by : {Tree : Type 0} (Is : List Token → Tree → Type 0) (before left mid
 left_by Is before left [] d p some leaves b = absurd (omega arith)
 left_by Is before left (t ∷ middle) d p some leaves b =
     let l : Begins Is (before ++ t ∷ []) → ⊥ = subst (λ (left : List Token). Leaves Is before left) p leaves in
-    l (begins_before Is (before ++ t ∷ []) middle (subst (λ (ts : List Token). Begins Is ts) (sym (append_assoc before (t ∷ []) middle)) b))
+    l (begins_before Is (before ++ t ∷ []) middle
+    (subst (λ (ts : List Token). Begins Is ts) (sym (append_assoc before (t ∷ []) middle)) b))
 
 pub past : {Tree : Type 0} (Is : List Token → Tree → Type 0) (before left c d : List Token)
     → before ++ left ≡ c ++ d
@@ -58,7 +64,9 @@ pub past : {Tree : Type 0} (Is : List Token → Tree → Type 0) (before left c 
     → ⊥
 past Is before left c d p less leaves b =
     let g : GoesOn before left c d = goes_on before left c d p (omega arith) in
-    left_by Is before left g.middle d g.back (omega (arith, ap (λ (ts : List Token). length ts) g.front, length-append before g.middle)) leaves (subst (λ (ts : List Token). Begins Is ts) g.front b)
+    left_by Is before left g.middle d g.back
+    (omega (arith, ap (λ (ts : List Token). length ts) g.front, length-append before g.middle)) leaves
+    (subst (λ (ts : List Token). Begins Is ts) g.front b)
 
 -- ---- two faults
 
@@ -90,7 +98,8 @@ syntax_once Is source a b f g =
 
 pub many_once : (source : List ℕ) (a b : ℕ) → PassesLimit source a → PassesLimit source b → a ≡ b
 many_once source a b f g =
-    let e : f.next ∷ f.left ≡ g.next ∷ g.left = same_parts f.before (f.next ∷ f.left) g.before (g.next ∷ g.left) (sym f.parts ∙ g.parts) (f.counted ∙ sym g.counted) in
+    let e : f.next ∷ f.left ≡ g.next ∷ g.left = same_parts f.before (f.next ∷ f.left) g.before (g.next ∷ g.left)
+    (sym f.parts ∙ g.parts) (f.counted ∙ sym g.counted) in
     let n : f.next ≡ g.next = cc in
     f.place ∙ ap (λ (t : Token). t.start) n ∙ sym g.place
 
@@ -100,9 +109,11 @@ bad_syntax_by : {Tree : Type 0} (Is : List Token → Tree → Type 0) (source : 
     → Leaves Is before left
     → HasBadToken Is source a
     → ⊥
-bad_syntax_by Is source a b before [] p place leaves f = let e : bad_place source ≡ None = place.0 in let s : bad_place source ≡ Some a = f.0 in absurd cc
+bad_syntax_by Is source a b before [] p place leaves f =
+    let e : bad_place source ≡ None = place.0 in let s : bad_place source ≡ Some a = f.0 in absurd cc
 bad_syntax_by Is source a b before (t ∷ left) p place leaves f =
-    past Is before (t ∷ left) (tokens_of source) [] (sym p ∙ sym (append-nil (tokens_of source))) (omega (arith, ap (λ (ts : List Token). length ts) p, length-append before (t ∷ left))) leaves f.2
+    past Is before (t ∷ left) (tokens_of source) [] (sym p ∙ sym (append-nil (tokens_of source)))
+    (omega (arith, ap (λ (ts : List Token). length ts) p, length-append before (t ∷ left))) leaves f.2
 
 pub bad_syntax : {Tree : Type 0} (Is : List Token → Tree → Type 0) (source : List ℕ) (a b : ℕ)
     → HasBadToken Is source a
@@ -114,14 +125,17 @@ pub bad_many : {Tree : Type 0} (Is : List Token → Tree → Type 0) (source : L
     → HasBadToken Is source a
     → PassesLimit source b
     → ⊥
-bad_many Is source a b f g = omega (arith, f.1, ap (λ (ts : List Token). length ts) g.parts, length-append g.before (g.next ∷ g.left), g.counted)
+bad_many Is source a b f g =
+    omega (arith, f.1, ap (λ (ts : List Token). length ts) g.parts, length-append g.before (g.next ∷ g.left), g.counted)
 
 syntax_many : {Tree : Type 0} (Is : List Token → Tree → Type 0) (source : List ℕ) (a b : ℕ)
     → HasSyntaxFault Is source a
     → HasTooMany Is source b
     → ⊥
 syntax_many Is source a b f g =
-    past Is f.0.before f.0.left (g.0.before ++ g.0.next ∷ []) g.0.left (sym f.0.parts ∙ g.0.parts ∙ sym (append_assoc g.0.before (g.0.next ∷ []) g.0.left)) (omega (arith, f.1, g.0.counted, length-append g.0.before (g.0.next ∷ []))) f.0.leaves g.1
+    past Is f.0.before f.0.left (g.0.before ++ g.0.next ∷ []) g.0.left
+    (sym f.0.parts ∙ g.0.parts ∙ sym (append_assoc g.0.before (g.0.next ∷ []) g.0.left))
+    (omega (arith, f.1, g.0.counted, length-append g.0.before (g.0.next ∷ []))) f.0.leaves g.1
 
 pub some_is : (a b : ℕ) (o : Option ℕ) → o ≡ Some a → o ≡ Some b → a ≡ b
 some_is a b o p q = cc
@@ -133,7 +147,8 @@ not_in : {Tree : Type 0} (Is : List Token → Tree → Type 0) (before left : Li
     → Is (before ++ left) t
     → ⊥
 not_in Is before [] t leaves i = leaves (t, subst (λ (ts : List Token). Is ts t) (append-nil before) i)
-not_in Is before (x ∷ left) t leaves i = leaves (left, (t, subst (λ (ts : List Token). Is ts t) (sym (append_assoc before (x ∷ []) left)) i))
+not_in Is before (x ∷ left) t leaves i =
+    leaves (left, (t, subst (λ (ts : List Token). Is ts t) (sym (append_assoc before (x ∷ []) left)) i))
 
 -- Where tokens have a tree within the limits of length and of tokens, no fault stands at a place, and the source isn't too long.
 abbrev pub IsPlaced : ParseFault → Type 0
@@ -141,48 +156,71 @@ IsPlaced faults.TooDeep = ⊥
 IsPlaced faults.Memory = ⊥
 IsPlaced f = Unit {0}
 
-pub no_tree : {Tree : Type 0} (Is : List Token → Tree → Type 0) (height_of : Tree → ℕ) (source : List ℕ) (f : ParseFault)
+pub no_tree : {Tree : Type 0} (Is : List Token → Tree → Type 0) (height_of : Tree → ℕ) (source : List ℕ)
+    (f : ParseFault)
     → IsPlaced f
     → Stands Is height_of source f
     → (t : Tree)
     → IsTreeOf Is source t
     → ⊥
 no_tree Is height_of source (faults.TooLong units) p s t h = omega (arith, s.0, h.short)
-no_tree Is height_of source (faults.Token at) p s t h = let e : bad_place source ≡ Some at = s.1.0 in let n : bad_place source ≡ None = h.all_good in absurd cc
-no_tree Is height_of source (faults.Syntax at) p s t h = not_in Is s.1.0.before s.1.0.left t s.1.0.leaves (subst (λ (ts : List Token). Is ts t) s.1.0.parts h.is)
-no_tree Is height_of source (faults.TooMany at) p s t h = omega (arith, h.few, ap (λ (ts : List Token). length ts) s.1.0.parts, length-append s.1.0.before (s.1.0.next ∷ s.1.0.left), s.1.0.counted)
+no_tree Is height_of source (faults.Token at) p s t h =
+    let e : bad_place source ≡ Some at = s.1.0 in let n : bad_place source ≡ None = h.all_good in absurd cc
+no_tree Is height_of source (faults.Syntax at) p s t h =
+    not_in Is s.1.0.before s.1.0.left t s.1.0.leaves (subst (λ (ts : List Token). Is ts t) s.1.0.parts h.is)
+no_tree Is height_of source (faults.TooMany at) p s t h =
+    omega (
+      arith,
+      h.few,
+      ap (λ (ts : List Token). length ts) s.1.0.parts,
+      length-append s.1.0.before (s.1.0.next ∷ s.1.0.left),
+      s.1.0.counted,
+    )
 no_tree Is height_of source faults.TooDeep p s t h = absurd p
 no_tree Is height_of source faults.Memory p s t h = absurd p
 
 -- At most one fault stands in a source.
-pub one_fault : {Tree : Type 0} (Is : List Token → Tree → Type 0) (height_of : Tree → ℕ) (source : List ℕ) (f g : ParseFault)
+pub one_fault : {Tree : Type 0} (Is : List Token → Tree → Type 0) (height_of : Tree → ℕ) (source : List ℕ)
+    (f g : ParseFault)
     → Stands Is height_of source f
     → Stands Is height_of source g
     → f ≡ g
-one_fault Is height_of source (faults.TooLong a) (faults.TooLong b) p q = ap (λ (n : ℕ). faults.TooLong n) (p.1 ∙ sym q.1)
+one_fault Is height_of source (faults.TooLong a) (faults.TooLong b) p q =
+    ap (λ (n : ℕ). faults.TooLong n) (p.1 ∙ sym q.1)
 one_fault Is height_of source (faults.TooLong a) (faults.Token b) p q = absurd (omega (arith, p.0, q.0))
 one_fault Is height_of source (faults.TooLong a) (faults.Syntax b) p q = absurd (omega (arith, p.0, q.0))
 one_fault Is height_of source (faults.TooLong a) (faults.TooMany b) p q = absurd (omega (arith, p.0, q.0))
-one_fault Is height_of source (faults.TooLong a) faults.TooDeep p q = absurd (no_tree Is height_of source (faults.TooLong a) tt p q.0 q.1.0)
+one_fault Is height_of source (faults.TooLong a) faults.TooDeep p q =
+    absurd (no_tree Is height_of source (faults.TooLong a) tt p q.0 q.1.0)
 one_fault Is height_of source (faults.Token a) (faults.TooLong b) p q = absurd (omega (arith, p.0, q.0))
-one_fault Is height_of source (faults.Token a) (faults.Token b) p q = ap (λ (n : ℕ). faults.Token n) (some_is a b (bad_place source) p.1.0 q.1.0)
+one_fault Is height_of source (faults.Token a) (faults.Token b) p q =
+    ap (λ (n : ℕ). faults.Token n) (some_is a b (bad_place source) p.1.0 q.1.0)
 one_fault Is height_of source (faults.Token a) (faults.Syntax b) p q = absurd (bad_syntax Is source a b p.1 q.1.0)
 one_fault Is height_of source (faults.Token a) (faults.TooMany b) p q = absurd (bad_many Is source a b p.1 q.1.0)
-one_fault Is height_of source (faults.Token a) faults.TooDeep p q = absurd (no_tree Is height_of source (faults.Token a) tt p q.0 q.1.0)
+one_fault Is height_of source (faults.Token a) faults.TooDeep p q =
+    absurd (no_tree Is height_of source (faults.Token a) tt p q.0 q.1.0)
 one_fault Is height_of source (faults.Syntax a) (faults.TooLong b) p q = absurd (omega (arith, p.0, q.0))
 one_fault Is height_of source (faults.Syntax a) (faults.Token b) p q = absurd (bad_syntax Is source b a q.1 p.1.0)
-one_fault Is height_of source (faults.Syntax a) (faults.Syntax b) p q = ap (λ (n : ℕ). faults.Syntax n) (syntax_once Is source a b p.1.0 q.1.0)
+one_fault Is height_of source (faults.Syntax a) (faults.Syntax b) p q =
+    ap (λ (n : ℕ). faults.Syntax n) (syntax_once Is source a b p.1.0 q.1.0)
 one_fault Is height_of source (faults.Syntax a) (faults.TooMany b) p q = absurd (syntax_many Is source a b p.1 q.1)
-one_fault Is height_of source (faults.Syntax a) faults.TooDeep p q = absurd (no_tree Is height_of source (faults.Syntax a) tt p q.0 q.1.0)
+one_fault Is height_of source (faults.Syntax a) faults.TooDeep p q =
+    absurd (no_tree Is height_of source (faults.Syntax a) tt p q.0 q.1.0)
 one_fault Is height_of source (faults.TooMany a) (faults.TooLong b) p q = absurd (omega (arith, p.0, q.0))
 one_fault Is height_of source (faults.TooMany a) (faults.Token b) p q = absurd (bad_many Is source b a q.1 p.1.0)
 one_fault Is height_of source (faults.TooMany a) (faults.Syntax b) p q = absurd (syntax_many Is source b a q.1 p.1)
-one_fault Is height_of source (faults.TooMany a) (faults.TooMany b) p q = ap (λ (n : ℕ). faults.TooMany n) (many_once source a b p.1.0 q.1.0)
-one_fault Is height_of source (faults.TooMany a) faults.TooDeep p q = absurd (no_tree Is height_of source (faults.TooMany a) tt p q.0 q.1.0)
-one_fault Is height_of source faults.TooDeep (faults.TooLong b) p q = absurd (no_tree Is height_of source (faults.TooLong b) tt q p.0 p.1.0)
-one_fault Is height_of source faults.TooDeep (faults.Token b) p q = absurd (no_tree Is height_of source (faults.Token b) tt q p.0 p.1.0)
-one_fault Is height_of source faults.TooDeep (faults.Syntax b) p q = absurd (no_tree Is height_of source (faults.Syntax b) tt q p.0 p.1.0)
-one_fault Is height_of source faults.TooDeep (faults.TooMany b) p q = absurd (no_tree Is height_of source (faults.TooMany b) tt q p.0 p.1.0)
+one_fault Is height_of source (faults.TooMany a) (faults.TooMany b) p q =
+    ap (λ (n : ℕ). faults.TooMany n) (many_once source a b p.1.0 q.1.0)
+one_fault Is height_of source (faults.TooMany a) faults.TooDeep p q =
+    absurd (no_tree Is height_of source (faults.TooMany a) tt p q.0 q.1.0)
+one_fault Is height_of source faults.TooDeep (faults.TooLong b) p q =
+    absurd (no_tree Is height_of source (faults.TooLong b) tt q p.0 p.1.0)
+one_fault Is height_of source faults.TooDeep (faults.Token b) p q =
+    absurd (no_tree Is height_of source (faults.Token b) tt q p.0 p.1.0)
+one_fault Is height_of source faults.TooDeep (faults.Syntax b) p q =
+    absurd (no_tree Is height_of source (faults.Syntax b) tt q p.0 p.1.0)
+one_fault Is height_of source faults.TooDeep (faults.TooMany b) p q =
+    absurd (no_tree Is height_of source (faults.TooMany b) tt q p.0 p.1.0)
 one_fault Is height_of source faults.TooDeep faults.TooDeep p q = refl
 one_fault Is height_of source faults.Memory g p q = absurd p
 one_fault Is height_of source f faults.Memory p q = absurd q

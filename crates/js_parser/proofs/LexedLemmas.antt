@@ -28,7 +28,8 @@ abbrev pub lent : lexer.Token → Lent
 lent t = record { kind = t.kind; text = t.text.now; start = t.start; newline_before = t.newline_before }
 
 regroup : (ts : List lexer.Token) (t : lexer.Token) (l : Lexed)
-    → with_front (tokens_view ts) (record { tokens = lent_view (lent t) ∷ l.tokens; stop = l.stop }) ≡ with_front (tokens_view (ts ++ t ∷ [])) l
+    → with_front (tokens_view ts) (record { tokens = lent_view (lent t) ∷ l.tokens; stop = l.stop }) ≡ with_front
+    (tokens_view (ts ++ t ∷ [])) l
 regroup ts t l = ap (λ (us : List Token). record { tokens = us; stop = l.stop }) (moves ts)
   where
     moves : (ts : List lexer.Token)
@@ -51,5 +52,8 @@ one_more all ts t left rest r e n = by_room r.room r.fits r.same
     by_room (suc k) f s = record {
       room = k;
       fits = omega (arith, length-append ts (t ∷ []));
-      same = s ∙ ap (λ (is : List (Result Lent ℕ)). with_front (tokens_view ts) (lexed (suc k) is)) e ∙ regroup ts t (lexed k rest);
+      same =
+          s
+          ∙ ap (λ (is : List (Result Lent ℕ)). with_front (tokens_view ts) (lexed (suc k) is)) e
+          ∙ regroup ts t (lexed k rest);
     }

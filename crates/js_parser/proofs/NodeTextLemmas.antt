@@ -30,7 +30,8 @@ pub text_found : (source : List ℕ) (e : Expr) (spans : List Span) (node : ℕ)
 unfolding node_text
 text_found source e spans node is stand numbered =
     ap (λ (s : Span). units_in s source) (span_found spans e (tokens_of source) stand numbered node)
-    ∙ ap (λ (ps : List Place). units_in (node_span node ps (tokens_of source)) source) (sym (placed_same e (length spans) numbered))
+    ∙ ap (λ (ps : List Place). units_in (node_span node ps (tokens_of source)) source)
+    (sym (placed_same e (length spans) numbered))
     ∙ ap (λ (t : Option Expression). node_units t source node) (sym (expression_some source (expression_view e) is))
 
 -- of a source without one
@@ -51,7 +52,9 @@ pub text_refused : {A : Type 0} (source : List ℕ) (node : ℕ) (look : A → E
     → ((e : Expression) → IsSource IsExpression height source e → OkOrMemory {A = A} (λ x. look x ≡ e) (Err f))
     → lacks_memory f ≡ false
     → [] ≡ node_text source node
-text_refused {A} source node look f only some = text_none source node (unless_lacking (expression_of source ≡ None) f (expression_none {A = A} source look (Err f) only) some)
+text_refused {A} source node look f only some =
+    text_none source node
+    (unless_lacking (expression_of source ≡ None) f (expression_none {A = A} source look (Err f) only) some)
 
 -- ---- functions are expressions
 

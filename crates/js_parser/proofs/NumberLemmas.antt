@@ -24,7 +24,8 @@ one_by_one first next k (opens n ∷ ps) h e = one_by_one first next k ps h e
 one_by_one first next zero (closes n ∷ ps) h e = absurd (omega (arith, no_lower (suc first) next ps h.1, e))
 one_by_one first next (suc k) (closes n ∷ ps) h e =
     let on : suc first ≡ first + 1 = omega arith in
-    rw h.0 (ap (λ (ns : List ℕ). first ∷ ns) (subst (λ m. numbers_of ps ≡ range_with_len m k) on (one_by_one (suc first) next k ps h.1 (omega (arith, e)))))
+    rw h.0 (ap (λ (ns : List ℕ). first ∷ ns)
+    (subst (λ m. numbers_of ps ≡ range_with_len m k) on (one_by_one (suc first) next k ps h.1 (omega (arith, e)))))
 
 -- where there was no node before
 pub from_zero : (old new : List Span) (ps : List Place) (count : ℕ)

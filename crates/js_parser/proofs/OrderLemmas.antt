@@ -17,7 +17,8 @@ syntax_bad_by : (source : List ℕ) (a b : ℕ) (before left : List Token)
     → bad_place source ≡ Some b
     → a < b
 syntax_bad_by source a b before [] p place q = let e : bad_place source ≡ None = place.0 in absurd cc
-syntax_bad_by source a b before (t ∷ left) p place q = let l = token_before_bad source before t left p b q in omega (arith, place, l)
+syntax_bad_by source a b before (t ∷ left) p place q =
+    let l = token_before_bad source before t left p b q in omega (arith, place, l)
 
 -- between the place where the language is left and the token that is one too many
 syntax_many_by : (source : List ℕ) (a b : ℕ) (before left middle : List Token) (next : Token) (after : List Token)
@@ -39,7 +40,8 @@ syntax_many_first : {Tree : Type 0} (Is : List Token → Tree → Type 0) (sourc
     → PassesLimit source b
     → IsNoLater a 1 b 2
 syntax_many_first Is source a b f g =
-    let m : GoesOn f.0.before f.0.left g.before (g.next ∷ g.left) = goes_on f.0.before f.0.left g.before (g.next ∷ g.left) (sym f.0.parts ∙ g.parts) (omega (arith, f.1, g.counted)) in
+    let m : GoesOn f.0.before f.0.left g.before (g.next ∷ g.left) = goes_on f.0.before f.0.left g.before
+    (g.next ∷ g.left) (sym f.0.parts ∙ g.parts) (omega (arith, f.1, g.counted)) in
     syntax_many_by source a b f.0.before f.0.left m.middle g.next g.left f.0.parts m.back f.0.place g.place
 
 -- ---- one token is too many
@@ -49,8 +51,10 @@ many_syntax_by : (source : List ℕ) (a b : ℕ) (before : List Token) (next : T
     → a ≡ next.start
     → IsPlace source left b
     → a < b
-many_syntax_by source a b before next middle [] p e place = let l = token_in source before next (middle ++ []) p in omega (arith, e, place.1, l)
-many_syntax_by source a b before next middle (u ∷ left) p e place = let l = token_before source before next middle u left p in omega (arith, e, place, l)
+many_syntax_by source a b before next middle [] p e place =
+    let l = token_in source before next (middle ++ []) p in omega (arith, e, place.1, l)
+many_syntax_by source a b before next middle (u ∷ left) p e place =
+    let l = token_before source before next middle u left p in omega (arith, e, place, l)
 
 many_syntax_first : {Tree : Type 0} (Is : List Token → Tree → Type 0) (source : List ℕ) (a b : ℕ)
     → HasTooMany Is source a
@@ -58,34 +62,42 @@ many_syntax_first : {Tree : Type 0} (Is : List Token → Tree → Type 0) (sourc
     → a < b
 many_syntax_first Is source a b f g =
     let through : List Token = f.0.before ++ f.0.next ∷ [] in
-    let same : through ++ f.0.left ≡ g.before ++ g.left = append_assoc f.0.before (f.0.next ∷ []) f.0.left ∙ sym f.0.parts ∙ g.parts in
+    let same : through ++ f.0.left ≡ g.before ++ g.left = append_assoc f.0.before (f.0.next ∷ []) f.0.left
+    ∙ sym f.0.parts
+    ∙ g.parts in
     elim (cases_lt (length g.before) (length through)) [
       | inl less ↦ absurd (past Is g.before g.left through f.0.left (sym same) less g.leaves f.1)
       | inr more ↦
           let m : GoesOn through f.0.left g.before g.left = goes_on through f.0.left g.before g.left same more in
-          many_syntax_by source a b f.0.before f.0.next m.middle g.left (f.0.parts ∙ ap (λ (left : List Token). f.0.before ++ f.0.next ∷ left) m.back) f.0.place g.place
+          many_syntax_by source a b f.0.before f.0.next m.middle g.left
+          (f.0.parts ∙ ap (λ (left : List Token). f.0.before ++ f.0.next ∷ left) m.back) f.0.place g.place
     ]
 
 -- ---- any two
 
-pub comes_first : {Tree : Type 0} (Is : List Token → Tree → Type 0) (height_of : Tree → ℕ) (source : List ℕ) (f g : ParseFault)
+pub comes_first : {Tree : Type 0} (Is : List Token → Tree → Type 0) (height_of : Tree → ℕ) (source : List ℕ)
+    (f g : ParseFault)
     → Stands Is height_of source f
     → IsCause Is source g
     → ComesFirst f g
 comes_first Is height_of source f (faults.TooLong units) s c = absurd c
 comes_first Is height_of source f faults.TooDeep s c = absurd c
 comes_first Is height_of source f faults.Memory s c = absurd c
-comes_first Is height_of source (faults.Token a) (faults.Token b) s c = inr (some_is a b (bad_place source) s.1.0 c, omega arith)
+comes_first Is height_of source (faults.Token a) (faults.Token b) s c =
+    inr (some_is a b (bad_place source) s.1.0 c, omega arith)
 comes_first Is height_of source (faults.Token a) (faults.Syntax b) s c = absurd (bad_syntax Is source a b s.1 c)
 comes_first Is height_of source (faults.Token a) (faults.TooMany b) s c = absurd (bad_many Is source a b s.1 c)
-comes_first Is height_of source (faults.Syntax a) (faults.Token b) s c = inl (syntax_bad_by source a b s.1.0.before s.1.0.left s.1.0.parts s.1.0.place c)
-comes_first Is height_of source (faults.Syntax a) (faults.Syntax b) s c = inr (syntax_once Is source a b s.1.0 c, omega arith)
+comes_first Is height_of source (faults.Syntax a) (faults.Token b) s c =
+    inl (syntax_bad_by source a b s.1.0.before s.1.0.left s.1.0.parts s.1.0.place c)
+comes_first Is height_of source (faults.Syntax a) (faults.Syntax b) s c =
+    inr (syntax_once Is source a b s.1.0 c, omega arith)
 comes_first Is height_of source (faults.Syntax a) (faults.TooMany b) s c = syntax_many_first Is source a b s.1 c
 comes_first Is height_of source (faults.TooMany a) (faults.Token b) s c =
     let l = token_before_bad source s.1.0.before s.1.0.next s.1.0.left s.1.0.parts b c in
     inl (omega (arith, s.1.0.place, l))
 comes_first Is height_of source (faults.TooMany a) (faults.Syntax b) s c = inl (many_syntax_first Is source a b s.1 c)
-comes_first Is height_of source (faults.TooMany a) (faults.TooMany b) s c = inr (many_once source a b s.1.0 c, omega arith)
+comes_first Is height_of source (faults.TooMany a) (faults.TooMany b) s c =
+    inr (many_once source a b s.1.0 c, omega arith)
 comes_first Is height_of source (faults.TooLong units) g s c = tt
 comes_first Is height_of source faults.TooDeep g s c = tt
 comes_first Is height_of source faults.Memory g s c = tt

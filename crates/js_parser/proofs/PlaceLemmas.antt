@@ -27,8 +27,12 @@ by_token : (n at end : ℕ) (here : List ℕ) (newline : Bool) (o : Option (Toke
     → ((a : ℕ) (us : List ℕ) → end ≡ a + length us → Rise a end (items n a us))
     → Rise at end (item_by (λ a r. items n a r) at newline here o)
 by_token n at end here newline (Some t) e h go =
-    let l = longest_here here t.0 t.1 e in
-    (omega arith, omega (arith, h, l.0, l.1), lower (at + t.1) (suc at) end (items n (at + t.1) (drop t.1 here)) (omega (arith, l.1)) (go (at + t.1) (drop t.1 here) (omega (arith, h, l.0, length-drop t.1 here))))
+    let l = longest_here here t.0 t.1 e in (
+      omega arith,
+      omega (arith, h, l.0, l.1),
+      lower (at + t.1) (suc at) end (items n (at + t.1) (drop t.1 here)) (omega (arith, l.1))
+          (go (at + t.1) (drop t.1 here) (omega (arith, h, l.0, length-drop t.1 here))),
+    )
 by_token n at end [] newline None e h go = tt
 by_token n at end (u ∷ us) newline None e h go = (omega arith, omega (arith, h))
 
@@ -37,8 +41,12 @@ unfolding items
 rise zero at end us h = tt
 rise (suc n) at end us h =
     let gap = gap_len us in
-    lower (at + gap) at end (item_by (λ a r. items n a r) (at + gap) (has_line_terminator (take gap us)) (drop gap us) (token_at (drop gap us))) (omega arith)
-    (by_token n (at + gap) end (drop gap us) (has_line_terminator (take gap us)) (token_at (drop gap us)) refl (omega (arith, h, gap_within us, length-drop gap us)) (λ a r e. rise n a end r e))
+    lower (at + gap) at end
+    (item_by (λ a r. items n a r) (at + gap) (has_line_terminator (take gap us)) (drop gap us)
+    (token_at (drop gap us)))
+    (omega arith)
+    (by_token n (at + gap) end (drop gap us) (has_line_terminator (take gap us)) (token_at (drop gap us)) refl
+    (omega (arith, h, gap_within us, length-drop gap us)) (λ a r e. rise n a end r e))
 
 rises : (source : List ℕ) → Rise 0 (length source) (items_of source)
 rises source = rise (suc (length source)) 0 (length source) source (omega arith)
@@ -72,8 +80,10 @@ bad_between : (low end : ℕ) (is : List (Result Lent ℕ))
     → bad_in is ≡ Some at
     → Between low at end
 bad_between low end [] r at p = absurd cc
-bad_between low end (Err b ∷ is) r at p = let e : b ≡ at = cc in record { above = omega (arith, r.0, e); below = omega (arith, r.1, e) }
-bad_between low end (Ok s ∷ is) r at p = let b = bad_between (suc s.start) end is r.2 at p in record { above = omega (arith, r.0, b.above); below = b.below }
+bad_between low end (Err b ∷ is) r at p =
+    let e : b ≡ at = cc in record { above = omega (arith, r.0, e); below = omega (arith, r.1, e) }
+bad_between low end (Ok s ∷ is) r at p =
+    let b = bad_between (suc s.start) end is r.2 at p in record { above = omega (arith, r.0, b.above); below = b.below }
 
 -- a token begins before those behind it
 rise_on : (low end : ℕ) (is : List (Result Lent ℕ))
@@ -121,17 +131,20 @@ pub token_in : (source : List ℕ) (before : List Token) (t : Token) (left : Lis
     → t.start < length source
 token_in source before t left p = (between 0 (length source) (items_of source) (rises source) before t left p).below
 
-pub token_before : (source : List ℕ) (before : List Token) (t : Token) (middle : List Token) (u : Token) (left : List Token)
+pub token_before : (source : List ℕ) (before : List Token) (t : Token) (middle : List Token) (u : Token)
+    (left : List Token)
     → tokens_of source ≡ before ++ t ∷ (middle ++ u ∷ left)
     → t.start < u.start
-token_before source before t middle u left p = rise_on 0 (length source) (items_of source) (rises source) before t middle u left p
+token_before source before t middle u left p =
+    rise_on 0 (length source) (items_of source) (rises source) before t middle u left p
 
 pub token_before_bad : (source : List ℕ) (before : List Token) (t : Token) (left : List Token)
     → tokens_of source ≡ before ++ t ∷ left
     → (at : ℕ)
     → bad_place source ≡ Some at
     → t.start < at
-token_before_bad source before t left p at q = bad_on 0 (length source) (items_of source) (rises source) before t left p at q
+token_before_bad source before t left p at q =
+    bad_on 0 (length source) (items_of source) (rises source) before t left p at q
 
 pub bad_within : (source : List ℕ) (at : ℕ) → bad_place source ≡ Some at → at < length source
 bad_within source at p = (bad_between 0 (length source) (items_of source) (rises source) at p).below

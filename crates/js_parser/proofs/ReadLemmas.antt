@@ -43,8 +43,10 @@ pub is_read : (n : ℕ) (is : List (Result Lent ℕ))
     → IsRead n (tokens_in is) (bad_in is) (lexed n is).tokens (lexed n is).stop
 is_read n [] = (refl, refl, omega arith)
 is_read n (Err at ∷ is) = (refl, refl, omega arith)
-is_read zero (Ok t ∷ is) = record { before = []; next = lent_view t; left = tokens_in is; parts = refl; taken = refl; place = refl; counted = refl }
-is_read (suc n) (Ok t ∷ is) = with_one (lent_view t) n (tokens_in is) (bad_in is) (lexed n is).tokens (lexed n is).stop (is_read n is)
+is_read zero (Ok t ∷ is) =
+    record { before = []; next = lent_view t; left = tokens_in is; parts = refl; taken = refl; place = refl; counted = refl }
+is_read (suc n) (Ok t ∷ is) =
+    with_one (lent_view t) n (tokens_in is) (bad_in is) (lexed n is).tokens (lexed n is).stop (is_read n is)
 
 -- what is read of a source
 abbrev pub IsReadOf : List ℕ → List Token → Option Stop → Type 0
@@ -62,11 +64,24 @@ pub record AreFirst (n : ℕ) (all read : List Token) : Type 0 where
 pub are_first : (n : ℕ) (all : List Token) (place : Option ℕ) (read : List Token) (stop : Option Stop)
     → IsRead n all place read stop
     → AreFirst n all read
-are_first n all place read None r = record { left = []; parts = sym r.0 ∙ sym (append-nil read); few = omega (arith, r.2, ap (λ (ts : List Token). length ts) r.0) }
-are_first n all place read (Some (bad at)) r = record { left = []; parts = sym r.0 ∙ sym (append-nil read); few = omega (arith, r.2, ap (λ (ts : List Token). length ts) r.0) }
+are_first n all place read None r =
+    record {
+      left = [];
+      parts = sym r.0
+          ∙ sym (append-nil read);
+      few = omega (arith, r.2, ap (λ (ts : List Token). length ts) r.0);
+    }
+are_first n all place read (Some (bad at)) r =
+    record {
+      left = [];
+      parts = sym r.0
+          ∙ sym (append-nil read);
+      few = omega (arith, r.2, ap (λ (ts : List Token). length ts) r.0);
+    }
 are_first n all place read (Some (many at)) r = record {
   left = r.left;
-  parts = r.parts ∙ sym (append_assoc r.before (r.next ∷ []) r.left) ∙ ap (λ (ts : List Token). ts ++ r.left) (sym r.taken);
+  parts =
+      r.parts ∙ sym (append_assoc r.before (r.next ∷ []) r.left) ∙ ap (λ (ts : List Token). ts ++ r.left) (sym r.taken);
   few = omega (arith, ap (λ (ts : List Token). length ts) r.taken, length-append r.before (r.next ∷ []), r.counted);
 }
 
@@ -78,4 +93,6 @@ pub reads_all : (n : ℕ) (all : List Token) (place : Option ℕ) (read : List T
     → (stop ≡ None) × (read ≡ all)
 reads_all n all place read None r e le = (refl, r.0)
 reads_all n all place read (Some (bad at)) r e le = let s : place ≡ Some at = r.1 in absurd cc
-reads_all n all place read (Some (many at)) r e le = absurd (omega (arith, le, ap (λ (ts : List Token). length ts) r.parts, length-append r.before (r.next ∷ r.left), r.counted))
+reads_all n all place read (Some (many at)) r e le =
+    absurd (omega
+    (arith, le, ap (λ (ts : List Token). length ts) r.parts, length-append r.before (r.next ∷ r.left), r.counted))

@@ -44,8 +44,13 @@ tile_found : (n at end : ℕ) (here : List ℕ) (newline : Bool) (o : Option (To
 tile_found n at end here newline (Some t) e h go =
     let l = longest_here here t.0 t.1 e in
     let width : length (take t.1 here) ≡ t.1 = length-take-le t.1 here l.0 in
-    let there : at + t.1 ≡ at + length (take t.1 here) = omega (arith, width) in
-    (omega arith, omega arith, omega (arith, h, l.0, width), subst (λ a. Tile a end (tokens_in (items n (at + t.1) (drop t.1 here)))) there (go (at + t.1) (drop t.1 here) (omega (arith, h, l.0, length-drop t.1 here))))
+    let there : at + t.1 ≡ at + length (take t.1 here) = omega (arith, width) in (
+      omega arith,
+      omega arith,
+      omega (arith, h, l.0, width),
+      subst (λ a. Tile a end (tokens_in (items n (at + t.1) (drop t.1 here)))) there
+          (go (at + t.1) (drop t.1 here) (omega (arith, h, l.0, length-drop t.1 here))),
+    )
 tile_found n at end [] newline None e h go = tt
 tile_found n at end (u ∷ us) newline None e h go = tt
 
@@ -54,8 +59,13 @@ unfolding items
 tile zero at end us h = tt
 tile (suc n) at end us h =
     let gap = gap_len us in
-    lower (at + gap) at end (tokens_in (item_by (λ a r. items n a r) (at + gap) (has_line_terminator (take gap us)) (drop gap us) (token_at (drop gap us)))) (omega arith)
-    (tile_found n (at + gap) end (drop gap us) (has_line_terminator (take gap us)) (token_at (drop gap us)) refl (omega (arith, h, gap_within us, length-drop gap us)) (λ a r e. tile n a end r e))
+    lower (at + gap) at end
+    (tokens_in
+    (item_by (λ a r. items n a r) (at + gap) (has_line_terminator (take gap us)) (drop gap us)
+    (token_at (drop gap us))))
+    (omega arith)
+    (tile_found n (at + gap) end (drop gap us) (has_line_terminator (take gap us)) (token_at (drop gap us)) refl
+    (omega (arith, h, gap_within us, length-drop gap us)) (λ a r e. tile n a end r e))
 
 tiles : (source : List ℕ) → Tile 0 (length source) (tokens_of source)
 tiles source = tile (suc (length source)) 0 (length source) source (omega arith)
@@ -112,14 +122,23 @@ cut_nothing : (end : ℕ) (spans : List Span)
     → AreSpans spans places before ts left
     → AreSpans (map (cut_at end) spans) places before ts left
 cut_nothing end spans f [] before ts left b r p = p
-cut_nothing end spans f (opens n ∷ places) before ts left b r p =
-    (omega (arith, cut_start end spans n, forward_at spans n f, p.0, next_start 0 end ts r), cut_nothing end spans f places before ts left b r p.1)
+cut_nothing end spans f (opens n ∷ places) before ts left b r p = (
+  omega (arith, cut_start end spans n, forward_at spans n f, p.0, next_start 0 end ts r),
+  cut_nothing end spans f places before ts left b r p.1,
+)
 cut_nothing end spans f (closes n ∷ places) before ts left b r p =
     (omega (arith, cut_end end spans n, p.0, b), cut_nothing end spans f places before ts left b r p.1)
-cut_nothing end spans f (stands s ∷ places) before ts left b r p =
-    (p.0, cut_nothing end spans f places (end_of (head_of ts)) (tail_of ts) left (next_end 0 end ts r) (next_tile 0 end ts r) p.1)
+cut_nothing end spans f (stands s ∷ places) before ts left b r p = (
+  p.0,
+  cut_nothing end spans f places (end_of (head_of ts)) (tail_of ts) left (next_end 0 end ts r)
+      (next_tile 0 end ts r) p.1,
+)
 cut_nothing end spans f (stands_maybe kind ∷ places) before ts left b r (inl p) =
-    inl (p.0, cut_nothing end spans f places (end_of (head_of ts)) (tail_of ts) left (next_end 0 end ts r) (next_tile 0 end ts r) p.1)
+    inl (
+      p.0,
+      cut_nothing end spans f places (end_of (head_of ts)) (tail_of ts) left (next_end 0 end ts r)
+          (next_tile 0 end ts r) p.1,
+    )
 cut_nothing end spans f (stands_maybe kind ∷ places) before ts left b r (inr p) =
     inr (p.0, cut_nothing end spans f places before ts left b r p.1)
 
@@ -128,7 +147,8 @@ pub all_within : (source : List ℕ) (spans : List Span) (places : List Place)
     → AreSpansIn source spans places
     → All IsForward spans
     → AreSpansIn source (map (cut_at (length source)) spans) places
-all_within source spans places p f = cut_nothing (length source) spans f places 0 (tokens_of source) [] (omega arith) (tiles source) p
+all_within source spans places p f =
+    cut_nothing (length source) spans f places 0 (tokens_of source) [] (omega arith) (tiles source) p
 
 -- ---- what is told of a source
 
@@ -149,7 +169,8 @@ complete_stands : {A : Type 0} (Holds : A → Type 0) (end : ℕ) (stop : Option
 complete_stands Holds end None x height h = unless_stands Holds (nat_lt MOST_HEIGHT height) x (h refl)
 complete_stands Holds end (Some s) x height h = tt
 
-told_stands : {A : Type 0} (places : A → List Place) (source : List ℕ) (old new : List Span) (l : Lexed) (end : ℕ) (given : Result (A × ℕ) ParseError)
+told_stands : {A : Type 0} (places : A → List Place) (source : List ℕ) (old new : List Span) (l : Lexed) (end : ℕ)
+    (given : Result (A × ℕ) ParseError)
     → (l.stop ≡ None → l.tokens ≡ tokens_of source)
     → IfOk given (λ x. AreSpans new (places x.0) 0 l.tokens [])
     → IfOk given (λ x. AreInOrder l.tokens → All IsForward old → All IsForward new)
@@ -157,10 +178,12 @@ told_stands : {A : Type 0} (places : A → List Place) (source : List ℕ) (old 
     → IfOk (told l end given) (λ x. PlacedIn source old new (places x))
 told_stands places source old new l end (Err e) all p f n = tt
 told_stands places source old new l end (Ok x) all p f n =
-    complete_stands (λ x. PlacedIn source old new (places x)) end l.stop x.0 x.1 (λ none. record { exact = rw (all none) at p; forward = f (rw (all none) (are_in_order source)); numbers = n })
+    complete_stands (λ x. PlacedIn source old new (places x)) end l.stop x.0 x.1
+    (λ none. record { exact = rw (all none) at p; forward = f (rw (all none) (are_in_order source)); numbers = n })
 
 -- the spans of a tree that is told
-pub told_placed : {A : Type 0} (places : A → List Place) (source : List ℕ) (old new : List Span) (l : Lexed) (ts : List Token) (end : ℕ) (given : Result (A × ℕ) ParseError) (answer : Result A ParseFault)
+pub told_placed : {A : Type 0} (places : A → List Place) (source : List ℕ) (old new : List Span) (l : Lexed)
+    (ts : List Token) (end : ℕ) (given : Result (A × ℕ) ParseError) (answer : Result A ParseFault)
     → l ≡ lexed_of source
     → ts ≡ l.tokens
     → IfOk given (λ x. AreSpans new (places x.0) 0 ts [])
@@ -169,4 +192,5 @@ pub told_placed : {A : Type 0} (places : A → List Place) (source : List ℕ) (
     → answer ≡ told l end given
     → IfOk answer (λ x. PlacedIn source old new (places x))
 told_placed places source old new l ts end given answer e t p f n is =
-    rw is (told_stands places source old new l end given (λ none. rw e (all_read MOST_TOKENS (items_of source) (rw e at none))) (rw t at p) (rw t at f) n)
+    rw is (told_stands places source old new l end given
+    (λ none. rw e (all_read MOST_TOKENS (items_of source) (rw e at none))) (rw t at p) (rw t at f) n)

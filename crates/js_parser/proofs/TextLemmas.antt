@@ -81,23 +81,40 @@ begins_text : {Tree : Type 0} (Is : List Token → Tree → Type 0)
 begins_text Is writes alike source before left e b =
     let f = fronts (items_of source) before left e in
     let w = writes before b in
-    let ends : end_after 0 f.lents ≡ end_of_last 0 before = end_seen 0 f.lents ∙ ap (λ (us : List Token). end_of_last 0 us) f.seen in
+    let ends : end_after 0 f.lents ≡ end_of_last 0 before = end_seen 0 f.lents
+    ∙ ap (λ (us : List Token). end_of_last 0 us) f.seen in
     let behind = lent (end_after 0 f.lents) w.rest in
-    let found : items_of (take (end_of_last 0 before) source ++ written w.rest) ≡ tokens_then f.lents behind = ap (λ (n : ℕ). items_of (take n source ++ written w.rest)) (sym ends) ∙ first_tokens source f.lents f.left f.items w.rest w.tokens in
-    let tokens : tokens_of (take (end_of_last 0 before) source ++ written w.rest) ≡ before ++ tokens_in behind = ap (λ (is : List (Result Lent ℕ)). tokens_in is) found ∙ tokens_first f.lents behind ∙ ap (λ (us : List Token). us ++ tokens_in behind) f.seen in
+    let found : items_of (take (end_of_last 0 before) source ++ written w.rest) ≡ tokens_then f.lents behind = ap
+    (λ (n : ℕ). items_of (take n source ++ written w.rest)) (sym ends)
+    ∙ first_tokens source f.lents f.left f.items w.rest w.tokens in
+    let tokens : tokens_of (take (end_of_last 0 before) source ++ written w.rest) ≡ before ++ tokens_in behind = ap
+    (λ (is : List (Result Lent ℕ)). tokens_in is) found
+    ∙ tokens_first f.lents behind
+    ∙ ap (λ (us : List Token). us ++ tokens_in behind) f.seen in
     record {
       more = written w.rest;
       rest = tokens_in behind;
       tokens = tokens;
-      all_good = ap (λ (is : List (Result Lent ℕ)). bad_in is) found ∙ bad_first f.lents behind ∙ written_good (end_after 0 f.lents) w.rest;
-      language = (w.language.0, subst (λ (us : List Token). Is us w.language.0) (sym tokens) (alike (before ++ map written_view w.rest) (before ++ tokens_in behind) w.language.0 (alike_behind before (map written_view w.rest) (tokens_in behind) (written_alike (end_after 0 f.lents) w.rest)) w.language.1));
+      all_good =
+          ap (λ (is : List (Result Lent ℕ)). bad_in is) found
+          ∙ bad_first f.lents behind
+          ∙ written_good (end_after 0 f.lents) w.rest;
+      language = (
+        w.language.0,
+        subst (λ (us : List Token). Is us w.language.0) (sym tokens)
+            (alike (before ++ map written_view w.rest) (before ++ tokens_in behind) w.language.0
+            (alike_behind before (map written_view w.rest) (tokens_in behind)
+            (written_alike (end_after 0 f.lents) w.rest))
+            w.language.1),
+      );
     }
 
 pub expression_texts : (source : List ℕ) (before left : List Token)
     → tokens_of source ≡ before ++ left
     → Begins IsExpression before
     → BeginsText IsExpression source before
-expression_texts source before left e b = begins_text IsExpression expression_written expression_alike source before left e b
+expression_texts source before left e b =
+    begins_text IsExpression expression_written expression_alike source before left e b
 
 pub function_texts : (source : List ℕ) (before left : List Token)
     → tokens_of source ≡ before ++ left
@@ -109,4 +126,5 @@ pub script_texts : (earlier : List Identifier) (source : List ℕ) (before left 
     → tokens_of source ≡ before ++ left
     → Begins (IsScript earlier) before
     → BeginsText (IsScript earlier) source before
-script_texts earlier source before left e b = begins_text (IsScript earlier) (script_written earlier) (script_alike earlier) source before left e b
+script_texts earlier source before left e b =
+    begins_text (IsScript earlier) (script_written earlier) (script_alike earlier) source before left e b

@@ -20,7 +20,8 @@ FailsBy f (Err faults.TooDeep) = Unit {0}
 FailsBy f (Err g) = g ≡ f
 
 -- What an answer, whose tree is seen by look, says of its source.
-pub record Answers {A Tree : Type 0} (Is : List Token → Tree → Type 0) (height_of : Tree → ℕ) (source : List ℕ) (look : A → Tree) (answer : Result A ParseFault) : Type 0 where
+pub record Answers {A Tree : Type 0} (Is : List Token → Tree → Type 0) (height_of : Tree → ℕ) (source : List ℕ)
+    (look : A → Tree) (answer : Result A ParseFault) : Type 0 where
   pub found : IfOk answer (λ x. IsSource Is height_of source (look x))
   pub only : (t : Tree) → IsSource Is height_of source t → OkOrMemory (λ x. look x ≡ t) answer
   pub long : MOST_UNITS < length source → answer ≡ Err (faults.TooLong (length source))

@@ -26,7 +26,8 @@ tree_of_tokens read (Some at) ts = None
 
 -- the tree of a source that isn't too long
 abbrev pub tree_by : TreeReader → List ℕ → Option Expression
-tree_by read source = if (nat_le (length source) MOST_UNITS) then tree_of_tokens read (bad_place source) (tokens_of source) else None
+tree_by read source =
+    if (nat_le (length source) MOST_UNITS) then tree_of_tokens read (bad_place source) (tokens_of source) else None
 
 -- The tree of the expression that a text is, without numbers and places; None where the text is no expression within the limits.
 unfoldable pub expression_of : List ℕ → Option Expression

@@ -40,7 +40,8 @@ pub record PassesLimit (source : List ℕ) (at : ℕ) : Type 0 where
 
 -- a bad token, behind tokens that begin the language and aren't too many
 abbrev pub HasBadToken : {Tree : Type 0} → (List Token → Tree → Type 0) → List ℕ → ℕ → Type 0
-HasBadToken Is source at = (bad_place source ≡ Some at) × (length (tokens_of source) ≤ MOST_TOKENS) × Begins Is (tokens_of source)
+HasBadToken Is source at =
+    (bad_place source ≡ Some at) × (length (tokens_of source) ≤ MOST_TOKENS) × Begins Is (tokens_of source)
 
 -- the place where the language is left, behind no more tokens than a source may have
 abbrev pub HasSyntaxFault : {Tree : Type 0} → (List Token → Tree → Type 0) → List ℕ → ℕ → Type 0
@@ -61,7 +62,8 @@ Stands Is height_of source faults.Memory = ⊥
 
 -- The source isn't too long, and some of its first tokens begin the language, but only trees that are deeper than a source's may be.
 abbrev pub BeginsTooDeep : {Tree : Type 0} → (List Token → Tree → Type 0) → (Tree → ℕ) → List ℕ → Type 0
-BeginsTooDeep Is height_of source = (length source ≤ MOST_UNITS) × TooDeepFrom Is height_of (tokens_of source) MOST_HEIGHT
+BeginsTooDeep Is height_of source =
+    (length source ≤ MOST_UNITS) × TooDeepFrom Is height_of (tokens_of source) MOST_HEIGHT
 
 -- What each fault says of a source. A tree is too deep where the source is in the language with a tree that is deeper than may be, or where its first tokens begin only such trees; such a source that has another fault besides may get either.
 abbrev pub Caused : {Tree : Type 0} → (List Token → Tree → Type 0) → (Tree → ℕ) → List ℕ → ParseFault → Type 0

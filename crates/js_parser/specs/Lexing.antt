@@ -70,7 +70,8 @@ abbrev pub fault_of : Lexed → ℕ → ParseError → ParseFault
 fault_of l end errors.Memory = faults.Memory
 fault_of l end (errors.TooDeep left) = faults.TooDeep
 fault_of l end (errors.Syntax zero) = stop_fault end l.stop
-fault_of l end (errors.Syntax (suc left)) = faults.Syntax (start_or end (slice_get l.tokens (length l.tokens - suc left)))
+fault_of l end (errors.Syntax (suc left)) =
+    faults.Syntax (start_or end (slice_get l.tokens (length l.tokens - suc left)))
 
 -- a tree of this height, unless it is too deep
 abbrev pub unless_deep : {A : Type 0} → Bool → A → Result A ParseFault

@@ -17,7 +17,8 @@ use Rattle.js_programs.specs.Targets.{ReadTerm, read_of, deciding_form}
 -- ---- by what is read
 
 abbrev assigned_by : Option ReadTerm → Term → Term → Term
-assigned_by (Some x) t e = semantics.part (forms.Assign x.reference) (semantics.joined x.now (semantics.one e)) semantics.end
+assigned_by (Some x) t e =
+    semantics.part (forms.Assign x.reference) (semantics.joined x.now (semantics.one e)) semantics.end
 assigned_by None t e = t
 
 assigned_is : (t e : Term) → makers.assigned_to t e ≡ assigned_by (read_of t) t e
@@ -51,7 +52,9 @@ deleted_is _ = refl
 
 abbrev call_by : Option ReadTerm → Mark → ℕ → Term → Terms → Term
 call_by (Some x) place node t args = semantics.part (forms.CallOf x.reference place node) x.now args
-call_by None place node t args = semantics.part (forms.Call place node) (semantics.more (semantics.done values.Undefined) (semantics.more t args)) semantics.end
+call_by None place node t args =
+    semantics.part (forms.Call place node) (semantics.more (semantics.done values.Undefined) (semantics.more t args))
+    semantics.end
 
 call_is : (place : Mark) (node : ℕ) (t : Term) (args : Terms)
     → makers.call_term place node t args ≡ call_by (read_of t) place node t args
@@ -114,7 +117,8 @@ deleted_other t h = deleted_is t ∙ ap (λ x. deleted_by x t) h
 
 pub call_other : (place : Mark) (node : ℕ) (t : Term) (args : Terms)
     → read_of t ≡ None
-    → makers.call_term place node t args ≡ semantics.part (forms.Call place node) (semantics.more (semantics.done values.Undefined) (semantics.more t args)) semantics.end
+    → makers.call_term place node t args ≡ semantics.part (forms.Call place node)
+    (semantics.more (semantics.done values.Undefined) (semantics.more t args)) semantics.end
 call_other place node t args h = call_is place node t args ∙ ap (λ x. call_by x place node t args) h
 
 pub type_other : (t : Term)

@@ -23,7 +23,8 @@ read_of _ = None
 
 -- a term that is taken apart where it is read
 abbrev pub IsTarget : semantics.Term → Target → Type 0
-IsTarget t (targets.Reference r now later) = read_of t ≡ Some (record { reference = r; now = terms_view now; later = terms_view later })
+IsTarget t (targets.Reference r now later) =
+    read_of t ≡ Some (record { reference = r; now = terms_view now; later = terms_view later })
 IsTarget t (targets.Other u) = (read_of t ≡ None) × (term_view u ≡ t)
 
 -- the form of an operator that decides by its left value

@@ -56,52 +56,66 @@ pub replies-by : (ts : List (List ℕ)) (a : Action) (v : World) (r : Result Val
     → Gives a v r w
     → q ≡ replied r
     → Replies ts a v q w
-replies-by ts a v r w q h e = let P : Reduced → Type 0 = λ x. Replies ts a v x w in subst P (sym e) (given-replies ts a v r w h)
+replies-by ts a v r w q h e =
+    let P : Reduced → Type 0 = λ x. Replies ts a v x w in subst P (sym e) (given-replies ts a v r w h)
 
 -- what was read, where it is a value
 pub read-reply : (ts : List (List ℕ)) (x : Computed) (v : Value) (w : World)
     → x ≡ a_value v
     → Replies ts (with_result x give) w (reduced.Gives v) w
-read-reply ts x v w h = λ t e s. gives-does ts t e (with_result x give) (with_world s w) v (with_world s w) (ap (λ y. performed (with_result y give) (with_world s w)) h)
+read-reply ts x v w h =
+    λ t e s. gives-does ts t e (with_result x give) (with_world s w) v (with_world s w)
+    (ap (λ y. performed (with_result y give) (with_world s w)) h)
 
-pub result-reply : (ts : List (List ℕ)) (x : Computed) (v : World) (r : Result Value ActionEnd) (w : World) (q : Reduced)
+pub result-reply : (ts : List (List ℕ)) (x : Computed) (v : World) (r : Result Value ActionEnd) (w : World)
+    (q : Reduced)
     → Yields (with_result x) v r w
     → q ≡ replied r
     → Replies ts (with_result x give) v q w
 result-reply ts x v r w q h e = replies-by ts (with_result x give) v r w q (gives_by (with_result x) v w r h) e
 
-passed_replies : (ts : List (List ℕ)) (f : Action → Action) (u : Value) (v : World) (r : Result (Unit {0}) ActionEnd) (w : World)
+passed_replies : (ts : List (List ℕ)) (f : Action → Action) (u : Value) (v : World) (r : Result (Unit {0}) ActionEnd)
+    (w : World)
     → Passes f v r w
     → Replies ts (f (give u)) v (replied_with r u) w
-passed_replies ts f u v (Ok x) w h = λ t e s. gives-does ts t e (f (give u)) (with_world s v) u (with_world s w) (h s (give u))
-passed_replies ts f u v (Err x) w h = λ t e s. stops-does ts t e (f (give u)) (with_world s v) x (with_world s w) (h s (give u))
+passed_replies ts f u v (Ok x) w h =
+    λ t e s. gives-does ts t e (f (give u)) (with_world s v) u (with_world s w) (h s (give u))
+passed_replies ts f u v (Err x) w h =
+    λ t e s. stops-does ts t e (f (give u)) (with_world s v) x (with_world s w) (h s (give u))
 
 -- what is done before a value is given
-pub passes-reply : (ts : List (List ℕ)) (f : Action → Action) (u : Value) (v : World) (r : Result (Unit {0}) ActionEnd) (w : World) (q : Reduced)
+pub passes-reply : (ts : List (List ℕ)) (f : Action → Action) (u : Value) (v : World) (r : Result (Unit {0}) ActionEnd)
+    (w : World) (q : Reduced)
     → Passes f v r w
     → q ≡ replied_with r u
     → Replies ts (f (give u)) v q w
-passes-reply ts f u v r w q h e = let P : Reduced → Type 0 = λ x. Replies ts (f (give u)) v x w in subst P (sym e) (passed_replies ts f u v r w h)
+passes-reply ts f u v r w q h e =
+    let P : Reduced → Type 0 = λ x. Replies ts (f (give u)) v x w in subst P (sym e) (passed_replies ts f u v r w h)
 
-pub written-reply : (ts : List (List ℕ)) (x : Written) (u : Value) (v : World) (r : Result (Unit {0}) ActionEnd) (w : World) (q : Reduced)
+pub written-reply : (ts : List (List ℕ)) (x : Written) (u : Value) (v : World) (r : Result (Unit {0}) ActionEnd)
+    (w : World) (q : Reduced)
     → Passes (with_written x) v r w
     → q ≡ replied_with r u
     → Replies ts (with_written x (give u)) v q w
 written-reply ts x u v r w q h e = passes-reply ts (with_written x) u v r w q h e
 
 -- a change that is known
-pub change-reply : (ts : List (List ℕ)) (x : Written) (a : Addr) (c : Change) (u : Value) (v : World) (r : Result (Unit {0}) ActionEnd) (w : World) (q : Reduced)
+pub change-reply : (ts : List (List ℕ)) (x : Written) (a : Addr) (c : Change) (u : Value) (v : World)
+    (r : Result (Unit {0}) ActionEnd) (w : World) (q : Reduced)
     → x ≡ a_change a c
     → Passes (write a c) v r w
     → q ≡ replied_with r u
     → Replies ts (with_written x (give u)) v q w
-change-reply ts x a c u v r w q i h e = let P : Written → Type 0 = λ y. Replies ts (with_written y (give u)) v q w in subst P (sym i) (passes-reply ts (write a c) u v r w q h e)
+change-reply ts x a c u v r w q i h e =
+    let P : Written → Type 0 = λ y. Replies ts (with_written y (give u)) v q w in
+    subst P (sym i) (passes-reply ts (write a c) u v r w q h e)
 
 pub ruleset read_rules = (read-reply)
 
 -- ---- in a context
 
-pub in-context : (ts : List (List ℕ)) (t : NodeTable) (e : Wide) (a : Action) (v : World) (r : Reduced) (w : World) (c : Context)
+pub in-context : (ts : List (List ℕ)) (t : NodeTable) (e : Wide) (a : Action) (v : World) (r : Reduced) (w : World)
+    (c : Context)
     → DoesIn ts t e a v r w
     → DoesWith ts t e a v c r w c
 in-context ts t e a v r w c h = λ taken. h (state_of v c taken)

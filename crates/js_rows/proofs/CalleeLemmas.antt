@@ -23,15 +23,19 @@ calls_by : (ts : List (List ℕ)) (x : Computed) (v : World) (r : Result Value A
     → CallsIt ts x v (calling r) w
 unfolding performed reduced_move reduced_term
 calls_by ts x v (Ok f) w h = λ t e s. h s (λ y. go (called ts t e y))
-calls_by ts x v (Err z) w h = λ t e s. stops-does ts t e (with_result x (λ y. go (called ts t e y))) (with_world s v) z (with_world s w) (h s (λ y. go (called ts t e y)))
+calls_by ts x v (Err z) w h =
+    λ t e s. stops-does ts t e (with_result x (λ y. go (called ts t e y))) (with_world s v) z (with_world s w)
+    (h s (λ y. go (called ts t e y)))
 
 pub calls-by : (ts : List (List ℕ)) (x : Computed) (v : World) (r : Result Value ActionEnd) (w : World) (q : Reduced)
     → Yields (with_result x) v r w
     → q ≡ calling r
     → CallsIt ts x v q w
-calls-by ts x v r w q h e = let P : Reduced → Type 0 = λ y. CallsIt ts x v y w in subst P (sym e) (calls_by ts x v r w h)
+calls-by ts x v r w q h e =
+    let P : Reduced → Type 0 = λ y. CallsIt ts x v y w in subst P (sym e) (calls_by ts x v r w h)
 
-pub calls-member : (ts : List (List ℕ)) (vs : List Value) (o : Value) (n : List ℕ) (v : World) (r : Result Value ActionEnd) (w : World) (q : Reduced)
+pub calls-member : (ts : List (List ℕ)) (vs : List Value) (o : Value) (n : List ℕ) (v : World)
+    (r : Result Value ActionEnd) (w : World) (q : Reduced)
     → slice_get vs 0 ≡ Some o
     → Yields (with_result (property_of v o n)) v r w
     → q ≡ calling r
@@ -40,7 +44,8 @@ calls-member ts vs o n v r w q g h e =
     let P : List Value → Type 0 = λ xs. CallsIt ts (member_result v xs n) v q w in
     subst P (sym (first-value vs o g)) (calls-by ts (property_of v o n) v r w q h e)
 
-pub calls-index : (ts : List (List ℕ)) (vs : List Value) (o i : Value) (v : World) (r : Result Value ActionEnd) (w : World) (q : Reduced)
+pub calls-index : (ts : List (List ℕ)) (vs : List Value) (o i : Value) (v : World) (r : Result Value ActionEnd)
+    (w : World) (q : Reduced)
     → slice_get vs 0 ≡ Some o
     → slice_get vs 1 ≡ Some i
     → Yields (indexed v o i) v r w
@@ -55,15 +60,19 @@ assigns_by : (ts : List (List ℕ)) (x : Computed) (v : World) (r : Result Value
     → AssignsIt ts x v (assigning r) w
 unfolding performed reduced_move reduced_term
 assigns_by ts x v (Ok f) w h = λ t e s. h s (λ y. go (assigned ts t e y))
-assigns_by ts x v (Err z) w h = λ t e s. stops-does ts t e (with_result x (λ y. go (assigned ts t e y))) (with_world s v) z (with_world s w) (h s (λ y. go (assigned ts t e y)))
+assigns_by ts x v (Err z) w h =
+    λ t e s. stops-does ts t e (with_result x (λ y. go (assigned ts t e y))) (with_world s v) z (with_world s w)
+    (h s (λ y. go (assigned ts t e y)))
 
 pub assigns-by : (ts : List (List ℕ)) (x : Computed) (v : World) (r : Result Value ActionEnd) (w : World) (q : Reduced)
     → Yields (with_result x) v r w
     → q ≡ assigning r
     → AssignsIt ts x v q w
-assigns-by ts x v r w q h e = let P : Reduced → Type 0 = λ y. AssignsIt ts x v y w in subst P (sym e) (assigns_by ts x v r w h)
+assigns-by ts x v r w q h e =
+    let P : Reduced → Type 0 = λ y. AssignsIt ts x v y w in subst P (sym e) (assigns_by ts x v r w h)
 
-pub assigns-member : (ts : List (List ℕ)) (vs : List Value) (o : Value) (n : List ℕ) (v : World) (r : Result Value ActionEnd) (w : World) (q : Reduced)
+pub assigns-member : (ts : List (List ℕ)) (vs : List Value) (o : Value) (n : List ℕ) (v : World)
+    (r : Result Value ActionEnd) (w : World) (q : Reduced)
     → slice_get vs 0 ≡ Some o
     → Yields (with_result (property_of v o n)) v r w
     → q ≡ assigning r
@@ -72,7 +81,8 @@ assigns-member ts vs o n v r w q g h e =
     let P : List Value → Type 0 = λ xs. AssignsIt ts (member_result v xs n) v q w in
     subst P (sym (first-value vs o g)) (assigns-by ts (property_of v o n) v r w q h e)
 
-pub assigns-index : (ts : List (List ℕ)) (vs : List Value) (o i : Value) (v : World) (r : Result Value ActionEnd) (w : World) (q : Reduced)
+pub assigns-index : (ts : List (List ℕ)) (vs : List Value) (o i : Value) (v : World) (r : Result Value ActionEnd)
+    (w : World) (q : Reduced)
     → slice_get vs 0 ≡ Some o
     → slice_get vs 1 ≡ Some i
     → Yields (indexed v o i) v r w

@@ -18,21 +18,26 @@ use Rattle.js_rows.proofs.OverLemmas.{first-kept}
 
 pub node-placed : (ts : List (List ℕ)) (t : NodeTable) (node : Node) (number k : ℕ) (o : Option FunctionEntry)
     → Some k ≡ slice_get (kids_between t node.mid node.end) 0 →
-    placed_code ts t (record { number = number; body = k; first = node.mid + 1; end = node.end }) o ≡ code_placed ts t node o
+    placed_code ts t (record { number = number; body = k; first = node.mid + 1; end = node.end })
+    o ≡ code_placed ts t node o
 node-placed ts t node number k None h = refl
-node-placed ts t node number k (Some f) h = ap (λ xs. code_of_parts (function_of ts f) xs) (sym (first-kept ts t node.mid node.end k h))
+node-placed ts t node number k (Some f) h =
+    ap (λ xs. code_of_parts (function_of ts f) xs) (sym (first-kept ts t node.mid node.end k h))
 
 -- ---- sources from a place on
 
 abbrev pub SourcesLeft : NodeTable → Source → ℕ → ℕ → Type 0
-SourcesLeft t source node i = (ts : List (List ℕ)) → function_at (source_trees ts t (drop i t.sources.items)) source node ≡ function_at (program_of ts t) source node
+SourcesLeft t source node i =
+    (ts : List (List ℕ))
+    → function_at (source_trees ts t (drop i t.sources.items)) source node ≡ function_at (program_of ts t) source node
 
 get_some : {A : Type 0} (xs : List A) (i : ℕ) (d : A) → i < length xs → slice_get xs i ≡ Some (get_or xs i d)
 get_some [] i d h = absurd (omega arith)
 get_some (x ∷ xs) zero d h = refl
 get_some (x ∷ xs) (suc i) d h = get_some xs i d (omega arith)
 
-first_is : (ts : List (List ℕ)) (t : NodeTable) (source : Source) (node : ℕ) (es rest : List SourceEntry) (e : SourceEntry)
+first_is : (ts : List (List ℕ)) (t : NodeTable) (source : Source) (node : ℕ) (es rest : List SourceEntry)
+    (e : SourceEntry)
     → es ≡ e ∷ rest
     → same_source e.source source ≡ true
     → function_at (source_trees ts t es) source node ≡ function_in node (tree ts t e.root)
@@ -46,6 +51,9 @@ pub sources-found : (t : NodeTable) (source : Source) (node i : ℕ) (e : Source
     → same_source e.source source ≡ true
     → indexed_code ts t e node ≡ function_at (program_of ts t) source node
 sources-found t source node i e ts has inv l h g =
-    let c : drop i t.sources.items ≡ e ∷ drop (i + 1) t.sources.items = cons_at t.sources.items i e l ∙ ap (λ x. x ∷ drop (i + 1) t.sources.items) (sym h) in
+    let c : drop i t.sources.items ≡ e ∷ drop (i + 1) t.sources.items = cons_at t.sources.items i e l
+    ∙ ap (λ x. x ∷ drop (i + 1) t.sources.items) (sym h) in
     let s : slice_get t.sources.items i ≡ Some e = get_some t.sources.items i e l ∙ ap (λ x. Some x) (sym h) in
-    sym (has.finds ts i e s node) ∙ sym (first_is ts t source node (drop i t.sources.items) (drop (i + 1) t.sources.items) e c g) ∙ inv ts
+    sym (has.finds ts i e s node)
+    ∙ sym (first_is ts t source node (drop i t.sources.items) (drop (i + 1) t.sources.items) e c g)
+    ∙ inv ts

@@ -67,7 +67,8 @@ method_form_skips : (ts : List (List ℕ)) (o : Option FunctionEntry) (now later
 method_form_skips ts None now later us scope k = refl
 method_form_skips ts (Some e) now later us scope k = refl
 
-object_form_skips : (ts : List (List ℕ)) (o : Option (List MemberEntry)) (now later us : Terms) (scope : Addr) (k : Action)
+object_form_skips : (ts : List (List ℕ)) (o : Option (List MemberEntry)) (now later us : Terms) (scope : Addr)
+    (k : Action)
     → with_functions scope (more (part (object_form ts o) now later) us) k ≡ with_functions scope us k
 object_form_skips ts None now later us scope k = refl
 object_form_skips ts (Some e) now later us scope k = refl
@@ -93,19 +94,24 @@ index_call_form_skips None now later us scope k = refl
 index_call_form_skips (Some e) now later us scope k = refl
 
 -- a part that is no function declares none
-others_skip : (ts : List (List ℕ)) (t : NodeTable) (o : Op) (info : ℕ) (now later us : Terms) (scope : Addr) (k : Action)
+others_skip : (ts : List (List ℕ)) (t : NodeTable) (o : Op) (info : ℕ) (now later us : Terms) (scope : Addr)
+    (k : Action)
     → is_function_op o ≡ false
     → with_functions scope (more (part (form_of ts t o info) now later) us) k ≡ with_functions scope us k
 unfolding form_of
 others_skip ts t ops.Literal info now later us scope k h = refl
 others_skip ts t ops.Scripts info now later us scope k h = refl
-others_skip ts t ops.Script info now later us scope k h = script_form_skips ts (slice_get t.scripts.items info) now later us scope k
+others_skip ts t ops.Script info now later us scope k h =
+    script_form_skips ts (slice_get t.scripts.items info) now later us scope k
 others_skip ts t ops.Sequence info now later us scope k h = refl
 others_skip ts t ops.Enter info now later us scope k h = refl
 others_skip ts t ops.EnterDebugger info now later us scope k h = refl
-others_skip ts t ops.EnterFor info now later us scope k h = for_form_skips ts (slice_get t.fors.items info) now later us scope k
-others_skip ts t ops.EnterForOf info now later us scope k h = for_of_form_skips ts (slice_get t.for_ofs.items info) now later us scope k
-others_skip ts t ops.Block info now later us scope k h = block_form_skips ts (slice_get t.blocks.items info) now later us scope k
+others_skip ts t ops.EnterFor info now later us scope k h =
+    for_form_skips ts (slice_get t.fors.items info) now later us scope k
+others_skip ts t ops.EnterForOf info now later us scope k h =
+    for_of_form_skips ts (slice_get t.for_ofs.items info) now later us scope k
+others_skip ts t ops.Block info now later us scope k h =
+    block_form_skips ts (slice_get t.blocks.items info) now later us scope k
 others_skip ts t ops.Scoped info now later us scope k h = refl
 others_skip ts t ops.Frame info now later us scope k h = refl
 others_skip ts t ops.Initialize info now later us scope k h = refl
@@ -117,7 +123,8 @@ others_skip ts t ops.LoopDoing info now later us scope k h = refl
 others_skip ts t ops.LoopTesting info now later us scope k h = refl
 others_skip ts t ops.LoopBody info now later us scope k h = refl
 others_skip ts t ops.LoopUpdating info now later us scope k h = refl
-others_skip ts t ops.ListOf info now later us scope k h = list_form_skips ts (slice_get t.for_ofs.items info) now later us scope k
+others_skip ts t ops.ListOf info now later us scope k h =
+    list_form_skips ts (slice_get t.for_ofs.items info) now later us scope k
 others_skip ts t ops.TurnOf info now later us scope k h = refl
 others_skip ts t ops.BodyOf info now later us scope k h = refl
 others_skip ts t ops.Break info now later us scope k h = refl
@@ -137,7 +144,8 @@ others_skip ts t (ops.Unary o) info now later us scope k h = refl
 others_skip ts t (ops.Binary o) info now later us scope k h = refl
 others_skip ts t ops.Comma info now later us scope k h = refl
 others_skip ts t ops.Function info now later us scope k h = cc
-others_skip ts t ops.Method info now later us scope k h = method_form_skips ts (slice_get t.functions.items info) now later us scope k
+others_skip ts t ops.Method info now later us scope k h =
+    method_form_skips ts (slice_get t.functions.items info) now later us scope k
 others_skip ts t ops.Array info now later us scope k h = refl
 others_skip ts t ops.Object info now later us scope k h = object_form_skips ts (members_at t info) now later us scope k
 others_skip ts t ops.ObjectRest info now later us scope k h = refl
@@ -153,10 +161,14 @@ others_skip ts t (ops.UpdateIndex x) info now later us scope k h = refl
 others_skip ts t ops.DeleteName info now later us scope k h = refl
 others_skip ts t ops.DeleteMember info now later us scope k h = refl
 others_skip ts t ops.DeleteIndex info now later us scope k h = refl
-others_skip ts t ops.Call info now later us scope k h = call_form_skips (slice_get t.calls.items info) now later us scope k
-others_skip ts t ops.CallOfName info now later us scope k h = name_call_form_skips ts (slice_get t.calls.items info) now later us scope k
-others_skip ts t ops.CallOfMember info now later us scope k h = member_call_form_skips ts (slice_get t.calls.items info) now later us scope k
-others_skip ts t ops.CallOfIndex info now later us scope k h = index_call_form_skips (slice_get t.calls.items info) now later us scope k
+others_skip ts t ops.Call info now later us scope k h =
+    call_form_skips (slice_get t.calls.items info) now later us scope k
+others_skip ts t ops.CallOfName info now later us scope k h =
+    name_call_form_skips ts (slice_get t.calls.items info) now later us scope k
+others_skip ts t ops.CallOfMember info now later us scope k h =
+    member_call_form_skips ts (slice_get t.calls.items info) now later us scope k
+others_skip ts t ops.CallOfIndex info now later us scope k h =
+    index_call_form_skips (slice_get t.calls.items info) now later us scope k
 
 if_skips : (b : Bool) (v : Value) (t : Term) (us : Terms) (scope : Addr) (k : Action)
     → with_functions scope (more t us) k ≡ with_functions scope us k
@@ -171,10 +183,13 @@ texts_length ts [] = refl
 texts_length ts (n ∷ ns) = ap (λ m. suc m) (texts_length ts ns)
 
 function_makes : (ts : List (List ℕ)) (o : Option FunctionEntry) (now later us : Terms) (scope : Addr) (k : Action)
-    → with_functions scope (more (part (function_form ts o) now later) us) k ≡ declared_if ts scope o (with_functions scope us k)
+    → with_functions scope (more (part (function_form ts o) now later) us) k ≡ declared_if ts scope o
+    (with_functions scope us k)
 function_makes ts None now later us scope k = refl
 function_makes ts (Some f) now later us scope k =
-    ap (λ n. make (cells.Function f.code (name_of ts f.name.number) n (Some scope) values.Undefined) (λ a. write scope (changes.Bind (name_of ts f.name.number) (values.Object a)) (with_functions scope us k))) (texts_length ts f.parameters.items)
+    ap (λ n. make (cells.Function f.code (name_of ts f.name.number) n (Some scope) values.Undefined)
+    (λ a. write scope (changes.Bind (name_of ts f.name.number) (values.Object a)) (with_functions scope us k)))
+    (texts_length ts f.parameters.items)
 
 function_is : (o : Op) → is_function_op o ≡ true → o ≡ ops.Function
 function_is ops.Function h = refl
@@ -196,7 +211,8 @@ unfolding tree
 other-declares ts t n node scope k h g =
     rw (← h) (if_skips (is_literal node.op) _ _ end scope k (others_skip ts t node.op node.info _ _ end scope k g))
 
-pub function-declares : (ts : List (List ℕ)) (t : NodeTable) (n : ℕ) (node : Node) (o : Option FunctionEntry) (scope : Addr) (k : Action)
+pub function-declares : (ts : List (List ℕ)) (t : NodeTable) (n : ℕ) (node : Node) (o : Option FunctionEntry)
+    (scope : Addr) (k : Action)
     → Some node ≡ slice_get t.nodes.items n
     → is_function_op node.op ≡ true
     → o ≡ slice_get t.functions.items node.info
@@ -216,27 +232,43 @@ with_first scope (part f now later) us k = refl
 
 -- the functions among the parts from a place on are made
 abbrev pub FunctionsLeft : List (List ℕ) → NodeTable → Addr → List ℕ → World → ℕ → World → Type 0
-FunctionsLeft ts t a ks v i w = (s : State) (k : Action) → performed (with_functions a (terms (tree ts t) ks) k) (with_world s v) ≡ performed (with_functions a (terms (tree ts t) (drop i ks)) k) (with_world s w)
+FunctionsLeft ts t a ks v i w =
+    (s : State) (k : Action)
+    → performed (with_functions a (terms (tree ts t) ks) k) (with_world s v) ≡ performed
+    (with_functions a (terms (tree ts t) (drop i ks)) k) (with_world s w)
 
-functions_at : (ts : List (List ℕ)) (t : NodeTable) (a : Addr) (ks : List ℕ) (i d : ℕ) (v w : World) (s : State) (k : Action)
+functions_at : (ts : List (List ℕ)) (t : NodeTable) (a : Addr) (ks : List ℕ) (i d : ℕ) (v w : World) (s : State)
+    (k : Action)
     → i < length ks
     → FunctionsLeft ts t a ks v i w →
-    performed (with_functions a (terms (tree ts t) ks) k) (with_world s v) ≡ performed (with_functions a (one (tree ts t (get_or ks i d))) (with_functions a (terms (tree ts t) (drop (i + 1) ks)) k)) (with_world s w)
+    performed (with_functions a (terms (tree ts t) ks) k) (with_world s v) ≡ performed
+    (with_functions a (one (tree ts t (get_or ks i d))) (with_functions a (terms (tree ts t) (drop (i + 1) ks)) k))
+    (with_world s w)
 functions_at ts t a ks i d v w s k l h =
-    h s k ∙ ap (λ xs. performed (with_functions a (terms (tree ts t) xs) k) (with_world s w)) (cons_at ks i d l) ∙ ap (λ x. performed x (with_world s w)) (with_first a (tree ts t (get_or ks i d)) (terms (tree ts t) (drop (i + 1) ks)) k)
+    h s k
+    ∙ ap (λ xs. performed (with_functions a (terms (tree ts t) xs) k) (with_world s w)) (cons_at ks i d l)
+    ∙ ap (λ x. performed x (with_world s w))
+    (with_first a (tree ts t (get_or ks i d)) (terms (tree ts t) (drop (i + 1) ks)) k)
 
 pub functions-step : (ts : List (List ℕ)) (t : NodeTable) (a : Addr) (ks : List ℕ) (i d : ℕ) (v w u : World)
     → i < length ks
     → FunctionsLeft ts t a ks v i w →
-    ((s : State) (k : Action) → performed (with_functions a (one (tree ts t (get_or ks i d))) k) (with_world s w) ≡ performed k (with_world s u))
+    ((s : State) (k : Action)
+    → performed (with_functions a (one (tree ts t (get_or ks i d))) k) (with_world s w) ≡ performed k
+    (with_world s u))
     → FunctionsLeft ts t a ks v (i + 1) u
-functions-step ts t a ks i d v w u l h g = λ s k. functions_at ts t a ks i d v w s k l h ∙ g s (with_functions a (terms (tree ts t) (drop (i + 1) ks)) k)
+functions-step ts t a ks i d v w u l h g =
+    λ s k. functions_at ts t a ks i d v w s k l h ∙ g s (with_functions a (terms (tree ts t) (drop (i + 1) ks)) k)
 
-pub functions-stop : (ts : List (List ℕ)) (t : NodeTable) (a : Addr) (ks : List ℕ) (i d : ℕ) (v w u : World) (r : Result (Unit {0}) ActionEnd) (e : ActionEnd)
+pub functions-stop : (ts : List (List ℕ)) (t : NodeTable) (a : Addr) (ks : List ℕ) (i d : ℕ) (v w u : World)
+    (r : Result (Unit {0}) ActionEnd) (e : ActionEnd)
     → i < length ks
     → FunctionsLeft ts t a ks v i w →
-    ((s : State) (k : Action) → Stops (with_functions a (one (tree ts t (get_or ks i d))) k) (with_world s w) e (with_world s u))
+    ((s : State) (k : Action)
+    → Stops (with_functions a (one (tree ts t (get_or ks i d))) k) (with_world s w) e (with_world s u))
     → IsErrAnd r (λ e'. e' ≡ e)
     → Passes (with_functions a (terms (tree ts t) ks)) v r u
 functions-stop ts t a ks i d v w u r e l h g q =
-    passes-err (with_functions a (terms (tree ts t) ks)) v u r e q (λ s k said. functions_at ts t a ks i d v w s k l h ∙ g s (with_functions a (terms (tree ts t) (drop (i + 1) ks)) k) said)
+    passes-err (with_functions a (terms (tree ts t) ks)) v u r e q
+    (λ s k said. functions_at ts t a ks i d v w s k l h
+    ∙ g s (with_functions a (terms (tree ts t) (drop (i + 1) ks)) k) said)

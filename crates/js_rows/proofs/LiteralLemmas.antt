@@ -41,7 +41,8 @@ use Rattle.js_rows.proofs.DeclaredLemmas.{texts_length}
 
 -- ---- functions
 
-pub cell-yields : (ts : List (List ℕ)) (f : FunctionEntry) (name : List ℕ) (scope : Addr) (receiver : Value) (n : ℕ) (v : World) (r : Result Addr ActionEnd) (w : World)
+pub cell-yields : (ts : List (List ℕ)) (f : FunctionEntry) (name : List ℕ) (scope : Addr) (receiver : Value) (n : ℕ)
+    (v : World) (r : Result Addr ActionEnd) (w : World)
     → n ≡ length f.parameters.items →
     Yields (make (cells.Function f.code name n (Some scope) receiver)) v r w
     → Yields (make (function_cell (function_of ts f) name scope receiver)) v r w
@@ -49,7 +50,8 @@ cell-yields ts f name scope receiver n v r w h y =
     let P : ℕ → Type 0 = λ m. Yields (make (cells.Function f.code name m (Some scope) receiver)) v r w in
     subst P (h ∙ sym (texts_length ts f.parameters.items)) y
 
-pub keyed-yields : (ts : List (List ℕ)) (f : FunctionEntry) (name key : List ℕ) (scope : Addr) (receiver : Value) (n : ℕ) (v : World) (r : Result Addr ActionEnd) (w : World)
+pub keyed-yields : (ts : List (List ℕ)) (f : FunctionEntry) (name key : List ℕ) (scope : Addr) (receiver : Value)
+    (n : ℕ) (v : World) (r : Result Addr ActionEnd) (w : World)
     → n ≡ length f.parameters.items
     → name ≡ key →
     Yields (make (cells.Function f.code name n (Some scope) receiver)) v r w
@@ -58,7 +60,8 @@ keyed-yields ts f name key scope receiver n v r w h i y =
     let P : List ℕ → Type 0 = λ x. Yields (make (function_cell (function_of ts f) x scope receiver)) v r w in
     subst P i (cell-yields ts f name scope receiver n v r w h y)
 
-pub named-gives : (ts : List (List ℕ)) (f : FunctionEntry) (scope : Addr) (n : ℕ) (v : World) (r : Result Value ActionEnd) (w : World)
+pub named-gives : (ts : List (List ℕ)) (f : FunctionEntry) (scope : Addr) (n : ℕ) (v : World)
+    (r : Result Value ActionEnd) (w : World)
     → n ≡ length f.parameters.items →
     Gives (named_of f.code n (name_of ts f.name.number) scope) v r w
     → Gives (named_function (function_of ts f) scope) v r w
@@ -81,28 +84,37 @@ made-plain f scope this u v r w h i g =
     let Q : Action → Type 0 = λ z. Gives z v r w in
     subst Q (sym (made_else f.is_named (named_function f scope) x h)) (subst P i g)
 
-pub function-reply : (ts : List (List ℕ)) (f : FunctionForm) (scope : Addr) (u : Value) (c : Context) (v : World) (r : Result Value ActionEnd) (w : World) (q : Reduced)
+pub function-reply : (ts : List (List ℕ)) (f : FunctionForm) (scope : Addr) (u : Value) (c : Context) (v : World)
+    (r : Result Value ActionEnd) (w : World) (q : Reduced)
     → u ≡ top_this c.frames c.outer_this →
     Gives (function_made f scope u) v r w
     → q ≡ replied r
     → RepliesWith ts (function_row (state_of v c []) scope f) v c q w c
 function-reply ts f scope u c v r w q h g j =
     let P : Value → Type 0 = λ z. Gives (function_made f scope z) v r w in
-    λ t e. in-context ts t e (function_row (state_of v c []) scope f) v q w c (replies-by ts (function_row (state_of v c []) scope f) v r w q (subst P h g) j t e)
+    λ t e. in-context ts t e (function_row (state_of v c []) scope f) v q w c
+    (replies-by ts (function_row (state_of v c []) scope f) v r w q (subst P h g) j t e)
 
 -- ---- object literals
 
-adds_does : (ts : List (List ℕ)) (t : NodeTable) (e : Wide) (ms : List Member) (vs : List Value) (now rest : Terms) (u : Value) (s : State)
+adds_does : (ts : List (List ℕ)) (t : NodeTable) (e : Wide) (ms : List Member) (vs : List Value) (now rest : Terms)
+    (u : Value) (s : State)
     → AddsTo ts t e ms vs now rest →
     Does ts t e (go (part (object ms) (joined (dones vs) (more (done u) now)) rest)) s (reduced.Adds u) s
 unfolding reduced_move reduced_term performed
 adds_does ts t e ms vs now rest u s h =
     ap (λ (x : Form). goes (part x (joined (dones vs) (more (done u) now)) rest) s went) (sym h.form) ∙
-    ap (λ (x : List Value). goes (part (task_form ts t e) (joined (dones x) (more (done u) now)) rest) s went) (sym h.values) ∙
-    ap (λ (x : Terms). goes (part (task_form ts t e) (joined (dones e.values) (more (done u) x)) rest) s went) (sym h.parts) ∙
-    ap (λ (x : Terms). goes (part (task_form ts t e) (joined (dones e.values) (more (done u) (now_of (head_of (later_of ts t e))))) x) s went) (sym h.behind)
+    ap (λ (x : List Value). goes (part (task_form ts t e) (joined (dones x) (more (done u) now)) rest) s went)
+    (sym h.values) ∙
+    ap (λ (x : Terms). goes (part (task_form ts t e) (joined (dones e.values) (more (done u) x)) rest) s went)
+    (sym h.parts) ∙
+    ap (λ (x : Terms). goes
+    (part (task_form ts t e) (joined (dones e.values) (more (done u) (now_of (head_of (later_of ts t e))))) x)
+    s went)
+    (sym h.behind)
 
-pub method-reply : (ts : List (List ℕ)) (f : FunctionForm) (scope : Addr) (vs : List Value) (key : Value) (v w : World) (r : Result Addr ActionEnd) (q : Reduced)
+pub method-reply : (ts : List (List ℕ)) (f : FunctionForm) (scope : Addr) (vs : List Value) (key : Value) (v w : World)
+    (r : Result Addr ActionEnd) (q : Reduced)
     → key ≡ last_of vs
     → Yields (method_made (key_of v key) f scope) v r w
     → q ≡ answered_by (λ a. reduced.Adds (values.Object a)) r →
@@ -111,8 +123,10 @@ pub method-reply : (ts : List (List ℕ)) (f : FunctionForm) (scope : Addr) (vs 
     → DoesIn ts t e (object_row v scope ms vs (more (part (method f) now later) rest)) v q w
 method-reply ts f scope vs key v w r q i y j t e ms now later rest h =
     let P : Value → Type 0 = λ x. Yields (method_made (key_of v x) f scope) v r w in
-    let next : Addr → Action = λ a. go (part (object ms) (joined (dones vs) (more (done (values.Object a)) now)) rest) in
-    yields-does ts t e (method_made (key_of v (last_of vs)) f scope) next (λ a. reduced.Adds (values.Object a)) v r w q (subst P i y) j (λ a s. adds_does ts t e ms vs now rest (values.Object a) s h)
+    let next : Addr
+    → Action = λ a. go (part (object ms) (joined (dones vs) (more (done (values.Object a)) now)) rest) in
+    yields-does ts t e (method_made (key_of v (last_of vs)) f scope) next (λ a. reduced.Adds (values.Object a)) v r w q
+    (subst P i y) j (λ a s. adds_does ts t e ms vs now rest (values.Object a) s h)
 
 -- ---- parts that are no methods
 
@@ -192,9 +206,12 @@ pub other-gives : (ts : List (List ℕ)) (t : NodeTable) (scope : Addr) (o : Op)
     → (o ≡ ops.Method → ⊥) →
     (e : Wide) (ms : List Member) (now later rest : Terms)
     → AddsTo ts t e ms vs now rest
-    → DoesIn ts t e (object_row v scope ms vs (more (part (form_of ts t o info) now later) rest)) v (reduced.Gives values.Undefined) v
+    → DoesIn ts t e (object_row v scope ms vs (more (part (form_of ts t o info) now later) rest)) v
+    (reduced.Gives values.Undefined) v
 other-gives ts t scope o info vs v h e ms now later rest x =
-    same-action ts t e (object_row v scope ms vs (more (part (form_of ts t o info) now later) rest)) (give values.Undefined) v v (reduced.Gives values.Undefined) (passed_part v scope ms vs (form_of ts t o info) now later rest (other_form ts t o info h))
+    same-action ts t e (object_row v scope ms vs (more (part (form_of ts t o info) now later) rest))
+    (give values.Undefined) v v (reduced.Gives values.Undefined)
+    (passed_part v scope ms vs (form_of ts t o info) now later rest (other_form ts t o info h))
     (λ s. give-does ts t e values.Undefined (with_world s v))
 
 pub method-none : (ts : List (List ℕ)) (t : NodeTable) (scope : Addr) (o : Op) (info : ℕ) (vs : List Value) (v : World)
@@ -202,36 +219,57 @@ pub method-none : (ts : List (List ℕ)) (t : NodeTable) (scope : Addr) (o : Op)
     → None ≡ slice_get t.functions.items info →
     (e : Wide) (ms : List Member) (now later rest : Terms)
     → AddsTo ts t e ms vs now rest
-    → DoesIn ts t e (object_row v scope ms vs (more (part (form_of ts t o info) now later) rest)) v (reduced.Gives values.Undefined) v
+    → DoesIn ts t e (object_row v scope ms vs (more (part (form_of ts t o info) now later) rest)) v
+    (reduced.Gives values.Undefined) v
 unfolding form_of
 method-none ts t scope o info vs v h i e ms now later rest x =
-    let f : is_method (form_of ts t o info) ≡ false = ap (λ p. is_method (form_of ts t p info)) h ∙ ap (λ y. is_method (method_form ts y)) (sym i) in
-    same-action ts t e (object_row v scope ms vs (more (part (form_of ts t o info) now later) rest)) (give values.Undefined) v v (reduced.Gives values.Undefined) (passed_part v scope ms vs (form_of ts t o info) now later rest f)
+    let f : is_method (form_of ts t o info) ≡ false = ap (λ p. is_method (form_of ts t p info)) h
+    ∙ ap (λ y. is_method (method_form ts y)) (sym i) in
+    same-action ts t e (object_row v scope ms vs (more (part (form_of ts t o info) now later) rest))
+    (give values.Undefined) v v (reduced.Gives values.Undefined)
+    (passed_part v scope ms vs (form_of ts t o info) now later rest f)
     (λ s. give-does ts t e values.Undefined (with_world s v))
 
-pub method-some : (ts : List (List ℕ)) (t : NodeTable) (scope : Addr) (o : Op) (info : ℕ) (f : FunctionEntry) (vs : List Value) (v w : World) (q : Reduced)
+pub method-some : (ts : List (List ℕ)) (t : NodeTable) (scope : Addr) (o : Op) (info : ℕ) (f : FunctionEntry)
+    (vs : List Value) (v w : World) (q : Reduced)
     → o ≡ ops.Method
     → Some f ≡ slice_get t.functions.items info →
-    ((u : NodeTable) (e : Wide) (ms : List Member) (now later rest : Terms) → AddsTo ts u e ms vs now rest → DoesIn ts u e (object_row v scope ms vs (more (part (method (function_of ts f)) now later) rest)) v q w) →
+    ((u : NodeTable) (e : Wide) (ms : List Member) (now later rest : Terms)
+    → AddsTo ts u e ms vs now rest
+    → DoesIn ts u e (object_row v scope ms vs (more (part (method (function_of ts f)) now later) rest)) v q w)
+    →
     (e : Wide) (ms : List Member) (now later rest : Terms)
     → AddsTo ts t e ms vs now rest
     → DoesIn ts t e (object_row v scope ms vs (more (part (form_of ts t o info) now later) rest)) v q w
 unfolding form_of
 method-some ts t scope o info f vs v w q h i g e ms now later rest x =
-    let m : form_of ts t o info ≡ method (function_of ts f) = ap (λ p. form_of ts t p info) h ∙ ap (λ y. method_form ts y) (sym i) in
-    same-action ts t e (object_row v scope ms vs (more (part (form_of ts t o info) now later) rest)) (object_row v scope ms vs (more (part (method (function_of ts f)) now later) rest)) v w q (ap (λ y. object_row v scope ms vs (more (part y now later) rest)) m) (g t e ms now later rest x)
+    let m : form_of ts t o info ≡ method (function_of ts f) = ap (λ p. form_of ts t p info) h
+    ∙ ap (λ y. method_form ts y) (sym i) in
+    same-action ts t e (object_row v scope ms vs (more (part (form_of ts t o info) now later) rest))
+    (object_row v scope ms vs (more (part (method (function_of ts f)) now later) rest)) v w q
+    (ap (λ y. object_row v scope ms vs (more (part y now later) rest)) m) (g t e ms now later rest x)
 
 -- ---- nodes
 
-literal_or : (ts : List (List ℕ)) (t : NodeTable) (v : World) (scope : Addr) (ms : List Member) (vs : List Value) (o : Op) (info : ℕ) (now later rest : Terms) →
-    object_row v scope ms vs (more (if is_literal o then done (constant_at t info) else part (form_of ts t o info) now later) rest) ≡ object_row v scope ms vs (more (part (form_of ts t o info) (now_of (if is_literal o then done (constant_at t info) else part (form_of ts t o info) now later)) later) rest)
+literal_or : (ts : List (List ℕ)) (t : NodeTable) (v : World) (scope : Addr) (ms : List Member) (vs : List Value)
+    (o : Op) (info : ℕ) (now later rest : Terms) →
+    object_row v scope ms vs
+    (more (if is_literal o then done (constant_at t info) else part (form_of ts t o info) now later) rest)
+    ≡ object_row v scope ms vs
+    (more (part (form_of ts t o info)
+    (now_of (if is_literal o then done (constant_at t info) else part (form_of ts t o info) now later)) later)
+    rest)
 unfolding form_of
 literal_or ts t v scope ms vs ops.Literal info now later rest = refl
 literal_or ts t v scope ms vs o info now later rest = refl
 
-pub node-before : (ts : List (List ℕ)) (t : NodeTable) (scope : Addr) (n : ℕ) (node : Node) (vs : List Value) (v w : World) (q : Reduced)
+pub node-before : (ts : List (List ℕ)) (t : NodeTable) (scope : Addr) (n : ℕ) (node : Node) (vs : List Value)
+    (v w : World) (q : Reduced)
     → Some node ≡ slice_get t.nodes.items n →
-    ((e : Wide) (ms : List Member) (now later rest : Terms) → AddsTo ts t e ms vs now rest → DoesIn ts t e (object_row v scope ms vs (more (part (form_of ts t node.op node.info) now later) rest)) v q w) →
+    ((e : Wide) (ms : List Member) (now later rest : Terms)
+    → AddsTo ts t e ms vs now rest
+    → DoesIn ts t e (object_row v scope ms vs (more (part (form_of ts t node.op node.info) now later) rest)) v q w)
+    →
     (e : Wide) (ms : List Member) (rest : Terms)
     → AddsTo ts t e ms vs (now_of (tree ts t n)) rest
     → DoesIn ts t e (object_row v scope ms vs (more (tree ts t n) rest)) v q w
@@ -240,9 +278,13 @@ node-before ts t scope n node vs v w q h g e ms rest x =
     let now : Terms = terms (tree_within ts t n) (kids_between t node.first node.mid) in
     let later : Terms = terms (tree_within ts t n) (kids_between t node.mid node.end) in
     let is : Term = node_term ts t (tree_within ts t n) (Some node) in
-    let P : Option Node → Type 0 = λ o. AddsTo ts t e ms vs (now_of (node_term ts t (tree_within ts t n) o)) rest → DoesIn ts t e (object_row v scope ms vs (more (node_term ts t (tree_within ts t n) o) rest)) v q w in
+    let P : Option Node
+    → Type 0 = λ o. AddsTo ts t e ms vs (now_of (node_term ts t (tree_within ts t n) o)) rest
+    → DoesIn ts t e (object_row v scope ms vs (more (node_term ts t (tree_within ts t n) o) rest)) v q w in
     let here : AddsTo ts t e ms vs (now_of is) rest → DoesIn ts t e (object_row v scope ms vs (more is rest)) v q w =
-    λ y. same-action ts t e (object_row v scope ms vs (more is rest)) (object_row v scope ms vs (more (part (form_of ts t node.op node.info) (now_of is) later) rest)) v w q (literal_or ts t v scope ms vs node.op node.info now later rest) (g e ms (now_of is) later rest y) in
+    λ y. same-action ts t e (object_row v scope ms vs (more is rest))
+    (object_row v scope ms vs (more (part (form_of ts t node.op node.info) (now_of is) later) rest)) v w q
+    (literal_or ts t v scope ms vs node.op node.info now later rest) (g e ms (now_of is) later rest y) in
     subst P h here x
 
 pub node-none : (ts : List (List ℕ)) (t : NodeTable) (scope : Addr) (n : ℕ) (vs : List Value) (v : World)
@@ -252,14 +294,20 @@ pub node-none : (ts : List (List ℕ)) (t : NodeTable) (scope : Addr) (n : ℕ) 
     → DoesIn ts t e (object_row v scope ms vs (more (tree ts t n) rest)) v (reduced.Gives values.Undefined) v
 unfolding tree
 node-none ts t scope n vs v h e ms rest x =
-    same-action ts t e (object_row v scope ms vs (more (tree ts t n) rest)) (give values.Undefined) v v (reduced.Gives values.Undefined) (ap (λ o. object_row v scope ms vs (more (node_term ts t (tree_within ts t n) o) rest)) (sym h))
+    same-action ts t e (object_row v scope ms vs (more (tree ts t n) rest)) (give values.Undefined) v v
+    (reduced.Gives values.Undefined)
+    (ap (λ o. object_row v scope ms vs (more (node_term ts t (tree_within ts t n) o) rest)) (sym h))
     (λ s. give-does ts t e values.Undefined (with_world s v))
 
 -- ---- kept parts
 
-pub literal-part : (ts : List (List ℕ)) (t : NodeTable) (scope : Addr) (from to k : ℕ) (vs : List Value) (v w : World) (q : Reduced)
+pub literal-part : (ts : List (List ℕ)) (t : NodeTable) (scope : Addr) (from to k : ℕ) (vs : List Value) (v w : World)
+    (q : Reduced)
     → Some k ≡ slice_get (kids_between t from to) 0 →
-    ((e : Wide) (ms : List Member) (rest : Terms) → AddsTo ts t e ms vs (now_of (tree ts t k)) rest → DoesIn ts t e (object_row v scope ms vs (more (tree ts t k) rest)) v q w) →
+    ((e : Wide) (ms : List Member) (rest : Terms)
+    → AddsTo ts t e ms vs (now_of (tree ts t k)) rest
+    → DoesIn ts t e (object_row v scope ms vs (more (tree ts t k) rest)) v q w)
+    →
     (ms : List Member) (e : Wide)
     → IsLiteralOf ts t e ms vs (trees ts t from to)
     → DoesIn ts t e (object_row v scope ms vs (trees ts t from to)) v q w
@@ -267,15 +315,25 @@ literal-part ts t scope from to k vs v w q h g ms e x =
     let rest : Terms = terms (tree ts t) (drop 1 (kids_between t from to)) in
     let first : trees ts t from to ≡ more (tree ts t k) rest = first-tree ts t from to k h in
     let kept : later_of ts t e ≡ more (tree ts t k) rest = x.kept ∙ first in
-    same-action ts t e (object_row v scope ms vs (trees ts t from to)) (object_row v scope ms vs (more (tree ts t k) rest)) v w q (ap (object_row v scope ms vs) first)
-    (g e ms rest (record { form = x.form; values = x.values; parts = ap (λ y. now_of (head_of y)) kept; behind = ap rest_of kept }))
+    same-action ts t e (object_row v scope ms vs (trees ts t from to))
+    (object_row v scope ms vs (more (tree ts t k) rest)) v w q (ap (object_row v scope ms vs) first)
+    (g e ms rest
+    (record {
+      form = x.form;
+      values = x.values;
+      parts = ap (λ y. now_of (head_of y))
+          kept;
+      behind = ap rest_of kept;
+    }))
 
-pub literal-end : (ts : List (List ℕ)) (t : NodeTable) (scope : Addr) (from to : ℕ) (ms : List Member) (vs : List Value) (v w : World) (r : Result Value ActionEnd) (q : Reduced)
+pub literal-end : (ts : List (List ℕ)) (t : NodeTable) (scope : Addr) (from to : ℕ) (ms : List Member) (vs : List Value)
+    (v w : World) (r : Result Value ActionEnd) (q : Reduced)
     → None ≡ slice_get (kids_between t from to) 0 →
     Gives (object_or_fail (properties_from v [] ms vs)) v r w → q ≡ replied r →
     (e : Wide)
     → IsLiteralOf ts t e ms vs (trees ts t from to)
     → DoesIn ts t e (object_row v scope ms vs (trees ts t from to)) v q w
 literal-end ts t scope from to ms vs v w r q h g j e x =
-    same-action ts t e (object_row v scope ms vs (trees ts t from to)) (object_or_fail (properties_from v [] ms vs)) v w q (ap (object_row v scope ms vs) (no-trees ts t from to h))
+    same-action ts t e (object_row v scope ms vs (trees ts t from to)) (object_or_fail (properties_from v [] ms vs))
+    v w q (ap (object_row v scope ms vs) (no-trees ts t from to h))
     (replies-by ts (object_or_fail (properties_from v [] ms vs)) v r w q g j t e)

@@ -55,8 +55,11 @@ pub test-reply : (ts : List (List ℕ)) (w : World) (b : Bool) (u : Value) (vs :
     (t : NodeTable) (e : Wide) → DoesIn ts t e (loop_row w stages.Testing (own_scope e) vs (later_of ts t e)) w q w
 test-reply ts w b u vs q h i j t e =
     let test : is_truthy w (only vs) ≡ b = ap (is_truthy w) (sym i) ∙ sym h in
-    same-action ts t e (loop_row w stages.Testing (own_scope e) vs (later_of ts t e)) (go (turn_or_end b (own_scope e) (later_of ts t e))) w w q (ap (λ x. go (turn_or_end x (own_scope e) (later_of ts t e))) test)
-    (same-answer ts t e (go (turn_or_end b (own_scope e) (later_of ts t e))) w w (tested b) q j (λ s. tested_does ts t e b (with_world s w)))
+    same-action ts t e (loop_row w stages.Testing (own_scope e) vs (later_of ts t e))
+    (go (turn_or_end b (own_scope e) (later_of ts t e))) w w q
+    (ap (λ x. go (turn_or_end x (own_scope e) (later_of ts t e))) test)
+    (same-answer ts t e (go (turn_or_end b (own_scope e) (later_of ts t e))) w w (tested b) q j
+    (λ s. tested_does ts t e b (with_world s w)))
 
 -- ---- scopes of turns
 
@@ -66,17 +69,23 @@ scope_none info a h = ap (λ n. turn_scope n a) h
 pub first-none : (ts : List (List ℕ)) (info : ℕ) (a : Addr) (w : World)
     → info ≡ 0
     → (t : NodeTable) (e : Wide) (vs : List Value)
-    → DoesIn ts t e (loop_row w stages.First (turn_scope info a) vs (later_of ts t e)) w (reduced.Gives values.Undefined) w
+    → DoesIn ts t e (loop_row w stages.First (turn_scope info a) vs (later_of ts t e)) w
+    (reduced.Gives values.Undefined) w
 first-none ts info a w h t e vs =
-    same-action ts t e (loop_row w stages.First (turn_scope info a) vs (later_of ts t e)) (give values.Undefined) w w (reduced.Gives values.Undefined) (ap (λ x. loop_row w stages.First x vs (later_of ts t e)) (scope_none info a h))
+    same-action ts t e (loop_row w stages.First (turn_scope info a) vs (later_of ts t e)) (give values.Undefined) w w
+    (reduced.Gives values.Undefined)
+    (ap (λ x. loop_row w stages.First x vs (later_of ts t e)) (scope_none info a h))
     (λ s. give-does ts t e values.Undefined (with_world s w))
 
 pub body-none : (ts : List (List ℕ)) (info : ℕ) (a : Addr) (w : World)
     → info ≡ 0
     → (t : NodeTable) (e : Wide) (vs : List Value)
-    → DoesIn ts t e (loop_row w stages.Body (turn_scope info a) vs (later_of ts t e)) w (reduced.Gives values.Undefined) w
+    → DoesIn ts t e (loop_row w stages.Body (turn_scope info a) vs (later_of ts t e)) w (reduced.Gives values.Undefined)
+    w
 body-none ts info a w h t e vs =
-    same-action ts t e (loop_row w stages.Body (turn_scope info a) vs (later_of ts t e)) (give values.Undefined) w w (reduced.Gives values.Undefined) (ap (λ x. loop_row w stages.Body x vs (later_of ts t e)) (scope_none info a h))
+    same-action ts t e (loop_row w stages.Body (turn_scope info a) vs (later_of ts t e)) (give values.Undefined) w w
+    (reduced.Gives values.Undefined)
+    (ap (λ x. loop_row w stages.Body x vs (later_of ts t e)) (scope_none info a h))
     (λ s. give-does ts t e values.Undefined (with_world s w))
 
 tests_does : (ts : List (List ℕ)) (t : NodeTable) (e : Wide) (b : Addr) (s : State)
@@ -97,7 +106,8 @@ pub first-copied : (ts : List (List ℕ)) (info : ℕ) (a : Addr) (v w : World) 
     → DoesIn ts t e (loop_row v stages.First (turn_scope info a) vs (later_of ts t e)) v q w
 first-copied ts info a v w r q h y j t e vs =
     let next : Addr → Action = λ b. go (at_test (Some b) (later_of ts t e)) in
-    same-action ts t e (loop_row v stages.First (turn_scope info a) vs (later_of ts t e)) (copied v a next) v w q (ap (λ x. loop_row v stages.First x vs (later_of ts t e)) (own-scope info a h))
+    same-action ts t e (loop_row v stages.First (turn_scope info a) vs (later_of ts t e)) (copied v a next) v w q
+    (ap (λ x. loop_row v stages.First x vs (later_of ts t e)) (own-scope info a h))
     (yields-does ts t e (copied v a) next (λ b. reduced.Tests b) v r w q y j (λ b s. tests_does ts t e b s))
 
 pub body-copied : (ts : List (List ℕ)) (info : ℕ) (a : Addr) (v w : World) (r : Result Addr ActionEnd) (q : Reduced)
@@ -108,7 +118,8 @@ pub body-copied : (ts : List (List ℕ)) (info : ℕ) (a : Addr) (v w : World) (
     → DoesIn ts t e (loop_row v stages.Body (turn_scope info a) vs (later_of ts t e)) v q w
 body-copied ts info a v w r q h y j t e vs =
     let next : Addr → Action = λ b. go (at_update (Some b) (later_of ts t e)) in
-    same-action ts t e (loop_row v stages.Body (turn_scope info a) vs (later_of ts t e)) (copied v a next) v w q (ap (λ x. loop_row v stages.Body x vs (later_of ts t e)) (own-scope info a h))
+    same-action ts t e (loop_row v stages.Body (turn_scope info a) vs (later_of ts t e)) (copied v a next) v w q
+    (ap (λ x. loop_row v stages.Body x vs (later_of ts t e)) (own-scope info a h))
     (yields-does ts t e (copied v a) next (λ b. reduced.Updates b) v r w q y j (λ b s. updates_does ts t e b s))
 
 -- ---- for
@@ -118,7 +129,8 @@ initializes_does : (ts : List (List ℕ)) (t : NodeTable) (e : Wide) (constant :
 unfolding reduced_move reduced_term performed
 initializes_does ts t e constant a s = refl
 
-pub for-reply : (ts : List (List ℕ)) (scope : Addr) (node : ℕ) (constant : Bool) (bs : List Binding) (v w : World) (c d : Context) (r : Result Addr ActionEnd) (q : Reduced) →
+pub for-reply : (ts : List (List ℕ)) (scope : Addr) (node : ℕ) (constant : Bool) (bs : List Binding) (v w : World)
+    (c d : Context) (r : Result Addr ActionEnd) (q : Reduced) →
     Turns (set_here (start node)) c d
     → Yields (new_scope scopes.Block [] scope bs) v r w
     → q ≡ answered_by (λ a. reduced.Initializes constant a) r →
@@ -126,35 +138,45 @@ pub for-reply : (ts : List (List ℕ)) (scope : Addr) (node : ℕ) (constant : B
 for-reply ts scope node constant bs v w c d r q g y j t e =
     let inner : Addr → Action = λ a. go (for_in constant a (later_of ts t e)) in
     turns-does ts t e (set_here (start node)) (new_scope scopes.Block [] scope bs inner) v w c d d q g
-    (in-context ts t e (new_scope scopes.Block [] scope bs inner) v q w d (yields-does ts t e (new_scope scopes.Block [] scope bs) inner (λ a. reduced.Initializes constant a) v r w q y j (λ a s. initializes_does ts t e constant a s)))
+    (in-context ts t e (new_scope scopes.Block [] scope bs inner) v q w d
+    (yields-does ts t e (new_scope scopes.Block [] scope bs) inner (λ a. reduced.Initializes constant a) v r w q y j
+    (λ a s. initializes_does ts t e constant a s)))
 
 -- ---- for .. of: its list
 
-lists_does : (ts : List (List ℕ)) (t : NodeTable) (e : Wide) (x : ForOfEntry) (l : Term) (rest : Terms) (a : Addr) (s : State)
+lists_does : (ts : List (List ℕ)) (t : NodeTable) (e : Wide) (x : ForOfEntry) (l : Term) (rest : Terms) (a : Addr)
+    (s : State)
     → Some x ≡ slice_get t.for_ofs.items e.info
     → later_of ts t e ≡ more l rest →
     Does ts t e (go (part (list_of (binding_at ts x.slot)) (one (in_scope a l)) rest)) s (reduced.Lists a) s
 unfolding reduced_move reduced_term performed
 lists_does ts t e x l rest a s h i =
     ap (λ o. goes (part (list_form ts o) (one (in_scope a l)) rest) s went) h ∙
-    ap (λ (y : Terms). goes (part (list_form ts (slice_get t.for_ofs.items e.info)) (one (in_scope a (head_of y))) (rest_of y)) s went) (sym i)
+    ap (λ (y : Terms). goes
+    (part (list_form ts (slice_get t.for_ofs.items e.info)) (one (in_scope a (head_of y))) (rest_of y)) s went)
+    (sym i)
 
 pub for-of-none : (ts : List (List ℕ)) (t : NodeTable) (form : Redex) (node : ℕ) (b : Binding) (v : World) (c : Context)
     → None ≡ slice_get (kids_between t form.mid form.end) 0 →
     (vs : List Value)
-    → DoesWith ts t (redex form vs None) (enter_for_of_row form.inner node b (trees ts t form.mid form.end)) v c (reduced.Gives values.Undefined) v c
+    → DoesWith ts t (redex form vs None) (enter_for_of_row form.inner node b (trees ts t form.mid form.end)) v c
+    (reduced.Gives values.Undefined) v c
 for-of-none ts t form node b v c h vs =
-    same-row ts t (redex form vs None) (enter_for_of_row form.inner node b (trees ts t form.mid form.end)) (give values.Undefined) v v c c (reduced.Gives values.Undefined) (ap (enter_for_of_row form.inner node b) (no-trees ts t form.mid form.end h))
+    same-row ts t (redex form vs None) (enter_for_of_row form.inner node b (trees ts t form.mid form.end))
+    (give values.Undefined) v v c c (reduced.Gives values.Undefined)
+    (ap (enter_for_of_row form.inner node b) (no-trees ts t form.mid form.end h))
     (λ taken. give-does ts t (redex form vs None) values.Undefined (state_of v c taken))
 
-pub for-of-part : (ts : List (List ℕ)) (t : NodeTable) (form : Redex) (x : ForOfEntry) (k : ℕ) (v w : World) (c d : Context) (r : Result Addr ActionEnd) (q : Reduced)
+pub for-of-part : (ts : List (List ℕ)) (t : NodeTable) (form : Redex) (x : ForOfEntry) (k : ℕ) (v w : World)
+    (c d : Context) (r : Result Addr ActionEnd) (q : Reduced)
     → Some x ≡ slice_get t.for_ofs.items form.info
     → Some k ≡ slice_get (kids_between t form.mid form.end) 0 →
     Turns (set_here (start x.node)) c d
     → Yields (new_scope scopes.Block [] form.inner (binding_at ts x.slot ∷ [])) v r w
     → q ≡ answered_by (λ a. reduced.Lists a) r →
     (vs : List Value)
-    → DoesWith ts t (redex form vs None) (enter_for_of_row form.inner x.node (binding_at ts x.slot) (trees ts t form.mid form.end)) v c q w d
+    → DoesWith ts t (redex form vs None)
+    (enter_for_of_row form.inner x.node (binding_at ts x.slot) (trees ts t form.mid form.end)) v c q w d
 for-of-part ts t form x k v w c d r q h i g y j vs =
     let e : Wide = redex form vs None in
     let b : Binding = binding_at ts x.slot in
@@ -162,15 +184,19 @@ for-of-part ts t form x k v w c d r q h i g y j vs =
     let inner : Addr → Action = λ a. go (part (list_of b) (one (in_scope a (tree ts t k))) rest) in
     let made : Action = new_scope scopes.Block [] form.inner (b ∷ []) inner in
     let first : trees ts t form.mid form.end ≡ more (tree ts t k) rest = first-tree ts t form.mid form.end k i in
-    same-row ts t e (enter_for_of_row form.inner x.node b (trees ts t form.mid form.end)) (set_here (start x.node) made) v w c d q (ap (enter_for_of_row form.inner x.node b) first)
+    same-row ts t e (enter_for_of_row form.inner x.node b (trees ts t form.mid form.end)) (set_here (start x.node) made)
+    v w c d q (ap (enter_for_of_row form.inner x.node b) first)
     (turns-does ts t e (set_here (start x.node)) made v w c d d q g
-    (in-context ts t e made v q w d (yields-does ts t e (new_scope scopes.Block [] form.inner (b ∷ [])) inner (λ a. reduced.Lists a) v r w q y j (λ a s. lists_does ts t e x (tree ts t k) rest a s h first))))
+    (in-context ts t e made v q w d
+    (yields-does ts t e (new_scope scopes.Block [] form.inner (b ∷ [])) inner (λ a. reduced.Lists a) v r w q y j
+    (λ a s. lists_does ts t e x (tree ts t k) rest a s h first))))
 
 -- ---- for .. of: its first turn
 
 iterates_does : (ts : List (List ℕ)) (t : NodeTable) (e : Wide) (x : ForOfEntry) (u : Value) (s : State)
     → Some x ≡ slice_get t.for_ofs.items e.info →
-    Does ts t e (go (part (turn_of (binding_at ts x.slot) 0) end (more (done u) (later_of ts t e)))) s (reduced.Iterates u) s
+    Does ts t e (go (part (turn_of (binding_at ts x.slot) 0) end (more (done u) (later_of ts t e)))) s
+    (reduced.Iterates u) s
 unfolding reduced_move reduced_term performed
 iterates_does ts t e x u s h = ap (λ o. goes (part (turn_form ts o 0) end (more (done u) (later_of ts t e))) s went) h
 
@@ -182,7 +208,8 @@ list_else : (b : Bool) (x y : Action) → false ≡ b → (if b then x else y) �
 list_else true x y h = cc
 list_else false x y h = refl
 
-pub list-goes : (ts : List (List ℕ)) (t : NodeTable) (info : ℕ) (x : ForOfEntry) (u : Value) (vs : List Value) (w : World)
+pub list-goes : (ts : List (List ℕ)) (t : NodeTable) (info : ℕ) (x : ForOfEntry) (u : Value) (vs : List Value)
+    (w : World)
     → Some x ≡ slice_get t.for_ofs.items info
     → u ≡ argument vs 0
     → true ≡ is_array w u →
@@ -190,12 +217,16 @@ pub list-goes : (ts : List (List ℕ)) (t : NodeTable) (info : ℕ) (x : ForOfEn
     → e.info ≡ info
     → DoesIn ts t e (list_row w (binding_at ts x.slot) (only vs) (later_of ts t e)) w (reduced.Iterates u) w
 list-goes ts t info x u vs w h i j e k =
-    let P : Value → Type 0 = λ y. DoesIn ts t e (list_row w (binding_at ts x.slot) y (later_of ts t e)) w (reduced.Iterates u) w in
+    let P : Value
+    → Type 0 = λ y. DoesIn ts t e (list_row w (binding_at ts x.slot) y (later_of ts t e)) w (reduced.Iterates u) w in
     let first : Action = go (part (turn_of (binding_at ts x.slot) 0) end (more (done u) (later_of ts t e))) in
-    subst P i (same-action ts t e (list_row w (binding_at ts x.slot) u (later_of ts t e)) first w w (reduced.Iterates u) (list_if (is_array w u) first (fail classes.TypeError (codes "Value is not an array")) j)
+    subst P i
+    (same-action ts t e (list_row w (binding_at ts x.slot) u (later_of ts t e)) first w w (reduced.Iterates u)
+    (list_if (is_array w u) first (fail classes.TypeError (codes "Value is not an array")) j)
     (λ s. iterates_does ts t e x u (with_world s w) (h ∙ ap (λ n. slice_get t.for_ofs.items n) (sym k))))
 
-pub list-fails : (ts : List (List ℕ)) (t : NodeTable) (info : ℕ) (b : Binding) (u : Value) (vs : List Value) (v w : World) (x : ActionEnd) (q : Reduced)
+pub list-fails : (ts : List (List ℕ)) (t : NodeTable) (info : ℕ) (b : Binding) (u : Value) (vs : List Value)
+    (v w : World) (x : ActionEnd) (q : Reduced)
     → u ≡ argument vs 0
     → false ≡ is_array v u
     → Ends (fail classes.TypeError (codes "Value is not an array")) v x w
@@ -205,8 +236,10 @@ list-fails ts t info b u vs v w x q i j g m e k =
     let P : Value → Type 0 = λ y. DoesIn ts t e (list_row v b y (later_of ts t e)) v q w in
     let first : Action = go (part (turn_of b 0) end (more (done u) (later_of ts t e))) in
     let error : Action = fail classes.TypeError (codes "Value is not an array") in
-    subst P i (same-action ts t e (list_row v b u (later_of ts t e)) error v w q (list_else (is_array v u) first error j)
-    (same-answer ts t e error v w (stopped x) q m (λ s. stops-does ts t e error (with_world s v) x (with_world s w) (g s))))
+    subst P i
+    (same-action ts t e (list_row v b u (later_of ts t e)) error v w q (list_else (is_array v u) first error j)
+    (same-answer ts t e error v w (stopped x) q m
+    (λ s. stops-does ts t e error (with_world s v) x (with_world s w) (g s))))
 
 -- ---- for .. of: a turn
 
@@ -218,20 +251,31 @@ element_first w (part f now later) us i = refl
 
 iterated_does : (ts : List (List ℕ)) (t : NodeTable) (e : Wide) (x : ForOfEntry) (a : Addr) (s : State)
     → Some x ≡ slice_get t.for_ofs.items e.info →
-    Does ts t e (go (settled (body_of (binding_at ts x.slot) (index_of e.extra + 1)) (one (in_scope a (body_part (later_of ts t e)))) (later_of ts t e))) s (reduced.Iterated a) s
+    Does ts t e
+    (go (settled (body_of (binding_at ts x.slot) (index_of e.extra + 1))
+    (one (in_scope a (body_part (later_of ts t e)))) (later_of ts t e)))
+    s (reduced.Iterated a) s
 unfolding reduced_move reduced_term performed
-iterated_does ts t e x a s h = ap (λ o. goes (settled (body_form ts o (index_of e.extra + 1)) (one (in_scope a (body_part (later_of ts t e)))) (later_of ts t e)) s went) h
+iterated_does ts t e x a s h =
+    ap (λ o. goes
+    (settled (body_form ts o (index_of e.extra + 1)) (one (in_scope a (body_part (later_of ts t e))))
+    (later_of ts t e))
+    s went)
+    h
 
 pub turn-none : (ts : List (List ℕ)) (t : NodeTable) (form : Redex) (b : Binding) (list : Value) (i : ℕ) (w : World)
     → None ≡ elements_of w (one (done list)) i →
     (vs : List Value) → IsTurn ts t (redex form vs (Some (extras.Turn list i))) b w (reduced.Gives values.Undefined) w
 turn-none ts t form b list i w h vs =
     let e : Wide = redex form vs (Some (extras.Turn list i)) in
-    same-action ts t e (turn_row form.inner b i (elements_of w (later_of ts t e) i) (later_of ts t e)) (give values.Undefined) w w (reduced.Gives values.Undefined)
-    (ap (λ o. turn_row form.inner b i o (later_of ts t e)) (element_first w (done list) (trees ts t form.mid form.end) i ∙ sym h))
+    same-action ts t e (turn_row form.inner b i (elements_of w (later_of ts t e) i) (later_of ts t e))
+    (give values.Undefined) w w (reduced.Gives values.Undefined)
+    (ap (λ o. turn_row form.inner b i o (later_of ts t e))
+    (element_first w (done list) (trees ts t form.mid form.end) i ∙ sym h))
     (λ s. give-does ts t e values.Undefined (with_world s w))
 
-pub turn-part : (ts : List (List ℕ)) (t : NodeTable) (form : Redex) (x : ForOfEntry) (list u : Value) (i : ℕ) (y : Slot) (v w : World) (r : Result Addr ActionEnd) (q : Reduced)
+pub turn-part : (ts : List (List ℕ)) (t : NodeTable) (form : Redex) (x : ForOfEntry) (list u : Value) (i : ℕ) (y : Slot)
+    (v w : World) (r : Result Addr ActionEnd) (q : Reduced)
     → Some x ≡ slice_get t.for_ofs.items form.info
     → Some u ≡ elements_of v (one (done list)) i →
     y ≡ record x.slot { value = Some u }
@@ -243,7 +287,12 @@ turn-part ts t form x list u i y v w r q h g j p m vs =
     let b : Binding = binding_at ts x.slot in
     let bs : List Binding = record b { value = Some u } ∷ [] in
     let P : Slot → Type 0 = λ z. Yields (new_scope scopes.Block [] form.inner (binding_at ts z ∷ [])) v r w in
-    let inner : Addr → Action = λ a. go (settled (body_of b (i + 1)) (one (in_scope a (body_part (later_of ts t e)))) (later_of ts t e)) in
-    same-action ts t e (turn_row form.inner b i (elements_of v (later_of ts t e) i) (later_of ts t e)) (new_scope scopes.Block [] form.inner bs inner) v w q
-    (ap (λ o. turn_row form.inner b i o (later_of ts t e)) (element_first v (done list) (trees ts t form.mid form.end) i ∙ sym g))
-    (yields-does ts t e (new_scope scopes.Block [] form.inner bs) inner (λ a. reduced.Iterated a) v r w q (subst P j p) m (λ a s. iterated_does ts t e x a s h))
+    let inner : Addr
+    → Action = λ a. go (settled (body_of b (i + 1)) (one (in_scope a (body_part (later_of ts t e)))) (later_of ts t e))
+    in
+    same-action ts t e (turn_row form.inner b i (elements_of v (later_of ts t e) i) (later_of ts t e))
+    (new_scope scopes.Block [] form.inner bs inner) v w q
+    (ap (λ o. turn_row form.inner b i o (later_of ts t e))
+    (element_first v (done list) (trees ts t form.mid form.end) i ∙ sym g))
+    (yields-does ts t e (new_scope scopes.Block [] form.inner bs) inner (λ a. reduced.Iterated a) v r w q (subst P j p)
+    m (λ a s. iterated_does ts t e x a s h))

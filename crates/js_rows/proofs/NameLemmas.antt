@@ -32,7 +32,9 @@ pub open-written : (name : List ℕ) (o : Option FoundSlot) (p : Option Found) (
 open-written name None p f v e h = cc
 open-written name (Some g) p f v e h =
     let i = open_if (is_some g.value && not g.constant) g f h in
-    sym (written-kept name (Some g) p v e) ∙ bound_open name g.constant g.value g.scope v i.0 ∙ ap (λ (x : FoundSlot). a_change x.scope (changes.Bind name v)) i.1
+    sym (written-kept name (Some g) p v e)
+    ∙ bound_open name g.constant g.value g.scope v i.0
+    ∙ ap (λ (x : FoundSlot). a_change x.scope (changes.Bind name v)) i.1
 
 -- and it has a value
 open_value : (name : List ℕ) (o : Option FoundSlot) (f : FoundSlot) (u : Value)

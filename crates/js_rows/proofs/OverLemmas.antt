@@ -47,37 +47,49 @@ pub same-answer : (ts : List (List ℕ)) (t : NodeTable) (e : Wide) (a : Action)
     → DoesIn ts t e a v q w
 same-answer ts t e a v w r q h d = let P : Reduced → Type 0 = λ x. DoesIn ts t e a v x w in subst P (sym h) d
 
-pub same-row : (ts : List (List ℕ)) (t : NodeTable) (e : Wide) (a b : Action) (v w : World) (c d : Context) (r : Reduced)
+pub same-row : (ts : List (List ℕ)) (t : NodeTable) (e : Wide) (a b : Action) (v w : World) (c d : Context)
+    (r : Reduced)
     → a ≡ b
     → DoesWith ts t e b v c r w d
     → DoesWith ts t e a v c r w d
 same-row ts t e a b v w c d r h g = let P : Action → Type 0 = λ x. DoesWith ts t e x v c r w d in subst P (sym h) g
 
 -- a context that turns first
-pub turns-does : (ts : List (List ℕ)) (t : NodeTable) (e : Wide) (f : Action → Action) (a : Action) (v w : World) (b c d : Context) (r : Reduced)
+pub turns-does : (ts : List (List ℕ)) (t : NodeTable) (e : Wide) (f : Action → Action) (a : Action) (v w : World)
+    (b c d : Context) (r : Reduced)
     → Turns f b c
     → DoesWith ts t e a v c r w d
     → DoesWith ts t e (f a) v b r w d
-turns-does ts t e f a v w b c d r h g = λ taken. does-by ts t e (f a) a (state_of v b taken) (state_of v c taken) (state_of w d taken) r (h v taken a) (g taken)
+turns-does ts t e f a v w b c d r h g =
+    λ taken. does-by ts t e (f a) a (state_of v b taken) (state_of v c taken) (state_of w d taken) r (h v taken a)
+    (g taken)
 
 -- something that is made first
-pub yields-does : {A : Type 0} (ts : List (List ℕ)) (t : NodeTable) (e : Wide) (f : (A → Action) → Action) (k : A → Action) (g : A → Reduced) (v : World) (r : Result A ActionEnd) (w : World) (q : Reduced) →
+pub yields-does : {A : Type 0} (ts : List (List ℕ)) (t : NodeTable) (e : Wide) (f : (A → Action) → Action)
+    (k : A → Action) (g : A → Reduced) (v : World) (r : Result A ActionEnd) (w : World) (q : Reduced) →
     Yields f v r w
     → q ≡ answered_by g r
     → ((a : A) (s : State) → Does ts t e (k a) s (g a) s)
     → DoesIn ts t e (f k) v q w
 yields-does ts t e f k g v (Ok a) w q h i d =
-    same-answer ts t e (f k) v w (g a) q i (λ s. does-by ts t e (f k) (k a) (with_world s v) (with_world s w) (with_world s w) (g a) (h s k) (d a (with_world s w)))
+    same-answer ts t e (f k) v w (g a) q i
+    (λ s. does-by ts t e (f k) (k a) (with_world s v) (with_world s w) (with_world s w) (g a) (h s k)
+    (d a (with_world s w)))
 yields-does ts t e f k g v (Err x) w q h i d =
-    same-answer ts t e (f k) v w (answered_by g (Err x)) q i (λ s. stops-does ts t e (f k) (with_world s v) x (with_world s w) (h s k))
+    same-answer ts t e (f k) v w (answered_by g (Err x)) q i
+    (λ s. stops-does ts t e (f k) (with_world s v) x (with_world s w) (h s k))
 
 -- something that is done first
-pub passes-does : {A : Type 0} (ts : List (List ℕ)) (t : NodeTable) (e : Wide) (f : Action → Action) (k : Action) (g : A → Reduced) (v : World) (r : Result A ActionEnd) (w : World) (q : Reduced) →
+pub passes-does : {A : Type 0} (ts : List (List ℕ)) (t : NodeTable) (e : Wide) (f : Action → Action) (k : Action)
+    (g : A → Reduced) (v : World) (r : Result A ActionEnd) (w : World) (q : Reduced) →
     Passes f v r w → q ≡ answered_by g r → ((a : A) (s : State) → Does ts t e k s (g a) s) → DoesIn ts t e (f k) v q w
 passes-does ts t e f k g v (Ok a) w q h i d =
-    same-answer ts t e (f k) v w (g a) q i (λ s. does-by ts t e (f k) k (with_world s v) (with_world s w) (with_world s w) (g a) (h s k) (d a (with_world s w)))
+    same-answer ts t e (f k) v w (g a) q i
+    (λ s. does-by ts t e (f k) k (with_world s v) (with_world s w) (with_world s w) (g a) (h s k)
+    (d a (with_world s w)))
 passes-does ts t e f k g v (Err x) w q h i d =
-    same-answer ts t e (f k) v w (answered_by g (Err x)) q i (λ s. stops-does ts t e (f k) (with_world s v) x (with_world s w) (h s k))
+    same-answer ts t e (f k) v w (answered_by g (Err x)) q i
+    (λ s. stops-does ts t e (f k) (with_world s v) x (with_world s w) (h s k))
 
 -- ---- kept parts: the first one, and those behind it
 
@@ -101,12 +113,15 @@ kids_behind : (t : NodeTable) (from to : ℕ) → drop 1 (kids_between t from to
 kids_behind t from to =
     let e : (to - from) - 1 ≡ to - (from + 1) = omega arith in
     let f : suc from ≡ from + 1 = omega arith in
-    drop_take (to - from) (drop from t.kids.items) ∙ ap (λ m. take m (drop 1 (drop from t.kids.items))) e ∙ ap (λ xs. take (to - (from + 1)) xs) (drop_drop t.kids.items from ∙ ap (λ m. drop m t.kids.items) f)
+    drop_take (to - from) (drop from t.kids.items)
+    ∙ ap (λ m. take m (drop 1 (drop from t.kids.items))) e
+    ∙ ap (λ xs. take (to - (from + 1)) xs) (drop_drop t.kids.items from ∙ ap (λ m. drop m t.kids.items) f)
 
 pub first-kept : (ts : List (List ℕ)) (t : NodeTable) (from to k : ℕ)
     → Some k ≡ slice_get (kids_between t from to) 0
     → trees ts t from to ≡ more (tree ts t k) (trees ts t (from + 1) to)
-first-kept ts t from to k h = first-tree ts t from to k h ∙ ap (λ ks. more (tree ts t k) (terms (tree ts t) ks)) (kids_behind t from to)
+first-kept ts t from to k h =
+    first-tree ts t from to k h ∙ ap (λ ks. more (tree ts t k) (terms (tree ts t) ks)) (kids_behind t from to)
 
 -- ---- ends
 

@@ -52,7 +52,8 @@ terms_two : (f : ℕ → Term) (ks : List ℕ) (k l : ℕ)
     → terms f ks ≡ more (f k) (more (f l) (terms f (drop 2 ks)))
 terms_two f [] k l h g = cc
 terms_two f (j ∷ []) k l h g = cc
-terms_two f (j ∷ i ∷ ks) k l h g = ap (λ x. more (f x) (more (f i) (terms f ks))) (cc) ∙ ap (λ x. more (f k) (more (f x) (terms f ks))) (cc)
+terms_two f (j ∷ i ∷ ks) k l h g =
+    ap (λ x. more (f x) (more (f i) (terms f ks))) (cc) ∙ ap (λ x. more (f k) (more (f x) (terms f ks))) (cc)
 
 -- no parts
 pub no-trees : (ts : List (List ℕ)) (t : NodeTable) (from to : ℕ)

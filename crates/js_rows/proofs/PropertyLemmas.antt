@@ -45,7 +45,8 @@ first-values (v ∷ u ∷ vs) o i h g =
 
 -- ---- reading
 
-pub member-read : (ts : List (List ℕ)) (vs : List Value) (o : Value) (n : List ℕ) (v : World) (r : Result Value ActionEnd) (w : World) (q : Reduced)
+pub member-read : (ts : List (List ℕ)) (vs : List Value) (o : Value) (n : List ℕ) (v : World)
+    (r : Result Value ActionEnd) (w : World) (q : Reduced)
     → slice_get vs 0 ≡ Some o
     → Yields (with_result (property_of v o n)) v r w
     → q ≡ replied r
@@ -54,7 +55,8 @@ member-read ts vs o n v r w q g h e =
     let P : List Value → Type 0 = λ xs. Replies ts (with_result (member_result v xs n) give) v q w in
     subst P (sym (first-value vs o g)) (result-reply ts (property_of v o n) v r w q h e)
 
-pub index-read : (ts : List (List ℕ)) (vs : List Value) (o i : Value) (v : World) (r : Result Value ActionEnd) (w : World) (q : Reduced)
+pub index-read : (ts : List (List ℕ)) (vs : List Value) (o i : Value) (v : World) (r : Result Value ActionEnd)
+    (w : World) (q : Reduced)
     → slice_get vs 0 ≡ Some o
     → slice_get vs 1 ≡ Some i
     → Yields (indexed v o i) v r w
@@ -66,7 +68,8 @@ index-read ts vs o i v r w q g f h e =
 
 -- ---- writing
 
-by_value : (ts : List (List ℕ)) (f : Value → Action → Action) (x y : Value) (v : World) (r : Result (Unit {0}) ActionEnd) (w : World) (q : Reduced)
+by_value : (ts : List (List ℕ)) (f : Value → Action → Action) (x y : Value) (v : World)
+    (r : Result (Unit {0}) ActionEnd) (w : World) (q : Reduced)
     → x ≡ y
     → Passes (f x) v r w
     → q ≡ replied_with r x
@@ -75,7 +78,8 @@ by_value ts f x y v r w q g h e =
     let P : Value → Type 0 = λ z. Replies ts (f z (give z)) v q w in
     subst P g (passes-reply ts (f x) x v r w q h e)
 
-pub member-assigned : (ts : List (List ℕ)) (vs : List Value) (o x : Value) (n : List ℕ) (v : World) (r : Result (Unit {0}) ActionEnd) (w : World) (q : Reduced)
+pub member-assigned : (ts : List (List ℕ)) (vs : List Value) (o x : Value) (n : List ℕ) (v : World)
+    (r : Result (Unit {0}) ActionEnd) (w : World) (q : Reduced)
     → slice_get vs 0 ≡ Some o
     → x ≡ last_of vs
     → Passes (with_written (property_written v o n x)) v r w
@@ -83,9 +87,11 @@ pub member-assigned : (ts : List (List ℕ)) (vs : List Value) (o x : Value) (n 
     Replies ts (member_put v vs n (last_of vs) (give (last_of vs))) v q w
 member-assigned ts vs o x n v r w q g l h e =
     let P : List Value → Type 0 = λ xs. Replies ts (member_put v xs n (last_of vs) (give (last_of vs))) v q w in
-    subst P (sym (first-value vs o g)) (by_value ts (λ y. with_written (property_written v o n y)) x (last_of vs) v r w q l h e)
+    subst P (sym (first-value vs o g))
+    (by_value ts (λ y. with_written (property_written v o n y)) x (last_of vs) v r w q l h e)
 
-pub index-assigned : (ts : List (List ℕ)) (vs : List Value) (o i x : Value) (v : World) (r : Result (Unit {0}) ActionEnd) (w : World) (q : Reduced)
+pub index-assigned : (ts : List (List ℕ)) (vs : List Value) (o i x : Value) (v : World)
+    (r : Result (Unit {0}) ActionEnd) (w : World) (q : Reduced)
     → slice_get vs 0 ≡ Some o
     → slice_get vs 1 ≡ Some i
     → x ≡ last_of vs
@@ -96,7 +102,8 @@ index-assigned ts vs o i x v r w q g f l h e =
     let P : List Value → Type 0 = λ xs. Replies ts (index_put v xs (last_of vs) (give (last_of vs))) v q w in
     subst P (sym (first-values vs o i g f)) (by_value ts (index_written v o i) x (last_of vs) v r w q l h e)
 
-pub member-deleted : (ts : List (List ℕ)) (vs : List Value) (o x : Value) (n : List ℕ) (v : World) (r : Result (Unit {0}) ActionEnd) (w : World) (q : Reduced)
+pub member-deleted : (ts : List (List ℕ)) (vs : List Value) (o x : Value) (n : List ℕ) (v : World)
+    (r : Result (Unit {0}) ActionEnd) (w : World) (q : Reduced)
     → slice_get vs 0 ≡ Some o
     → Passes (with_written (property_deleted v o n)) v r w
     → q ≡ replied_with r x
@@ -105,7 +112,8 @@ member-deleted ts vs o x n v r w q g h e =
     let P : List Value → Type 0 = λ xs. Replies ts (member_removed v xs n (give x)) v q w in
     subst P (sym (first-value vs o g)) (passes-reply ts (with_written (property_deleted v o n)) x v r w q h e)
 
-pub index-deleted : (ts : List (List ℕ)) (vs : List Value) (o i x : Value) (v : World) (r : Result (Unit {0}) ActionEnd) (w : World) (q : Reduced)
+pub index-deleted : (ts : List (List ℕ)) (vs : List Value) (o i x : Value) (v : World) (r : Result (Unit {0}) ActionEnd)
+    (w : World) (q : Reduced)
     → slice_get vs 0 ≡ Some o
     → slice_get vs 1 ≡ Some i
     → Passes (index_deleted v o i) v r w
@@ -135,13 +143,15 @@ put_in_array : (a : Addr) (c : Option Cell) (n : ℕ) (v : Value)
 put_in_array a None n v l h = cc
 put_in_array a (Some (cells.Object ps)) n v l h = cc
 put_in_array a (Some (cells.Error x ps)) n v l h = cc
-put_in_array a (Some (cells.Array vs)) n v l h = ap (λ o. array_change a vs (decimal n) o v) (index-decimal n l) ∙ element_by a vs n v h
+put_in_array a (Some (cells.Array vs)) n v l h =
+    ap (λ o. array_change a vs (decimal n) o v) (index-decimal n l) ∙ element_by a vs n v h
 put_in_array a (Some (cells.Text us)) n v l h = cc
 put_in_array a (Some (cells.Function k x m s t)) n v l h = cc
 put_in_array a (Some (cells.Bindings k x o ns)) n v l h = cc
 
 -- an element is written at the index that the key is
-pub element-written : (o i : Value) (a : Addr) (n : ℕ) (x : Value) (v : World) (r : Result (Unit {0}) ActionEnd) (w : World)
+pub element-written : (o i : Value) (a : Addr) (n : ℕ) (x : Value) (v : World) (r : Result (Unit {0}) ActionEnd)
+    (w : World)
     → o ≡ values.Object a
     → i ≡ values.Number (pos n)
     → n < 4294967295
@@ -151,4 +161,7 @@ pub element-written : (o i : Value) (a : Addr) (n : ℕ) (x : Value) (v : World)
 element-written o i a n x v r w e f l g h =
     let P : Value → Type 0 = λ y. Passes (index_written v y i x) v r w in
     let Q : Value → Type 0 = λ y. Passes (index_written v (values.Object a) y x) v r w in
-    subst P (sym e) (subst Q (sym f) (passes-change (cell_change a (read_cell v a) (decimal n) x) a (changes.Element n x) v r w (put_in_array a (read_cell v a) n x l g) h))
+    subst P (sym e)
+    (subst Q (sym f)
+    (passes-change (cell_change a (read_cell v a) (decimal n) x) a (changes.Element n x) v r w
+    (put_in_array a (read_cell v a) n x l g) h))

@@ -43,7 +43,10 @@ pub member-by : (w : World) (o : Value) (a : Addr) (c d : Option Cell) (k l : Li
     → d ≡ read_cell w a
     → k ≡ l
     → cell_property c k ≡ property_of w o l
-member-by w o a c d k l e f h i = ap (λ x. cell_property x k) (f ∙ h) ∙ ap (λ x. cell_property (read_cell w a) x) i ∙ ap (λ x. property_of w x l) (sym e)
+member-by w o a c d k l e f h i =
+    ap (λ x. cell_property x k) (f ∙ h)
+    ∙ ap (λ x. cell_property (read_cell w a) x) i
+    ∙ ap (λ x. property_of w x l) (sym e)
 
 -- an element, by the array's cell and its index
 pub index-by : (w : World) (o i : Value) (a : Addr) (n : ℕ) (c : Option Cell)
@@ -52,7 +55,9 @@ pub index-by : (w : World) (o i : Value) (a : Addr) (n : ℕ) (c : Option Cell)
     → c ≡ read_cell w a
     → cell_property c (decimal n) ≡ keyed_result (key_of w i) (property_of w o)
 index-by w o i a n c e f h =
-    ap (λ x. cell_property x (decimal n)) h ∙ ap (λ x. keyed_result (key_of w x) (property_of w (values.Object a))) (sym f) ∙ ap (λ x. keyed_result (key_of w i) (property_of w x)) (sym e)
+    ap (λ x. cell_property x (decimal n)) h
+    ∙ ap (λ x. keyed_result (key_of w x) (property_of w (values.Object a))) (sym f)
+    ∙ ap (λ x. keyed_result (key_of w i) (property_of w x)) (sym e)
 
 -- ---- own properties
 
@@ -80,13 +85,16 @@ shortest_by (d ∷ e ∷ ds) h k = not_zero d k
 
 decimal_shortest : (n : ℕ) → n < 4294967295 → is_shortest (decimal n) ≡ true
 decimal_shortest zero h = rw (decimal_digit 0 (omega arith)) refl
-decimal_shortest (suc n) h = shortest_by (decimal (suc n)) (decimal_is_IsNumeral (suc n) (omega arith)).0.0 (first_decimal (suc n) (omega arith) (omega arith))
+decimal_shortest (suc n) h =
+    shortest_by (decimal (suc n)) (decimal_is_IsNumeral (suc n) (omega arith)).0.0
+    (first_decimal (suc n) (omega arith) (omega arith))
 
 decimal_digits : (n : ℕ) → n < 4294967295 → all_ascii_digits (decimal n) ≡ true
 decimal_digits n h = digits_decimal (numerals_by_value _ tells_all_ascii_digits) n (omega arith)
 
 within_is : (v n : ℕ) → v ≡ n → n < 4294967295 → (if nat_lt v (2 ^ 32 - 1) then Some v else None) ≡ Some n
-within_is v n e h = let P : ℕ → Type 0 = λ m. (if nat_lt m (2 ^ 32 - 1) then Some m else None) ≡ Some n in subst P (sym e) (grind arith)
+within_is v n e h =
+    let P : ℕ → Type 0 = λ m. (if nat_lt m (2 ^ 32 - 1) then Some m else None) ≡ Some n in subst P (sym e) (grind arith)
 
 if_both : (a b : Bool) (x : Option ℕ) → a ≡ true → b ≡ true → (if a && b then x else None) ≡ x
 if_both true true x e f = refl
@@ -95,7 +103,9 @@ if_both true false x e f = cc
 
 pub index-decimal : (n : ℕ) → n < 4294967295 → index_of_key (decimal n) ≡ Some n
 index-decimal n h =
-    if_both (is_shortest (decimal n)) (all_ascii_digits (decimal n)) (index_within (decimal n)) (decimal_shortest n h) (decimal_digits n h) ∙ within_is (digits_value 10 (decimal n)) n (decimal_is_IsNumeral n (omega arith)).1 h
+    if_both (is_shortest (decimal n)) (all_ascii_digits (decimal n)) (index_within (decimal n)) (decimal_shortest n h)
+    (decimal_digits n h)
+    ∙ within_is (digits_value 10 (decimal n)) n (decimal_is_IsNumeral n (omega arith)).1 h
 
 pub element-reads : (vs : List Value) (n : ℕ) (v : Value)
     → n < 4294967295

@@ -21,7 +21,8 @@ unfolding task_form
 form-by ts t e o h = ap (λ x. form_in ts t x e.info e.inner e.extra) h
 
 -- a form that has no scope of its own is in the scope of its parts
-pub row-by : (ts : List (List ℕ)) (t : NodeTable) (e : Wide) (f : Form) (outer : Addr) (s : State) (r : Reduced) (u : State)
+pub row-by : (ts : List (List ℕ)) (t : NodeTable) (e : Wide) (f : Form) (outer : Addr) (s : State) (r : Reduced)
+    (u : State)
     → task_form ts t e ≡ f
     → scope_in f outer ≡ outer →
     Does ts t e (row (program_of ts t) s e.inner f e.values (later_of ts t e)) s r u → RowOf ts t e outer s r u
@@ -32,7 +33,8 @@ row-by ts t e f outer s r u h g d = λ k.
     subst Q (sym h) (subst P o d)
 
 -- and one that has one takes its row whatever is around it
-pub row-within : (ts : List (List ℕ)) (t : NodeTable) (e : Wide) (f : Form) (outer : Addr) (s : State) (r : Reduced) (u : State)
+pub row-within : (ts : List (List ℕ)) (t : NodeTable) (e : Wide) (f : Form) (outer : Addr) (s : State) (r : Reduced)
+    (u : State)
     → task_form ts t e ≡ f →
     Does ts t e (row (program_of ts t) s outer f e.values (later_of ts t e)) s r u → RowOf ts t e outer s r u
 row-within ts t e f outer s r u h d = λ k.

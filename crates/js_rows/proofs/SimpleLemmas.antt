@@ -47,7 +47,8 @@ pub thrown-acts : (ts : List (List ℕ)) (w : World) (c d : Context) (m : Mark) 
     → Turns (set_here m) c d
     → ActsAnywhere ts (λ s. set_here m (raise u)) w c (reduced.Raises v) w d
 unfolding performed reduced_move
-thrown-acts ts w c d m v u h g = λ t e taken. g w taken (raise u) ∙ ap (λ x. performed (raise x) (state_of w d taken)) (sym h)
+thrown-acts ts w c d m v u h g =
+    λ t e taken. g w taken (raise u) ∙ ap (λ x. performed (raise x) (state_of w d taken)) (sym h)
 
 pub frame-acts : (ts : List (List ℕ)) (w : World) (c d : Context)
     → Turns pop_frame c d
@@ -97,10 +98,13 @@ pub comma-one : (t : NodeTable) (from to k : ℕ)
     → Some k ≡ slice_get (kids_between t from to) 0
     → None ≡ slice_get (kids_between t from to) 1
     → CommaOf t from to (reduced.Goes k)
-comma-one t from to k h g = λ ts e s i. comma_one ts t e s (later_of ts t e) k (i ∙ one_only (tree ts t) (kids_between t from to) k h g)
+comma-one t from to k h g =
+    λ ts e s i. comma_one ts t e s (later_of ts t e) k (i ∙ one_only (tree ts t) (kids_between t from to) k h g)
 
 pub comma-more : (t : NodeTable) (from to k l : ℕ)
     → Some k ≡ slice_get (kids_between t from to) 0
     → Some l ≡ slice_get (kids_between t from to) 1
     → CommaOf t from to reduced.Commas
-comma-more t from to k l h g = λ ts e s i. comma_two (tree ts t k) (tree ts t l) (terms (tree ts t) (drop 2 (kids_between t from to))) ts t e s (i ∙ first-trees ts t from to k l h g)
+comma-more t from to k l h g =
+    λ ts e s i. comma_two (tree ts t k) (tree ts t l) (terms (tree ts t) (drop 2 (kids_between t from to))) ts t e s
+    (i ∙ first-trees ts t from to k l h g)

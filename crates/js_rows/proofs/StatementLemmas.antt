@@ -38,17 +38,21 @@ pub enter-part : (t : NodeTable) (node from to k : ℕ) (c d : Context)
     → Turns (set_here (start node)) c d
     → RepliesAnywhere t (λ ts. enter_row node (trees ts t from to)) c (reduced.Uncovers k) d
 enter-part t node from to k c d h g = λ ts w e.
-    same-row ts t e (enter_row node (trees ts t from to)) (set_here (start node) (go (settle (tree ts t k)))) w w c d (reduced.Uncovers k) (ap (enter_row node) (first-tree ts t from to k h))
-    (turns-does ts t e (set_here (start node)) (go (settle (tree ts t k))) w w c d d (reduced.Uncovers k) g (λ taken. uncovers-does ts t e k (state_of w d taken)))
+    same-row ts t e (enter_row node (trees ts t from to)) (set_here (start node) (go (settle (tree ts t k)))) w w c d
+    (reduced.Uncovers k) (ap (enter_row node) (first-tree ts t from to k h))
+    (turns-does ts t e (set_here (start node)) (go (settle (tree ts t k))) w w c d d (reduced.Uncovers k) g
+    (λ taken. uncovers-does ts t e k (state_of w d taken)))
 
 pub enter-none : (t : NodeTable) (node from to : ℕ) (c : Context)
     → None ≡ slice_get (kids_between t from to) 0
     → RepliesAnywhere t (λ ts. enter_row node (trees ts t from to)) c (reduced.Gives values.Undefined) c
 enter-none t node from to c h = λ ts w e.
-    same-row ts t e (enter_row node (trees ts t from to)) (give values.Undefined) w w c c (reduced.Gives values.Undefined) (ap (enter_row node) (no-trees ts t from to h))
+    same-row ts t e (enter_row node (trees ts t from to)) (give values.Undefined) w w c c
+    (reduced.Gives values.Undefined) (ap (enter_row node) (no-trees ts t from to h))
     (λ taken. give-does ts t e values.Undefined (state_of w c taken))
 
-pub initialize-reply : (ts : List (List ℕ)) (scope : Addr) (name : List ℕ) (vs : List Value) (u : Value) (v : World) (r : Result (Unit {0}) ActionEnd) (w : World) (q : Reduced)
+pub initialize-reply : (ts : List (List ℕ)) (scope : Addr) (name : List ℕ) (vs : List Value) (u : Value) (v : World)
+    (r : Result (Unit {0}) ActionEnd) (w : World) (q : Reduced)
     → u ≡ argument vs 0
     → Passes (write scope (changes.Bind name u)) v r w
     → q ≡ replied_with r values.Undefined
@@ -59,7 +63,8 @@ initialize-reply ts scope name vs u v r w q i h e =
 
 -- ---- tests
 
-pub choose-reply : (ts : List (List ℕ)) (t : NodeTable) (w : World) (b : Bool) (u : Value) (vs : List Value) (from to : ℕ) (o : Option ℕ) (q : Reduced) →
+pub choose-reply : (ts : List (List ℕ)) (t : NodeTable) (w : World) (b : Bool) (u : Value) (vs : List Value)
+    (from to : ℕ) (o : Option ℕ) (q : Reduced) →
     b ≡ is_truthy w u
     → u ≡ argument vs 0
     → o ≡ slice_get (kids_between t from to) (choice b)
@@ -68,8 +73,10 @@ pub choose-reply : (ts : List (List ℕ)) (t : NodeTable) (w : World) (b : Bool)
 choose-reply ts t w b u vs from to o q h i j k = λ e.
     let test : is_truthy w (only vs) ≡ b = ap (is_truthy w) (sym i) ∙ sym h in
     let ks : List ℕ = kids_between t from to in
-    same-action ts t e (choose_row w (only vs) (trees ts t from to)) (go (chosen b (trees ts t from to))) w w q (ap (λ x. go (chosen x (trees ts t from to))) test)
-    (same-answer ts t e (go (chosen b (trees ts t from to))) w w (uncovered (slice_get ks (choice b))) q (k ∙ ap uncovered j) (λ s. chosen-does ts t e b ks (with_world s w)))
+    same-action ts t e (choose_row w (only vs) (trees ts t from to)) (go (chosen b (trees ts t from to))) w w q
+    (ap (λ x. go (chosen x (trees ts t from to))) test)
+    (same-answer ts t e (go (chosen b (trees ts t from to))) w w (uncovered (slice_get ks (choice b))) q
+    (k ∙ ap uncovered j) (λ s. chosen-does ts t e b ks (with_world s w)))
 
 both_then : (ts : List (List ℕ)) (t : NodeTable) (w : World) (u : Value) (from to : ℕ) (o : Option ℕ) (q : Reduced) →
     true ≡ is_truthy w u
@@ -78,10 +85,13 @@ both_then : (ts : List (List ℕ)) (t : NodeTable) (w : World) (u : Value) (from
     → RepliesOver ts t (both_row w u (trees ts t from to)) w q w
 both_then ts t w u from to o q h j k = λ e.
     let ks : List ℕ = kids_between t from to in
-    same-action ts t e (both_row w u (trees ts t from to)) (go (kept_or true u (trees ts t from to))) w w q (ap (λ x. go (kept_or x u (trees ts t from to))) (sym h))
-    (same-answer ts t e (go (kept_or true u (trees ts t from to))) w w (gone_to (slice_get ks 0) u) q (k ∙ ap (λ x. gone_to x u) j) (λ s. kept-does ts t e u ks (with_world s w)))
+    same-action ts t e (both_row w u (trees ts t from to)) (go (kept_or true u (trees ts t from to))) w w q
+    (ap (λ x. go (kept_or x u (trees ts t from to))) (sym h))
+    (same-answer ts t e (go (kept_or true u (trees ts t from to))) w w (gone_to (slice_get ks 0) u) q
+    (k ∙ ap (λ x. gone_to x u) j) (λ s. kept-does ts t e u ks (with_world s w)))
 
-pub both-then : (ts : List (List ℕ)) (t : NodeTable) (w : World) (u : Value) (vs : List Value) (from to : ℕ) (o : Option ℕ) (q : Reduced) →
+pub both-then : (ts : List (List ℕ)) (t : NodeTable) (w : World) (u : Value) (vs : List Value) (from to : ℕ)
+    (o : Option ℕ) (q : Reduced) →
     true ≡ is_truthy w u
     → u ≡ argument vs 0
     → o ≡ slice_get (kids_between t from to) 0
@@ -95,7 +105,8 @@ both_else : (ts : List (List ℕ)) (t : NodeTable) (w : World) (u : Value) (from
     → false ≡ is_truthy w u
     → RepliesOver ts t (both_row w u (trees ts t from to)) w (reduced.Gives u) w
 both_else ts t w u from to h = λ e.
-    same-action ts t e (both_row w u (trees ts t from to)) (go (kept_or false u (trees ts t from to))) w w (reduced.Gives u) (ap (λ x. go (kept_or x u (trees ts t from to))) (sym h))
+    same-action ts t e (both_row w u (trees ts t from to)) (go (kept_or false u (trees ts t from to))) w w
+    (reduced.Gives u) (ap (λ x. go (kept_or x u (trees ts t from to))) (sym h))
     (λ s. kept-else ts t e u (kids_between t from to) (with_world s w))
 
 pub both-else : (ts : List (List ℕ)) (t : NodeTable) (w : World) (u : Value) (vs : List Value) (from to : ℕ)
@@ -113,10 +124,13 @@ either_else : (ts : List (List ℕ)) (t : NodeTable) (w : World) (u : Value) (fr
     → RepliesOver ts t (either_row w u (trees ts t from to)) w q w
 either_else ts t w u from to o q h j k = λ e.
     let ks : List ℕ = kids_between t from to in
-    same-action ts t e (either_row w u (trees ts t from to)) (go (otherwise false u (trees ts t from to))) w w q (ap (λ x. go (otherwise x u (trees ts t from to))) (sym h))
-    (same-answer ts t e (go (otherwise false u (trees ts t from to))) w w (gone_to (slice_get ks 0) u) q (k ∙ ap (λ x. gone_to x u) j) (λ s. otherwise-does ts t e u ks (with_world s w)))
+    same-action ts t e (either_row w u (trees ts t from to)) (go (otherwise false u (trees ts t from to))) w w q
+    (ap (λ x. go (otherwise x u (trees ts t from to))) (sym h))
+    (same-answer ts t e (go (otherwise false u (trees ts t from to))) w w (gone_to (slice_get ks 0) u) q
+    (k ∙ ap (λ x. gone_to x u) j) (λ s. otherwise-does ts t e u ks (with_world s w)))
 
-pub either-else : (ts : List (List ℕ)) (t : NodeTable) (w : World) (u : Value) (vs : List Value) (from to : ℕ) (o : Option ℕ) (q : Reduced) →
+pub either-else : (ts : List (List ℕ)) (t : NodeTable) (w : World) (u : Value) (vs : List Value) (from to : ℕ)
+    (o : Option ℕ) (q : Reduced) →
     false ≡ is_truthy w u
     → u ≡ argument vs 0
     → o ≡ slice_get (kids_between t from to) 0
@@ -130,7 +144,8 @@ either_then : (ts : List (List ℕ)) (t : NodeTable) (w : World) (u : Value) (fr
     → true ≡ is_truthy w u
     → RepliesOver ts t (either_row w u (trees ts t from to)) w (reduced.Gives u) w
 either_then ts t w u from to h = λ e.
-    same-action ts t e (either_row w u (trees ts t from to)) (go (otherwise true u (trees ts t from to))) w w (reduced.Gives u) (ap (λ x. go (otherwise x u (trees ts t from to))) (sym h))
+    same-action ts t e (either_row w u (trees ts t from to)) (go (otherwise true u (trees ts t from to))) w w
+    (reduced.Gives u) (ap (λ x. go (otherwise x u (trees ts t from to))) (sym h))
     (λ s. otherwise-else ts t e u (kids_between t from to) (with_world s w))
 
 pub either-then : (ts : List (List ℕ)) (t : NodeTable) (w : World) (u : Value) (vs : List Value) (from to : ℕ)
@@ -143,14 +158,17 @@ either-then ts t w u vs from to h i =
 
 -- ---- scripts
 
-pub script-none : (ts : List (List ℕ)) (t : NodeTable) (number : ℕ) (names : List Binding) (from to : ℕ) (v : World) (c : Context)
+pub script-none : (ts : List (List ℕ)) (t : NodeTable) (number : ℕ) (names : List Binding) (from to : ℕ) (v : World)
+    (c : Context)
     → None ≡ slice_get (kids_between t from to) 0 →
     RepliesOverWith ts t (script_row number names (trees ts t from to)) v c (reduced.Gives values.Undefined) v c
 script-none ts t number names from to v c h = λ e.
-    same-row ts t e (script_row number names (trees ts t from to)) (give values.Undefined) v v c c (reduced.Gives values.Undefined) (ap (script_row number names) (no-trees ts t from to h))
+    same-row ts t e (script_row number names (trees ts t from to)) (give values.Undefined) v v c c
+    (reduced.Gives values.Undefined) (ap (script_row number names) (no-trees ts t from to h))
     (λ taken. give-does ts t e values.Undefined (state_of v c taken))
 
-pub script-part : (ts : List (List ℕ)) (t : NodeTable) (number : ℕ) (names : List Binding) (from to k : ℕ) (v w : World) (c d : Context) (r : Result (Unit {0}) ActionEnd) (q : Reduced) →
+pub script-part : (ts : List (List ℕ)) (t : NodeTable) (number : ℕ) (names : List Binding) (from to k : ℕ) (v w : World)
+    (c d : Context) (r : Result (Unit {0}) ActionEnd) (q : Reduced) →
     Some k ≡ slice_get (kids_between t from to) 0
     → Turns (entered_script number) c d
     → Passes (script_declared names (trees ts t (from + 1) to)) v r w
@@ -159,9 +177,13 @@ pub script-part : (ts : List (List ℕ)) (t : NodeTable) (number : ℕ) (names :
 script-part ts t number names from to k v w c d r q h g p j = λ e.
     let fs : Terms = trees ts t (from + 1) to in
     let body : Action = go (settle (tree ts t k)) in
-    same-row ts t e (script_row number names (trees ts t from to)) (entered_script number (script_declared names fs body)) v w c d q (ap (script_row number names) (first-kept ts t from to k h))
+    same-row ts t e (script_row number names (trees ts t from to))
+    (entered_script number (script_declared names fs body)) v w c d q
+    (ap (script_row number names) (first-kept ts t from to k h))
     (turns-does ts t e (entered_script number) (script_declared names fs body) v w c d d q g
-    (in-context ts t e (script_declared names fs body) v q w d (passes-does ts t e (script_declared names fs) body (λ _. reduced.Uncovers k) v r w q p j (λ u s. uncovers-does ts t e k s))))
+    (in-context ts t e (script_declared names fs body) v q w d
+    (passes-does ts t e (script_declared names fs) body (λ _. reduced.Uncovers k) v r w q p j
+    (λ u s. uncovers-does ts t e k s))))
 
 -- ---- blocks
 
@@ -173,7 +195,8 @@ pub block-none : (ts : List (List ℕ)) (t : NodeTable) (scope : Addr) (names : 
     → None ≡ slice_get (kids_between t from to) 0 →
     RepliesOver ts t (block_row scope names (trees ts t from to)) v (reduced.Gives values.Undefined) v
 block-none ts t scope names from to v h = λ e.
-    same-action ts t e (block_row scope names (trees ts t from to)) (give values.Undefined) v v (reduced.Gives values.Undefined) (ap (block_row scope names) (no-trees ts t from to h) ∙ block_end scope names)
+    same-action ts t e (block_row scope names (trees ts t from to)) (give values.Undefined) v v
+    (reduced.Gives values.Undefined) (ap (block_row scope names) (no-trees ts t from to h) ∙ block_end scope names)
     (λ s. give-does ts t e values.Undefined (with_world s v))
 
 some_slots : (n : ℕ) → nat_eq (suc n) 0 ≡ true → ⊥
@@ -184,11 +207,13 @@ pub block-plain : (ts : List (List ℕ)) (t : NodeTable) (scope : Addr) (slots :
     → nat_eq (length slots) 0 ≡ true →
     RepliesOver ts t (block_row scope (bindings ts slots) (trees ts t from to)) v (reduced.Uncovers k) v
 block-plain ts t scope [] from to k v h i = λ e.
-    same-action ts t e (block_row scope [] (trees ts t from to)) (go (settle (tree ts t k))) v v (reduced.Uncovers k) (ap (block_row scope []) (first-tree ts t from to k h))
+    same-action ts t e (block_row scope [] (trees ts t from to)) (go (settle (tree ts t k))) v v (reduced.Uncovers k)
+    (ap (block_row scope []) (first-tree ts t from to k h))
     (λ s. uncovers-does ts t e k (with_world s v))
 block-plain ts t scope (x ∷ xs) from to k v h i = absurd (some_slots (length xs) i)
 
-pub block-part : (ts : List (List ℕ)) (t : NodeTable) (scope : Addr) (slots : List Slot) (from to k : ℕ) (v w : World) (r : Result Addr ActionEnd) (q : Reduced) →
+pub block-part : (ts : List (List ℕ)) (t : NodeTable) (scope : Addr) (slots : List Slot) (from to k : ℕ) (v w : World)
+    (r : Result Addr ActionEnd) (q : Reduced) →
     Some k ≡ slice_get (kids_between t from to) 0
     → nat_eq (length slots) 0 ≡ false
     → Yields (scope_declared scopes.Block scope (bindings ts slots) (trees ts t (from + 1) to)) v r w
@@ -199,8 +224,10 @@ block-part ts t scope (x ∷ more_slots) from to k v w r q h i y m = λ e.
     let bs : List Binding = bindings ts (x ∷ more_slots) in
     let fs : Terms = trees ts t (from + 1) to in
     let inner : Addr → Action = λ a. go (in_scope a (settle (tree ts t k))) in
-    same-action ts t e (block_row scope bs (trees ts t from to)) (scope_declared scopes.Block scope bs fs inner) v w q (ap (block_row scope bs) (first-kept ts t from to k h))
-    (yields-does ts t e (scope_declared scopes.Block scope bs fs) inner (λ a. reduced.Scopes a k) v r w q y m (λ a s. scopes-does ts t e a k s))
+    same-action ts t e (block_row scope bs (trees ts t from to)) (scope_declared scopes.Block scope bs fs inner) v w q
+    (ap (block_row scope bs) (first-kept ts t from to k h))
+    (yields-does ts t e (scope_declared scopes.Block scope bs fs) inner (λ a. reduced.Scopes a k) v r w q y m
+    (λ a s. scopes-does ts t e a k s))
 
 -- ---- catches
 
@@ -218,20 +245,27 @@ catch-plain t scope from to (Some k) q h j thrown = λ ts e s.
     let Q : Reduced → Type 0 = λ x. Does ts t e (go (settle (tree ts t k))) s x s in
     subst P (sym (first-tree ts t from to k h)) (subst Q (sym j) (uncovers-does ts t e k s))
 
-pub catch-none : (ts : List (List ℕ)) (t : NodeTable) (scope : Addr) (name : List ℕ) (thrown : Value) (from to : ℕ) (v : World)
+pub catch-none : (ts : List (List ℕ)) (t : NodeTable) (scope : Addr) (name : List ℕ) (thrown : Value) (from to : ℕ)
+    (v : World)
     → None ≡ slice_get (kids_between t from to) 0 →
     RepliesOver ts t (catch_row scope (Some name) thrown (trees ts t from to)) v (reduced.Gives values.Undefined) v
 catch-none ts t scope name thrown from to v h = λ e.
-    same-action ts t e (catch_row scope (Some name) thrown (trees ts t from to)) (give values.Undefined) v v (reduced.Gives values.Undefined) (ap (catch_row scope (Some name) thrown) (no-trees ts t from to h))
+    same-action ts t e (catch_row scope (Some name) thrown (trees ts t from to)) (give values.Undefined) v v
+    (reduced.Gives values.Undefined) (ap (catch_row scope (Some name) thrown) (no-trees ts t from to h))
     (λ s. give-does ts t e values.Undefined (with_world s v))
 
-pub catch-part : (ts : List (List ℕ)) (t : NodeTable) (scope : Addr) (name : List ℕ) (thrown : Value) (from to k : ℕ) (v w : World) (r : Result Addr ActionEnd) (q : Reduced) →
+pub catch-part : (ts : List (List ℕ)) (t : NodeTable) (scope : Addr) (name : List ℕ) (thrown : Value) (from to k : ℕ)
+    (v w : World) (r : Result Addr ActionEnd) (q : Reduced) →
     Some k ≡ slice_get (kids_between t from to) 0
-    → Yields (new_scope scopes.Catch [] scope (record { name = name; constant = false; value = Some thrown } ∷ [])) v r w
+    → Yields (new_scope scopes.Catch [] scope (record { name = name; constant = false; value = Some thrown } ∷ []))
+    v r w
     → q ≡ answered_by (λ a. reduced.Scopes a k) r →
     RepliesOver ts t (catch_row scope (Some name) thrown (trees ts t from to)) v q w
 catch-part ts t scope name thrown from to k v w r q h y m = λ e.
     let bs : List Binding = record { name = name; constant = false; value = Some thrown } ∷ [] in
     let inner : Addr → Action = λ a. go (in_scope a (settle (tree ts t k))) in
-    same-action ts t e (catch_row scope (Some name) thrown (trees ts t from to)) (new_scope scopes.Catch [] scope bs inner) v w q (ap (catch_row scope (Some name) thrown) (first-tree ts t from to k h))
-    (yields-does ts t e (new_scope scopes.Catch [] scope bs) inner (λ a. reduced.Scopes a k) v r w q y m (λ a s. scopes-does ts t e a k s))
+    same-action ts t e (catch_row scope (Some name) thrown (trees ts t from to))
+    (new_scope scopes.Catch [] scope bs inner) v w q
+    (ap (catch_row scope (Some name) thrown) (first-tree ts t from to k h))
+    (yields-does ts t e (new_scope scopes.Catch [] scope bs) inner (λ a. reduced.Scopes a k) v r w q y m
+    (λ a s. scopes-does ts t e a k s))

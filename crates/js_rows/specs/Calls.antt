@@ -61,7 +61,8 @@ entry_code ts t p f = record { form = function_of ts f; body = tree ts t p.body;
 -- the scope of a call, with its functions
 abbrev pub call_scope : FunctionCode → List ℕ → Addr → List Value → (Addr → Action) → Action
 call_scope c name outer args k =
-    new_scope scopes.Function name outer (parameters_from 0 c.form.parameters args ++ c.form.names) (λ s. with_functions s c.functions (k s))
+    new_scope scopes.Function name outer (parameters_from 0 c.form.parameters args ++ c.form.names)
+    (λ s. with_functions s c.functions (k s))
 
 -- ---- an action that asks a state for its world and its frames, in a context
 
@@ -76,7 +77,8 @@ abbrev pub Acts : List (List ℕ)
     → World
     → Context
     → Type 0
-Acts ts t e f v c r w d = (taken : List (List ℕ)) → Does ts t e (f (state_of v c taken)) (state_of v c taken) r (state_of w d taken)
+Acts ts t e f v c r w d =
+    (taken : List (List ℕ)) → Does ts t e (f (state_of v c taken)) (state_of v c taken) r (state_of w d taken)
 
 -- in every task of every table with these arguments
 abbrev pub ActsOn : List (List ℕ) → List Value → (State → Action) → World → Context → Reduced → World → Context → Type 0
@@ -127,7 +129,9 @@ ActsAlways ts t f v c r w d = (e : Wide) → Acts ts t e f v c r w d
 -- the frame of a call to code with this node and body is entered
 abbrev pub EntersFrame : ℕ → ℕ → Source → Addr → Value → Addr → Context → Reduced → Context → Type 0
 EntersFrame node body source a receiver own c r d =
-    (ts : List (List ℕ)) (t : NodeTable) (e : Wide) (w : World) (taken : List (List ℕ)) (code : FunctionCode) → node ≡ code.form.node → tree ts t body ≡ code.body →
+    (ts : List (List ℕ)) (t : NodeTable) (e : Wide) (w : World) (taken : List (List ℕ)) (code : FunctionCode)
+    → node ≡ code.form.node
+    → tree ts t body ≡ code.body →
     Does ts t e (frame_entered code source a receiver own) (state_of w c taken) r (state_of w d taken)
 
 -- as `call_code`, of code that is there

@@ -12,7 +12,8 @@ use Rattle.js_rows.specs.declared.codes.Place.{Place}
 -- the code of an entry with the places of its parts, where the table has that entry
 abbrev pub placed_code : List (List ℕ) → NodeTable → Place → Option FunctionEntry → Option FunctionCode
 placed_code ts t p None = None
-placed_code ts t p (Some f) = Some (record { form = function_of ts f; body = tree ts t p.body; functions = trees ts t p.first p.end })
+placed_code ts t p (Some f) =
+    Some (record { form = function_of ts f; body = tree ts t p.body; functions = trees ts t p.first p.end })
 
 -- the code at a place
 abbrev pub code_at : List (List ℕ) → NodeTable → Option Place → Option FunctionCode

@@ -65,7 +65,8 @@ CallsIt ts x v r w = (t : NodeTable) (e : Wide) → DoesIn ts t e (with_result x
 
 -- whatever the task, what is read is the old value of the assignment that goes on, as the answer says
 abbrev pub AssignsIt : List (List ℕ) → Computed → World → Reduced → World → Type 0
-AssignsIt ts x v r w = (t : NodeTable) (e : Wide) → DoesIn ts t e (with_result x (λ old. go (assigned ts t e old))) v r w
+AssignsIt ts x v r w =
+    (t : NodeTable) (e : Wide) → DoesIn ts t e (with_result x (λ old. go (assigned ts t e old))) v r w
 
 -- the answer where a callee was read, or the action ended
 abbrev pub calling : Result Value ActionEnd → Reduced

@@ -53,18 +53,23 @@ OfEntry (Some x) r P = P x
 
 -- of a task: the answer is that of its next turn, from one world to another
 abbrev pub IsTurn : List (List ℕ) → NodeTable → Wide → Binding → World → Reduced → World → Type 0
-IsTurn ts t e b v r w = DoesIn ts t e (turn_row e.inner b (index_of e.extra) (elements_of v (later_of ts t e) (index_of e.extra)) (later_of ts t e)) v r w
+IsTurn ts t e b v r w =
+    DoesIn ts t e
+    (turn_row e.inner b (index_of e.extra) (elements_of v (later_of ts t e) (index_of e.extra)) (later_of ts t e))
+    v r w
 
 -- ---- object literals
 
 -- with these members and values, and these kept parts
-pub record IsLiteralOf (ts : List (List ℕ)) (t : NodeTable) (e : Wide) (ms : List Member) (vs : List Value) (later : Terms) : Type 0 where
+pub record IsLiteralOf (ts : List (List ℕ)) (t : NodeTable) (e : Wide) (ms : List Member) (vs : List Value)
+    (later : Terms) : Type 0 where
   pub form : task_form ts t e ≡ object ms
   pub values : e.values ≡ vs
   pub kept : later_of ts t e ≡ later
 
 -- with these members and values, before a part with these parts, and these behind it
-pub record AddsTo (ts : List (List ℕ)) (t : NodeTable) (e : Wide) (ms : List Member) (vs : List Value) (now rest : Terms) : Type 0 where
+pub record AddsTo (ts : List (List ℕ)) (t : NodeTable) (e : Wide) (ms : List Member) (vs : List Value)
+    (now rest : Terms) : Type 0 where
   pub form : task_form ts t e ≡ object ms
   pub values : e.values ≡ vs
   pub parts : now_of (head_of (later_of ts t e)) ≡ now

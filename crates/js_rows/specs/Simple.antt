@@ -10,4 +10,7 @@ use Rattle.js_rows.specs.Does.{Does}
 
 -- in every task with these kept parts
 abbrev pub CommaOf : NodeTable → ℕ → ℕ → Reduced → Type 0
-CommaOf t from to r = (ts : List (List ℕ)) (e : Wide) (s : State) → later_of ts t e ≡ trees ts t from to → Does ts t e (comma_row (later_of ts t e)) s r s
+CommaOf t from to r =
+    (ts : List (List ℕ)) (e : Wide) (s : State)
+    → later_of ts t e ≡ trees ts t from to
+    → Does ts t e (comma_row (later_of ts t e)) s r s

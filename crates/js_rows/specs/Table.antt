@@ -27,15 +27,20 @@ abbrev pub IsRow : List (List ℕ)
     → Context
     → Type 0
 IsRow ts t form vs x v c r w d =
-    (outer : Addr) (before : List (List ℕ)) → RowOf ts t (redex form vs x) outer (state_of v c before) r (state_of w d before)
+    (outer : Addr) (before : List (List ℕ))
+    → RowOf ts t (redex form vs x) outer (state_of v c before) r (state_of w d before)
 
 -- of any table, names and values, in every state
 abbrev pub IsRowAnywhere : Redex → Option Extra → Reduced → Type 0
-IsRowAnywhere form x r = (ts : List (List ℕ)) (t : NodeTable) (vs : List Value) (v : World) (c : Context) → IsRow ts t form vs x v c r v c
+IsRowAnywhere form x r =
+    (ts : List (List ℕ)) (t : NodeTable) (vs : List Value) (v : World) (c : Context) → IsRow ts t form vs x v c r v c
 
 -- of a turn of a `for .. of`, whatever its list and its index
 abbrev pub IsTurnDone : NodeTable → Redex → List Value → Reduced → Type 0
-IsTurnDone t form vs r = (ts : List (List ℕ)) (x : Option Extra) (v : World) (c : Context) → form.op ≡ ops.BodyOf → IsRow ts t form vs x v c r v c
+IsTurnDone t form vs r =
+    (ts : List (List ℕ)) (x : Option Extra) (v : World) (c : Context)
+    → form.op ≡ ops.BodyOf
+    → IsRow ts t form vs x v c r v c
 
 -- an assignment with an operator that has no part for its value; of all else there is no answer
 abbrev pub without_part : Op → Reduced

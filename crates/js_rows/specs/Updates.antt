@@ -23,7 +23,9 @@ on_update (Fails class message) k = fail class message
 
 -- a property is updated
 abbrev pub property_updated : World → UpdateOperator → Bool → Value → List ℕ → Action
-property_updated w o prefix v key = updated_by o (property_of w v key) (λ old new. with_written (property_written w v key new) (give (update_value prefix old new)))
+property_updated w o prefix v key =
+    updated_by o (property_of w v key)
+    (λ old new. with_written (property_written w v key new) (give (update_value prefix old new)))
 
 -- a property is updated, where its key is one
 abbrev pub keyed_updated : World → UpdateOperator → Bool → Value → Option (List ℕ) → Action
@@ -48,11 +50,15 @@ element_updated w o prefix _ = updated_by o (a_value values.Undefined) (λ old n
 
 -- a name with this value is updated
 abbrev pub old_updated : UpdateOperator → Bool → List ℕ → Option Found → Value → Action
-old_updated o prefix name f old = with_result (update_result o old) (λ new. with_written (name_written name f new) (give (update_value prefix old new)))
+old_updated o prefix name f old =
+    with_result (update_result o old)
+    (λ new. with_written (name_written name f new) (give (update_value prefix old new)))
 
 -- a name is updated, or the error of one without a value is raised
 abbrev pub name_updated : UpdateOperator → Bool → List ℕ → Option Found → Action
-name_updated o prefix name f = updated_by o (value_of_found name f) (λ old new. with_written (name_written name f new) (give (update_value prefix old new)))
+name_updated o prefix name f =
+    updated_by o (value_of_found name f)
+    (λ old new. with_written (name_written name f new) (give (update_value prefix old new)))
 
 -- the end of a reading that gives no value
 abbrev pub unread : Result Value ActionEnd → ActionEnd

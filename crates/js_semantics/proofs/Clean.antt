@@ -25,23 +25,32 @@ abbrev mutual
   expression_made n (trees.array es) = array_made n (expressions_made (part_number n 1) es)
   expression_made n (trees.object ps) = object_made n (properties_made (part_number n 1) ps)
   expression_made n (trees.function x ps body) = function_made n x ps (statements_made (part_number n 1) body)
-  expression_made n (trees.arrow ps e) = arrow_made n (parameter_names ps) (returned_body (expression_made (part_number n 1) e))
-  expression_made n (trees.arrow_block ps body) = arrow_made n (parameter_names ps) (statements_made (part_number n 1) body)
+  expression_made n (trees.arrow ps e) =
+      arrow_made n (parameter_names ps) (returned_body (expression_made (part_number n 1) e))
+  expression_made n (trees.arrow_block ps body) =
+      arrow_made n (parameter_names ps) (statements_made (part_number n 1) body)
   expression_made n (trees.parenthesized e) = parenthesized_made n (expression_made (part_number n 1) e)
   expression_made n (trees.member e key) = member_made n (expression_made (part_number n 1) e) key
-  expression_made n (trees.index e k) = index_made n (expression_made (part_number n 1) e) (expression_made (part_number n 2) k)
-  expression_made n (trees.call f es) = call_made n (expression_made (part_number n 1) f) (part_number n 2) (expressions_made (part_number n 3) es)
+  expression_made n (trees.index e k) =
+      index_made n (expression_made (part_number n 1) e) (expression_made (part_number n 2) k)
+  expression_made n (trees.call f es) =
+      call_made n (expression_made (part_number n 1) f) (part_number n 2) (expressions_made (part_number n 3) es)
   expression_made n (trees.postfix o e) = update_made n o false (expression_made (part_number n 1) e)
   expression_made n (trees.prefix o e) = update_made n o true (expression_made (part_number n 1) e)
   expression_made n (trees.unary o e) = unary_made n o (expression_made (part_number n 1) e)
-  expression_made n (trees.binary o l r) = binary_made n o (expression_made (part_number n 1) l) (expression_made (part_number n 2) r)
-  expression_made n (trees.conditional t a b) = conditional_made n (expression_made (part_number n 1) t) (expression_made (part_number n 2) a) (expression_made (part_number n 3) b)
-  expression_made n (trees.assign o t e) = assign_made n o (expression_made (part_number n 1) t) (expression_made (part_number n 2) e)
+  expression_made n (trees.binary o l r) =
+      binary_made n o (expression_made (part_number n 1) l) (expression_made (part_number n 2) r)
+  expression_made n (trees.conditional t a b) =
+      conditional_made n (expression_made (part_number n 1) t) (expression_made (part_number n 2) a)
+      (expression_made (part_number n 3) b)
+  expression_made n (trees.assign o t e) =
+      assign_made n o (expression_made (part_number n 1) t) (expression_made (part_number n 2) e)
   expression_made n (trees.comma es) = comma_made n (expressions_made (part_number n 1) es)
 
   pub expressions_made : ℕ → Expressions → List Made
   expressions_made n trees.no_expressions = []
-  expressions_made n (trees.an_expression e es) = expression_made (part_number n 1) e ∷ expressions_made (part_number n 2) es
+  expressions_made n (trees.an_expression e es) =
+      expression_made (part_number n 1) e ∷ expressions_made (part_number n 2) es
 
   pub optional_made : ℕ → OptionalExpression → Option Made
   optional_made n trees.omitted = None
@@ -55,8 +64,10 @@ abbrev mutual
 
   pub property_made : ℕ → Property → PropertyMade
   property_made n (trees.shorthand x) = value_property (fixed_key x) (name_made n x)
-  property_made n (trees.value k e) = value_property (key_made (part_number n 1) k) (expression_made (part_number n 2) e)
-  property_made n (trees.method k ps body) = method_property n (key_made (part_number n 1) k) ps (statements_made (part_number n 2) body)
+  property_made n (trees.value k e) =
+      value_property (key_made (part_number n 1) k) (expression_made (part_number n 2) e)
+  property_made n (trees.method k ps body) =
+      method_property n (key_made (part_number n 1) k) ps (statements_made (part_number n 2) body)
 
   pub properties_made : ℕ → Properties → List PropertyMade
   properties_made n trees.no_properties = []
@@ -67,25 +78,38 @@ abbrev mutual
 
   pub declarators_made : ℕ → trees.Declarators → List DeclaratorMade
   declarators_made n trees.no_declarators = []
-  declarators_made n (trees.a_declarator d ds) = declarator_made (part_number n 1) d ∷ declarators_made (part_number n 2) ds
+  declarators_made n (trees.a_declarator d ds) =
+      declarator_made (part_number n 1) d ∷ declarators_made (part_number n 2) ds
 
   pub statement_made : ℕ → Statement → Item
   statement_made n (trees.block ss) = block_item (statements_made (part_number n 1) ss)
   statement_made n (trees.lexical constant ds) = lexical_item n constant (declarators_made (part_number n 1) ds)
   statement_made n trees.empty = empty_item
   statement_made n (trees.expression e) = expression_item n (expression_made (part_number n 1) e)
-  statement_made n (trees.if_then e s) = if_item n (expression_made (part_number n 1) e) (statement_made (part_number n 2) s) None
-  statement_made n (trees.if_else e s t) = if_item n (expression_made (part_number n 1) e) (statement_made (part_number n 2) s) (Some (statement_made (part_number n 3) t))
-  statement_made n (trees.do_while s e) = do_while_item n (statement_made (part_number n 1) s) (expression_made (part_number n 2) e)
-  statement_made n (trees.while e s) = while_item n (expression_made (part_number n 1) e) (statement_made (part_number n 2) s)
-  statement_made n (trees.for i t u s) = for_item n (optional_made (part_number n 1) i) (optional_made (part_number n 2) t) (optional_made (part_number n 3) u) (statement_made (part_number n 4) s)
-  statement_made n (trees.for_lexical constant ds t u s) = for_lexical_item n constant (declarators_made (part_number n 1) ds) (optional_made (part_number n 2) t) (optional_made (part_number n 3) u) (statement_made (part_number n 4) s)
-  statement_made n (trees.for_of constant x e s) = for_of_item n constant x (expression_made (part_number n 1) e) (statement_made (part_number n 2) s)
+  statement_made n (trees.if_then e s) =
+      if_item n (expression_made (part_number n 1) e) (statement_made (part_number n 2) s) None
+  statement_made n (trees.if_else e s t) =
+      if_item n (expression_made (part_number n 1) e) (statement_made (part_number n 2) s)
+      (Some (statement_made (part_number n 3) t))
+  statement_made n (trees.do_while s e) =
+      do_while_item n (statement_made (part_number n 1) s) (expression_made (part_number n 2) e)
+  statement_made n (trees.while e s) =
+      while_item n (expression_made (part_number n 1) e) (statement_made (part_number n 2) s)
+  statement_made n (trees.for i t u s) =
+      for_item n (optional_made (part_number n 1) i) (optional_made (part_number n 2) t)
+      (optional_made (part_number n 3) u) (statement_made (part_number n 4) s)
+  statement_made n (trees.for_lexical constant ds t u s) =
+      for_lexical_item n constant (declarators_made (part_number n 1) ds) (optional_made (part_number n 2) t)
+      (optional_made (part_number n 3) u) (statement_made (part_number n 4) s)
+  statement_made n (trees.for_of constant x e s) =
+      for_of_item n constant x (expression_made (part_number n 1) e) (statement_made (part_number n 2) s)
   statement_made n trees.continue = continue_item n
   statement_made n trees.break = break_item n
   statement_made n (trees.return e) = return_item n (optional_made (part_number n 1) e)
   statement_made n (trees.throw e) = throw_item n (expression_made (part_number n 1) e)
-  statement_made n (trees.try ss h f) = try_item n (statements_made (part_number n 1) ss) (handler_made (part_number n 2) h) (finalizer_made (part_number n 3) f)
+  statement_made n (trees.try ss h f) =
+      try_item n (statements_made (part_number n 1) ss) (handler_made (part_number n 2) h)
+      (finalizer_made (part_number n 3) f)
   statement_made n trees.debugger = debugger_item n
   statement_made n (trees.declared_function x ps body) = function_item n x ps (statements_made (part_number n 1) body)
 
@@ -99,7 +123,8 @@ abbrev mutual
 
   pub statements_made : ℕ → Statements → Items
   statements_made n trees.no_statements = no_items
-  statements_made n (trees.a_statement s ss) = and_items (statement_made (part_number n 1) s) (statements_made (part_number n 2) ss)
+  statements_made n (trees.a_statement s ss) =
+      and_items (statement_made (part_number n 1) s) (statements_made (part_number n 2) ss)
 
 -- the term of a script, as the number-th
 abbrev pub clean_script : ℕ → Statements → Term

@@ -47,7 +47,13 @@ found-at (f ∷ fs) n d e l = (get_or (f ∷ fs) d f, slice_get-get_or (f ∷ fs
 listed : (t : Term) (s : State) → Agrees 1 t s → ListsFrames t s
 listed t s h =
     let all : length (frames script_scope t s) ≡ suc (depth s) =
-    omega (arith, h.counted, shown-length (active t) s.frames, scopes-length (shown_frames (active t) s.frames) (reversed_onto (scopes_at script_scope t) [])) in
+    omega (
+      arith,
+      h.counted,
+      shown-length (active t) s.frames,
+      scopes-length (shown_frames (active t) s.frames) (reversed_onto (scopes_at script_scope t) []),
+    )
+    in
     record {
       one_scope_each = omega (arith, h.counted, scopes-counted script_scope t);
       all_listed = all;
@@ -66,7 +72,8 @@ mutual
   placed-quiet at n (standing v place) h = tt
   placed-quiet at n (part (literal us) now later) h = tt
   placed-quiet at n (part (frame node a) now later) h = absurd h.0
-  placed-quiet at n (part f now later) h = (all-placed-quiet at n now h.1, all-placed-quiet at (n + length (literals_of now)) later h.2)
+  placed-quiet at n (part f now later) h =
+      (all-placed-quiet at n now h.1, all-placed-quiet at (n + length (literals_of now)) later h.2)
 
   all-placed-quiet : (at : ℕ → Addr) (n : ℕ) (ts : Terms) → AreUntouched ts → HaveNoFrame (all_with_literals at n ts)
   all-placed-quiet at n end h = tt
@@ -80,8 +87,10 @@ pub plain-listed : (k : ℕ) (ts : Terms) (input : List (List ℕ)) → AreUntou
 plain-listed k ts input h =
     let placed : HaveNoFrame (placed_scripts ts) = all-placed-quiet (λ n. Base n) first_literal ts h in
     run-listed (plain k ts input)
-    (steps-agree 1 k (program_of ts) script_scope (start_of ts input) (omega arith) (program-quiet 1 (placed_scripts ts) placed)
-    (start-agrees 1 (settled scripts (placed_scripts ts) end) (first_state ts input) (settled-quiet scripts (placed_scripts ts) end (placed, tt)) refl))
+    (steps-agree 1 k (program_of ts) script_scope (start_of ts input) (omega arith)
+    (program-quiet 1 (placed_scripts ts) placed)
+    (start-agrees 1 (settled scripts (placed_scripts ts) end) (first_state ts input)
+    (settled-quiet scripts (placed_scripts ts) end (placed, tt)) refl))
 
 -- ---- a `debugger` statement about to be entered is an arrival
 

@@ -82,7 +82,9 @@ at_test-quiet scope later k = ((test-quiet later k, tt), k)
 
 at_update-quiet : (scope : Option Addr) (later : Terms) → HaveNoFrame later → HasNoFrame (at_update scope later)
 at_update-quiet scope later k =
-    either-quiet (is_done (update_of later)) (at_test scope later) (part (loop updating scope) (one (update_of later)) later) (at_test-quiet scope later k) ((update-quiet later k, tt), k)
+    either-quiet (is_done (update_of later)) (at_test scope later)
+    (part (loop updating scope) (one (update_of later)) later) (at_test-quiet scope later k)
+    ((update-quiet later k, tt), k)
 
 behind_body-quiet : (scope : Option Addr) (later : Terms) → HaveNoFrame later → HasNoFrame (behind_body scope later)
 behind_body-quiet None later k = at_update-quiet None later k
@@ -90,7 +92,9 @@ behind_body-quiet (Some a) later k = (tt, k)
 
 at_body-quiet : (scope : Option Addr) (later : Terms) → HaveNoFrame later → HasNoFrame (at_body scope later)
 at_body-quiet scope later k =
-    either-quiet (is_done (body_of_loop later)) (behind_body scope later) (part (loop body scope) (one (body_of_loop later)) later) (behind_body-quiet scope later k) ((body-quiet later k, tt), k)
+    either-quiet (is_done (body_of_loop later)) (behind_body scope later)
+    (part (loop body scope) (one (body_of_loop later)) later) (behind_body-quiet scope later k)
+    ((body-quiet later k, tt), k)
 
 behind_first-quiet : (scope : Option Addr) (later : Terms) → HaveNoFrame later → HasNoFrame (behind_first scope later)
 behind_first-quiet None later k = at_test-quiet None later k
@@ -113,7 +117,8 @@ finished-quiet (ending (Some c)) now later h = h
 finished-quiet f now later h = h
 
 pub settled-quiet : (f : Form) (now later : Terms) → HasNoFrame (part f now later) → HasNoFrame (settled f now later)
-settled-quiet f now later h = either-quiet (all_done now) (finished f now later) (part f now later) (finished-quiet f now later h) h
+settled-quiet f now later h =
+    either-quiet (all_done now) (finished f now later) (part f now later) (finished-quiet f now later h) h
 
 settle-quiet : (t : Term) → HasNoFrame t → HasNoFrame (settle t)
 settle-quiet (done v) h = h
@@ -196,7 +201,9 @@ block-quiet : (scope : Addr) (names : List Binding) (later : Terms)
 block-quiet scope [] end k = tt
 block-quiet scope (b ∷ bs) end k = tt
 block-quiet scope [] (more t fs) k = settle-quiet t k.0
-block-quiet scope (b ∷ bs) (more t fs) k = λ a. functions-quiet a fs (go (settled (scoped a) (one (settle t)) end)) (scoped-quiet (settle t) a (settle-quiet t k.0))
+block-quiet scope (b ∷ bs) (more t fs) k =
+    λ a. functions-quiet a fs (go (settled (scoped a) (one (settle t)) end))
+    (scoped-quiet (settle t) a (settle-quiet t k.0))
 
 chosen-quiet : (b : Bool) (later : Terms) → HaveNoFrame later → HasNoFrame (chosen b later)
 chosen-quiet true end k = tt
@@ -235,8 +242,10 @@ loop-quiet w updating scope vs later k = tt
 for_in-quiet : (constant : Bool) (a : Addr) (later : Terms) → HaveNoFrame later → HasNoFrame (for_in constant a later)
 for_in-quiet true a end k = tt
 for_in-quiet false a end k = tt
-for_in-quiet true a (more t ts) k = ((settled-quiet (loop first None) (one (settle t)) ts ((settle-quiet t k.0, tt), k.1), tt), tt)
-for_in-quiet false a (more t ts) k = settled-quiet (loop first (Some a)) (one (settle t)) ts ((settle-quiet t k.0, tt), k.1)
+for_in-quiet true a (more t ts) k =
+    ((settled-quiet (loop first None) (one (settle t)) ts ((settle-quiet t k.0, tt), k.1), tt), tt)
+for_in-quiet false a (more t ts) k =
+    settled-quiet (loop first (Some a)) (one (settle t)) ts ((settle-quiet t k.0, tt), k.1)
 
 enter_for_of-quiet : (scope : Addr) (node : ℕ) (b : Binding) (later : Terms)
     → HaveNoFrame later
@@ -248,7 +257,8 @@ list-quiet : (w : World) (b : Binding) (x : Value) (later : Terms)
     → HaveNoFrame later
     → QuietAction (list_row w b x later)
 list-quiet w b x later k =
-    choose_quiet (is_array w x) (go (part (turn_of b 0) end (more (done x) later))) (fail classes.TypeError (codes "Value is not an array")) (tt, (tt, k))
+    choose_quiet (is_array w x) (go (part (turn_of b 0) end (more (done x) later)))
+    (fail classes.TypeError (codes "Value is not an array")) (tt, (tt, k))
     (fail-quiet classes.TypeError (codes "Value is not an array"))
 
 body_part-quiet : (later : Terms) → HaveNoFrame later → HasNoFrame (body_part later)
@@ -261,7 +271,8 @@ turn-quiet : (scope : Addr) (b : Binding) (i : ℕ) (o : Option Value) (later : 
     → QuietAction (turn_row scope b i o later)
 turn-quiet scope b i None later k = tt
 turn-quiet scope b i (Some x) later k =
-    λ a. settled-quiet (body_of b (i + 1)) (one (settled (scoped a) (one (body_part later)) end)) later ((scoped-quiet (body_part later) a (body_part-quiet later k), tt), k)
+    λ a. settled-quiet (body_of b (i + 1)) (one (settled (scoped a) (one (body_part later)) end)) later
+    ((scoped-quiet (body_part later) a (body_part-quiet later k), tt), k)
 
 comma-quiet : (later : Terms) → HaveNoFrame later → QuietAction (comma_row later)
 comma-quiet end k = tt
@@ -273,21 +284,31 @@ compound-quiet : (w : World) (scope : Addr) (o : BinaryOperator) (r : Reference)
     → QuietAction (compound_row w scope o r vs later)
 compound-quiet w scope o r vs end k = tt
 compound-quiet w scope o r vs (more e ts) k =
-    result-quiet (read_result w scope r vs) (λ old. go (part (assign r) (joined (dones vs) (one (part (binary o) (more (done old) (one e)) end))) end))
-    (λ x. (joined-quiet (dones vs) (one (part (binary o) (more (done x) (one e)) end)) (dones-quiet vs) (((tt, (k.0, tt)), tt), tt), tt))
+    result-quiet (read_result w scope r vs)
+    (λ old. go (part (assign r) (joined (dones vs) (one (part (binary o) (more (done old) (one e)) end))) end))
+    (λ x. (
+      joined-quiet (dones vs) (one (part (binary o) (more (done x) (one e)) end)) (dones-quiet vs)
+          (((tt, (k.0, tt)), tt), tt),
+      tt,
+    ))
 
 callee-quiet : (w : World) (scope : Addr) (r : Reference) (m : Mark) (node : ℕ) (vs : List Value) (later : Terms)
     → HaveNoFrame later
     → QuietAction (callee_row w scope r m node vs later)
 callee-quiet w scope r m node vs later k =
-    result-quiet (read_result w scope r vs) (λ f. go (part (call m node) (more (done (callee_this r vs)) (more (done f) later)) end)) (λ x. ((tt, (tt, k)), tt))
+    result-quiet (read_result w scope r vs)
+    (λ f. go (part (call m node) (more (done (callee_this r vs)) (more (done f) later)) end))
+    (λ x. ((tt, (tt, k)), tt))
 
 object-quiet : (w : World) (scope : Addr) (ms : List Member) (vs : List Value) (later : Terms)
     → HaveNoFrame later
     → QuietAction (object_row w scope ms vs later)
-object-quiet w scope ms vs end k = gives-quiet (object_or_fail (properties_from w [] ms vs)) (made-gives (properties_from w [] ms vs))
+object-quiet w scope ms vs end k =
+    gives-quiet (object_or_fail (properties_from w [] ms vs)) (made-gives (properties_from w [] ms vs))
 object-quiet w scope ms vs (more (part (method f) now later) ts) k =
-    key-quiet (key_of w (last_of vs)) (λ key. make (function_cell f key scope values.Undefined) (λ a. go (part (object ms) (joined (dones vs) (more (done (values.Object a)) now)) ts)))
+    key-quiet (key_of w (last_of vs))
+    (λ key. make (function_cell f key scope values.Undefined)
+    (λ a. go (part (object ms) (joined (dones vs) (more (done (values.Object a)) now)) ts)))
     (λ key a. (joined-quiet (dones vs) (more (done (values.Object a)) now) (dones-quiet vs) (tt, k.0.0), k.1))
 object-quiet w scope ms vs (more _ ts) k = tt
 
@@ -327,14 +348,22 @@ mutual
   function_in-quiet node (standing v place) h = tt
   function_in-quiet node (part (frame m a) now later) h = absurd h
   function_in-quiet node (part (function f) now later) h =
-      within-quiet (code_if (nat_eq f.node node) f later) (function_in_all node now) (function_in_all node later) (code_if-quiet (nat_eq f.node node) f later h.1) (function_in_all-quiet node now h.0) (function_in_all-quiet node later h.1)
+      within-quiet (code_if (nat_eq f.node node) f later) (function_in_all node now) (function_in_all node later)
+      (code_if-quiet (nat_eq f.node node) f later h.1) (function_in_all-quiet node now h.0)
+      (function_in_all-quiet node later h.1)
   function_in-quiet node (part (method f) now later) h =
-      within-quiet (code_if (nat_eq f.node node) f later) (function_in_all node now) (function_in_all node later) (code_if-quiet (nat_eq f.node node) f later h.1) (function_in_all-quiet node now h.0) (function_in_all-quiet node later h.1)
-  function_in-quiet node (part f now later) h = within-quiet None (function_in_all node now) (function_in_all node later) tt (function_in_all-quiet node now h.0) (function_in_all-quiet node later h.1)
+      within-quiet (code_if (nat_eq f.node node) f later) (function_in_all node now) (function_in_all node later)
+      (code_if-quiet (nat_eq f.node node) f later h.1) (function_in_all-quiet node now h.0)
+      (function_in_all-quiet node later h.1)
+  function_in-quiet node (part f now later) h =
+      within-quiet None (function_in_all node now) (function_in_all node later) tt (function_in_all-quiet node now h.0)
+      (function_in_all-quiet node later h.1)
 
   function_in_all-quiet : (node : ℕ) (ts : Terms) → HaveNoFrame ts → CodeHasNoFrame (function_in_all node ts)
   function_in_all-quiet node end h = tt
-  function_in_all-quiet node (more t ts) h = first-quiet (function_in node t) (function_in_all node ts) (function_in-quiet node t h.0) (function_in_all-quiet node ts h.1)
+  function_in_all-quiet node (more t ts) h =
+      first-quiet (function_in node t) (function_in_all node ts) (function_in-quiet node t h.0)
+      (function_in_all-quiet node ts h.1)
 
 at_if : (b : Bool) (o p : Option FunctionCode)
     → CodeHasNoFrame o
@@ -348,7 +377,8 @@ function_at-quiet : (p : Program) (source : Source) (node : ℕ)
     → CodeHasNoFrame (function_at p source node)
 function_at-quiet [] source node h = tt
 function_at-quiet (t ∷ ts) source node h =
-    at_if (same_source t.source source) (function_in node t.tree) (function_at ts source node) (function_in-quiet node t.tree h.0) (function_at-quiet ts source node h.1)
+    at_if (same_source t.source source) (function_in node t.tree) (function_at ts source node)
+    (function_in-quiet node t.tree h.0) (function_at-quiet ts source node h.1)
 
 -- ---- actions, by the frames before them
 
@@ -408,10 +438,16 @@ perform-agrees : (b : ℕ) (a : Action) (s : State) → FramedAction b (length s
 perform-agrees b (go t) s h = record { framed = h.0; counted = h.1 }
 perform-agrees b (raise v) s h = record { framed = tt; counted = omega (arith, h) }
 perform-agrees b (leave c) s h = h
-perform-agrees b (make c k) s h = after_agrees b s (make_cell s.world c) (λ a. perform (k a)) h.0 (λ a w. perform-agrees b (k a) (with_world s w) (h.1 a))
-perform-agrees b (write a c k) s h = after_agrees b s (write_cell s.world a c) (λ x. perform k) h.0 (λ x w. perform-agrees b k (with_world s w) h.1)
-perform-agrees b (print vs text) s h = outside_agrees b (is_evaluation s.world) s _ (record { framed = tt; counted = omega (arith, h) })
-perform-agrees b (take_line k) s h = outside_agrees b (is_evaluation s.world) s _ (perform-agrees b (k (first_line s.input)) (record s { input = other_lines s.input }) (h (first_line s.input)))
+perform-agrees b (make c k) s h =
+    after_agrees b s (make_cell s.world c) (λ a. perform (k a)) h.0
+    (λ a w. perform-agrees b (k a) (with_world s w) (h.1 a))
+perform-agrees b (write a c k) s h =
+    after_agrees b s (write_cell s.world a c) (λ x. perform k) h.0 (λ x w. perform-agrees b k (with_world s w) h.1)
+perform-agrees b (print vs text) s h =
+    outside_agrees b (is_evaluation s.world) s _ (record { framed = tt; counted = omega (arith, h) })
+perform-agrees b (take_line k) s h =
+    outside_agrees b (is_evaluation s.world) s _
+    (perform-agrees b (k (first_line s.input)) (record s { input = other_lines s.input }) (h (first_line s.input)))
 perform-agrees b (set_here m k) s h =
     let P : ℕ → Type 0 = λ n. FramedAction b n k in
     perform-agrees b k (with_here s m) (subst P (sym (moved-length s.frames m)) h)
@@ -425,12 +461,16 @@ perform-agrees b (pop_frame k) s h =
 one-framed : (t : Term) → HasNoFrame t → AreFramed (one t)
 one-framed t h = are-framed (one t) (h, tt)
 
-entered-framed : (b : ℕ) (scope : Addr) (ts : Terms) (c : FunctionCode) (source : Source) (a : Addr) (x : Value) (s : Addr)
+entered-framed : (b : ℕ) (scope : Addr) (ts : Terms) (c : FunctionCode) (source : Source) (a : Addr) (x : Value)
+    (s : Addr)
     → HasNoFrame c.body
     → FramedAction b b (with_functions scope ts (frame_entered c source a x s))
-entered-framed b scope end c source a x s h =
-    ((one-framed (settle c.body) (settle-quiet c.body h), tt), omega (arith, no-calls_of (one (settle c.body)) (settle-quiet c.body h, tt)))
-entered-framed b scope (more (part (function f) now later) ts) c source a x s h = (refl, λ d. (refl, entered-framed b scope ts c source a x s h))
+entered-framed b scope end c source a x s h = (
+  (one-framed (settle c.body) (settle-quiet c.body h), tt),
+  omega (arith, no-calls_of (one (settle c.body)) (settle-quiet c.body h, tt)),
+)
+entered-framed b scope (more (part (function f) now later) ts) c source a x s h =
+    (refl, λ d. (refl, entered-framed b scope ts c source a x s h))
 entered-framed b scope (more _ ts) c source a x s h = entered-framed b scope ts c source a x s h
 
 choose_framed : (b n : ℕ) (t : Bool) (x y : Action)
@@ -443,13 +483,16 @@ choose_framed b n false x y h k = k
 fail-framed : (b : ℕ) (class : ErrorClass) (message : List ℕ) → FramedAction b b (fail class message)
 fail-framed b class message = quiet-framed b (fail class message) (fail-quiet class message)
 
-code-framed : (b : ℕ) (s : State) (o : Option FunctionCode) (source : Source) (a : Addr) (name : List ℕ) (outer : Option Addr) (x y : Value) (args : List Value)
+code-framed : (b : ℕ) (s : State) (o : Option FunctionCode) (source : Source) (a : Addr) (name : List ℕ)
+    (outer : Option Addr) (x y : Value) (args : List Value)
     → CodeHasNoFrame o
     → FramedAction b b (call_code s o source a name outer x y args)
 code-framed b s None source a name outer x y args h = fail-framed b classes.TypeError (codes "Value is not a function")
-code-framed b s (Some c) source a name None x y args h = fail-framed b classes.TypeError (codes "Value is not a function")
+code-framed b s (Some c) source a name None x y args h =
+    fail-framed b classes.TypeError (codes "Value is not a function")
 code-framed b s (Some c) source a name (Some outer) x y args h =
-    choose_framed b b (nat_lt (length s.frames) frame_limit) (entered c source a name outer (called_this c.form.is_arrow x y) args) too_deep
+    choose_framed b b (nat_lt (length s.frames) frame_limit)
+    (entered c source a name outer (called_this c.form.is_arrow x y) args) too_deep
     (refl, λ d. entered-framed b d c.functions c source a (called_this c.form.is_arrow x y) d h)
     (fail-framed b classes.RangeError (codes "Maximum call stack size exceeded"))
 
@@ -457,16 +500,23 @@ cell-framed : (b : ℕ) (p : Program) (s : State) (a : Addr) (o : Option Cell) (
     → ProgramHasNoFrame p
     → FramedAction b b (call_cell p s a o y args)
 cell-framed b p s a None y args h = fail-framed b classes.TypeError (codes "Value is not a function")
-cell-framed b p s a (Some (cells.Function (code.BuiltIn f) n l outer x)) y args h = quiet-framed b (built_in_call s.world f y args) (gives-quiet (built_in_call s.world f y args) (built_in-gives s.world f y args))
+cell-framed b p s a (Some (cells.Function (code.BuiltIn f) n l outer x)) y args h =
+    quiet-framed b (built_in_call s.world f y args)
+    (gives-quiet (built_in_call s.world f y args) (built_in-gives s.world f y args))
 cell-framed b p s a (Some (cells.Function (code.Script number node) n l outer x)) y args h =
-    code-framed b s (function_at p (script_source number) node) (script_source number) a n outer x y args (function_at-quiet p (script_source number) node h)
+    code-framed b s (function_at p (script_source number) node) (script_source number) a n outer x y args
+    (function_at-quiet p (script_source number) node h)
 cell-framed b p s a (Some (cells.Function (code.Kept at node) n l outer x)) y args h =
-    code-framed b s (function_at p (kept_source at) node) (kept_source at) a n outer x y args (function_at-quiet p (kept_source at) node h)
-cell-framed b p s a (Some (cells.Object ps)) y args h = fail-framed b classes.TypeError (codes "Value is not a function")
-cell-framed b p s a (Some (cells.Error class ps)) y args h = fail-framed b classes.TypeError (codes "Value is not a function")
+    code-framed b s (function_at p (kept_source at) node) (kept_source at) a n outer x y args
+    (function_at-quiet p (kept_source at) node h)
+cell-framed b p s a (Some (cells.Object ps)) y args h =
+    fail-framed b classes.TypeError (codes "Value is not a function")
+cell-framed b p s a (Some (cells.Error class ps)) y args h =
+    fail-framed b classes.TypeError (codes "Value is not a function")
 cell-framed b p s a (Some (cells.Array vs)) y args h = fail-framed b classes.TypeError (codes "Value is not a function")
 cell-framed b p s a (Some (cells.Text us)) y args h = fail-framed b classes.TypeError (codes "Value is not a function")
-cell-framed b p s a (Some (cells.Bindings kind n o ns)) y args h = fail-framed b classes.TypeError (codes "Value is not a function")
+cell-framed b p s a (Some (cells.Bindings kind n o ns)) y args h =
+    fail-framed b classes.TypeError (codes "Value is not a function")
 
 value-framed : (b : ℕ) (p : Program) (s : State) (f y : Value) (args : List Value)
     → ProgramHasNoFrame p
@@ -487,8 +537,13 @@ script-framed : (b : ℕ) (number : ℕ) (names : List Binding) (later : Terms)
     → FramedAction b b (script_row number names later)
 script-framed zero number names later l k = absurd (omega (arith, l))
 script-framed (suc b) number names end l k = (tt, omega arith)
-script-framed (suc b) number names (more t fs) l k =
-    (b, refl, quiet-framed (suc b) (with_names _ names (with_functions _ fs (go (settle t)))) (names-quiet _ names (with_functions _ fs (go (settle t))) (functions-quiet _ fs (go (settle t)) (settle-quiet t k.0))))
+script-framed (suc b) number names (more t fs) l k = (
+  b,
+  refl,
+  quiet-framed (suc b) (with_names _ names (with_functions _ fs (go (settle t))))
+      (names-quiet _ names (with_functions _ fs (go (settle t)))
+      (functions-quiet _ fs (go (settle t)) (settle-quiet t k.0))),
+)
 
 -- ---- THE TABLE OF STEPS
 
@@ -510,31 +565,57 @@ row-framed : (b : ℕ) (p : Program) (s : State) (scope : Addr) (f : Form) (vs :
     → FramedAction b (inner b f) (row p s scope f vs later)
 row-framed b p s scope (script number names) vs later l g k = script-framed b number names later l k
 row-framed b p s scope (enter node) vs later l g k = row-quiet b (enter_row node later) (enter-quiet node later k)
-row-framed b p s scope (enter_debugger node) vs later l g k = row-quiet b (enter_row node later) (enter-quiet node later k)
-row-framed b p s scope (enter_for node constant names) vs later l g k = row-quiet b (enter_for_row scope node constant names later) (λ a. for_in-quiet constant a later k)
-row-framed b p s scope (enter_for_of node x) vs later l g k = row-quiet b (enter_for_of_row scope node x later) (enter_for_of-quiet scope node x later k)
-row-framed b p s scope (block names) vs later l g k = row-quiet b (block_row scope names later) (block-quiet scope names later k)
+row-framed b p s scope (enter_debugger node) vs later l g k =
+    row-quiet b (enter_row node later) (enter-quiet node later k)
+row-framed b p s scope (enter_for node constant names) vs later l g k =
+    row-quiet b (enter_for_row scope node constant names later) (λ a. for_in-quiet constant a later k)
+row-framed b p s scope (enter_for_of node x) vs later l g k =
+    row-quiet b (enter_for_of_row scope node x later) (enter_for_of-quiet scope node x later k)
+row-framed b p s scope (block names) vs later l g k =
+    row-quiet b (block_row scope names later) (block-quiet scope names later k)
 row-framed b p s scope (initialize name) vs later l g k = (refl, (tt, omega arith))
-row-framed b p s scope choose vs later l g k = row-quiet b (go (chosen (is_truthy s.world (only vs)) later)) (chosen-quiet (is_truthy s.world (only vs)) later k)
-row-framed b p s scope both vs later l g k = row-quiet b (go (kept_or (is_truthy s.world (only vs)) (only vs) later)) (kept-quiet (is_truthy s.world (only vs)) (only vs) later k)
-row-framed b p s scope either vs later l g k = row-quiet b (go (otherwise (is_truthy s.world (only vs)) (only vs) later)) (otherwise-quiet (is_truthy s.world (only vs)) (only vs) later k)
-row-framed b p s scope (loop stage a) vs later l g k = row-quiet b (loop_row s.world stage a vs later) (loop-quiet s.world stage a vs later k)
-row-framed b p s scope (list_of x) vs later l g k = row-quiet b (list_row s.world x (only vs) later) (list-quiet s.world x (only vs) later k)
-row-framed b p s scope (turn_of x i) vs later l g k = row-quiet b (turn_row scope x i (elements_of s.world later i) later) (turn-quiet scope x i (elements_of s.world later i) later k)
-row-framed b p s scope (read r) vs later l g k = row-quiet b (with_result (read_result s.world scope r vs) give) (result-quiet (read_result s.world scope r vs) give (λ x. tt))
-row-framed b p s scope (typeof_name x) vs later l g k = row-gives b (type_of_found s.world x (found s.world scope x)) (type_of-gives s.world x (found s.world scope x))
-row-framed b p s scope (unary op) vs later l g k = row-quiet b (with_result (unary_result s.world op (only vs)) give) (result-quiet (unary_result s.world op (only vs)) give (λ x. tt))
-row-framed b p s scope (binary op) vs later l g k = row-quiet b (with_result (binary_result s.world op (argument vs 0) (argument vs 1)) give) (result-quiet (binary_result s.world op (argument vs 0) (argument vs 1)) give (λ x. tt))
+row-framed b p s scope choose vs later l g k =
+    row-quiet b (go (chosen (is_truthy s.world (only vs)) later)) (chosen-quiet (is_truthy s.world (only vs)) later k)
+row-framed b p s scope both vs later l g k =
+    row-quiet b (go (kept_or (is_truthy s.world (only vs)) (only vs) later))
+    (kept-quiet (is_truthy s.world (only vs)) (only vs) later k)
+row-framed b p s scope either vs later l g k =
+    row-quiet b (go (otherwise (is_truthy s.world (only vs)) (only vs) later))
+    (otherwise-quiet (is_truthy s.world (only vs)) (only vs) later k)
+row-framed b p s scope (loop stage a) vs later l g k =
+    row-quiet b (loop_row s.world stage a vs later) (loop-quiet s.world stage a vs later k)
+row-framed b p s scope (list_of x) vs later l g k =
+    row-quiet b (list_row s.world x (only vs) later) (list-quiet s.world x (only vs) later k)
+row-framed b p s scope (turn_of x i) vs later l g k =
+    row-quiet b (turn_row scope x i (elements_of s.world later i) later)
+    (turn-quiet scope x i (elements_of s.world later i) later k)
+row-framed b p s scope (read r) vs later l g k =
+    row-quiet b (with_result (read_result s.world scope r vs) give)
+    (result-quiet (read_result s.world scope r vs) give (λ x. tt))
+row-framed b p s scope (typeof_name x) vs later l g k =
+    row-gives b (type_of_found s.world x (found s.world scope x)) (type_of-gives s.world x (found s.world scope x))
+row-framed b p s scope (unary op) vs later l g k =
+    row-quiet b (with_result (unary_result s.world op (only vs)) give)
+    (result-quiet (unary_result s.world op (only vs)) give (λ x. tt))
+row-framed b p s scope (binary op) vs later l g k =
+    row-quiet b (with_result (binary_result s.world op (argument vs 0) (argument vs 1)) give)
+    (result-quiet (binary_result s.world op (argument vs 0) (argument vs 1)) give (λ x. tt))
 row-framed b p s scope comma vs later l g k = row-quiet b (comma_row later) (comma-quiet later k)
 row-framed b p s scope (function f) vs later l g k = row-gives b (function_row s scope f) (function_row-gives s scope f)
 row-framed b p s scope array vs later l g k = (refl, λ a. (tt, omega arith))
-row-framed b p s scope (object ms) vs later l g k = row-quiet b (object_row s.world scope ms vs later) (object-quiet s.world scope ms vs later k)
-row-framed b p s scope (compound op r) vs later l g k = row-quiet b (compound_row s.world scope op r vs later) (compound-quiet s.world scope op r vs later k)
-row-framed b p s scope (assign r) vs later l g k = row-gives b (assign_row s.world scope r vs) (put-gives s.world scope r vs (last_of vs) (give (last_of vs)) tt)
-row-framed b p s scope (update op prefix r) vs later l g k = row-gives b (update_row s.world scope op prefix r vs) (update_row-gives s.world scope op prefix r vs)
-row-framed b p s scope (delete r) vs later l g k = row-gives b (remove s.world r vs (give (values.Bool true))) (remove-gives s.world r vs (give (values.Bool true)) tt)
+row-framed b p s scope (object ms) vs later l g k =
+    row-quiet b (object_row s.world scope ms vs later) (object-quiet s.world scope ms vs later k)
+row-framed b p s scope (compound op r) vs later l g k =
+    row-quiet b (compound_row s.world scope op r vs later) (compound-quiet s.world scope op r vs later k)
+row-framed b p s scope (assign r) vs later l g k =
+    row-gives b (assign_row s.world scope r vs) (put-gives s.world scope r vs (last_of vs) (give (last_of vs)) tt)
+row-framed b p s scope (update op prefix r) vs later l g k =
+    row-gives b (update_row s.world scope op prefix r vs) (update_row-gives s.world scope op prefix r vs)
+row-framed b p s scope (delete r) vs later l g k =
+    row-gives b (remove s.world r vs (give (values.Bool true))) (remove-gives s.world r vs (give (values.Bool true)) tt)
 row-framed b p s scope (call m node) vs later l g k = call-framed b p s m vs g
-row-framed b p s scope (call_of r m node) vs later l g k = row-quiet b (callee_row s.world scope r m node vs later) (callee-quiet s.world scope r m node vs later k)
+row-framed b p s scope (call_of r m node) vs later l g k =
+    row-quiet b (callee_row s.world scope r m node vs later) (callee-quiet s.world scope r m node vs later k)
 row-framed b p s scope (frame node a) vs later l g k = (b, refl, (tt, omega arith))
 row-framed b p s scope return_ vs later l g k = refl
 row-framed b p s scope break_ vs later l g k = refl
@@ -549,21 +630,25 @@ row-framed b p s scope _ vs later l g k = (tt, omega arith)
 taken-framed : (b : ℕ) (scope : Addr) (f : Form) (c : Completion) (later : Terms)
     → HaveNoFrame later
     → FramedAction b (inner b f) (taken scope f c later)
-taken-framed b scope (catching x) (throws v m) later k = row-quiet b (catch_row scope x v later) (catch-quiet scope x v later k)
+taken-framed b scope (catching x) (throws v m) later k =
+    row-quiet b (catch_row scope x v later) (catch-quiet scope x v later k)
 taken-framed b scope (catching x) (returns v) later k = refl
 taken-framed b scope (catching x) breaks later k = refl
 taken-framed b scope (catching x) continues later k = refl
-taken-framed b scope finishing c later k = row-quiet b (go (settled (ending (Some c)) later end)) (settled-quiet (ending (Some c)) later end (k, tt))
+taken-framed b scope finishing c later k =
+    row-quiet b (go (settled (ending (Some c)) later end)) (settled-quiet (ending (Some c)) later end (k, tt))
 taken-framed b scope (frame node a) (returns v) later k = (b, refl, (tt, omega arith))
 taken-framed b scope (frame node a) (throws v m) later k = (b, refl, refl)
 taken-framed b scope (frame node a) breaks later k = (b, refl, refl)
 taken-framed b scope (frame node a) continues later k = (b, refl, refl)
 taken-framed b scope (loop body a) breaks later k = (tt, omega arith)
-taken-framed b scope (loop body a) continues later k = row-quiet b (go (settled (loop body a) end later)) (settled-quiet (loop body a) end later (tt, k))
+taken-framed b scope (loop body a) continues later k =
+    row-quiet b (go (settled (loop body a) end later)) (settled-quiet (loop body a) end later (tt, k))
 taken-framed b scope (loop body a) (throws v m) later k = refl
 taken-framed b scope (loop body a) (returns v) later k = refl
 taken-framed b scope (body_of x i) breaks later k = (tt, omega arith)
-taken-framed b scope (body_of x i) continues later k = row-quiet b (go (settled (body_of x i) end later)) (settled-quiet (body_of x i) end later (tt, k))
+taken-framed b scope (body_of x i) continues later k =
+    row-quiet b (go (settled (body_of x i) end later)) (settled-quiet (body_of x i) end later (tt, k))
 taken-framed b scope (body_of x i) (throws v m) later k = refl
 taken-framed b scope (body_of x i) (returns v) later k = refl
 taken-framed b scope f c later k = refl
@@ -613,10 +698,15 @@ finished-framed : (b : ℕ) (f : Form) (now later : Terms) (s : State)
     → HaveNoFrame later
     → length s.frames ≡ inner b f + calls_of now
     → Agrees b (finished f now later) s
-finished-framed b (frame node a) now later s n k e = record { framed = (are-framed now n, k); counted = omega (arith, e) }
+finished-framed b (frame node a) now later s n k e =
+    record { framed = (are-framed now n, k); counted = omega (arith, e) }
 finished-framed b f now later s n k e =
     let q = finished-quiet f now later (n, k) in
-    record { framed = is-framed (finished f now later) q; counted = omega (arith, e, no-calls (finished f now later) q, no-calls_of now n) }
+    record {
+      framed = is-framed (finished f now later) q;
+      counted = omega
+          (arith, e, no-calls (finished f now later) q, no-calls_of now n);
+    }
 
 part-framed : (b : ℕ) (f : Form) (now later : Terms) (s : State)
     → AreFramed now
@@ -644,7 +734,8 @@ around-agrees : (b : ℕ) (p : Program) (scope : Addr) (f : Form) (later : Terms
 around-agrees b p scope f later s (all_values vs) l g k h =
     let P : ℕ → Type 0 = λ n. FramedAction b n (row p s scope f vs later) in
     perform-agrees b (row p s scope f vs later) s (subst P (sym h) (row-framed b p s scope f vs later l g k))
-around-agrees b p scope f later s (moved (goes now t told)) l g k h = settled_if b (all_done now) f now later t refl h.0 k h.1
+around-agrees b p scope f later s (moved (goes now t told)) l g k h =
+    settled_if b (all_done now) f now later t refl h.0 k h.1
 around-agrees b p scope f later s (moved (travels c t)) l g k h =
     let P : ℕ → Type 0 = λ n. FramedAction b n (taken scope f c later) in
     perform-agrees b (taken scope f c later) t (subst P (sym h) (taken-framed b scope f c later k))
@@ -673,7 +764,8 @@ mutual
   next-agrees b p scope (part f now later) s l g h =
       let q = h.framed in
       around-agrees b p scope f later s (walk p (scope_in f scope) now s) l g q.1
-      (walk-agrees (inner b f) p (scope_in f scope) now s (inner-low b f l) g q.0 (inner-counts b f now later (length s.frames) h.counted))
+      (walk-agrees (inner b f) p (scope_in f scope) now s (inner-low b f l) g q.0
+      (inner-counts b f now later (length s.frames) h.counted))
 
   walk-agrees : (b : ℕ) (p : Program) (scope : Addr) (ts : Terms) (s : State)
       → 1 ≤ b
@@ -682,10 +774,12 @@ mutual
       → length s.frames ≡ b + calls_of ts
       → WalkAgrees b s (walk p scope ts s)
   walk-agrees b p scope end s l g h e = omega (arith, e)
-  walk-agrees b p scope (more (done v) ts) s l g h e = with_value-agrees b s v (walk p scope ts s) (walk-agrees b p scope ts s l g h e)
+  walk-agrees b p scope (more (done v) ts) s l g h e =
+      with_value-agrees b s v (walk p scope ts s) (walk-agrees b p scope ts s l g h e)
   walk-agrees b p scope (more (standing v place) ts) s l g h e = omega (arith, e)
   walk-agrees b p scope (more (part f now later) ts) s l g h e =
-      inside-agrees b ts (next p scope (part f now later) s) h.1 (next-agrees b p scope (part f now later) s l g (record { framed = h.0; counted = e }))
+      inside-agrees b ts (next p scope (part f now later) s) h.1
+      (next-agrees b p scope (part f now later) s l g (record { framed = h.0; counted = e }))
 
 -- ---- runs
 

@@ -30,7 +30,8 @@ take_all [] = refl
 take_all (c ∷ cs) = ap {B = List Cell} (λ ds. c ∷ ds) (take_all cs)
 
 undisturbed : (w : World) (x : ScratchSpace) (v : World) → Keeps (copied_world w x) v → Undisturbed w x v
-undisturbed w x v k = let o = k.others in record { program = o.0; earlier = let h = o.1 (omega arith) in h.1 ∙ take_all x.cells }
+undisturbed w x v k =
+    let o = k.others in record { program = o.0; earlier = let h = o.1 (omega arith) in h.1 ∙ take_all x.cells }
 
 -- ---- what is made before the first step
 
@@ -58,7 +59,13 @@ source_kinds w us r (Scratch i) = stays-append w.scratch (cells.Text us) i
 pub source_others : (o : Option ℕ) (w : World) (us : List ℕ) (r : Room)
     → OthersStay o w (record w { scratch = w.scratch ++ cells.Text us ∷ []; room = r })
 source_others None w us r = tt
-source_others (Some n) w us r = (refl, λ h. (omega (arith, length-append w.scratch (cells.Text us ∷ [])), take-append-le n w.scratch (cells.Text us ∷ []) h))
+source_others (Some n) w us r = (
+  refl,
+  λ h. (
+    omega (arith, length-append w.scratch (cells.Text us ∷ [])),
+    take-append-le n w.scratch (cells.Text us ∷ []) h,
+  ),
+)
 
 pub keep-keeps : (w : World) (us : List ℕ) → AfterFine (keep_source w us) (λ a v. Keeps w v)
 keep-keeps w us =
@@ -70,7 +77,9 @@ keep-keeps w us =
 
 literals-keep : (w : World) (ts : List (List ℕ)) → AfterFine (make_literals w ts) (λ u v. Keeps w v)
 literals-keep w [] = keeps-same w
-literals-keep w (us ∷ ts) = then_keeps w (make_cell w (cells.Text us)) (λ a v. make_literals v ts) (making-keeps w (cells.Text us)) (λ a v. literals-keep v ts)
+literals-keep w (us ∷ ts) =
+    then_keeps w (make_cell w (cells.Text us)) (λ a v. make_literals v ts) (making-keeps w (cells.Text us))
+    (λ a v. literals-keep v ts)
 
 second_keeps : {A B : Type 0} (w : World) (t : Tried A) (u : Tried B)
     → AfterFine u (λ b v. Keeps w v)
@@ -83,16 +92,23 @@ placed-keep : (w : World) (ts us : List (List ℕ)) → AfterFine (place_literal
 placed-keep w ts us = second_keeps w _ (make_literals w us) (literals-keep w us)
 
 object-keeps : (w : World) (c : Cell) → AfterFine (object_value (make_cell w c)) (λ x v. Keeps w v)
-object-keeps w c = then_keeps w (make_cell w c) (λ a v. fine (values.Object a) v) (making-keeps w c) (λ a v. keeps-same v)
+object-keeps w c =
+    then_keeps w (make_cell w c) (λ a v. fine (values.Object a) v) (making-keeps w c) (λ a v. keeps-same v)
 
 mutual
   json-keeps : (w : World) (j : Json) → AfterFine (make_json w j) (λ x v. Keeps w v)
   json-keeps w json_null = keeps-same w
   json-keeps w (json_bool b) = keeps-same w
   json-keeps w (json_number z) = keeps-same w
-  json-keeps w (json_string us) = then_keeps w (make_cell w (cells.Text us)) (λ a v. fine (values.Text a) v) (making-keeps w (cells.Text us)) (λ a v. keeps-same v)
-  json-keeps w (json_array js) = then_keeps w (make_jsons w js) (λ xs v. object_value (make_cell v (cells.Array xs))) (jsons-keep w js) (λ xs v. object-keeps v (cells.Array xs))
-  json-keeps w (json_object ms) = then_keeps w (make_members w [] ms) (λ ps v. object_value (make_cell v (cells.Object ps))) (members-keep w [] ms) (λ ps v. object-keeps v (cells.Object ps))
+  json-keeps w (json_string us) =
+      then_keeps w (make_cell w (cells.Text us)) (λ a v. fine (values.Text a) v) (making-keeps w (cells.Text us))
+      (λ a v. keeps-same v)
+  json-keeps w (json_array js) =
+      then_keeps w (make_jsons w js) (λ xs v. object_value (make_cell v (cells.Array xs))) (jsons-keep w js)
+      (λ xs v. object-keeps v (cells.Array xs))
+  json-keeps w (json_object ms) =
+      then_keeps w (make_members w [] ms) (λ ps v. object_value (make_cell v (cells.Object ps))) (members-keep w [] ms)
+      (λ ps v. object-keeps v (cells.Object ps))
 
   jsons-keep : (w : World) (js : Jsons) → AfterFine (make_jsons w js) (λ x v. Keeps w v)
   jsons-keep w no_jsons = keeps-same w
@@ -103,7 +119,8 @@ mutual
   members-keep : (w : World) (ps : List Property) (ms : Members) → AfterFine (make_members w ps ms) (λ x v. Keeps w v)
   members-keep w ps no_members = keeps-same w
   members-keep w ps (a_member key j ms) =
-      then_keeps w (make_json w j) (λ x v. make_members v (put_property ps key x) ms) (json-keeps w j) (λ x v. members-keep v (put_property ps key x) ms)
+      then_keeps w (make_json w j) (λ x v. make_members v (put_property ps key x) ms) (json-keeps w j)
+      (λ x v. members-keep v (put_property ps key x) ms)
 
 argument-keeps : (w : World) (a : Argument) → AfterFine (make_argument w a) (λ x v. Keeps w v)
 argument-keeps w (given x) = keeps-same w
@@ -112,15 +129,20 @@ argument-keeps w (made_of j) = json-keeps w j
 arguments-keep : (w : World) (as_given : List Argument) → AfterFine (make_arguments w as_given) (λ x v. Keeps w v)
 arguments-keep w [] = keeps-same w
 arguments-keep w (a ∷ rest) =
-    then_keeps w (make_argument w a) (λ x v. after_try (make_arguments v rest) (λ xs u. fine (x ∷ xs) u)) (argument-keeps w a)
-    (λ x v. then_keeps v (make_arguments v rest) (λ xs u. fine (x ∷ xs) u) (arguments-keep v rest) (λ xs u. keeps-same u))
+    then_keeps w (make_argument w a) (λ x v. after_try (make_arguments v rest) (λ xs u. fine (x ∷ xs) u))
+    (argument-keeps w a)
+    (λ x v. then_keeps v (make_arguments v rest) (λ xs u. fine (x ∷ xs) u) (arguments-keep v rest)
+    (λ xs u. keeps-same u))
 
 prepared-keeps : (w : World) (x : ScratchSpace) (source : List ℕ) (order : List (List ℕ)) (e : Made)
     → AfterFine (prepared w x source order e) (λ u v. Keeps (copied_world w x) v)
 prepared-keeps w x source order e =
     let c : World = copied_world w x in
-    then_keeps c (keep_source c source) (λ at v. after_try (place_literals v order (literals (kept_term at e))) (λ u z. fine (kept_tree at e) z)) (keep-keeps c source)
-    (λ at v. then_keeps v (place_literals v order (literals (kept_term at e))) (λ u z. fine (kept_tree at e) z) (placed-keep v order (literals (kept_term at e))) (λ u z. keeps-same z))
+    then_keeps c (keep_source c source)
+    (λ at v. after_try (place_literals v order (literals (kept_term at e))) (λ u z. fine (kept_tree at e) z))
+    (keep-keeps c source)
+    (λ at v. then_keeps v (place_literals v order (literals (kept_term at e))) (λ u z. fine (kept_tree at e) z)
+    (placed-keep v order (literals (kept_term at e))) (λ u z. keeps-same z))
 
 -- ---- the steps
 
@@ -152,19 +174,26 @@ answered-keeps w x (fine u v) k h rest = rest v u h
 answered-keeps w x effect k h rest = tt
 answered-keeps w x (full what) k h rest = tt
 
-pub evaluate-keeps : (p : Program) (w : World) (x : ScratchSpace) (scope : Addr) (receiver : Value) (source : List ℕ) (order : List (List ℕ)) (e : Made)
+pub evaluate-keeps : (p : Program) (w : World) (x : ScratchSpace) (scope : Addr) (receiver : Value) (source : List ℕ)
+    (order : List (List ℕ)) (e : Made)
     → AnswerKeeps w x (evaluate p w x scope receiver source order e)
 evaluate-keeps p w x scope receiver source order e =
-    answered-keeps w x (prepared w x source order e) (evaluated (with_source p x e) scope receiver) (prepared-keeps w x source order e)
+    answered-keeps w x (prepared w x source order e) (evaluated (with_source p x e) scope receiver)
+    (prepared-keeps w x source order e)
     (λ v u k. evaluated-keeps (with_source p x e) scope receiver w x v u k)
 
-pub call-keeps : (p : Program) (w : World) (x : ScratchSpace) (source : List ℕ) (order : List (List ℕ)) (callee : Made) (receiver : Value) (given_args : List Argument)
+pub call-keeps : (p : Program) (w : World) (x : ScratchSpace) (source : List ℕ) (order : List (List ℕ)) (callee : Made)
+    (receiver : Value) (given_args : List Argument)
     → AnswerKeeps w x (evaluate_call p w x source order callee receiver given_args)
 call-keeps p w x source order callee receiver given_args =
     let c : World = copied_world w x in
-    answered-keeps w x (with_arguments receiver given_args (prepared w x source order callee)) (evaluated (with_source p x callee) script_scope values.Undefined)
-    (then_keeps c (prepared w x source order callee) (λ f v. after_try (make_arguments v given_args) (λ vs u. fine (call_with_values receiver f vs) u)) (prepared-keeps w x source order callee)
-    (λ f v. then_keeps v (make_arguments v given_args) (λ vs u. fine (call_with_values receiver f vs) u) (arguments-keep v given_args) (λ vs u. keeps-same u)))
+    answered-keeps w x (with_arguments receiver given_args (prepared w x source order callee))
+    (evaluated (with_source p x callee) script_scope values.Undefined)
+    (then_keeps c (prepared w x source order callee)
+    (λ f v. after_try (make_arguments v given_args) (λ vs u. fine (call_with_values receiver f vs) u))
+    (prepared-keeps w x source order callee)
+    (λ f v. then_keeps v (make_arguments v given_args) (λ vs u. fine (call_with_values receiver f vs) u)
+    (arguments-keep v given_args) (λ vs u. keeps-same u)))
     (λ v u k. evaluated-keeps (with_source p x callee) script_scope values.Undefined w x v u k)
 
 -- ---- functions that an evaluation makes
@@ -176,7 +205,8 @@ found_if false o q e = cc
 pub own-found : (p : Program) (x : ScratchSpace) (e : Made) (node : ℕ)
     → function_at (with_source p x e) (kept_source (next_kept x)) node ≡ function_in node (kept_tree (next_kept x) e)
 own-found p x e node =
-    found_if (same_source (kept_source (next_kept x)) (kept_source (next_kept x))) (function_in node (kept_tree (next_kept x) e)) (function_at p (kept_source (next_kept x)) node)
+    found_if (same_source (kept_source (next_kept x)) (kept_source (next_kept x)))
+    (function_in node (kept_tree (next_kept x) e)) (function_at p (kept_source (next_kept x)) node)
     (eq-eqb (length x.cells) (length x.cells) refl)
 
 pub others-found : (p : Program) (x : ScratchSpace) (e : Made) (number node : ℕ)

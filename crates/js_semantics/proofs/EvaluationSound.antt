@@ -44,7 +44,8 @@ widened w v (fine a u) P l h = (h.0, later-trans w v u l h.1, h.2)
 widened w v effect P l h = tt
 widened w v (full what) P l h = tt
 
-then-good : {A B : Type 0} (w : World) (t : Tried A) (k : A → World → Tried B) (P : World → A → Type 0) (Q : World → B → Type 0)
+then-good : {A B : Type 0} (w : World) (t : Tried A) (k : A → World → Tried B) (P : World → A → Type 0)
+    (Q : World → B → Type 0)
     → Good w t P
     → ((a : A) (v : World) → IsSound v → Later w v → P v a → Good v (k a v) Q)
     → Good w (after_try t k) Q
@@ -79,7 +80,9 @@ made-good : (w : World) (c : Cell)
     → IsSound w
     → SoundCell w c
     → Good w (make_cell w c) (λ v a. Leads (λ kind. kind ≡ kind_of c) (read_cell v a))
-made-good w c s h = combined w (make_cell w c) (λ v a. Leads (λ kind. kind ≡ kind_of c) (read_cell v a)) (making-keeps w c) (making-sound w c s h) (making-leads w c)
+made-good w c s h =
+    combined w (make_cell w c) (λ v a. Leads (λ kind. kind ≡ kind_of c) (read_cell v a)) (making-keeps w c)
+    (making-sound w c s h) (making-leads w c)
 
 -- ---- the cells of an evaluation's literals
 
@@ -97,7 +100,9 @@ behind : (k : ℕ) (w : World) (r : Room) (us : List ℕ) (o : Option ℕ)
 behind k w r us None e f = cc
 behind k w r us (Some j) e f = record {
   address = refl;
-  text = leads-to (cells.Text us) (slice_get (w.scratch ++ cells.Text us ∷ []) (length w.scratch)) (get-last w.scratch (cells.Text us));
+  text =
+      leads-to (cells.Text us) (slice_get (w.scratch ++ cells.Text us ∷ []) (length w.scratch))
+      (get-last w.scratch (cells.Text us));
   longer = omega (arith, length-append w.scratch (cells.Text us ∷ []));
   same_start = refl;
 }
@@ -110,8 +115,10 @@ text-good k w us s e =
     let c : Cell = cells.Text us in
     let v : World = record (with_cell w w.start c) { room = room_less w.room (weight c) } in
     let P : World → Addr → Type 0 = λ u a. StandsBehind w u a in
-    good_if w (nat_lt 0 w.room.cells) counted.Cells (if nat_le (weight c) w.room.units then fine (next_address w w.start) v else full counted.Units) P
-    (good_if w (nat_le (weight c) w.room.units) counted.Units (fine (next_address w w.start) v) P (made_sound w v.room w.start c s tt, made_kinds w v.room w.start c, behind k w v.room us w.start e refl))
+    good_if w (nat_lt 0 w.room.cells) counted.Cells
+    (if nat_le (weight c) w.room.units then fine (next_address w w.start) v else full counted.Units) P
+    (good_if w (nat_le (weight c) w.room.units) counted.Units (fine (next_address w w.start) v) P
+    (made_sound w v.room w.start c s tt, made_kinds w v.room w.start c, behind k w v.room us w.start e refl))
 
 raised_by_one : (n i : ℕ) → (n ≡ i) ⊎ (suc n ≤ i) → (suc n ≡ suc i) ⊎ (suc (suc n) ≤ suc i)
 raised_by_one n i (inl e) = inl (ap (λ m. suc m) e)
@@ -132,7 +139,9 @@ first-or-later : (w v z : World) (a : Addr) (n i : ℕ)
     → Leads IsTextKind (read_cell z (Scratch i))
 first-or-later w v z a n i b l h high (inl e) =
     let P : ℕ → Type 0 = λ j. Leads IsTextKind (read_cell z (Scratch j)) in
-    subst P e (leads-stays IsTextKind (read_cell v (Scratch (length w.scratch))) (read_cell z (Scratch (length w.scratch))) (l (Scratch (length w.scratch))) b.text)
+    subst P e
+    (leads-stays IsTextKind (read_cell v (Scratch (length w.scratch))) (read_cell z (Scratch (length w.scratch)))
+    (l (Scratch (length w.scratch))) b.text)
 first-or-later w v z a n i b l h high (inr low) = h i (omega (arith, b.longer, low)) (omega (arith, b.longer, high))
 
 literals-good : (k : ℕ) (w : World) (ts : List (List ℕ))
@@ -141,9 +150,12 @@ literals-good : (k : ℕ) (w : World) (ts : List (List ℕ))
     → Good w (make_literals w ts) (λ z u. AreTexts z (λ i. Scratch i) (length w.scratch) (length w.scratch + length ts))
 literals-good k w [] s e = (s, later-same w, λ i low high. absurd (omega (arith, low, high)))
 literals-good k w (us ∷ ts) s e =
-    then-good w (make_cell w (cells.Text us)) (λ a v. make_literals v ts) (λ v a. StandsBehind w v a) (λ z u. AreTexts z (λ i. Scratch i) (length w.scratch) (length w.scratch + suc (length ts)))
+    then-good w (make_cell w (cells.Text us)) (λ a v. make_literals v ts) (λ v a. StandsBehind w v a)
+    (λ z u. AreTexts z (λ i. Scratch i) (length w.scratch) (length w.scratch + suc (length ts)))
     (text-good k w us s e)
-    (λ a v t l b. mapped v (make_literals v ts) (λ z u. AreTexts z (λ i. Scratch i) (length v.scratch) (length v.scratch + length ts)) (λ z u. AreTexts z (λ i. Scratch i) (length w.scratch) (length w.scratch + suc (length ts)))
+    (λ a v t l b. mapped v (make_literals v ts)
+    (λ z u. AreTexts z (λ i. Scratch i) (length v.scratch) (length v.scratch + length ts))
+    (λ z u. AreTexts z (λ i. Scratch i) (length w.scratch) (length w.scratch + suc (length ts)))
     (literals-good k v ts t (b.same_start ∙ e))
     (λ z u m h i low high. first-or-later w v z a (length ts) i b m h high (at_or_above (length w.scratch) i low)))
 
@@ -156,8 +168,12 @@ source-good : (k : ℕ) (w : World) (us : List ℕ)
 source-good k w us s e =
     let r : Room = record { cells = w.room.cells; units = w.room.units - length us } in
     let v : World = record w { scratch = w.scratch ++ cells.Text us ∷ []; room = r } in
-    good_if w (nat_le (length us) w.room.units) counted.Units (fine (Scratch (length w.scratch)) v) (λ u a. StandsBehind w u a)
-    (made_sound w r (Some k) (cells.Text us) s tt, made_kinds w r (Some k) (cells.Text us), behind k w r us (Some k) refl e)
+    good_if w (nat_le (length us) w.room.units) counted.Units (fine (Scratch (length w.scratch)) v)
+    (λ u a. StandsBehind w u a) (
+      made_sound w r (Some k) (cells.Text us) s tt,
+      made_kinds w r (Some k) (cells.Text us),
+      behind k w r us (Some k) refl e,
+    )
 
 abbrev IsTree : ScratchSpace → Made → World → Term → Type 0
 IsTree x e z t = SoundTerm z t × SoundTerm z (kept_tree (next_kept x) e)
@@ -179,14 +195,19 @@ placed-good : (k : ℕ) (x : ScratchSpace) (order : List (List ℕ)) (e : Made) 
     → IsSound v
     → v.start ≡ Some k
     → length v.scratch ≡ suc (length x.cells)
-    → Good v (after_try (place_literals v order (literals (kept_term (next_kept x) e))) (λ u z. fine (kept_tree (next_kept x) e) z)) (IsTree x e)
+    → Good v (after_try (place_literals v order (literals (kept_term (next_kept x) e)))
+    (λ u z. fine (kept_tree (next_kept x) e) z))
+    (IsTree x e)
 placed-good k x order e v f s q n =
     let t : Term = kept_term (next_kept x) e in
-    let P : World → Unit {0} → Type 0 = λ z u. AreTexts z (λ i. Scratch i) (length v.scratch) (length v.scratch + length (literals t)) in
+    let P : World
+    → Unit {0}
+    → Type 0 = λ z u. AreTexts z (λ i. Scratch i) (length v.scratch) (length v.scratch + length (literals t)) in
     then-good v (place_literals v order (literals t)) (λ u z. fine (kept_tree (next_kept x) e) z) P (IsTree x e)
     (second-good v _ (make_literals v (literals t)) P (literals-good k v (literals t) s q))
     (λ u z t_sound l h.
-    let tree : SoundTerm z (kept_tree (next_kept x) e) = placed-sound z (λ i. Scratch i) (length x.cells + 1) t (f _) (λ i low high. h i (omega (arith, n, low)) (omega (arith, n, high))) in
+    let tree : SoundTerm z (kept_tree (next_kept x) e) = placed-sound z (λ i. Scratch i) (length x.cells + 1) t (f _)
+    (λ i low high. h i (omega (arith, n, low)) (omega (arith, n, high))) in
     (t_sound, later-same z, (tree, tree)))
 
 prepared-good : (w : World) (x : ScratchSpace) (source : List ℕ) (order : List (List ℕ)) (e : Made)
@@ -195,8 +216,12 @@ prepared-good : (w : World) (x : ScratchSpace) (source : List ℕ) (order : List
     → Good (copied_world w x) (prepared w x source order e) (IsTree x e)
 prepared-good w x source order e f s =
     let c : World = copied_world w x in
-    let k : Addr → World → Tried Term = λ at v. after_try (place_literals v order (literals (kept_term at e))) (λ u z. fine (kept_tree at e) z) in
-    then-good c (keep_source c source) k (λ v a. StandsBehind c v a) (IsTree x e) (source-good (length x.cells) c source s refl)
+    let k : Addr
+    → World
+    → Tried Term = λ at v. after_try (place_literals v order (literals (kept_term at e)))
+    (λ u z. fine (kept_tree at e) z) in
+    then-good c (keep_source c source) k (λ v a. StandsBehind c v a) (IsTree x e)
+    (source-good (length x.cells) c source s refl)
     (λ at v t l b.
     let P : Addr → Type 0 = λ a. Good v (k a v) (IsTree x e) in
     subst P (sym b.address) (placed-good (length x.cells) x order e v f t b.same_start b.longer))
@@ -209,7 +234,8 @@ object-good : (w : World) (c : Cell)
     → IsObjectKind (kind_of c)
     → Good w (object_value (make_cell w c)) (λ v x. SoundValue v x)
 object-good w c s h i =
-    then-good w (make_cell w c) (λ a v. fine (values.Object a) v) (λ v a. Leads (λ kind. kind ≡ kind_of c) (read_cell v a)) (λ v x. SoundValue v x) (made-good w c s h)
+    then-good w (make_cell w c) (λ a v. fine (values.Object a) v)
+    (λ v a. Leads (λ kind. kind ≡ kind_of c) (read_cell v a)) (λ v x. SoundValue v x) (made-good w c s h)
     (λ a v t l k. (t, later-same v, leads-as IsObjectKind c (read_cell v a) i k))
 
 mutual
@@ -218,20 +244,26 @@ mutual
   json-good w (json_bool b) s = (s, later-same w, tt)
   json-good w (json_number z) s = (s, later-same w, tt)
   json-good w (json_string us) s =
-      then-good w (make_cell w (cells.Text us)) (λ a v. fine (values.Text a) v) (λ v a. Leads (λ kind. kind ≡ kind_of (cells.Text us)) (read_cell v a)) (λ v x. SoundValue v x) (made-good w (cells.Text us) s tt)
+      then-good w (make_cell w (cells.Text us)) (λ a v. fine (values.Text a) v)
+      (λ v a. Leads (λ kind. kind ≡ kind_of (cells.Text us)) (read_cell v a)) (λ v x. SoundValue v x)
+      (made-good w (cells.Text us) s tt)
       (λ a v t l k. (t, later-same v, leads-as IsTextKind (cells.Text us) (read_cell v a) refl k))
   json-good w (json_array js) s =
-      then-good w (make_jsons w js) (λ vs v. object_value (make_cell v (cells.Array vs))) (λ v xs. SoundValues v xs) (λ v x. SoundValue v x) (jsons-good w js s)
+      then-good w (make_jsons w js) (λ vs v. object_value (make_cell v (cells.Array vs))) (λ v xs. SoundValues v xs)
+      (λ v x. SoundValue v x) (jsons-good w js s)
       (λ vs v t l h. object-good v (cells.Array vs) t h tt)
   json-good w (json_object ms) s =
-      then-good w (make_members w [] ms) (λ ps v. object_value (make_cell v (cells.Object ps))) (λ v ps. SoundProperties v ps) (λ v x. SoundValue v x) (members-good w [] ms s tt)
+      then-good w (make_members w [] ms) (λ ps v. object_value (make_cell v (cells.Object ps)))
+      (λ v ps. SoundProperties v ps) (λ v x. SoundValue v x) (members-good w [] ms s tt)
       (λ ps v t l h. object-good v (cells.Object ps) t h tt)
 
   jsons-good : (w : World) (js : Jsons) → IsSound w → Good w (make_jsons w js) (λ v xs. SoundValues v xs)
   jsons-good w no_jsons s = (s, later-same w, tt)
   jsons-good w (a_json j js) s =
-      then-good w (make_json w j) (λ x v. after_try (make_jsons v js) (λ xs u. fine (x ∷ xs) u)) (λ v x. SoundValue v x) (λ v xs. SoundValues v xs) (json-good w j s)
-      (λ x v t l h. then-good v (make_jsons v js) (λ xs u. fine (x ∷ xs) u) (λ u xs. SoundValues u xs) (λ u xs. SoundValues u xs) (jsons-good v js t)
+      then-good w (make_json w j) (λ x v. after_try (make_jsons v js) (λ xs u. fine (x ∷ xs) u)) (λ v x. SoundValue v x)
+      (λ v xs. SoundValues v xs) (json-good w j s)
+      (λ x v t l h. then-good v (make_jsons v js) (λ xs u. fine (x ∷ xs) u) (λ u xs. SoundValues u xs)
+      (λ u xs. SoundValues u xs) (jsons-good v js t)
       (λ xs u r m k. (r, later-same u, (sound-value v u m x h, k))))
 
   members-good : (w : World) (ps : List Property) (ms : Members)
@@ -240,7 +272,8 @@ mutual
       → Good w (make_members w ps ms) (λ v qs. SoundProperties v qs)
   members-good w ps no_members s h = (s, later-same w, h)
   members-good w ps (a_member key j ms) s h =
-      then-good w (make_json w j) (λ x v. make_members v (put_property ps key x) ms) (λ v x. SoundValue v x) (λ v qs. SoundProperties v qs) (json-good w j s)
+      then-good w (make_json w j) (λ x v. make_members v (put_property ps key x) ms) (λ v x. SoundValue v x)
+      (λ v qs. SoundProperties v qs) (json-good w j s)
       (λ x v t l k. members-good v (put_property ps key x) ms t (put_sound v ps key x (sound_properties w v l ps h) k))
 
 sound_arguments : (w v : World) → Later w v → (args : List Argument) → SoundArguments w args → SoundArguments v args
@@ -254,12 +287,16 @@ arguments-good : (w : World) (args : List Argument)
     → Good w (make_arguments w args) (λ v xs. SoundValues v xs)
 arguments-good w [] s h = (s, later-same w, tt)
 arguments-good w (given x ∷ rest) s h =
-    then-good w (make_argument w (given x)) (λ y v. after_try (make_arguments v rest) (λ ys u. fine (y ∷ ys) u)) (λ v y. SoundValue v y) (λ v xs. SoundValues v xs) (s, later-same w, h.0)
-    (λ y v t l k. then-good v (make_arguments v rest) (λ ys u. fine (y ∷ ys) u) (λ u xs. SoundValues u xs) (λ u xs. SoundValues u xs) (arguments-good v rest t (sound_arguments w v l rest h.1))
+    then-good w (make_argument w (given x)) (λ y v. after_try (make_arguments v rest) (λ ys u. fine (y ∷ ys) u))
+    (λ v y. SoundValue v y) (λ v xs. SoundValues v xs) (s, later-same w, h.0)
+    (λ y v t l k. then-good v (make_arguments v rest) (λ ys u. fine (y ∷ ys) u) (λ u xs. SoundValues u xs)
+    (λ u xs. SoundValues u xs) (arguments-good v rest t (sound_arguments w v l rest h.1))
     (λ ys u r m q. (r, later-same u, (sound-value v u m y k, q))))
 arguments-good w (made_of j ∷ rest) s h =
-    then-good w (make_argument w (made_of j)) (λ y v. after_try (make_arguments v rest) (λ ys u. fine (y ∷ ys) u)) (λ v y. SoundValue v y) (λ v xs. SoundValues v xs) (json-good w j s)
-    (λ y v t l k. then-good v (make_arguments v rest) (λ ys u. fine (y ∷ ys) u) (λ u xs. SoundValues u xs) (λ u xs. SoundValues u xs) (arguments-good v rest t (sound_arguments w v l rest h))
+    then-good w (make_argument w (made_of j)) (λ y v. after_try (make_arguments v rest) (λ ys u. fine (y ∷ ys) u))
+    (λ v y. SoundValue v y) (λ v xs. SoundValues v xs) (json-good w j s)
+    (λ y v t l k. then-good v (make_arguments v rest) (λ ys u. fine (y ∷ ys) u) (λ u xs. SoundValues u xs)
+    (λ u xs. SoundValues u xs) (arguments-good v rest t (sound_arguments w v l rest h))
     (λ ys u r m q. (r, later-same u, (sound-value v u m y k, q))))
 
 -- ---- the steps
@@ -281,7 +318,9 @@ evaluated-sound p scope receiver w t h k =
     let P : State → Type 0 = λ z. SoundScope z.world (Some scope) in
     answer-sound p (steps_in budget p scope r)
     (steps-sound budget p scope r (subst P (sym (run_of-state t s)) h.scope_lives)
-    (of-sound p t s (record { world = h.world; built_ins = h.built_ins; program = h.program; frames = tt; outer = h.receiver_lives }) k))
+    (of-sound p t s
+    (record { world = h.world; built_ins = h.built_ins; program = h.program; frames = tt; outer = h.receiver_lives })
+    k))
 
 answered-sound : (w : World) (p : Program) (t : Tried Term) (k : World → Term → Answer) (P : World → Term → Type 0)
     → Good w t P
@@ -306,17 +345,20 @@ ready-later p w v scope receiver x e h s l tree = record {
   receiver_lives = sound-value w v l receiver h.receiver_lives;
 }
 
-pub evaluate-sound : (p : Program) (w : World) (x : ScratchSpace) (scope : Addr) (receiver : Value) (source : List ℕ) (order : List (List ℕ)) (e : Made)
+pub evaluate-sound : (p : Program) (w : World) (x : ScratchSpace) (scope : Addr) (receiver : Value) (source : List ℕ)
+    (order : List (List ℕ)) (e : Made)
     → MadeUntouched e
     → IsReady p (copied_world w x) scope receiver
     → SoundAnswer (with_source p x e) (evaluate p w x scope receiver source order e)
 evaluate-sound p w x scope receiver source order e f h =
     let c : World = copied_world w x in
     let q : Program = with_source p x e in
-    answered-sound c q (prepared w x source order e) (evaluated q scope receiver) (IsTree x e) (prepared-good w x source order e f h.world)
+    answered-sound c q (prepared w x source order e) (evaluated q scope receiver) (IsTree x e)
+    (prepared-good w x source order e f h.world)
     (λ v u s l k. evaluated-sound q scope receiver v u (ready-later p c v scope receiver x e h s l k.1) k.0)
 
-called-good : (w : World) (x : ScratchSpace) (source : List ℕ) (order : List (List ℕ)) (e : Made) (receiver : Value) (args : List Argument)
+called-good : (w : World) (x : ScratchSpace) (source : List ℕ) (order : List (List ℕ)) (e : Made) (receiver : Value)
+    (args : List Argument)
     → MadeUntouched e
     → IsSound (copied_world w x)
     → SoundValue (copied_world w x) receiver
@@ -324,8 +366,11 @@ called-good : (w : World) (x : ScratchSpace) (source : List ℕ) (order : List (
     → Good (copied_world w x) (with_arguments receiver args (prepared w x source order e)) (IsTree x e)
 called-good w x source order e receiver args f s h a =
     let c : World = copied_world w x in
-    then-good c (prepared w x source order e) (λ g v. after_try (make_arguments v args) (λ vs u. fine (call_with_values receiver g vs) u)) (IsTree x e) (IsTree x e) (prepared-good w x source order e f s)
-    (λ g v t l k. then-good v (make_arguments v args) (λ vs u. fine (call_with_values receiver g vs) u) (λ u vs. SoundValues u vs) (IsTree x e) (arguments-good v args t (sound_arguments c v l args a))
+    then-good c (prepared w x source order e)
+    (λ g v. after_try (make_arguments v args) (λ vs u. fine (call_with_values receiver g vs) u)) (IsTree x e)
+    (IsTree x e) (prepared-good w x source order e f s)
+    (λ g v t l k. then-good v (make_arguments v args) (λ vs u. fine (call_with_values receiver g vs) u)
+    (λ u vs. SoundValues u vs) (IsTree x e) (arguments-good v args t (sound_arguments c v l args a))
     (λ vs u r m q. (
       r,
       later-same u,
@@ -335,7 +380,8 @@ called-good w x source order e receiver args f s h a =
       ),
     )))
 
-pub evaluate_call-sound : (p : Program) (w : World) (x : ScratchSpace) (source : List ℕ) (order : List (List ℕ)) (e : Made) (receiver : Value) (args : List Argument)
+pub evaluate_call-sound : (p : Program) (w : World) (x : ScratchSpace) (source : List ℕ) (order : List (List ℕ))
+    (e : Made) (receiver : Value) (args : List Argument)
     → MadeUntouched e
     → IsReady p (copied_world w x) script_scope receiver
     → SoundArguments (copied_world w x) args
@@ -344,5 +390,8 @@ evaluate_call-sound p w x source order e receiver args f h a =
     let c : World = copied_world w x in
     let q : Program = with_source p x e in
     let outside : IsReady p c script_scope values.Undefined = record { world = h.world; built_ins = h.built_ins; program = h.program; scope_lives = h.scope_lives; receiver_lives = tt } in
-    answered-sound c q (with_arguments receiver args (prepared w x source order e)) (evaluated q script_scope values.Undefined) (IsTree x e) (called-good w x source order e receiver args f h.world h.receiver_lives a)
-    (λ v u s l k. evaluated-sound q script_scope values.Undefined v u (ready-later p c v script_scope values.Undefined x e outside s l k.1) k.0)
+    answered-sound c q (with_arguments receiver args (prepared w x source order e))
+    (evaluated q script_scope values.Undefined) (IsTree x e)
+    (called-good w x source order e receiver args f h.world h.receiver_lives a)
+    (λ v u s l k. evaluated-sound q script_scope values.Undefined v u
+    (ready-later p c v script_scope values.Undefined x e outside s l k.1) k.0)

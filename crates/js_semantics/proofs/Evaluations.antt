@@ -43,7 +43,10 @@ abbrev space : Room → ScratchSpace
 space r = record { cells = []; room = r }
 
 abbrev evaluated_in : Room → Terms → State → Addr → Value → Expression → Shown
-evaluated_in r ts s scope receiver e = shown_answer (evaluate (program_of ts) s.world (space r) scope receiver (codes "source") (expression_literals e) (expression_made 1 e))
+evaluated_in r ts s scope receiver e =
+    shown_answer
+    (evaluate (program_of ts) s.world (space r) scope receiver (codes "source") (expression_literals e)
+    (expression_made 1 e))
 
 -- an expression in the script scope, behind so many steps of a script
 abbrev at_top : ℕ → Terms → Expression → Shown
@@ -67,11 +70,45 @@ at_frame k ts e = in_run ts (plain k ts []) e
 
 -- let n = 0; const f = () => { n = n + 1; return n; }; debugger; console.log(n);
 abbrev counting : Terms
-counting = one (clean_script 1 (t.a_statement (t.lexical false (t.a_declarator (t.declarator (codes "n") (t.present (t.number 0))) t.no_declarators)) (t.a_statement (t.lexical true (t.a_declarator (t.declarator (codes "f") (t.present (t.arrow_block (t.name_list []) (t.a_statement (t.expression (t.assign assigns.Assign (t.name (codes "n")) (t.binary binaries.Add (t.name (codes "n")) (t.number 1)))) (t.a_statement (t.return (t.present (t.name (codes "n")))) t.no_statements))))) t.no_declarators)) (t.a_statement t.debugger (t.a_statement (t.expression (t.call (t.member (t.name (codes "console")) (codes "log")) (t.an_expression (t.name (codes "n")) t.no_expressions))) t.no_statements)))))
+counting =
+    one (clean_script 1
+    (t.a_statement
+    (t.lexical false (t.a_declarator (t.declarator (codes "n") (t.present (t.number 0))) t.no_declarators))
+    (t.a_statement
+    (t.lexical true
+    (t.a_declarator
+    (t.declarator (codes "f")
+    (t.present
+    (t.arrow_block (t.name_list [])
+    (t.a_statement
+    (t.expression
+    (t.assign assigns.Assign (t.name (codes "n"))
+    (t.binary binaries.Add (t.name (codes "n")) (t.number 1))))
+    (t.a_statement (t.return (t.present (t.name (codes "n")))) t.no_statements)))))
+    t.no_declarators))
+    (t.a_statement t.debugger
+    (t.a_statement
+    (t.expression
+    (t.call (t.member (t.name (codes "console")) (codes "log"))
+    (t.an_expression (t.name (codes "n")) t.no_expressions)))
+    t.no_statements)))))
 
 -- function add(a, b) { return a + b; } console.log(add(2, 3));
 abbrev adding : Terms
-adding = one (clean_script 1 (t.a_statement (t.declared_function (codes "add") ((codes "a") ∷ (codes "b") ∷ []) (t.a_statement (t.return (t.present (t.binary binaries.Add (t.name (codes "a")) (t.name (codes "b"))))) t.no_statements)) (t.a_statement (t.expression (t.call (t.member (t.name (codes "console")) (codes "log")) (t.an_expression (t.call (t.name (codes "add")) (t.an_expression (t.number 2) (t.an_expression (t.number 3) t.no_expressions))) t.no_expressions))) t.no_statements)))
+adding =
+    one (clean_script 1
+    (t.a_statement
+    (t.declared_function (codes "add") ((codes "a") ∷ (codes "b") ∷ [])
+    (t.a_statement (t.return (t.present (t.binary binaries.Add (t.name (codes "a")) (t.name (codes "b")))))
+    t.no_statements))
+    (t.a_statement
+    (t.expression
+    (t.call (t.member (t.name (codes "console")) (codes "log"))
+    (t.an_expression
+    (t.call (t.name (codes "add"))
+    (t.an_expression (t.number 2) (t.an_expression (t.number 3) t.no_expressions)))
+    t.no_expressions)))
+    t.no_statements)))
 
 -- f() writes n, a cell of the program
 write_is_an_effect : at_top 6 counting (t.call (t.name (codes "f")) t.no_expressions) ≡ effect_answer
@@ -84,12 +121,17 @@ unfolding digits
 reads = refl
 
 -- [1,2].length
-makes : at_top 6 counting (t.member (t.array (t.an_expression (t.number 1) (t.an_expression (t.number 2) t.no_expressions))) (codes "length")) ≡ a_value_shown (codes "2")
+makes : at_top 6 counting
+    (t.member (t.array (t.an_expression (t.number 1) (t.an_expression (t.number 2) t.no_expressions))) (codes "length"))
+    ≡ a_value_shown (codes "2")
 unfolding digits
 makes = refl
 
 -- ({x: 'y'})
-makes_an_object : at_top 6 counting (t.parenthesized (t.object (t.a_property (t.value (t.word_key (codes "x")) (t.string (codes "y"))) t.no_properties))) ≡ a_value_shown (codes "[object Object]")
+makes_an_object : at_top 6 counting
+    (t.parenthesized
+    (t.object (t.a_property (t.value (t.word_key (codes "x")) (t.string (codes "y"))) t.no_properties)))
+    ≡ a_value_shown (codes "[object Object]")
 unfolding digits
 makes_an_object = refl
 
@@ -99,7 +141,8 @@ unfolding digits
 throws = refl
 
 -- 'p' + 'q'
-joins : at_top 6 counting (t.binary binaries.Add (t.string (codes "p")) (t.string (codes "q"))) ≡ a_value_shown (codes "pq")
+joins : at_top 6 counting (t.binary binaries.Add (t.string (codes "p")) (t.string (codes "q"))) ≡ a_value_shown
+    (codes "pq")
 unfolding digits
 joins = refl
 
@@ -109,12 +152,15 @@ unfolding digits
 assigns_foreign = refl
 
 -- an error comes before the write
-error_before_the_write : at_top 6 counting (t.assign assigns.Assign (t.name (codes "undefined")) (t.number 1)) ≡ a_throw_shown (codes "TypeError: Assignment to constant variable.")
+error_before_the_write : at_top 6 counting (t.assign assigns.Assign (t.name (codes "undefined")) (t.number 1))
+    ≡ a_throw_shown (codes "TypeError: Assignment to constant variable.")
 unfolding digits
 error_before_the_write = refl
 
 -- console.log(1)
-prints : at_top 6 counting (t.call (t.member (t.name (codes "console")) (codes "log")) (t.an_expression (t.number 1) t.no_expressions)) ≡ effect_answer
+prints : at_top 6 counting
+    (t.call (t.member (t.name (codes "console")) (codes "log")) (t.an_expression (t.number 1) t.no_expressions))
+    ≡ effect_answer
 unfolding digits
 prints = refl
 
@@ -124,17 +170,21 @@ unfolding digits
 reads_input = refl
 
 -- a function that the evaluation makes has its code in the kept source
-calls_its_own_arrow : at_top 6 counting (t.call (t.parenthesized (t.arrow (t.name_list []) (t.string (codes "v")))) t.no_expressions) ≡ a_value_shown (codes "v")
+calls_its_own_arrow : at_top 6 counting
+    (t.call (t.parenthesized (t.arrow (t.name_list []) (t.string (codes "v")))) t.no_expressions) ≡ a_value_shown
+    (codes "v")
 unfolding digits
 calls_its_own_arrow = refl
 
 -- [].pop()
-pops_nothing : at_top 6 counting (t.call (t.member (t.array t.no_expressions) (codes "pop")) t.no_expressions) ≡ a_value_shown (codes "undefined")
+pops_nothing : at_top 6 counting (t.call (t.member (t.array t.no_expressions) (codes "pop")) t.no_expressions)
+    ≡ a_value_shown (codes "undefined")
 unfolding digits
 pops_nothing = refl
 
 -- [].push()
-pushes_nothing : at_top 6 counting (t.call (t.member (t.array t.no_expressions) (codes "push")) t.no_expressions) ≡ a_value_shown (codes "0")
+pushes_nothing : at_top 6 counting (t.call (t.member (t.array t.no_expressions) (codes "push")) t.no_expressions)
+    ≡ a_value_shown (codes "0")
 unfolding digits
 pushes_nothing = refl
 
@@ -144,55 +194,87 @@ unfolding digits
 types_nothing = refl
 
 -- a * b in the frame of add(2, 3), at its return
-in_the_frame_of_a_call : at_frame 6 adding (t.binary binaries.Multiply (t.name (codes "a")) (t.name (codes "b"))) ≡ a_value_shown (codes "6")
+in_the_frame_of_a_call : at_frame 6 adding (t.binary binaries.Multiply (t.name (codes "a")) (t.name (codes "b")))
+    ≡ a_value_shown (codes "6")
 unfolding digits
 in_the_frame_of_a_call = refl
 
 -- a * b in the script scope
-frame_is_needed : at_top 6 adding (t.binary binaries.Multiply (t.name (codes "a")) (t.name (codes "b"))) ≡ a_throw_shown (codes "ReferenceError: a is not defined")
+frame_is_needed : at_top 6 adding (t.binary binaries.Multiply (t.name (codes "a")) (t.name (codes "b"))) ≡ a_throw_shown
+    (codes "ReferenceError: a is not defined")
 unfolding digits
 frame_is_needed = refl
 
 -- no cell is left
-full_of_cells : with_room (record { cells = 0; units = 1000 }) 6 counting (t.member (t.array (t.an_expression (t.number 1) (t.an_expression (t.number 2) t.no_expressions))) (codes "length")) ≡ full_answer counted.Cells
+full_of_cells : with_room (record { cells = 0; units = 1000 }) 6 counting
+    (t.member (t.array (t.an_expression (t.number 1) (t.an_expression (t.number 2) t.no_expressions))) (codes "length"))
+    ≡ full_answer counted.Cells
 unfolding digits
 full_of_cells = refl
 
 -- the source takes 6 units, the array needs 16
-full_of_units : with_room (record { cells = 9; units = 21 }) 6 counting (t.member (t.array (t.an_expression (t.number 1) (t.an_expression (t.number 2) t.no_expressions))) (codes "length")) ≡ full_answer counted.Units
+full_of_units : with_room (record { cells = 9; units = 21 }) 6 counting
+    (t.member (t.array (t.an_expression (t.number 1) (t.an_expression (t.number 2) t.no_expressions))) (codes "length"))
+    ≡ full_answer counted.Units
 unfolding digits
 full_of_units = refl
 
 -- and with one unit more
-just_enough : with_room (record { cells = 9; units = 22 }) 6 counting (t.member (t.array (t.an_expression (t.number 1) (t.an_expression (t.number 2) t.no_expressions))) (codes "length")) ≡ a_value_shown (codes "2")
+just_enough : with_room (record { cells = 9; units = 22 }) 6 counting
+    (t.member (t.array (t.an_expression (t.number 1) (t.an_expression (t.number 2) t.no_expressions))) (codes "length"))
+    ≡ a_value_shown (codes "2")
 unfolding digits
 just_enough = refl
 
 -- the source takes 6 units
-source_is_counted : with_room (record { cells = 9; units = 5 }) 6 counting (t.name (codes "n")) ≡ full_answer counted.Units
+source_is_counted : with_room (record { cells = 9; units = 5 }) 6 counting (t.name (codes "n"))
+    ≡ full_answer counted.Units
 unfolding digits
 source_is_counted = refl
 
 -- (() => 1)()
-calls_its_own_function : at_top 6 counting (t.call (t.parenthesized (t.arrow (t.name_list []) (t.number 1))) t.no_expressions) ≡ a_value_shown (codes "1")
+calls_its_own_function : at_top 6 counting
+    (t.call (t.parenthesized (t.arrow (t.name_list []) (t.number 1))) t.no_expressions) ≡ a_value_shown (codes "1")
 unfolding digits
 calls_its_own_function = refl
 
 -- (function f(n) { return n === 0 ? 'end' : f(n - 1); })(2)
-calls_itself : at_top 6 counting (t.call (t.parenthesized (t.function (Some (codes "f")) ((codes "n") ∷ []) (t.a_statement (t.return (t.present (t.conditional (t.binary binaries.StrictEqual (t.name (codes "n")) (t.number 0)) (t.string (codes "end")) (t.call (t.name (codes "f")) (t.an_expression (t.binary binaries.Subtract (t.name (codes "n")) (t.number 1)) t.no_expressions))))) t.no_statements))) (t.an_expression (t.number 2) t.no_expressions)) ≡ a_value_shown (codes "end")
+calls_itself : at_top 6 counting
+    (t.call (t.parenthesized
+    (t.function (Some (codes "f")) ((codes "n") ∷ [])
+    (t.a_statement
+    (t.return
+    (t.present
+    (t.conditional (t.binary binaries.StrictEqual (t.name (codes "n")) (t.number 0))
+    (t.string (codes "end"))
+    (t.call (t.name (codes "f"))
+    (t.an_expression (t.binary binaries.Subtract (t.name (codes "n")) (t.number 1))
+    t.no_expressions)))))
+    t.no_statements)))
+    (t.an_expression (t.number 2) t.no_expressions))
+    ≡ a_value_shown (codes "end")
 unfolding digits
 calls_itself = refl
 
 -- add(4, 5), a function of the program
-calls_the_program : at_top 6 adding (t.call (t.name (codes "add")) (t.an_expression (t.number 4) (t.an_expression (t.number 5) t.no_expressions))) ≡ a_value_shown (codes "9")
+calls_the_program : at_top 6 adding
+    (t.call (t.name (codes "add")) (t.an_expression (t.number 4) (t.an_expression (t.number 5) t.no_expressions)))
+    ≡ a_value_shown (codes "9")
 unfolding digits
 calls_the_program = refl
 
 -- function(k) { return this[k]; } called with an object's own property and a JSON argument
 abbrev called : Terms → State → Expression → Shown
-called ts s f = shown_answer (evaluate_call (program_of ts) s.world (space scratch_room) (codes "source") (expression_literals f) (expression_made 1 f) (values.Object (Base 4)) (made_of (json_string (codes "log")) ∷ []))
+called ts s f =
+    shown_answer
+    (evaluate_call (program_of ts) s.world (space scratch_room) (codes "source") (expression_literals f)
+    (expression_made 1 f) (values.Object (Base 4)) (made_of (json_string (codes "log")) ∷ []))
 
-calls_with_this : called counting (state_of (plain 6 counting [])) (t.parenthesized (t.function None ((codes "k") ∷ []) (t.a_statement (t.return (t.present (t.index t.this (t.name (codes "k"))))) t.no_statements))) ≡ a_value_shown (codes "function log")
+calls_with_this : called counting (state_of (plain 6 counting []))
+    (t.parenthesized
+    (t.function None ((codes "k") ∷ [])
+    (t.a_statement (t.return (t.present (t.index t.this (t.name (codes "k"))))) t.no_statements)))
+    ≡ a_value_shown (codes "function log")
 unfolding digits
 calls_with_this = refl
 
@@ -202,17 +284,36 @@ abbrev with_one_cell : Expression → Shown
 with_one_cell e = with_room (record { cells = 1; units = 8 }) 6 counting e
 
 -- (function () { do 'long'; while ('b'); }): 'long' comes first, though the term keeps the test before the body
-body_before_test : with_one_cell (t.parenthesized (t.function None [] (t.a_statement (t.do_while (t.expression (t.string (codes "long"))) (t.string (codes "b"))) t.no_statements))) ≡ full_answer counted.Units
+body_before_test : with_one_cell
+    (t.parenthesized
+    (t.function None []
+    (t.a_statement (t.do_while (t.expression (t.string (codes "long"))) (t.string (codes "b")))
+    t.no_statements)))
+    ≡ full_answer counted.Units
 unfolding digits
 body_before_test = refl
 
 -- (function () { function f() { return 'b'; } return 'long'; }): 'b' comes first, though the term keeps the function behind
-declared_before_statements : with_one_cell (t.parenthesized (t.function None [] (t.a_statement (t.declared_function (codes "f") [] (t.a_statement (t.return (t.present (t.string (codes "b")))) t.no_statements)) (t.a_statement (t.return (t.present (t.string (codes "long")))) t.no_statements)))) ≡ full_answer counted.Cells
+declared_before_statements : with_one_cell
+    (t.parenthesized
+    (t.function None []
+    (t.a_statement
+    (t.declared_function (codes "f") []
+    (t.a_statement (t.return (t.present (t.string (codes "b")))) t.no_statements))
+    (t.a_statement (t.return (t.present (t.string (codes "long")))) t.no_statements))))
+    ≡ full_answer counted.Cells
 unfolding digits
 declared_before_statements = refl
 
 -- ({ [1]() { return 'long'; }, x: 'b' }): 'long' comes first, though the term keeps x before the method
-method_before_members : with_one_cell (t.parenthesized (t.object (t.a_property (t.method (t.computed_key (t.number 1)) [] (t.a_statement (t.return (t.present (t.string (codes "long")))) t.no_statements)) (t.a_property (t.value (t.word_key (codes "x")) (t.string (codes "b"))) t.no_properties)))) ≡ full_answer counted.Units
+method_before_members : with_one_cell
+    (t.parenthesized
+    (t.object
+    (t.a_property
+    (t.method (t.computed_key (t.number 1)) []
+    (t.a_statement (t.return (t.present (t.string (codes "long")))) t.no_statements))
+    (t.a_property (t.value (t.word_key (codes "x")) (t.string (codes "b"))) t.no_properties))))
+    ≡ full_answer counted.Units
 unfolding digits
 method_before_members = refl
 
@@ -220,13 +321,28 @@ method_before_members = refl
 
 -- a second evaluation, whose function is called with the value of the first
 abbrev called_with : Program → ScratchSpace → Expression → Expression → Answer → Shown
-called_with p x e g (a_result v w) = shown_answer (evaluate_call (with_source p x (expression_made 1 e)) w (record { cells = w.scratch; room = w.room }) (codes "second") (expression_literals g) (expression_made 1 g) values.Undefined (given v ∷ []))
+called_with p x e g (a_result v w) =
+    shown_answer
+    (evaluate_call (with_source p x (expression_made 1 e)) w (record { cells = w.scratch; room = w.room })
+    (codes "second") (expression_literals g) (expression_made 1 g) values.Undefined (given v ∷ []))
 called_with p x e g a = shown_answer a
 
 abbrev one_after_another : Terms → State → Expression → Expression → Shown
-one_after_another ts s e g = called_with (program_of ts) (space scratch_room) e g (evaluate (program_of ts) s.world (space scratch_room) script_scope values.Undefined (codes "source") (expression_literals e) (expression_made 1 e))
+one_after_another ts s e g =
+    called_with (program_of ts) (space scratch_room) e g
+    (evaluate (program_of ts) s.world (space scratch_room) script_scope values.Undefined (codes "source")
+    (expression_literals e) (expression_made 1 e))
 
 -- () => 'made before', then function(f) { return f() + '!'; } called with it
-calls_a_function_of_an_earlier_one : one_after_another counting (state_of (plain 6 counting [])) (t.arrow (t.name_list []) (t.string (codes "made before"))) (t.parenthesized (t.function None ((codes "f") ∷ []) (t.a_statement (t.return (t.present (t.binary binaries.Add (t.call (t.name (codes "f")) t.no_expressions) (t.string (codes "!"))))) t.no_statements))) ≡ a_value_shown (codes "made before!")
+calls_a_function_of_an_earlier_one : one_after_another counting (state_of (plain 6 counting []))
+    (t.arrow (t.name_list []) (t.string (codes "made before")))
+    (t.parenthesized
+    (t.function None ((codes "f") ∷ [])
+    (t.a_statement
+    (t.return
+    (t.present
+    (t.binary binaries.Add (t.call (t.name (codes "f")) t.no_expressions) (t.string (codes "!")))))
+    t.no_statements)))
+    ≡ a_value_shown (codes "made before!")
 unfolding digits
 calls_a_function_of_an_earlier_one = refl

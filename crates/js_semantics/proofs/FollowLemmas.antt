@@ -27,7 +27,8 @@ pub follows-same : (s : State) → Follows s s
 follows-same s = record { output = prefix-same s.printed; cells = keeps-same s.world }
 
 pub follows-trans : (r s t : State) → Follows r s → Follows s t → Follows r t
-follows-trans r s t h k = record { output = prefix-trans r.printed s.printed t.printed h.output k.output; cells = keeps-trans r.world s.world t.world h.cells k.cells }
+follows-trans r s t h k =
+    record { output = prefix-trans r.printed s.printed t.printed h.output k.output; cells = keeps-trans r.world s.world t.world h.cells k.cells }
 
 move-trans : {T : Type 0} (r s : State) (m : Move T) → Follows r s → MoveFollows s m → MoveFollows r m
 move-trans r s (goes x t told) h k = follows-trans r s t h k
@@ -62,7 +63,8 @@ after_follows : {A : Type 0} (s : State) (t : Tried A) (k : A → State → Move
     → AfterFine t (λ a v. Keeps s.world v)
     → ((a : A) (u : State) → MoveFollows u (k a u))
     → MoveFollows s (after t s k)
-after_follows s (fine a v) k h rest = move-trans s (with_world s v) (k a (with_world s v)) (world_follows s v h) (rest a (with_world s v))
+after_follows s (fine a v) k h rest =
+    move-trans s (with_world s v) (k a (with_world s v)) (world_follows s v h) (rest a (with_world s v))
 after_follows s effect k h rest = follows-same s
 after_follows s (full what) k h rest = full_follows (is_evaluation s.world) what s _
 
@@ -70,22 +72,30 @@ pub perform-follows : (a : Action) (s : State) → MoveFollows s (perform a s)
 perform-follows (go t) s = follows-same s
 perform-follows (raise v) s = follows-same s
 perform-follows (leave c) s = follows-same s
-perform-follows (make c k) s = after_follows s (make_cell s.world c) (λ a. perform (k a)) (making-keeps s.world c) (λ a u. perform-follows (k a) u)
-perform-follows (write a c k) s = after_follows s (write_cell s.world a c) (λ x. perform k) (writing-keeps s.world a c) (λ x u. perform-follows k u)
+perform-follows (make c k) s =
+    after_follows s (make_cell s.world c) (λ a. perform (k a)) (making-keeps s.world c) (λ a u. perform-follows (k a) u)
+perform-follows (write a c k) s =
+    after_follows s (write_cell s.world a c) (λ x. perform k) (writing-keeps s.world a c) (λ x u. perform-follows k u)
 perform-follows (print vs text) s =
-    outside_follows (is_evaluation s.world) s (goes (done _) (record s { printed = s.printed ++ text ∷ [] }) _) (record { output = (text ∷ [], refl); cells = keeps-same s.world })
+    outside_follows (is_evaluation s.world) s (goes (done _) (record s { printed = s.printed ++ text ∷ [] }) _)
+    (record { output = (text ∷ [], refl); cells = keeps-same s.world })
 perform-follows (take_line k) s =
     let u : State = record s { input = other_lines s.input } in
     outside_follows (is_evaluation s.world) s (perform (k (first_line s.input)) u)
-    (move-trans s u (perform (k (first_line s.input)) u) (record { output = prefix-same s.printed; cells = keeps-same s.world }) (perform-follows (k (first_line s.input)) u))
+    (move-trans s u (perform (k (first_line s.input)) u)
+    (record { output = prefix-same s.printed; cells = keeps-same s.world })
+    (perform-follows (k (first_line s.input)) u))
 perform-follows (set_here m k) s =
-    move-trans s (with_here s m) (perform k (with_here s m)) (record { output = prefix-same s.printed; cells = keeps-same s.world }) (perform-follows k (with_here s m))
+    move-trans s (with_here s m) (perform k (with_here s m))
+    (record { output = prefix-same s.printed; cells = keeps-same s.world }) (perform-follows k (with_here s m))
 perform-follows (push_frame f k) s =
     let u : State = record s { frames = f ∷ s.frames } in
-    move-trans s u (perform k u) (record { output = prefix-same s.printed; cells = keeps-same s.world }) (perform-follows k u)
+    move-trans s u (perform k u) (record { output = prefix-same s.printed; cells = keeps-same s.world })
+    (perform-follows k u)
 perform-follows (pop_frame k) s =
     let u : State = record s { frames = rest_of s.frames } in
-    move-trans s u (perform k u) (record { output = prefix-same s.printed; cells = keeps-same s.world }) (perform-follows k u)
+    move-trans s u (perform k u) (record { output = prefix-same s.printed; cells = keeps-same s.world })
+    (perform-follows k u)
 
 -- ---- steps
 
@@ -102,7 +112,8 @@ around_follows : (p : Program) (scope : Addr) (f : Form) (later : Terms) (s : St
     → MoveFollows s (around p scope f later s x)
 around_follows p scope f later s (all_values vs) h = perform-follows (row p s scope f vs later) s
 around_follows p scope f later s (moved (goes now t told)) h = h
-around_follows p scope f later s (moved (travels c t)) h = move-trans s t (perform (taken scope f c later) t) h (perform-follows (taken scope f c later) t)
+around_follows p scope f later s (moved (travels c t)) h =
+    move-trans s t (perform (taken scope f c later) t) h (perform-follows (taken scope f c later) t)
 around_follows p scope f later s (moved (has_effect t)) h = h
 around_follows p scope f later s (moved (is_full what t)) h = h
 
@@ -110,13 +121,15 @@ mutual
   pub next-follows : (p : Program) (scope : Addr) (t : Term) (s : State) → MoveFollows s (next p scope t s)
   next-follows p scope (done v) s = follows-same s
   next-follows p scope (standing v place) s = follows-same s
-  next-follows p scope (part f now later) s = around_follows p scope f later s (walk p (scope_in f scope) now s) (walk-follows p (scope_in f scope) now s)
+  next-follows p scope (part f now later) s =
+      around_follows p scope f later s (walk p (scope_in f scope) now s) (walk-follows p (scope_in f scope) now s)
 
   pub walk-follows : (p : Program) (scope : Addr) (ts : Terms) (s : State) → WalkFollows s (walk p scope ts s)
   walk-follows p scope end s = tt
   walk-follows p scope (more (done v) ts) s = with_value_follows s v (walk p scope ts s) (walk-follows p scope ts s)
   walk-follows p scope (more (standing v place) ts) s = follows-same s
-  walk-follows p scope (more (part f now later) ts) s = move-inside (λ t. more t ts) s (next p scope (part f now later) s) (next-follows p scope (part f now later) s)
+  walk-follows p scope (more (part f now later) ts) s =
+      move-inside (λ t. more t ts) s (next p scope (part f now later) s) (next-follows p scope (part f now later) s)
 
 -- ---- runs
 
@@ -139,7 +152,9 @@ step-follows p scope (over f s) = follows-same s
 
 pub steps-follows : (k : ℕ) (p : Program) (scope : Addr) (r : Run) → RunFollows r (steps_in k p scope r)
 steps-follows zero p scope r = follows-same (state_of r)
-steps-follows (suc k) p scope r = follows-trans (state_of r) (state_of (step_in p scope r)) (state_of (steps_in k p scope (step_in p scope r))) (step-follows p scope r) (steps-follows k p scope (step_in p scope r))
+steps-follows (suc k) p scope r =
+    follows-trans (state_of r) (state_of (step_in p scope r)) (state_of (steps_in k p scope (step_in p scope r)))
+    (step-follows p scope r) (steps-follows k p scope (step_in p scope r))
 
 -- a run of one step more is a step behind it
 pub steps-suc : (k : ℕ) (p : Program) (scope : Addr) (r : Run)
@@ -162,4 +177,5 @@ pub out-grows : (k : ℕ) (ts : Terms) (input : List (List ℕ)) → IsPrefix (o
 out-grows k ts input =
     let r : Run = plain k ts input in
     let P : Run → Type 0 = λ q. IsPrefix (printed_of r) (printed_of q) in
-    subst P (sym (steps-suc k (program_of ts) script_scope (start ts input))) (step-follows (program_of ts) script_scope r).output
+    subst P (sym (steps-suc k (program_of ts) script_scope (start ts input)))
+    (step-follows (program_of ts) script_scope r).output

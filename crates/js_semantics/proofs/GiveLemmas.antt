@@ -79,7 +79,9 @@ put-gives w scope (to_member key) [] x k h = tt
 put-gives w scope (to_member key) (o ∷ vs) x k h = written-gives (property_written w o key x) k h
 put-gives w scope to_index [] x k h = tt
 put-gives w scope to_index (o ∷ []) x k h = tt
-put-gives w scope to_index (o ∷ i ∷ vs) x k h = key-gives (key_of w i) (λ key. with_written (property_written w o key x) k) (λ key. written-gives (property_written w o key x) k h)
+put-gives w scope to_index (o ∷ i ∷ vs) x k h =
+    key-gives (key_of w i) (λ key. with_written (property_written w o key x) k)
+    (λ key. written-gives (property_written w o key x) k h)
 
 pub remove-gives : (w : World) (r : Reference) (vs : List Value) (k : Action)
     → GivesValues k
@@ -89,7 +91,9 @@ remove-gives w (to_member key) [] k h = tt
 remove-gives w (to_member key) (o ∷ vs) k h = written-gives (property_deleted w o key) k h
 remove-gives w to_index [] k h = tt
 remove-gives w to_index (o ∷ []) k h = tt
-remove-gives w to_index (o ∷ i ∷ vs) k h = key-gives (key_of w i) (λ key. with_written (property_deleted w o key) k) (λ key. written-gives (property_deleted w o key) k h)
+remove-gives w to_index (o ∷ i ∷ vs) k h =
+    key-gives (key_of w i) (λ key. with_written (property_deleted w o key) k)
+    (λ key. written-gives (property_deleted w o key) k h)
 
 -- ---- built-in functions give values
 
@@ -121,7 +125,8 @@ texts-gives : (ts : List (List ℕ)) (k : List Value → Action)
     → ((xs : List Value) → GivesValues (k xs))
     → GivesValues (make_texts ts k)
 texts-gives [] k h = h []
-texts-gives (t ∷ ts) k h = text-gives t (λ x. make_texts ts (λ xs. k (x ∷ xs))) (λ x. texts-gives ts (λ xs. k (x ∷ xs)) (λ xs. h (x ∷ xs)))
+texts-gives (t ∷ ts) k h =
+    text-gives t (λ x. make_texts ts (λ xs. k (x ∷ xs))) (λ x. texts-gives ts (λ xs. k (x ∷ xs)) (λ xs. h (x ∷ xs)))
 
 keys-gives : (w : World) (x : Value) → GivesValues (keys_of w x)
 keys-gives w (values.Object a) = texts-gives (keys_of_cell (read_cell w a)) new_array (λ xs a. tt)
@@ -237,7 +242,8 @@ updated_by-gives o (an_error class message) k h = fail-gives class message
 pub update_row-gives : (w : World) (scope : Addr) (o : UpdateOperator) (prefix : Bool) (r : Reference) (vs : List Value)
     → GivesValues (update_row w scope o prefix r vs)
 update_row-gives w scope o prefix r vs =
-    updated_by-gives o (read_result w scope r vs) (λ old new. put w scope r vs new (give (update_value prefix old new))) (λ x y. put-gives w scope r vs y (give (update_value prefix x y)) tt)
+    updated_by-gives o (read_result w scope r vs) (λ old new. put w scope r vs new (give (update_value prefix old new)))
+    (λ x y. put-gives w scope r vs y (give (update_value prefix x y)) tt)
 
 pub made-gives : (o : Option (List Property)) → GivesValues (object_or_fail o)
 made-gives None = fail-gives classes.TypeError (codes "Property key must be a string or a number")
@@ -245,4 +251,6 @@ made-gives (Some ps) = λ a. tt
 
 pub function_row-gives : (s : State) (scope : Addr) (f : FunctionForm) → GivesValues (function_row s scope f)
 function_row-gives s scope f =
-    choose_gives f.is_named (named_function f scope) (make (function_cell f f.name scope (receiver_of f (this_of s))) (λ a. give (values.Object a))) (λ a b. tt) (λ a. tt)
+    choose_gives f.is_named (named_function f scope)
+    (make (function_cell f f.name scope (receiver_of f (this_of s))) (λ a. give (values.Object a))) (λ a b. tt)
+    (λ a. tt)

@@ -15,43 +15,165 @@ from_state ts s = outcome_of (steps 500 (program_of ts) (run_of (settled scripts
 
 -- a run with little room
 abbrev with_room : Room → Terms → Outcome
-with_room r ts = let s : State = first_state ts [] in let w : World = s.world in from_state ts (record s { world = record w { room = r } })
+with_room r ts =
+    let s : State = first_state ts [] in
+    let w : World = s.world in
+    from_state ts (record s { world = record w { room = r } })
 
 -- a run below so many active frames
 abbrev below : ℕ → Terms → Outcome
 below n ts = let s : State = first_state ts [] in from_state ts (record s { frames = replicate n bottom_frame })
 
 -- try { ({}); } catch (e) { console.log(e); } where no cell is left: neither the object nor the catch's scope can be made
-object_is_refused : with_room (record { cells = 0; units = 1000 }) (one (clean_script 1 (t.a_statement (t.try (t.a_statement (t.expression (t.parenthesized (t.object t.no_properties))) t.no_statements) (t.catch (Some (codes "e")) (t.a_statement (t.expression (t.call (t.member (t.name (codes "console")) (codes "log")) (t.an_expression (t.name (codes "e")) t.no_expressions))) t.no_statements)) t.no_finally) t.no_statements))) ≡ outcome (threw_text (codes "RangeError: Program heap is full")) []
+object_is_refused : with_room (record { cells = 0; units = 1000 })
+    (one (clean_script 1
+    (t.a_statement
+    (t.try (t.a_statement (t.expression (t.parenthesized (t.object t.no_properties))) t.no_statements)
+    (t.catch (Some (codes "e"))
+    (t.a_statement
+    (t.expression
+    (t.call (t.member (t.name (codes "console")) (codes "log"))
+    (t.an_expression (t.name (codes "e")) t.no_expressions)))
+    t.no_statements))
+    t.no_finally)
+    t.no_statements)))
+    ≡ outcome (threw_text (codes "RangeError: Program heap is full")) []
 object_is_refused = refl
 
 -- try { try { throw 1; } catch (e) { console.log('no'); } finally { console.log('f'); } } catch { console.log('outer'); } where the catch's scope can't be made: its finally runs
-catch_is_refused : with_room (record { cells = 0; units = 1000 }) (one (clean_script 1 (t.a_statement (t.try (t.a_statement (t.try (t.a_statement (t.throw (t.number 1)) t.no_statements) (t.catch (Some (codes "e")) (t.a_statement (t.expression (t.call (t.member (t.name (codes "console")) (codes "log")) (t.an_expression (t.string (codes "no")) t.no_expressions))) t.no_statements)) (t.finally (t.a_statement (t.expression (t.call (t.member (t.name (codes "console")) (codes "log")) (t.an_expression (t.string (codes "f")) t.no_expressions))) t.no_statements))) t.no_statements) (t.catch None (t.a_statement (t.expression (t.call (t.member (t.name (codes "console")) (codes "log")) (t.an_expression (t.string (codes "outer")) t.no_expressions))) t.no_statements)) t.no_finally) t.no_statements))) ≡ outcome ended_normally ((codes "f") ∷ (codes "outer") ∷ [])
+catch_is_refused : with_room (record { cells = 0; units = 1000 })
+    (one (clean_script 1
+    (t.a_statement
+    (t.try (t.a_statement
+    (t.try (t.a_statement (t.throw (t.number 1)) t.no_statements)
+    (t.catch (Some (codes "e"))
+    (t.a_statement
+    (t.expression
+    (t.call (t.member (t.name (codes "console")) (codes "log"))
+    (t.an_expression (t.string (codes "no")) t.no_expressions)))
+    t.no_statements))
+    (t.finally
+    (t.a_statement
+    (t.expression
+    (t.call (t.member (t.name (codes "console")) (codes "log"))
+    (t.an_expression (t.string (codes "f")) t.no_expressions)))
+    t.no_statements)))
+    t.no_statements)
+    (t.catch None
+    (t.a_statement
+    (t.expression
+    (t.call (t.member (t.name (codes "console")) (codes "log"))
+    (t.an_expression (t.string (codes "outer")) t.no_expressions)))
+    t.no_statements))
+    t.no_finally)
+    t.no_statements)))
+    ≡ outcome ended_normally ((codes "f") ∷ (codes "outer") ∷ [])
 catch_is_refused = refl
 
 -- let a = []; a.push(1); a.pop(); a.push(2); a.push(3); with room for the name, the array and two elements: what is popped is given back
-popped_is_given_back : with_room (record { cells = 1; units = 24 }) (one (clean_script 1 (t.a_statement (t.lexical false (t.a_declarator (t.declarator (codes "a") (t.present (t.array t.no_expressions))) t.no_declarators)) (t.a_statement (t.expression (t.call (t.member (t.name (codes "a")) (codes "push")) (t.an_expression (t.number 1) t.no_expressions))) (t.a_statement (t.expression (t.call (t.member (t.name (codes "a")) (codes "pop")) t.no_expressions)) (t.a_statement (t.expression (t.call (t.member (t.name (codes "a")) (codes "push")) (t.an_expression (t.number 2) t.no_expressions))) (t.a_statement (t.expression (t.call (t.member (t.name (codes "a")) (codes "push")) (t.an_expression (t.number 3) t.no_expressions))) t.no_statements))))))) ≡ outcome ended_normally []
+popped_is_given_back : with_room (record { cells = 1; units = 24 })
+    (one (clean_script 1
+    (t.a_statement
+    (t.lexical false
+    (t.a_declarator (t.declarator (codes "a") (t.present (t.array t.no_expressions))) t.no_declarators))
+    (t.a_statement
+    (t.expression
+    (t.call (t.member (t.name (codes "a")) (codes "push"))
+    (t.an_expression (t.number 1) t.no_expressions)))
+    (t.a_statement (t.expression (t.call (t.member (t.name (codes "a")) (codes "pop")) t.no_expressions))
+    (t.a_statement
+    (t.expression
+    (t.call (t.member (t.name (codes "a")) (codes "push"))
+    (t.an_expression (t.number 2) t.no_expressions)))
+    (t.a_statement
+    (t.expression
+    (t.call (t.member (t.name (codes "a")) (codes "push"))
+    (t.an_expression (t.number 3) t.no_expressions)))
+    t.no_statements)))))))
+    ≡ outcome ended_normally []
 popped_is_given_back = refl
 
 -- and with room for one element less
-elements_are_refused : with_room (record { cells = 1; units = 23 }) (one (clean_script 1 (t.a_statement (t.lexical false (t.a_declarator (t.declarator (codes "a") (t.present (t.array t.no_expressions))) t.no_declarators)) (t.a_statement (t.expression (t.call (t.member (t.name (codes "a")) (codes "push")) (t.an_expression (t.number 1) t.no_expressions))) (t.a_statement (t.expression (t.call (t.member (t.name (codes "a")) (codes "pop")) t.no_expressions)) (t.a_statement (t.expression (t.call (t.member (t.name (codes "a")) (codes "push")) (t.an_expression (t.number 2) t.no_expressions))) (t.a_statement (t.expression (t.call (t.member (t.name (codes "a")) (codes "push")) (t.an_expression (t.number 3) t.no_expressions))) t.no_statements))))))) ≡ outcome (threw_text (codes "RangeError: Program heap is full")) []
+elements_are_refused : with_room (record { cells = 1; units = 23 })
+    (one (clean_script 1
+    (t.a_statement
+    (t.lexical false
+    (t.a_declarator (t.declarator (codes "a") (t.present (t.array t.no_expressions))) t.no_declarators))
+    (t.a_statement
+    (t.expression
+    (t.call (t.member (t.name (codes "a")) (codes "push"))
+    (t.an_expression (t.number 1) t.no_expressions)))
+    (t.a_statement (t.expression (t.call (t.member (t.name (codes "a")) (codes "pop")) t.no_expressions))
+    (t.a_statement
+    (t.expression
+    (t.call (t.member (t.name (codes "a")) (codes "push"))
+    (t.an_expression (t.number 2) t.no_expressions)))
+    (t.a_statement
+    (t.expression
+    (t.call (t.member (t.name (codes "a")) (codes "push"))
+    (t.an_expression (t.number 3) t.no_expressions)))
+    t.no_statements)))))))
+    ≡ outcome (threw_text (codes "RangeError: Program heap is full")) []
 elements_are_refused = refl
 
 -- function f() { return 1; } console.log(f()); below 999 frames
-one_frame_more : below 999 (one (clean_script 1 (t.a_statement (t.declared_function (codes "f") [] (t.a_statement (t.return (t.present (t.number 1))) t.no_statements)) (t.a_statement (t.expression (t.call (t.member (t.name (codes "console")) (codes "log")) (t.an_expression (t.call (t.name (codes "f")) t.no_expressions) t.no_expressions))) t.no_statements)))) ≡ outcome ended_normally ((codes "1") ∷ [])
+one_frame_more : below 999
+    (one (clean_script 1
+    (t.a_statement
+    (t.declared_function (codes "f") [] (t.a_statement (t.return (t.present (t.number 1))) t.no_statements))
+    (t.a_statement
+    (t.expression
+    (t.call (t.member (t.name (codes "console")) (codes "log"))
+    (t.an_expression (t.call (t.name (codes "f")) t.no_expressions) t.no_expressions)))
+    t.no_statements))))
+    ≡ outcome ended_normally ((codes "1") ∷ [])
 unfolding digits
 one_frame_more = refl
 
 -- and below 1,000
-frames_are_refused : below 1000 (one (clean_script 1 (t.a_statement (t.declared_function (codes "f") [] (t.a_statement (t.return (t.present (t.number 1))) t.no_statements)) (t.a_statement (t.expression (t.call (t.member (t.name (codes "console")) (codes "log")) (t.an_expression (t.call (t.name (codes "f")) t.no_expressions) t.no_expressions))) t.no_statements)))) ≡ outcome (threw_text (codes "RangeError: Maximum call stack size exceeded")) []
+frames_are_refused : below 1000
+    (one (clean_script 1
+    (t.a_statement
+    (t.declared_function (codes "f") [] (t.a_statement (t.return (t.present (t.number 1))) t.no_statements))
+    (t.a_statement
+    (t.expression
+    (t.call (t.member (t.name (codes "console")) (codes "log"))
+    (t.an_expression (t.call (t.name (codes "f")) t.no_expressions) t.no_expressions)))
+    t.no_statements))))
+    ≡ outcome (threw_text (codes "RangeError: Maximum call stack size exceeded")) []
 frames_are_refused = refl
 
 -- try { 'ab'[0]++; } catch (e) { console.log(e); } with room for the error's text, the error and the catch's scope: the unit that is read makes no cell
-a_read_unit_makes_no_cell : with_room (record { cells = 3; units = 1000 }) (one (clean_script 1 (t.a_statement (t.try (t.a_statement (t.expression (t.postfix updates.Increment (t.index (t.string (codes "ab")) (t.number 0)))) t.no_statements) (t.catch (Some (codes "e")) (t.a_statement (t.expression (t.call (t.member (t.name (codes "console")) (codes "log")) (t.an_expression (t.name (codes "e")) t.no_expressions))) t.no_statements)) t.no_finally) t.no_statements))) ≡ outcome ended_normally ((codes "TypeError: Operands must be numbers") ∷ [])
+a_read_unit_makes_no_cell : with_room (record { cells = 3; units = 1000 })
+    (one (clean_script 1
+    (t.a_statement
+    (t.try (t.a_statement
+    (t.expression (t.postfix updates.Increment (t.index (t.string (codes "ab")) (t.number 0))))
+    t.no_statements)
+    (t.catch (Some (codes "e"))
+    (t.a_statement
+    (t.expression
+    (t.call (t.member (t.name (codes "console")) (codes "log"))
+    (t.an_expression (t.name (codes "e")) t.no_expressions)))
+    t.no_statements))
+    t.no_finally)
+    t.no_statements)))
+    ≡ outcome ended_normally ((codes "TypeError: Operands must be numbers") ∷ [])
 unfolding digits
 a_read_unit_makes_no_cell = refl
 
 -- let a = []; while (true) a.push([]); with room for five arrays
-arrays_fill_the_world : with_room (record { cells = 5; units = 1000 }) (one (clean_script 1 (t.a_statement (t.lexical false (t.a_declarator (t.declarator (codes "a") (t.present (t.array t.no_expressions))) t.no_declarators)) (t.a_statement (t.while (t.boolean true) (t.expression (t.call (t.member (t.name (codes "a")) (codes "push")) (t.an_expression (t.array t.no_expressions) t.no_expressions)))) t.no_statements)))) ≡ outcome (threw_text (codes "RangeError: Program heap is full")) []
+arrays_fill_the_world : with_room (record { cells = 5; units = 1000 })
+    (one (clean_script 1
+    (t.a_statement
+    (t.lexical false
+    (t.a_declarator (t.declarator (codes "a") (t.present (t.array t.no_expressions))) t.no_declarators))
+    (t.a_statement
+    (t.while (t.boolean true)
+    (t.expression
+    (t.call (t.member (t.name (codes "a")) (codes "push"))
+    (t.an_expression (t.array t.no_expressions) t.no_expressions))))
+    t.no_statements))))
+    ≡ outcome (threw_text (codes "RangeError: Program heap is full")) []
 unfolding digits
 arrays_fill_the_world = refl

@@ -16,7 +16,8 @@ use Rattle.js_semantics.proofs.LiteralMakers.{total, total-sum, expression-count
 
 -- so many cells with so many units: made, or refused
 abbrev Outcome : Room → ℕ → ℕ → Tried (Unit {0}) → Type 0
-Outcome r n s (fine a v) = (n ≤ r.cells) × (s ≤ r.units) × (v.room ≡ (let q : Room = record { cells = r.cells - n; units = r.units - s } in q))
+Outcome r n s (fine a v) =
+    (n ≤ r.cells) × (s ≤ r.units) × (v.room ≡ (let q : Room = record { cells = r.cells - n; units = r.units - s } in q))
 Outcome r n s effect = ⊥
 Outcome r n s (full what) = (r.cells < n) ⊎ (r.units < s)
 
@@ -24,7 +25,9 @@ room-same : (a b c d : ℕ)
     → a ≡ c
     → b ≡ d
     → (let q : Room = record { cells = a; units = b } in q) ≡ record { cells = c; units = d }
-room-same a b c d e f = ap (λ n. let q : Room = record { cells = n; units = b } in q) e ∙ ap (λ n. let q : Room = record { cells = c; units = n } in q) f
+room-same a b c d e f =
+    ap (λ n. let q : Room = record { cells = n; units = b } in q) e
+    ∙ ap (λ n. let q : Room = record { cells = c; units = n } in q) f
 
 over-one : (r : Room) (n s u : ℕ)
     → 0 < r.cells
@@ -39,7 +42,8 @@ one-more : (r : Room) (n s u : ℕ) (t : Tried (Unit {0}))
     → u ≤ r.units
     → Outcome (room_less r u) n s t
     → Outcome r (1 + n) (u + s) t
-one-more r n s u (fine a v) h k o = (omega (arith, h, o.0), omega (arith, k, o.1), o.2 ∙ room-same _ _ _ _ (omega (arith, h)) (omega (arith, k)))
+one-more r n s u (fine a v) h k o =
+    (omega (arith, h, o.0), omega (arith, k, o.1), o.2 ∙ room-same _ _ _ _ (omega (arith, h)) (omega (arith, k)))
 one-more r n s u effect h k o = o
 one-more r n s u (full what) h k o = over-one r n s u h k o
 
@@ -47,15 +51,25 @@ made-outcome : (w : World) (us : List ℕ) (n s : ℕ) (rest : World → Tried (
     → nat_lt 0 w.room.cells ≡ b
     → nat_le (length us) w.room.units ≡ c
     → ((v : World) → Outcome v.room n s (rest v)) →
-    Outcome w.room (1 + n) (length us + s) (after_try (if b then (if c then fine (next_address w w.start) (record (with_cell w w.start (cells.Text us)) { room = room_less w.room (length us) }) else full counted.Units) else full counted.Cells) (λ a v. rest v))
-made-outcome w us n s rest true true e f h = one-more w.room n s (length us) (rest _) (grind (arith, e)) (grind (arith, f)) (h _)
+    Outcome w.room (1 + n) (length us + s)
+    (after_try
+    (if b then
+    (if c then fine (next_address w w.start)
+    (record (with_cell w w.start (cells.Text us)) { room = room_less w.room (length us) })
+    else full counted.Units)
+    else full counted.Cells)
+    (λ a v. rest v))
+made-outcome w us n s rest true true e f h =
+    one-more w.room n s (length us) (rest _) (grind (arith, e)) (grind (arith, f)) (h _)
 made-outcome w us n s rest true false e f h = inr (grind (arith, f))
 made-outcome w us n s rest false c e f h = inl (grind (arith, e))
 
 literals-outcome : (w : World) (ts : List (List ℕ))
     → Outcome w.room (total (λ x. 1) ts) (total length ts) (make_literals w ts)
 literals-outcome w [] = (omega arith, omega arith, room-same _ _ _ _ (omega arith) (omega arith))
-literals-outcome w (us ∷ ts) = made-outcome w us (total (λ x. 1) ts) (total length ts) (λ v. make_literals v ts) (nat_lt 0 w.room.cells) (nat_le (length us) w.room.units) refl refl (λ v. literals-outcome v ts)
+literals-outcome w (us ∷ ts) =
+    made-outcome w us (total (λ x. 1) ts) (total length ts) (λ v. make_literals v ts) (nat_lt 0 w.room.cells)
+    (nat_le (length us) w.room.units) refl refl (λ v. literals-outcome v ts)
 
 same-outcome : (r : Room) (n s : ℕ) (t u : Tried (Unit {0})) → Outcome r n s t → Outcome r n s u → SameOutcome t u
 same-outcome r n s (fine a v) (fine b u) h k = h.2 ∙ sym k.2
@@ -74,16 +88,22 @@ orders-agree : (w : World) (ts us : List (List ℕ))
     → SameOutcome (make_literals w ts) (make_literals w us)
 orders-agree w ts us e =
     same-outcome w.room (total (λ x. 1) us) (total length us) (make_literals w ts) (make_literals w us)
-    (subst (λ n. Outcome w.room n (total length us) (make_literals w ts)) (e (λ x. 1)) (subst (λ s. Outcome w.room (total (λ x. 1) ts) s (make_literals w ts)) (e length) (literals-outcome w ts)))
+    (subst (λ n. Outcome w.room n (total length us) (make_literals w ts)) (e (λ x. 1))
+    (subst (λ s. Outcome w.room (total (λ x. 1) ts) s (make_literals w ts)) (e length) (literals-outcome w ts)))
     (literals-outcome w us)
 
 pub literals-same : (m : List ℕ → ℕ) (at : Addr) (e : Expr)
     → sum_by m (literals (kept_term at (expression_source e))) ≡ sum_by m (source_literals e)
-literals-same m at e = sym (total-sum m (literals (kept_term at (expression_source e)))) ∙ expression-counted m e _ ∙ total-sum m (source_literals e)
+literals-same m at e =
+    sym (total-sum m (literals (kept_term at (expression_source e))))
+    ∙ expression-counted m e _
+    ∙ total-sum m (source_literals e)
 
 pub literals-agree : (w : World) (at : Addr) (e : Expr)
-    → SameOutcome (make_literals w (literals (kept_term at (expression_source e)))) (make_literals w (source_literals e))
-literals-agree w at e = orders-agree w (literals (kept_term at (expression_source e))) (source_literals e) (λ m. expression-counted m e _)
+    → SameOutcome (make_literals w (literals (kept_term at (expression_source e))))
+    (make_literals w (source_literals e))
+literals-agree w at e =
+    orders-agree w (literals (kept_term at (expression_source e))) (source_literals e) (λ m. expression-counted m e _)
 
 named : (t u : Tried (Unit {0})) (what : Counted) → SameOutcome u t → after_try t (λ a v. u) ≡ full what → t ≡ full what
 named (fine a v) (fine b z) what s e = absurd cc
@@ -95,4 +115,6 @@ named (full other) u what s e = e
 pub literals-named : (w : World) (at : Addr) (e : Expr) (what : Counted)
     → place_literals w (source_literals e) (literals (kept_term at (expression_source e))) ≡ full what
     → make_literals w (source_literals e) ≡ full what
-literals-named w at e what h = named (make_literals w (source_literals e)) (make_literals w (literals (kept_term at (expression_source e)))) what (literals-agree w at e) h
+literals-named w at e what h =
+    named (make_literals w (source_literals e)) (make_literals w (literals (kept_term at (expression_source e)))) what
+    (literals-agree w at e) h

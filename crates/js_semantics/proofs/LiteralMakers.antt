@@ -71,11 +71,14 @@ mutual
   amount-total m (done v) = refl
   amount-total m (standing v s) = refl
   amount-total m (part (literal us) now later) = plus_zero (m us)
-  amount-total m (part f now later) = both-total m (literals_of now) (literals_of later) (amounts m now) (amounts m later) (amounts-total m now) (amounts-total m later)
+  amount-total m (part f now later) =
+      both-total m (literals_of now) (literals_of later) (amounts m now) (amounts m later) (amounts-total m now)
+      (amounts-total m later)
 
   amounts-total : (m : List ℕ → ℕ) (ts : Terms) → total m (literals_of ts) ≡ amounts m ts
   amounts-total m end = refl
-  amounts-total m (more t ts) = both-total m (literals t) (literals_of ts) (amount m t) (amounts m ts) (amount-total m t) (amounts-total m ts)
+  amounts-total m (more t ts) =
+      both-total m (literals t) (literals_of ts) (amount m t) (amounts m ts) (amount-total m t) (amounts-total m ts)
 
 amounts-joined : (m : List ℕ → ℕ) (ts us : Terms) → amounts m (joined ts us) ≡ amounts m ts + amounts m us
 amounts-joined m end us = omega arith
@@ -116,7 +119,8 @@ counts-value : (m : List ℕ → ℕ) (t : Term) (n : ℕ) (x : Expression)
     → n ≡ total m (expression_literals x)
     → false ≡ is_target x
     → Counts m t x
-counts-value m t n x b e f = record { counted = b.amounts_to ∙ e; reads = b.no_read ∙ f; bare = bare_unless_read t b.no_read }
+counts-value m t n x b e f =
+    record { counted = b.amounts_to ∙ e; reads = b.no_read ∙ f; bare = bare_unless_read t b.no_read }
 
 abbrev chosen : Bool → ℕ → ℕ
 chosen b n = if b then n else 0
@@ -126,20 +130,27 @@ assigned-becomes : (m : List ℕ → ℕ) (t e : Term)
     → Becomes m (assigned_to t e) (amount m t + chosen (is_read t) (amount m e))
 assigned-becomes m (done v) e h = record { amounts_to = refl; no_read = refl }
 assigned-becomes m (standing v s) e h = record { amounts_to = refl; no_read = refl }
-assigned-becomes m (part (read (to_name n)) now later) e h = record { amounts_to = omega (arith, amounts-joined m now (one e), ap (amounts m) h.1); no_read = refl }
-assigned-becomes m (part (read r) now later) e h = record { amounts_to = omega (arith, amounts-joined m now (one e), ap (amounts m) h); no_read = refl }
+assigned-becomes m (part (read (to_name n)) now later) e h =
+    record { amounts_to = omega (arith, amounts-joined m now (one e), ap (amounts m) h.1); no_read = refl }
+assigned-becomes m (part (read r) now later) e h =
+    record { amounts_to = omega (arith, amounts-joined m now (one e), ap (amounts m) h); no_read = refl }
 assigned-becomes m (part (literal us) now later) e h = record { amounts_to = sym (plus_zero (m us)); no_read = refl }
-assigned-becomes m (part f now later) e h = record { amounts_to = sym (plus_zero (amounts m now + amounts m later)); no_read = refl }
+assigned-becomes m (part f now later) e h =
+    record { amounts_to = sym (plus_zero (amounts m now + amounts m later)); no_read = refl }
 
 compounded-becomes : (m : List ℕ → ℕ) (o : BinaryOperator) (t e : Term)
     → IsBare t
     → Becomes m (compounded o t e) (amount m t + chosen (is_read t) (amount m e))
 compounded-becomes m o (done v) e h = record { amounts_to = refl; no_read = refl }
 compounded-becomes m o (standing v s) e h = record { amounts_to = refl; no_read = refl }
-compounded-becomes m o (part (read (to_name n)) now later) e h = record { amounts_to = omega (arith, ap (amounts m) h.1); no_read = refl }
-compounded-becomes m o (part (read r) now later) e h = record { amounts_to = omega (arith, ap (amounts m) h); no_read = refl }
-compounded-becomes m o (part (literal us) now later) e h = record { amounts_to = sym (plus_zero (m us)); no_read = refl }
-compounded-becomes m o (part f now later) e h = record { amounts_to = sym (plus_zero (amounts m now + amounts m later)); no_read = refl }
+compounded-becomes m o (part (read (to_name n)) now later) e h =
+    record { amounts_to = omega (arith, ap (amounts m) h.1); no_read = refl }
+compounded-becomes m o (part (read r) now later) e h =
+    record { amounts_to = omega (arith, ap (amounts m) h); no_read = refl }
+compounded-becomes m o (part (literal us) now later) e h =
+    record { amounts_to = sym (plus_zero (m us)); no_read = refl }
+compounded-becomes m o (part f now later) e h =
+    record { amounts_to = sym (plus_zero (amounts m now + amounts m later)); no_read = refl }
 
 assignment-becomes : (m : List ℕ → ℕ) (o : Option BinaryOperator) (t e : Term)
     → IsBare t
@@ -152,15 +163,19 @@ updated-becomes : (m : List ℕ → ℕ) (o : UpdateOperator) (b : Bool) (t : Te
     → Becomes m (updated o b t) (amount m t)
 updated-becomes m o b (done v) h = record { amounts_to = refl; no_read = refl }
 updated-becomes m o b (standing v s) h = record { amounts_to = refl; no_read = refl }
-updated-becomes m o b (part (read (to_name n)) now later) h = record { amounts_to = ap (λ ts. amounts m now + amounts m ts) (sym h.1); no_read = refl }
-updated-becomes m o b (part (read r) now later) h = record { amounts_to = ap (λ ts. amounts m now + amounts m ts) (sym h); no_read = refl }
+updated-becomes m o b (part (read (to_name n)) now later) h =
+    record { amounts_to = ap (λ ts. amounts m now + amounts m ts) (sym h.1); no_read = refl }
+updated-becomes m o b (part (read r) now later) h =
+    record { amounts_to = ap (λ ts. amounts m now + amounts m ts) (sym h); no_read = refl }
 updated-becomes m o b (part f now later) h = record { amounts_to = refl; no_read = refl }
 
 deleted-becomes : (m : List ℕ → ℕ) (t : Term) → IsBare t → Becomes m (deleted t) (amount m t)
 deleted-becomes m (done v) h = record { amounts_to = refl; no_read = refl }
 deleted-becomes m (standing v s) h = record { amounts_to = refl; no_read = refl }
-deleted-becomes m (part (read (to_name n)) now later) h = record { amounts_to = ap (λ ts. amounts m now + amounts m ts) (sym h.1); no_read = refl }
-deleted-becomes m (part (read r) now later) h = record { amounts_to = ap (λ ts. amounts m now + amounts m ts) (sym h); no_read = refl }
+deleted-becomes m (part (read (to_name n)) now later) h =
+    record { amounts_to = ap (λ ts. amounts m now + amounts m ts) (sym h.1); no_read = refl }
+deleted-becomes m (part (read r) now later) h =
+    record { amounts_to = ap (λ ts. amounts m now + amounts m ts) (sym h); no_read = refl }
 deleted-becomes m (part f now later) h = record { amounts_to = refl; no_read = refl }
 
 -- a form with one part
@@ -170,7 +185,8 @@ alone n = omega arith
 type-becomes : (m : List ℕ → ℕ) (t : Term) → IsBare t → Becomes m (type_of t) (amount m t)
 type-becomes m (done v) h = record { amounts_to = refl; no_read = refl }
 type-becomes m (standing v s) h = record { amounts_to = refl; no_read = refl }
-type-becomes m (part (read (to_name n)) now later) h = record { amounts_to = omega (arith, ap (amounts m) h.0, ap (amounts m) h.1); no_read = refl }
+type-becomes m (part (read (to_name n)) now later) h =
+    record { amounts_to = omega (arith, ap (amounts m) h.0, ap (amounts m) h.1); no_read = refl }
 type-becomes m (part (literal us) now later) h = record { amounts_to = alone (m us); no_read = refl }
 type-becomes m (part f now later) h = record { amounts_to = alone (amounts m now + amounts m later); no_read = refl }
 
@@ -202,10 +218,14 @@ call-becomes : (m : List ℕ → ℕ) (place : Mark) (node : ℕ) (t : Term) (ar
     → Becomes m (call_term place node t args) (amount m t + amounts m args)
 call-becomes m place node (done v) args h = record { amounts_to = called 0 (amounts m args); no_read = refl }
 call-becomes m place node (standing v s) args h = record { amounts_to = called 0 (amounts m args); no_read = refl }
-call-becomes m place node (part (read (to_name n)) now later) args h = record { amounts_to = omega (arith, ap (amounts m) h.1); no_read = refl }
-call-becomes m place node (part (read r) now later) args h = record { amounts_to = omega (arith, ap (amounts m) h); no_read = refl }
-call-becomes m place node (part (literal us) now later) args h = record { amounts_to = called (m us) (amounts m args); no_read = refl }
-call-becomes m place node (part f now later) args h = record { amounts_to = called (amounts m now + amounts m later) (amounts m args); no_read = refl }
+call-becomes m place node (part (read (to_name n)) now later) args h =
+    record { amounts_to = omega (arith, ap (amounts m) h.1); no_read = refl }
+call-becomes m place node (part (read r) now later) args h =
+    record { amounts_to = omega (arith, ap (amounts m) h); no_read = refl }
+call-becomes m place node (part (literal us) now later) args h =
+    record { amounts_to = called (m us) (amounts m args); no_read = refl }
+call-becomes m place node (part f now later) args h =
+    record { amounts_to = called (amounts m now + amounts m later) (amounts m args); no_read = refl }
 
 -- ---- what is made of the parts of a form
 
@@ -237,11 +257,16 @@ counting m = record {
   expressions = λ es xs. (c : Context) → amounts m (plains es c) ≡ total m (expressions_literals xs);
   optional = λ e x. (c : Context) → made_amount m e c ≡ total m (optional_literals x);
   key = λ k x. (c : Context) → key_amount m k c ≡ total m (key_literals x);
-  property = λ e x. (c : Context) (p : Parts) → parts_amount m (property_parts e c p) ≡ total m (property_literals x) + parts_amount m p;
+  property =
+      λ e x. (c : Context) (p : Parts)
+      → parts_amount m (property_parts e c p) ≡ total m (property_literals x) + parts_amount m p;
   properties = λ es xs. (c : Context) → parts_amount m (properties_parts es c) ≡ total m (properties_literals xs);
-  declarator = λ d x. (c : Context) → amounts m (initializer_terms d.name d.initializer c) ≡ total m (declarator_literals x);
+  declarator =
+      λ d x. (c : Context) → amounts m (initializer_terms d.name d.initializer c) ≡ total m (declarator_literals x);
   declarators = λ ds xs. (c : Context) → amounts m (declarators_terms ds c) ≡ total m (declarators_literals xs);
-  statement = λ i x. ((c : Context) → amount m (i.term c) ≡ total m (statement_literals x)) × ((c : Context) → amounts m (i.functions c) ≡ total m (declared_literals x));
+  statement =
+      λ i x. ((c : Context) → amount m (i.term c) ≡ total m (statement_literals x))
+      × ((c : Context) → amounts m (i.functions c) ≡ total m (declared_literals x));
   handler = λ h x. (c : Context) → handler_amount m h c ≡ total m (handler_literals x);
   finalizer = λ f x. (c : Context) → finalizer_amount m f c ≡ total m (finalizer_literals x);
   statements = λ is xs. (c : Context) → items_amount m is c ≡ total m (statements_literals xs);
@@ -278,32 +303,50 @@ finally-amount m None t c = omega arith
 finally-amount m (Some f) t c = omega arith
 
 try-amount : (m : List ℕ → ℕ) (b : Items) (h : Option CatchMade) (f : Option Items) (c : Context)
-    → amount m (finally_term f (caught h (block_term b c) c) c) ≡ items_amount m b c + handler_amount m h c + finalizer_amount m f c
-try-amount m b h f c = omega (arith, finally-amount m f (caught h (block_term b c) c) c, caught-amount m h (block_term b c) c)
+    → amount m (finally_term f (caught h (block_term b c) c) c)
+    ≡ items_amount m b c + handler_amount m h c + finalizer_amount m f c
+try-amount m b h f c =
+    omega (arith, finally-amount m f (caught h (block_term b c) c) c, caught-amount m h (block_term b c) c)
 
 -- the parts before a key, and the key with its value or method
 value-amount : (m : List ℕ → ℕ) (k : PropertyKey) (e : Made) (x : trees.Key) (y : Expression)
     → (counting m).key k x
     → (counting m).expression e y
     → (counting m).property (value_property k e) (trees.value x y)
-value-amount m (fixed_key k) e x y h i c p = let j = i (naming k c) in omega (arith, h c, j.counted, total-append m (key_literals x) (expression_literals y))
-value-amount m (computed_key k) e x y h i c p = let j = i (unnamed c) in omega (arith, h (unnamed c), j.counted, total-append m (key_literals x) (expression_literals y))
+value-amount m (fixed_key k) e x y h i c p =
+    let j = i (naming k c) in omega (arith, h c, j.counted, total-append m (key_literals x) (expression_literals y))
+value-amount m (computed_key k) e x y h i c p =
+    let j = i (unnamed c) in
+    omega (arith, h (unnamed c), j.counted, total-append m (key_literals x) (expression_literals y))
 
-method-amount : (m : List ℕ → ℕ) (node : ℕ) (k : PropertyKey) (ps : List (List ℕ)) (body : Items) (x : trees.Key) (xs : Statements)
+method-amount : (m : List ℕ → ℕ) (node : ℕ) (k : PropertyKey) (ps : List (List ℕ)) (body : Items) (x : trees.Key)
+    (xs : Statements)
     → (counting m).key k x
     → (counting m).statements body xs
     → (counting m).property (method_property node k ps body) (trees.method x ps xs)
-method-amount m node (fixed_key k) ps body x xs h i c p = omega (arith, h c, i (within 0 c), total-append m (key_literals x) (statements_literals xs))
-method-amount m node (computed_key k) ps body x xs h i c p = omega (arith, h (unnamed c), i (within 0 c), total-append m (key_literals x) (statements_literals xs))
+method-amount m node (fixed_key k) ps body x xs h i c p =
+    omega (arith, h c, i (within 0 c), total-append m (key_literals x) (statements_literals xs))
+method-amount m node (computed_key k) ps body x xs h i c p =
+    omega (arith, h (unnamed c), i (within 0 c), total-append m (key_literals x) (statements_literals xs))
 
 assign-counts : (m : List ℕ → ℕ) (o : Option BinaryOperator) (p : _) (t e : Term) (x y : Expression)
     → Counts m t x
     → Counts m e y
     → Counts m (assignment o t e) (trees.assign p x y)
 assign-counts m o p t e x y h i =
-    let r : chosen (is_read t) (amount m e) ≡ total m (if is_target x then expression_literals y else []) = ap (λ b. chosen b (amount m e)) h.reads ∙ ap (λ n. chosen (is_target x) n) i.counted ∙ sym (total-if m (is_target x) (expression_literals y)) in
-    counts-value m (assignment o t e) (amount m t + chosen (is_read t) (amount m e)) (trees.assign p x y) (assignment-becomes m o t e h.bare)
-    (omega (arith, r, h.counted, total-append m (expression_literals x) (if is_target x then expression_literals y else []))) refl
+    let r : chosen (is_read t) (amount m e) ≡ total m (if is_target x then expression_literals y else []) = ap
+    (λ b. chosen b (amount m e)) h.reads
+    ∙ ap (λ n. chosen (is_target x) n) i.counted
+    ∙ sym (total-if m (is_target x) (expression_literals y)) in
+    counts-value m (assignment o t e) (amount m t + chosen (is_read t) (amount m e)) (trees.assign p x y)
+    (assignment-becomes m o t e h.bare)
+    (omega (
+      arith,
+      r,
+      h.counted,
+      total-append m (expression_literals x) (if is_target x then expression_literals y else []),
+    ))
+    refl
 
 -- ---- trees
 
@@ -325,22 +368,70 @@ keeps-counting m = record {
   of_null = λ node c. form-counts m _ trees.null refl refl refl;
   of_array = λ node es xs h c. form-counts m _ (trees.array xs) (omega (arith, h c)) refl refl;
   of_object = λ node ps xs h c. form-counts m _ (trees.object xs) (h c) refl refl;
-  of_function = λ node n ps body xs h c. counts-value m _ _ (trees.function n ps xs) (function-amount m node n ps body c) (h (within 0 c)) refl;
-  of_arrow = λ node ps e x h c. let j = h (within e.node (within 0 c)) in form-counts m _ (trees.arrow ps x) (omega (arith, j.counted)) refl refl;
-  of_arrow_block = λ node ps body xs h c. form-counts m _ (trees.arrow_block ps xs) (omega (arith, h (within 0 c))) refl refl;
+  of_function =
+      λ node n ps body xs h c. counts-value m _ _ (trees.function n ps xs) (function-amount m node n ps body c)
+      (h (within 0 c)) refl;
+  of_arrow =
+      λ node ps e x h c. let j = h (within e.node (within 0 c)) in
+      form-counts m _ (trees.arrow ps x) (omega (arith, j.counted)) refl refl;
+  of_arrow_block =
+      λ node ps body xs h c. form-counts m _ (trees.arrow_block ps xs) (omega (arith, h (within 0 c))) refl refl;
   of_parenthesized = λ node e x h c. let j = h c in record { counted = j.counted; reads = j.reads; bare = j.bare };
-  of_member = λ node e n x h c. let j = h (unnamed c) in record { counted = omega (arith, j.counted); reads = refl; bare = refl };
-  of_index = λ node e k x y h i c. let j = h (unnamed c) in let l = i (unnamed c) in record { counted = omega (arith, j.counted, l.counted, total-append m (expression_literals x) (expression_literals y)); reads = refl; bare = refl };
-  of_call = λ node parentheses f es x xs h i c. let j = h (unnamed c) in counts-value m _ _ (trees.call x xs) (call-becomes m _ _ _ (plains es c) j.bare) (omega (arith, j.counted, i c, total-append m (expression_literals x) (expressions_literals xs))) refl;
-  of_postfix = λ node o e x h c. let j = h (unnamed c) in counts-value m _ _ (trees.postfix o x) (updated-becomes m o false (plain e c) j.bare) j.counted refl;
-  of_prefix = λ node o e x h c. let j = h (unnamed c) in counts-value m _ _ (trees.prefix o x) (updated-becomes m o true (plain e c) j.bare) j.counted refl;
-  of_unary = λ node o e x h c. let j = h (unnamed c) in counts-value m _ _ (trees.unary o x) (unary-becomes m o (plain e c) j.bare) j.counted refl;
-  of_binary = λ node o l r x y h i c. let j = h (unnamed c) in let k = i (unnamed c) in counts-value m _ _ (trees.binary o x y) (binary-becomes m o (plain l c) (plain r c)) (omega (arith, j.counted, k.counted, total-append m (expression_literals x) (expression_literals y))) refl;
-  of_conditional = λ node t a b x y z h i j c. let k = h (unnamed c) in let l = i (unnamed c) in let n = j (unnamed c) in form-counts m _ (trees.conditional x y z) (omega (arith, k.counted, l.counted, n.counted, total-three m (expression_literals x) (expression_literals y) (expression_literals z))) refl refl;
-  of_assign = λ node o t e x y h i c. assign-counts m (operator_of o) o (plain t c) (plain e c) x y (h (unnamed c)) (i (unnamed c));
+  of_member =
+      λ node e n x h c. let j = h (unnamed c) in
+      record { counted = omega (arith, j.counted); reads = refl; bare = refl };
+  of_index =
+      λ node e k x y h i c. let j = h (unnamed c) in
+      let l = i (unnamed c) in
+      record {
+        counted = omega (
+          arith,
+          j.counted,
+          l.counted,
+          total-append m (expression_literals x) (expression_literals y),
+        );
+        reads = refl;
+        bare = refl;
+      };
+  of_call =
+      λ node parentheses f es x xs h i c. let j = h (unnamed c) in
+      counts-value m _ _ (trees.call x xs) (call-becomes m _ _ _ (plains es c) j.bare)
+      (omega (arith, j.counted, i c, total-append m (expression_literals x) (expressions_literals xs))) refl;
+  of_postfix =
+      λ node o e x h c. let j = h (unnamed c) in
+      counts-value m _ _ (trees.postfix o x) (updated-becomes m o false (plain e c) j.bare) j.counted refl;
+  of_prefix =
+      λ node o e x h c. let j = h (unnamed c) in
+      counts-value m _ _ (trees.prefix o x) (updated-becomes m o true (plain e c) j.bare) j.counted refl;
+  of_unary =
+      λ node o e x h c. let j = h (unnamed c) in
+      counts-value m _ _ (trees.unary o x) (unary-becomes m o (plain e c) j.bare) j.counted refl;
+  of_binary =
+      λ node o l r x y h i c. let j = h (unnamed c) in
+      let k = i (unnamed c) in
+      counts-value m _ _ (trees.binary o x y) (binary-becomes m o (plain l c) (plain r c))
+      (omega (arith, j.counted, k.counted, total-append m (expression_literals x) (expression_literals y))) refl;
+  of_conditional =
+      λ node t a b x y z h i j c. let k = h (unnamed c) in
+      let l = i (unnamed c) in
+      let n = j (unnamed c) in
+      form-counts m _ (trees.conditional x y z)
+      (omega (
+        arith,
+        k.counted,
+        l.counted,
+        n.counted,
+        total-three m (expression_literals x) (expression_literals y) (expression_literals z),
+      ))
+      refl refl;
+  of_assign =
+      λ node o t e x y h i c. assign-counts m (operator_of o) o (plain t c) (plain e c) x y (h (unnamed c))
+      (i (unnamed c));
   of_comma = λ node es xs h c. counts-value m _ _ (trees.comma xs) (comma-becomes m (plains es c)) (h c) refl;
   of_no_expressions = λ c. refl;
-  of_an_expression = λ e es x xs h i c. let j = h (unnamed c) in omega (arith, j.counted, i c, total-append m (expression_literals x) (expressions_literals xs));
+  of_an_expression =
+      λ e es x xs h i c. let j = h (unnamed c) in
+      omega (arith, j.counted, i c, total-append m (expression_literals x) (expressions_literals xs));
   of_omitted = λ c. refl;
   of_present = λ e x h c. let j = h c in j.counted;
   of_word_key = λ us c. refl;
@@ -351,26 +442,121 @@ keeps-counting m = record {
   of_value = value-amount m;
   of_method = method-amount m;
   of_no_properties = λ c. refl;
-  of_a_property = λ p ps x xs h i c. omega (arith, h c (properties_parts ps c), i c, total-append m (property_literals x) (properties_literals xs));
+  of_a_property =
+      λ p ps x xs h i c. omega
+      (arith, h c (properties_parts ps c), i c, total-append m (property_literals x) (properties_literals xs));
   of_declarator = λ n e x h c. initializer-amount m n e c ∙ h (naming n c);
   of_no_declarators = λ c. refl;
-  of_a_declarator = λ d ds x xs h i c. omega (arith, h c, i c, total-append m (declarator_literals x) (declarators_literals xs));
+  of_a_declarator =
+      λ d ds x xs h i c. omega (arith, h c, i c, total-append m (declarator_literals x) (declarators_literals xs));
   of_block = λ b xs h. (λ c. omega (arith, h c), λ c. refl);
   of_lexical = λ node constant ds xs h. (λ c. omega (arith, h (within node c)), λ c. refl);
   of_empty = (λ c. refl, λ c. refl);
   of_expression = λ node e x h. (λ c. let j = h (unnamed (within node c)) in omega (arith, j.counted), λ c. refl);
-  of_if_then = λ node e s x y h i. (λ c. let j = h (unnamed (within node c)) in omega (arith, j.counted, i.0 (within node c), total-append m (expression_literals x) (statement_literals y)), λ c. refl);
-  of_if_else = λ node e s t x y z h i k. (λ c. let j = h (unnamed (within node c)) in omega (arith, j.counted, i.0 (within node c), k.0 (within node c), total-three m (expression_literals x) (statement_literals y) (statement_literals z)), λ c. refl);
-  of_do_while = λ node s e x y h i. (λ c. let j = i (unnamed (within node c)) in omega (arith, j.counted, h.0 (within node c), total-append m (statement_literals x) (expression_literals y)), λ c. refl);
-  of_while = λ node e s x y h i. (λ c. let j = h (unnamed (within node c)) in omega (arith, j.counted, i.0 (within node c), total-append m (expression_literals x) (statement_literals y)), λ c. refl);
-  of_for = λ node i t u s x y z w a b d h. (λ c. omega (arith, optional-amounts m i (within node c), optional-amount m t (within node c) (values.Bool true), optional-amount m u (within node c) values.Undefined, a (unnamed (within node c)), b (unnamed (within node c)), d (unnamed (within node c)), h.0 (within node c), total-four m (optional_literals x) (optional_literals y) (optional_literals z) (statement_literals w)), λ c. refl);
-  of_for_lexical = λ node constant ds t u s x y z w h b d i. (λ c. omega (arith, optional-amount m t (within node c) (values.Bool true), optional-amount m u (within node c) values.Undefined, h (within node c), b (unnamed (within node c)), d (unnamed (within node c)), i.0 (within node c), total-four m (declarators_literals x) (optional_literals y) (optional_literals z) (statement_literals w)), λ c. refl);
-  of_for_of = λ node constant n e s x y h i. (λ c. let j = h (unnamed (within node c)) in omega (arith, j.counted, i.0 (within node c), total-append m (expression_literals x) (statement_literals y)), λ c. refl);
+  of_if_then =
+      λ node e s x y h i. (
+        λ c. let j = h (unnamed (within node c)) in
+            omega (
+              arith,
+              j.counted,
+              i.0 (within node c),
+              total-append m (expression_literals x) (statement_literals y),
+            ),
+        λ c. refl,
+      );
+  of_if_else =
+      λ node e s t x y z h i k. (
+        λ c. let j = h (unnamed (within node c)) in
+            omega (
+              arith,
+              j.counted,
+              i.0 (within node c),
+              k.0 (within node c),
+              total-three m (expression_literals x) (statement_literals y) (statement_literals z),
+            ),
+        λ c. refl,
+      );
+  of_do_while =
+      λ node s e x y h i. (
+        λ c. let j = i (unnamed (within node c)) in
+            omega (
+              arith,
+              j.counted,
+              h.0 (within node c),
+              total-append m (statement_literals x) (expression_literals y),
+            ),
+        λ c. refl,
+      );
+  of_while =
+      λ node e s x y h i. (
+        λ c. let j = h (unnamed (within node c)) in
+            omega (
+              arith,
+              j.counted,
+              i.0 (within node c),
+              total-append m (expression_literals x) (statement_literals y),
+            ),
+        λ c. refl,
+      );
+  of_for =
+      λ node i t u s x y z w a b d h. (
+        λ c. omega (
+          arith,
+          optional-amounts m i (within node c),
+          optional-amount m t (within node c) (values.Bool true),
+          optional-amount m u (within node c) values.Undefined,
+          a (unnamed (within node c)),
+          b (unnamed (within node c)),
+          d (unnamed (within node c)),
+          h.0 (within node c),
+          total-four m (optional_literals x) (optional_literals y) (optional_literals z)
+              (statement_literals w),
+        ),
+        λ c. refl,
+      );
+  of_for_lexical =
+      λ node constant ds t u s x y z w h b d i. (
+        λ c. omega (
+          arith,
+          optional-amount m t (within node c) (values.Bool true),
+          optional-amount m u (within node c) values.Undefined,
+          h (within node c),
+          b (unnamed (within node c)),
+          d (unnamed (within node c)),
+          i.0 (within node c),
+          total-four m (declarators_literals x) (optional_literals y) (optional_literals z)
+              (statement_literals w),
+        ),
+        λ c. refl,
+      );
+  of_for_of =
+      λ node constant n e s x y h i. (
+        λ c. let j = h (unnamed (within node c)) in
+            omega (
+              arith,
+              j.counted,
+              i.0 (within node c),
+              total-append m (expression_literals x) (statement_literals y),
+            ),
+        λ c. refl,
+      );
   of_continue = λ node. (λ c. refl, λ c. refl);
   of_break = λ node. (λ c. refl, λ c. refl);
-  of_return = λ node e x h. (λ c. omega (arith, optional-amounts m e (within node c), h (unnamed (within node c))), λ c. refl);
+  of_return =
+      λ node e x h. (λ c. omega (arith, optional-amounts m e (within node c), h (unnamed (within node c))), λ c. refl);
   of_throw = λ node e x h. (λ c. let j = h (unnamed (within node c)) in omega (arith, j.counted), λ c. refl);
-  of_try = λ node b h f xs y z i j k. (λ c. omega (arith, try-amount m b h f (within node c), i (within node c), j (within node c), k (within node c), total-three m (statements_literals xs) (handler_literals y) (finalizer_literals z)), λ c. refl);
+  of_try =
+      λ node b h f xs y z i j k. (
+        λ c. omega (
+          arith,
+          try-amount m b h f (within node c),
+          i (within node c),
+          j (within node c),
+          k (within node c),
+          total-three m (statements_literals xs) (handler_literals y) (finalizer_literals z),
+        ),
+        λ c. refl,
+      );
   of_debugger = λ node. (λ c. refl, λ c. refl);
   of_declared_function = λ node n ps body xs h. (λ c. refl, λ c. omega (arith, h (within 0 c)));
   of_no_catch = λ c. refl;
@@ -378,9 +564,19 @@ keeps-counting m = record {
   of_no_finally = λ c. refl;
   of_finally = λ b xs h. h;
   of_no_statements = λ c. refl;
-  of_a_statement = λ i is x xs h k c. omega (arith, amounts-joined m (i.functions c) (is.functions c), h.0 c, h.1 c, k c, total-three m (declared_literals x) (statement_literals x) (statements_literals xs));
+  of_a_statement =
+      λ i is x xs h k c. omega (
+        arith,
+        amounts-joined m (i.functions c) (is.functions c),
+        h.0 c,
+        h.1 c,
+        k c,
+        total-three m (declared_literals x) (statement_literals x) (statements_literals xs),
+      );
 }
 
 pub expression-counted : (m : List ℕ → ℕ) (e : Expr) (c : Context)
     → total m (literals ((expression_source e).term c)) ≡ total m (expression_literals (expression_view e))
-expression-counted m e c = let j = expression-related (counting m) (keeps-counting m) e c in amount-total m ((expression_source e).term c) ∙ j.counted
+expression-counted m e c =
+    let j = expression-related (counting m) (keeps-counting m) e c in
+    amount-total m ((expression_source e).term c) ∙ j.counted

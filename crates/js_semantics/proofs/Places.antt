@@ -31,11 +31,13 @@ abbrev returning : Items
 returning = items_of (
     function_item 0 (codes "f") [] (items_of (return_item 1 (Some (number_made 2 1)) ∷ []))
     ∷ expression_item 3 (call_made 4 (name_made 5 (codes "f")) 6 [])
-    ∷ expression_item 7 (call_made 8 (member_made 9 (name_made 10 (codes "console")) (codes "log")) 11 (number_made 12 2 ∷ []))
+    ∷ expression_item 7
+    (call_made 8 (member_made 9 (name_made 10 (codes "console")) (codes "log")) 11 (number_made 12 2 ∷ []))
     ∷ [])
 
 abbrev returning_spans : List Span
-returning_spans = span 0 28 ∷ span 17 26 ∷ span 24 25 ∷ span 29 33 ∷ span 29 32 ∷ span 29 30 ∷ span 30 32 ∷ span 34 49 ∷ span 34 48 ∷ span 34 45 ∷ span 34 41 ∷ span 45 48 ∷ span 46 47 ∷ []
+returning_spans =
+    span 0 28 ∷ span 17 26 ∷ span 24 25 ∷ span 29 33 ∷ span 29 32 ∷ span 29 30 ∷ span 30 32 ∷ span 34 49 ∷ span 34 48 ∷ span 34 45 ∷ span 34 41 ∷ span 45 48 ∷ span 46 47 ∷ []
 
 -- the statements, and the call of log, whose place isn't the start of its statement; the call of f is at its start
 arrivals : offsets_from 11 0 returning_spans (one (script_term 1 returning))
@@ -44,13 +46,16 @@ arrivals = refl
 
 -- function f() { / } / f();
 abbrev falling : Items
-falling = items_of (function_item 0 (codes "f") [] no_items ∷ expression_item 1 (call_made 2 (name_made 3 (codes "f")) 4 []) ∷ [])
+falling =
+    items_of (function_item 0 (codes "f") [] no_items ∷ expression_item 1 (call_made 2 (name_made 3 (codes "f")) 4 [])
+    ∷ [])
 
 abbrev falling_spans : List Span
 falling_spans = span 0 16 ∷ span 17 21 ∷ span 17 20 ∷ span 17 18 ∷ span 18 20 ∷ []
 
 -- the closing brace of a body with nothing left
-closing_brace : offsets_from 6 0 falling_spans (one (script_term 1 falling)) ≡ None ∷ Some 17 ∷ None ∷ None ∷ Some 15 ∷ None ∷ []
+closing_brace : offsets_from 6 0 falling_spans (one (script_term 1 falling))
+    ≡ None ∷ Some 17 ∷ None ∷ None ∷ Some 15 ∷ None ∷ []
 closing_brace = refl
 
 -- ---- frames and scopes
@@ -65,7 +70,30 @@ frame_kinds (running t s) = kinds_of s (frames script_scope t s)
 frame_kinds (over f s) = []
 
 -- a function whose inner function stands at a `debugger` in a catch
-nested_scopes : frame_kinds (plain 16 (one (clean_script 1 (t.a_statement (t.declared_function (codes "f") ((codes "p") ∷ []) (t.a_statement (t.declared_function (codes "g") [] (t.a_statement (t.try (t.a_statement (t.throw (t.number 1)) t.no_statements) (t.catch (Some (codes "e")) (t.a_statement (t.lexical false (t.a_declarator (t.declarator (codes "b") (t.present (t.name (codes "e")))) t.no_declarators)) (t.a_statement t.debugger t.no_statements))) t.no_finally) t.no_statements)) (t.a_statement (t.expression (t.call (t.name (codes "g")) t.no_expressions)) t.no_statements))) (t.a_statement (t.expression (t.call (t.name (codes "f")) (t.an_expression (t.number 5) t.no_expressions))) t.no_statements)))) [])
+nested_scopes : frame_kinds
+    (plain 16
+    (one (clean_script 1
+    (t.a_statement
+    (t.declared_function (codes "f") ((codes "p") ∷ [])
+    (t.a_statement
+    (t.declared_function (codes "g") []
+    (t.a_statement
+    (t.try (t.a_statement (t.throw (t.number 1)) t.no_statements)
+    (t.catch (Some (codes "e"))
+    (t.a_statement
+    (t.lexical false
+    (t.a_declarator
+    (t.declarator (codes "b") (t.present (t.name (codes "e"))))
+    t.no_declarators))
+    (t.a_statement t.debugger t.no_statements)))
+    t.no_finally)
+    t.no_statements))
+    (t.a_statement (t.expression (t.call (t.name (codes "g")) t.no_expressions))
+    t.no_statements)))
+    (t.a_statement
+    (t.expression (t.call (t.name (codes "f")) (t.an_expression (t.number 5) t.no_expressions)))
+    t.no_statements))))
+    [])
     ≡ (as_block ∷ as_catch ∷ as_local ∷ as_closure ∷ as_script ∷ as_global ∷ [])
     ∷ (as_local ∷ as_script ∷ as_global ∷ [])
     ∷ (as_script ∷ as_global ∷ [])
@@ -79,11 +107,37 @@ thrown_in (running t s) = thrown t
 thrown_in (over f s) = None
 
 -- a throw in a try without a catch, in a call within a try with one
-caught_outside : thrown_in (plain 10 (one (clean_script 1 (t.a_statement (t.declared_function (codes "f") [] (t.a_statement (t.try (t.a_statement (t.throw (t.number 1)) t.no_statements) t.no_catch (t.finally t.no_statements)) t.no_statements)) (t.a_statement (t.try (t.a_statement (t.expression (t.call (t.name (codes "f")) t.no_expressions)) t.no_statements) (t.catch (Some (codes "e")) t.no_statements) t.no_finally) t.no_statements)))) []) ≡ Some (record { value = values.Number (pos 1); uncaught = false })
+caught_outside : thrown_in
+    (plain 10
+    (one (clean_script 1
+    (t.a_statement
+    (t.declared_function (codes "f") []
+    (t.a_statement
+    (t.try (t.a_statement (t.throw (t.number 1)) t.no_statements) t.no_catch
+    (t.finally t.no_statements))
+    t.no_statements))
+    (t.a_statement
+    (t.try (t.a_statement (t.expression (t.call (t.name (codes "f")) t.no_expressions))
+    t.no_statements)
+    (t.catch (Some (codes "e")) t.no_statements) t.no_finally)
+    t.no_statements))))
+    [])
+    ≡ Some (record { value = values.Number (pos 1); uncaught = false })
 caught_outside = refl
 
 -- a finally catches nothing
-not_caught : thrown_in (plain 8 (one (clean_script 1 (t.a_statement (t.declared_function (codes "f") [] (t.a_statement (t.try (t.a_statement (t.throw (t.number 1)) t.no_statements) t.no_catch (t.finally t.no_statements)) t.no_statements)) (t.a_statement (t.expression (t.call (t.name (codes "f")) t.no_expressions)) t.no_statements)))) []) ≡ Some (record { value = values.Number (pos 1); uncaught = true })
+not_caught : thrown_in
+    (plain 8 (one
+    (clean_script 1
+    (t.a_statement
+    (t.declared_function (codes "f") []
+    (t.a_statement
+    (t.try (t.a_statement (t.throw (t.number 1)) t.no_statements) t.no_catch
+    (t.finally t.no_statements))
+    t.no_statements))
+    (t.a_statement (t.expression (t.call (t.name (codes "f")) t.no_expressions)) t.no_statements))))
+    [])
+    ≡ Some (record { value = values.Number (pos 1); uncaught = true })
 not_caught = refl
 
 -- ---- the scripts of a run
@@ -93,5 +147,7 @@ place_of_throw (over (threw v place) s) = Some place.source
 place_of_throw r = None
 
 -- throw 1; as the second script
-throws_in_the_second : place_of_throw (plain 20 (clean_scripts (t.no_statements ∷ t.a_statement (t.throw (t.number 1)) t.no_statements ∷ [])) []) ≡ Some (script_source 2)
+throws_in_the_second : place_of_throw
+    (plain 20 (clean_scripts (t.no_statements ∷ t.a_statement (t.throw (t.number 1)) t.no_statements ∷ [])) []) ≡ Some
+    (script_source 2)
 throws_in_the_second = refl

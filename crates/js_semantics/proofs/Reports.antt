@@ -25,7 +25,8 @@ report_of n r = report n (ending_of r) (printed_of r)
 
 -- a run of at most n steps
 abbrev ran_terms : ℕ → Terms → List (List ℕ) → Report
-ran_terms n ts input = report_of (steps_taken n (program_of ts) (start ts input)) (steps n (program_of ts) (start ts input))
+ran_terms n ts input =
+    report_of (steps_taken n (program_of ts) (start ts input)) (steps n (program_of ts) (start ts input))
 
 abbrev pub ran : List Statements → List (List ℕ) → Report
 ran scripts input = ran_terms 300 (clean_scripts scripts) input
@@ -38,4 +39,5 @@ outcome_of r = outcome (ending_of r) (printed_of r)
 
 -- how the run of some scripts ends within 2,000 steps, and what it prints
 abbrev pub ended_as : List Statements → List (List ℕ) → Outcome
-ended_as scripts input = outcome_of (steps 2000 (program_of (clean_scripts scripts)) (start (clean_scripts scripts) input))
+ended_as scripts input =
+    outcome_of (steps 2000 (program_of (clean_scripts scripts)) (start (clean_scripts scripts) input))

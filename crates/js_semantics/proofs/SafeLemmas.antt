@@ -31,7 +31,8 @@ safe-safe z = safe_if (nat_lt (nat_abs z) (2 ^ 53)) z refl
 
 quotient-safe : (y z : ℤ) → AnswersSafe (quotient y z)
 quotient-safe y z =
-    either-safe (same_integer z (pos 0)) not_safe (if same_integer (int_rem y z) (pos 0) then safe (int_div y z) else not_safe) tt
+    either-safe (same_integer z (pos 0)) not_safe
+    (if same_integer (int_rem y z) (pos 0) then safe (int_div y z) else not_safe) tt
     (either-safe (same_integer (int_rem y z) (pos 0)) (safe (int_div y z)) not_safe (safe-safe (int_div y z)) tt)
 
 remainder-safe : (y z : ℤ) → AnswersSafe (remainder y z)

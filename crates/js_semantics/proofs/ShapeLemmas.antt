@@ -40,7 +40,8 @@ pub at_update-shaped : (scope : Option Addr) (later : Terms)
     → AreShaped later
     → IsShaped (at_update scope later)
 at_update-shaped scope later n k =
-    either-shaped (is_done (update_of later)) (at_test scope later) (part (loop updating scope) (one (update_of later)) later) (at_test-shaped scope later n k)
+    either-shaped (is_done (update_of later)) (at_test scope later)
+    (part (loop updating scope) (one (update_of later)) later) (at_test-shaped scope later n k)
     (record { reduced = omega arith; kept = n; others = tt }, (update-shaped later k, tt), k)
 
 behind_body-shaped : (scope : Option Addr) (later : Terms)
@@ -55,7 +56,8 @@ pub at_body-shaped : (scope : Option Addr) (later : Terms)
     → AreShaped later
     → IsShaped (at_body scope later)
 at_body-shaped scope later n k =
-    either-shaped (is_done (body_of_loop later)) (behind_body scope later) (part (loop body scope) (one (body_of_loop later)) later) (behind_body-shaped scope later n k)
+    either-shaped (is_done (body_of_loop later)) (behind_body scope later)
+    (part (loop body scope) (one (body_of_loop later)) later) (behind_body-shaped scope later n k)
     (record { reduced = omega arith; kept = n; others = tt }, (body-shaped later k, tt), k)
 
 behind_first-shaped : (scope : Option Addr) (later : Terms)
@@ -90,7 +92,8 @@ pub settled-shaped : (f : Form) (now later : Terms)
     → AreShaped now
     → AreShaped later
     → IsShaped (settled f now later)
-settled-shaped f now later h n k = either-shaped (all_done now) (finished f now later) (part f now later) (finished-shaped f now later h n k) (h, n, k)
+settled-shaped f now later h n k =
+    either-shaped (all_done now) (finished f now later) (part f now later) (finished-shaped f now later h n k) (h, n, k)
 
 pub settle-shaped : (t : Term) → IsShaped t → IsShaped (settle t)
 settle-shaped (done v) h = h
@@ -98,7 +101,8 @@ settle-shaped (standing v place) h = h
 settle-shaped (part f now later) h = settled-shaped f now later h.0 h.1 h.2
 
 pub scoped-shaped : (t : Term) (a : Addr) → IsShaped t → IsShaped (settled (scoped a) (one t) end)
-scoped-shaped t a h = settled-shaped (scoped a) (one t) end (record { reduced = omega arith; kept = omega arith; others = tt }) (h, tt) tt
+scoped-shaped t a h =
+    settled-shaped (scoped a) (one t) end (record { reduced = omega arith; kept = omega arith; others = tt }) (h, tt) tt
 
 pub joined-shaped : (ts us : Terms) → AreShaped ts → AreShaped us → AreShaped (joined ts us)
 joined-shaped end us h k = k
@@ -138,10 +142,14 @@ pub perform-shaped : (a : Action) (s : State) → ShapedAction a → ShapedMove 
 perform-shaped (go t) s h = h
 perform-shaped (raise v) s h = tt
 perform-shaped (leave c) s h = tt
-perform-shaped (make c k) s h = after_shaped s (make_cell s.world c) (λ a. perform (k a)) (λ a u. perform-shaped (k a) u (h a))
-perform-shaped (write a c k) s h = after_shaped s (write_cell s.world a c) (λ x. perform k) (λ x u. perform-shaped k u h)
+perform-shaped (make c k) s h =
+    after_shaped s (make_cell s.world c) (λ a. perform (k a)) (λ a u. perform-shaped (k a) u (h a))
+perform-shaped (write a c k) s h =
+    after_shaped s (write_cell s.world a c) (λ x. perform k) (λ x u. perform-shaped k u h)
 perform-shaped (print vs text) s h = outside_shaped (is_evaluation s.world) s _ tt
-perform-shaped (take_line k) s h = outside_shaped (is_evaluation s.world) s _ (perform-shaped (k (first_line s.input)) (record s { input = other_lines s.input }) (h (first_line s.input)))
+perform-shaped (take_line k) s h =
+    outside_shaped (is_evaluation s.world) s _
+    (perform-shaped (k (first_line s.input)) (record s { input = other_lines s.input }) (h (first_line s.input)))
 perform-shaped (set_here m k) s h = perform-shaped k (with_here s m) h
 perform-shaped (push_frame f k) s h = perform-shaped k (record s { frames = f ∷ s.frames }) h
 perform-shaped (pop_frame k) s h = perform-shaped k (record s { frames = rest_of s.frames }) h

@@ -40,13 +40,19 @@ plains-shaped (e ∷ es) c h = (h.0 (unnamed c), plains-shaped es c h.1)
 assigned-shaped : (t e : Term) → IsShaped t → IsShaped e → IsShaped (assigned_to t e)
 assigned-shaped (done v) e h k = h
 assigned-shaped (standing v place) e h k = h
-assigned-shaped (part (read r) now later) e h k = let s = h.0 in (record { reduced = omega (arith, s.reduced, size-joined now (one e)); kept = omega arith; others = tt }, joined-shaped now (one e) h.1 (k, tt), tt)
+assigned-shaped (part (read r) now later) e h k =
+    let s = h.0 in (
+      record { reduced = omega (arith, s.reduced, size-joined now (one e)); kept = omega arith; others = tt },
+      joined-shaped now (one e) h.1 (k, tt),
+      tt,
+    )
 assigned-shaped (part f now later) e h k = h
 
 compounded-shaped : (o : BinaryOperator) (t e : Term) → IsShaped t → IsShaped e → IsShaped (compounded o t e)
 compounded-shaped o (done v) e h k = h
 compounded-shaped o (standing v place) e h k = h
-compounded-shaped o (part (read r) now later) e h k = let s = h.0 in (record { reduced = s.reduced; kept = omega arith; others = tt }, h.1, (k, tt))
+compounded-shaped o (part (read r) now later) e h k =
+    let s = h.0 in (record { reduced = s.reduced; kept = omega arith; others = tt }, h.1, (k, tt))
 compounded-shaped o (part f now later) e h k = h
 
 assignment-shaped : (o : Option BinaryOperator) (t e : Term) → IsShaped t → IsShaped e → IsShaped (assignment o t e)
@@ -56,19 +62,22 @@ assignment-shaped (Some o) t e h k = compounded-shaped o t e h k
 updated-shaped : (o : UpdateOperator) (b : Bool) (t : Term) → IsShaped t → IsShaped (updated o b t)
 updated-shaped o b (done v) h = h
 updated-shaped o b (standing v place) h = h
-updated-shaped o b (part (read r) now later) h = let s = h.0 in (record { reduced = s.reduced; kept = omega arith; others = tt }, h.1, tt)
+updated-shaped o b (part (read r) now later) h =
+    let s = h.0 in (record { reduced = s.reduced; kept = omega arith; others = tt }, h.1, tt)
 updated-shaped o b (part f now later) h = h
 
 deleted-shaped : (t : Term) → IsShaped t → IsShaped (deleted t)
 deleted-shaped (done v) h = h
 deleted-shaped (standing v place) h = h
-deleted-shaped (part (read r) now later) h = let s = h.0 in (record { reduced = s.reduced; kept = omega arith; others = tt }, h.1, tt)
+deleted-shaped (part (read r) now later) h =
+    let s = h.0 in (record { reduced = s.reduced; kept = omega arith; others = tt }, h.1, tt)
 deleted-shaped (part f now later) h = h
 
 type-shaped : (t : Term) → IsShaped t → IsShaped (type_of t)
 type-shaped (done v) h = (record { reduced = omega arith; kept = omega arith; others = tt }, (h, tt), tt)
 type-shaped (standing v place) h = (record { reduced = omega arith; kept = omega arith; others = tt }, (h, tt), tt)
-type-shaped (part (read (to_name n)) now later) h = (record { reduced = omega arith; kept = omega arith; others = tt }, tt, tt)
+type-shaped (part (read (to_name n)) now later) h =
+    (record { reduced = omega arith; kept = omega arith; others = tt }, tt, tt)
 type-shaped (part f now later) h = (record { reduced = omega arith; kept = omega arith; others = tt }, (h, tt), tt)
 
 unary-shaped : (o : UnaryOperator) (t : Term) → IsShaped t → IsShaped (unary_term o t)
@@ -81,8 +90,10 @@ unary-shaped unaries.BitwiseNot t h = (record { reduced = omega arith; kept = om
 unary-shaped unaries.LogicalNot t h = (record { reduced = omega arith; kept = omega arith; others = tt }, (h, tt), tt)
 
 binary-shaped : (o : BinaryOperator) (l r : Term) → IsShaped l → IsShaped r → IsShaped (binary_term o l r)
-binary-shaped binaries.LogicalAnd l r h k = (record { reduced = omega arith; kept = omega arith; others = tt }, (h, tt), (k, tt))
-binary-shaped binaries.LogicalOr l r h k = (record { reduced = omega arith; kept = omega arith; others = tt }, (h, tt), (k, tt))
+binary-shaped binaries.LogicalAnd l r h k =
+    (record { reduced = omega arith; kept = omega arith; others = tt }, (h, tt), (k, tt))
+binary-shaped binaries.LogicalOr l r h k =
+    (record { reduced = omega arith; kept = omega arith; others = tt }, (h, tt), (k, tt))
 binary-shaped o l r h k = (record { reduced = omega arith; kept = omega arith; others = tt }, (h, (k, tt)), tt)
 
 comma-shaped : (ts : Terms) → AreShaped ts → IsShaped (comma_term ts)
@@ -93,33 +104,60 @@ call-shaped : (m : Mark) (node : ℕ) (t : Term) (args : Terms)
     → IsShaped t
     → AreShaped args
     → IsShaped (call_term m node t args)
-call-shaped m node (done v) args h k = (record { reduced = omega arith; kept = omega arith; others = tt }, (tt, (h, k)), tt)
-call-shaped m node (standing v place) args h k = (record { reduced = omega arith; kept = omega arith; others = tt }, (tt, (h, k)), tt)
-call-shaped m node (part (read r) now later) args h k = let s = h.0 in (record { reduced = s.reduced; kept = omega arith; others = tt }, h.1, k)
-call-shaped m node (part f now later) args h k = (record { reduced = omega arith; kept = omega arith; others = tt }, (tt, (h, k)), tt)
+call-shaped m node (done v) args h k =
+    (record { reduced = omega arith; kept = omega arith; others = tt }, (tt, (h, k)), tt)
+call-shaped m node (standing v place) args h k =
+    (record { reduced = omega arith; kept = omega arith; others = tt }, (tt, (h, k)), tt)
+call-shaped m node (part (read r) now later) args h k =
+    let s = h.0 in (record { reduced = s.reduced; kept = omega arith; others = tt }, h.1, k)
+call-shaped m node (part f now later) args h k =
+    (record { reduced = omega arith; kept = omega arith; others = tt }, (tt, (h, k)), tt)
 
 -- ---- functions
 
 body-shaped : (b : Items) (c : Context) → ItemsShaped b → AreShaped (body_terms b c)
-body-shaped b c h = ((record { reduced = omega arith; kept = omega arith; others = tt }, h.terms_shaped (within 0 c), tt), h.functions_shaped (within 0 c))
+body-shaped b c h = (
+  (record { reduced = omega arith; kept = omega arith; others = tt }, h.terms_shaped (within 0 c), tt),
+  h.functions_shaped (within 0 c),
+)
 
 function-shaped : (node : ℕ) (n : Option (List ℕ)) (ps : List (List ℕ)) (b : Items) (c : Context)
     → ItemsShaped b
     → IsShaped (function_term node n ps b c)
-function-shaped node (Some n) ps b c h = (record { reduced = omega arith; kept = omega arith; others = h.functions_only (within 0 c) }, tt, body-shaped b c h)
-function-shaped node None ps b c h = (record { reduced = omega arith; kept = omega arith; others = h.functions_only (within 0 c) }, tt, body-shaped b c h)
+function-shaped node (Some n) ps b c h = (
+  record { reduced = omega arith; kept = omega arith; others = h.functions_only (within 0 c) },
+  tt,
+  body-shaped b c h,
+)
+function-shaped node None ps b c h = (
+  record { reduced = omega arith; kept = omega arith; others = h.functions_only (within 0 c) },
+  tt,
+  body-shaped b c h,
+)
 
 returned-shaped : (e : Made) → MadeShaped e → ItemsShaped (returned_body e)
 returned-shaped e h = record {
   functions_only = λ c. tt;
   functions_shaped = λ c. tt;
-  terms_shaped = λ c. ((record { reduced = omega arith; kept = omega arith; others = tt }, tt, ((record { reduced = omega arith; kept = omega arith; others = tt }, (h (within e.node c), tt), tt), tt)), tt);
+  terms_shaped =
+      λ c. (
+        (
+          record { reduced = omega arith; kept = omega arith; others = tt },
+          tt,
+          ((record { reduced = omega arith; kept = omega arith; others = tt }, (h (within e.node c), tt), tt), tt),
+        ),
+        tt,
+      );
 }
 
 arrow-shaped : (node : ℕ) (n : List ℕ) (ps : List (List ℕ)) (b : Items) (c : Context)
     → ItemsShaped b
     → IsShaped (part (function (form_of node c.source n ps b.names true false)) end (body_terms b c))
-arrow-shaped node n ps b c h = (record { reduced = omega arith; kept = omega arith; others = h.functions_only (within 0 c) }, tt, body-shaped b c h)
+arrow-shaped node n ps b c h = (
+  record { reduced = omega arith; kept = omega arith; others = h.functions_only (within 0 c) },
+  tt,
+  body-shaped b c h,
+)
 
 -- ---- statements
 
@@ -136,10 +174,24 @@ and-shaped i is h k = record {
 }
 
 block-shaped : (b : Items) (c : Context) → ItemsShaped b → IsShaped (block_term b c)
-block-shaped b c h = (record { reduced = omega arith; kept = omega arith; others = h.functions_only c }, tt, ((record { reduced = omega arith; kept = omega arith; others = tt }, h.terms_shaped c, tt), h.functions_shaped c))
+block-shaped b c h = (
+  record { reduced = omega arith; kept = omega arith; others = h.functions_only c },
+  tt,
+  (
+    (record { reduced = omega arith; kept = omega arith; others = tt }, h.terms_shaped c, tt),
+    h.functions_shaped c,
+  ),
+)
 
 pub script-shaped : (number : ℕ) (b : Items) → ItemsShaped b → IsShaped (script_term number b)
-script-shaped number b h = (record { reduced = omega arith; kept = omega arith; others = h.functions_only _ }, tt, ((record { reduced = omega arith; kept = omega arith; others = tt }, h.terms_shaped _, tt), h.functions_shaped _))
+script-shaped number b h = (
+  record { reduced = omega arith; kept = omega arith; others = h.functions_only _ },
+  tt,
+  (
+    (record { reduced = omega arith; kept = omega arith; others = tt }, h.terms_shaped _, tt),
+    h.functions_shaped _,
+  ),
+)
 
 -- ---- each kind of statement
 
@@ -154,7 +206,13 @@ DeclaratorsShaped (d ∷ ds) = OptionalShaped d.initializer × DeclaratorsShaped
 entered-shaped : (node : ℕ) (term : Context → Term)
     → ((c : Context) → IsShaped (term c))
     → ItemShaped (untouched node term)
-entered-shaped node term h = record { functions_only = λ c. tt; functions_shaped = λ c. tt; term_shaped = λ c. (record { reduced = omega arith; kept = omega arith; others = tt }, tt, (h (within node c), tt)) }
+entered-shaped node term h =
+    record {
+      functions_only = λ c. tt;
+      functions_shaped = λ c. tt;
+      term_shaped = λ c.
+          (record { reduced = omega arith; kept = omega arith; others = tt }, tt, (h (within node c), tt));
+    }
 
 initializer-shaped : (n : List ℕ) (e : Option Made) (c : Context)
     → OptionalShaped e
@@ -166,7 +224,14 @@ declarators-shaped : (ds : List DeclaratorMade) (c : Context)
     → DeclaratorsShaped ds
     → AreShaped (declarators_terms ds c)
 declarators-shaped [] c h = tt
-declarators-shaped (d ∷ ds) c h = ((record { reduced = omega arith; kept = omega arith; others = tt }, initializer-shaped d.name d.initializer c h.0, tt), declarators-shaped ds c h.1)
+declarators-shaped (d ∷ ds) c h = (
+  (
+    record { reduced = omega arith; kept = omega arith; others = tt },
+    initializer-shaped d.name d.initializer c h.0,
+    tt,
+  ),
+  declarators-shaped ds c h.1,
+)
 
 lexical-shaped : (node : ℕ) (constant : Bool) (ds : List DeclaratorMade)
     → DeclaratorsShaped ds
@@ -174,7 +239,19 @@ lexical-shaped : (node : ℕ) (constant : Bool) (ds : List DeclaratorMade)
 lexical-shaped node constant ds h = record {
   functions_only = λ c. tt;
   functions_shaped = λ c. tt;
-  term_shaped = λ c. (record { reduced = omega arith; kept = omega arith; others = tt }, tt, ((record { reduced = omega arith; kept = omega arith; others = tt }, declarators-shaped ds (within node c) h, tt), tt));
+  term_shaped =
+      λ c. (
+        record { reduced = omega arith; kept = omega arith; others = tt },
+        tt,
+        (
+          (
+            record { reduced = omega arith; kept = omega arith; others = tt },
+            declarators-shaped ds (within node c) h,
+            tt,
+          ),
+          tt,
+        ),
+      );
 }
 
 optional_terms-shaped : (e : Option Made) (c : Context) → OptionalShaped e → AreShaped (optional_terms e c)
@@ -193,23 +270,52 @@ parts-shaped : (t u : Option Made) (s : Item) (c : Context)
     → OptionalShaped u
     → ItemShaped s
     → AreShaped (for_parts t u s c)
-parts-shaped t u s c h k i = (optional-shaped t c (done (values.Bool true)) h tt, (optional-shaped u c (done values.Undefined) k tt, (i.term_shaped c, tt)))
+parts-shaped t u s c h k i = (
+  optional-shaped t c (done (values.Bool true)) h tt,
+  (optional-shaped u c (done values.Undefined) k tt, (i.term_shaped c, tt)),
+)
 
 if-shaped : (node : ℕ) (e : Made) (s t : Item)
     → MadeShaped e
     → ItemShaped s
     → ItemShaped t
     → ItemShaped (if_item node e s (Some t))
-if-shaped node e s t h k i = entered-shaped node (λ c. part choose (one (plain e c)) (more (s.term c) (one (t.term c)))) (λ c. (record { reduced = omega arith; kept = omega arith; others = tt }, (h (unnamed c), tt), (k.term_shaped c, (i.term_shaped c, tt))))
+if-shaped node e s t h k i =
+    entered-shaped node (λ c. part choose (one (plain e c)) (more (s.term c) (one (t.term c))))
+    (λ c. (
+      record { reduced = omega arith; kept = omega arith; others = tt },
+      (h (unnamed c), tt),
+      (k.term_shaped c, (i.term_shaped c, tt)),
+    ))
 
 if_then-shaped : (node : ℕ) (e : Made) (s : Item) → MadeShaped e → ItemShaped s → ItemShaped (if_item node e s None)
-if_then-shaped node e s h k = entered-shaped node (λ c. part choose (one (plain e c)) (more (s.term c) (one (done values.Undefined)))) (λ c. (record { reduced = omega arith; kept = omega arith; others = tt }, (h (unnamed c), tt), (k.term_shaped c, (tt, tt))))
+if_then-shaped node e s h k =
+    entered-shaped node (λ c. part choose (one (plain e c)) (more (s.term c) (one (done values.Undefined))))
+    (λ c. (
+      record { reduced = omega arith; kept = omega arith; others = tt },
+      (h (unnamed c), tt),
+      (k.term_shaped c, (tt, tt)),
+    ))
 
 while-shaped : (node : ℕ) (e : Made) (s : Item) → MadeShaped e → ItemShaped s → ItemShaped (while_item node e s)
-while-shaped node e s h k = entered-shaped node (λ c. part (loop first None) end (more (plain e c) (more (done values.Undefined) (one (s.term c))))) (λ c. (record { reduced = omega arith; kept = omega arith; others = tt }, tt, (h (unnamed c), (tt, (k.term_shaped c, tt)))))
+while-shaped node e s h k =
+    entered-shaped node
+    (λ c. part (loop first None) end (more (plain e c) (more (done values.Undefined) (one (s.term c)))))
+    (λ c. (
+      record { reduced = omega arith; kept = omega arith; others = tt },
+      tt,
+      (h (unnamed c), (tt, (k.term_shaped c, tt))),
+    ))
 
 do_while-shaped : (node : ℕ) (s : Item) (e : Made) → ItemShaped s → MadeShaped e → ItemShaped (do_while_item node s e)
-do_while-shaped node s e k h = entered-shaped node (λ c. part (loop doing None) end (more (plain e c) (more (done values.Undefined) (one (s.term c))))) (λ c. (record { reduced = omega arith; kept = omega arith; others = tt }, tt, (h (unnamed c), (tt, (k.term_shaped c, tt)))))
+do_while-shaped node s e k h =
+    entered-shaped node
+    (λ c. part (loop doing None) end (more (plain e c) (more (done values.Undefined) (one (s.term c)))))
+    (λ c. (
+      record { reduced = omega arith; kept = omega arith; others = tt },
+      tt,
+      (h (unnamed c), (tt, (k.term_shaped c, tt))),
+    ))
 
 for-shaped : (node : ℕ) (i t u : Option Made) (s : Item)
     → OptionalShaped i
@@ -217,7 +323,13 @@ for-shaped : (node : ℕ) (i t u : Option Made) (s : Item)
     → OptionalShaped u
     → ItemShaped s
     → ItemShaped (for_item node i t u s)
-for-shaped node i t u s a b d k = entered-shaped node (λ c. part (loop first None) (optional_terms i c) (for_parts t u s c)) (λ c. (record { reduced = omega arith; kept = omega arith; others = tt }, optional_terms-shaped i c a, parts-shaped t u s c b d k))
+for-shaped node i t u s a b d k =
+    entered-shaped node (λ c. part (loop first None) (optional_terms i c) (for_parts t u s c))
+    (λ c. (
+      record { reduced = omega arith; kept = omega arith; others = tt },
+      optional_terms-shaped i c a,
+      parts-shaped t u s c b d k,
+    ))
 
 for_lexical-shaped : (node : ℕ) (constant : Bool) (ds : List DeclaratorMade) (t u : Option Made) (s : Item)
     → DeclaratorsShaped ds
@@ -228,7 +340,19 @@ for_lexical-shaped : (node : ℕ) (constant : Bool) (ds : List DeclaratorMade) (
 for_lexical-shaped node constant ds t u s h a b k = record {
   functions_only = λ c. tt;
   functions_shaped = λ c. tt;
-  term_shaped = λ c. (record { reduced = omega arith; kept = omega arith; others = tt }, tt, ((record { reduced = omega arith; kept = omega arith; others = tt }, declarators-shaped ds (within node c) h, tt), parts-shaped t u s (within node c) a b k));
+  term_shaped =
+      λ c. (
+        record { reduced = omega arith; kept = omega arith; others = tt },
+        tt,
+        (
+          (
+            record { reduced = omega arith; kept = omega arith; others = tt },
+            declarators-shaped ds (within node c) h,
+            tt,
+          ),
+          parts-shaped t u s (within node c) a b k,
+        ),
+      );
 }
 
 for_of-shaped : (node : ℕ) (constant : Bool) (n : List ℕ) (e : Made) (s : Item)
@@ -238,11 +362,18 @@ for_of-shaped : (node : ℕ) (constant : Bool) (n : List ℕ) (e : Made) (s : It
 for_of-shaped node constant n e s h k = record {
   functions_only = λ c. tt;
   functions_shaped = λ c. tt;
-  term_shaped = λ c. (record { reduced = omega arith; kept = omega arith; others = tt }, tt, (h (unnamed (within node c)), (k.term_shaped (within node c), tt)));
+  term_shaped =
+      λ c. (
+        record { reduced = omega arith; kept = omega arith; others = tt },
+        tt,
+        (h (unnamed (within node c)), (k.term_shaped (within node c), tt)),
+      );
 }
 
 return-shaped : (node : ℕ) (e : Option Made) → OptionalShaped e → ItemShaped (return_item node e)
-return-shaped node e h = entered-shaped node (λ c. part return_ (optional_terms e c) end) (λ c. (record { reduced = omega arith; kept = omega arith; others = tt }, optional_terms-shaped e c h, tt))
+return-shaped node e h =
+    entered-shaped node (λ c. part return_ (optional_terms e c) end)
+    (λ c. (record { reduced = omega arith; kept = omega arith; others = tt }, optional_terms-shaped e c h, tt))
 
 abbrev pub HandlerShaped : Option CatchMade → Type 0
 HandlerShaped None = Unit {0}
@@ -254,28 +385,41 @@ FinalizerShaped (Some b) = ItemsShaped b
 
 caught-shaped : (h : Option CatchMade) (t : Term) (c : Context) → HandlerShaped h → IsShaped t → IsShaped (caught h t c)
 caught-shaped None t c k i = i
-caught-shaped (Some h) t c k i = (record { reduced = omega arith; kept = omega arith; others = tt }, (i, tt), (block-shaped h.body c k, tt))
+caught-shaped (Some h) t c k i =
+    (record { reduced = omega arith; kept = omega arith; others = tt }, (i, tt), (block-shaped h.body c k, tt))
 
 finally-shaped : (f : Option Items) (t : Term) (c : Context)
     → FinalizerShaped f
     → IsShaped t
     → IsShaped (finally_term f t c)
 finally-shaped None t c k i = i
-finally-shaped (Some f) t c k i = (record { reduced = omega arith; kept = omega arith; others = tt }, (i, tt), (block-shaped f c k, tt))
+finally-shaped (Some f) t c k i =
+    (record { reduced = omega arith; kept = omega arith; others = tt }, (i, tt), (block-shaped f c k, tt))
 
 try-shaped : (node : ℕ) (b : Items) (h : Option CatchMade) (f : Option Items)
     → ItemsShaped b
     → HandlerShaped h
     → FinalizerShaped f
     → ItemShaped (try_item node b h f)
-try-shaped node b h f i j k = entered-shaped node (λ c. finally_term f (caught h (block_term b c) c) c) (λ c. finally-shaped f (caught h (block_term b c) c) c k (caught-shaped h (block_term b c) c j (block-shaped b c i)))
+try-shaped node b h f i j k =
+    entered-shaped node (λ c. finally_term f (caught h (block_term b c) c) c)
+    (λ c. finally-shaped f (caught h (block_term b c) c) c k
+    (caught-shaped h (block_term b c) c j (block-shaped b c i)))
 
 function_item-shaped : (node : ℕ) (n : List ℕ) (ps : List (List ℕ)) (b : Items)
     → ItemsShaped b
     → ItemShaped (function_item node n ps b)
 function_item-shaped node n ps b h = record {
   functions_only = λ c. tt;
-  functions_shaped = λ c. ((record { reduced = omega arith; kept = omega arith; others = h.functions_only (within 0 c) }, tt, body-shaped b c h), tt);
+  functions_shaped =
+      λ c. (
+        (
+          record { reduced = omega arith; kept = omega arith; others = h.functions_only (within 0 c) },
+          tt,
+          body-shaped b c h,
+        ),
+        tt,
+      );
   term_shaped = λ c. tt;
 }
 
@@ -304,14 +448,38 @@ property-shaped : (m : PropertyMade) (ms : List PropertyMade) (c : Context) (p :
     → PropertyShaped m
     → PartsShaped (members_size (map member_of ms)) p
     → PartsShaped (members_size (map member_of (m ∷ ms))) (property_parts m c p)
-property-shaped (value_property (fixed_key k) e) ms c p h q = record { methods = q.methods; counted = omega (arith, q.counted); now_shaped = (h.1 (naming k c), q.now_shaped); later_shaped = q.later_shaped }
-property-shaped (value_property (computed_key k) e) ms c p h q = record { methods = q.methods; counted = omega (arith, q.counted); now_shaped = (h.0 (unnamed c), (h.1 (unnamed c), q.now_shaped)); later_shaped = q.later_shaped }
+property-shaped (value_property (fixed_key k) e) ms c p h q =
+    record {
+      methods = q.methods;
+      counted = omega
+          (arith, q.counted);
+      now_shaped = (h.1 (naming k c), q.now_shaped);
+      later_shaped = q.later_shaped;
+    }
+property-shaped (value_property (computed_key k) e) ms c p h q =
+    record {
+      methods = q.methods;
+      counted = omega
+          (arith, q.counted);
+      now_shaped = (
+        h.0 (unnamed c),
+        (h.1 (unnamed c), q.now_shaped),
+      );
+      later_shaped = q.later_shaped;
+    }
 property-shaped (method_property node (fixed_key k) ps b) ms c p h q =
     let i = h.1 in
     record {
       methods = q.methods;
       counted = omega (arith, q.counted);
-      now_shaped = ((record { reduced = omega arith; kept = omega arith; others = i.functions_only (within 0 c) }, tt, body-shaped b c i), q.now_shaped);
+      now_shaped = (
+        (
+          record { reduced = omega arith; kept = omega arith; others = i.functions_only (within 0 c) },
+          tt,
+          body-shaped b c i,
+        ),
+        q.now_shaped,
+      );
       later_shaped = q.later_shaped;
     }
 property-shaped (method_property node (computed_key k) ps b) ms c p h q =
@@ -320,7 +488,14 @@ property-shaped (method_property node (computed_key k) ps b) ms c p h q =
       methods = q.methods;
       counted = omega (arith, q.counted);
       now_shaped = (h.0 (unnamed c), tt);
-      later_shaped = ((record { reduced = omega arith; kept = omega arith; others = i.functions_only (within 0 c) }, q.now_shaped, body-shaped b c i), q.later_shaped);
+      later_shaped = (
+        (
+          record { reduced = omega arith; kept = omega arith; others = i.functions_only (within 0 c) },
+          q.now_shaped,
+          body-shaped b c i,
+        ),
+        q.later_shaped,
+      );
     }
 
 properties-shaped : (ms : List PropertyMade) (c : Context)
@@ -332,7 +507,12 @@ properties-shaped (m ∷ ms) c h = property-shaped m ms c (properties_parts ms c
 object-shaped : (ms : List PropertyMade) (c : Context)
     → PropertiesShaped ms
     → IsShaped (object_term ms (properties_parts ms c))
-object-shaped ms c h = let q = properties-shaped ms c h in (record { reduced = omega arith; kept = omega arith; others = (q.methods, q.counted) }, q.now_shaped, q.later_shaped)
+object-shaped ms c h =
+    let q = properties-shaped ms c h in (
+      record { reduced = omega arith; kept = omega arith; others = (q.methods, q.counted) },
+      q.now_shaped,
+      q.later_shaped,
+    )
 
 -- ---- trees
 
@@ -363,20 +543,29 @@ keeps-shaped = record {
   of_string = λ node us c. (record { reduced = omega arith; kept = omega arith; others = tt }, tt, tt);
   of_boolean = λ node b c. tt;
   of_null = λ node c. tt;
-  of_array = λ node es xs h c. (record { reduced = omega arith; kept = omega arith; others = tt }, plains-shaped es c h, tt);
+  of_array =
+      λ node es xs h c. (record { reduced = omega arith; kept = omega arith; others = tt }, plains-shaped es c h, tt);
   of_object = λ node ps xs h c. object-shaped ps c h;
   of_function = λ node n ps body xs h c. function-shaped node n ps body c h;
   of_arrow = λ node ps e x h c. arrow-shaped node c.name (parameter_names ps) (returned_body e) c (returned-shaped e h);
   of_arrow_block = λ node ps body xs h c. arrow-shaped node c.name (parameter_names ps) body c h;
   of_parenthesized = λ node e x h. h;
-  of_member = λ node e n x h c. (record { reduced = omega arith; kept = omega arith; others = tt }, (h (unnamed c), tt), tt);
-  of_index = λ node e k x y h i c. (record { reduced = omega arith; kept = omega arith; others = tt }, (h (unnamed c), (i (unnamed c), tt)), tt);
+  of_member =
+      λ node e n x h c. (record { reduced = omega arith; kept = omega arith; others = tt }, (h (unnamed c), tt), tt);
+  of_index =
+      λ node e k x y h i c.
+      (record { reduced = omega arith; kept = omega arith; others = tt }, (h (unnamed c), (i (unnamed c), tt)), tt);
   of_call = λ node parentheses f es x xs h i c. call-shaped _ _ _ _ (h (unnamed c)) (plains-shaped es c i);
   of_postfix = λ node o e x h c. updated-shaped o false _ (h (unnamed c));
   of_prefix = λ node o e x h c. updated-shaped o true _ (h (unnamed c));
   of_unary = λ node o e x h c. unary-shaped o _ (h (unnamed c));
   of_binary = λ node o l r x y h i c. binary-shaped o _ _ (h (unnamed c)) (i (unnamed c));
-  of_conditional = λ node t a b x y z h i j c. (record { reduced = omega arith; kept = omega arith; others = tt }, (h (unnamed c), tt), (i (unnamed c), (j (unnamed c), tt)));
+  of_conditional =
+      λ node t a b x y z h i j c. (
+        record { reduced = omega arith; kept = omega arith; others = tt },
+        (h (unnamed c), tt),
+        (i (unnamed c), (j (unnamed c), tt)),
+      );
   of_assign = λ node o t e x y h i c. assignment-shaped _ _ _ (h (unnamed c)) (i (unnamed c));
   of_comma = λ node es xs h c. comma-shaped _ (plains-shaped es c h);
   of_no_expressions = tt;
@@ -406,12 +595,20 @@ keeps-shaped = record {
   of_for = λ node i t u s x y z w a b d h. for-shaped node i t u s a b d h;
   of_for_lexical = λ node constant ds t u s x y z w h a b i. for_lexical-shaped node constant ds t u s h a b i;
   of_for_of = λ node constant n e s x y h i. for_of-shaped node constant n e s h i;
-  of_continue = λ node. entered-shaped node (λ c. leaf continue_) (λ c. (record { reduced = omega arith; kept = omega arith; others = tt }, tt, tt));
-  of_break = λ node. entered-shaped node (λ c. leaf break_) (λ c. (record { reduced = omega arith; kept = omega arith; others = tt }, tt, tt));
+  of_continue =
+      λ node. entered-shaped node (λ c. leaf continue_)
+      (λ c. (record { reduced = omega arith; kept = omega arith; others = tt }, tt, tt));
+  of_break =
+      λ node. entered-shaped node (λ c. leaf break_)
+      (λ c. (record { reduced = omega arith; kept = omega arith; others = tt }, tt, tt));
   of_return = λ node e x h. return-shaped node e h;
-  of_throw = λ node e x h. entered-shaped node (λ c. part (throw_ node) (one (plain e c)) end) (λ c. (record { reduced = omega arith; kept = omega arith; others = tt }, (h (unnamed c), tt), tt));
+  of_throw =
+      λ node e x h. entered-shaped node (λ c. part (throw_ node) (one (plain e c)) end)
+      (λ c. (record { reduced = omega arith; kept = omega arith; others = tt }, (h (unnamed c), tt), tt));
   of_try = λ node b h f xs y z i j k. try-shaped node b h f i j k;
-  of_debugger = λ node. item-shaped (λ c. part (enter_debugger node) end (one nothing)) (λ c. (record { reduced = omega arith; kept = omega arith; others = tt }, tt, (tt, tt)));
+  of_debugger =
+      λ node. item-shaped (λ c. part (enter_debugger node) end (one nothing))
+      (λ c. (record { reduced = omega arith; kept = omega arith; others = tt }, tt, (tt, tt)));
   of_declared_function = λ node n ps body xs h. function_item-shaped node n ps body h;
   of_no_catch = tt;
   of_catch = λ n b xs h. h;

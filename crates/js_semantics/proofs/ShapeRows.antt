@@ -89,12 +89,16 @@ mutual
   function_in-shaped node (done v) h = tt
   function_in-shaped node (standing v place) h = tt
   function_in-shaped node (part f now later) h =
-      first-shaped (code_here f node later) (first_code (function_in_all node now) (function_in_all node later)) (here-shaped f node later h.2)
-      (first-shaped (function_in_all node now) (function_in_all node later) (function_in_all-shaped node now h.1) (function_in_all-shaped node later h.2))
+      first-shaped (code_here f node later) (first_code (function_in_all node now) (function_in_all node later))
+      (here-shaped f node later h.2)
+      (first-shaped (function_in_all node now) (function_in_all node later) (function_in_all-shaped node now h.1)
+      (function_in_all-shaped node later h.2))
 
   function_in_all-shaped : (node : ℕ) (ts : Terms) → AreShaped ts → ShapedCode (function_in_all node ts)
   function_in_all-shaped node end h = tt
-  function_in_all-shaped node (more t ts) h = first-shaped (function_in node t) (function_in_all node ts) (function_in-shaped node t h.0) (function_in_all-shaped node ts h.1)
+  function_in_all-shaped node (more t ts) h =
+      first-shaped (function_in node t) (function_in_all node ts) (function_in-shaped node t h.0)
+      (function_in_all-shaped node ts h.1)
 
 at_if : (b : Bool) (o p : Option FunctionCode) → ShapedCode o → ShapedCode p → ShapedCode (if b then o else p)
 at_if true o p h k = h
@@ -105,7 +109,8 @@ function_at-shaped : (p : Program) (source : Source) (node : ℕ)
     → ShapedCode (function_at p source node)
 function_at-shaped [] source node h = tt
 function_at-shaped (t ∷ ts) source node h =
-    at_if (same_source t.source source) (function_in node t.tree) (function_at ts source node) (function_in-shaped node t.tree h.0) (function_at-shaped ts source node h.1)
+    at_if (same_source t.source source) (function_in node t.tree) (function_at ts source node)
+    (function_in-shaped node t.tree h.0) (function_at-shaped ts source node h.1)
 
 -- ---- functions, scopes and calls
 
@@ -122,30 +127,38 @@ names-shaped : (scope : Addr) (bs : List Binding) (k : Action) → ShapedAction 
 names-shaped scope [] k h = h
 names-shaped scope (b ∷ bs) k h = names-shaped scope bs k h
 
-code-shaped : (s : State) (o : Option FunctionCode) (source : Source) (a : Addr) (name : List ℕ) (outer : Option Addr) (x y : Value) (args : List Value)
+code-shaped : (s : State) (o : Option FunctionCode) (source : Source) (a : Addr) (name : List ℕ) (outer : Option Addr)
+    (x y : Value) (args : List Value)
     → ShapedCode o
     → ShapedAction (call_code s o source a name outer x y args)
 code-shaped s None source a name outer x y args h = fail-shaped classes.TypeError (codes "Value is not a function")
 code-shaped s (Some c) source a name None x y args h = fail-shaped classes.TypeError (codes "Value is not a function")
 code-shaped s (Some c) source a name (Some outer) x y args h =
-    choose_action (nat_lt (length s.frames) frame_limit) (entered c source a name outer (called_this c.form.is_arrow x y) args) too_deep
-    (λ b. functions-shaped b c.functions (frame_entered c source a (called_this c.form.is_arrow x y) b) (record { reduced = omega arith; kept = omega arith; others = tt }, (settle-shaped c.body h, tt), tt))
+    choose_action (nat_lt (length s.frames) frame_limit)
+    (entered c source a name outer (called_this c.form.is_arrow x y) args) too_deep
+    (λ b. functions-shaped b c.functions (frame_entered c source a (called_this c.form.is_arrow x y) b)
+    (record { reduced = omega arith; kept = omega arith; others = tt }, (settle-shaped c.body h, tt), tt))
     (fail-shaped classes.RangeError (codes "Maximum call stack size exceeded"))
 
 cell-shaped : (p : Program) (s : State) (a : Addr) (o : Option Cell) (y : Value) (args : List Value)
     → ShapedProgram p
     → ShapedAction (call_cell p s a o y args)
 cell-shaped p s a None y args h = fail-shaped classes.TypeError (codes "Value is not a function")
-cell-shaped p s a (Some (cells.Function (code.BuiltIn f) n l outer x)) y args h = gives-shaped (built_in_call s.world f y args) (built_in-gives s.world f y args)
+cell-shaped p s a (Some (cells.Function (code.BuiltIn f) n l outer x)) y args h =
+    gives-shaped (built_in_call s.world f y args) (built_in-gives s.world f y args)
 cell-shaped p s a (Some (cells.Function (code.Script number node) n l outer x)) y args h =
-    code-shaped s (function_at p (script_source number) node) (script_source number) a n outer x y args (function_at-shaped p (script_source number) node h)
+    code-shaped s (function_at p (script_source number) node) (script_source number) a n outer x y args
+    (function_at-shaped p (script_source number) node h)
 cell-shaped p s a (Some (cells.Function (code.Kept at node) n l outer x)) y args h =
-    code-shaped s (function_at p (kept_source at) node) (kept_source at) a n outer x y args (function_at-shaped p (kept_source at) node h)
+    code-shaped s (function_at p (kept_source at) node) (kept_source at) a n outer x y args
+    (function_at-shaped p (kept_source at) node h)
 cell-shaped p s a (Some (cells.Object ps)) y args h = fail-shaped classes.TypeError (codes "Value is not a function")
-cell-shaped p s a (Some (cells.Error class ps)) y args h = fail-shaped classes.TypeError (codes "Value is not a function")
+cell-shaped p s a (Some (cells.Error class ps)) y args h =
+    fail-shaped classes.TypeError (codes "Value is not a function")
 cell-shaped p s a (Some (cells.Array vs)) y args h = fail-shaped classes.TypeError (codes "Value is not a function")
 cell-shaped p s a (Some (cells.Text us)) y args h = fail-shaped classes.TypeError (codes "Value is not a function")
-cell-shaped p s a (Some (cells.Bindings kind n o ns)) y args h = fail-shaped classes.TypeError (codes "Value is not a function")
+cell-shaped p s a (Some (cells.Bindings kind n o ns)) y args h =
+    fail-shaped classes.TypeError (codes "Value is not a function")
 
 value-shaped : (p : Program) (s : State) (f y : Value) (args : List Value)
     → ShapedProgram p
@@ -166,7 +179,9 @@ script-shaped : (number : ℕ) (names : List Binding) (later : Terms)
     → AreShaped later
     → ShapedAction (script_row number names later)
 script-shaped number names end k = tt
-script-shaped number names (more t fs) k = names-shaped _ names (with_functions _ fs (go (settle t))) (functions-shaped _ fs (go (settle t)) (settle-shaped t k.0))
+script-shaped number names (more t fs) k =
+    names-shaped _ names (with_functions _ fs (go (settle t)))
+    (functions-shaped _ fs (go (settle t)) (settle-shaped t k.0))
 
 enter-shaped : (node : ℕ) (later : Terms) → AreShaped later → ShapedAction (enter_row node later)
 enter-shaped node end k = tt
@@ -178,7 +193,9 @@ block-shaped : (scope : Addr) (names : List Binding) (later : Terms)
 block-shaped scope [] end k = tt
 block-shaped scope (b ∷ bs) end k = tt
 block-shaped scope [] (more t fs) k = settle-shaped t k.0
-block-shaped scope (b ∷ bs) (more t fs) k = λ a. functions-shaped a fs (go (settled (scoped a) (one (settle t)) end)) (scoped-shaped (settle t) a (settle-shaped t k.0))
+block-shaped scope (b ∷ bs) (more t fs) k =
+    λ a. functions-shaped a fs (go (settled (scoped a) (one (settle t)) end))
+    (scoped-shaped (settle t) a (settle-shaped t k.0))
 
 chosen-shaped : (b : Bool) (later : Terms) → AreShaped later → IsShaped (chosen b later)
 chosen-shaped true end k = tt
@@ -221,7 +238,9 @@ started-shaped : (scope : Option Addr) (t : Term) (ts : Terms)
     → IsShaped t
     → AreShaped ts
     → IsShaped (settled (loop first scope) (one (settle t)) ts)
-started-shaped scope t ts h k l = settled-shaped (loop first scope) (one (settle t)) ts (record { reduced = omega arith; kept = omega arith; others = tt }) (settle-shaped t k, tt) l
+started-shaped scope t ts h k l =
+    settled-shaped (loop first scope) (one (settle t)) ts
+    (record { reduced = omega arith; kept = omega arith; others = tt }) (settle-shaped t k, tt) l
 
 for_in-shaped : (constant : Bool) (a : Addr) (later : Terms)
     → 4 ≤ size later
@@ -229,7 +248,8 @@ for_in-shaped : (constant : Bool) (a : Addr) (later : Terms)
     → IsShaped (for_in constant a later)
 for_in-shaped true a end h k = tt
 for_in-shaped false a end h k = tt
-for_in-shaped true a (more t ts) h k = (record { reduced = omega arith; kept = omega arith; others = tt }, (started-shaped None t ts h k.0 k.1, tt), tt)
+for_in-shaped true a (more t ts) h k =
+    (record { reduced = omega arith; kept = omega arith; others = tt }, (started-shaped None t ts h k.0 k.1, tt), tt)
 for_in-shaped false a (more t ts) h k = started-shaped (Some a) t ts h k.0 k.1
 
 enter_for_of-shaped : (scope : Addr) (node : ℕ) (b : Binding) (later : Terms)
@@ -237,15 +257,18 @@ enter_for_of-shaped : (scope : Addr) (node : ℕ) (b : Binding) (later : Terms)
     → AreShaped later
     → ShapedAction (enter_for_of_row scope node b later)
 enter_for_of-shaped scope node b end h k = tt
-enter_for_of-shaped scope node b (more t ts) h k = λ a. (record { reduced = omega arith; kept = omega arith; others = tt }, (scoped-shaped t a k.0, tt), k.1)
+enter_for_of-shaped scope node b (more t ts) h k =
+    λ a. (record { reduced = omega arith; kept = omega arith; others = tt }, (scoped-shaped t a k.0, tt), k.1)
 
 list-shaped : (w : World) (b : Binding) (x : Value) (later : Terms)
     → 1 ≤ size later
     → AreShaped later
     → ShapedAction (list_row w b x later)
 list-shaped w b x later h k =
-    choose_action (is_array w x) (go (part _ end (more (done x) later))) (fail classes.TypeError (codes "Value is not an array"))
-    (record { reduced = omega arith; kept = omega arith; others = tt }, tt, (tt, k)) (fail-shaped classes.TypeError (codes "Value is not an array"))
+    choose_action (is_array w x) (go (part _ end (more (done x) later)))
+    (fail classes.TypeError (codes "Value is not an array"))
+    (record { reduced = omega arith; kept = omega arith; others = tt }, tt, (tt, k))
+    (fail-shaped classes.TypeError (codes "Value is not an array"))
 
 body_part-shaped : (later : Terms) → AreShaped later → IsShaped (body_part later)
 body_part-shaped end k = tt
@@ -258,14 +281,17 @@ turn-shaped : (scope : Addr) (b : Binding) (i : ℕ) (o : Option Value) (later :
     → ShapedAction (turn_row scope b i o later)
 turn-shaped scope b i None later h k = tt
 turn-shaped scope b i (Some x) later h k =
-    λ a. settled-shaped (body_of b (i + 1)) (one (settled (scoped a) (one (body_part later)) end)) later (record { reduced = omega arith; kept = h; others = tt }) (scoped-shaped (body_part later) a (body_part-shaped later k), tt) k
+    λ a. settled-shaped (body_of b (i + 1)) (one (settled (scoped a) (one (body_part later)) end)) later
+    (record { reduced = omega arith; kept = h; others = tt })
+    (scoped-shaped (body_part later) a (body_part-shaped later k), tt) k
 
 -- ---- expressions
 
 comma-shaped : (later : Terms) → AreShaped later → ShapedAction (comma_row later)
 comma-shaped end k = tt
 comma-shaped (more t end) k = k.0
-comma-shaped (more t (more u ts)) k = (record { reduced = omega arith; kept = omega arith; others = tt }, (k.0, tt), k.1)
+comma-shaped (more t (more u ts)) k =
+    (record { reduced = omega arith; kept = omega arith; others = tt }, (k.0, tt), k.1)
 
 compound-shaped : (w : World) (scope : Addr) (o : BinaryOperator) (r : Reference) (vs : List Value) (later : Terms)
     → reference_size r ≤ length vs
@@ -273,10 +299,20 @@ compound-shaped : (w : World) (scope : Addr) (o : BinaryOperator) (r : Reference
     → ShapedAction (compound_row w scope o r vs later)
 compound-shaped w scope o r vs end h k = tt
 compound-shaped w scope o r vs (more e ts) h k =
-    result-shaped (read_result w scope r vs) (λ old. go (part (assign r) (joined (dones vs) (one (part (binary o) (more (done old) (one e)) end))) end))
+    result-shaped (read_result w scope r vs)
+    (λ old. go (part (assign r) (joined (dones vs) (one (part (binary o) (more (done old) (one e)) end))) end))
     (λ x. (
-      record { reduced = omega (arith, size-joined (dones vs) (one (part (binary o) (more (done x) (one e)) end)), size-dones vs); kept = omega arith; others = tt },
-      joined-shaped (dones vs) (one (part (binary o) (more (done x) (one e)) end)) (dones-shaped vs) ((record { reduced = omega arith; kept = omega arith; others = tt }, (tt, (k.0, tt)), tt), tt),
+      record {
+        reduced = omega (
+          arith,
+          size-joined (dones vs) (one (part (binary o) (more (done x) (one e)) end)),
+          size-dones vs,
+        );
+        kept = omega arith;
+        others = tt;
+      },
+      joined-shaped (dones vs) (one (part (binary o) (more (done x) (one e)) end)) (dones-shaped vs)
+          ((record { reduced = omega arith; kept = omega arith; others = tt }, (tt, (k.0, tt)), tt), tt),
       tt,
     ))
 
@@ -284,19 +320,31 @@ callee-shaped : (w : World) (scope : Addr) (r : Reference) (m : Mark) (node : �
     → AreShaped later
     → ShapedAction (callee_row w scope r m node vs later)
 callee-shaped w scope r m node vs later k =
-    result-shaped (read_result w scope r vs) (λ f. go (part (call m node) (more (done (callee_this r vs)) (more (done f) later)) end))
+    result-shaped (read_result w scope r vs)
+    (λ f. go (part (call m node) (more (done (callee_this r vs)) (more (done f) later)) end))
     (λ x. (record { reduced = omega arith; kept = omega arith; others = tt }, (tt, (tt, k)), tt))
 
 object-shaped : (w : World) (scope : Addr) (ms : List Member) (vs : List Value) (later : Terms)
     → Shape (object ms) (length vs) later
     → AreShaped later
     → ShapedAction (object_row w scope ms vs later)
-object-shaped w scope ms vs end h k = gives-shaped (object_or_fail (properties_from w [] ms vs)) (made-gives (properties_from w [] ms vs))
+object-shaped w scope ms vs end h k =
+    gives-shaped (object_or_fail (properties_from w [] ms vs)) (made-gives (properties_from w [] ms vs))
 object-shaped w scope ms vs (more (part (method f) now later) ts) h k =
     let o = h.others in
-    key-shaped (key_of w (last_of vs)) (λ key. make (function_cell f key scope values.Undefined) (λ a. go (part (object ms) (joined (dones vs) (more (done (values.Object a)) now)) ts)))
+    key-shaped (key_of w (last_of vs))
+    (λ key. make (function_cell f key scope values.Undefined)
+    (λ a. go (part (object ms) (joined (dones vs) (more (done (values.Object a)) now)) ts)))
     (λ key a. (
-      record { reduced = omega arith; kept = omega arith; others = (o.0, o.1 ∙ omega (arith, size-joined (dones vs) (more (done (values.Object a)) now), size-dones vs)) },
+      record {
+        reduced = omega arith;
+        kept = omega arith;
+        others = (
+          o.0,
+          o.1
+              ∙ omega (arith, size-joined (dones vs) (more (done (values.Object a)) now), size-dones vs),
+        );
+      },
       joined-shaped (dones vs) (more (done (values.Object a)) now) (dones-shaped vs) (tt, k.0.1),
       k.1,
     ))
@@ -328,17 +376,23 @@ row-shaped p s scope (list_of b) vs later g h k = list-shaped s.world b (only vs
 row-shaped p s scope (turn_of b i) vs later g h k = turn-shaped scope b i (elements_of s.world later i) later h.kept k
 row-shaped p s scope this vs later g h k = tt
 row-shaped p s scope (read r) vs later g h k = result-shaped (read_result s.world scope r vs) give (λ x. tt)
-row-shaped p s scope (typeof_name x) vs later g h k = gives-shaped (type_of_found s.world x (found s.world scope x)) (type_of-gives s.world x (found s.world scope x))
+row-shaped p s scope (typeof_name x) vs later g h k =
+    gives-shaped (type_of_found s.world x (found s.world scope x)) (type_of-gives s.world x (found s.world scope x))
 row-shaped p s scope (unary op) vs later g h k = result-shaped (unary_result s.world op (only vs)) give (λ x. tt)
-row-shaped p s scope (binary op) vs later g h k = result-shaped (binary_result s.world op (argument vs 0) (argument vs 1)) give (λ x. tt)
+row-shaped p s scope (binary op) vs later g h k =
+    result-shaped (binary_result s.world op (argument vs 0) (argument vs 1)) give (λ x. tt)
 row-shaped p s scope comma vs later g h k = comma-shaped later k
 row-shaped p s scope (function f) vs later g h k = gives-shaped (function_row s scope f) (function_row-gives s scope f)
 row-shaped p s scope array vs later g h k = λ a. tt
 row-shaped p s scope (object ms) vs later g h k = object-shaped s.world scope ms vs later h k
 row-shaped p s scope (compound op r) vs later g h k = compound-shaped s.world scope op r vs later h.reduced k
-row-shaped p s scope (assign r) vs later g h k = gives-shaped (assign_row s.world scope r vs) (put-gives s.world scope r vs (last_of vs) (give (last_of vs)) tt)
-row-shaped p s scope (update op prefix r) vs later g h k = gives-shaped (update_row s.world scope op prefix r vs) (update_row-gives s.world scope op prefix r vs)
-row-shaped p s scope (delete r) vs later g h k = gives-shaped (remove s.world r vs (give (values.Bool true))) (remove-gives s.world r vs (give (values.Bool true)) tt)
+row-shaped p s scope (assign r) vs later g h k =
+    gives-shaped (assign_row s.world scope r vs) (put-gives s.world scope r vs (last_of vs) (give (last_of vs)) tt)
+row-shaped p s scope (update op prefix r) vs later g h k =
+    gives-shaped (update_row s.world scope op prefix r vs) (update_row-gives s.world scope op prefix r vs)
+row-shaped p s scope (delete r) vs later g h k =
+    gives-shaped (remove s.world r vs (give (values.Bool true)))
+    (remove-gives s.world r vs (give (values.Bool true)) tt)
 row-shaped p s scope (call m node) vs later g h k = call-shaped p s m vs g
 row-shaped p s scope (call_of r m node) vs later g h k = callee-shaped s.world scope r m node vs later k
 row-shaped p s scope (ending kept) vs later g h k = ending-shaped kept
@@ -362,17 +416,20 @@ taken-shaped scope (catching x) (throws v m) n later h k = catch-shaped scope x 
 taken-shaped scope (catching x) (returns v) n later h k = tt
 taken-shaped scope (catching x) breaks n later h k = tt
 taken-shaped scope (catching x) continues n later h k = tt
-taken-shaped scope finishing c n later h k = settled-shaped (ending (Some c)) later end (record { reduced = omega arith; kept = omega arith; others = tt }) k tt
+taken-shaped scope finishing c n later h k =
+    settled-shaped (ending (Some c)) later end (record { reduced = omega arith; kept = omega arith; others = tt }) k tt
 taken-shaped scope (frame node a) (returns v) n later h k = tt
 taken-shaped scope (frame node a) (throws v m) n later h k = tt
 taken-shaped scope (frame node a) breaks n later h k = tt
 taken-shaped scope (frame node a) continues n later h k = tt
 taken-shaped scope (loop body a) breaks n later h k = tt
-taken-shaped scope (loop body a) continues n later h k = settled-shaped (loop body a) end later (record { reduced = omega arith; kept = h.kept; others = tt }) tt k
+taken-shaped scope (loop body a) continues n later h k =
+    settled-shaped (loop body a) end later (record { reduced = omega arith; kept = h.kept; others = tt }) tt k
 taken-shaped scope (loop body a) (throws v m) n later h k = tt
 taken-shaped scope (loop body a) (returns v) n later h k = tt
 taken-shaped scope (body_of b i) breaks n later h k = tt
-taken-shaped scope (body_of b i) continues n later h k = settled-shaped (body_of b i) end later (record { reduced = omega arith; kept = h.kept; others = tt }) tt k
+taken-shaped scope (body_of b i) continues n later h k =
+    settled-shaped (body_of b i) end later (record { reduced = omega arith; kept = h.kept; others = tt }) tt k
 taken-shaped scope (body_of b i) (throws v m) n later h k = tt
 taken-shaped scope (body_of b i) (returns v) n later h k = tt
 taken-shaped scope f c n later h k = tt
@@ -420,7 +477,8 @@ around-shaped p scope f n later s (all_values vs) g h k w =
 around-shaped p scope f n later s (moved (goes now t told)) g h k w =
     let P : ℕ → Type 0 = λ i. Shape f i later in
     settled-shaped f now later (subst P (sym w.1) h) w.0 k
-around-shaped p scope f n later s (moved (travels c t)) g h k w = perform-shaped (taken scope f c later) t (taken-shaped scope f c n later h k)
+around-shaped p scope f n later s (moved (travels c t)) g h k w =
+    perform-shaped (taken scope f c later) t (taken-shaped scope f c n later h k)
 around-shaped p scope f n later s (moved (has_effect t)) g h k w = tt
 around-shaped p scope f n later s (moved (is_full what t)) g h k w = tt
 
@@ -431,16 +489,20 @@ mutual
       → ShapedMove (next p scope t s)
   next-shaped p scope (done v) s g h = tt
   next-shaped p scope (standing v place) s g h = tt
-  next-shaped p scope (part f now later) s g h = around-shaped p scope f (size now) later s (walk p (scope_in f scope) now s) g h.0 h.2 (walk-shaped p (scope_in f scope) now s g h.1)
+  next-shaped p scope (part f now later) s g h =
+      around-shaped p scope f (size now) later s (walk p (scope_in f scope) now s) g h.0 h.2
+      (walk-shaped p (scope_in f scope) now s g h.1)
 
   walk-shaped : (p : Program) (scope : Addr) (ts : Terms) (s : State)
       → ShapedProgram p
       → AreShaped ts
       → ShapedWalked (size ts) (walk p scope ts s)
   walk-shaped p scope end s g h = refl
-  walk-shaped p scope (more (done v) ts) s g h = with_value-shaped v (size ts) (walk p scope ts s) (walk-shaped p scope ts s g h.1)
+  walk-shaped p scope (more (done v) ts) s g h =
+      with_value-shaped v (size ts) (walk p scope ts s) (walk-shaped p scope ts s g h.1)
   walk-shaped p scope (more (standing v place) ts) s g h = tt
-  walk-shaped p scope (more (part f now later) ts) s g h = inside-shaped ts (next p scope (part f now later) s) h.1 (next-shaped p scope (part f now later) s g h.0)
+  walk-shaped p scope (more (part f now later) ts) s g h =
+      inside-shaped ts (next p scope (part f now later) s) h.1 (next-shaped p scope (part f now later) s g h.0)
 
 -- ---- runs
 

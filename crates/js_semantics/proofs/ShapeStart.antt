@@ -17,7 +17,8 @@ size-placed at n (more t ts) = ap (λ i. suc i) (size-placed at (n + length (lit
 
 functions-placed : (at : ℕ → Addr) (n : ℕ) (ts : Terms) → AreFunctions ts → AreFunctions (all_with_literals at n ts)
 functions-placed at n end h = tt
-functions-placed at n (more (part (function f) now later) ts) h = functions-placed at (n + length (literals (part (function f) now later))) ts h
+functions-placed at n (more (part (function f) now later) ts) h =
+    functions-placed at (n + length (literals (part (function f) now later))) ts h
 functions-placed at n (more _ ts) h = absurd h
 
 behind-placed : (at : ℕ → Addr) (n : ℕ) (ts : Terms) → BehindBody ts → BehindBody (all_with_literals at n ts)
@@ -42,7 +43,8 @@ others-placed (script number names) at n i j later e h = behind-placed at n late
 others-placed (block names) at n i j later e h = behind-placed at n later h
 others-placed (function f) at n i j later e h = behind-placed at n later h
 others-placed (method f) at n i j later e h = behind-placed at n later h
-others-placed (object ms) at n i j later e h = let m = methods-placed at n later h.0 in (m.0, omega (arith, h.1, e, m.1))
+others-placed (object ms) at n i j later e h =
+    let m = methods-placed at n later h.0 in (m.0, omega (arith, h.1, e, m.1))
 others-placed _ at n i j later e h = tt
 
 shape-placed : (f : Form) (at : ℕ → Addr) (n m : ℕ) (now later : Terms)
@@ -59,12 +61,16 @@ mutual
   placed-shaped at n (done v) h = tt
   placed-shaped at n (standing v place) h = tt
   placed-shaped at n (part (literal us) now later) h = tt
-  placed-shaped at n (part f now later) h =
-      (shape-placed f at n (n + length (literals_of now)) now later h.0, all-placed-shaped at n now h.1, all-placed-shaped at (n + length (literals_of now)) later h.2)
+  placed-shaped at n (part f now later) h = (
+    shape-placed f at n (n + length (literals_of now)) now later h.0,
+    all-placed-shaped at n now h.1,
+    all-placed-shaped at (n + length (literals_of now)) later h.2,
+  )
 
   all-placed-shaped : (at : ℕ → Addr) (n : ℕ) (ts : Terms) → AreShaped ts → AreShaped (all_with_literals at n ts)
   all-placed-shaped at n end h = tt
-  all-placed-shaped at n (more t ts) h = (placed-shaped at n t h.0, all-placed-shaped at (n + length (literals t)) ts h.1)
+  all-placed-shaped at n (more t ts) h =
+      (placed-shaped at n t h.0, all-placed-shaped at (n + length (literals t)) ts h.1)
 
 -- ---- the start, and the run
 
@@ -76,4 +82,6 @@ pub plain-shaped : (k : ℕ) (ts : Terms) (input : List (List ℕ)) → AreShape
 plain-shaped k ts input h =
     let placed : AreShaped (placed_scripts ts) = all-placed-shaped (λ n. Base n) first_literal ts h in
     steps-shaped k (program_of ts) script_scope (start ts input) (program-shaped 1 (placed_scripts ts) placed)
-    (of-shaped (settled scripts (placed_scripts ts) end) (first_state ts input) (settled-shaped scripts (placed_scripts ts) end (record { reduced = omega arith; kept = omega arith; others = tt }) placed tt))
+    (of-shaped (settled scripts (placed_scripts ts) end) (first_state ts input)
+    (settled-shaped scripts (placed_scripts ts) end
+    (record { reduced = omega arith; kept = omega arith; others = tt }) placed tt))

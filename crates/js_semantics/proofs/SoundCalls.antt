@@ -61,7 +61,8 @@ line-sound w None = tt
 line-sound w (Some us) = make_text-sound w us give (give-sound w)
 
 error-sound : (w : World) (class : ErrorClass) (x : Value) → SoundValue w x → SoundAction w (error_of class x)
-error-sound w class (values.Text a) h = make_object-sound w (cells.Error class (message_property (values.Text a) ∷ [])) (h, tt) tt
+error-sound w class (values.Text a) h =
+    make_object-sound w (cells.Error class (message_property (values.Text a) ∷ [])) (h, tt) tt
 error-sound w class values.Undefined h = make_object-sound w (cells.Error class []) tt tt
 error-sound w class values.Null h = wrong-sound w
 error-sound w class (values.Bool b) h = wrong-sound w
@@ -86,13 +87,15 @@ texts-sound : (w : World) (ts : List (List ℕ)) (k : List Value → Action)
 texts-sound w [] k h = h w (later-same w) [] tt
 texts-sound w (t ∷ ts) k h =
     make_text-sound w t (λ x. make_texts ts (λ xs. k (x ∷ xs)))
-    (λ v l x s. texts-sound v ts (λ xs. k (x ∷ xs)) (λ u m xs t. h u (later-trans w v u l m) (x ∷ xs) (sound-value v u m x s, t)))
+    (λ v l x s. texts-sound v ts (λ xs. k (x ∷ xs))
+    (λ u m xs t. h u (later-trans w v u l m) (x ∷ xs) (sound-value v u m x s, t)))
 
 new_array-sound : (w : World) (vs : List Value) → SoundValues w vs → SoundAction w (new_array vs)
 new_array-sound w vs h = make_object-sound w (cells.Array vs) h tt
 
 keys-sound : (w : World) (x : Value) → SoundAction w (keys_of w x)
-keys-sound w (values.Object a) = texts-sound w (keys_of_cell (read_cell w a)) new_array (λ v l xs h. new_array-sound v xs h)
+keys-sound w (values.Object a) =
+    texts-sound w (keys_of_cell (read_cell w a)) new_array (λ v l xs h. new_array-sound v xs h)
 keys-sound w (values.Text a) = wrong-sound w
 keys-sound w values.Undefined = wrong-sound w
 keys-sound w values.Null = wrong-sound w
@@ -165,7 +168,9 @@ array_call-sound w built_ins.ArrayPush a vs args h k = push-sound w a (length vs
 array_call-sound w built_ins.ArrayPop a vs args h k = pop-sound w a vs h
 array_call-sound w built_ins.ArrayIndexOf a vs args h k = tt
 array_call-sound w built_ins.ArrayJoin a vs args h k = join-sound w vs (argument args 0)
-array_call-sound w built_ins.ArraySlice a vs args h k = array_or_wrong-sound w (slice_places vs args) (between-sound w vs (place (length vs) 0 (argument args 0)) (place (length vs) (length vs) (argument args 1)) h)
+array_call-sound w built_ins.ArraySlice a vs args h k =
+    array_or_wrong-sound w (slice_places vs args)
+    (between-sound w vs (place (length vs) 0 (argument args 0)) (place (length vs) (length vs) (argument args 1)) h)
 array_call-sound w _ a vs args h k = wrong-sound w
 
 on_cell-sound : (w : World) (f : BuiltIn) (a : Addr) (o : Option Cell) (args : List Value)
@@ -214,7 +219,8 @@ pub built_in-sound : (w : World)
     → SoundAction w (built_in_call w f x args)
 built_in-sound w s built_ins.ConsoleLog x args k = tt
 built_in-sound w s built_ins.ReadLine x args k = λ line. line-sound w line
-built_in-sound w s (built_ins.MakeError class) x args k = error-sound w class (argument args 0) (argument-sound w args 0 k)
+built_in-sound w s (built_ins.MakeError class) x args k =
+    error-sound w class (argument args 0) (argument-sound w args 0 k)
 built_in-sound w s built_ins.ObjectKeys x args k = keys-sound w (argument args 0)
 built_in-sound w s built_ins.ArrayIsArray x args k = tt
 built_in-sound w s built_ins.MakeString x args k = string-sound w (argument args 0) (argument-sound w args 0 k)
@@ -258,12 +264,16 @@ mutual
   function_in-sound w node (done v) h = tt
   function_in-sound w node (standing v place) h = tt
   function_in-sound w node (part f now later) h =
-      first-sound w (code_here f node later) (first_code (function_in_all node now) (function_in_all node later)) (here-sound w f node later h.0 h.2)
-      (first-sound w (function_in_all node now) (function_in_all node later) (function_in_all-sound w node now h.1) (function_in_all-sound w node later h.2))
+      first-sound w (code_here f node later) (first_code (function_in_all node now) (function_in_all node later))
+      (here-sound w f node later h.0 h.2)
+      (first-sound w (function_in_all node now) (function_in_all node later) (function_in_all-sound w node now h.1)
+      (function_in_all-sound w node later h.2))
 
   function_in_all-sound : (w : World) (node : ℕ) (ts : Terms) → SoundTerms w ts → SoundCode w (function_in_all node ts)
   function_in_all-sound w node end h = tt
-  function_in_all-sound w node (more t ts) h = first-sound w (function_in node t) (function_in_all node ts) (function_in-sound w node t h.0) (function_in_all-sound w node ts h.1)
+  function_in_all-sound w node (more t ts) h =
+      first-sound w (function_in node t) (function_in_all node ts) (function_in-sound w node t h.0)
+      (function_in_all-sound w node ts h.1)
 
 at_if : (w : World) (b : Bool) (o p : Option FunctionCode)
     → SoundCode w o
@@ -277,14 +287,16 @@ function_at-sound : (w : World) (p : Program) (source : Source) (node : ℕ)
     → SoundCode w (function_at p source node)
 function_at-sound w [] source node h = tt
 function_at-sound w (t ∷ ts) source node h =
-    at_if w (same_source t.source source) (function_in node t.tree) (function_at ts source node) (function_in-sound w node t.tree h.0) (function_at-sound w ts source node h.1)
+    at_if w (same_source t.source source) (function_in node t.tree) (function_at ts source node)
+    (function_in-sound w node t.tree h.0) (function_at-sound w ts source node h.1)
 
 -- ---- functions and scopes
 
 pub is-scope : (w : World) (kind : ScopeKind) (name : List ℕ) (outer : Option Addr) (names : List Binding) (a : Addr)
     → Leads (λ k. k ≡ kind_of (cells.Bindings kind name outer names)) (read_cell w a)
     → SoundScope w (Some a)
-is-scope w kind name outer names a h = leads-as IsScopeKind (cells.Bindings kind name outer names) (read_cell w a) refl h
+is-scope w kind name outer names a h =
+    leads-as IsScopeKind (cells.Bindings kind name outer names) (read_cell w a) refl h
 
 is-function : (w : World) (f : FunctionForm) (name : List ℕ) (scope : Addr) (x : Value) (a : Addr)
     → Leads (λ k. k ≡ kind_of (function_cell f name scope x)) (read_cell w a)
@@ -312,7 +324,10 @@ named-sound w f scope h = (
   (h, (tt, tt)),
   λ v a l e. (
     (is-scope v scopes.Named f.name (Some scope) (declared f.name true ∷ []) a e, tt),
-    λ u b m g. (is-function u f f.name a values.Undefined b g, λ z n. sound-value u z n (values.Object b) (is-function u f f.name a values.Undefined b g)),
+    λ u b m g. (
+      is-function u f f.name a values.Undefined b g,
+      λ z n. sound-value u z n (values.Object b) (is-function u f f.name a values.Undefined b g),
+    ),
   ),
 )
 
@@ -328,9 +343,11 @@ pub function-sound : (p : Program) (s : State) (scope : Addr) (f : FunctionForm)
     → SoundScope s.world (Some scope)
     → SoundAction s.world (function_row s scope f)
 function-sound p s scope f h k =
-    choose_action s.world f.is_named (named_function f scope) (make (function_cell f f.name scope (receiver_of f (this_of s))) (λ a. give (values.Object a)))
+    choose_action s.world f.is_named (named_function f scope)
+    (make (function_cell f f.name scope (receiver_of f (this_of s))) (λ a. give (values.Object a)))
     (named-sound s.world f scope k)
-    (make_object-sound s.world (function_cell f f.name scope (receiver_of f (this_of s))) (k, receiver-sound s.world f.is_arrow (this_of s) (this_of-sound p s h)) tt)
+    (make_object-sound s.world (function_cell f f.name scope (receiver_of f (this_of s)))
+    (k, receiver-sound s.world f.is_arrow (this_of s) (this_of-sound p s h)) tt)
 
 pub functions-sound : (w : World) (scope : Addr) (ts : Terms) (k : Action)
     → SoundScope w (Some scope)
@@ -341,7 +358,8 @@ functions-sound w scope (more (part (function f) now later) ts) k h t = (
   (h, tt),
   λ v a l e. (
     is-function v f f.name scope values.Undefined a e,
-    λ u m. functions-sound u scope ts k (sound-scope w u (later-trans w v u l m) (Some scope) h) (λ x n. t x (later-trans w u x (later-trans w v u l m) n)),
+    λ u m. functions-sound u scope ts k (sound-scope w u (later-trans w v u l m) (Some scope) h)
+        (λ x n. t x (later-trans w u x (later-trans w v u l m) n)),
   ),
 )
 functions-sound w scope (more _ ts) k h t = functions-sound w scope ts k h t
@@ -353,12 +371,14 @@ names-sound w scope [] k t = t w (later-same w)
 names-sound w scope (b ∷ bs) k t = (tt, λ v l. names-sound v scope bs k (λ u m. t u (later-trans w v u l m)))
 
 -- a new scope, and what goes on with it
-pub new_scope-sound : (w : World) (kind : ScopeKind) (name : List ℕ) (outer : Addr) (names : List Binding) (k : Addr → Action)
+pub new_scope-sound : (w : World) (kind : ScopeKind) (name : List ℕ) (outer : Addr) (names : List Binding)
+    (k : Addr → Action)
     → SoundScope w (Some outer)
     → SoundNames w names
     → ((v : World) → Later w v → (a : Addr) → SoundScope v (Some a) → SoundAction v (k a))
     → SoundAction w (new_scope kind name outer names k)
-new_scope-sound w kind name outer names k h n t = ((h, n), λ v a l e. t v l a (is-scope v kind name (Some outer) names a e))
+new_scope-sound w kind name outer names k h n t =
+    ((h, n), λ v a l e. t v l a (is-scope v kind name (Some outer) names a e))
 
 -- ---- calls
 
@@ -383,15 +403,18 @@ frame-sound : (w : World) (c : FunctionCode) (source : Source) (a : Addr) (x : V
     → SoundAction w (frame_entered c source a x s)
 frame-sound w c source a x s h r e = ((r, e), (e, (settle-sound w c.body h, tt), tt))
 
-entered-sound : (w : World) (c : FunctionCode) (source : Source) (a : Addr) (name : List ℕ) (outer : Addr) (x : Value) (args : List Value)
+entered-sound : (w : World) (c : FunctionCode) (source : Source) (a : Addr) (name : List ℕ) (outer : Addr) (x : Value)
+    (args : List Value)
     → SoundCode w (Some c)
     → SoundScope w (Some outer)
     → SoundValue w x
     → SoundValues w args
     → SoundAction w (entered c source a name outer x args)
 entered-sound w c source a name outer x args h o r k =
-    new_scope-sound w scopes.Function name outer (parameters_from 0 c.form.parameters args ++ c.form.names) (λ s. with_functions s c.functions (frame_entered c source a x s)) o
-    (names-joined w (parameters_from 0 c.form.parameters args) c.form.names (parameters-sound w 0 c.form.parameters args k) h.0)
+    new_scope-sound w scopes.Function name outer (parameters_from 0 c.form.parameters args ++ c.form.names)
+    (λ s. with_functions s c.functions (frame_entered c source a x s)) o
+    (names-joined w (parameters_from 0 c.form.parameters args) c.form.names
+    (parameters-sound w 0 c.form.parameters args k) h.0)
     (λ v l s e. functions-sound v s c.functions (frame_entered c source a x s) e
     (λ u m. let n : Later w u = later-trans w v u l m in
     frame-sound u c source a x s (sound-term w u n c.body h.1) (sound-value w u n x r) (sound-scope v u m (Some s) e)))
@@ -402,7 +425,8 @@ deep-sound w = fail-sound w classes.RangeError (codes "Maximum call stack size e
 not_function-sound : (w : World) → SoundAction w not_a_function
 not_function-sound w = fail-sound w classes.TypeError (codes "Value is not a function")
 
-code-sound : (s : State) (o : Option FunctionCode) (source : Source) (a : Addr) (name : List ℕ) (outer : Option Addr) (x y : Value) (args : List Value)
+code-sound : (s : State) (o : Option FunctionCode) (source : Source) (a : Addr) (name : List ℕ) (outer : Option Addr)
+    (x y : Value) (args : List Value)
     → SoundCode s.world o
     → SoundScope s.world outer
     → SoundValue s.world x
@@ -412,8 +436,10 @@ code-sound : (s : State) (o : Option FunctionCode) (source : Source) (a : Addr) 
 code-sound s None source a name outer x y args h o r q k = not_function-sound s.world
 code-sound s (Some c) source a name None x y args h o r q k = not_function-sound s.world
 code-sound s (Some c) source a name (Some outer) x y args h o r q k =
-    choose_action s.world (nat_lt (length s.frames) frame_limit) (entered c source a name outer (called_this c.form.is_arrow x y) args) too_deep
-    (entered-sound s.world c source a name outer (called_this c.form.is_arrow x y) args h o (called-sound s.world c.form.is_arrow x y r q) k)
+    choose_action s.world (nat_lt (length s.frames) frame_limit)
+    (entered c source a name outer (called_this c.form.is_arrow x y) args) too_deep
+    (entered-sound s.world c source a name outer (called_this c.form.is_arrow x y) args h o
+    (called-sound s.world c.form.is_arrow x y r q) k)
     (deep-sound s.world)
 
 cell-sound : (p : Program) (s : State) (a : Addr) (o : Option Cell) (y : Value) (args : List Value)
@@ -423,13 +449,16 @@ cell-sound : (p : Program) (s : State) (a : Addr) (o : Option Cell) (y : Value) 
     → SoundValues s.world args
     → SoundAction s.world (call_cell p s a o y args)
 cell-sound p s a None y args h c q k = not_function-sound s.world
-cell-sound p s a (Some (cells.Function (code.BuiltIn f) n l outer x)) y args h c q k = built_in-sound s.world h.world f y args k
+cell-sound p s a (Some (cells.Function (code.BuiltIn f) n l outer x)) y args h c q k =
+    built_in-sound s.world h.world f y args k
 cell-sound p s a (Some (cells.Function (code.Script number node) n l outer x)) y args h c q k =
     let d = c (cells.Function (code.Script number node) n l outer x) refl in
-    code-sound s (function_at p (script_source number) node) (script_source number) a n outer x y args (function_at-sound s.world p (script_source number) node h.program) d.0 d.1 q k
+    code-sound s (function_at p (script_source number) node) (script_source number) a n outer x y args
+    (function_at-sound s.world p (script_source number) node h.program) d.0 d.1 q k
 cell-sound p s a (Some (cells.Function (code.Kept at node) n l outer x)) y args h c q k =
     let d = c (cells.Function (code.Kept at node) n l outer x) refl in
-    code-sound s (function_at p (kept_source at) node) (kept_source at) a n outer x y args (function_at-sound s.world p (kept_source at) node h.program) d.0 d.1 q k
+    code-sound s (function_at p (kept_source at) node) (kept_source at) a n outer x y args
+    (function_at-sound s.world p (kept_source at) node h.program) d.0 d.1 q k
 cell-sound p s a (Some (cells.Object ps)) y args h c q k = not_function-sound s.world
 cell-sound p s a (Some (cells.Error class ps)) y args h c q k = not_function-sound s.world
 cell-sound p s a (Some (cells.Array vs)) y args h c q k = not_function-sound s.world
@@ -441,7 +470,8 @@ value-sound : (p : Program) (s : State) (f y : Value) (args : List Value)
     → SoundValue s.world y
     → SoundValues s.world args
     → SoundAction s.world (call_value p s f y args)
-value-sound p s (values.Object a) y args h q k = cell-sound p s a (read_cell s.world a) y args h (λ c e. let i = h.world in read-sound s.world a c e i) q k
+value-sound p s (values.Object a) y args h q k =
+    cell-sound p s a (read_cell s.world a) y args h (λ c e. let i = h.world in read-sound s.world a c e i) q k
 value-sound p s values.Undefined y args h q k = not_function-sound s.world
 value-sound p s values.Null y args h q k = not_function-sound s.world
 value-sound p s (values.Bool b) y args h q k = not_function-sound s.world

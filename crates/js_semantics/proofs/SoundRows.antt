@@ -69,9 +69,11 @@ block-sound w scope [] end s n h = tt
 block-sound w scope (b ∷ bs) end s n h = tt
 block-sound w scope [] (more t fs) s n h = settle-sound w t h.0
 block-sound w scope (b ∷ bs) (more t fs) s n h =
-    new_scope-sound w scopes.Block [] scope (b ∷ bs) (λ a. with_functions a fs (go (settled (scoped a) (one (settle t)) end))) s n
+    new_scope-sound w scopes.Block [] scope (b ∷ bs)
+    (λ a. with_functions a fs (go (settled (scoped a) (one (settle t)) end))) s n
     (λ v l a e. functions-sound v a fs (go (settled (scoped a) (one (settle t)) end)) e
-    (λ u m. scoped-sound u (settle t) a (sound-term w u (later-trans w v u l m) (settle t) (settle-sound w t h.0)) (sound-scope v u m (Some a) e)))
+    (λ u m. scoped-sound u (settle t) a (sound-term w u (later-trans w v u l m) (settle t) (settle-sound w t h.0))
+    (sound-scope v u m (Some a) e)))
 
 -- ---- tests
 
@@ -132,7 +134,8 @@ copied-sound : (w : World)
     → (a : Addr) (k : Addr → Action)
     → ((v : World) → Later w v → (b : Addr) → SoundScope v (Some b) → SoundAction v (k b))
     → SoundAction w (copied w a k)
-copied-sound w s a k t = (copy-sound w (read_cell w a) (λ c e. read-sound w a c e s), λ v b l e. t v l b (copy-scope v (read_cell w a) b e))
+copied-sound w s a k t =
+    (copy-sound w (read_cell w a) (λ c e. read-sound w a c e s), λ v b l e. t v l b (copy-scope v (read_cell w a) b e))
 
 loop-sound : (w : World)
     → IsSound w
@@ -141,8 +144,12 @@ loop-sound : (w : World)
     → SoundTerms w later
     → SoundAction w (loop_row w stage scope vs later)
 loop-sound w s testing scope vs later h k = turn-sound w (is_truthy w (only vs)) scope later h k
-loop-sound w s first (Some a) vs later h k = copied-sound w s a (λ b. go (at_test (Some b) later)) (λ v l b e. at_test-sound v (Some b) later e (sound-terms w v l later k))
-loop-sound w s body (Some a) vs later h k = copied-sound w s a (λ b. go (at_update (Some b) later)) (λ v l b e. at_update-sound v (Some b) later e (sound-terms w v l later k))
+loop-sound w s first (Some a) vs later h k =
+    copied-sound w s a (λ b. go (at_test (Some b) later))
+    (λ v l b e. at_test-sound v (Some b) later e (sound-terms w v l later k))
+loop-sound w s body (Some a) vs later h k =
+    copied-sound w s a (λ b. go (at_update (Some b) later))
+    (λ v l b e. at_update-sound v (Some b) later e (sound-terms w v l later k))
 loop-sound w s first None vs later h k = tt
 loop-sound w s body None vs later h k = tt
 loop-sound w s doing scope vs later h k = tt
@@ -154,8 +161,10 @@ for_in-sound : (w : World) (constant : Bool) (a : Addr) (later : Terms)
     → SoundTerm w (for_in constant a later)
 for_in-sound w true a end h k = tt
 for_in-sound w false a end h k = tt
-for_in-sound w true a (more t ts) h k = (h, (settled-sound w (loop first None) (one (settle t)) ts tt (settle-sound w t k.0, tt) k.1, tt), tt)
-for_in-sound w false a (more t ts) h k = settled-sound w (loop first (Some a)) (one (settle t)) ts h (settle-sound w t k.0, tt) k.1
+for_in-sound w true a (more t ts) h k =
+    (h, (settled-sound w (loop first None) (one (settle t)) ts tt (settle-sound w t k.0, tt) k.1, tt), tt)
+for_in-sound w false a (more t ts) h k =
+    settled-sound w (loop first (Some a)) (one (settle t)) ts h (settle-sound w t k.0, tt) k.1
 
 enter_for-sound : (w : World) (scope : Addr) (node : ℕ) (constant : Bool) (names : List Binding) (later : Terms)
     → SoundScope w (Some scope)
@@ -163,7 +172,8 @@ enter_for-sound : (w : World) (scope : Addr) (node : ℕ) (constant : Bool) (nam
     → SoundTerms w later
     → SoundAction w (enter_for_row scope node constant names later)
 enter_for-sound w scope node constant names later s n h =
-    new_scope-sound w scopes.Block [] scope names (λ a. go (for_in constant a later)) s n (λ v l a e. for_in-sound v constant a later e (sound-terms w v l later h))
+    new_scope-sound w scopes.Block [] scope names (λ a. go (for_in constant a later)) s n
+    (λ v l a e. for_in-sound v constant a later e (sound-terms w v l later h))
 
 enter_for_of-sound : (w : World) (scope : Addr) (node : ℕ) (b : Binding) (later : Terms)
     → SoundScope w (Some scope)
@@ -172,8 +182,10 @@ enter_for_of-sound : (w : World) (scope : Addr) (node : ℕ) (b : Binding) (late
     → SoundAction w (enter_for_of_row scope node b later)
 enter_for_of-sound w scope node b end s n h = tt
 enter_for_of-sound w scope node b (more t ts) s n h =
-    new_scope-sound w scopes.Block [] scope (b ∷ []) (λ a. go (part (list_of b) (one (settled (scoped a) (one t) end)) ts)) s (n, tt)
-    (λ v l a e. (sound_if_some w v l b.value n, (scoped-sound v t a (sound-term w v l t h.0) e, tt), sound-terms w v l ts h.1))
+    new_scope-sound w scopes.Block [] scope (b ∷ [])
+    (λ a. go (part (list_of b) (one (settled (scoped a) (one t) end)) ts)) s (n, tt)
+    (λ v l a e.
+    (sound_if_some w v l b.value n, (scoped-sound v t a (sound-term w v l t h.0) e, tt), sound-terms w v l ts h.1))
 
 list-sound : (w : World) (b : Binding) (x : Value) (later : Terms)
     → SoundIfSome w b.value
@@ -181,7 +193,8 @@ list-sound : (w : World) (b : Binding) (x : Value) (later : Terms)
     → SoundTerms w later
     → SoundAction w (list_row w b x later)
 list-sound w b x later n h k =
-    choose_action w (is_array w x) (go (part (turn_of b 0) end (more (done x) later))) (fail classes.TypeError (codes "Value is not an array"))
+    choose_action w (is_array w x) (go (part (turn_of b 0) end (more (done x) later)))
+    (fail classes.TypeError (codes "Value is not an array"))
     (n, tt, (h, k)) (fail-sound w classes.TypeError (codes "Value is not an array"))
 
 element-sound : (w : World) (o : Option Cell) (i : ℕ)
@@ -196,7 +209,8 @@ element-sound w (Some (cells.Text us)) i h = tt
 element-sound w (Some (cells.Bindings kind n o ns)) i h = tt
 
 elements-sound : (w : World) → IsSound w → (later : Terms) (i : ℕ) → SoundIfSome w (elements_of w later i)
-elements-sound w s (more (done (values.Object a)) ts) i = element-sound w (read_cell w a) i (λ c e. read-sound w a c e s)
+elements-sound w s (more (done (values.Object a)) ts) i =
+    element-sound w (read_cell w a) i (λ c e. read-sound w a c e s)
 elements-sound w s (more (done values.Undefined) ts) i = tt
 elements-sound w s (more (done values.Null) ts) i = tt
 elements-sound w s (more (done (values.Bool b)) ts) i = tt
@@ -219,16 +233,20 @@ turn_row-sound : (w : World) (scope : Addr) (b : Binding) (i : ℕ) (o : Option 
     → SoundAction w (turn_row scope b i o later)
 turn_row-sound w scope b i None later s n h k = tt
 turn_row-sound w scope b i (Some x) later s n h k =
-    new_scope-sound w scopes.Block [] scope (record b { value = Some x } ∷ []) (λ a. go (settled (body_of b (i + 1)) (one (settled (scoped a) (one (body_part later)) end)) later)) s (h, tt)
-    (λ v l a e. settled-sound v (body_of b (i + 1)) (one (settled (scoped a) (one (body_part later)) end)) later (sound_if_some w v l b.value n)
-    (scoped-sound v (body_part later) a (sound-term w v l (body_part later) (body_part-sound w later k)) e, tt) (sound-terms w v l later k))
+    new_scope-sound w scopes.Block [] scope (record b { value = Some x } ∷ [])
+    (λ a. go (settled (body_of b (i + 1)) (one (settled (scoped a) (one (body_part later)) end)) later)) s (h, tt)
+    (λ v l a e. settled-sound v (body_of b (i + 1)) (one (settled (scoped a) (one (body_part later)) end)) later
+    (sound_if_some w v l b.value n)
+    (scoped-sound v (body_part later) a (sound-term w v l (body_part later) (body_part-sound w later k)) e, tt)
+    (sound-terms w v l later k))
 
 -- ---- expressions
 
 type_of-sound : (w : World) (n : List ℕ) (o : Option Found) → SoundFound w o → SoundAction w (type_of_found w n o)
 type_of-sound w n None h = make_text-sound w (codes "undefined") give (give-sound w)
 type_of-sound w n (Some f) h =
-    with_result-sound w (value_of_found n (Some f)) (λ v. make_text (type_text w v) give) (value_of_found-sound w n (Some f) h)
+    with_result-sound w (value_of_found n (Some f)) (λ v. make_text (type_text w v) give)
+    (value_of_found-sound w n (Some f) h)
     (λ v l x s. make_text-sound v (type_text w x) give (give-sound v))
 
 comma-sound : (w : World) (later : Terms) → SoundTerms w later → SoundAction w (comma_row later)
@@ -245,8 +263,14 @@ compound-sound : (w : World)
     → SoundAction w (compound_row w scope o r vs later)
 compound-sound w s b scope o r vs end h k = tt
 compound-sound w s b scope o r vs (more e ts) h k =
-    get-sound w s b scope r vs (λ old. go (part (assign r) (joined (dones vs) (one (part (binary o) (more (done old) (one e)) end))) end))
-    (λ v l x q. (tt, joined-sound v (dones vs) (one (part (binary o) (more (done x) (one e)) end)) (dones-sound v vs (sound_values w v l vs h)) ((tt, (q, (sound-term w v l e k.0, tt)), tt), tt), tt))
+    get-sound w s b scope r vs
+    (λ old. go (part (assign r) (joined (dones vs) (one (part (binary o) (more (done old) (one e)) end))) end))
+    (λ v l x q. (
+      tt,
+      joined-sound v (dones vs) (one (part (binary o) (more (done x) (one e)) end))
+          (dones-sound v vs (sound_values w v l vs h)) ((tt, (q, (sound-term w v l e k.0, tt)), tt), tt),
+      tt,
+    ))
 
 update_value-sound : (w : World) (b : Bool) (x y : Value)
     → SoundValue w x
@@ -269,7 +293,8 @@ update_row-sound : (w : World)
     → (scope : Addr) (o : UpdateOperator) (prefix : Bool) (r : Reference) (vs : List Value)
     → SoundAction w (update_row w scope o prefix r vs)
 update_row-sound w s b scope o prefix r vs =
-    updated_by-sound w o (read_result w scope r vs) (λ old new. put w scope r vs new (give (update_value prefix old new))) (read_result-sound w s b scope r vs)
+    updated_by-sound w o (read_result w scope r vs)
+    (λ old new. put w scope r vs new (give (update_value prefix old new))) (read_result-sound w s b scope r vs)
     (λ x q u m y t. put-sound w u scope r vs y (give (update_value prefix x y)) t
     (λ z n. sound-value u z n (update_value prefix x y) (update_value-sound u prefix x y (sound-value w u m x q) t)))
 
@@ -277,7 +302,8 @@ assign-sound : (w : World) (scope : Addr) (r : Reference) (vs : List Value)
     → SoundValues w vs
     → SoundAction w (assign_row w scope r vs)
 assign-sound w scope r vs h =
-    put-sound w w scope r vs (last_of vs) (give (last_of vs)) (last_of-sound w vs h) (λ v l. sound-value w v l (last_of vs) (last_of-sound w vs h))
+    put-sound w w scope r vs (last_of vs) (give (last_of vs)) (last_of-sound w vs h)
+    (λ v l. sound-value w v l (last_of vs) (last_of-sound w vs h))
 
 callee_this-sound : (w : World) (r : Reference) (vs : List Value) → SoundValues w vs → SoundValue w (callee_this r vs)
 callee_this-sound w (to_name n) vs h = tt
@@ -293,7 +319,8 @@ callee-sound : (w : World)
     → SoundAction w (callee_row w scope r m node vs later)
 callee-sound w s b scope r m node vs later h k =
     get-sound w s b scope r vs (λ f. go (part (call m node) (more (done (callee_this r vs)) (more (done f) later)) end))
-    (λ v l x q. (tt, (sound-value w v l (callee_this r vs) (callee_this-sound w r vs h), (q, sound-terms w v l later k)), tt))
+    (λ v l x q.
+    (tt, (sound-value w v l (callee_this r vs) (callee_this-sound w r vs h), (q, sound-terms w v l later k)), tt))
 
 -- ---- object literals
 
@@ -301,7 +328,8 @@ abbrev SoundMade : World → Option (List Property) → Type 0
 SoundMade w None = Unit {0}
 SoundMade w (Some ps) = SoundProperties w ps
 
-computed-sound : (w : World) (o : Option (List ℕ)) (ps : List Property) (x : Value) (k : List Property → Option (List Property))
+computed-sound : (w : World) (o : Option (List ℕ)) (ps : List Property) (x : Value)
+    (k : List Property → Option (List Property))
     → SoundProperties w ps
     → SoundValue w x
     → ((qs : List Property) → SoundProperties w qs → SoundMade w (k qs))
@@ -315,11 +343,13 @@ properties-sound : (w : World) (ps : List Property) (ms : List Member) (vs : Lis
     → SoundMade w (properties_from w ps ms vs)
 properties-sound w ps [] vs h k = h
 properties-sound w ps (keyed key ∷ ms) [] h k = h
-properties-sound w ps (keyed key ∷ ms) (x ∷ vs) h k = properties-sound w (put_property ps key x) ms vs (put_sound w ps key x h k.0) k.1
+properties-sound w ps (keyed key ∷ ms) (x ∷ vs) h k =
+    properties-sound w (put_property ps key x) ms vs (put_sound w ps key x h k.0) k.1
 properties-sound w ps (computed ∷ ms) [] h k = h
 properties-sound w ps (computed ∷ ms) (x ∷ []) h k = h
 properties-sound w ps (computed ∷ ms) (x ∷ y ∷ vs) h k =
-    computed-sound w (key_of w x) ps y (λ qs. properties_from w qs ms vs) h k.1.0 (λ qs q. properties-sound w qs ms vs q k.1.1)
+    computed-sound w (key_of w x) ps y (λ qs. properties_from w qs ms vs) h k.1.0
+    (λ qs q. properties-sound w qs ms vs q k.1.1)
 
 made-sound : (w : World) (o : Option (List Property)) → SoundMade w o → SoundAction w (object_or_fail o)
 made-sound w None h = fail-sound w classes.TypeError (codes "Property key must be a string or a number")
@@ -336,7 +366,9 @@ method-sound : (w : World) (scope : Addr) (ms : List Member) (vs : List Value) (
     → SoundTerms w now
     → SoundTerms w ts
     → (key : List ℕ) →
-    SoundAction w (make (function_cell f key scope values.Undefined) (λ a. go (part (object ms) (joined (dones vs) (more (done (values.Object a)) now)) ts)))
+    SoundAction w
+    (make (function_cell f key scope values.Undefined)
+    (λ a. go (part (object ms) (joined (dones vs) (more (done (values.Object a)) now)) ts)))
 method-sound w scope ms vs f now ts s h n k key = (
   (s, tt),
   λ v a l e. (
@@ -354,7 +386,9 @@ object-sound : (w : World) (scope : Addr) (ms : List Member) (vs : List Value) (
     → SoundAction w (object_row w scope ms vs later)
 object-sound w scope ms vs end s h k = made-sound w (properties_from w [] ms vs) (properties-sound w [] ms vs tt h)
 object-sound w scope ms vs (more (part (method f) now later) ts) s h k =
-    with_key-sound w (key_of w (last_of vs)) (λ key. make (function_cell f key scope values.Undefined) (λ a. go (part (object ms) (joined (dones vs) (more (done (values.Object a)) now)) ts)))
+    with_key-sound w (key_of w (last_of vs))
+    (λ key. make (function_cell f key scope values.Undefined)
+    (λ a. go (part (object ms) (joined (dones vs) (more (done (values.Object a)) now)) ts)))
     (method-sound w scope ms vs f now ts s h k.0.1 k.1)
 object-sound w scope ms vs (more _ ts) s h k = tt
 
@@ -374,31 +408,46 @@ pub row-sound : (p : Program) (s : State) (scope : Addr) (f : Form) (vs : List V
 row-sound p s scope (script number names) vs later h o n k t = script-sound p s number names later h t
 row-sound p s scope (enter node) vs later h o n k t = enter-sound s.world node later t
 row-sound p s scope (enter_debugger node) vs later h o n k t = enter-sound s.world node later t
-row-sound p s scope (enter_for node constant names) vs later h o n k t = enter_for-sound s.world scope node constant names later o n t
+row-sound p s scope (enter_for node constant names) vs later h o n k t =
+    enter_for-sound s.world scope node constant names later o n t
 row-sound p s scope (enter_for_of node b) vs later h o n k t = enter_for_of-sound s.world scope node b later o n t
 row-sound p s scope (block names) vs later h o n k t = block-sound s.world scope names later o n t
 row-sound p s scope (initialize name) vs later h o n k t = (argument-sound s.world vs 0 k, λ v l. tt)
 row-sound p s scope choose vs later h o n k t = chosen-sound s.world (is_truthy s.world (only vs)) later t
-row-sound p s scope both vs later h o n k t = kept-sound s.world (is_truthy s.world (only vs)) (only vs) later (argument-sound s.world vs 0 k) t
-row-sound p s scope either vs later h o n k t = otherwise-sound s.world (is_truthy s.world (only vs)) (only vs) later (argument-sound s.world vs 0 k) t
+row-sound p s scope both vs later h o n k t =
+    kept-sound s.world (is_truthy s.world (only vs)) (only vs) later (argument-sound s.world vs 0 k) t
+row-sound p s scope either vs later h o n k t =
+    otherwise-sound s.world (is_truthy s.world (only vs)) (only vs) later (argument-sound s.world vs 0 k) t
 row-sound p s scope (loop stage a) vs later h o n k t = loop-sound s.world h.world stage a vs later n t
-row-sound p s scope (list_of b) vs later h o n k t = list-sound s.world b (only vs) later n (argument-sound s.world vs 0 k) t
-row-sound p s scope (turn_of b i) vs later h o n k t = turn_row-sound s.world scope b i (elements_of s.world later i) later o n (elements-sound s.world h.world later i) t
+row-sound p s scope (list_of b) vs later h o n k t =
+    list-sound s.world b (only vs) later n (argument-sound s.world vs 0 k) t
+row-sound p s scope (turn_of b i) vs later h o n k t =
+    turn_row-sound s.world scope b i (elements_of s.world later i) later o n (elements-sound s.world h.world later i) t
 row-sound p s scope this vs later h o n k t = this_of-sound p s h
-row-sound p s scope (read r) vs later h o n k t = get-sound s.world h.world h.built_ins scope r vs give (give-sound s.world)
-row-sound p s scope (typeof_name x) vs later h o n k t = type_of-sound s.world x (found s.world scope x) (found-sound s.world h.world scope x)
-row-sound p s scope (unary op) vs later h o n k t = with_result-sound s.world (unary_result s.world op (only vs)) give (unary-sound s.world s.world op (only vs)) (give-sound s.world)
-row-sound p s scope (binary op) vs later h o n k t = with_result-sound s.world (binary_result s.world op (argument vs 0) (argument vs 1)) give (binary-sound s.world s.world op (argument vs 0) (argument vs 1)) (give-sound s.world)
+row-sound p s scope (read r) vs later h o n k t =
+    get-sound s.world h.world h.built_ins scope r vs give (give-sound s.world)
+row-sound p s scope (typeof_name x) vs later h o n k t =
+    type_of-sound s.world x (found s.world scope x) (found-sound s.world h.world scope x)
+row-sound p s scope (unary op) vs later h o n k t =
+    with_result-sound s.world (unary_result s.world op (only vs)) give (unary-sound s.world s.world op (only vs))
+    (give-sound s.world)
+row-sound p s scope (binary op) vs later h o n k t =
+    with_result-sound s.world (binary_result s.world op (argument vs 0) (argument vs 1)) give
+    (binary-sound s.world s.world op (argument vs 0) (argument vs 1)) (give-sound s.world)
 row-sound p s scope comma vs later h o n k t = comma-sound s.world later t
 row-sound p s scope (function f) vs later h o n k t = function-sound p s scope f h o
 row-sound p s scope array vs later h o n k t = make_object-sound s.world (cells.Array vs) k tt
 row-sound p s scope (object ms) vs later h o n k t = object-sound s.world scope ms vs later o k t
-row-sound p s scope (compound op r) vs later h o n k t = compound-sound s.world h.world h.built_ins scope op r vs later k t
+row-sound p s scope (compound op r) vs later h o n k t =
+    compound-sound s.world h.world h.built_ins scope op r vs later k t
 row-sound p s scope (assign r) vs later h o n k t = assign-sound s.world scope r vs k
-row-sound p s scope (update op prefix r) vs later h o n k t = update_row-sound s.world h.world h.built_ins scope op prefix r vs
-row-sound p s scope (delete r) vs later h o n k t = remove-sound s.world s.world r vs (give (values.Bool true)) (λ v l. tt)
+row-sound p s scope (update op prefix r) vs later h o n k t =
+    update_row-sound s.world h.world h.built_ins scope op prefix r vs
+row-sound p s scope (delete r) vs later h o n k t =
+    remove-sound s.world s.world r vs (give (values.Bool true)) (λ v l. tt)
 row-sound p s scope (call m node) vs later h o n k t = call-sound p s m vs h k
-row-sound p s scope (call_of r m node) vs later h o n k t = callee-sound s.world h.world h.built_ins scope r m node vs later k t
+row-sound p s scope (call_of r m node) vs later h o n k t =
+    callee-sound s.world h.world h.built_ins scope r m node vs later k t
 row-sound p s scope (frame node a) vs later h o n k t = tt
 row-sound p s scope return_ vs later h o n k t = argument-sound s.world vs 0 k
 row-sound p s scope break_ vs later h o n k t = tt
@@ -418,7 +467,8 @@ catch-sound w scope None x end s h k = tt
 catch-sound w scope (Some n) x end s h k = tt
 catch-sound w scope None x (more t ts) s h k = settle-sound w t k.0
 catch-sound w scope (Some n) x (more t ts) s h k =
-    new_scope-sound w scopes.Catch [] scope (record { name = n; constant = false; value = Some x } ∷ []) (λ a. go (settled (scoped a) (one (settle t)) end)) s (h, tt)
+    new_scope-sound w scopes.Catch [] scope (record { name = n; constant = false; value = Some x } ∷ [])
+    (λ a. go (settled (scoped a) (one (settle t)) end)) s (h, tt)
     (λ v l a e. scoped-sound v (settle t) a (sound-term w v l (settle t) (settle-sound w t k.0)) e)
 
 pub taken-sound : (w : World) (scope : Addr) (f : Form) (c : Completion) (later : Terms)

@@ -66,14 +66,19 @@ around-sound : (p : Program) (scope : Addr) (f : Form) (later : Terms) (s : Stat
     → WalkFollows s x
     → SoundWalked p s x
     → SoundMove p (around p scope f later s x)
-around-sound p scope f later s (all_values vs) h o n k g q = perform-sound p (row p s scope f vs later) s h (row-sound p s scope f vs later h o n q k)
+around-sound p scope f later s (all_values vs) h o n k g q =
+    perform-sound p (row p s scope f vs later) s h (row-sound p s scope f vs later h o n q k)
 around-sound p scope f later s (moved (goes now t told)) h o n k g q =
-    let l = later_of s t g in
-    (q.0, settled-sound t.world f now later (sound-form s.world t.world l f n) q.1 (sound-terms s.world t.world l later k))
+    let l = later_of s t g in (
+      q.0,
+      settled-sound t.world f now later (sound-form s.world t.world l f n) q.1
+          (sound-terms s.world t.world l later k),
+    )
 around-sound p scope f later s (moved (travels c t)) h o n k g q =
     let l = later_of s t g in
     perform-sound p (taken scope f c later) t q.0
-    (taken-sound t.world scope f c later (sound-scope s.world t.world l (Some scope) o) (sound-form s.world t.world l f n) q.1 (sound-terms s.world t.world l later k))
+    (taken-sound t.world scope f c later (sound-scope s.world t.world l (Some scope) o)
+    (sound-form s.world t.world l f n) q.1 (sound-terms s.world t.world l later k))
 around-sound p scope f later s (moved (has_effect t)) h o n k g q = q
 around-sound p scope f later s (moved (is_full what t)) h o n k g q = q
 
@@ -97,7 +102,8 @@ mutual
   next-sound p scope (done v) s h o k = (h, k)
   next-sound p scope (standing v place) s h o k = (h, k)
   next-sound p scope (part f now later) s h o k =
-      around-sound p scope f later s (walk p (scope_in f scope) now s) h o k.0 k.2 (walk-follows p (scope_in f scope) now s)
+      around-sound p scope f later s (walk p (scope_in f scope) now s) h o k.0 k.2
+      (walk-follows p (scope_in f scope) now s)
       (walk-sound p (scope_in f scope) now s h (inner-sound s.world f scope k.0 o) k.1)
 
   pub walk-sound : (p : Program) (scope : Addr) (ts : Terms) (s : State)
@@ -106,10 +112,12 @@ mutual
       → SoundTerms s.world ts
       → SoundWalked p s (walk p scope ts s)
   walk-sound p scope end s h o k = tt
-  walk-sound p scope (more (done v) ts) s h o k = with_value-sound p s v (walk p scope ts s) k.0 (walk-follows p scope ts s) (walk-sound p scope ts s h o k.1)
+  walk-sound p scope (more (done v) ts) s h o k =
+      with_value-sound p s v (walk p scope ts s) k.0 (walk-follows p scope ts s) (walk-sound p scope ts s h o k.1)
   walk-sound p scope (more (standing v place) ts) s h o k = (h, k.0)
   walk-sound p scope (more (part f now later) ts) s h o k =
-      inside-sound p s ts (next p scope (part f now later) s) k.1 (next-follows p scope (part f now later) s) (next-sound p scope (part f now later) s h o k.0)
+      inside-sound p s ts (next p scope (part f now later) s) k.1 (next-follows p scope (part f now later) s)
+      (next-sound p scope (part f now later) s h o k.0)
 
 -- ---- runs
 
@@ -144,4 +152,7 @@ pub steps-sound : (k : ℕ) (p : Program) (scope : Addr) (r : Run)
 steps-sound zero p scope r o h = h
 steps-sound (suc k) p scope r o h =
     let q : Run = step_in p scope r in
-    steps-sound k p scope q (sound-scope (state_of r).world (state_of q).world (later_of (state_of r) (state_of q) (step-follows p scope r)) (Some scope) o) (step-sound p scope r o h)
+    steps-sound k p scope q
+    (sound-scope (state_of r).world (state_of q).world (later_of (state_of r) (state_of q) (step-follows p scope r))
+    (Some scope) o)
+    (step-sound p scope r o h)

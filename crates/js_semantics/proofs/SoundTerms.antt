@@ -53,7 +53,8 @@ mutual
   pub sound-term : (w v : World) → Later w v → (t : Term) → SoundTerm w t → SoundTerm v t
   sound-term w v l (done u) h = sound-value w v l u h
   sound-term w v l (standing u place) h = sound-value w v l u h
-  sound-term w v l (part f now later) h = (sound-form w v l f h.0, sound-terms w v l now h.1, sound-terms w v l later h.2)
+  sound-term w v l (part f now later) h =
+      (sound-form w v l f h.0, sound-terms w v l now h.1, sound-terms w v l later h.2)
 
   pub sound-terms : (w v : World) → Later w v → (ts : Terms) → SoundTerms w ts → SoundTerms v ts
   sound-terms w v l end h = tt
@@ -65,7 +66,8 @@ sound-program w v l (t ∷ ts) h = (sound-term w v l t.tree h.0, sound-program w
 
 sound-frames : (w v : World) → Later w v → (fs : List Frame) → SoundFrames w fs → SoundFrames v fs
 sound-frames w v l [] h = tt
-sound-frames w v l (f ∷ fs) h = ((sound-value w v l f.receiver h.0.0, sound-scope w v l (Some f.scope) h.0.1), sound-frames w v l fs h.1)
+sound-frames w v l (f ∷ fs) h =
+    ((sound-value w v l f.receiver h.0.0, sound-scope w v l (Some f.scope) h.0.1), sound-frames w v l fs h.1)
 
 pub sound-built_ins : (w v : World) → Later w v → HasBuiltIns w → HasBuiltIns v
 sound-built_ins w v l h = record {
@@ -137,7 +139,8 @@ pub at_update-sound : (w : World) (scope : Option Addr) (later : Terms)
     → SoundTerms w later
     → SoundTerm w (at_update scope later)
 at_update-sound w scope later h k =
-    either-sound w (is_done (update_of later)) (at_test scope later) (part (loop updating scope) (one (update_of later)) later)
+    either-sound w (is_done (update_of later)) (at_test scope later)
+    (part (loop updating scope) (one (update_of later)) later)
     (at_test-sound w scope later h k) (h, one-sound w (update_of later) (update-sound w later k), k)
 
 behind_body-sound : (w : World) (scope : Option Addr) (later : Terms)
@@ -152,7 +155,8 @@ pub at_body-sound : (w : World) (scope : Option Addr) (later : Terms)
     → SoundTerms w later
     → SoundTerm w (at_body scope later)
 at_body-sound w scope later h k =
-    either-sound w (is_done (body_of_loop later)) (behind_body scope later) (part (loop body scope) (one (body_of_loop later)) later)
+    either-sound w (is_done (body_of_loop later)) (behind_body scope later)
+    (part (loop body scope) (one (body_of_loop later)) later)
     (behind_body-sound w scope later h k) (h, one-sound w (body_of_loop later) (body-sound w later k), k)
 
 behind_first-sound : (w : World) (scope : Option Addr) (later : Terms)
@@ -187,7 +191,9 @@ pub settled-sound : (w : World) (f : Form) (now later : Terms)
     → SoundTerms w now
     → SoundTerms w later
     → SoundTerm w (settled f now later)
-settled-sound w f now later h n k = either-sound w (all_done now) (finished f now later) (part f now later) (finished-sound w f now later h n k) (h, n, k)
+settled-sound w f now later h n k =
+    either-sound w (all_done now) (finished f now later) (part f now later) (finished-sound w f now later h n k)
+    (h, n, k)
 
 pub settle-sound : (w : World) (t : Term) → SoundTerm w t → SoundTerm w (settle t)
 settle-sound w (done v) h = h
@@ -255,23 +261,44 @@ perform-sound p (go t) s h k = (h, k)
 perform-sound p (raise v) s h k = (h, k)
 perform-sound p (leave c) s h k = (h, k)
 perform-sound p (make c k) s h a =
-    after_sound p s (make_cell s.world c) (λ x. perform (k x)) (λ x v. Later s.world v × Leads (λ kind. kind ≡ kind_of c) (read_cell v x)) h
-    (tried p s (make_cell s.world c) (λ x v. Leads (λ kind. kind ≡ kind_of c) (read_cell v x)) h (making-keeps s.world c) (making-sound s.world c h.world a.0) (making-leads s.world c))
+    after_sound p s (make_cell s.world c) (λ x. perform (k x))
+    (λ x v. Later s.world v × Leads (λ kind. kind ≡ kind_of c) (read_cell v x)) h
+    (tried p s (make_cell s.world c) (λ x v. Leads (λ kind. kind ≡ kind_of c) (read_cell v x)) h
+    (making-keeps s.world c) (making-sound s.world c h.world a.0) (making-leads s.world c))
     (λ x v q n. perform-sound p (k x) (with_world s v) n (a.1 v x q.0 q.1))
 perform-sound p (write x c k) s h a =
     after_sound p s (write_cell s.world x c) (λ u. perform k) (λ u v. Later s.world v × Unit {0}) h
-    (tried p s (write_cell s.world x c) (λ u v. Unit {0}) h (writing-keeps s.world x c) (writing-sound s.world x c h.world a.0) (fine_unit (write_cell s.world x c)))
+    (tried p s (write_cell s.world x c) (λ u v. Unit {0}) h (writing-keeps s.world x c)
+    (writing-sound s.world x c h.world a.0) (fine_unit (write_cell s.world x c)))
     (λ u v q n. perform-sound p k (with_world s v) n (a.1 v q.0))
 perform-sound p (print vs text) s h k =
-    outside_sound p (is_evaluation s.world) s (goes (done values.Undefined) (record s { printed = s.printed ++ text ∷ [] }) _) h
+    outside_sound p (is_evaluation s.world) s
+    (goes (done values.Undefined) (record s { printed = s.printed ++ text ∷ [] }) _) h
     (record { world = h.world; built_ins = h.built_ins; program = h.program; frames = h.frames; outer = h.outer }, tt)
 perform-sound p (take_line k) s h a =
     let u : State = record s { input = other_lines s.input } in
     outside_sound p (is_evaluation s.world) s (perform (k (first_line s.input)) u) h
-    (perform-sound p (k (first_line s.input)) u (record { world = h.world; built_ins = h.built_ins; program = h.program; frames = h.frames; outer = h.outer }) (a (first_line s.input)))
+    (perform-sound p (k (first_line s.input)) u
+    (record { world = h.world; built_ins = h.built_ins; program = h.program; frames = h.frames; outer = h.outer })
+    (a (first_line s.input)))
 perform-sound p (set_here m k) s h a =
-    perform-sound p k (with_here s m) (record { world = h.world; built_ins = h.built_ins; program = h.program; frames = frames-moved s.world s.frames m h.frames; outer = h.outer }) a
+    perform-sound p k (with_here s m)
+    (record { world = h.world; built_ins = h.built_ins; program = h.program; frames = frames-moved s.world s.frames m h.frames; outer = h.outer })
+    a
 perform-sound p (push_frame f k) s h a =
-    perform-sound p k (record s { frames = f ∷ s.frames }) (record { world = h.world; built_ins = h.built_ins; program = h.program; frames = (a.0, h.frames); outer = h.outer }) a.1
+    perform-sound p k (record s { frames = f ∷ s.frames })
+    (record {
+      world = h.world;
+      built_ins = h.built_ins;
+      program = h.program;
+      frames = (
+        a.0,
+        h.frames,
+      );
+      outer = h.outer;
+    })
+    a.1
 perform-sound p (pop_frame k) s h a =
-    perform-sound p k (record s { frames = rest_of s.frames }) (record { world = h.world; built_ins = h.built_ins; program = h.program; frames = frames-rest s.world s.frames h.frames; outer = h.outer }) a
+    perform-sound p k (record s { frames = rest_of s.frames })
+    (record { world = h.world; built_ins = h.built_ins; program = h.program; frames = frames-rest s.world s.frames h.frames; outer = h.outer })
+    a

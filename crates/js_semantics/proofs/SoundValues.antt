@@ -54,7 +54,8 @@ leads-as P c None p h = absurd h
 leads-as P c (Some d) p h = subst P (sym h) p
 
 pub make_text-sound : (w : World) (us : List ℕ) (k : Value → Action) → SoundK w k → SoundAction w (make_text us k)
-make_text-sound w us k h = (tt, λ v a l e. h v l (values.Text a) (leads-as IsTextKind (cells.Text us) (read_cell v a) refl e))
+make_text-sound w us k h =
+    (tt, λ v a l e. h v l (values.Text a) (leads-as IsTextKind (cells.Text us) (read_cell v a) refl e))
 
 pub make_object-sound : (w : World) (c : Cell)
     → SoundCell w c
@@ -98,11 +99,13 @@ safe-sound w z = result_if w (nat_lt (nat_abs z) (2 ^ 53)) (a_number z) not_safe
 
 quotient-sound : (w : World) (y z : ℤ) → SoundResult w (quotient y z)
 quotient-sound w y z =
-    result_if w (same_integer z (pos 0)) not_safe (if same_integer (int_rem y z) (pos 0) then safe (int_div y z) else not_safe) tt
+    result_if w (same_integer z (pos 0)) not_safe
+    (if same_integer (int_rem y z) (pos 0) then safe (int_div y z) else not_safe) tt
     (result_if w (same_integer (int_rem y z) (pos 0)) (safe (int_div y z)) not_safe (safe-sound w (int_div y z)) tt)
 
 remainder-sound : (w : World) (y z : ℤ) → SoundResult w (remainder y z)
-remainder-sound w y z = result_if w (same_integer z (pos 0)) not_safe (safe (int_rem y z)) tt (safe-sound w (int_rem y z))
+remainder-sound w y z =
+    result_if w (same_integer z (pos 0)) not_safe (safe (int_rem y z)) tt (safe-sound w (int_rem y z))
 
 on_numbers-sound : (w : World) (o : BinaryOperator) (y z : ℤ) → SoundResult w (on_numbers o y z)
 on_numbers-sound w binaries.Add y z = safe-sound w (y +ℤ z)
@@ -194,7 +197,8 @@ property_at-sound : (w : World) (ps : List Property) (key : List ℕ)
     → SoundProperties w ps
     → SoundProperty w (property_at ps key)
 property_at-sound w [] key h = tt
-property_at-sound w (p ∷ ps) key h = property_if w (same_units p.key key) p (property_at ps key) h.0 (property_at-sound w ps key h.1)
+property_at-sound w (p ∷ ps) key h =
+    property_if w (same_units p.key key) p (property_at ps key) h.0 (property_at-sound w ps key h.1)
 
 own_or-sound : (w : World) (o : Option Property) (r : Result)
     → SoundProperty w o
@@ -220,30 +224,44 @@ array_method-sound w b key =
     let n : Result = a_value values.Undefined in
     let slice : Result = if same_units key (codes "slice") then a_value (function_value built_ins.ArraySlice) else n in
     let join : Result = if same_units key (codes "join") then a_value (function_value built_ins.ArrayJoin) else slice in
-    let index : Result = if same_units key (codes "indexOf") then a_value (function_value built_ins.ArrayIndexOf) else join in
+    let index : Result = if same_units key (codes "indexOf") then a_value (function_value built_ins.ArrayIndexOf)
+    else join in
     let pop : Result = if same_units key (codes "pop") then a_value (function_value built_ins.ArrayPop) else index in
-    result_if w (same_units key (codes "push")) (a_value (function_value built_ins.ArrayPush)) pop (b.functions built_ins.ArrayPush)
-    (result_if w (same_units key (codes "pop")) (a_value (function_value built_ins.ArrayPop)) index (b.functions built_ins.ArrayPop)
-    (result_if w (same_units key (codes "indexOf")) (a_value (function_value built_ins.ArrayIndexOf)) join (b.functions built_ins.ArrayIndexOf)
-    (result_if w (same_units key (codes "join")) (a_value (function_value built_ins.ArrayJoin)) slice (b.functions built_ins.ArrayJoin)
-    (result_if w (same_units key (codes "slice")) (a_value (function_value built_ins.ArraySlice)) n (b.functions built_ins.ArraySlice) tt))))
+    result_if w (same_units key (codes "push")) (a_value (function_value built_ins.ArrayPush)) pop
+    (b.functions built_ins.ArrayPush)
+    (result_if w (same_units key (codes "pop")) (a_value (function_value built_ins.ArrayPop)) index
+    (b.functions built_ins.ArrayPop)
+    (result_if w (same_units key (codes "indexOf")) (a_value (function_value built_ins.ArrayIndexOf)) join
+    (b.functions built_ins.ArrayIndexOf)
+    (result_if w (same_units key (codes "join")) (a_value (function_value built_ins.ArrayJoin)) slice
+    (b.functions built_ins.ArrayJoin)
+    (result_if w (same_units key (codes "slice")) (a_value (function_value built_ins.ArraySlice)) n
+    (b.functions built_ins.ArraySlice) tt))))
 
 string_method-sound : (w : World) → HasBuiltIns w → (key : List ℕ) → SoundResult w (string_method key)
 string_method-sound w b key =
     let n : Result = a_value values.Undefined in
-    let unit : Result = if same_units key (codes "charCodeAt") then a_value (function_value built_ins.StringCharCodeAt) else n in
-    let slice : Result = if same_units key (codes "slice") then a_value (function_value built_ins.StringSlice) else unit in
-    result_if w (same_units key (codes "indexOf")) (a_value (function_value built_ins.StringIndexOf)) slice (b.functions built_ins.StringIndexOf)
-    (result_if w (same_units key (codes "slice")) (a_value (function_value built_ins.StringSlice)) unit (b.functions built_ins.StringSlice)
-    (result_if w (same_units key (codes "charCodeAt")) (a_value (function_value built_ins.StringCharCodeAt)) n (b.functions built_ins.StringCharCodeAt) tt))
+    let unit : Result = if same_units key (codes "charCodeAt") then a_value (function_value built_ins.StringCharCodeAt)
+    else n in
+    let slice : Result = if same_units key (codes "slice") then a_value (function_value built_ins.StringSlice)
+    else unit in
+    result_if w (same_units key (codes "indexOf")) (a_value (function_value built_ins.StringIndexOf)) slice
+    (b.functions built_ins.StringIndexOf)
+    (result_if w (same_units key (codes "slice")) (a_value (function_value built_ins.StringSlice)) unit
+    (b.functions built_ins.StringSlice)
+    (result_if w (same_units key (codes "charCodeAt")) (a_value (function_value built_ins.StringCharCodeAt)) n
+    (b.functions built_ins.StringCharCodeAt) tt))
 
 element-sound : (w : World)
     → HasBuiltIns w
     → (vs : List Value) (key : List ℕ) (o : Option ℕ)
     → SoundValues w vs
     → SoundResult w (element_or_method vs key o)
-element-sound w b vs key (Some i) h = value_or-sound w (slice_get vs i) (a_value values.Undefined) (get-value w vs i h) tt
-element-sound w b vs key None h = result_if w (same_units key (codes "length")) (a_number (pos (length vs))) (array_method key) tt (array_method-sound w b key)
+element-sound w b vs key (Some i) h =
+    value_or-sound w (slice_get vs i) (a_value values.Undefined) (get-value w vs i h) tt
+element-sound w b vs key None h =
+    result_if w (same_units key (codes "length")) (a_number (pos (length vs))) (array_method key) tt
+    (array_method-sound w b key)
 
 unit-sound : (w : World) (o : Option ℕ) → SoundResult w (unit_or_undefined o)
 unit-sound w (Some u) = tt
@@ -254,17 +272,21 @@ text_property-sound : (w : World)
     → (us key : List ℕ) (o : Option ℕ)
     → SoundResult w (unit_or_method us key o)
 text_property-sound w b us key (Some i) = unit-sound w (slice_get us i)
-text_property-sound w b us key None = result_if w (same_units key (codes "length")) (a_number (pos (length us))) (string_method key) tt (string_method-sound w b key)
+text_property-sound w b us key None =
+    result_if w (same_units key (codes "length")) (a_number (pos (length us))) (string_method key) tt
+    (string_method-sound w b key)
 
 function_property-sound : (w : World) (n : List ℕ) (l : ℕ) (key : List ℕ) → SoundResult w (function_property n l key)
 function_property-sound w n l key =
     let rest : Result = if same_units key (codes "length") then a_number (pos l) else a_value values.Undefined in
-    result_if w (same_units key (codes "name")) (a_text n) rest tt (result_if w (same_units key (codes "length")) (a_number (pos l)) (a_value values.Undefined) tt tt)
+    result_if w (same_units key (codes "name")) (a_text n) rest tt
+    (result_if w (same_units key (codes "length")) (a_number (pos l)) (a_value values.Undefined) tt tt)
 
 error_property-sound : (w : World) (class : ErrorClass) (key : List ℕ) → SoundResult w (error_property class key)
 error_property-sound w class key =
     let rest : Result = if same_units key (codes "message") then a_text [] else a_value values.Undefined in
-    result_if w (same_units key (codes "name")) (a_text (class_text class)) rest tt (result_if w (same_units key (codes "message")) (a_text []) (a_value values.Undefined) tt tt)
+    result_if w (same_units key (codes "name")) (a_text (class_text class)) rest tt
+    (result_if w (same_units key (codes "message")) (a_text []) (a_value values.Undefined) tt tt)
 
 cell_property-sound : (w : World)
     → HasBuiltIns w
@@ -272,9 +294,14 @@ cell_property-sound : (w : World)
     → ((c : Cell) → o ≡ Some c → SoundCell w c)
     → SoundResult w (cell_property o key)
 cell_property-sound w b None key h = tt
-cell_property-sound w b (Some (cells.Object ps)) key h = own_or-sound w (property_at ps key) (a_value values.Undefined) (property_at-sound w ps key (h (cells.Object ps) refl)) tt
-cell_property-sound w b (Some (cells.Error class ps)) key h = own_or-sound w (property_at ps key) (error_property class key) (property_at-sound w ps key (h (cells.Error class ps) refl)) (error_property-sound w class key)
-cell_property-sound w b (Some (cells.Array vs)) key h = element-sound w b vs key (index_of_key key) (h (cells.Array vs) refl)
+cell_property-sound w b (Some (cells.Object ps)) key h =
+    own_or-sound w (property_at ps key) (a_value values.Undefined)
+    (property_at-sound w ps key (h (cells.Object ps) refl)) tt
+cell_property-sound w b (Some (cells.Error class ps)) key h =
+    own_or-sound w (property_at ps key) (error_property class key)
+    (property_at-sound w ps key (h (cells.Error class ps) refl)) (error_property-sound w class key)
+cell_property-sound w b (Some (cells.Array vs)) key h =
+    element-sound w b vs key (index_of_key key) (h (cells.Array vs) refl)
 cell_property-sound w b (Some (cells.Function code n l s t)) key h = function_property-sound w n l key
 cell_property-sound w b (Some (cells.Text us)) key h = tt
 cell_property-sound w b (Some (cells.Bindings k n o ns)) key h = tt
@@ -324,7 +351,9 @@ array_change-sound : (w : World) (a : Addr) (vs : List Value) (key : List ℕ) (
     → SoundValue w x
     → SoundWritten w (array_change a vs key o x)
 array_change-sound w a vs key (Some i) x h = written_if w (nat_le i (length vs)) _ _ h tt
-array_change-sound w a vs key None x h = written_if w (same_units key (codes "length")) (length_change a vs x) (not_changeable key) (length-sound w a vs x) tt
+array_change-sound w a vs key None x h =
+    written_if w (same_units key (codes "length")) (length_change a vs x) (not_changeable key) (length-sound w a vs x)
+    tt
 
 cell_change-sound : (w : World) (a : Addr) (o : Option Cell) (key : List ℕ) (x : Value)
     → SoundValue w x
@@ -398,11 +427,15 @@ outward-sound : (w : World) (o : Option Addr) (further : Addr → Option Found)
 outward-sound w None further h = tt
 outward-sound w (Some a) further h = h a
 
-in-sound : (w : World) (a : Addr) (o : Option Cell) (name : List ℕ) (further : Addr → Option Found) → ((c : Cell) → o ≡ Some c → SoundCell w c) → ((b : Addr) → SoundFound w (further b)) → SoundFound w (found_in a o name further)
+in-sound : (w : World) (a : Addr) (o : Option Cell) (name : List ℕ) (further : Addr → Option Found)
+    → ((c : Cell) → o ≡ Some c → SoundCell w c)
+    → ((b : Addr) → SoundFound w (further b))
+    → SoundFound w (found_in a o name further)
 in-sound w a None name further h k = tt
 in-sound w a (Some (cells.Bindings kind n outer ns)) name further h k =
     let c = h (cells.Bindings kind n outer ns) refl in
-    here-sound w a (binding_of ns name) (found_outward outer further) (binding-sound w ns name c.1) (outward-sound w outer further k)
+    here-sound w a (binding_of ns name) (found_outward outer further) (binding-sound w ns name c.1)
+    (outward-sound w outer further k)
 in-sound w a (Some (cells.Object ps)) name further h k = tt
 in-sound w a (Some (cells.Error class ps)) name further h k = tt
 in-sound w a (Some (cells.Array vs)) name further h k = tt
@@ -411,7 +444,8 @@ in-sound w a (Some (cells.Text us)) name further h k = tt
 
 within-sound : (n : ℕ) (w : World) (name : List ℕ) → IsSound w → (a : Addr) → SoundFound w (found_within n w name a)
 within-sound zero w name s a = tt
-within-sound (suc n) w name s a = in-sound w a (read_cell w a) name (found_within n w name) (λ c e. read-sound w a c e s) (within-sound n w name s)
+within-sound (suc n) w name s a =
+    in-sound w a (read_cell w a) name (found_within n w name) (λ c e. read-sound w a c e s) (within-sound n w name s)
 
 pub found-sound : (w : World) → IsSound w → (scope : Addr) (name : List ℕ) → SoundFound w (found w scope name)
 found-sound w s scope name = within-sound (length w.base + length w.scratch) w name s scope
@@ -465,7 +499,8 @@ read_result-sound w s b scope (to_member key) [] = tt
 read_result-sound w s b scope (to_member key) (o ∷ vs) = property-sound w s b o key
 read_result-sound w s b scope to_index [] = tt
 read_result-sound w s b scope to_index (o ∷ []) = tt
-read_result-sound w s b scope to_index (o ∷ i ∷ vs) = keyed_result-sound w (key_of w i) (property_of w o) (property-sound w s b o)
+read_result-sound w s b scope to_index (o ∷ i ∷ vs) =
+    keyed_result-sound w (key_of w i) (property_of w o) (property-sound w s b o)
 
 pub get-sound : (w : World)
     → IsSound w
@@ -479,19 +514,26 @@ pub put-sound : (w v : World) (scope : Addr) (r : Reference) (vs : List Value) (
     → SoundValue v x
     → SoundThen v k
     → SoundAction v (put w scope r vs x k)
-put-sound w v scope (to_name n) vs x k h t = with_written-sound v (name_written n (found w scope n) x) k (name_written-sound v n (found w scope n) x h) t
+put-sound w v scope (to_name n) vs x k h t =
+    with_written-sound v (name_written n (found w scope n) x) k (name_written-sound v n (found w scope n) x h) t
 put-sound w v scope (to_member key) [] x k h t = tt
-put-sound w v scope (to_member key) (o ∷ vs) x k h t = with_written-sound v (property_written w o key x) k (property_written-sound w v o key x h) t
+put-sound w v scope (to_member key) (o ∷ vs) x k h t =
+    with_written-sound v (property_written w o key x) k (property_written-sound w v o key x h) t
 put-sound w v scope to_index [] x k h t = tt
 put-sound w v scope to_index (o ∷ []) x k h t = tt
-put-sound w v scope to_index (o ∷ i ∷ vs) x k h t = with_key-sound v (key_of w i) (λ key. with_written (property_written w o key x) k) (λ key. with_written-sound v (property_written w o key x) k (property_written-sound w v o key x h) t)
+put-sound w v scope to_index (o ∷ i ∷ vs) x k h t =
+    with_key-sound v (key_of w i) (λ key. with_written (property_written w o key x) k)
+    (λ key. with_written-sound v (property_written w o key x) k (property_written-sound w v o key x h) t)
 
 pub remove-sound : (w v : World) (r : Reference) (vs : List Value) (k : Action)
     → SoundThen v k
     → SoundAction v (remove w r vs k)
 remove-sound w v (to_name n) vs k t = tt
 remove-sound w v (to_member key) [] k t = tt
-remove-sound w v (to_member key) (o ∷ vs) k t = with_written-sound v (property_deleted w o key) k (property_deleted-sound w v o key) t
+remove-sound w v (to_member key) (o ∷ vs) k t =
+    with_written-sound v (property_deleted w o key) k (property_deleted-sound w v o key) t
 remove-sound w v to_index [] k t = tt
 remove-sound w v to_index (o ∷ []) k t = tt
-remove-sound w v to_index (o ∷ i ∷ vs) k t = with_key-sound v (key_of w i) (λ key. with_written (property_deleted w o key) k) (λ key. with_written-sound v (property_deleted w o key) k (property_deleted-sound w v o key) t)
+remove-sound w v to_index (o ∷ i ∷ vs) k t =
+    with_key-sound v (key_of w i) (λ key. with_written (property_deleted w o key) k)
+    (λ key. with_written-sound v (property_deleted w o key) k (property_deleted-sound w v o key) t)

@@ -33,70 +33,122 @@ use Rattle.js_semantics.proofs.TreeFolds.{Former, Mapper, Level, Claims, Known, 
 
 -- the parts' clean trees in its places
 abbrev pub CleanLayer : Former → Type 0
-CleanLayer F = F Expression Property Key Statement Statements Handler trees.Declarator trees.Declarators Expressions Properties Statements
+CleanLayer F =
+    F Expression Property Key Statement Statements Handler trees.Declarator trees.Declarators Expressions Properties Statements
 
 -- what is made of the parts, and the parts' clean trees
 abbrev pub made_parts : (F : Former) → Mapper F → Level F → Layer F
-made_parts F change = change Expr PropertyDefinition PropertyName Stmt Block Catch Declarator Declarators Exprs PropertyDefinitions Stmts Made PropertyMade PropertyKey Item Items CatchMade DeclaratorMade (List DeclaratorMade) (List Made) (List PropertyMade) Items expression_source property_source key_source statement_source block_source catch_source declarator_source declarators_source expressions_source properties_source statements_source
+made_parts F change =
+    change Expr PropertyDefinition PropertyName Stmt Block Catch Declarator Declarators Exprs PropertyDefinitions Stmts Made PropertyMade PropertyKey Item Items CatchMade DeclaratorMade
+    (List DeclaratorMade) (List Made) (List PropertyMade)
+    Items expression_source property_source key_source statement_source block_source catch_source declarator_source declarators_source expressions_source properties_source statements_source
 
 abbrev pub clean_parts : (F : Former) → Mapper F → Level F → CleanLayer F
-clean_parts F change = change Expr PropertyDefinition PropertyName Stmt Block Catch Declarator Declarators Exprs PropertyDefinitions Stmts Expression Property Key Statement Statements Handler trees.Declarator trees.Declarators Expressions Properties Statements expression_view property_view key_view statement_view block_view catch_view declarator_view declarators_view expressions_view properties_view statements_view
+clean_parts F change =
+    change Expr PropertyDefinition PropertyName Stmt Block Catch Declarator Declarators Exprs PropertyDefinitions Stmts Expression Property Key Statement Statements Handler trees.Declarator trees.Declarators Expressions Properties Statements expression_view property_view key_view statement_view block_view catch_view declarator_view declarators_view expressions_view properties_view statements_view
 
 -- what is made of a tree is made of what is made of its parts
 pub expression_turn : (x : Level Expr-F)
     → expression_source (views.roll-Expr x) ≡ expression_layer (made_parts Expr-F map-Expr x)
-unfolding expression_source property_source key_source statement_source block_source catch_source declarator_source declarators_source expressions_source properties_source statements_source
-expression_turn x = fold-roll-Expr Made PropertyMade PropertyKey Item Items CatchMade DeclaratorMade (List DeclaratorMade) (List Made) (List PropertyMade) Items expression_layer property_layer key_layer statement_layer block_layer catch_layer declarator_layer declarators_layer expressions_layer properties_layer statements_layer x
+unfolding expression_source property_source key_source statement_source block_source catch_source declarator_source
+    declarators_source expressions_source properties_source statements_source
+expression_turn x =
+    fold-roll-Expr Made PropertyMade PropertyKey Item Items CatchMade DeclaratorMade (List DeclaratorMade) (List Made)
+    (List PropertyMade)
+    Items expression_layer property_layer key_layer statement_layer block_layer catch_layer declarator_layer declarators_layer expressions_layer properties_layer statements_layer x
 
 pub property_turn : (x : Level PropertyDefinition-F)
-    → property_source (views.roll-PropertyDefinition x) ≡ property_layer (made_parts PropertyDefinition-F map-PropertyDefinition x)
-unfolding expression_source property_source key_source statement_source block_source catch_source declarator_source declarators_source expressions_source properties_source statements_source
-property_turn x = fold-roll-PropertyDefinition Made PropertyMade PropertyKey Item Items CatchMade DeclaratorMade (List DeclaratorMade) (List Made) (List PropertyMade) Items expression_layer property_layer key_layer statement_layer block_layer catch_layer declarator_layer declarators_layer expressions_layer properties_layer statements_layer x
+    → property_source (views.roll-PropertyDefinition x) ≡ property_layer
+    (made_parts PropertyDefinition-F map-PropertyDefinition x)
+unfolding expression_source property_source key_source statement_source block_source catch_source declarator_source
+    declarators_source expressions_source properties_source statements_source
+property_turn x =
+    fold-roll-PropertyDefinition Made PropertyMade PropertyKey Item Items CatchMade DeclaratorMade (List DeclaratorMade)
+    (List Made) (List PropertyMade)
+    Items expression_layer property_layer key_layer statement_layer block_layer catch_layer declarator_layer declarators_layer expressions_layer properties_layer statements_layer x
 
 pub key_turn : (x : Level PropertyName-F)
     → key_source (views.roll-PropertyName x) ≡ key_layer (made_parts PropertyName-F map-PropertyName x)
-unfolding expression_source property_source key_source statement_source block_source catch_source declarator_source declarators_source expressions_source properties_source statements_source
-key_turn x = fold-roll-PropertyName Made PropertyMade PropertyKey Item Items CatchMade DeclaratorMade (List DeclaratorMade) (List Made) (List PropertyMade) Items expression_layer property_layer key_layer statement_layer block_layer catch_layer declarator_layer declarators_layer expressions_layer properties_layer statements_layer x
+unfolding expression_source property_source key_source statement_source block_source catch_source declarator_source
+    declarators_source expressions_source properties_source statements_source
+key_turn x =
+    fold-roll-PropertyName Made PropertyMade PropertyKey Item Items CatchMade DeclaratorMade (List DeclaratorMade)
+    (List Made) (List PropertyMade)
+    Items expression_layer property_layer key_layer statement_layer block_layer catch_layer declarator_layer declarators_layer expressions_layer properties_layer statements_layer x
 
 pub statement_turn : (x : Level Stmt-F)
     → statement_source (views.roll-Stmt x) ≡ statement_layer (made_parts Stmt-F map-Stmt x)
-unfolding expression_source property_source key_source statement_source block_source catch_source declarator_source declarators_source expressions_source properties_source statements_source
-statement_turn x = fold-roll-Stmt Made PropertyMade PropertyKey Item Items CatchMade DeclaratorMade (List DeclaratorMade) (List Made) (List PropertyMade) Items expression_layer property_layer key_layer statement_layer block_layer catch_layer declarator_layer declarators_layer expressions_layer properties_layer statements_layer x
+unfolding expression_source property_source key_source statement_source block_source catch_source declarator_source
+    declarators_source expressions_source properties_source statements_source
+statement_turn x =
+    fold-roll-Stmt Made PropertyMade PropertyKey Item Items CatchMade DeclaratorMade (List DeclaratorMade) (List Made)
+    (List PropertyMade)
+    Items expression_layer property_layer key_layer statement_layer block_layer catch_layer declarator_layer declarators_layer expressions_layer properties_layer statements_layer x
 
 pub block_turn : (x : Level layers.Block-F)
     → block_source (views.roll-Block x) ≡ block_layer (made_parts layers.Block-F map-Block x)
-unfolding expression_source property_source key_source statement_source block_source catch_source declarator_source declarators_source expressions_source properties_source statements_source
-block_turn x = fold-roll-Block Made PropertyMade PropertyKey Item Items CatchMade DeclaratorMade (List DeclaratorMade) (List Made) (List PropertyMade) Items expression_layer property_layer key_layer statement_layer block_layer catch_layer declarator_layer declarators_layer expressions_layer properties_layer statements_layer x
+unfolding expression_source property_source key_source statement_source block_source catch_source declarator_source
+    declarators_source expressions_source properties_source statements_source
+block_turn x =
+    fold-roll-Block Made PropertyMade PropertyKey Item Items CatchMade DeclaratorMade (List DeclaratorMade) (List Made)
+    (List PropertyMade)
+    Items expression_layer property_layer key_layer statement_layer block_layer catch_layer declarator_layer declarators_layer expressions_layer properties_layer statements_layer x
 
 pub catch_turn : (x : Level layers.Catch-F)
     → catch_source (views.roll-Catch x) ≡ catch_layer (made_parts layers.Catch-F map-Catch x)
-unfolding expression_source property_source key_source statement_source block_source catch_source declarator_source declarators_source expressions_source properties_source statements_source
-catch_turn x = fold-roll-Catch Made PropertyMade PropertyKey Item Items CatchMade DeclaratorMade (List DeclaratorMade) (List Made) (List PropertyMade) Items expression_layer property_layer key_layer statement_layer block_layer catch_layer declarator_layer declarators_layer expressions_layer properties_layer statements_layer x
+unfolding expression_source property_source key_source statement_source block_source catch_source declarator_source
+    declarators_source expressions_source properties_source statements_source
+catch_turn x =
+    fold-roll-Catch Made PropertyMade PropertyKey Item Items CatchMade DeclaratorMade (List DeclaratorMade) (List Made)
+    (List PropertyMade)
+    Items expression_layer property_layer key_layer statement_layer block_layer catch_layer declarator_layer declarators_layer expressions_layer properties_layer statements_layer x
 
 pub declarator_turn : (x : Level layers.Declarator-F)
     → declarator_source (views.roll-Declarator x) ≡ declarator_layer (made_parts layers.Declarator-F map-Declarator x)
-unfolding expression_source property_source key_source statement_source block_source catch_source declarator_source declarators_source expressions_source properties_source statements_source
-declarator_turn x = fold-roll-Declarator Made PropertyMade PropertyKey Item Items CatchMade DeclaratorMade (List DeclaratorMade) (List Made) (List PropertyMade) Items expression_layer property_layer key_layer statement_layer block_layer catch_layer declarator_layer declarators_layer expressions_layer properties_layer statements_layer x
+unfolding expression_source property_source key_source statement_source block_source catch_source declarator_source
+    declarators_source expressions_source properties_source statements_source
+declarator_turn x =
+    fold-roll-Declarator Made PropertyMade PropertyKey Item Items CatchMade DeclaratorMade (List DeclaratorMade)
+    (List Made) (List PropertyMade)
+    Items expression_layer property_layer key_layer statement_layer block_layer catch_layer declarator_layer declarators_layer expressions_layer properties_layer statements_layer x
 
 pub declarators_turn : (x : Level layers.Declarators-F)
-    → declarators_source (views.roll-Declarators x) ≡ declarators_layer (made_parts layers.Declarators-F map-Declarators x)
-unfolding expression_source property_source key_source statement_source block_source catch_source declarator_source declarators_source expressions_source properties_source statements_source
-declarators_turn x = fold-roll-Declarators Made PropertyMade PropertyKey Item Items CatchMade DeclaratorMade (List DeclaratorMade) (List Made) (List PropertyMade) Items expression_layer property_layer key_layer statement_layer block_layer catch_layer declarator_layer declarators_layer expressions_layer properties_layer statements_layer x
+    → declarators_source (views.roll-Declarators x) ≡ declarators_layer
+    (made_parts layers.Declarators-F map-Declarators x)
+unfolding expression_source property_source key_source statement_source block_source catch_source declarator_source
+    declarators_source expressions_source properties_source statements_source
+declarators_turn x =
+    fold-roll-Declarators Made PropertyMade PropertyKey Item Items CatchMade DeclaratorMade (List DeclaratorMade)
+    (List Made) (List PropertyMade)
+    Items expression_layer property_layer key_layer statement_layer block_layer catch_layer declarator_layer declarators_layer expressions_layer properties_layer statements_layer x
 
 pub expressions_turn : (x : Level layers.Exprs-F)
     → expressions_source (views.roll-Exprs x) ≡ expressions_layer (made_parts layers.Exprs-F map-Exprs x)
-unfolding expression_source property_source key_source statement_source block_source catch_source declarator_source declarators_source expressions_source properties_source statements_source
-expressions_turn x = fold-roll-Exprs Made PropertyMade PropertyKey Item Items CatchMade DeclaratorMade (List DeclaratorMade) (List Made) (List PropertyMade) Items expression_layer property_layer key_layer statement_layer block_layer catch_layer declarator_layer declarators_layer expressions_layer properties_layer statements_layer x
+unfolding expression_source property_source key_source statement_source block_source catch_source declarator_source
+    declarators_source expressions_source properties_source statements_source
+expressions_turn x =
+    fold-roll-Exprs Made PropertyMade PropertyKey Item Items CatchMade DeclaratorMade (List DeclaratorMade) (List Made)
+    (List PropertyMade)
+    Items expression_layer property_layer key_layer statement_layer block_layer catch_layer declarator_layer declarators_layer expressions_layer properties_layer statements_layer x
 
 pub properties_turn : (x : Level layers.PropertyDefinitions-F)
-    → properties_source (views.roll-PropertyDefinitions x) ≡ properties_layer (made_parts layers.PropertyDefinitions-F map-PropertyDefinitions x)
-unfolding expression_source property_source key_source statement_source block_source catch_source declarator_source declarators_source expressions_source properties_source statements_source
-properties_turn x = fold-roll-PropertyDefinitions Made PropertyMade PropertyKey Item Items CatchMade DeclaratorMade (List DeclaratorMade) (List Made) (List PropertyMade) Items expression_layer property_layer key_layer statement_layer block_layer catch_layer declarator_layer declarators_layer expressions_layer properties_layer statements_layer x
+    → properties_source (views.roll-PropertyDefinitions x) ≡ properties_layer
+    (made_parts layers.PropertyDefinitions-F map-PropertyDefinitions x)
+unfolding expression_source property_source key_source statement_source block_source catch_source declarator_source
+    declarators_source expressions_source properties_source statements_source
+properties_turn x =
+    fold-roll-PropertyDefinitions Made PropertyMade PropertyKey Item Items CatchMade DeclaratorMade
+    (List DeclaratorMade) (List Made) (List PropertyMade)
+    Items expression_layer property_layer key_layer statement_layer block_layer catch_layer declarator_layer declarators_layer expressions_layer properties_layer statements_layer x
 
 pub statements_turn : (x : Level layers.Stmts-F)
     → statements_source (views.roll-Stmts x) ≡ statements_layer (made_parts layers.Stmts-F map-Stmts x)
-unfolding expression_source property_source key_source statement_source block_source catch_source declarator_source declarators_source expressions_source properties_source statements_source
-statements_turn x = fold-roll-Stmts Made PropertyMade PropertyKey Item Items CatchMade DeclaratorMade (List DeclaratorMade) (List Made) (List PropertyMade) Items expression_layer property_layer key_layer statement_layer block_layer catch_layer declarator_layer declarators_layer expressions_layer properties_layer statements_layer x
+unfolding expression_source property_source key_source statement_source block_source catch_source declarator_source
+    declarators_source expressions_source properties_source statements_source
+statements_turn x =
+    fold-roll-Stmts Made PropertyMade PropertyKey Item Items CatchMade DeclaratorMade (List DeclaratorMade) (List Made)
+    (List PropertyMade)
+    Items expression_layer property_layer key_layer statement_layer block_layer catch_layer declarator_layer declarators_layer expressions_layer properties_layer statements_layer x
 
 -- ---- what is made of a tree beside its clean tree
 
@@ -241,7 +293,8 @@ pub record Keeps (R : Relations) : Type 0 where
       → R.optional u z
       → R.statement s w
       → R.statement (for_item node i t u s) (trees.for x y z w)
-  pub of_for_lexical : (node : ℕ) (constant : Bool) (ds : List DeclaratorMade) (t u : Option Made) (s : Item) (x : trees.Declarators) (y z : OptionalExpression) (w : Statement)
+  pub of_for_lexical : (node : ℕ) (constant : Bool) (ds : List DeclaratorMade) (t u : Option Made) (s : Item)
+      (x : trees.Declarators) (y z : OptionalExpression) (w : Statement)
       → R.declarators ds x
       → R.optional t y
       → R.optional u z
@@ -259,7 +312,8 @@ pub record Keeps (R : Relations) : Type 0 where
   pub of_throw : (node : ℕ) (e : Made) (x : Expression)
       → R.expression e x
       → R.statement (throw_item node e) (trees.throw x)
-  pub of_try : (node : ℕ) (b : Items) (h : Option CatchMade) (f : Option Items) (xs : Statements) (y : Handler) (z : Finalizer)
+  pub of_try : (node : ℕ) (b : Items) (h : Option CatchMade) (f : Option Items) (xs : Statements) (y : Handler)
+      (z : Finalizer)
       → R.statements b xs
       → R.handler h y
       → R.finalizer f z
@@ -281,14 +335,36 @@ pub record Keeps (R : Relations) : Type 0 where
       → R.statements (and_items i is) (trees.a_statement x xs)
 
 abbrev related : Relations → Claims
-related R = record { of_expression = λ x. R.expression (expression_source x) (expression_view x); of_property = λ x. R.property (property_source x) (property_view x); of_key = λ x. R.key (key_source x) (key_view x); of_statement = λ x. R.statement (statement_source x) (statement_view x); of_block = λ x. R.statements (block_source x) (block_view x); of_catch = λ x. R.handler (Some (catch_source x)) (catch_view x); of_declarator = λ x. R.declarator (declarator_source x) (declarator_view x); of_declarators = λ x. R.declarators (declarators_source x) (declarators_view x); of_expressions = λ x. R.expressions (expressions_source x) (expressions_view x); of_properties = λ x. R.properties (properties_source x) (properties_view x); of_statements = λ x. R.statements (statements_source x) (statements_view x) }
+related R =
+    record {
+      of_expression = λ x. R.expression (expression_source x) (expression_view x);
+      of_property = λ x. R.property
+          (property_source x) (property_view x);
+      of_key = λ x. R.key (key_source x)
+          (key_view x);
+      of_statement = λ x. R.statement (statement_source x)
+          (statement_view x);
+      of_block = λ x. R.statements (block_source x) (block_view x);
+      of_catch = λ x. R.handler
+          (Some (catch_source x)) (catch_view x);
+      of_declarator = λ x. R.declarator (declarator_source x)
+          (declarator_view x);
+      of_declarators = λ x. R.declarators (declarators_source x)
+          (declarators_view x);
+      of_expressions = λ x. R.expressions (expressions_source x)
+          (expressions_view x);
+      of_properties = λ x. R.properties (properties_source x)
+          (properties_view x);
+      of_statements = λ x. R.statements (statements_source x) (statements_view x);
+    }
 
 -- ---- each form
 
 expression-known : (R : Relations)
     → Keeps R
     → (y : Known (related R) Expr-F)
-    → R.expression (expression_layer (made_parts Expr-F map-Expr (known_trees (related R) Expr-F map-Expr y))) (expression_step (clean_parts Expr-F map-Expr (known_trees (related R) Expr-F map-Expr y)))
+    → R.expression (expression_layer (made_parts Expr-F map-Expr (known_trees (related R) Expr-F map-Expr y)))
+    (expression_step (clean_parts Expr-F map-Expr (known_trees (related R) Expr-F map-Expr y)))
 expression-known R k (Expr-F.This node) = k.of_this node.0
 expression-known R k (Expr-F.Name node n) = k.of_name node.0 n
 expression-known R k (Expr-F.Number node v) = k.of_number node.0 v.value
@@ -315,7 +391,13 @@ expression-known R k (Expr-F.Comma node es) = k.of_comma node.0 _ _ es.1
 property-known : (R : Relations)
     → Keeps R
     → (y : Known (related R) PropertyDefinition-F)
-    → R.property (property_layer (made_parts PropertyDefinition-F map-PropertyDefinition (known_trees (related R) PropertyDefinition-F map-PropertyDefinition y))) (property_step (clean_parts PropertyDefinition-F map-PropertyDefinition (known_trees (related R) PropertyDefinition-F map-PropertyDefinition y)))
+    → R.property
+    (property_layer
+    (made_parts PropertyDefinition-F map-PropertyDefinition
+    (known_trees (related R) PropertyDefinition-F map-PropertyDefinition y)))
+    (property_step
+    (clean_parts PropertyDefinition-F map-PropertyDefinition
+    (known_trees (related R) PropertyDefinition-F map-PropertyDefinition y)))
 property-known R k (PropertyDefinition-F.Shorthand n) = k.of_shorthand n
 property-known R k (PropertyDefinition-F.Value p e) = k.of_value _ _ _ _ p.1 e.1
 property-known R k (PropertyDefinition-F.Method node p ps body) = k.of_method node.0 _ ps _ _ _ p.1 body.1
@@ -323,7 +405,10 @@ property-known R k (PropertyDefinition-F.Method node p ps body) = k.of_method no
 key-known : (R : Relations)
     → Keeps R
     → (y : Known (related R) PropertyName-F)
-    → R.key (key_layer (made_parts PropertyName-F map-PropertyName (known_trees (related R) PropertyName-F map-PropertyName y))) (key_step (clean_parts PropertyName-F map-PropertyName (known_trees (related R) PropertyName-F map-PropertyName y)))
+    → R.key (key_layer
+    (made_parts PropertyName-F map-PropertyName (known_trees (related R) PropertyName-F map-PropertyName y)))
+    (key_step
+    (clean_parts PropertyName-F map-PropertyName (known_trees (related R) PropertyName-F map-PropertyName y)))
 key-known R k (PropertyName-F.Word us) = k.of_word_key us
 key-known R k (PropertyName-F.StringLiteral us) = k.of_string_key us
 key-known R k (PropertyName-F.NumericLiteral v) = k.of_number_key v.value
@@ -341,19 +426,32 @@ optional-known R k None = k.of_omitted
 optional-known R k (Some e) = k.of_present _ _ e.1
 
 for-known : (R : Relations) → Keeps R → (node : ℕ) (i t u : SomeKnown R) (s : (x : Stmt) × (related R).of_statement x) →
-    R.statement (for_item node (option_map (λ e. expression_source e.0) i) (option_map (λ e. expression_source e.0) t) (option_map (λ e. expression_source e.0) u) (statement_source s.0)) (trees.for (optional (option_map (λ e. expression_view e.0) i)) (optional (option_map (λ e. expression_view e.0) t)) (optional (option_map (λ e. expression_view e.0) u)) (statement_view s.0))
-for-known R k node i t u s = k.of_for node _ _ _ _ _ _ _ _ (optional-known R k i) (optional-known R k t) (optional-known R k u) s.1
+    R.statement
+    (for_item node (option_map (λ e. expression_source e.0) i) (option_map (λ e. expression_source e.0) t)
+    (option_map (λ e. expression_source e.0) u) (statement_source s.0))
+    (trees.for (optional (option_map (λ e. expression_view e.0) i))
+    (optional (option_map (λ e. expression_view e.0) t)) (optional (option_map (λ e. expression_view e.0) u))
+    (statement_view s.0))
+for-known R k node i t u s =
+    k.of_for node _ _ _ _ _ _ _ _ (optional-known R k i) (optional-known R k t) (optional-known R k u) s.1
 
 for_lexical-known : (R : Relations)
     → Keeps R
-    → (node : ℕ) (c : Bool) (ds : (x : Declarators) × (related R).of_declarators x) (t u : SomeKnown R) (s : (x : Stmt) × (related R).of_statement x) →
-    R.statement (for_lexical_item node c (declarators_source ds.0) (option_map (λ e. expression_source e.0) t) (option_map (λ e. expression_source e.0) u) (statement_source s.0)) (trees.for_lexical c (declarators_view ds.0) (optional (option_map (λ e. expression_view e.0) t)) (optional (option_map (λ e. expression_view e.0) u)) (statement_view s.0))
-for_lexical-known R k node c ds t u s = k.of_for_lexical node c _ _ _ _ _ _ _ _ ds.1 (optional-known R k t) (optional-known R k u) s.1
+    → (node : ℕ) (c : Bool) (ds : (x : Declarators) × (related R).of_declarators x) (t u : SomeKnown R)
+    (s : (x : Stmt) × (related R).of_statement x) →
+    R.statement
+    (for_lexical_item node c (declarators_source ds.0) (option_map (λ e. expression_source e.0) t)
+    (option_map (λ e. expression_source e.0) u) (statement_source s.0))
+    (trees.for_lexical c (declarators_view ds.0) (optional (option_map (λ e. expression_view e.0) t))
+    (optional (option_map (λ e. expression_view e.0) u)) (statement_view s.0))
+for_lexical-known R k node c ds t u s =
+    k.of_for_lexical node c _ _ _ _ _ _ _ _ ds.1 (optional-known R k t) (optional-known R k u) s.1
 
 statement-known : (R : Relations)
     → Keeps R
     → (y : Known (related R) Stmt-F)
-    → R.statement (statement_layer (made_parts Stmt-F map-Stmt (known_trees (related R) Stmt-F map-Stmt y))) (statement_step (clean_parts Stmt-F map-Stmt (known_trees (related R) Stmt-F map-Stmt y)))
+    → R.statement (statement_layer (made_parts Stmt-F map-Stmt (known_trees (related R) Stmt-F map-Stmt y)))
+    (statement_step (clean_parts Stmt-F map-Stmt (known_trees (related R) Stmt-F map-Stmt y)))
 statement-known R k (Stmt-F.Block b) = k.of_block _ _ b.1
 statement-known R k (Stmt-F.Lexical node c ds) = k.of_lexical node.0 c _ _ ds.1
 statement-known R k (Stmt-F.Empty node) = k.of_empty
@@ -369,11 +467,15 @@ statement-known R k (Stmt-F.For node None (Some t) (Some u) s) = for-known R k n
 statement-known R k (Stmt-F.For node (Some i) None None s) = for-known R k node.0 (Some i) None None s.value
 statement-known R k (Stmt-F.For node (Some i) None (Some u) s) = for-known R k node.0 (Some i) None (Some u) s.value
 statement-known R k (Stmt-F.For node (Some i) (Some t) None s) = for-known R k node.0 (Some i) (Some t) None s.value
-statement-known R k (Stmt-F.For node (Some i) (Some t) (Some u) s) = for-known R k node.0 (Some i) (Some t) (Some u) s.value
+statement-known R k (Stmt-F.For node (Some i) (Some t) (Some u) s) =
+    for-known R k node.0 (Some i) (Some t) (Some u) s.value
 statement-known R k (Stmt-F.ForLexical node c ds None None s) = for_lexical-known R k node.0 c ds None None s.value
-statement-known R k (Stmt-F.ForLexical node c ds None (Some u) s) = for_lexical-known R k node.0 c ds None (Some u) s.value
-statement-known R k (Stmt-F.ForLexical node c ds (Some t) None s) = for_lexical-known R k node.0 c ds (Some t) None s.value
-statement-known R k (Stmt-F.ForLexical node c ds (Some t) (Some u) s) = for_lexical-known R k node.0 c ds (Some t) (Some u) s.value
+statement-known R k (Stmt-F.ForLexical node c ds None (Some u) s) =
+    for_lexical-known R k node.0 c ds None (Some u) s.value
+statement-known R k (Stmt-F.ForLexical node c ds (Some t) None s) =
+    for_lexical-known R k node.0 c ds (Some t) None s.value
+statement-known R k (Stmt-F.ForLexical node c ds (Some t) (Some u) s) =
+    for_lexical-known R k node.0 c ds (Some t) (Some u) s.value
 statement-known R k (Stmt-F.ForOf node c n e s) = k.of_for_of node.0 c n _ _ _ _ e.1 s.value.1
 statement-known R k (Stmt-F.Continue node) = k.of_continue node.0
 statement-known R k (Stmt-F.Break node) = k.of_break node.0
@@ -381,7 +483,8 @@ statement-known R k (Stmt-F.Return node None) = k.of_return node.0 _ _ k.of_omit
 statement-known R k (Stmt-F.Return node (Some e)) = k.of_return node.0 _ _ (k.of_present _ _ e.1)
 statement-known R k (Stmt-F.Throw node e) = k.of_throw node.0 _ _ e.1
 statement-known R k (Stmt-F.Try node b None None) = k.of_try node.0 _ _ _ _ _ _ b.1 k.of_no_catch k.of_no_finally
-statement-known R k (Stmt-F.Try node b None (Some f)) = k.of_try node.0 _ _ _ _ _ _ b.1 k.of_no_catch (k.of_finally _ _ f.1)
+statement-known R k (Stmt-F.Try node b None (Some f)) =
+    k.of_try node.0 _ _ _ _ _ _ b.1 k.of_no_catch (k.of_finally _ _ f.1)
 statement-known R k (Stmt-F.Try node b (Some h) None) = k.of_try node.0 _ _ _ _ _ _ b.1 h.1 k.of_no_finally
 statement-known R k (Stmt-F.Try node b (Some h) (Some f)) = k.of_try node.0 _ _ _ _ _ _ b.1 h.1 (k.of_finally _ _ f.1)
 statement-known R k (Stmt-F.Debugger node) = k.of_debugger node.0
@@ -390,25 +493,41 @@ statement-known R k (Stmt-F.FunctionDeclaration node n ps body) = k.of_declared_
 block-known : (R : Relations)
     → Keeps R
     → (y : Known (related R) layers.Block-F)
-    → R.statements (block_layer (made_parts layers.Block-F map-Block (known_trees (related R) layers.Block-F map-Block y))) (block_step (clean_parts layers.Block-F map-Block (known_trees (related R) layers.Block-F map-Block y)))
+    → R.statements
+    (block_layer (made_parts layers.Block-F map-Block (known_trees (related R) layers.Block-F map-Block y)))
+    (block_step (clean_parts layers.Block-F map-Block (known_trees (related R) layers.Block-F map-Block y)))
 block-known R k b = b.body.1
 
 catch-known : (R : Relations)
     → Keeps R
     → (y : Known (related R) layers.Catch-F)
-    → R.handler (Some (catch_layer (made_parts layers.Catch-F map-Catch (known_trees (related R) layers.Catch-F map-Catch y)))) (catch_step (clean_parts layers.Catch-F map-Catch (known_trees (related R) layers.Catch-F map-Catch y)))
+    → R.handler
+    (Some (catch_layer (made_parts layers.Catch-F map-Catch (known_trees (related R) layers.Catch-F map-Catch y))))
+    (catch_step (clean_parts layers.Catch-F map-Catch (known_trees (related R) layers.Catch-F map-Catch y)))
 catch-known R k c = k.of_catch c.parameter _ _ c.block.1
 
 declared-known : (R : Relations) → Keeps R → (n : List ℕ) (o : SomeKnown R) →
     let y : Known (related R) layers.Declarator-F = record { name = n; initializer = o } in
-    R.declarator (declarator_layer (made_parts layers.Declarator-F map-Declarator (known_trees (related R) layers.Declarator-F map-Declarator y))) (declarator_step (clean_parts layers.Declarator-F map-Declarator (known_trees (related R) layers.Declarator-F map-Declarator y)))
+    R.declarator
+    (declarator_layer
+    (made_parts layers.Declarator-F map-Declarator
+    (known_trees (related R) layers.Declarator-F map-Declarator y)))
+    (declarator_step
+    (clean_parts layers.Declarator-F map-Declarator
+    (known_trees (related R) layers.Declarator-F map-Declarator y)))
 declared-known R k n None = k.of_declarator n _ _ k.of_omitted
 declared-known R k n (Some e) = k.of_declarator n _ _ (k.of_present _ _ e.1)
 
 declarator-known : (R : Relations)
     → Keeps R
     → (y : Known (related R) layers.Declarator-F)
-    → R.declarator (declarator_layer (made_parts layers.Declarator-F map-Declarator (known_trees (related R) layers.Declarator-F map-Declarator y))) (declarator_step (clean_parts layers.Declarator-F map-Declarator (known_trees (related R) layers.Declarator-F map-Declarator y)))
+    → R.declarator
+    (declarator_layer
+    (made_parts layers.Declarator-F map-Declarator
+    (known_trees (related R) layers.Declarator-F map-Declarator y)))
+    (declarator_step
+    (clean_parts layers.Declarator-F map-Declarator
+    (known_trees (related R) layers.Declarator-F map-Declarator y)))
 declarator-known R k d = declared-known R k d.name d.initializer
 
 declarators-listed : (R : Relations)
@@ -435,32 +554,49 @@ properties-listed R k (p ∷ ps) = k.of_a_property _ _ _ _ p.1 (properties-liste
 statements-listed : (R : Relations)
     → Keeps R
     → (ss : List ((x : Stmt) × (related R).of_statement x))
-    → R.statements (items_of (map statement_source (map (λ e. e.0) ss))) (statements (map statement_view (map (λ e. e.0) ss)))
+    → R.statements (items_of (map statement_source (map (λ e. e.0) ss)))
+    (statements (map statement_view (map (λ e. e.0) ss)))
 statements-listed R k [] = k.of_no_statements
 statements-listed R k (s ∷ ss) = k.of_a_statement _ _ _ _ s.1 (statements-listed R k ss)
 
 declarators-known : (R : Relations)
     → Keeps R
     → (y : Known (related R) layers.Declarators-F)
-    → R.declarators (declarators_layer (made_parts layers.Declarators-F map-Declarators (known_trees (related R) layers.Declarators-F map-Declarators y))) (declarators_step (clean_parts layers.Declarators-F map-Declarators (known_trees (related R) layers.Declarators-F map-Declarators y)))
+    → R.declarators
+    (declarators_layer
+    (made_parts layers.Declarators-F map-Declarators
+    (known_trees (related R) layers.Declarators-F map-Declarators y)))
+    (declarators_step
+    (clean_parts layers.Declarators-F map-Declarators
+    (known_trees (related R) layers.Declarators-F map-Declarators y)))
 declarators-known R k ds = declarators-listed R k ds.items.items
 
 expressions-known : (R : Relations)
     → Keeps R
     → (y : Known (related R) layers.Exprs-F)
-    → R.expressions (expressions_layer (made_parts layers.Exprs-F map-Exprs (known_trees (related R) layers.Exprs-F map-Exprs y))) (expressions_step (clean_parts layers.Exprs-F map-Exprs (known_trees (related R) layers.Exprs-F map-Exprs y)))
+    → R.expressions
+    (expressions_layer (made_parts layers.Exprs-F map-Exprs (known_trees (related R) layers.Exprs-F map-Exprs y)))
+    (expressions_step (clean_parts layers.Exprs-F map-Exprs (known_trees (related R) layers.Exprs-F map-Exprs y)))
 expressions-known R k es = expressions-listed R k es.items.items
 
 properties-known : (R : Relations)
     → Keeps R
     → (y : Known (related R) layers.PropertyDefinitions-F)
-    → R.properties (properties_layer (made_parts layers.PropertyDefinitions-F map-PropertyDefinitions (known_trees (related R) layers.PropertyDefinitions-F map-PropertyDefinitions y))) (properties_step (clean_parts layers.PropertyDefinitions-F map-PropertyDefinitions (known_trees (related R) layers.PropertyDefinitions-F map-PropertyDefinitions y)))
+    → R.properties
+    (properties_layer
+    (made_parts layers.PropertyDefinitions-F map-PropertyDefinitions
+    (known_trees (related R) layers.PropertyDefinitions-F map-PropertyDefinitions y)))
+    (properties_step
+    (clean_parts layers.PropertyDefinitions-F map-PropertyDefinitions
+    (known_trees (related R) layers.PropertyDefinitions-F map-PropertyDefinitions y)))
 properties-known R k ps = properties-listed R k ps.items.items
 
 statements-known : (R : Relations)
     → Keeps R
     → (y : Known (related R) layers.Stmts-F)
-    → R.statements (statements_layer (made_parts layers.Stmts-F map-Stmts (known_trees (related R) layers.Stmts-F map-Stmts y))) (statements_step (clean_parts layers.Stmts-F map-Stmts (known_trees (related R) layers.Stmts-F map-Stmts y)))
+    → R.statements
+    (statements_layer (made_parts layers.Stmts-F map-Stmts (known_trees (related R) layers.Stmts-F map-Stmts y)))
+    (statements_step (clean_parts layers.Stmts-F map-Stmts (known_trees (related R) layers.Stmts-F map-Stmts y)))
 statements-known R k ss = statements-listed R k ss.items.items
 
 grown-expression : (R : Relations)
@@ -469,15 +605,20 @@ grown-expression : (R : Relations)
     → (related R).of_expression (views.roll-Expr (known_trees (related R) Expr-F map-Expr y))
 grown-expression R k y =
     let x : Level Expr-F = known_trees (related R) Expr-F map-Expr y in
-    subst (λ m. R.expression m (expression_view (views.roll-Expr x))) (sym (expression_turn x)) (subst (λ t. R.expression (expression_layer (made_parts Expr-F map-Expr x)) t) (sym (expression_roll x)) (expression-known R k y))
+    subst (λ m. R.expression m (expression_view (views.roll-Expr x))) (sym (expression_turn x))
+    (subst (λ t. R.expression (expression_layer (made_parts Expr-F map-Expr x)) t) (sym (expression_roll x))
+    (expression-known R k y))
 
 grown-property : (R : Relations)
     → Keeps R
     → (y : Known (related R) PropertyDefinition-F)
-    → (related R).of_property (views.roll-PropertyDefinition (known_trees (related R) PropertyDefinition-F map-PropertyDefinition y))
+    → (related R).of_property
+    (views.roll-PropertyDefinition (known_trees (related R) PropertyDefinition-F map-PropertyDefinition y))
 grown-property R k y =
     let x : Level PropertyDefinition-F = known_trees (related R) PropertyDefinition-F map-PropertyDefinition y in
-    subst (λ m. R.property m (property_view (views.roll-PropertyDefinition x))) (sym (property_turn x)) (subst (λ t. R.property (property_layer (made_parts PropertyDefinition-F map-PropertyDefinition x)) t) (sym (property_roll x)) (property-known R k y))
+    subst (λ m. R.property m (property_view (views.roll-PropertyDefinition x))) (sym (property_turn x))
+    (subst (λ t. R.property (property_layer (made_parts PropertyDefinition-F map-PropertyDefinition x)) t)
+    (sym (property_roll x)) (property-known R k y))
 
 grown-key : (R : Relations)
     → Keeps R
@@ -485,7 +626,9 @@ grown-key : (R : Relations)
     → (related R).of_key (views.roll-PropertyName (known_trees (related R) PropertyName-F map-PropertyName y))
 grown-key R k y =
     let x : Level PropertyName-F = known_trees (related R) PropertyName-F map-PropertyName y in
-    subst (λ m. R.key m (key_view (views.roll-PropertyName x))) (sym (key_turn x)) (subst (λ t. R.key (key_layer (made_parts PropertyName-F map-PropertyName x)) t) (sym (key_roll x)) (key-known R k y))
+    subst (λ m. R.key m (key_view (views.roll-PropertyName x))) (sym (key_turn x))
+    (subst (λ t. R.key (key_layer (made_parts PropertyName-F map-PropertyName x)) t) (sym (key_roll x))
+    (key-known R k y))
 
 grown-statement : (R : Relations)
     → Keeps R
@@ -493,7 +636,9 @@ grown-statement : (R : Relations)
     → (related R).of_statement (views.roll-Stmt (known_trees (related R) Stmt-F map-Stmt y))
 grown-statement R k y =
     let x : Level Stmt-F = known_trees (related R) Stmt-F map-Stmt y in
-    subst (λ m. R.statement m (statement_view (views.roll-Stmt x))) (sym (statement_turn x)) (subst (λ t. R.statement (statement_layer (made_parts Stmt-F map-Stmt x)) t) (sym (statement_roll x)) (statement-known R k y))
+    subst (λ m. R.statement m (statement_view (views.roll-Stmt x))) (sym (statement_turn x))
+    (subst (λ t. R.statement (statement_layer (made_parts Stmt-F map-Stmt x)) t) (sym (statement_roll x))
+    (statement-known R k y))
 
 grown-block : (R : Relations)
     → Keeps R
@@ -501,7 +646,9 @@ grown-block : (R : Relations)
     → (related R).of_block (views.roll-Block (known_trees (related R) layers.Block-F map-Block y))
 grown-block R k y =
     let x : Level layers.Block-F = known_trees (related R) layers.Block-F map-Block y in
-    subst (λ m. R.statements m (block_view (views.roll-Block x))) (sym (block_turn x)) (subst (λ t. R.statements (block_layer (made_parts layers.Block-F map-Block x)) t) (sym (block_roll x)) (block-known R k y))
+    subst (λ m. R.statements m (block_view (views.roll-Block x))) (sym (block_turn x))
+    (subst (λ t. R.statements (block_layer (made_parts layers.Block-F map-Block x)) t) (sym (block_roll x))
+    (block-known R k y))
 
 grown-catch : (R : Relations)
     → Keeps R
@@ -509,7 +656,9 @@ grown-catch : (R : Relations)
     → (related R).of_catch (views.roll-Catch (known_trees (related R) layers.Catch-F map-Catch y))
 grown-catch R k y =
     let x : Level layers.Catch-F = known_trees (related R) layers.Catch-F map-Catch y in
-    subst (λ m. R.handler (Some m) (catch_view (views.roll-Catch x))) (sym (catch_turn x)) (subst (λ t. R.handler (Some (catch_layer (made_parts layers.Catch-F map-Catch x))) t) (sym (catch_roll x)) (catch-known R k y))
+    subst (λ m. R.handler (Some m) (catch_view (views.roll-Catch x))) (sym (catch_turn x))
+    (subst (λ t. R.handler (Some (catch_layer (made_parts layers.Catch-F map-Catch x))) t) (sym (catch_roll x))
+    (catch-known R k y))
 
 grown-declarator : (R : Relations)
     → Keeps R
@@ -517,15 +666,20 @@ grown-declarator : (R : Relations)
     → (related R).of_declarator (views.roll-Declarator (known_trees (related R) layers.Declarator-F map-Declarator y))
 grown-declarator R k y =
     let x : Level layers.Declarator-F = known_trees (related R) layers.Declarator-F map-Declarator y in
-    subst (λ m. R.declarator m (declarator_view (views.roll-Declarator x))) (sym (declarator_turn x)) (subst (λ t. R.declarator (declarator_layer (made_parts layers.Declarator-F map-Declarator x)) t) (sym (declarator_roll x)) (declarator-known R k y))
+    subst (λ m. R.declarator m (declarator_view (views.roll-Declarator x))) (sym (declarator_turn x))
+    (subst (λ t. R.declarator (declarator_layer (made_parts layers.Declarator-F map-Declarator x)) t)
+    (sym (declarator_roll x)) (declarator-known R k y))
 
 grown-declarators : (R : Relations)
     → Keeps R
     → (y : Known (related R) layers.Declarators-F)
-    → (related R).of_declarators (views.roll-Declarators (known_trees (related R) layers.Declarators-F map-Declarators y))
+    → (related R).of_declarators
+    (views.roll-Declarators (known_trees (related R) layers.Declarators-F map-Declarators y))
 grown-declarators R k y =
     let x : Level layers.Declarators-F = known_trees (related R) layers.Declarators-F map-Declarators y in
-    subst (λ m. R.declarators m (declarators_view (views.roll-Declarators x))) (sym (declarators_turn x)) (subst (λ t. R.declarators (declarators_layer (made_parts layers.Declarators-F map-Declarators x)) t) (sym (declarators_roll x)) (declarators-known R k y))
+    subst (λ m. R.declarators m (declarators_view (views.roll-Declarators x))) (sym (declarators_turn x))
+    (subst (λ t. R.declarators (declarators_layer (made_parts layers.Declarators-F map-Declarators x)) t)
+    (sym (declarators_roll x)) (declarators-known R k y))
 
 grown-expressions : (R : Relations)
     → Keeps R
@@ -533,15 +687,23 @@ grown-expressions : (R : Relations)
     → (related R).of_expressions (views.roll-Exprs (known_trees (related R) layers.Exprs-F map-Exprs y))
 grown-expressions R k y =
     let x : Level layers.Exprs-F = known_trees (related R) layers.Exprs-F map-Exprs y in
-    subst (λ m. R.expressions m (expressions_view (views.roll-Exprs x))) (sym (expressions_turn x)) (subst (λ t. R.expressions (expressions_layer (made_parts layers.Exprs-F map-Exprs x)) t) (sym (expressions_roll x)) (expressions-known R k y))
+    subst (λ m. R.expressions m (expressions_view (views.roll-Exprs x))) (sym (expressions_turn x))
+    (subst (λ t. R.expressions (expressions_layer (made_parts layers.Exprs-F map-Exprs x)) t)
+    (sym (expressions_roll x)) (expressions-known R k y))
 
 grown-properties : (R : Relations)
     → Keeps R
     → (y : Known (related R) layers.PropertyDefinitions-F)
-    → (related R).of_properties (views.roll-PropertyDefinitions (known_trees (related R) layers.PropertyDefinitions-F map-PropertyDefinitions y))
+    → (related R).of_properties
+    (views.roll-PropertyDefinitions
+    (known_trees (related R) layers.PropertyDefinitions-F map-PropertyDefinitions y))
 grown-properties R k y =
-    let x : Level layers.PropertyDefinitions-F = known_trees (related R) layers.PropertyDefinitions-F map-PropertyDefinitions y in
-    subst (λ m. R.properties m (properties_view (views.roll-PropertyDefinitions x))) (sym (properties_turn x)) (subst (λ t. R.properties (properties_layer (made_parts layers.PropertyDefinitions-F map-PropertyDefinitions x)) t) (sym (properties_roll x)) (properties-known R k y))
+    let x : Level layers.PropertyDefinitions-F = known_trees (related R)
+    layers.PropertyDefinitions-F map-PropertyDefinitions y in
+    subst (λ m. R.properties m (properties_view (views.roll-PropertyDefinitions x))) (sym (properties_turn x))
+    (subst (λ t. R.properties (properties_layer (made_parts layers.PropertyDefinitions-F map-PropertyDefinitions x))
+    t)
+    (sym (properties_roll x)) (properties-known R k y))
 
 grown-statements : (R : Relations)
     → Keeps R
@@ -549,10 +711,13 @@ grown-statements : (R : Relations)
     → (related R).of_statements (views.roll-Stmts (known_trees (related R) layers.Stmts-F map-Stmts y))
 grown-statements R k y =
     let x : Level layers.Stmts-F = known_trees (related R) layers.Stmts-F map-Stmts y in
-    subst (λ m. R.statements m (statements_view (views.roll-Stmts x))) (sym (statements_turn x)) (subst (λ t. R.statements (statements_layer (made_parts layers.Stmts-F map-Stmts x)) t) (sym (statements_roll x)) (statements-known R k y))
+    subst (λ m. R.statements m (statements_view (views.roll-Stmts x))) (sym (statements_turn x))
+    (subst (λ t. R.statements (statements_layer (made_parts layers.Stmts-F map-Stmts x)) t)
+    (sym (statements_roll x)) (statements-known R k y))
 
 grown : (R : Relations) → Keeps R → Grows (related R)
-grown R k = record { grows_expression = grown-expression R k; grows_property = grown-property R k; grows_key = grown-key R k; grows_statement = grown-statement R k; grows_block = grown-block R k; grows_catch = grown-catch R k; grows_declarator = grown-declarator R k; grows_declarators = grown-declarators R k; grows_expressions = grown-expressions R k; grows_properties = grown-properties R k; grows_statements = grown-statements R k }
+grown R k =
+    record { grows_expression = grown-expression R k; grows_property = grown-property R k; grows_key = grown-key R k; grows_statement = grown-statement R k; grows_block = grown-block R k; grows_catch = grown-catch R k; grows_declarator = grown-declarator R k; grows_declarators = grown-declarators R k; grows_expressions = grown-expressions R k; grows_properties = grown-properties R k; grows_statements = grown-statements R k }
 
 -- what is made of every tree stands in the relation to its clean tree
 pub expression-related : (R : Relations) → Keeps R → (e : Expr) → R.expression (expression_source e) (expression_view e)

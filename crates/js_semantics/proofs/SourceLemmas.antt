@@ -28,18 +28,25 @@ expression-untouched e c = term-untouched _ (expression-related unstarted keeps-
 
 pub scripts-unstarted : (ss : List Script) → AreUnstarted (terms_of_scripts ss)
 scripts-unstarted [] = tt
-scripts-unstarted (s ∷ ss) = (script-fresh s.number (statements_source s.body) (statements-related unstarted keeps-fresh s.body), scripts-unstarted ss)
+scripts-unstarted (s ∷ ss) = (
+  script-fresh s.number (statements_source s.body) (statements-related unstarted keeps-fresh s.body),
+  scripts-unstarted ss,
+)
 
 scripts-untouched : (ss : List Script) → AreUntouched (terms_of_scripts ss)
 scripts-untouched ss = terms-untouched (terms_of_scripts ss) (scripts-unstarted ss)
 
 scripts-well : (ss : List Script) → AreShaped (terms_of_scripts ss)
 scripts-well [] = tt
-scripts-well (s ∷ ss) = (script-shaped s.number (statements_source s.body) (statements-related well_shaped keeps-shaped s.body), scripts-well ss)
+scripts-well (s ∷ ss) = (
+  script-shaped s.number (statements_source s.body) (statements-related well_shaped keeps-shaped s.body),
+  scripts-well ss,
+)
 
 scripts-wait : (ss : List Script) → AllWait all_ready (terms_of_scripts ss)
 scripts-wait [] = tt
-scripts-wait (s ∷ ss) = (script-waits s.number (statements_source s.body) (statements-related waiting keeps-waits s.body), scripts-wait ss)
+scripts-wait (s ∷ ss) =
+    (script-waits s.number (statements_source s.body) (statements-related waiting keeps-waits s.body), scripts-wait ss)
 
 pub scripts-sound : (k : ℕ) (scripts : List Script) (input : List (List ℕ))
     → SoundRun (program_of (terms_of_scripts scripts)) (plain_run k (terms_of_scripts scripts) input)

@@ -78,9 +78,13 @@ mutual
   placed-sound w at n (part (literal us) now later) h k = k n (omega arith) (omega arith)
   placed-sound w at n (part f now later) h k = (
     form-sound w f h.0,
-    all-placed-sound w at n now h.1 (texts-within w at n (n + length (literals_of now ++ literals_of later)) n (n + length (literals_of now)) (omega arith) (omega (arith, length-append (literals_of now) (literals_of later))) k),
+    all-placed-sound w at n now h.1
+        (texts-within w at n (n + length (literals_of now ++ literals_of later)) n (n + length (literals_of now))
+        (omega arith) (omega (arith, length-append (literals_of now) (literals_of later))) k),
     all-placed-sound w at (n + length (literals_of now)) later h.2
-        (texts-within w at n (n + length (literals_of now ++ literals_of later)) (n + length (literals_of now)) (n + length (literals_of now) + length (literals_of later)) (omega arith) (omega (arith, length-append (literals_of now) (literals_of later))) k),
+        (texts-within w at n (n + length (literals_of now ++ literals_of later)) (n + length (literals_of now))
+        (n + length (literals_of now) + length (literals_of later)) (omega arith)
+        (omega (arith, length-append (literals_of now) (literals_of later))) k),
   )
 
   all-placed-sound : (w : World) (at : ℕ → Addr) (n : ℕ) (ts : Terms)
@@ -89,9 +93,13 @@ mutual
       → SoundTerms w (all_with_literals at n ts)
   all-placed-sound w at n end h k = tt
   all-placed-sound w at n (more t ts) h k = (
-    placed-sound w at n t h.0 (texts-within w at n (n + length (literals t ++ literals_of ts)) n (n + length (literals t)) (omega arith) (omega (arith, length-append (literals t) (literals_of ts))) k),
+    placed-sound w at n t h.0
+        (texts-within w at n (n + length (literals t ++ literals_of ts)) n (n + length (literals t)) (omega arith)
+        (omega (arith, length-append (literals t) (literals_of ts))) k),
     all-placed-sound w at (n + length (literals t)) ts h.1
-        (texts-within w at n (n + length (literals t ++ literals_of ts)) (n + length (literals t)) (n + length (literals t) + length (literals_of ts)) (omega arith) (omega (arith, length-append (literals t) (literals_of ts))) k),
+        (texts-within w at n (n + length (literals t ++ literals_of ts)) (n + length (literals t))
+        (n + length (literals t) + length (literals_of ts)) (omega arith)
+        (omega (arith, length-append (literals t) (literals_of ts))) k),
   )
 
 -- ---- the world before the first step
@@ -214,9 +222,18 @@ program-sound w n (more t ts) h = (h.0, program-sound w (n + 1) ts h.1)
 start-sound : (ts : Terms) (input : List (List ℕ)) → AreUntouched ts → SoundRun (program_of ts) (start ts input)
 start-sound ts input h =
     let w : World = first_world (literals_of ts) in
-    let placed : SoundTerms w (placed_scripts ts) = all-placed-sound w (λ n. Base n) first_literal ts h (first-texts (literals_of ts)) in
+    let placed : SoundTerms w (placed_scripts ts) = all-placed-sound w (λ n. Base n) first_literal ts h
+    (first-texts (literals_of ts)) in
     of-sound (program_of ts) (settled scripts (placed_scripts ts) end) (first_state ts input)
-    (record { world = first-sound (literals_of ts); built_ins = has-built-ins (literals_of ts); program = program-sound w 1 (placed_scripts ts) placed; frames = ((tt, refl), tt); outer = tt })
+    (record {
+      world = first-sound (literals_of ts);
+      built_ins = has-built-ins
+          (literals_of ts);
+      program = program-sound w 1 (placed_scripts ts)
+          placed;
+      frames = ((tt, refl), tt);
+      outer = tt;
+    })
     (settled-sound w scripts (placed_scripts ts) end tt placed tt)
 
 pub start-scope : (ts : Terms) (input : List (List ℕ)) (t : Term)
@@ -229,4 +246,5 @@ pub plain-sound : (k : ℕ) (ts : Terms) (input : List (List ℕ))
     → AreUntouched ts
     → SoundRun (program_of ts) (plain k ts input)
 plain-sound k ts input h =
-    steps-sound k (program_of ts) script_scope (start ts input) (start-scope ts input (settled scripts (placed_scripts ts) end)) (start-sound ts input h)
+    steps-sound k (program_of ts) script_scope (start ts input)
+    (start-scope ts input (settled scripts (placed_scripts ts) end)) (start-sound ts input h)

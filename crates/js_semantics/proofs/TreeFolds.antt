@@ -23,7 +23,21 @@ Former = Type 0 → Type 0 → Type 0 → Type 0 → Type 0 → Type 0 → Type 
 
 -- its parts changed by one function for each type
 abbrev pub Mapper : Former → Type 1
-Mapper F = (A B C D E G H I J K L A2 B2 C2 D2 E2 G2 H2 I2 J2 K2 L2 : Type 0) → (A → A2) → (B → B2) → (C → C2) → (D → D2) → (E → E2) → (G → G2) → (H → H2) → (I → I2) → (J → J2) → (K → K2) → (L → L2) → F A B C D E G H I J K L → F A2 B2 C2 D2 E2 G2 H2 I2 J2 K2 L2
+Mapper F =
+    (A B C D E G H I J K L A2 B2 C2 D2 E2 G2 H2 I2 J2 K2 L2 : Type 0)
+    → (A → A2)
+    → (B → B2)
+    → (C → C2)
+    → (D → D2)
+    → (E → E2)
+    → (G → G2)
+    → (H → H2)
+    → (I → I2)
+    → (J → J2)
+    → (K → K2)
+    → (L → L2)
+    → F A B C D E G H I J K L
+    → F A2 B2 C2 D2 E2 G2 H2 I2 J2 K2 L2
 
 -- the trees themselves in its places
 abbrev pub Level : Former → Type 0
@@ -47,10 +61,23 @@ pub record Claims : Type 1 where
 
 -- trees of which it is known, in the places of one level
 abbrev pub Known : Claims → Former → Type 0
-Known P F = F ((x : Expr) × P.of_expression x) ((x : PropertyDefinition) × P.of_property x) ((x : PropertyName) × P.of_key x) ((x : Stmt) × P.of_statement x) ((x : Block) × P.of_block x) ((x : Catch) × P.of_catch x) ((x : Declarator) × P.of_declarator x) ((x : Declarators) × P.of_declarators x) ((x : Exprs) × P.of_expressions x) ((x : PropertyDefinitions) × P.of_properties x) ((x : Stmts) × P.of_statements x)
+Known P F =
+    F ((x : Expr) × P.of_expression x) ((x : PropertyDefinition) × P.of_property x) ((x : PropertyName) × P.of_key x)
+    ((x : Stmt) × P.of_statement x) ((x : Block) × P.of_block x) ((x : Catch) × P.of_catch x)
+    ((x : Declarator) × P.of_declarator x) ((x : Declarators) × P.of_declarators x)
+    ((x : Exprs) × P.of_expressions x) ((x : PropertyDefinitions) × P.of_properties x)
+    ((x : Stmts) × P.of_statements x)
 
 abbrev pub known_trees : (P : Claims) (F : Former) → Mapper F → Known P F → Level F
-known_trees P F change = change ((x : Expr) × P.of_expression x) ((x : PropertyDefinition) × P.of_property x) ((x : PropertyName) × P.of_key x) ((x : Stmt) × P.of_statement x) ((x : Block) × P.of_block x) ((x : Catch) × P.of_catch x) ((x : Declarator) × P.of_declarator x) ((x : Declarators) × P.of_declarators x) ((x : Exprs) × P.of_expressions x) ((x : PropertyDefinitions) × P.of_properties x) ((x : Stmts) × P.of_statements x) Expr PropertyDefinition PropertyName Stmt Block Catch Declarator Declarators Exprs PropertyDefinitions Stmts (λ e. e.0) (λ e. e.0) (λ e. e.0) (λ e. e.0) (λ e. e.0) (λ e. e.0) (λ e. e.0) (λ e. e.0) (λ e. e.0) (λ e. e.0) (λ e. e.0)
+known_trees P F change =
+    change ((x : Expr) × P.of_expression x) ((x : PropertyDefinition) × P.of_property x)
+    ((x : PropertyName) × P.of_key x) ((x : Stmt) × P.of_statement x) ((x : Block) × P.of_block x)
+    ((x : Catch) × P.of_catch x) ((x : Declarator) × P.of_declarator x) ((x : Declarators) × P.of_declarators x)
+    ((x : Exprs) × P.of_expressions x) ((x : PropertyDefinitions) × P.of_properties x)
+    ((x : Stmts) × P.of_statements x)
+    Expr PropertyDefinition PropertyName Stmt Block Catch Declarator Declarators Exprs PropertyDefinitions Stmts
+    (λ e. e.0) (λ e. e.0) (λ e. e.0) (λ e. e.0) (λ e. e.0) (λ e. e.0) (λ e. e.0) (λ e. e.0) (λ e. e.0) (λ e. e.0)
+    (λ e. e.0)
 
 -- it holds of a tree whose parts it is known of
 pub record Grows (P : Claims) : Type 0 where
@@ -71,7 +98,8 @@ pub record Grows (P : Claims) : Type 0 where
   pub grows_expressions : (y : Known P layers.Exprs-F)
       → P.of_expressions (views.roll-Exprs (known_trees P layers.Exprs-F map-Exprs y))
   pub grows_properties : (y : Known P layers.PropertyDefinitions-F)
-      → P.of_properties (views.roll-PropertyDefinitions (known_trees P layers.PropertyDefinitions-F map-PropertyDefinitions y))
+      → P.of_properties
+      (views.roll-PropertyDefinitions (known_trees P layers.PropertyDefinitions-F map-PropertyDefinitions y))
   pub grows_statements : (y : Known P layers.Stmts-F)
       → P.of_statements (views.roll-Stmts (known_trees P layers.Stmts-F map-Stmts y))
 
@@ -87,7 +115,8 @@ property-step : (P : Claims)
     → (x : Level PropertyDefinition-F) (y : Known P PropertyDefinition-F)
     → known_trees P PropertyDefinition-F map-PropertyDefinition y ≡ x
     → P.of_property (views.roll-PropertyDefinition x)
-property-step P g x y is = subst (λ (z : Level PropertyDefinition-F). P.of_property (views.roll-PropertyDefinition z)) is (g.grows_property y)
+property-step P g x y is =
+    subst (λ (z : Level PropertyDefinition-F). P.of_property (views.roll-PropertyDefinition z)) is (g.grows_property y)
 
 key-step : (P : Claims)
     → Grows P
@@ -122,38 +151,50 @@ declarator-step : (P : Claims)
     → (x : Level layers.Declarator-F) (y : Known P layers.Declarator-F)
     → known_trees P layers.Declarator-F map-Declarator y ≡ x
     → P.of_declarator (views.roll-Declarator x)
-declarator-step P g x y is = subst (λ (z : Level layers.Declarator-F). P.of_declarator (views.roll-Declarator z)) is (g.grows_declarator y)
+declarator-step P g x y is =
+    subst (λ (z : Level layers.Declarator-F). P.of_declarator (views.roll-Declarator z)) is (g.grows_declarator y)
 
 declarators-step : (P : Claims)
     → Grows P
     → (x : Level layers.Declarators-F) (y : Known P layers.Declarators-F)
     → known_trees P layers.Declarators-F map-Declarators y ≡ x
     → P.of_declarators (views.roll-Declarators x)
-declarators-step P g x y is = subst (λ (z : Level layers.Declarators-F). P.of_declarators (views.roll-Declarators z)) is (g.grows_declarators y)
+declarators-step P g x y is =
+    subst (λ (z : Level layers.Declarators-F). P.of_declarators (views.roll-Declarators z)) is (g.grows_declarators y)
 
 expressions-step : (P : Claims)
     → Grows P
     → (x : Level layers.Exprs-F) (y : Known P layers.Exprs-F)
     → known_trees P layers.Exprs-F map-Exprs y ≡ x
     → P.of_expressions (views.roll-Exprs x)
-expressions-step P g x y is = subst (λ (z : Level layers.Exprs-F). P.of_expressions (views.roll-Exprs z)) is (g.grows_expressions y)
+expressions-step P g x y is =
+    subst (λ (z : Level layers.Exprs-F). P.of_expressions (views.roll-Exprs z)) is (g.grows_expressions y)
 
 properties-step : (P : Claims)
     → Grows P
     → (x : Level layers.PropertyDefinitions-F) (y : Known P layers.PropertyDefinitions-F)
     → known_trees P layers.PropertyDefinitions-F map-PropertyDefinitions y ≡ x
     → P.of_properties (views.roll-PropertyDefinitions x)
-properties-step P g x y is = subst (λ (z : Level layers.PropertyDefinitions-F). P.of_properties (views.roll-PropertyDefinitions z)) is (g.grows_properties y)
+properties-step P g x y is =
+    subst (λ (z : Level layers.PropertyDefinitions-F). P.of_properties (views.roll-PropertyDefinitions z)) is
+    (g.grows_properties y)
 
 statements-step : (P : Claims)
     → Grows P
     → (x : Level layers.Stmts-F) (y : Known P layers.Stmts-F)
     → known_trees P layers.Stmts-F map-Stmts y ≡ x
     → P.of_statements (views.roll-Stmts x)
-statements-step P g x y is = subst (λ (z : Level layers.Stmts-F). P.of_statements (views.roll-Stmts z)) is (g.grows_statements y)
+statements-step P g x y is =
+    subst (λ (z : Level layers.Stmts-F). P.of_statements (views.roll-Stmts z)) is (g.grows_statements y)
 
 pub every-expression : (P : Claims) → Grows P → (e : Expr) → P.of_expression e
-every-expression P g = ind-Expr P.of_expression P.of_property P.of_key P.of_statement P.of_block P.of_catch P.of_declarator P.of_declarators P.of_expressions P.of_properties P.of_statements (expression-step P g) (property-step P g) (key-step P g) (statement-step P g) (block-step P g) (catch-step P g) (declarator-step P g) (declarators-step P g) (expressions-step P g) (properties-step P g) (statements-step P g)
+every-expression P g =
+    ind-Expr P.of_expression P.of_property P.of_key P.of_statement P.of_block P.of_catch P.of_declarator P.of_declarators P.of_expressions P.of_properties P.of_statements
+    (expression-step P g) (property-step P g) (key-step P g) (statement-step P g) (block-step P g) (catch-step P g)
+    (declarator-step P g) (declarators-step P g) (expressions-step P g) (properties-step P g) (statements-step P g)
 
 pub every-statements : (P : Claims) → Grows P → (ss : Stmts) → P.of_statements ss
-every-statements P g = ind-Stmts P.of_expression P.of_property P.of_key P.of_statement P.of_block P.of_catch P.of_declarator P.of_declarators P.of_expressions P.of_properties P.of_statements (expression-step P g) (property-step P g) (key-step P g) (statement-step P g) (block-step P g) (catch-step P g) (declarator-step P g) (declarators-step P g) (expressions-step P g) (properties-step P g) (statements-step P g)
+every-statements P g =
+    ind-Stmts P.of_expression P.of_property P.of_key P.of_statement P.of_block P.of_catch P.of_declarator P.of_declarators P.of_expressions P.of_properties P.of_statements
+    (expression-step P g) (property-step P g) (key-step P g) (statement-step P g) (block-step P g) (catch-step P g)
+    (declarator-step P g) (declarators-step P g) (expressions-step P g) (properties-step P g) (statements-step P g)

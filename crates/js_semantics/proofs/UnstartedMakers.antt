@@ -148,7 +148,13 @@ function-fresh node (Some n) ps b c h = (h.names_declared, tt, body-fresh b c h)
 function-fresh node None ps b c h = (h.names_declared, tt, body-fresh b c h)
 
 returned-fresh : (e : Made) → Fresh e → FreshItems (returned_body e)
-returned-fresh e h = record { names_declared = tt; functions_fresh = λ c. tt; terms_fresh = λ c. ((tt, tt, ((tt, (h (within e.node c), tt), tt), tt)), tt) }
+returned-fresh e h =
+    record {
+      names_declared = tt;
+      functions_fresh = λ c. tt;
+      terms_fresh = λ c.
+          ((tt, tt, ((tt, (h (within e.node c), tt), tt), tt)), tt);
+    }
 
 arrow-fresh : (node : ℕ) (n : List ℕ) (ps : List (List ℕ)) (b : Items) (c : Context)
     → FreshItems b
@@ -187,7 +193,8 @@ FreshDeclarators (d ∷ ds) = FreshOptional d.initializer × FreshDeclarators ds
 entered-fresh : (node : ℕ) (term : Context → Term)
     → ((c : Context) → IsUnstarted (term c))
     → FreshItem (untouched node term)
-entered-fresh node term h = record { names_declared = tt; functions_fresh = λ c. tt; term_fresh = λ c. (tt, tt, (h (within node c), tt)) }
+entered-fresh node term h =
+    record { names_declared = tt; functions_fresh = λ c. tt; term_fresh = λ c. (tt, tt, (h (within node c), tt)) }
 
 initializer-fresh : (n : List ℕ) (e : Option Made) (c : Context)
     → FreshOptional e
@@ -208,7 +215,13 @@ declared-names constant (d ∷ ds) = (refl, declared-names constant ds)
 lexical-fresh : (node : ℕ) (constant : Bool) (ds : List DeclaratorMade)
     → FreshDeclarators ds
     → FreshItem (lexical_item node constant ds)
-lexical-fresh node constant ds h = record { names_declared = declared-names constant ds; functions_fresh = λ c. tt; term_fresh = λ c. (tt, tt, ((tt, declarators-fresh ds (within node c) h, tt), tt)) }
+lexical-fresh node constant ds h =
+    record {
+      names_declared = declared-names constant ds;
+      functions_fresh = λ c. tt;
+      term_fresh = λ c.
+          (tt, tt, ((tt, declarators-fresh ds (within node c) h, tt), tt));
+    }
 
 optional-terms : (e : Option Made) (c : Context) → FreshOptional e → AreUnstarted (optional_terms e c)
 optional-terms None c h = tt
@@ -226,23 +239,36 @@ parts-fresh : (t u : Option Made) (s : Item) (c : Context)
     → FreshOptional u
     → FreshItem s
     → AreUnstarted (for_parts t u s c)
-parts-fresh t u s c h k i = (optional-fresh t c (done (values.Bool true)) h tt, (optional-fresh u c (done values.Undefined) k tt, (i.term_fresh c, tt)))
+parts-fresh t u s c h k i = (
+  optional-fresh t c (done (values.Bool true)) h tt,
+  (optional-fresh u c (done values.Undefined) k tt, (i.term_fresh c, tt)),
+)
 
 if-fresh : (node : ℕ) (e : Made) (s t : Item)
     → Fresh e
     → FreshItem s
     → FreshItem t
     → FreshItem (if_item node e s (Some t))
-if-fresh node e s t h k i = entered-fresh node (λ c. part choose (one (plain e c)) (more (s.term c) (one (t.term c)))) (λ c. (tt, (h (unnamed c), tt), (k.term_fresh c, (i.term_fresh c, tt))))
+if-fresh node e s t h k i =
+    entered-fresh node (λ c. part choose (one (plain e c)) (more (s.term c) (one (t.term c))))
+    (λ c. (tt, (h (unnamed c), tt), (k.term_fresh c, (i.term_fresh c, tt))))
 
 if_then-fresh : (node : ℕ) (e : Made) (s : Item) → Fresh e → FreshItem s → FreshItem (if_item node e s None)
-if_then-fresh node e s h k = entered-fresh node (λ c. part choose (one (plain e c)) (more (s.term c) (one (done values.Undefined)))) (λ c. (tt, (h (unnamed c), tt), (k.term_fresh c, (tt, tt))))
+if_then-fresh node e s h k =
+    entered-fresh node (λ c. part choose (one (plain e c)) (more (s.term c) (one (done values.Undefined))))
+    (λ c. (tt, (h (unnamed c), tt), (k.term_fresh c, (tt, tt))))
 
 while-fresh : (node : ℕ) (e : Made) (s : Item) → Fresh e → FreshItem s → FreshItem (while_item node e s)
-while-fresh node e s h k = entered-fresh node (λ c. part (loop first None) end (more (plain e c) (more (done values.Undefined) (one (s.term c))))) (λ c. (refl, tt, (h (unnamed c), (tt, (k.term_fresh c, tt)))))
+while-fresh node e s h k =
+    entered-fresh node
+    (λ c. part (loop first None) end (more (plain e c) (more (done values.Undefined) (one (s.term c)))))
+    (λ c. (refl, tt, (h (unnamed c), (tt, (k.term_fresh c, tt)))))
 
 do_while-fresh : (node : ℕ) (s : Item) (e : Made) → FreshItem s → Fresh e → FreshItem (do_while_item node s e)
-do_while-fresh node s e k h = entered-fresh node (λ c. part (loop doing None) end (more (plain e c) (more (done values.Undefined) (one (s.term c))))) (λ c. (refl, tt, (h (unnamed c), (tt, (k.term_fresh c, tt)))))
+do_while-fresh node s e k h =
+    entered-fresh node
+    (λ c. part (loop doing None) end (more (plain e c) (more (done values.Undefined) (one (s.term c)))))
+    (λ c. (refl, tt, (h (unnamed c), (tt, (k.term_fresh c, tt)))))
 
 for-fresh : (node : ℕ) (i t u : Option Made) (s : Item)
     → FreshOptional i
@@ -250,7 +276,9 @@ for-fresh : (node : ℕ) (i t u : Option Made) (s : Item)
     → FreshOptional u
     → FreshItem s
     → FreshItem (for_item node i t u s)
-for-fresh node i t u s a b d k = entered-fresh node (λ c. part (loop first None) (optional_terms i c) (for_parts t u s c)) (λ c. (refl, optional-terms i c a, parts-fresh t u s c b d k))
+for-fresh node i t u s a b d k =
+    entered-fresh node (λ c. part (loop first None) (optional_terms i c) (for_parts t u s c))
+    (λ c. (refl, optional-terms i c a, parts-fresh t u s c b d k))
 
 for_lexical-fresh : (node : ℕ) (constant : Bool) (ds : List DeclaratorMade) (t u : Option Made) (s : Item)
     → FreshDeclarators ds
@@ -261,17 +289,34 @@ for_lexical-fresh : (node : ℕ) (constant : Bool) (ds : List DeclaratorMade) (t
 for_lexical-fresh node constant ds t u s h a b k = record {
   names_declared = tt;
   functions_fresh = λ c. tt;
-  term_fresh = λ c. (declared-names constant ds, tt, ((tt, declarators-fresh ds (within node c) h, tt), parts-fresh t u s (within node c) a b k));
+  term_fresh =
+      λ c. (
+        declared-names constant ds,
+        tt,
+        ((tt, declarators-fresh ds (within node c) h, tt), parts-fresh t u s (within node c) a b k),
+      );
 }
 
 for_of-fresh : (node : ℕ) (constant : Bool) (n : List ℕ) (e : Made) (s : Item)
     → Fresh e
     → FreshItem s
     → FreshItem (for_of_item node constant n e s)
-for_of-fresh node constant n e s h k = record { names_declared = tt; functions_fresh = λ c. tt; term_fresh = λ c. (refl, tt, (h (unnamed (within node c)), (k.term_fresh (within node c), tt))) }
+for_of-fresh node constant n e s h k =
+    record {
+      names_declared = tt;
+      functions_fresh = λ c. tt;
+      term_fresh = λ c.
+          (refl, tt, (h (unnamed (within node c)), (k.term_fresh (within node c), tt)));
+    }
 
 return-fresh : (node : ℕ) (e : Option Made) → FreshOptional e → FreshItem (return_item node e)
-return-fresh node e h = record { names_declared = tt; functions_fresh = λ c. tt; term_fresh = λ c. (tt, tt, ((tt, optional-terms e (within node c) h, tt), tt)) }
+return-fresh node e h =
+    record {
+      names_declared = tt;
+      functions_fresh = λ c. tt;
+      term_fresh = λ c.
+          (tt, tt, ((tt, optional-terms e (within node c) h, tt), tt));
+    }
 
 abbrev pub FreshHandler : Option CatchMade → Type 0
 FreshHandler None = Unit {0}
@@ -300,12 +345,21 @@ try-fresh : (node : ℕ) (b : Items) (h : Option CatchMade) (f : Option Items)
     → FreshHandler h
     → FreshFinalizer f
     → FreshItem (try_item node b h f)
-try-fresh node b h f i j k = entered-fresh node (λ c. finally_term f (caught h (block_term b c) c) c) (λ c. finally-fresh f (caught h (block_term b c) c) c k (caught-fresh h (block_term b c) c j (block-fresh b c i)))
+try-fresh node b h f i j k =
+    entered-fresh node (λ c. finally_term f (caught h (block_term b c) c) c)
+    (λ c. finally-fresh f (caught h (block_term b c) c) c k
+    (caught-fresh h (block_term b c) c j (block-fresh b c i)))
 
 function_item-fresh : (node : ℕ) (n : List ℕ) (ps : List (List ℕ)) (b : Items)
     → FreshItems b
     → FreshItem (function_item node n ps b)
-function_item-fresh node n ps b h = record { names_declared = (refl, tt); functions_fresh = λ c. ((h.names_declared, tt, body-fresh b c h), tt); term_fresh = λ c. tt }
+function_item-fresh node n ps b h =
+    record {
+      names_declared = (refl, tt);
+      functions_fresh = λ c.
+          ((h.names_declared, tt, body-fresh b c h), tt);
+      term_fresh = λ c. tt;
+    }
 
 -- ---- object literals
 
@@ -330,8 +384,10 @@ property-fresh : (m : PropertyMade) (c : Context) (p : Parts)
     → FreshParts (property_parts m c p)
 property-fresh (value_property (fixed_key k) e) c p h q = ((h.1 (naming k c), q.0), q.1)
 property-fresh (value_property (computed_key k) e) c p h q = ((h.0 (unnamed c), (h.1 (unnamed c), q.0)), q.1)
-property-fresh (method_property node (fixed_key k) ps b) c p h q = let i = h.1 in (((i.names_declared, tt, body-fresh b c h.1), q.0), q.1)
-property-fresh (method_property node (computed_key k) ps b) c p h q = let i = h.1 in ((h.0 (unnamed c), tt), ((i.names_declared, q.0, body-fresh b c h.1), q.1))
+property-fresh (method_property node (fixed_key k) ps b) c p h q =
+    let i = h.1 in (((i.names_declared, tt, body-fresh b c h.1), q.0), q.1)
+property-fresh (method_property node (computed_key k) ps b) c p h q =
+    let i = h.1 in ((h.0 (unnamed c), tt), ((i.names_declared, q.0, body-fresh b c h.1), q.1))
 
 properties-fresh : (ms : List PropertyMade) (c : Context) → FreshProperties ms → FreshParts (properties_parts ms c)
 properties-fresh [] c h = (tt, tt)
@@ -417,7 +473,9 @@ keeps-fresh = record {
   of_continue = λ node. entered-fresh node (λ c. leaf continue_) (λ c. (tt, tt, tt));
   of_break = λ node. entered-fresh node (λ c. leaf break_) (λ c. (tt, tt, tt));
   of_return = λ node e x h. return-fresh node e h;
-  of_throw = λ node e x h. entered-fresh node (λ c. part (throw_ node) (one (plain e c)) end) (λ c. (tt, (h (unnamed c), tt), tt));
+  of_throw =
+      λ node e x h. entered-fresh node (λ c. part (throw_ node) (one (plain e c)) end)
+      (λ c. (tt, (h (unnamed c), tt), tt));
   of_try = λ node b h f xs y z i j k. try-fresh node b h f i j k;
   of_debugger = λ node. item-fresh (λ c. part (enter_debugger node) end (one nothing)) (λ c. (tt, tt, (tt, tt)));
   of_declared_function = λ node n ps body xs h. function_item-fresh node n ps body h;

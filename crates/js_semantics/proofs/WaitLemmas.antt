@@ -77,7 +77,8 @@ at_test-tight scope later k = (λ e. refl, (test-tight later k, tt), k)
 
 at_update-tight : (scope : Option Addr) (later : Terms) → Tights later → Tight (at_update scope later)
 at_update-tight scope later k =
-    tight_if (is_done (update_of later)) (at_test scope later) (part (loop updating scope) (one (update_of later)) later) (λ e. at_test-tight scope later k)
+    tight_if (is_done (update_of later)) (at_test scope later)
+    (part (loop updating scope) (one (update_of later)) later) (λ e. at_test-tight scope later k)
     (λ e. (λ h. absurd (not-done (update_of later) e h), (update-tight later k, tt), k))
 
 behind_body-tight : (scope : Option Addr) (later : Terms) → Tights later → Tight (behind_body scope later)
@@ -86,7 +87,8 @@ behind_body-tight (Some a) later k = (λ e. refl, tt, k)
 
 at_body-tight : (scope : Option Addr) (later : Terms) → Tights later → Tight (at_body scope later)
 at_body-tight scope later k =
-    tight_if (is_done (body_of_loop later)) (behind_body scope later) (part (loop body scope) (one (body_of_loop later)) later) (λ e. behind_body-tight scope later k)
+    tight_if (is_done (body_of_loop later)) (behind_body scope later)
+    (part (loop body scope) (one (body_of_loop later)) later) (λ e. behind_body-tight scope later k)
     (λ e. (λ h. absurd (not-done (body_of_loop later) e h), (body-tight later k, tt), k))
 
 behind_first-tight : (scope : Option Addr) (later : Terms) → Tights later → Tight (behind_first scope later)
@@ -120,7 +122,9 @@ settled-tight : (f : Form) (now later : Terms)
     → Tights now
     → ByCase (uncovers f) (RestWaits all_done later) (Tights later)
     → Tight (settled f now later)
-settled-tight f now later n k = tight_if (all_done now) (finished f now later) (part f now later) (λ e. finished-tight f now later n k) (λ e. (λ h. absurd (contrary (all_done now) e h), n, k))
+settled-tight f now later n k =
+    tight_if (all_done now) (finished f now later) (part f now later) (λ e. finished-tight f now later n k)
+    (λ e. (λ h. absurd (contrary (all_done now) e h), n, k))
 
 settle-tight : (t : Term) → Loose t → Tight (settle t)
 settle-tight (done v) h = tt
@@ -201,10 +205,13 @@ perform-waits : (a : Action) (s : State) → ActionWaits a → MoveWaits (perfor
 perform-waits (go t) s h = h
 perform-waits (raise v) s h = tt
 perform-waits (leave c) s h = tt
-perform-waits (make c k) s h = after_waits s (make_cell s.world c) (λ a. perform (k a)) (λ a u. perform-waits (k a) u (h a))
+perform-waits (make c k) s h =
+    after_waits s (make_cell s.world c) (λ a. perform (k a)) (λ a u. perform-waits (k a) u (h a))
 perform-waits (write a c k) s h = after_waits s (write_cell s.world a c) (λ x. perform k) (λ x u. perform-waits k u h)
 perform-waits (print vs text) s h = outside_waits (is_evaluation s.world) s _ tt
-perform-waits (take_line k) s h = outside_waits (is_evaluation s.world) s _ (perform-waits (k (first_line s.input)) (record s { input = other_lines s.input }) (h (first_line s.input)))
+perform-waits (take_line k) s h =
+    outside_waits (is_evaluation s.world) s _
+    (perform-waits (k (first_line s.input)) (record s { input = other_lines s.input }) (h (first_line s.input)))
 perform-waits (set_here m k) s h = perform-waits k (with_here s m) h
 perform-waits (push_frame f k) s h = perform-waits k (record s { frames = f ∷ s.frames }) h
 perform-waits (pop_frame k) s h = perform-waits k (record s { frames = rest_of s.frames }) h
@@ -236,19 +243,27 @@ mutual
   function_in-waits node (done v) h = tt
   function_in-waits node (standing v place) h = tt
   function_in-waits node (part f now later) h =
-      first-waits (code_here f node later) (first_code (function_in_all node now) (function_in_all node later)) (here-waits f node later h.1)
-      (first-waits (function_in_all node now) (function_in_all node later) (function_in_all-waits node now h.0) (function_in_rest-waits (uncovers f) node later h.1))
+      first-waits (code_here f node later) (first_code (function_in_all node now) (function_in_all node later))
+      (here-waits f node later h.1)
+      (first-waits (function_in_all node now) (function_in_all node later) (function_in_all-waits node now h.0)
+      (function_in_rest-waits (uncovers f) node later h.1))
 
   function_in_all-waits : (node : ℕ) (ts : Terms) → Tights ts → CodeWaits (function_in_all node ts)
   function_in_all-waits node end h = tt
-  function_in_all-waits node (more t ts) h = first-waits (function_in node t) (function_in_all node ts) (function_in-waits node t (loosened t h.0)) (function_in_all-waits node ts h.1)
+  function_in_all-waits node (more t ts) h =
+      first-waits (function_in node t) (function_in_all node ts) (function_in-waits node t (loosened t h.0))
+      (function_in_all-waits node ts h.1)
 
   function_in_rest-waits : (b : Bool) (node : ℕ) (ts : Terms)
       → ByCase b (RestWaits all_done ts) (Tights ts)
       → CodeWaits (function_in_all node ts)
   function_in_rest-waits b node end h = tt
-  function_in_rest-waits true node (more t ts) h = first-waits (function_in node t) (function_in_all node ts) (function_in-waits node t h.0) (function_in_all-waits node ts h.1)
-  function_in_rest-waits false node (more t ts) h = first-waits (function_in node t) (function_in_all node ts) (function_in-waits node t (loosened t h.0)) (function_in_all-waits node ts h.1)
+  function_in_rest-waits true node (more t ts) h =
+      first-waits (function_in node t) (function_in_all node ts) (function_in-waits node t h.0)
+      (function_in_all-waits node ts h.1)
+  function_in_rest-waits false node (more t ts) h =
+      first-waits (function_in node t) (function_in_all node ts) (function_in-waits node t (loosened t h.0))
+      (function_in_all-waits node ts h.1)
 
 at_if : (b : Bool) (o p : Option FunctionCode) → CodeWaits o → CodeWaits p → CodeWaits (if b then o else p)
 at_if true o p h k = h
@@ -257,32 +272,40 @@ at_if false o p h k = k
 function_at-waits : (p : Program) (source : Source) (node : ℕ) → ProgramWaits p → CodeWaits (function_at p source node)
 function_at-waits [] source node h = tt
 function_at-waits (t ∷ ts) source node h =
-    at_if (same_source t.source source) (function_in node t.tree) (function_at ts source node) (function_in-waits node t.tree (loosened t.tree h.0)) (function_at-waits ts source node h.1)
+    at_if (same_source t.source source) (function_in node t.tree) (function_at ts source node)
+    (function_in-waits node t.tree (loosened t.tree h.0)) (function_at-waits ts source node h.1)
 
-code-waits : (s : State) (o : Option FunctionCode) (source : Source) (a : Addr) (name : List ℕ) (outer : Option Addr) (x y : Value) (args : List Value)
+code-waits : (s : State) (o : Option FunctionCode) (source : Source) (a : Addr) (name : List ℕ) (outer : Option Addr)
+    (x y : Value) (args : List Value)
     → CodeWaits o
     → ActionWaits (call_code s o source a name outer x y args)
 code-waits s None source a name outer x y args h = fail-waits classes.TypeError (codes "Value is not a function")
 code-waits s (Some c) source a name None x y args h = fail-waits classes.TypeError (codes "Value is not a function")
 code-waits s (Some c) source a name (Some outer) x y args h =
-    choose_waits (nat_lt (length s.frames) frame_limit) (entered c source a name outer (called_this c.form.is_arrow x y) args) too_deep
-    (λ b. functions-wait b c.functions (frame_entered c source a (called_this c.form.is_arrow x y) b) (λ e. refl, (settle-tight c.body h, tt), tt))
+    choose_waits (nat_lt (length s.frames) frame_limit)
+    (entered c source a name outer (called_this c.form.is_arrow x y) args) too_deep
+    (λ b. functions-wait b c.functions (frame_entered c source a (called_this c.form.is_arrow x y) b)
+    (λ e. refl, (settle-tight c.body h, tt), tt))
     (fail-waits classes.RangeError (codes "Maximum call stack size exceeded"))
 
 cell-waits : (p : Program) (s : State) (a : Addr) (o : Option Cell) (y : Value) (args : List Value)
     → ProgramWaits p
     → ActionWaits (call_cell p s a o y args)
 cell-waits p s a None y args h = fail-waits classes.TypeError (codes "Value is not a function")
-cell-waits p s a (Some (cells.Function (code.BuiltIn f) n l outer x)) y args h = gives-waits (built_in_call s.world f y args) (built_in-gives s.world f y args)
+cell-waits p s a (Some (cells.Function (code.BuiltIn f) n l outer x)) y args h =
+    gives-waits (built_in_call s.world f y args) (built_in-gives s.world f y args)
 cell-waits p s a (Some (cells.Function (code.Script number node) n l outer x)) y args h =
-    code-waits s (function_at p (script_source number) node) (script_source number) a n outer x y args (function_at-waits p (script_source number) node h)
+    code-waits s (function_at p (script_source number) node) (script_source number) a n outer x y args
+    (function_at-waits p (script_source number) node h)
 cell-waits p s a (Some (cells.Function (code.Kept at node) n l outer x)) y args h =
-    code-waits s (function_at p (kept_source at) node) (kept_source at) a n outer x y args (function_at-waits p (kept_source at) node h)
+    code-waits s (function_at p (kept_source at) node) (kept_source at) a n outer x y args
+    (function_at-waits p (kept_source at) node h)
 cell-waits p s a (Some (cells.Object ps)) y args h = fail-waits classes.TypeError (codes "Value is not a function")
 cell-waits p s a (Some (cells.Error class ps)) y args h = fail-waits classes.TypeError (codes "Value is not a function")
 cell-waits p s a (Some (cells.Array vs)) y args h = fail-waits classes.TypeError (codes "Value is not a function")
 cell-waits p s a (Some (cells.Text us)) y args h = fail-waits classes.TypeError (codes "Value is not a function")
-cell-waits p s a (Some (cells.Bindings kind n o ns)) y args h = fail-waits classes.TypeError (codes "Value is not a function")
+cell-waits p s a (Some (cells.Bindings kind n o ns)) y args h =
+    fail-waits classes.TypeError (codes "Value is not a function")
 
 value-waits : (p : Program) (s : State) (f y : Value) (args : List Value)
     → ProgramWaits p
@@ -301,7 +324,8 @@ script-waits : (number : ℕ) (names : List Binding) (later : Terms)
     → RestWaits all_done later
     → ActionWaits (script_row number names later)
 script-waits number names end k = tt
-script-waits number names (more t fs) k = names-wait _ names (with_functions _ fs (go (settle t))) (functions-wait _ fs (go (settle t)) (settle-tight t k.0))
+script-waits number names (more t fs) k =
+    names-wait _ names (with_functions _ fs (go (settle t))) (functions-wait _ fs (go (settle t)) (settle-tight t k.0))
 
 enter-waits : (node : ℕ) (later : Terms) → RestWaits all_done later → ActionWaits (enter_row node later)
 enter-waits node end k = tt
@@ -313,7 +337,9 @@ block-waits : (scope : Addr) (names : List Binding) (later : Terms)
 block-waits scope [] end k = tt
 block-waits scope (b ∷ bs) end k = tt
 block-waits scope [] (more t fs) k = settle-tight t k.0
-block-waits scope (b ∷ bs) (more t fs) k = λ a. functions-wait a fs (go (settled (scoped a) (one (settle t)) end)) (scoped-tight (settle t) a (settle-tight t k.0))
+block-waits scope (b ∷ bs) (more t fs) k =
+    λ a. functions-wait a fs (go (settled (scoped a) (one (settle t)) end))
+    (scoped-tight (settle t) a (settle-tight t k.0))
 
 chosen-tight : (b : Bool) (later : Terms) → Tights later → Tight (chosen b later)
 chosen-tight true end k = tt
@@ -357,8 +383,13 @@ started false now later e = absurd cc
 for_in-tight : (constant : Bool) (a : Addr) (later : Terms) → RestWaits all_done later → Tight (for_in constant a later)
 for_in-tight true a end k = tt
 for_in-tight false a end k = tt
-for_in-tight true a (more t ts) k = (λ e. absurd (started (all_done (one (settle t))) (one (settle t)) ts e), (settled-tight (loop first None) (one (settle t)) ts (settle-tight t k.0, tt) k.1, tt), tt)
-for_in-tight false a (more t ts) k = settled-tight (loop first (Some a)) (one (settle t)) ts (settle-tight t k.0, tt) k.1
+for_in-tight true a (more t ts) k = (
+  λ e. absurd (started (all_done (one (settle t))) (one (settle t)) ts e),
+  (settled-tight (loop first None) (one (settle t)) ts (settle-tight t k.0, tt) k.1, tt),
+  tt,
+)
+for_in-tight false a (more t ts) k =
+    settled-tight (loop first (Some a)) (one (settle t)) ts (settle-tight t k.0, tt) k.1
 
 enter_for_of-waits : (scope : Addr) (node : ℕ) (b : Binding) (later : Terms)
     → Tights later
@@ -368,7 +399,8 @@ enter_for_of-waits scope node b (more t ts) k = λ a. (λ e. refl, (scoped-tight
 
 list-waits : (w : World) (b : Binding) (x : Value) (later : Terms) → Tights later → ActionWaits (list_row w b x later)
 list-waits w b x later k =
-    choose_waits (is_array w x) (go (part (turn_of b 0) end (more (done x) later))) (fail classes.TypeError (codes "Value is not an array")) (λ e. refl, tt, (tt, k))
+    choose_waits (is_array w x) (go (part (turn_of b 0) end (more (done x) later)))
+    (fail classes.TypeError (codes "Value is not an array")) (λ e. refl, tt, (tt, k))
     (fail-waits classes.TypeError (codes "Value is not an array"))
 
 body_part-tight : (later : Terms) → Tights later → Tight (body_part later)
@@ -381,7 +413,8 @@ turn-waits : (scope : Addr) (b : Binding) (i : ℕ) (o : Option Value) (later : 
     → ActionWaits (turn_row scope b i o later)
 turn-waits scope b i None later k = tt
 turn-waits scope b i (Some x) later k =
-    λ a. settled-tight (body_of b (i + 1)) (one (settled (scoped a) (one (body_part later)) end)) later (scoped-tight (body_part later) a (body_part-tight later k), tt) k
+    λ a. settled-tight (body_of b (i + 1)) (one (settled (scoped a) (one (body_part later)) end)) later
+    (scoped-tight (body_part later) a (body_part-tight later k), tt) k
 
 comma-waits : (later : Terms) → Tights later → ActionWaits (comma_row later)
 comma-waits end k = tt
@@ -393,22 +426,34 @@ compound-waits : (w : World) (scope : Addr) (o : BinaryOperator) (r : Reference)
     → ActionWaits (compound_row w scope o r vs later)
 compound-waits w scope o r vs end k = tt
 compound-waits w scope o r vs (more e ts) k =
-    result-waits (read_result w scope r vs) (λ old. go (part (assign r) (joined (dones vs) (one (part (binary o) (more (done old) (one e)) end))) end))
-    (λ x. (λ q. refl, joined-tight (dones vs) (one (part (binary o) (more (done x) (one e)) end)) (dones-tight vs) ((λ q. refl, (tt, (k.0, tt)), tt), tt), tt))
+    result-waits (read_result w scope r vs)
+    (λ old. go (part (assign r) (joined (dones vs) (one (part (binary o) (more (done old) (one e)) end))) end))
+    (λ x. (
+      λ q. refl,
+      joined-tight (dones vs) (one (part (binary o) (more (done x) (one e)) end)) (dones-tight vs)
+          ((λ q. refl, (tt, (k.0, tt)), tt), tt),
+      tt,
+    ))
 
 callee-waits : (w : World) (scope : Addr) (r : Reference) (m : Mark) (node : ℕ) (vs : List Value) (later : Terms)
     → Tights later
     → ActionWaits (callee_row w scope r m node vs later)
 callee-waits w scope r m node vs later k =
-    result-waits (read_result w scope r vs) (λ f. go (part (call m node) (more (done (callee_this r vs)) (more (done f) later)) end)) (λ x. (λ e. refl, (tt, (tt, k)), tt))
+    result-waits (read_result w scope r vs)
+    (λ f. go (part (call m node) (more (done (callee_this r vs)) (more (done f) later)) end))
+    (λ x. (λ e. refl, (tt, (tt, k)), tt))
 
 object-waits : (w : World) (scope : Addr) (ms : List Member) (vs : List Value) (later : Terms)
     → Tights later
     → ActionWaits (object_row w scope ms vs later)
-object-waits w scope ms vs end k = gives-waits (object_or_fail (properties_from w [] ms vs)) (made-gives (properties_from w [] ms vs))
+object-waits w scope ms vs end k =
+    gives-waits (object_or_fail (properties_from w [] ms vs)) (made-gives (properties_from w [] ms vs))
 object-waits w scope ms vs (more (part (method f) now later) ts) k =
-    key-waits (key_of w (last_of vs)) (λ key. make (function_cell f key scope values.Undefined) (λ a. go (part (object ms) (joined (dones vs) (more (done (values.Object a)) now)) ts)))
-    (λ key a. (λ e. refl, joined-tight (dones vs) (more (done (values.Object a)) now) (dones-tight vs) (tt, k.0.1), k.1))
+    key-waits (key_of w (last_of vs))
+    (λ key. make (function_cell f key scope values.Undefined)
+    (λ a. go (part (object ms) (joined (dones vs) (more (done (values.Object a)) now)) ts)))
+    (λ key a.
+    (λ e. refl, joined-tight (dones vs) (more (done (values.Object a)) now) (dones-tight vs) (tt, k.0.1), k.1))
 object-waits w scope ms vs (more _ ts) k = tt
 
 ending-waits : (o : Option Completion) → ActionWaits (ending_row o)
@@ -434,17 +479,22 @@ row-waits p s scope (list_of b) vs later g k = list-waits s.world b (only vs) la
 row-waits p s scope (turn_of b i) vs later g k = turn-waits scope b i (elements_of s.world later i) later k
 row-waits p s scope this vs later g k = tt
 row-waits p s scope (read r) vs later g k = result-waits (read_result s.world scope r vs) give (λ x. tt)
-row-waits p s scope (typeof_name x) vs later g k = gives-waits (type_of_found s.world x (found s.world scope x)) (type_of-gives s.world x (found s.world scope x))
+row-waits p s scope (typeof_name x) vs later g k =
+    gives-waits (type_of_found s.world x (found s.world scope x)) (type_of-gives s.world x (found s.world scope x))
 row-waits p s scope (unary op) vs later g k = result-waits (unary_result s.world op (only vs)) give (λ x. tt)
-row-waits p s scope (binary op) vs later g k = result-waits (binary_result s.world op (argument vs 0) (argument vs 1)) give (λ x. tt)
+row-waits p s scope (binary op) vs later g k =
+    result-waits (binary_result s.world op (argument vs 0) (argument vs 1)) give (λ x. tt)
 row-waits p s scope comma vs later g k = comma-waits later k
 row-waits p s scope (function f) vs later g k = gives-waits (function_row s scope f) (function_row-gives s scope f)
 row-waits p s scope array vs later g k = λ a. tt
 row-waits p s scope (object ms) vs later g k = object-waits s.world scope ms vs later k
 row-waits p s scope (compound op r) vs later g k = compound-waits s.world scope op r vs later k
-row-waits p s scope (assign r) vs later g k = gives-waits (assign_row s.world scope r vs) (put-gives s.world scope r vs (last_of vs) (give (last_of vs)) tt)
-row-waits p s scope (update op prefix r) vs later g k = gives-waits (update_row s.world scope op prefix r vs) (update_row-gives s.world scope op prefix r vs)
-row-waits p s scope (delete r) vs later g k = gives-waits (remove s.world r vs (give (values.Bool true))) (remove-gives s.world r vs (give (values.Bool true)) tt)
+row-waits p s scope (assign r) vs later g k =
+    gives-waits (assign_row s.world scope r vs) (put-gives s.world scope r vs (last_of vs) (give (last_of vs)) tt)
+row-waits p s scope (update op prefix r) vs later g k =
+    gives-waits (update_row s.world scope op prefix r vs) (update_row-gives s.world scope op prefix r vs)
+row-waits p s scope (delete r) vs later g k =
+    gives-waits (remove s.world r vs (give (values.Bool true))) (remove-gives s.world r vs (give (values.Bool true)) tt)
 row-waits p s scope (call m node) vs later g k = call-waits p s m vs g
 row-waits p s scope (call_of r m node) vs later g k = callee-waits s.world scope r m node vs later k
 row-waits p s scope (ending kept) vs later g k = ending-waits kept
@@ -511,9 +561,11 @@ around-waits : (p : Program) (scope : Addr) (f : Form) (later : Terms) (s : Stat
     → ByCase (uncovers f) (RestWaits all_done later) (Tights later)
     → WalkWaits x
     → MoveWaits (around p scope f later s x)
-around-waits p scope f later s (all_values vs) g k h = perform-waits (row p s scope f vs later) s (row-waits p s scope f vs later g k)
+around-waits p scope f later s (all_values vs) g k h =
+    perform-waits (row p s scope f vs later) s (row-waits p s scope f vs later g k)
 around-waits p scope f later s (moved (goes now t told)) g k h = settled-tight f now later h k
-around-waits p scope f later s (moved (travels c t)) g k h = perform-waits (taken scope f c later) t (taken-waits scope f c later k)
+around-waits p scope f later s (moved (travels c t)) g k h =
+    perform-waits (taken scope f c later) t (taken-waits scope f c later k)
 around-waits p scope f later s (moved (has_effect t)) g k h = tt
 around-waits p scope f later s (moved (is_full what t)) g k h = tt
 
@@ -524,7 +576,9 @@ mutual
       → MoveWaits (next p scope t s)
   next-waits p scope (done v) s g h = tt
   next-waits p scope (standing v place) s g h = tt
-  next-waits p scope (part f now later) s g h = around-waits p scope f later s (walk p (scope_in f scope) now s) g h.2 (walk-waits p (scope_in f scope) now s g h.1)
+  next-waits p scope (part f now later) s g h =
+      around-waits p scope f later s (walk p (scope_in f scope) now s) g h.2
+      (walk-waits p (scope_in f scope) now s g h.1)
 
   walk-waits : (p : Program) (scope : Addr) (ts : Terms) (s : State)
       → ProgramWaits p
@@ -533,7 +587,8 @@ mutual
   walk-waits p scope end s g h = tt
   walk-waits p scope (more (done v) ts) s g h = with_value-waits v (walk p scope ts s) (walk-waits p scope ts s g h.1)
   walk-waits p scope (more (standing v place) ts) s g h = tt
-  walk-waits p scope (more (part f now later) ts) s g h = inside-waits ts (next p scope (part f now later) s) h.1 (next-waits p scope (part f now later) s g h.0)
+  walk-waits p scope (more (part f now later) ts) s g h =
+      inside-waits ts (next p scope (part f now later) s) h.1 (next-waits p scope (part f now later) s g h.0)
 
 -- ---- runs
 
@@ -573,8 +628,11 @@ mutual
   placed-waits at n (done v) h = tt
   placed-waits at n (standing v place) h = tt
   placed-waits at n (part (literal us) now later) h = tt
-  placed-waits at n (part f now later) h =
-      (λ e. h.0 (sym (ready-placed at n now) ∙ e), all-placed-wait at n now h.1, case-placed-waits (uncovers f) at (n + length (literals_of now)) later h.2)
+  placed-waits at n (part f now later) h = (
+    λ e. h.0 (sym (ready-placed at n now) ∙ e),
+    all-placed-wait at n now h.1,
+    case-placed-waits (uncovers f) at (n + length (literals_of now)) later h.2,
+  )
 
   all-placed-wait : (at : ℕ → Addr) (n : ℕ) (ts : Terms)
       → AllWait all_ready ts
@@ -588,15 +646,18 @@ mutual
   parts-placed-wait at n (done v) h = tt
   parts-placed-wait at n (standing v place) h = tt
   parts-placed-wait at n (part (literal us) now later) h = tt
-  parts-placed-wait at n (part f now later) h = (all-placed-wait at n now h.0, case-placed-waits (uncovers f) at (n + length (literals_of now)) later h.1)
+  parts-placed-wait at n (part f now later) h =
+      (all-placed-wait at n now h.0, case-placed-waits (uncovers f) at (n + length (literals_of now)) later h.1)
 
   case-placed-waits : (b : Bool) (at : ℕ → Addr) (n : ℕ) (ts : Terms)
       → ByCase b (RestWaits all_ready ts) (AllWait all_ready ts)
       → ByCase b (RestWaits all_done (all_with_literals at n ts)) (AllWait all_done (all_with_literals at n ts))
   case-placed-waits true at n end h = tt
   case-placed-waits false at n end h = tt
-  case-placed-waits true at n (more t ts) h = (parts-placed-wait at n t h.0, all-placed-wait at (n + length (literals t)) ts h.1)
-  case-placed-waits false at n (more t ts) h = (placed-waits at n t h.0, all-placed-wait at (n + length (literals t)) ts h.1)
+  case-placed-waits true at n (more t ts) h =
+      (parts-placed-wait at n t h.0, all-placed-wait at (n + length (literals t)) ts h.1)
+  case-placed-waits false at n (more t ts) h =
+      (placed-waits at n t h.0, all-placed-wait at (n + length (literals t)) ts h.1)
 
 program-waits : (n : ℕ) (ts : Terms) → AllWait all_done ts → ProgramWaits (program_from n ts)
 program-waits n end h = tt
@@ -606,4 +667,5 @@ pub plain-waits : (k : ℕ) (ts : Terms) (input : List (List ℕ)) → AllWait a
 plain-waits k ts input h =
     let placed : AllWait all_done (placed_scripts ts) = all-placed-wait (λ n. Base n) first_literal ts h in
     steps-wait k (program_of ts) script_scope (start_of ts input) (program-waits 1 (placed_scripts ts) placed)
-    (of-waits (settled scripts (placed_scripts ts) end) (first_state ts input) (settled-tight scripts (placed_scripts ts) end placed tt))
+    (of-waits (settled scripts (placed_scripts ts) end) (first_state ts input)
+    (settled-tight scripts (placed_scripts ts) end placed tt))

@@ -132,7 +132,8 @@ function-waits node (Some n) ps b c h = (λ q. refl, tt, body-waits b c h)
 function-waits node None ps b c h = (λ q. refl, tt, body-waits b c h)
 
 returned-waits : (e : Made) → MadeWaits e → ItemsWait (returned_body e)
-returned-waits e h = record { functions_wait = λ c. tt; terms_wait = λ c. ((λ q. refl, tt, (((h (within e.node c), tt), tt), tt)), tt) }
+returned-waits e h =
+    record { functions_wait = λ c. tt; terms_wait = λ c. ((λ q. refl, tt, (((h (within e.node c), tt), tt), tt)), tt) }
 
 arrow-waits : (node : ℕ) (n : List ℕ) (ps : List (List ℕ)) (b : Items) (c : Context)
     → ItemsWait b
@@ -162,7 +163,8 @@ DeclaratorsWait [] = Unit {0}
 DeclaratorsWait (d ∷ ds) = OptionalWaits d.initializer × DeclaratorsWait ds
 
 entered-waits : (node : ℕ) (term : Context → Term) → ((c : Context) → Loose (term c)) → ItemWaits (untouched node term)
-entered-waits node term h = record { functions_wait = λ c. tt; term_waits = λ c. (λ q. refl, tt, (h (within node c), tt)) }
+entered-waits node term h =
+    record { functions_wait = λ c. tt; term_waits = λ c. (λ q. refl, tt, (h (within node c), tt)) }
 
 initializer-waits : (n : List ℕ) (e : Option Made) (c : Context) → OptionalWaits e → Tights (initializer_terms n e c)
 initializer-waits n None c h = tt
@@ -170,12 +172,18 @@ initializer-waits n (Some e) c h = (h (naming n c), tt)
 
 declarators-wait : (ds : List DeclaratorMade) (c : Context) → DeclaratorsWait ds → Tights (declarators_terms ds c)
 declarators-wait [] c h = tt
-declarators-wait (d ∷ ds) c h = ((λ q. refl, initializer-waits d.name d.initializer c h.0, tt), declarators-wait ds c h.1)
+declarators-wait (d ∷ ds) c h =
+    ((λ q. refl, initializer-waits d.name d.initializer c h.0, tt), declarators-wait ds c h.1)
 
 lexical-waits : (node : ℕ) (constant : Bool) (ds : List DeclaratorMade)
     → DeclaratorsWait ds
     → ItemWaits (lexical_item node constant ds)
-lexical-waits node constant ds h = record { functions_wait = λ c. tt; term_waits = λ c. (λ q. refl, tt, ((declarators-wait ds (within node c) h, tt), tt)) }
+lexical-waits node constant ds h =
+    record {
+      functions_wait = λ c. tt;
+      term_waits = λ c.
+          (λ q. refl, tt, ((declarators-wait ds (within node c) h, tt), tt));
+    }
 
 optional_terms-wait : (e : Option Made) (c : Context) → OptionalWaits e → Tights (optional_terms e c)
 optional_terms-wait None c h = tt
@@ -190,23 +198,36 @@ parts-wait : (t u : Option Made) (s : Item) (c : Context)
     → OptionalWaits u
     → ItemWaits s
     → Tights (for_parts t u s c)
-parts-wait t u s c h k i = (optional-waits t c (done (values.Bool true)) h tt, (optional-waits u c (done values.Undefined) k tt, (i.term_waits c, tt)))
+parts-wait t u s c h k i = (
+  optional-waits t c (done (values.Bool true)) h tt,
+  (optional-waits u c (done values.Undefined) k tt, (i.term_waits c, tt)),
+)
 
 if-waits : (node : ℕ) (e : Made) (s t : Item)
     → MadeWaits e
     → ItemWaits s
     → ItemWaits t
     → ItemWaits (if_item node e s (Some t))
-if-waits node e s t h k i = entered-waits node (λ c. part choose (one (plain e c)) (more (s.term c) (one (t.term c)))) (λ c. ((h (unnamed c), tt), (k.term_waits c, (i.term_waits c, tt))))
+if-waits node e s t h k i =
+    entered-waits node (λ c. part choose (one (plain e c)) (more (s.term c) (one (t.term c))))
+    (λ c. ((h (unnamed c), tt), (k.term_waits c, (i.term_waits c, tt))))
 
 if_then-waits : (node : ℕ) (e : Made) (s : Item) → MadeWaits e → ItemWaits s → ItemWaits (if_item node e s None)
-if_then-waits node e s h k = entered-waits node (λ c. part choose (one (plain e c)) (more (s.term c) (one (done values.Undefined)))) (λ c. ((h (unnamed c), tt), (k.term_waits c, (tt, tt))))
+if_then-waits node e s h k =
+    entered-waits node (λ c. part choose (one (plain e c)) (more (s.term c) (one (done values.Undefined))))
+    (λ c. ((h (unnamed c), tt), (k.term_waits c, (tt, tt))))
 
 while-waits : (node : ℕ) (e : Made) (s : Item) → MadeWaits e → ItemWaits s → ItemWaits (while_item node e s)
-while-waits node e s h k = entered-waits node (λ c. part (loop first None) end (more (plain e c) (more (done values.Undefined) (one (s.term c))))) (λ c. (tt, (h (unnamed c), (tt, (k.term_waits c, tt)))))
+while-waits node e s h k =
+    entered-waits node
+    (λ c. part (loop first None) end (more (plain e c) (more (done values.Undefined) (one (s.term c)))))
+    (λ c. (tt, (h (unnamed c), (tt, (k.term_waits c, tt)))))
 
 do_while-waits : (node : ℕ) (s : Item) (e : Made) → ItemWaits s → MadeWaits e → ItemWaits (do_while_item node s e)
-do_while-waits node s e k h = entered-waits node (λ c. part (loop doing None) end (more (plain e c) (more (done values.Undefined) (one (s.term c))))) (λ c. (tt, (h (unnamed c), (tt, (k.term_waits c, tt)))))
+do_while-waits node s e k h =
+    entered-waits node
+    (λ c. part (loop doing None) end (more (plain e c) (more (done values.Undefined) (one (s.term c)))))
+    (λ c. (tt, (h (unnamed c), (tt, (k.term_waits c, tt)))))
 
 for-waits : (node : ℕ) (i t u : Option Made) (s : Item)
     → OptionalWaits i
@@ -214,7 +235,9 @@ for-waits : (node : ℕ) (i t u : Option Made) (s : Item)
     → OptionalWaits u
     → ItemWaits s
     → ItemWaits (for_item node i t u s)
-for-waits node i t u s a b d k = entered-waits node (λ c. part (loop first None) (optional_terms i c) (for_parts t u s c)) (λ c. (optional_terms-wait i c a, parts-wait t u s c b d k))
+for-waits node i t u s a b d k =
+    entered-waits node (λ c. part (loop first None) (optional_terms i c) (for_parts t u s c))
+    (λ c. (optional_terms-wait i c a, parts-wait t u s c b d k))
 
 for_lexical-waits : (node : ℕ) (constant : Bool) (ds : List DeclaratorMade) (t u : Option Made) (s : Item)
     → DeclaratorsWait ds
@@ -222,16 +245,27 @@ for_lexical-waits : (node : ℕ) (constant : Bool) (ds : List DeclaratorMade) (t
     → OptionalWaits u
     → ItemWaits s
     → ItemWaits (for_lexical_item node constant ds t u s)
-for_lexical-waits node constant ds t u s h a b k = record { functions_wait = λ c. tt; term_waits = λ c. (λ q. refl, tt, ((declarators-wait ds (within node c) h, tt), parts-wait t u s (within node c) a b k)) }
+for_lexical-waits node constant ds t u s h a b k =
+    record {
+      functions_wait = λ c. tt;
+      term_waits = λ c.
+          (λ q. refl, tt, ((declarators-wait ds (within node c) h, tt), parts-wait t u s (within node c) a b k));
+    }
 
 for_of-waits : (node : ℕ) (constant : Bool) (n : List ℕ) (e : Made) (s : Item)
     → MadeWaits e
     → ItemWaits s
     → ItemWaits (for_of_item node constant n e s)
-for_of-waits node constant n e s h k = record { functions_wait = λ c. tt; term_waits = λ c. (λ q. refl, tt, (h (unnamed (within node c)), (k.term_waits (within node c), tt))) }
+for_of-waits node constant n e s h k =
+    record {
+      functions_wait = λ c. tt;
+      term_waits = λ c.
+          (λ q. refl, tt, (h (unnamed (within node c)), (k.term_waits (within node c), tt)));
+    }
 
 return-waits : (node : ℕ) (e : Option Made) → OptionalWaits e → ItemWaits (return_item node e)
-return-waits node e h = entered-waits node (λ c. part return_ (optional_terms e c) end) (λ c. (optional_terms-wait e c h, tt))
+return-waits node e h =
+    entered-waits node (λ c. part return_ (optional_terms e c) end) (λ c. (optional_terms-wait e c h, tt))
 
 abbrev pub HandlerWaits : Option CatchMade → Type 0
 HandlerWaits None = Unit {0}
@@ -258,12 +292,15 @@ try-waits : (node : ℕ) (b : Items) (h : Option CatchMade) (f : Option Items)
     → HandlerWaits h
     → FinalizerWaits f
     → ItemWaits (try_item node b h f)
-try-waits node b h f i j k = entered-waits node (λ c. finally_term f (caught h (block_term b c) c) c) (λ c. finally-waits f (caught h (block_term b c) c) c k (caught-waits h b c j i))
+try-waits node b h f i j k =
+    entered-waits node (λ c. finally_term f (caught h (block_term b c) c) c)
+    (λ c. finally-waits f (caught h (block_term b c) c) c k (caught-waits h b c j i))
 
 function_item-waits : (node : ℕ) (n : List ℕ) (ps : List (List ℕ)) (b : Items)
     → ItemsWait b
     → ItemWaits (function_item node n ps b)
-function_item-waits node n ps b h = record { functions_wait = λ c. ((λ q. refl, tt, body-waits b c h), tt); term_waits = λ c. tt }
+function_item-waits node n ps b h =
+    record { functions_wait = λ c. ((λ q. refl, tt, body-waits b c h), tt); term_waits = λ c. tt }
 
 -- ---- object literals
 
@@ -289,7 +326,8 @@ property-waits : (m : PropertyMade) (c : Context) (p : Parts)
 property-waits (value_property (fixed_key k) e) c p h q = ((h.1 (naming k c), q.0), q.1)
 property-waits (value_property (computed_key k) e) c p h q = ((h.0 (unnamed c), (h.1 (unnamed c), q.0)), q.1)
 property-waits (method_property node (fixed_key k) ps b) c p h q = (((λ e. refl, tt, body-waits b c h.1), q.0), q.1)
-property-waits (method_property node (computed_key k) ps b) c p h q = ((h.0 (unnamed c), tt), ((λ e. refl, q.0, body-waits b c h.1), q.1))
+property-waits (method_property node (computed_key k) ps b) c p h q =
+    ((h.0 (unnamed c), tt), ((λ e. refl, q.0, body-waits b c h.1), q.1))
 
 properties-wait : (ms : List PropertyMade) (c : Context) → PropertiesWait ms → PartsTight (properties_parts ms c)
 properties-wait [] c h = (tt, tt)
@@ -375,7 +413,8 @@ keeps-waits = record {
   of_continue = λ node. entered-waits node (λ c. leaf continue_) (λ c. (tt, tt));
   of_break = λ node. entered-waits node (λ c. leaf break_) (λ c. (tt, tt));
   of_return = λ node e x h. return-waits node e h;
-  of_throw = λ node e x h. entered-waits node (λ c. part (throw_ node) (one (plain e c)) end) (λ c. ((h (unnamed c), tt), tt));
+  of_throw =
+      λ node e x h. entered-waits node (λ c. part (throw_ node) (one (plain e c)) end) (λ c. ((h (unnamed c), tt), tt));
   of_try = λ node b h f xs y z i j k. try-waits node b h f i j k;
   of_debugger = λ node. item-waits (λ c. part (enter_debugger node) end (one nothing)) (λ c. (λ q. refl, tt, (tt, tt)));
   of_declared_function = λ node n ps body xs h. function_item-waits node n ps body h;

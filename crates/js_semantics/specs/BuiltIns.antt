@@ -165,7 +165,8 @@ part_between xs _ _ = None
 
 -- the part that the arguments of `slice` name: all where both are undefined
 abbrev pub slice_places : {A : Type 0} → List A → List Value → Option (List A)
-slice_places xs args = part_between xs (place (length xs) 0 (argument args 0)) (place (length xs) (length xs) (argument args 1))
+slice_places xs args =
+    part_between xs (place (length xs) 0 (argument args 0)) (place (length xs) (length xs) (argument args 1))
 
 -- the part as a new array; without one an argument was wrong
 abbrev pub array_or_wrong : Option (List Value) → Action

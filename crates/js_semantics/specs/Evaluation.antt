@@ -99,7 +99,8 @@ make_argument w (made_of j) = make_json w j
 -- the values of arguments, made from the first to the last
 abbrev pub make_arguments : World → List Argument → Tried (List Value)
 make_arguments w [] = fine [] w
-make_arguments w (a ∷ rest) = after_try (make_argument w a) (λ x v. after_try (make_arguments v rest) (λ xs u. fine (x ∷ xs) u))
+make_arguments w (a ∷ rest) =
+    after_try (make_argument w a) (λ x v. after_try (make_arguments v rest) (λ xs u. fine (x ∷ xs) u))
 
 -- ---- the evaluation
 
@@ -160,7 +161,8 @@ with_source p x e = record { source = kept_source (next_kept x); tree = kept_tre
 -- a source with its string literals in its own order, and what is made of its tree
 abbrev pub prepared : World → ScratchSpace → List ℕ → List (List ℕ) → Made → Tried Term
 prepared w x source order e =
-    after_try (keep_source (copied_world w x) source) (λ at v. after_try (place_literals v order (literals (kept_term at e))) (λ u z. fine (kept_tree at e) z))
+    after_try (keep_source (copied_world w x) source)
+    (λ at v. after_try (place_literals v order (literals (kept_term at e))) (λ u z. fine (kept_tree at e) z))
 
 -- the answer of a term that is reduced within the budget, in a scope with a `this` outside all calls
 abbrev pub evaluated : Program → Addr → Value → World → Term → Answer
@@ -169,7 +171,8 @@ evaluated p scope receiver w t = answer_of (steps_in budget p scope (run_of t (e
 -- Evaluates a source's expression in a scope with a `this`. The program has the scripts and the sources kept before; this
 -- one is added, so that functions which it makes can be called.
 abbrev pub evaluate : Program → World → ScratchSpace → Addr → Value → List ℕ → List (List ℕ) → Made → Answer
-evaluate p w x scope receiver source order e = answered (prepared w x source order e) (evaluated (with_source p x e) scope receiver)
+evaluate p w x scope receiver source order e =
+    answered (prepared w x source order e) (evaluated (with_source p x e) scope receiver)
 
 -- a call in the script scope; its callee is the function expression or arrow, still to be made
 abbrev pub call_with_values : Value → Term → List Value → Term
@@ -177,7 +180,8 @@ call_with_values receiver callee args = part (call beginning 0) (more (done rece
 
 -- the call of a function that is still to be made, once its arguments are values
 abbrev pub with_arguments : Value → List Argument → Tried Term → Tried Term
-with_arguments receiver args t = after_try t (λ callee w. after_try (make_arguments w args) (λ vs v. fine (call_with_values receiver callee vs) v))
+with_arguments receiver args t =
+    after_try t (λ callee w. after_try (make_arguments w args) (λ vs v. fine (call_with_values receiver callee vs) v))
 
 -- calls a source's function with a `this` and arguments
 abbrev pub evaluate_call : Program
@@ -190,14 +194,17 @@ abbrev pub evaluate_call : Program
     → List Argument
     → Answer
 evaluate_call p w x source order callee receiver args =
-    answered (with_arguments receiver args (prepared w x source order callee)) (evaluated (with_source p x callee) script_scope values.Undefined)
+    answered (with_arguments receiver args (prepared w x source order callee))
+    (evaluated (with_source p x callee) script_scope values.Undefined)
 
 -- ---- the same of the parser's trees
 
 -- evaluates an expression of the parser in a scope with a `this`
 abbrev pub evaluate_expression : Program → World → ScratchSpace → Addr → Value → Expression → Answer
-evaluate_expression p w x scope receiver e = evaluate p w x scope receiver e.source (source_literals e.tree) (expression_source e.tree)
+evaluate_expression p w x scope receiver e =
+    evaluate p w x scope receiver e.source (source_literals e.tree) (expression_source e.tree)
 
 -- calls a function of the parser with a `this` and arguments
 abbrev pub evaluate_function : Program → World → ScratchSpace → FunctionCode → Value → List Argument → Answer
-evaluate_function p w x f receiver args = evaluate_call p w x f.source (source_literals f.tree) (expression_source f.tree) receiver args
+evaluate_function p w x f receiver args =
+    evaluate_call p w x f.source (source_literals f.tree) (expression_source f.tree) receiver args

@@ -59,7 +59,8 @@ offset_of spans (before_end node back) = (span_of spans node).end - back
 
 -- a call whose place isn't the start of the statement or body that it stands in
 abbrev pub call_arrival : List Span → Mark → ℕ → Option Mark
-call_arrival spans place node = if nat_eq (offset_of spans place) (offset_of spans (start node)) then None else Some place
+call_arrival spans place node =
+    if nat_eq (offset_of spans place) (offset_of spans (start node)) then None else Some place
 
 -- The next step enters a statement, returns at a closing brace, or reduces such a call: its place. The script's own
 -- first step is no arrival, and a throw that stands is none.
@@ -200,7 +201,8 @@ outward (Some a) further = further a
 
 -- the scope of a cell, and those beyond it
 abbrev pub scope_listed : Bool → Addr → Option Cell → (Bool → Addr → List ListedScope) → List ListedScope
-scope_listed inside a (Some (cells.Bindings kind name outer names)) further = record { kind = listed_as kind inside; scope = a } ∷ outward outer (further (still_inside kind inside))
+scope_listed inside a (Some (cells.Bindings kind name outer names)) further =
+    record { kind = listed_as kind inside; scope = a } ∷ outward outer (further (still_inside kind inside))
 scope_listed inside a _ further = []
 
 -- the scopes from one outward, at most so many

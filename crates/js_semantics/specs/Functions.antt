@@ -58,7 +58,8 @@ abbrev mutual
   pub function_in : ℕ → Term → Option FunctionCode
   function_in node (done v) = None
   function_in node (standing v s) = None
-  function_in node (part f now later) = first_code (code_here f node later) (first_code (function_in_all node now) (function_in_all node later))
+  function_in node (part f now later) =
+      first_code (code_here f node later) (first_code (function_in_all node now) (function_in_all node later))
 
   pub function_in_all : ℕ → Terms → Option FunctionCode
   function_in_all node end = None
@@ -73,7 +74,8 @@ same_source _ _ = false
 -- the code of a node's function in a source of a program
 abbrev pub function_at : Program → Source → ℕ → Option FunctionCode
 function_at [] source node = None
-function_at (t ∷ ts) source node = if same_source t.source source then function_in node t.tree else function_at ts source node
+function_at (t ∷ ts) source node =
+    if same_source t.source source then function_in node t.tree else function_at ts source node
 
 -- ---- making functions
 
@@ -103,7 +105,8 @@ function_row s scope f =
 -- makes the functions that a list of items declares, in order, each the value of its name (14.2.3, 10.2.11)
 abbrev pub with_functions : Addr → Terms → Action → Action
 with_functions scope (more (part (function f) now later) ts) k =
-    make (function_cell f f.name scope values.Undefined) (λ a. write scope (changes.Bind f.name (values.Object a)) (with_functions scope ts k))
+    make (function_cell f f.name scope values.Undefined)
+    (λ a. write scope (changes.Bind f.name (values.Object a)) (with_functions scope ts k))
 with_functions scope (more t ts) k = with_functions scope ts k
 with_functions scope end k = k
 
@@ -158,7 +161,8 @@ abbrev pub call_code : State
     → List Value
     → Action
 call_code s (Some c) source a name (Some outer) made given args =
-    if nat_lt (length s.frames) frame_limit then entered c source a name outer (called_this c.form.is_arrow made given) args else too_deep
+    if nat_lt (length s.frames) frame_limit then entered c source a name outer (called_this c.form.is_arrow made given)
+    args else too_deep
 call_code s _ source a name outer made given args = not_a_function
 
 -- a call of what a cell holds: of a built-in function, or of one whose code stands in a source

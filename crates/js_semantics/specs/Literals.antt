@@ -32,8 +32,10 @@ abbrev mutual
   expression_literals (trees.prefix o e) = expression_literals e
   expression_literals (trees.unary o e) = expression_literals e
   expression_literals (trees.binary o l r) = expression_literals l ++ expression_literals r
-  expression_literals (trees.conditional t a b) = expression_literals t ++ expression_literals a ++ expression_literals b
-  expression_literals (trees.assign o t e) = expression_literals t ++ (if is_target t then expression_literals e else [])
+  expression_literals (trees.conditional t a b) =
+      expression_literals t ++ expression_literals a ++ expression_literals b
+  expression_literals (trees.assign o t e) =
+      expression_literals t ++ (if is_target t then expression_literals e else [])
   expression_literals (trees.comma es) = expressions_literals es
   expression_literals _ = []
 
@@ -73,8 +75,10 @@ abbrev mutual
   statement_literals (trees.if_else e s t) = expression_literals e ++ statement_literals s ++ statement_literals t
   statement_literals (trees.do_while s e) = statement_literals s ++ expression_literals e
   statement_literals (trees.while e s) = expression_literals e ++ statement_literals s
-  statement_literals (trees.for i t u s) = optional_literals i ++ optional_literals t ++ optional_literals u ++ statement_literals s
-  statement_literals (trees.for_lexical constant ds t u s) = declarators_literals ds ++ optional_literals t ++ optional_literals u ++ statement_literals s
+  statement_literals (trees.for i t u s) =
+      optional_literals i ++ optional_literals t ++ optional_literals u ++ statement_literals s
+  statement_literals (trees.for_lexical constant ds t u s) =
+      declarators_literals ds ++ optional_literals t ++ optional_literals u ++ statement_literals s
   statement_literals (trees.for_of constant x e s) = expression_literals e ++ statement_literals s
   statement_literals (trees.return e) = optional_literals e
   statement_literals (trees.throw e) = expression_literals e

@@ -110,7 +110,13 @@ parenthesized_made node e = made node e.term
 
 -- `o.key` (13.3.2); a call of it has its place at the key
 abbrev pub member_made : ℕ → Made → List ℕ → Made
-member_made node o key = record { node = node; last_word = Some (before_end node (length key)); term = λ c. part (read (to_member key)) (one (plain o c)) end }
+member_made node o key =
+    record {
+      node = node;
+      last_word = Some (before_end node (length key));
+      term = λ c. part (read (to_member key))
+          (one (plain o c)) end;
+    }
 
 -- `o[k]` (13.3.2)
 abbrev pub index_made : ℕ → Made → Made → Made
@@ -218,7 +224,8 @@ call_term place node t args = part (call place node) (more (done values.Undefine
 
 -- a call (13.3.6)
 abbrev pub call_made : ℕ → Made → ℕ → List Made → Made
-call_made node f parentheses es = made node (λ c. call_term (place_or f.last_word parentheses) c.statement (plain f c) (plains es c))
+call_made node f parentheses es =
+    made node (λ c. call_term (place_or f.last_word parentheses) c.statement (plain f c) (plains es c))
 
 -- ---- functions
 
@@ -237,12 +244,15 @@ body_terms body c = more (part sequence (body.terms (within 0 c)) end) (body.fun
 
 -- a function with its own name, or that of the context
 abbrev pub form_of : ℕ → Source → List ℕ → List (List ℕ) → List Binding → Bool → Bool → FunctionForm
-form_of node source n ps names arrow named = record { code = code_of source node; node = node; name = n; parameters = ps; names = names; is_arrow = arrow; is_named = named }
+form_of node source n ps names arrow named =
+    record { code = code_of source node; node = node; name = n; parameters = ps; names = names; is_arrow = arrow; is_named = named }
 
 -- a function expression: with its own name, or with the one that its place gives
 abbrev pub function_term : ℕ → Option (List ℕ) → List (List ℕ) → Items → Context → Term
-function_term node (Some n) ps body c = part (function (form_of node c.source n ps body.names false true)) end (body_terms body c)
-function_term node None ps body c = part (function (form_of node c.source c.name ps body.names false false)) end (body_terms body c)
+function_term node (Some n) ps body c =
+    part (function (form_of node c.source n ps body.names false true)) end (body_terms body c)
+function_term node None ps body c =
+    part (function (form_of node c.source c.name ps body.names false false)) end (body_terms body c)
 
 -- a function expression (15.2.5)
 abbrev pub function_made : ℕ → Option (List ℕ) → List (List ℕ) → Items → Made
@@ -250,11 +260,18 @@ function_made node n ps body = made node (λ c. function_term node n ps body c)
 
 -- an arrow's expression body is untouched as a `return`
 abbrev pub returned_body : Made → Items
-returned_body e = record { names = []; functions = λ c. end; terms = λ c. one (part (enter e.node) end (one (part return_ (one (e.term (within e.node c))) end))) }
+returned_body e =
+    record {
+      names = [];
+      functions = λ c. end;
+      terms = λ c. one
+          (part (enter e.node) end (one (part return_ (one (e.term (within e.node c))) end)));
+    }
 
 -- an arrow function (15.3.4)
 abbrev pub arrow_made : ℕ → List (List ℕ) → Items → Made
-arrow_made node ps body = made node (λ c. part (function (form_of node c.source c.name ps body.names true false)) end (body_terms body c))
+arrow_made node ps body =
+    made node (λ c. part (function (form_of node c.source c.name ps body.names true false)) end (body_terms body c))
 
 -- ---- object literals
 
@@ -295,9 +312,14 @@ method_form node n ps body c = form_of node c.source n ps body.names false false
 abbrev pub property_parts : PropertyMade → Context → Parts → Parts
 property_parts (value_property (fixed_key k) e) c p = before (e.term (naming k c)) p
 property_parts (value_property (computed_key k) e) c p = before (plain k c) (before (plain e c) p)
-property_parts (method_property node (fixed_key k) ps body) c p = before (part (function (method_form node k ps body c)) end (body_terms body c)) p
+property_parts (method_property node (fixed_key k) ps body) c p =
+    before (part (function (method_form node k ps body c)) end (body_terms body c)) p
 property_parts (method_property node (computed_key k) ps body) c p =
-    record { now = one (plain k c); later = more (part (method (method_form node [] ps body c)) p.now (body_terms body c)) p.later }
+    record {
+      now = one (plain k c);
+      later = more
+          (part (method (method_form node [] ps body c)) p.now (body_terms body c)) p.later;
+    }
 
 -- the parts of some members
 abbrev pub properties_parts : List PropertyMade → Context → Parts
@@ -328,7 +350,13 @@ untouched node term = item (λ c. part (enter node) end (one (term (within node 
 
 -- a list of statements with one in front
 abbrev pub and_items : Item → Items → Items
-and_items i is = record { names = i.names ++ is.names; functions = λ c. joined (i.functions c) (is.functions c); terms = λ c. more (i.term c) (is.terms c) }
+and_items i is =
+    record {
+      names = i.names ++ is.names;
+      functions = λ c. joined (i.functions c) (is.functions c);
+      terms = λ c. more
+          (i.term c) (is.terms c);
+    }
 
 -- the list of some statements
 abbrev pub items_of : List Item → Items
@@ -364,7 +392,8 @@ initializer_terms n (Some e) c = one (e.term (naming n c))
 -- some declarators, each with its initialiser
 abbrev pub declarators_terms : List DeclaratorMade → Context → Terms
 declarators_terms [] c = end
-declarators_terms (d ∷ ds) c = more (part (initialize d.name) (initializer_terms d.name d.initializer c) end) (declarators_terms ds c)
+declarators_terms (d ∷ ds) c =
+    more (part (initialize d.name) (initializer_terms d.name d.initializer c) end) (declarators_terms ds c)
 
 -- the declarators of a declaration, one after another
 abbrev pub declarators_term : List DeclaratorMade → Context → Term
@@ -425,12 +454,14 @@ for_item node i t u s = untouched node (λ c. part (loop first None) (optional_t
 -- a `for` with `let` or `const` (14.7.4)
 abbrev pub for_lexical_item : ℕ → Bool → List DeclaratorMade → Option Made → Option Made → Item → Item
 for_lexical_item node constant ds t u s =
-    item (λ c. part (enter_for node constant (declarators_names constant ds)) end (more (declarators_term ds (within node c)) (for_parts t u s (within node c))))
+    item (λ c. part (enter_for node constant (declarators_names constant ds)) end
+    (more (declarators_term ds (within node c)) (for_parts t u s (within node c))))
 
 -- a `for .. of` (14.7.5)
 abbrev pub for_of_item : ℕ → Bool → List ℕ → Made → Item → Item
 for_of_item node constant n e s =
-    item (λ c. part (enter_for_of node (declared n constant)) end (more (plain e (within node c)) (one (s.term (within node c)))))
+    item (λ c. part (enter_for_of node (declared n constant)) end
+    (more (plain e (within node c)) (one (s.term (within node c)))))
 
 -- `continue` (14.8)
 abbrev pub continue_item : ℕ → Item

@@ -24,7 +24,8 @@ not_defined name = an_error classes.ReferenceError (name ++ codes " is not defin
 
 -- the error of a name that has no value yet
 abbrev pub not_initialized : List ℕ → Result
-not_initialized name = an_error classes.ReferenceError (codes "Cannot access '" ++ name ++ codes "' before initialization")
+not_initialized name =
+    an_error classes.ReferenceError (codes "Cannot access '" ++ name ++ codes "' before initialization")
 
 -- a name's value, or the error where it has none yet
 abbrev pub value_or_uninitialized : List ℕ → Option Value → Result
@@ -38,7 +39,8 @@ value_of_found name (Some f) = value_or_uninitialized name f.binding.value
 
 -- what assigning to a name changes (9.1.1.1.5): an uninitialised name is refused before a constant one
 abbrev pub bound_unless : List ℕ → Bool → Option Value → Addr → Value → Written
-bound_unless name constant None scope v = refused classes.ReferenceError (codes "Cannot access '" ++ name ++ codes "' before initialization")
+bound_unless name constant None scope v =
+    refused classes.ReferenceError (codes "Cannot access '" ++ name ++ codes "' before initialization")
 bound_unless name true (Some u) scope v = refused classes.TypeError (codes "Assignment to constant variable.")
 bound_unless name false (Some u) scope v = a_change scope (changes.Bind name v)
 

@@ -33,12 +33,15 @@ only vs = argument vs 0
 
 -- the bottom frame of a script, at its beginning
 abbrev pub script_frame : ℕ → Frame
-script_frame number = record { function = None; source = script_source number; receiver = values.Undefined; scope = script_scope; here = beginning }
+script_frame number =
+    record { function = None; source = script_source number; receiver = values.Undefined; scope = script_scope; here = beginning }
 
 -- a script: it is the bottom frame's from now on; its names, its functions, then its statements (16.1.7)
 abbrev pub script_row : ℕ → List Binding → Terms → Action
 script_row number names (more statements functions) =
-    pop_frame (push_frame (script_frame number) (with_names script_scope names (with_functions script_scope functions (go (settle statements)))))
+    pop_frame
+    (push_frame (script_frame number)
+    (with_names script_scope names (with_functions script_scope functions (go (settle statements)))))
 script_row number names end = give values.Undefined
 
 -- an untouched statement, or an arrow's expression body (14.1; this project's own)
@@ -50,7 +53,8 @@ enter_row node end = give values.Undefined
 abbrev pub block_row : Addr → List Binding → Terms → Action
 block_row scope [] (more statements functions) = go (settle statements)
 block_row scope (b ∷ bs) (more statements functions) =
-    new_scope scopes.Block [] scope (b ∷ bs) (λ s. with_functions s functions (go (settled (scoped s) (one (settle statements)) end)))
+    new_scope scopes.Block [] scope (b ∷ bs)
+    (λ s. with_functions s functions (go (settled (scoped s) (one (settle statements)) end)))
 block_row scope names end = give values.Undefined
 
 -- a declarator; the initialiser may be absent (14.3.1.2)
@@ -124,12 +128,16 @@ enter_for_row scope node constant names later =
 -- entering a `for .. of` makes a scope in which its list is evaluated (14.7.5.6)
 abbrev pub enter_for_of_row : Addr → ℕ → Binding → Terms → Action
 enter_for_of_row scope node b (more list later) =
-    set_here (start node) (new_scope scopes.Block [] scope (b ∷ []) (λ s. go (part (list_of b) (one (settled (scoped s) (one list) end)) later)))
+    set_here (start node)
+    (new_scope scopes.Block [] scope (b ∷ [])
+    (λ s. go (part (list_of b) (one (settled (scoped s) (one list) end)) later)))
 enter_for_of_row scope node b end = give values.Undefined
 
 -- `for .. of` with its value is for arrays (this project's own; 14.7.5.6 takes iterables)
 abbrev pub list_row : World → Binding → Value → Terms → Action
-list_row w b v later = if is_array w v then go (part (turn_of b 0) end (more (done v) later)) else fail classes.TypeError (codes "Value is not an array")
+list_row w b v later =
+    if is_array w v then go (part (turn_of b 0) end (more (done v) later)) else fail classes.TypeError
+    (codes "Value is not an array")
 
 -- the element of an index, if the cell is an array that long
 abbrev pub element_of : Option Cell → ℕ → Option Value
@@ -169,7 +177,8 @@ comma_row end = give values.Undefined
 -- `x op= e` reads the old value (13.15.2)
 abbrev pub compound_row : World → Addr → BinaryOperator → Reference → List Value → Terms → Action
 compound_row w scope o r vs (more e ts) =
-    get w scope r vs (λ old. go (part (assign r) (joined (dones vs) (one (part (binary o) (more (done old) (one e)) end))) end))
+    get w scope r vs
+    (λ old. go (part (assign r) (joined (dones vs) (one (part (binary o) (more (done old) (one e)) end))) end))
 compound_row w scope o r vs end = give values.Undefined
 
 -- `++` and `--` (13.4)
@@ -184,7 +193,8 @@ updated_by o (an_error class message) k = fail class message
 
 -- `++` and `--`: the old value is read, the new one written, and one of the two is the step's value
 abbrev pub update_row : World → Addr → UpdateOperator → Bool → Reference → List Value → Action
-update_row w scope o prefix r vs = updated_by o (read_result w scope r vs) (λ old new. put w scope r vs new (give (update_value prefix old new)))
+update_row w scope o prefix r vs =
+    updated_by o (read_result w scope r vs) (λ old new. put w scope r vs new (give (update_value prefix old new)))
 
 -- `=`: the last value is the one written (13.15.2)
 abbrev pub assign_row : World → Addr → Reference → List Value → Action

@@ -35,7 +35,8 @@ abbrev mutual
   with_literals at n (done v) = done v
   with_literals at n (standing v s) = standing v s
   with_literals at n (part (literal us) now later) = done (values.Text (at n))
-  with_literals at n (part f now later) = part f (all_with_literals at n now) (all_with_literals at (n + length (literals_of now)) later)
+  with_literals at n (part f now later) =
+      part f (all_with_literals at n now) (all_with_literals at (n + length (literals_of now)) later)
 
   -- the parts with the addresses of their cells, from a number on for the first literal
   pub all_with_literals : (ℕ → Addr) → ℕ → Terms → Terms
@@ -63,7 +64,15 @@ bottom_frame = script_frame 1
 
 -- the state before the first step: the world with the literals' cells, the bottom frame, and all of the input
 abbrev pub first_state : Terms → List (List ℕ) → State
-first_state ts input = record { world = first_world (literals_of ts); frames = bottom_frame ∷ []; outer_this = values.Undefined; input = input; printed = [] }
+first_state ts input =
+    record {
+      world = first_world
+          (literals_of ts);
+      frames = bottom_frame ∷ [];
+      outer_this = values.Undefined;
+      input = input;
+      printed = [];
+    }
 
 -- ---- runs
 

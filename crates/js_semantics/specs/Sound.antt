@@ -87,7 +87,9 @@ abbrev pub SoundAction : World → Action → Type 0
 SoundAction w (go t) = SoundTerm w t
 SoundAction w (raise v) = SoundValue w v
 SoundAction w (leave c) = SoundCompletion w c
-SoundAction w (make c k) = SoundCell w c × ((v : World) (a : Addr) → Later w v → Leads (λ kind. kind ≡ kind_of c) (read_cell v a) → SoundAction v (k a))
+SoundAction w (make c k) =
+    SoundCell w c
+    × ((v : World) (a : Addr) → Later w v → Leads (λ kind. kind ≡ kind_of c) (read_cell v a) → SoundAction v (k a))
 SoundAction w (write a c k) = SoundChange w c × ((v : World) → Later w v → SoundAction v k)
 SoundAction w (print vs text) = Unit {0}
 SoundAction w (take_line k) = (line : Option (List ℕ)) → SoundAction w (k line)

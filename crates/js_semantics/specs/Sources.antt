@@ -21,9 +21,12 @@ use Rattle.js_semantics.specs.Terms.{Term, Terms, end, more}
 use Rattle.js_semantics.specs.Makers.{parameter_names, Made, Item, Items, PropertyKey, fixed_key, computed_key, PropertyMade, value_property, method_property, DeclaratorMade, CatchMade, value_made, number_made, string_made, this_made, name_made, array_made, parenthesized_made, member_made, index_made, assign_made, update_made, unary_made, binary_made, conditional_made, comma_made, call_made, function_made, returned_body, arrow_made, object_made, items_of, block_item, empty_item, expression_item, lexical_item, if_item, while_item, do_while_item, for_item, for_lexical_item, for_of_item, continue_item, break_item, return_item, throw_item, try_item, debugger_item, function_item, script_term}
 
 -- what is made of each type of tree
-abbrev pub Layer : (Type 0 → Type 0 → Type 0 → Type 0 → Type 0 → Type 0 → Type 0 → Type 0 → Type 0 → Type 0 → Type 0 → Type 0)
+abbrev pub Layer :
+    (Type 0 → Type 0 → Type 0 → Type 0 → Type 0 → Type 0 → Type 0 → Type 0 → Type 0 → Type 0 → Type 0 → Type 0)
     → Type 0
-Layer F = F Made PropertyMade PropertyKey Item Items CatchMade DeclaratorMade (List DeclaratorMade) (List Made) (List PropertyMade) Items
+Layer F =
+    F Made PropertyMade PropertyKey Item Items CatchMade DeclaratorMade (List DeclaratorMade) (List Made)
+    (List PropertyMade) Items
 
 -- one level of an expression, with what is made of its parts
 abbrev pub expression_layer : Layer Expr-F → Made
@@ -36,7 +39,8 @@ expression_layer (Expr-F.Null node) = value_made node.0 values.Null
 expression_layer (Expr-F.Array node es) = array_made node.0 es
 expression_layer (Expr-F.Object node ps) = object_made node.0 ps
 expression_layer (Expr-F.Function node n ps body) = function_made node.0 n ps body
-expression_layer (Expr-F.Arrow node ps e) = arrow_made node.0 (parameter_names (parameters_view ps)) (returned_body e.value)
+expression_layer (Expr-F.Arrow node ps e) =
+    arrow_made node.0 (parameter_names (parameters_view ps)) (returned_body e.value)
 expression_layer (Expr-F.ArrowBlock node ps body) = arrow_made node.0 (parameter_names (parameters_view ps)) body
 expression_layer (Expr-F.Parenthesized node e) = parenthesized_made node.0 e.value
 expression_layer (Expr-F.Member node e n) = member_made node.0 e.value n
@@ -114,47 +118,80 @@ statements_layer ss = items_of ss.items.items
 
 -- what is made of an expression
 unfoldable pub expression_source : Expr → Made
-expression_source = fold-Expr Made PropertyMade PropertyKey Item Items CatchMade DeclaratorMade (List DeclaratorMade) (List Made) (List PropertyMade) Items expression_layer property_layer key_layer statement_layer block_layer catch_layer declarator_layer declarators_layer expressions_layer properties_layer statements_layer
+expression_source =
+    fold-Expr Made PropertyMade PropertyKey Item Items CatchMade DeclaratorMade (List DeclaratorMade) (List Made)
+    (List PropertyMade)
+    Items expression_layer property_layer key_layer statement_layer block_layer catch_layer declarator_layer declarators_layer expressions_layer properties_layer statements_layer
 
 -- what is made of a member of an object literal
 unfoldable pub property_source : PropertyDefinition → PropertyMade
-property_source = fold-PropertyDefinition Made PropertyMade PropertyKey Item Items CatchMade DeclaratorMade (List DeclaratorMade) (List Made) (List PropertyMade) Items expression_layer property_layer key_layer statement_layer block_layer catch_layer declarator_layer declarators_layer expressions_layer properties_layer statements_layer
+property_source =
+    fold-PropertyDefinition Made PropertyMade PropertyKey Item Items CatchMade DeclaratorMade (List DeclaratorMade)
+    (List Made) (List PropertyMade)
+    Items expression_layer property_layer key_layer statement_layer block_layer catch_layer declarator_layer declarators_layer expressions_layer properties_layer statements_layer
 
 -- what is made of a property's key
 unfoldable pub key_source : PropertyName → PropertyKey
-key_source = fold-PropertyName Made PropertyMade PropertyKey Item Items CatchMade DeclaratorMade (List DeclaratorMade) (List Made) (List PropertyMade) Items expression_layer property_layer key_layer statement_layer block_layer catch_layer declarator_layer declarators_layer expressions_layer properties_layer statements_layer
+key_source =
+    fold-PropertyName Made PropertyMade PropertyKey Item Items CatchMade DeclaratorMade (List DeclaratorMade)
+    (List Made) (List PropertyMade)
+    Items expression_layer property_layer key_layer statement_layer block_layer catch_layer declarator_layer declarators_layer expressions_layer properties_layer statements_layer
 
 -- what is made of a statement or declaration
 unfoldable pub statement_source : Stmt → Item
-statement_source = fold-Stmt Made PropertyMade PropertyKey Item Items CatchMade DeclaratorMade (List DeclaratorMade) (List Made) (List PropertyMade) Items expression_layer property_layer key_layer statement_layer block_layer catch_layer declarator_layer declarators_layer expressions_layer properties_layer statements_layer
+statement_source =
+    fold-Stmt Made PropertyMade PropertyKey Item Items CatchMade DeclaratorMade (List DeclaratorMade) (List Made)
+    (List PropertyMade)
+    Items expression_layer property_layer key_layer statement_layer block_layer catch_layer declarator_layer declarators_layer expressions_layer properties_layer statements_layer
 
 -- what is made of a block
 unfoldable pub block_source : Block → Items
-block_source = fold-Block Made PropertyMade PropertyKey Item Items CatchMade DeclaratorMade (List DeclaratorMade) (List Made) (List PropertyMade) Items expression_layer property_layer key_layer statement_layer block_layer catch_layer declarator_layer declarators_layer expressions_layer properties_layer statements_layer
+block_source =
+    fold-Block Made PropertyMade PropertyKey Item Items CatchMade DeclaratorMade (List DeclaratorMade) (List Made)
+    (List PropertyMade)
+    Items expression_layer property_layer key_layer statement_layer block_layer catch_layer declarator_layer declarators_layer expressions_layer properties_layer statements_layer
 
 -- what is made of a catch
 unfoldable pub catch_source : Catch → CatchMade
-catch_source = fold-Catch Made PropertyMade PropertyKey Item Items CatchMade DeclaratorMade (List DeclaratorMade) (List Made) (List PropertyMade) Items expression_layer property_layer key_layer statement_layer block_layer catch_layer declarator_layer declarators_layer expressions_layer properties_layer statements_layer
+catch_source =
+    fold-Catch Made PropertyMade PropertyKey Item Items CatchMade DeclaratorMade (List DeclaratorMade) (List Made)
+    (List PropertyMade)
+    Items expression_layer property_layer key_layer statement_layer block_layer catch_layer declarator_layer declarators_layer expressions_layer properties_layer statements_layer
 
 -- what is made of a declarator
 unfoldable pub declarator_source : Declarator → DeclaratorMade
-declarator_source = fold-Declarator Made PropertyMade PropertyKey Item Items CatchMade DeclaratorMade (List DeclaratorMade) (List Made) (List PropertyMade) Items expression_layer property_layer key_layer statement_layer block_layer catch_layer declarator_layer declarators_layer expressions_layer properties_layer statements_layer
+declarator_source =
+    fold-Declarator Made PropertyMade PropertyKey Item Items CatchMade DeclaratorMade (List DeclaratorMade) (List Made)
+    (List PropertyMade)
+    Items expression_layer property_layer key_layer statement_layer block_layer catch_layer declarator_layer declarators_layer expressions_layer properties_layer statements_layer
 
 -- what is made of the declarators of a declaration
 unfoldable pub declarators_source : Declarators → List DeclaratorMade
-declarators_source = fold-Declarators Made PropertyMade PropertyKey Item Items CatchMade DeclaratorMade (List DeclaratorMade) (List Made) (List PropertyMade) Items expression_layer property_layer key_layer statement_layer block_layer catch_layer declarator_layer declarators_layer expressions_layer properties_layer statements_layer
+declarators_source =
+    fold-Declarators Made PropertyMade PropertyKey Item Items CatchMade DeclaratorMade (List DeclaratorMade) (List Made)
+    (List PropertyMade)
+    Items expression_layer property_layer key_layer statement_layer block_layer catch_layer declarator_layer declarators_layer expressions_layer properties_layer statements_layer
 
 -- what is made of a list of expressions
 unfoldable pub expressions_source : Exprs → List Made
-expressions_source = fold-Exprs Made PropertyMade PropertyKey Item Items CatchMade DeclaratorMade (List DeclaratorMade) (List Made) (List PropertyMade) Items expression_layer property_layer key_layer statement_layer block_layer catch_layer declarator_layer declarators_layer expressions_layer properties_layer statements_layer
+expressions_source =
+    fold-Exprs Made PropertyMade PropertyKey Item Items CatchMade DeclaratorMade (List DeclaratorMade) (List Made)
+    (List PropertyMade)
+    Items expression_layer property_layer key_layer statement_layer block_layer catch_layer declarator_layer declarators_layer expressions_layer properties_layer statements_layer
 
 -- what is made of the members of an object literal
 unfoldable pub properties_source : PropertyDefinitions → List PropertyMade
-properties_source = fold-PropertyDefinitions Made PropertyMade PropertyKey Item Items CatchMade DeclaratorMade (List DeclaratorMade) (List Made) (List PropertyMade) Items expression_layer property_layer key_layer statement_layer block_layer catch_layer declarator_layer declarators_layer expressions_layer properties_layer statements_layer
+properties_source =
+    fold-PropertyDefinitions Made PropertyMade PropertyKey Item Items CatchMade DeclaratorMade (List DeclaratorMade)
+    (List Made) (List PropertyMade)
+    Items expression_layer property_layer key_layer statement_layer block_layer catch_layer declarator_layer declarators_layer expressions_layer properties_layer statements_layer
 
 -- what is made of a list of statements
 unfoldable pub statements_source : Stmts → Items
-statements_source = fold-Stmts Made PropertyMade PropertyKey Item Items CatchMade DeclaratorMade (List DeclaratorMade) (List Made) (List PropertyMade) Items expression_layer property_layer key_layer statement_layer block_layer catch_layer declarator_layer declarators_layer expressions_layer properties_layer statements_layer
+statements_source =
+    fold-Stmts Made PropertyMade PropertyKey Item Items CatchMade DeclaratorMade (List DeclaratorMade) (List Made)
+    (List PropertyMade)
+    Items expression_layer property_layer key_layer statement_layer block_layer catch_layer declarator_layer declarators_layer expressions_layer properties_layer statements_layer
 
 -- the term of a script
 abbrev pub term_of_script : Script → Term

@@ -146,7 +146,8 @@ perform (raise v) s = raised_at v s
 perform (leave c) s = travels c s
 perform (make c k) s = after (make_cell s.world c) s (λ a. perform (k a))
 perform (write a c k) s = after (write_cell s.world a c) s (λ u. perform k)
-perform (print vs text) s = outside s (goes (done values.Undefined) (record s { printed = s.printed ++ text ∷ [] }) (printed_values vs))
+perform (print vs text) s =
+    outside s (goes (done values.Undefined) (record s { printed = s.printed ++ text ∷ [] }) (printed_values vs))
 perform (take_line k) s = outside s (perform (k (first_line s.input)) (record s { input = other_lines s.input }))
 perform (set_here m k) s = perform k (with_here s m)
 perform (push_frame f k) s = perform k (record s { frames = f ∷ s.frames })
@@ -164,4 +165,5 @@ make_text units k = make (cells.Text units) (λ a. k (values.Text a))
 
 -- an error that a step meets: its text, then the error, then the raise
 abbrev pub fail : ErrorClass → List ℕ → Action
-fail class message = make_text message (λ m. make (cells.Error class (message_property m ∷ [])) (λ e. raise (values.Object e)))
+fail class message =
+    make_text message (λ m. make (cells.Error class (message_property m ∷ [])) (λ e. raise (values.Object e)))

@@ -90,7 +90,8 @@ at_test scope later = part (loop testing scope) (one (test_of later)) later
 
 -- an update that is a value or absent is finished
 abbrev pub at_update : Option Addr → Terms → Term
-at_update scope later = if is_done (update_of later) then at_test scope later else part (loop updating scope) (one (update_of later)) later
+at_update scope later =
+    if is_done (update_of later) then at_test scope later else part (loop updating scope) (one (update_of later)) later
 
 -- behind the body: the scope of a `for` with `let` is copied first, which is a step
 abbrev pub behind_body : Option Addr → Terms → Term
@@ -99,7 +100,9 @@ behind_body (Some a) later = part (loop body (Some a)) end later
 
 -- the loop in its body; a body that is a value is finished at once
 abbrev pub at_body : Option Addr → Terms → Term
-at_body scope later = if is_done (body_of_loop later) then behind_body scope later else part (loop body scope) (one (body_of_loop later)) later
+at_body scope later =
+    if is_done (body_of_loop later) then behind_body scope later else part (loop body scope) (one (body_of_loop later))
+    later
 
 -- behind the initialiser: the scope of a `for` with `let` is copied first, which is a step
 abbrev pub behind_first : Option Addr → Terms → Term

@@ -42,7 +42,10 @@ abbrev mutual
   pub Waits : (Terms → Bool) → Term → Type 0
   Waits ready (done v) = Unit {0}
   Waits ready (standing v place) = Unit {0}
-  Waits ready (part f now later) = (ready now ≡ true → waits f ≡ true) × AllWait ready now × ByCase (uncovers f) (RestWaits ready later) (AllWait ready later)
+  Waits ready (part f now later) =
+      (ready now ≡ true → waits f ≡ true)
+      × AllWait ready now
+      × ByCase (uncovers f) (RestWaits ready later) (AllWait ready later)
 
   pub AllWait : (Terms → Bool) → Terms → Type 0
   AllWait ready end = Unit {0}
@@ -52,7 +55,8 @@ abbrev mutual
   pub PartsWait : (Terms → Bool) → Term → Type 0
   PartsWait ready (done v) = Unit {0}
   PartsWait ready (standing v place) = Unit {0}
-  PartsWait ready (part f now later) = AllWait ready now × ByCase (uncovers f) (RestWaits ready later) (AllWait ready later)
+  PartsWait ready (part f now later) =
+      AllWait ready now × ByCase (uncovers f) (RestWaits ready later) (AllWait ready later)
 
   -- not the first part itself
   pub RestWaits : (Terms → Bool) → Terms → Type 0

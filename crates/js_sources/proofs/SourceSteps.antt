@@ -29,7 +29,8 @@ pub functions_step : (items : List Stmt) (i : ℕ) (x : Stmt) (c : Context)
     → (front now own : semantics.Terms)
     → now ≡ semantics.joined front own
     → own ≡ (statement_source x).functions c
-    → semantics.joined now ((makers.items_of (map statement_source (drop (i + 1) items))).functions c) ≡ semantics.joined front ((makers.items_of (map statement_source (drop i items))).functions c)
+    → semantics.joined now ((makers.items_of (map statement_source (drop (i + 1) items))).functions c)
+    ≡ semantics.joined front ((makers.items_of (map statement_source (drop i items))).functions c)
 functions_step items i x c h is front now own e declared =
     ap (λ ts. semantics.joined ts (functions_in (drop (i + 1) items) c)) (e ∙ ap (semantics.joined front) declared)
     ∙ joined_assoc front ((statement_source x).functions c) (functions_in (drop (i + 1) items) c)
@@ -38,9 +39,13 @@ functions_step items i x c h is front now own e declared =
 
 pub functions_all : (items : List Stmt) (i : ℕ) (c : Context) (front : semantics.Terms)
     → length items ≤ i
-    → semantics.joined front ((makers.items_of (map statement_source (drop i items))).functions c) ≡ (makers.items_of (map statement_source items)).functions c
+    → semantics.joined front ((makers.items_of (map statement_source (drop i items))).functions c) ≡
+    (makers.items_of (map statement_source items)).functions c
     → front ≡ (makers.items_of (map statement_source items)).functions c
-functions_all items i c front h e = sym (joined_end front) ∙ ap (λ (ss : List Stmt). semantics.joined front (functions_in ss c)) (sym (drop_all i items h)) ∙ e
+functions_all items i c front h e =
+    sym (joined_end front)
+    ∙ ap (λ (ss : List Stmt). semantics.joined front (functions_in ss c)) (sym (drop_all i items h))
+    ∙ e
 
 -- ---- one form of a tree
 
@@ -109,7 +114,8 @@ pub of_three : {A B C : Type 0} (f : A → B → C → semantics.Term) (t u : A)
     → (r : Result Term AllocError)
     → IfOk r (λ x. term_view x ≡ f t v y)
     → IfOk r (λ x. term_view x ≡ f u w z)
-of_three {A} {B} {C} f t u is v w so y z too r own = of_two (f u) v w so y z too r (of_part (λ (q : A). f q v y) t u is r own)
+of_three {A} {B} {C} f t u is v w so y z too r own =
+    of_two (f u) v w so y z too r (of_part (λ (q : A). f q v y) t u is r own)
 
 pub of_four : {A B C D : Type 0} (f : A → B → C → D → semantics.Term) (t u : A)
     → t ≡ u
@@ -122,7 +128,8 @@ pub of_four : {A B C D : Type 0} (f : A → B → C → D → semantics.Term) (t
     → (r : Result Term AllocError)
     → IfOk r (λ x. term_view x ≡ f t v y a)
     → IfOk r (λ x. term_view x ≡ f u w z b)
-of_four {A} {B} {C} {D} f t u is v w so y z too a b also r own = of_three (f u) v w so y z too a b also r (of_part (λ (q : A). f q v y a) t u is r own)
+of_four {A} {B} {C} {D} f t u is v w so y z too a b also r own =
+    of_three (f u) v w so y z too a b also r (of_part (λ (q : A). f q v y a) t u is r own)
 
 pub loop_so : (t x : semantics.Term)
     → t ≡ x
@@ -131,7 +138,10 @@ pub loop_so : (t x : semantics.Term)
     → (b z : semantics.Term)
     → b ≡ z
     → makers.loop_parts t u b ≡ makers.loop_parts x y z
-loop_so t x is u y so b z too = ap (λ (q : semantics.Term). makers.loop_parts q u b) is ∙ ap (λ (q : semantics.Term). makers.loop_parts x q b) so ∙ ap (λ (q : semantics.Term). makers.loop_parts x y q) too
+loop_so t x is u y so b z too =
+    ap (λ (q : semantics.Term). makers.loop_parts q u b) is
+    ∙ ap (λ (q : semantics.Term). makers.loop_parts x q b) so
+    ∙ ap (λ (q : semantics.Term). makers.loop_parts x y q) too
 
 pub try_so : (f : Option Items) (h : Option CatchMade) (b : Items) (x y : Context)
     → y ≡ x
@@ -141,7 +151,9 @@ pub try_so : (f : Option Items) (h : Option CatchMade) (b : Items) (x y : Contex
     → t ≡ makers.finally_term f q y
     → t ≡ makers.finally_term f (makers.caught h (makers.block_term b x) x) x
 try_so f h b x y is p q t own caught finally =
-    finally ∙ ap (λ (z : semantics.Term). makers.finally_term f z y) (caught ∙ ap (λ (z : semantics.Term). makers.caught h z y) own)
+    finally
+    ∙ ap (λ (z : semantics.Term). makers.finally_term f z y)
+    (caught ∙ ap (λ (z : semantics.Term). makers.caught h z y) own)
     ∙ ap (λ (z : Context). makers.finally_term f (makers.caught h (makers.block_term b z) z) z) is
 
 pub functions_of : {A : Type 0} (f : A → semantics.Terms) (t u : A)
@@ -160,7 +172,8 @@ pub body_so : (s b : Stmt)
     → (t : semantics.Term)
     → t ≡ (statement_source s).term y
     → t ≡ (statement_source b).term x
-body_so s b is y x so t own = own ∙ ap (λ (q : Stmt). (statement_source q).term y) is ∙ ap (λ (q : Context). (statement_source b).term q) so
+body_so s b is y x so t own =
+    own ∙ ap (λ (q : Stmt). (statement_source q).term y) is ∙ ap (λ (q : Context). (statement_source b).term q) so
 
 pub plain_so : (a b : Expr)
     → a ≡ b

@@ -34,15 +34,23 @@ use Rattle.js_steps.proofs.StageLemmas.{comes-through, comes-row, comes-part, co
 
 pub row-closes : (ts : List (List ℕ)) (t : NodeTable) (w : Wide) (ws : List Wide) (c : Closing)
     → closing_of w.op ≡ c
-    → settled_row ts t (w ∷ ws) ≡ resettled (gaps_of ts t ws) (closed ts t w.op w.info w.inner w.extra (dones w.values) (later_of ts t w) c)
-row-closes ts t w ws c e = ap (resettled (gaps_of ts t ws)) (closes ts t w (dones w.values) (later_of ts t w)) ∙ ap (λ x. resettled (gaps_of ts t ws) (closed ts t w.op w.info w.inner w.extra (dones w.values) (later_of ts t w) x)) e
+    → settled_row ts t (w ∷ ws) ≡ resettled (gaps_of ts t ws)
+    (closed ts t w.op w.info w.inner w.extra (dones w.values) (later_of ts t w) c)
+row-closes ts t w ws c e =
+    ap (resettled (gaps_of ts t ws)) (closes ts t w (dones w.values) (later_of ts t w))
+    ∙ ap (λ x. resettled (gaps_of ts t ws)
+    (closed ts t w.op w.info w.inner w.extra (dones w.values) (later_of ts t w) x))
+    e
 
 -- the same of a stack whose innermost task has these fields
 pub stack-closes : (ts : List (List ℕ)) (t : NodeTable) (old : List Wide) (task : Task) (e : Option Extra) (c : Closing)
     → IsInnermost task e old
     → closing_of task.op ≡ c
-    → settled_row ts t old ≡ resettled (gaps_of ts t (outer_of old)) (closed ts t task.op task.info task.inner e (dones (values_of old)) (later_of ts t (wide task (values_of old) e)) c)
-stack-closes ts t old task e c i h = ap (settled_row ts t) i ∙ row-closes ts t (wide task (values_of old) e) (outer_of old) c h
+    → settled_row ts t old ≡ resettled (gaps_of ts t (outer_of old))
+    (closed ts t task.op task.info task.inner e (dones (values_of old))
+    (later_of ts t (wide task (values_of old) e)) c)
+stack-closes ts t old task e c i h =
+    ap (settled_row ts t) i ∙ row-closes ts t (wide task (values_of old) e) (outer_of old) c h
 
 pub innermost-none : (old : List Wide) (task : Task)
     → IsInnermost task (extra_of old) old
@@ -57,7 +65,8 @@ innermost-none old task i o h =
 -- ---- a form that waits
 
 form_row : (ts : List (List ℕ)) (t : NodeTable) (w : Wide) (ws : List Wide)
-    → plugged (gaps_of ts t ws) (part (form_in ts t w.op w.info w.inner w.extra) (dones w.values) (later_of ts t w)) ≡ row_term ts t (w ∷ ws)
+    → plugged (gaps_of ts t ws) (part (form_in ts t w.op w.info w.inner w.extra) (dones w.values) (later_of ts t w))
+    ≡ row_term ts t (w ∷ ws)
 unfolding task_form
 form_row ts t w ws = refl
 
@@ -73,14 +82,16 @@ pub waits-term : (ts : List (List ℕ)) (t : NodeTable) (old : List Wide) (task 
     → IsInnermost task e old
     → closing_of task.op ≡ closings.Waits
     → settled_row ts t old ≡ row_term ts t old
-waits-term ts t old task e i h = ap (settled_row ts t) i ∙ waits_at ts t (wide task (values_of old) e) (outer_of old) h ∙ ap (row_term ts t) (sym i)
+waits-term ts t old task e i h =
+    ap (settled_row ts t) i ∙ waits_at ts t (wide task (values_of old) e) (outer_of old) h ∙ ap (row_term ts t) (sym i)
 
 pub waits-comes : (t : NodeTable) (old : List Wide) (task : Task) (e : Option Extra)
     → IsInnermost task e old
     → closing_of task.op ≡ closings.Waits
     → IsAtRow old
     → Comes t old old (λ ts. settled_row ts t old) nexts.Row
-waits-comes t old task e i h r = comes-row t old old (λ ts. settled_row ts t old) (through-refl t old) r (λ ts. waits-term ts t old task e i h)
+waits-comes t old task e i h r =
+    comes-row t old old (λ ts. settled_row ts t old) (through-refl t old) r (λ ts. waits-term ts t old task e i h)
 
 -- ---- a form that has a value
 
@@ -89,7 +100,10 @@ pub undefined-comes : (t : NodeTable) (old new : List Wide) (task : Task) (e : O
     → closing_of task.op ≡ closings.Undefined
     → new ≡ outer_of old
     → Comes t old new (λ ts. settled_row ts t old) (nexts.Value values.Undefined)
-undefined-comes t old new task e i h o = comes-value t old new (λ ts. settled_row ts t old) values.Undefined o (λ ts. stack-closes ts t old task e closings.Undefined i h ∙ ap (λ ws. resettled (gaps_of ts t ws) (done values.Undefined)) (sym o))
+undefined-comes t old new task e i h o =
+    comes-value t old new (λ ts. settled_row ts t old) values.Undefined o
+    (λ ts. stack-closes ts t old task e closings.Undefined i h
+    ∙ ap (λ ws. resettled (gaps_of ts t ws) (done values.Undefined)) (sym o))
 
 pub last-comes : (t : NodeTable) (old new : List Wide) (task : Task) (e : Option Extra) (v : Value)
     → IsInnermost task e old
@@ -97,7 +111,11 @@ pub last-comes : (t : NodeTable) (old new : List Wide) (task : Task) (e : Option
     → v ≡ last_value values.Undefined (dones (values_of old))
     → new ≡ outer_of old
     → Comes t old new (λ ts. settled_row ts t old) (nexts.Value v)
-last-comes t old new task e v i h q o = comes-value t old new (λ ts. settled_row ts t old) v o (λ ts. stack-closes ts t old task e closings.Last i h ∙ ap (λ x. resettled (gaps_of ts t (outer_of old)) (done x)) (sym q) ∙ ap (λ ws. resettled (gaps_of ts t ws) (done v)) (sym o))
+last-comes t old new task e v i h q o =
+    comes-value t old new (λ ts. settled_row ts t old) v o
+    (λ ts. stack-closes ts t old task e closings.Last i h
+    ∙ ap (λ x. resettled (gaps_of ts t (outer_of old)) (done x)) (sym q)
+    ∙ ap (λ ws. resettled (gaps_of ts t ws) (done v)) (sym o))
 
 -- ---- loops
 
@@ -105,7 +123,9 @@ pub loop-comes : (t : NodeTable) (old new : List Wide) (task : Task) (next : Nex
     → ((ts : List (List ℕ)) → settled_row ts t old ≡ looped ts t old f task)
     → Comes t old new (λ ts. looped ts t old f task) next
     → Comes t old new (λ ts. settled_row ts t old) next
-loop-comes t old new task next f e c = comes-through t old old new (λ ts. settled_row ts t old) (λ ts. looped ts t old f task) next (through-refl t old) e c
+loop-comes t old new task next f e c =
+    comes-through t old old new (λ ts. settled_row ts t old) (λ ts. looped ts t old f task) next (through-refl t old)
+    e c
 
 pub first-term : (t : NodeTable) (old : List Wide) (task : Task)
     → IsInnermost task None old
@@ -141,10 +161,15 @@ turn_scopes : (t : NodeTable) (root : Addr) (w : Wide) (ws : List Wide)
     → w.op ≡ ops.BodyOf
     → InScopes t root (w ∷ ws)
     → InScopes t root (restaged ops.TurnOf (w ∷ ws))
-turn_scopes t root w ws e s = (λ ts. turn-scope ts t (record w { op = ops.TurnOf; at = w.mid; values = [] }) w (scope_of root ws) refl e ∙ s.0 ts, s.1)
+turn_scopes t root w ws e s = (
+  λ ts. turn-scope ts t (record w { op = ops.TurnOf; at = w.mid; values = [] }) w (scope_of root ws) refl e
+      ∙ s.0 ts,
+  s.1,
+)
 
 turn_row : (ts : List (List ℕ)) (t : NodeTable) (w : Wide) (ws : List Wide)
-    → row_term ts t (restaged ops.TurnOf (w ∷ ws)) ≡ plugged (gaps_of ts t ws) (part (turn_form ts (slice_get t.for_ofs.items w.info) (index_of w.extra)) end (later_of ts t w))
+    → row_term ts t (restaged ops.TurnOf (w ∷ ws)) ≡ plugged (gaps_of ts t ws)
+    (part (turn_form ts (slice_get t.for_ofs.items w.info) (index_of w.extra)) end (later_of ts t w))
 unfolding task_form
 turn_row ts t w ws = refl
 
@@ -169,8 +194,10 @@ turn_at t w ws entry o e =
     (record { outer = refl; inner = λ root. refl; scoped = λ root s. turn_scopes t root w ws o s })
     refl
     (λ ts. row-closes ts t w ws closings.Turn (ap closing_of o)
-    ∙ ap (resettled (gaps_of ts t ws)) (turn_some ts (slice_get t.for_ofs.items w.info) entry (index_of w.extra) (dones w.values) (later_of ts t w) e)
-    ∙ resettled-part (gaps_of ts t ws) (turn_form ts (slice_get t.for_ofs.items w.info) (index_of w.extra)) end (later_of ts t w)
+    ∙ ap (resettled (gaps_of ts t ws))
+    (turn_some ts (slice_get t.for_ofs.items w.info) entry (index_of w.extra) (dones w.values) (later_of ts t w) e)
+    ∙ resettled-part (gaps_of ts t ws) (turn_form ts (slice_get t.for_ofs.items w.info) (index_of w.extra)) end
+    (later_of ts t w)
     ∙ sym (turn_row ts t w ws))
 
 pub turn-comes : (t : NodeTable) (old new : List Wide) (task : Task) (e : Option Extra) (entry : ForOfEntry)
@@ -186,9 +213,14 @@ turn-comes t old new task e entry i o g n =
 
 body_row : (ts : List (List ℕ)) (t : NodeTable) (w : Wide) (ws : List Wide)
     → w.op ≡ ops.BodyOf
-    → plugged (gaps_of ts t ws) (part (body_form ts (slice_get t.for_ofs.items w.info) (index_of w.extra)) (dones w.values) (later_of ts t w)) ≡ row_term ts t (w ∷ ws)
+    → plugged (gaps_of ts t ws)
+    (part (body_form ts (slice_get t.for_ofs.items w.info) (index_of w.extra)) (dones w.values) (later_of ts t w))
+    ≡ row_term ts t (w ∷ ws)
 unfolding task_form
-body_row ts t w ws o = ap (λ op. plugged (gaps_of ts t ws) (part (form_in ts t op w.info w.inner w.extra) (dones w.values) (later_of ts t w))) (sym o)
+body_row ts t w ws o =
+    ap (λ op. plugged (gaps_of ts t ws)
+    (part (form_in ts t op w.info w.inner w.extra) (dones w.values) (later_of ts t w)))
+    (sym o)
 
 no_turn_at : (ts : List (List ℕ)) (t : NodeTable) (w : Wide) (ws : List Wide)
     → w.op ≡ ops.BodyOf
@@ -196,8 +228,10 @@ no_turn_at : (ts : List (List ℕ)) (t : NodeTable) (w : Wide) (ws : List Wide)
     → settled_row ts t (w ∷ ws) ≡ row_term ts t (w ∷ ws)
 no_turn_at ts t w ws o e =
     row-closes ts t w ws closings.Turn (ap closing_of o)
-    ∙ ap (resettled (gaps_of ts t ws)) (turn_none ts (slice_get t.for_ofs.items w.info) (index_of w.extra) (dones w.values) (later_of ts t w) e)
-    ∙ resettled-part (gaps_of ts t ws) (body_form ts (slice_get t.for_ofs.items w.info) (index_of w.extra)) (dones w.values) (later_of ts t w)
+    ∙ ap (resettled (gaps_of ts t ws))
+    (turn_none ts (slice_get t.for_ofs.items w.info) (index_of w.extra) (dones w.values) (later_of ts t w) e)
+    ∙ resettled-part (gaps_of ts t ws) (body_form ts (slice_get t.for_ofs.items w.info) (index_of w.extra))
+    (dones w.values) (later_of ts t w)
     ∙ body_row ts t w ws o
 
 pub no-turn-comes : (t : NodeTable) (old : List Wide) (task : Task) (e : Option Extra)
@@ -206,7 +240,11 @@ pub no-turn-comes : (t : NodeTable) (old : List Wide) (task : Task) (e : Option 
     → slice_get t.for_ofs.items task.info ≡ None
     → IsAtRow old
     → Comes t old old (λ ts. settled_row ts t old) nexts.Row
-no-turn-comes t old task e i o g r = comes-row t old old (λ ts. settled_row ts t old) (through-refl t old) r (λ ts. ap (settled_row ts t) i ∙ no_turn_at ts t (wide task (values_of old) e) (outer_of old) o g ∙ ap (row_term ts t) (sym i))
+no-turn-comes t old task e i o g r =
+    comes-row t old old (λ ts. settled_row ts t old) (through-refl t old) r
+    (λ ts. ap (settled_row ts t) i
+    ∙ no_turn_at ts t (wide task (values_of old) e) (outer_of old) o g
+    ∙ ap (row_term ts t) (sym i))
 
 -- ---- a `finally` that ends
 
@@ -228,9 +266,13 @@ ending_op op e = cc
 
 ending_row : (ts : List (List ℕ)) (t : NodeTable) (w : Wide) (ws : List Wide)
     → w.op ≡ ops.Ending
-    → plugged (gaps_of ts t ws) (part (ending (kept_of w.extra)) (dones w.values) (later_of ts t w)) ≡ row_term ts t (w ∷ ws)
+    → plugged (gaps_of ts t ws) (part (ending (kept_of w.extra)) (dones w.values) (later_of ts t w)) ≡ row_term ts t
+    (w ∷ ws)
 unfolding task_form
-ending_row ts t w ws o = ap (λ op. plugged (gaps_of ts t ws) (part (form_in ts t op w.info w.inner w.extra) (dones w.values) (later_of ts t w))) (sym o)
+ending_row ts t w ws o =
+    ap (λ op. plugged (gaps_of ts t ws)
+    (part (form_in ts t op w.info w.inner w.extra) (dones w.values) (later_of ts t w)))
+    (sym o)
 
 kept_at : (ts : List (List ℕ)) (t : NodeTable) (w : Wide) (ws : List Wide)
     → closing_of w.op ≡ closings.Ending
@@ -248,7 +290,11 @@ pub kept-comes : (t : NodeTable) (old : List Wide) (task : Task) (e : Option Ext
     → is_some (kept_of e) ≡ true
     → IsAtRow old
     → Comes t old old (λ ts. settled_row ts t old) nexts.Row
-kept-comes t old task e i o k r = comes-row t old old (λ ts. settled_row ts t old) (through-refl t old) r (λ ts. ap (settled_row ts t) i ∙ kept_at ts t (wide task (values_of old) e) (outer_of old) o k ∙ ap (row_term ts t) (sym i))
+kept-comes t old task e i o k r =
+    comes-row t old old (λ ts. settled_row ts t old) (through-refl t old) r
+    (λ ts. ap (settled_row ts t) i
+    ∙ kept_at ts t (wide task (values_of old) e) (outer_of old) o k
+    ∙ ap (row_term ts t) (sym i))
 
 pub ended-comes : (t : NodeTable) (old new : List Wide) (task : Task) (e : Option Extra)
     → IsInnermost task e old
@@ -256,7 +302,12 @@ pub ended-comes : (t : NodeTable) (old new : List Wide) (task : Task) (e : Optio
     → is_some (kept_of e) ≡ false
     → new ≡ outer_of old
     → Comes t old new (λ ts. settled_row ts t old) (nexts.Value values.Undefined)
-ended-comes t old new task e i h k o = comes-value t old new (λ ts. settled_row ts t old) values.Undefined o (λ ts. stack-closes ts t old task e closings.Ending i h ∙ ap (resettled (gaps_of ts t (outer_of old))) (kept_none (kept_of e) (dones (values_of old)) (later_of ts t (wide task (values_of old) e)) k) ∙ ap (λ ws. resettled (gaps_of ts t ws) (done values.Undefined)) (sym o))
+ended-comes t old new task e i h k o =
+    comes-value t old new (λ ts. settled_row ts t old) values.Undefined o
+    (λ ts. stack-closes ts t old task e closings.Ending i h
+    ∙ ap (resettled (gaps_of ts t (outer_of old)))
+    (kept_none (kept_of e) (dones (values_of old)) (later_of ts t (wide task (values_of old) e)) k)
+    ∙ ap (λ ws. resettled (gaps_of ts t ws) (done values.Undefined)) (sym o))
 
 -- ---- a `finally` that begins
 
@@ -276,7 +327,9 @@ finally_through t task vs ws o =
     }
 
 finally_form : (ts : List (List ℕ)) (t : NodeTable) (task : Task) (vs : List Value)
-    → task_form ts t (record (wide task vs None) { op = ops.Ending; info = 0; at = task.mid; mid = task.end; values = [] }) ≡ ending None
+    → task_form ts t
+    (record (wide task vs None) { op = ops.Ending; info = 0; at = task.mid; mid = task.end; values = [] })
+    ≡ ending None
 unfolding task_form
 finally_form ts t task vs = refl
 
@@ -289,8 +342,10 @@ finally_term ts t task vs ws new n o i =
     let u : Wide = record w { op = ops.Ending; info = 0; at = task.mid; mid = task.end; values = [] } in
     row-closes ts t w ws closings.Finally o
     ∙ resettled-part (gaps_of ts t ws) (ending None) (kept_trees ts t task) end
-    ∙ ap (λ ks. plugged (gaps_of ts t ws) (part (ending None) (kept_trees ts t task) (terms (tree ts t) ks))) (sym (kids-end t task.end task.end (omega arith)))
-    ∙ ap (λ f. plugged (gaps_of ts t ws) (part f (kept_trees ts t task) (trees ts t task.end task.end))) (sym (finally_form ts t task vs))
+    ∙ ap (λ ks. plugged (gaps_of ts t ws) (part (ending None) (kept_trees ts t task) (terms (tree ts t) ks)))
+    (sym (kids-end t task.end task.end (omega arith)))
+    ∙ ap (λ f. plugged (gaps_of ts t ws) (part f (kept_trees ts t task) (trees ts t task.end task.end)))
+    (sym (finally_form ts t task vs))
     ∙ parts-within ts t u ws new n i
 
 finally_row : (t : NodeTable) (task : Task) (vs : List Value) (ws new : List Wide)
@@ -301,9 +356,16 @@ finally_row t task vs ws new o i =
     let old : List Wide = wide task vs None ∷ ws in
     let m : List Wide = ended_by task.mid task.end old in
     let h : Through t old m = finally_through t task vs ws o in
-    let u : Wide = record (wide task vs None) { op = ops.Ending; info = 0; at = task.mid; mid = task.end; values = [] } in
+    let u : Wide = record (wide task vs None)
+    { op = ops.Ending; info = 0; at = task.mid; mid = task.end; values = [] } in
     comes-row t old new (λ ts. settled_row ts t old)
-    (record { outer = outer-next t m new None i ∙ h.outer; inner = λ root. scope-next t root m new None i ∙ h.inner root; scoped = λ root s. scopes-next t root m new None i (h.scoped root s) })
+    (record {
+      outer = outer-next t m new None i
+          ∙ h.outer;
+      inner = λ root. scope-next t root m new None i
+          ∙ h.inner root;
+      scoped = λ root s. scopes-next t root m new None i (h.scoped root s);
+    })
     (row-next t u ws new i)
     (λ ts. finally_term ts t task vs ws new None (ap closing_of o) i)
 
@@ -316,7 +378,13 @@ finally_part t task vs ws new n o i =
     let m : List Wide = ended_by task.mid task.end old in
     let h : Through t old m = finally_through t task vs ws o in
     comes-part t old new (λ ts. settled_row ts t old) n
-    (record { outer = outer-next t m new (Some n) i ∙ h.outer; inner = λ root. scope-next t root m new (Some n) i ∙ h.inner root; scoped = λ root s. scopes-next t root m new (Some n) i (h.scoped root s) })
+    (record {
+      outer = outer-next t m new (Some n) i
+          ∙ h.outer;
+      inner = λ root. scope-next t root m new (Some n) i
+          ∙ h.inner root;
+      scoped = λ root s. scopes-next t root m new (Some n) i (h.scoped root s);
+    })
     i.part.form
     (λ ts. finally_term ts t task vs ws new (Some n) (ap closing_of o) i)
 
@@ -327,7 +395,9 @@ pub finally-row : (t : NodeTable) (old mid new : List Wide) (task : Task)
     → IsNextPart t mid new None
     → Comes t old new (λ ts. settled_row ts t old) nexts.Row
 finally-row t old mid new task i o e n =
-    let P : List Wide → Type 0 = λ ws. IsNextPart t (ended_by task.mid task.end ws) new None → Comes t ws new (λ ts. settled_row ts t ws) nexts.Row in
+    let P : List Wide
+    → Type 0 = λ ws. IsNextPart t (ended_by task.mid task.end ws) new None
+    → Comes t ws new (λ ts. settled_row ts t ws) nexts.Row in
     let Q : List Wide → Type 0 = λ ws. IsNextPart t ws new None in
     subst P (sym i) (finally_row t task (values_of old) (outer_of old) new o) (subst Q e n)
 
@@ -338,7 +408,9 @@ pub finally-part : (t : NodeTable) (old mid new : List Wide) (task : Task) (n : 
     → IsNextPart t mid new (Some n)
     → Comes t old new (λ ts. settled_row ts t old) (nexts.Part n)
 finally-part t old mid new task n i o e p =
-    let P : List Wide → Type 0 = λ ws. IsNextPart t (ended_by task.mid task.end ws) new (Some n) → Comes t ws new (λ ts. settled_row ts t ws) (nexts.Part n) in
+    let P : List Wide
+    → Type 0 = λ ws. IsNextPart t (ended_by task.mid task.end ws) new (Some n)
+    → Comes t ws new (λ ts. settled_row ts t ws) (nexts.Part n) in
     let Q : List Wide → Type 0 = λ ws. IsNextPart t ws new (Some n) in
     subst P (sym i) (finally_part t task (values_of old) (outer_of old) new n o) (subst Q e p)
 

@@ -55,13 +55,15 @@ says-as ts t w m r a b s e h =
 
 -- ---- a move that goes on
 
-goes_to : (ts : List (List ℕ)) (t : NodeTable) (root : Addr) (old new : List Wide) (p : Point) (u : Term) (s : State) (told : Told)
+goes_to : (ts : List (List ℕ)) (t : NodeTable) (root : Addr) (old new : List Wide) (p : Point) (u : Term) (s : State)
+    (told : Told)
     → resettled (gaps_of ts t old) u ≡ term_at ts t new p
     → all_risen root (gaps_of ts t old) (goes u s told) ≡ goes (term_at ts t new p) s told
 goes_to ts t root old new p u s told e = goes-risen root (gaps_of ts t old) u s told ∙ ap (λ x. goes x s told) e
 
 -- with the part that a call put there, if there was memory
-pub went-told : (r : Result (Unit {0}) AllocError) (stepped : Stepped) (ts : List (List ℕ)) (t : NodeTable) (root : Addr) (old new : List Wide) (p : Point) (m : Move Term) (u : Term) (s : State)
+pub went-told : (r : Result (Unit {0}) AllocError) (stepped : Stepped) (ts : List (List ℕ)) (t : NodeTable)
+    (root : Addr) (old new : List Wide) (p : Point) (m : Move Term) (u : Term) (s : State)
     → stepped ≡ went_of r
     → m ≡ goes u s went
     → OnOk r (resettled (gaps_of ts t old) u ≡ term_at ts t new p)
@@ -74,12 +76,14 @@ went-told (Err x) stepped ts t root old new p m u s w e h =
     subst P (sym w) tt
 
 -- the same of what a call says for all names
-pub went-follows : (r : Result (Unit {0}) AllocError) (stepped : Stepped) (ts : List (List ℕ)) (t : NodeTable) (root : Addr) (old new : List Wide) (p : Point) (m : Move Term) (u : List (List ℕ) → Term) (s : State)
+pub went-follows : (r : Result (Unit {0}) AllocError) (stepped : Stepped) (ts : List (List ℕ)) (t : NodeTable)
+    (root : Addr) (old new : List Wide) (p : Point) (m : Move Term) (u : List (List ℕ) → Term) (s : State)
     → stepped ≡ went_of r
     → m ≡ goes (u ts) s went
     → OnOk r ((names : List (List ℕ)) → resettled (gaps_of names t old) (u names) ≡ term_at names t new p)
     → TellsWithin ts t root old m stepped new p s
-went-follows r stepped ts t root old new p m u s w e h = went-told r stepped ts t root old new p m (u ts) s w e (on_ok_weaker r (λ f. f ts) h)
+went-follows r stepped ts t root old new p m u s w e h =
+    went-told r stepped ts t root old new p m (u ts) s w e (on_ok_weaker r (λ f. f ts) h)
 
 -- what it says of an answer that is this one
 pub says-of : (ts : List (List ℕ)) (t : NodeTable) (w : Wide) (m : Move Term) (r x : Reduced) (s : State)
@@ -91,26 +95,33 @@ says-of ts t w m r x s e h =
     subst P e h
 
 -- a value came
-pub gives-told : (o : Result (Unit {0}) AllocError) (stepped : Stepped) (ts : List (List ℕ)) (t : NodeTable) (root : Addr) (old new : List Wide) (p : Point) (m : Move Term) (w : Wide) (r : Reduced) (v : Value) (s : State)
+pub gives-told : (o : Result (Unit {0}) AllocError) (stepped : Stepped) (ts : List (List ℕ)) (t : NodeTable)
+    (root : Addr) (old new : List Wide) (p : Point) (m : Move Term) (w : Wide) (r : Reduced) (v : Value) (s : State)
     → stepped ≡ went_of o
     → r ≡ reduced.Gives v
     → Says ts t w m r (answer_of r) s
     → OnOk o ((names : List (List ℕ)) → resettled (gaps_of names t old) (done v) ≡ term_at names t new p)
     → TellsWithin ts t root old m stepped new p s
 unfolding reduced_term
-gives-told o stepped ts t root old new p m w r v s y e says h = went-follows o stepped ts t root old new p m (λ names. done v) s y (says-of ts t w m r (reduced.Gives v) s e says) h
+gives-told o stepped ts t root old new p m w r v s y e says h =
+    went-follows o stepped ts t root old new p m (λ names. done v) s y (says-of ts t w m r (reduced.Gives v) s e says) h
 
 -- a part came uncovered
-pub uncovers-told : (o : Result (Unit {0}) AllocError) (stepped : Stepped) (ts : List (List ℕ)) (t : NodeTable) (root : Addr) (old new : List Wide) (p : Point) (m : Move Term) (w : Wide) (r : Reduced) (n : ℕ) (s : State)
+pub uncovers-told : (o : Result (Unit {0}) AllocError) (stepped : Stepped) (ts : List (List ℕ)) (t : NodeTable)
+    (root : Addr) (old new : List Wide) (p : Point) (m : Move Term) (w : Wide) (r : Reduced) (n : ℕ) (s : State)
     → stepped ≡ went_of o
     → r ≡ reduced.Uncovers n
     → Says ts t w m r (answer_of r) s
-    → OnOk o ((names : List (List ℕ)) → resettled (gaps_of names t old) (settle (tree names t n)) ≡ term_at names t new p)
+    → OnOk o ((names : List (List ℕ))
+    → resettled (gaps_of names t old) (settle (tree names t n)) ≡ term_at names t new p)
     → TellsWithin ts t root old m stepped new p s
 unfolding reduced_term
-uncovers-told o stepped ts t root old new p m w r n s y e says h = went-follows o stepped ts t root old new p m (λ names. settle (tree names t n)) s y (says-of ts t w m r (reduced.Uncovers n) s e says) h
+uncovers-told o stepped ts t root old new p m w r n s y e says h =
+    went-follows o stepped ts t root old new p m (λ names. settle (tree names t n)) s y
+    (says-of ts t w m r (reduced.Uncovers n) s e says) h
 
-pub went-stands : (r : Result (Unit {0}) AllocError) (stepped : Stepped) (t : NodeTable) (root : Addr) (old new : List Wide) (p : Point)
+pub went-stands : (r : Result (Unit {0}) AllocError) (stepped : Stepped) (t : NodeTable) (root : Addr)
+    (old new : List Wide) (p : Point)
     → stepped ≡ went_of r
     → OnOk r (IsAt t new p)
     → OnOk r (InScopes t root old → InScopes t root new)
@@ -125,11 +136,13 @@ went-stands (Err x) stepped t root old new p w a h =
 -- ---- a throw
 
 stands_at : (ts : List (List ℕ)) (t : NodeTable) (ws : List Wide) (v : Value) (c : Context)
-    → resettled (gaps_of ts t ws) (standing v (top_spot c.frames)) ≡ term_at ts t ws (points.Stands v (top_spot c.frames))
+    → resettled (gaps_of ts t ws) (standing v (top_spot c.frames)) ≡ term_at ts t ws
+    (points.Stands v (top_spot c.frames))
 unfolding term_at
 stands_at ts t ws v c = plugged-resettled (gaps_of ts t ws) (standing v (top_spot c.frames)) refl
 
-pub raise-told : (ts : List (List ℕ)) (t : NodeTable) (root : Addr) (ws : List Wide) (v : Value) (c : Context) (w : World) (taken : List (List ℕ)) (stepped : Stepped) (p : Point) (m : Move Term)
+pub raise-told : (ts : List (List ℕ)) (t : NodeTable) (root : Addr) (ws : List Wide) (v : Value) (c : Context)
+    (w : World) (taken : List (List ℕ)) (stepped : Stepped) (p : Point) (m : Move Term)
     → Raises v c stepped p
     → m ≡ goes (standing v (spot_of (state_of w c taken))) (state_of w c taken) raised
     → TellsWithin ts t root ws m stepped ws p (state_of w c taken)
@@ -137,7 +150,11 @@ raise-told ts t root ws v c w taken stepped p m h e =
     let s : State = state_of w c taken in
     let P : Stepped → Type 0 = λ x. TellsWithin ts t root ws m x ws p s in
     let Q : Point → Type 0 = λ x. TellsWithin ts t root ws m steppeds.Raised ws x s in
-    subst P (sym h.0) (subst Q (sym h.1) (ap (all_risen root (gaps_of ts t ws)) e ∙ goes_to ts t root ws ws (points.Stands v (top_spot c.frames)) (standing v (top_spot c.frames)) s raised (stands_at ts t ws v c)))
+    subst P (sym h.0)
+    (subst Q (sym h.1)
+    (ap (all_risen root (gaps_of ts t ws)) e
+    ∙ goes_to ts t root ws ws (points.Stands v (top_spot c.frames)) (standing v (top_spot c.frames))
+    s raised (stands_at ts t ws v c)))
 
 pub goes-on-weaker : {P Q : Type 0} (stepped : Stepped) → (P → Q) → IfGoesOn stepped P → IfGoesOn stepped Q
 goes-on-weaker steppeds.Went f h = f h
@@ -150,25 +167,32 @@ goes-on-weaker steppeds.Memory f h = tt
 
 -- ---- the end of an evaluation
 
-pub effect-told : (ts : List (List ℕ)) (t : NodeTable) (root : Addr) (old new : List Wide) (p : Point) (m : Move Term) (s : State)
+pub effect-told : (ts : List (List ℕ)) (t : NodeTable) (root : Addr) (old new : List Wide) (p : Point) (m : Move Term)
+    (s : State)
     → m ≡ has_effect s
     → TellsWithin ts t root old m steppeds.Effect new p s
-effect-told ts t root old new p m s e = ap (all_risen root (gaps_of ts t old)) e ∙ effect-risen root (gaps_of ts t old) s
+effect-told ts t root old new p m s e =
+    ap (all_risen root (gaps_of ts t old)) e ∙ effect-risen root (gaps_of ts t old) s
 
-pub full-told : (ts : List (List ℕ)) (t : NodeTable) (root : Addr) (old new : List Wide) (p : Point) (what : Counted) (m : Move Term) (s : State)
+pub full-told : (ts : List (List ℕ)) (t : NodeTable) (root : Addr) (old new : List Wide) (p : Point) (what : Counted)
+    (m : Move Term) (s : State)
     → m ≡ is_full what s
     → TellsWithin ts t root old m (steppeds.Full what) new p s
-full-told ts t root old new p what m s e = ap (all_risen root (gaps_of ts t old)) e ∙ full-risen root (gaps_of ts t old) what s
+full-told ts t root old new p what m s e =
+    ap (all_risen root (gaps_of ts t old)) e ∙ full-risen root (gaps_of ts t old) what s
 
 -- ---- what is printed
 
-pub printed-told : (ts : List (List ℕ)) (t : NodeTable) (root : Addr) (old new : List Wide) (p : Point) (vs : Vec Value Global) (s : State)
+pub printed-told : (ts : List (List ℕ)) (t : NodeTable) (root : Addr) (old new : List Wide) (p : Point)
+    (vs : Vec Value Global) (s : State)
     → resettled (gaps_of ts t old) (done values.Undefined) ≡ term_at ts t new p
     → TellsWithin ts t root old (goes (done values.Undefined) s (printed_values vs.items)) (steppeds.Printed vs) new p s
-printed-told ts t root old new p vs s e = goes_to ts t root old new p (done values.Undefined) s (printed_values vs.items) e
+printed-told ts t root old new p vs s e =
+    goes_to ts t root old new p (done values.Undefined) s (printed_values vs.items) e
 
 -- the same behind what was popped
-pub told-popped : (ts : List (List ℕ)) (t : NodeTable) (root : Addr) (old us new : List Wide) (p : Point) (m : Move Term) (stepped : Stepped) (s : State)
+pub told-popped : (ts : List (List ℕ)) (t : NodeTable) (root : Addr) (old us new : List Wide) (p : Point)
+    (m : Move Term) (stepped : Stepped) (s : State)
     → us ≡ outer_of old
     → TellsWithin ts t root us m stepped new p s
     → TellsWithin ts t root (outer_of old) m stepped new p s

@@ -59,16 +59,24 @@ pub node-tree : (ts : List (List ℕ)) (t : NodeTable) (n : ℕ) (node : Node) (
     → IsTable t
     → slice_get t.nodes.items n ≡ Some node
     → is_literal node.op ≡ false
-    → tree ts t n ≡ part (task_form ts t (node_task node inner)) (trees ts t node.first node.mid) (trees ts t node.mid node.end)
+    → tree ts t n ≡ part (task_form ts t (node_task node inner)) (trees ts t node.first node.mid)
+    (trees ts t node.mid node.end)
 node-tree ts t n node inner table e o =
-    tree-at t n node table e o ts ∙ ap (λ f. part f (trees ts t node.first node.mid) (trees ts t node.mid node.end)) (sym (node_is ts t n node inner (node-at t n node table e)))
+    tree-at t n node table e o ts
+    ∙ ap (λ f. part f (trees ts t node.first node.mid) (trees ts t node.mid node.end))
+    (sym (node_is ts t n node inner (node-at t n node table e)))
 
 node_scopes : (t : NodeTable) (root : Addr) (n : ℕ) (node : Node) (inner : Addr) (old : List Wide)
     → IsNode t n node
     → scope_of root old ≡ inner
     → InScopes t root old
     → InScopes t root (node_task node inner ∷ old)
-node_scopes t root n node inner old i e s = (λ ts. ap (λ f. scope_in f (scope_of root old)) (task_is ts t node inner) ∙ node-scope ts t node.op node.info inner (scope_of root old) i.source i.turns ∙ e, s)
+node_scopes t root n node inner old i e s = (
+  λ ts. ap (λ f. scope_in f (scope_of root old)) (task_is ts t node inner)
+      ∙ node-scope ts t node.op node.info inner (scope_of root old) i.source i.turns
+      ∙ e,
+  s,
+)
 
 pub task-inward : (t : NodeTable) (n : ℕ) (node : Node) (inner : Addr) (old new : List Wide) (p : Option ℕ)
     → IsTable t
@@ -77,10 +85,13 @@ pub task-inward : (t : NodeTable) (n : ℕ) (node : Node) (inner : Addr) (old ne
     → Inward t old new inner
 task-inward t n node inner old new p table e i = record {
   scope = λ root h. scope-next t root (node_task node inner ∷ old) new p i;
-  scoped = λ root h s. scopes-next t root (node_task node inner ∷ old) new p i (node_scopes t root n node inner old (node-at t n node table e) h s);
+  scoped =
+      λ root h s. scopes-next t root (node_task node inner ∷ old) new p i
+      (node_scopes t root n node inner old (node-at t n node table e) h s);
 }
 
-node_within : (ts : List (List ℕ)) (t : NodeTable) (n : ℕ) (node : Node) (inner : Addr) (old new : List Wide) (p : Option ℕ)
+node_within : (ts : List (List ℕ)) (t : NodeTable) (n : ℕ) (node : Node) (inner : Addr) (old new : List Wide)
+    (p : Option ℕ)
     → IsTable t
     → slice_get t.nodes.items n ≡ Some node
     → is_literal node.op ≡ false
@@ -126,14 +137,16 @@ part-enters t old mid new inner n node k table e o m i =
 
 -- ---- all levels inward
 
-pub way-leaf : (ts : List (List ℕ)) (t : NodeTable) (old : List Wide) (node : ℕ) (inner : Addr) (now new : List Wide) (n : ℕ)
+pub way-leaf : (ts : List (List ℕ)) (t : NodeTable) (old : List Wide) (node : ℕ) (inner : Addr) (now new : List Wide)
+    (n : ℕ)
     → IsOnWay t old node inner now n
     → Enters t now new inner n entereds.Leaf
     → plugged (gaps_of ts t old) (tree ts t node) ≡ term_at ts t new (points.Leaf n)
 unfolding term_at
 way-leaf ts t old node inner now new n w e = sym (w.term ts) ∙ e.term ts
 
-pub way-row : (ts : List (List ℕ)) (t : NodeTable) (old : List Wide) (node : ℕ) (inner : Addr) (now new : List Wide) (n : ℕ)
+pub way-row : (ts : List (List ℕ)) (t : NodeTable) (old : List Wide) (node : ℕ) (inner : Addr) (now new : List Wide)
+    (n : ℕ)
     → IsOnWay t old node inner now n
     → Enters t now new inner n entereds.Row
     → plugged (gaps_of ts t old) (tree ts t node) ≡ term_at ts t new points.Row
@@ -153,7 +166,8 @@ taken_term : (ts : List (List ℕ)) (t : NodeTable) (old mid new : List Wide) (v
     → mid ≡ with_value v old
     → IsNextPart t mid new n
     → resettled (gaps_of ts t old) (done v) ≡ after_parts ts t new n
-taken_term ts t old mid new v n h e i = value_term ts t old v h ∙ ap (settled_parts ts t) (sym e) ∙ parts-settled ts t mid new n i
+taken_term ts t old mid new v n h e i =
+    value_term ts t old v h ∙ ap (settled_parts ts t) (sym e) ∙ parts-settled ts t mid new n i
 
 taken_through : (t : NodeTable) (old mid new : List Wide) (v : Value) (n : Option ℕ)
     → mid ≡ with_value v old
@@ -172,7 +186,9 @@ pub take-part : (t : NodeTable) (old mid new : List Wide) (v : Value) (k : ℕ)
     → mid ≡ with_value v old
     → IsNextPart t mid new (Some k)
     → Comes t old new (λ ts. resettled (gaps_of ts t old) (done v)) (nexts.Part k)
-take-part t old mid new v k h e i = comes-part t old new (λ ts. resettled (gaps_of ts t old) (done v)) k (taken_through t old mid new v (Some k) e i) i.part.form (λ ts. taken_term ts t old mid new v (Some k) h e i)
+take-part t old mid new v k h e i =
+    comes-part t old new (λ ts. resettled (gaps_of ts t old) (done v)) k (taken_through t old mid new v (Some k) e i)
+    i.part.form (λ ts. taken_term ts t old mid new v (Some k) h e i)
 
 pub take-all : (t : NodeTable) (old mid all new : List Wide) (v : Value) (next : Next)
     → IsTask old
@@ -180,7 +196,9 @@ pub take-all : (t : NodeTable) (old mid all new : List Wide) (v : Value) (next :
     → IsNextPart t mid all None
     → Comes t all new (λ ts. settled_row ts t all) next
     → Comes t old new (λ ts. resettled (gaps_of ts t old) (done v)) next
-take-all t old mid all new v next h e i c = comes-through t old all new (λ ts. resettled (gaps_of ts t old) (done v)) (λ ts. settled_row ts t all) next (taken_through t old mid all v None e i) (λ ts. taken_term ts t old mid all v None h e i) c
+take-all t old mid all new v next h e i c =
+    comes-through t old all new (λ ts. resettled (gaps_of ts t old) (done v)) (λ ts. settled_row ts t all) next
+    (taken_through t old mid all v None e i) (λ ts. taken_term ts t old mid all v None h e i) c
 
 pub is-task : (old : List Wide) (task : Task) (e : Option Extra) → IsInnermost task e old → IsTask old
 is-task [] task e i = cc
@@ -203,7 +221,9 @@ pub out-done : (ts : List (List ℕ)) (t : NodeTable) (old : List Wide) (value :
     → resettled (gaps_of ts t old) (done value) ≡ term_at ts t now (points.Done v)
 unfolding term_at
 out-done ts t old value now v w e =
-    sym (w.term ts) ∙ ap (λ ws. resettled (gaps_of ts t ws) (done v)) e ∙ ap (λ ws. plugged (gaps_of ts t ws) (done v)) (sym e)
+    sym (w.term ts)
+    ∙ ap (λ ws. resettled (gaps_of ts t ws) (done v)) e
+    ∙ ap (λ ws. plugged (gaps_of ts t ws) (done v)) (sym e)
 
 pub row-term : (ts : List (List ℕ)) (t : NodeTable) (new : List Wide) → row_term ts t new ≡ term_at ts t new points.Row
 unfolding term_at
@@ -221,7 +241,8 @@ pub out-row : (ts : List (List ℕ)) (t : NodeTable) (old : List Wide) (value : 
 out-row ts t old value now new v w c = sym (w.term ts) ∙ c.term ts ∙ row-term ts t new
 
 -- the scope in the gap is that of the innermost task
-pub entered-scope : (t : NodeTable) (old new : List Wide) (from : List (List ℕ) → Term) (n : ℕ) (task : Task) (e : Option Extra)
+pub entered-scope : (t : NodeTable) (old new : List Wide) (from : List (List ℕ) → Term) (n : ℕ) (task : Task)
+    (e : Option Extra)
     → IsInnermost task e old
     → Comes t old new from (nexts.Part n)
     → (root : Addr)
@@ -235,7 +256,8 @@ can-come t old new from nexts.Row c = c.stands
 can-come t old new from (nexts.Value v) c = tt
 can-come t old new from (nexts.Part n) c = c.stands.form
 
-pub comes-in : (t : NodeTable) (old new : List Wide) (from : List (List ℕ) → Term) (next : Next) (task : Task) (e : Option Extra)
+pub comes-in : (t : NodeTable) (old new : List Wide) (from : List (List ℕ) → Term) (next : Next) (task : Task)
+    (e : Option Extra)
     → IsInnermost task e old
     → Comes t old new from next
     → (root : Addr)
@@ -250,10 +272,13 @@ uncovered_by : (ts : List (List ℕ)) (t : NodeTable) (gs : Term → Term) (n : 
     → IsTable t
     → slice_get t.nodes.items n ≡ Some node
     → is_literal node.op ≡ false
-    → gs (settle (tree ts t n)) ≡ gs (settled (task_form ts t (node_task node inner)) (trees ts t node.first node.mid) (trees ts t node.mid node.end))
+    → gs (settle (tree ts t n)) ≡ gs
+    (settled (task_form ts t (node_task node inner)) (trees ts t node.first node.mid)
+    (trees ts t node.mid node.end))
 uncovered_by ts t gs n node inner table e o = ap (λ x. gs (settle x)) (node-tree ts t n node inner table e o)
 
-pub uncovered-parts : (ts : List (List ℕ)) (t : NodeTable) (old mid new : List Wide) (n : ℕ) (node : Node) (inner : Addr) (p : Option ℕ)
+pub uncovered-parts : (ts : List (List ℕ)) (t : NodeTable) (old mid new : List Wide) (n : ℕ) (node : Node)
+    (inner : Addr) (p : Option ℕ)
     → IsTable t
     → slice_get t.nodes.items n ≡ Some node
     → IsOpen (slice_get t.nodes.items n)
@@ -271,7 +296,8 @@ waiting_is c e = cc
 
 waits_node : (ts : List (List ℕ)) (t : NodeTable) (node : Node) (inner : Addr) (later : Terms)
     → closing_of node.op ≡ closings.Waits
-    → finished (task_form ts t (node_task node inner)) end later ≡ part (task_form ts t (node_task node inner)) end later
+    → finished (task_form ts t (node_task node inner)) end later ≡ part (task_form ts t (node_task node inner))
+    end later
 waits_node ts t node inner later e =
     closes ts t (node_task node inner) end later
     ∙ ap (closed ts t node.op node.info inner None end later) e

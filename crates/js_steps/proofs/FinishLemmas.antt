@@ -288,7 +288,8 @@ pub node-scope : (ts : List (List ℕ)) (t : NodeTable) (op : Op) (info : ℕ) (
     → is_task_only op ≡ false
     → (is_loop op ≡ true → info ≡ 0)
     → scope_in (form_in ts t op info inner None) scope ≡ scope
-node-scope ts t op info inner scope o l = ap (λ f. scope_in f scope) (node-form ts t op info inner o l) ∙ form_scope ts t op info scope
+node-scope ts t op info inner scope o l =
+    ap (λ f. scope_in f scope) (node-form ts t op info inner o l) ∙ form_scope ts t op info scope
 
 -- ---- the task that closes so
 

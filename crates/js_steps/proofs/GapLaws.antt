@@ -25,11 +25,14 @@ inside_more u f (is_full what s) = refl
 
 walk_at : (p : Program) (scope : Addr) (s : State) (vs : List Value) (t : Term) (ts : Terms)
     → is_done t ≡ false
-    → walk p scope (joined (dones vs) (more t ts)) s ≡ moved (inside (λ u. joined (dones vs) (more u ts)) (next p scope t s))
+    → walk p scope (joined (dones vs) (more t ts)) s ≡ moved
+    (inside (λ u. joined (dones vs) (more u ts)) (next p scope t s))
 walk_at p scope s [] (done v) ts h = cc
 walk_at p scope s [] (standing v place) ts h = refl
 walk_at p scope s [] (part f now later) ts h = refl
-walk_at p scope s (u ∷ vs) t ts h = ap (with_value u) (walk_at p scope s vs t ts h) ∙ inside_more u (λ x. joined (dones vs) (more x ts)) (next p scope t s)
+walk_at p scope s (u ∷ vs) t ts h =
+    ap (with_value u) (walk_at p scope s vs t ts h)
+    ∙ inside_more u (λ x. joined (dones vs) (more x ts)) (next p scope t s)
 
 around_risen : (p : Program) (scope : Addr) (g : Gap) (s : State) (m : Move Term)
     → around p scope g.form g.later s (moved (inside (gap_parts g) m)) ≡ risen scope g m
@@ -42,7 +45,9 @@ around_risen p scope g s (is_full what u) = refl
 next_filled : (p : Program) (scope : Addr) (g : Gap) (t : Term) (s : State)
     → is_done t ≡ false
     → next p scope (filled g t) s ≡ risen scope g (next p (scope_in g.form scope) t s)
-next_filled p scope g t s h = ap (around p scope g.form g.later s) (walk_at p (scope_in g.form scope) s g.before t g.after h) ∙ around_risen p scope g s (next p (scope_in g.form scope) t s)
+next_filled p scope g t s h =
+    ap (around p scope g.form g.later s) (walk_at p (scope_in g.form scope) s g.before t g.after h)
+    ∙ around_risen p scope g s (next p (scope_in g.form scope) t s)
 
 -- ---- all levels
 
@@ -50,7 +55,8 @@ pub next-within : (p : Program) (root : Addr) (gs : List Gap) (t : Term) (s : St
     → is_done t ≡ false
     → next p root (plugged gs t) s ≡ all_risen root gs (next p (scope_at root gs) t s)
 next-within p root [] t s h = refl
-next-within p root (g ∷ gs) t s h = next-within p root gs (filled g t) s refl ∙ ap (all_risen root gs) (next_filled p (scope_at root gs) g t s h)
+next-within p root (g ∷ gs) t s h =
+    next-within p root gs (filled g t) s refl ∙ ap (all_risen root gs) (next_filled p (scope_at root gs) g t s h)
 
 walk_values : (p : Program) (scope : Addr) (vs : List Value) (s : State) → walk p scope (dones vs) s ≡ all_values vs
 walk_values p scope [] s = refl
@@ -63,9 +69,13 @@ unfolding performed
 next-row p scope f vs later s = ap (around p scope f later s) (walk_values p (scope_in f scope) vs s)
 
 -- a row in its gaps
-pub next-row-within : (p : Program) (root : Addr) (gs : List Gap) (f : Form) (vs : List Value) (later : Terms) (s : State)
-    → next p root (plugged gs (part f (dones vs) later)) s ≡ all_risen root gs (performed (row p s (scope_at root gs) f vs later) s)
-next-row-within p root gs f vs later s = next-within p root gs (part f (dones vs) later) s refl ∙ ap (all_risen root gs) (next-row p (scope_at root gs) f vs later s)
+pub next-row-within : (p : Program) (root : Addr) (gs : List Gap) (f : Form) (vs : List Value) (later : Terms)
+    (s : State)
+    → next p root (plugged gs (part f (dones vs) later)) s ≡ all_risen root gs
+    (performed (row p s (scope_at root gs) f vs later) s)
+next-row-within p root gs f vs later s =
+    next-within p root gs (part f (dones vs) later) s refl
+    ∙ ap (all_risen root gs) (next-row p (scope_at root gs) f vs later s)
 
 -- a throw that stands in its gaps
 pub next-standing-within : (p : Program) (root : Addr) (gs : List Gap) (v : Value) (place : Spot) (s : State)
@@ -97,7 +107,8 @@ unfinished [] t ts h = rw h refl
 unfinished (v ∷ vs) t ts h = unfinished vs t ts h
 
 pub settled_filled : (g : Gap) (t : Term) → is_done t ≡ false → settled g.form (gap_parts g t) g.later ≡ filled g t
-settled_filled g t h = ap (λ b. if b then finished g.form (gap_parts g t) g.later else filled g t) (unfinished g.before t g.after h)
+settled_filled g t h =
+    ap (λ b. if b then finished g.form (gap_parts g t) g.later else filled g t) (unfinished g.before t g.after h)
 
 -- what isn't finished leaves the forms around it as they are
 pub plugged-resettled : (gs : List Gap) (t : Term) → is_done t ≡ false → resettled gs t ≡ plugged gs t

@@ -49,7 +49,10 @@ taken_value_of : (t : NodeTable) (w : Wide) (ws : List Wide) (at k : ℕ) (vs us
     → IsTaken t (w ∷ ws) (record w { values = us } ∷ ws) (at + 1)
 taken_value_of t w ws at k vs us v parts below h e d u = record {
   same = refl;
-  parts = λ ts. ap (λ x. joined (dones x) (trees ts t (at + 1) w.mid)) u ∙ value_at_place ts t at w.mid k vs v h e (d ts) ∙ parts ts;
+  parts =
+      λ ts. ap (λ x. joined (dones x) (trees ts t (at + 1) w.mid)) u
+      ∙ value_at_place ts t at w.mid k vs v h e (d ts)
+      ∙ parts ts;
   below = λ m b. (below_some t at w.mid k m h e (below m b)).1;
 }
 
@@ -65,7 +68,8 @@ taken-value t [] new next at mid k v i q h e d n = absurd (omega arith)
 taken-value t (w ∷ ws) new next at mid k v i q h e d n =
     let f : next ≡ record w { values = values_of new ++ v ∷ [] } ∷ ws = n ∙ ap (with_value v) i.same in
     let P : List Wide → Type 0 = λ xs. IsTaken t (w ∷ ws) xs (at + 1) in
-    subst P (sym f) (taken_value_of t w ws at k (values_of new) (values_of new ++ v ∷ []) v i.parts i.below (omega arith) e d refl)
+    subst P (sym f)
+    (taken_value_of t w ws at k (values_of new) (values_of new ++ v ∷ []) v i.parts i.below (omega arith) e d refl)
 
 -- ---- the next part, or none
 
@@ -117,7 +121,9 @@ taken-end t [] new next at mid i q e n =
     let P : List Wide → Type 0 = λ xs. IsNextPart t [] xs None in
     subst P (sym f) (record { same = refl; parts = λ ts. refl; part = refl })
 taken-end t (w ∷ ws) new next at mid i q e n =
-    let f : next ≡ record w { values = values_of new; at = w.mid } ∷ ws = n ∙ ap (at_part mid) i.same ∙ ap (λ x. record w { values = values_of new; at = x } ∷ ws) q in
+    let f : next ≡ record w { values = values_of new; at = w.mid } ∷ ws = n
+    ∙ ap (at_part mid) i.same
+    ∙ ap (λ x. record w { values = values_of new; at = x } ∷ ws) q in
     let P : List Wide → Type 0 = λ xs. IsNextPart t (w ∷ ws) xs None in
     let g : kids_between t at w.mid ≡ [] = ap (λ x. kids_between t at x) (sym q) ∙ e in
     subst P (sym f) (end_of t w ws at (values_of new) i.parts g)

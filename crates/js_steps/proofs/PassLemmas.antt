@@ -127,27 +127,32 @@ index_call_lets scope (Some e) c later = refl
 
 -- ---- all forms
 
-by_op : (ts : List (List ℕ)) (t : NodeTable) (op : Op) (info : ℕ) (inner : Addr) (e : Option Extra) (scope : Addr) (c : Completion) (later : Terms)
-    → taken scope (form_in ts t op info inner e) c later ≡ took scope (form_in ts t op info inner e) c later (passing_of t op info c)
+by_op : (ts : List (List ℕ)) (t : NodeTable) (op : Op) (info : ℕ) (inner : Addr) (e : Option Extra) (scope : Addr)
+    (c : Completion) (later : Terms)
+    → taken scope (form_in ts t op info inner e) c later ≡ took scope (form_in ts t op info inner e) c later
+    (passing_of t op info c)
 unfolding form_of
 by_op ts t ops.Catching info inner e scope c later = try_takes scope None c later
 by_op ts t ops.CatchingName info inner e scope c later = try_takes scope (Some _) c later
 by_op ts t ops.Frame info inner e scope c later = call_takes scope info inner c later
 by_op ts t ops.LoopBody info inner e scope c later = loop_takes scope (turn_scope info inner) c later
-by_op ts t ops.BodyOf info inner e scope c later = body_takes ts scope (slice_get t.for_ofs.items info) (index_of e) c later
+by_op ts t ops.BodyOf info inner e scope c later =
+    body_takes ts scope (slice_get t.for_ofs.items info) (index_of e) c later
 by_op ts t ops.Script info inner e scope c later = script_lets ts scope (slice_get t.scripts.items info) c later
 by_op ts t ops.EnterFor info inner e scope c later = for_lets ts scope (slice_get t.fors.items info) c later
 by_op ts t ops.EnterForOf info inner e scope c later = for_of_lets ts scope (slice_get t.for_ofs.items info) c later
 by_op ts t ops.Block info inner e scope c later = block_lets ts scope _ c later
 by_op ts t ops.ListOf info inner e scope c later = list_lets ts scope (slice_get t.for_ofs.items info) c later
-by_op ts t ops.TurnOf info inner e scope c later = turn_lets ts scope (slice_get t.for_ofs.items info) (index_of e) c later
+by_op ts t ops.TurnOf info inner e scope c later =
+    turn_lets ts scope (slice_get t.for_ofs.items info) (index_of e) c later
 by_op ts t ops.Function info inner e scope c later = function_lets ts scope (slice_get t.functions.items info) c later
 by_op ts t ops.Method info inner e scope c later = method_lets ts scope (slice_get t.functions.items info) c later
 by_op ts t ops.Object info inner e scope c later = object_lets ts scope _ c later
 by_op ts t ops.ObjectRest info inner e scope c later = object_lets ts scope _ c later
 by_op ts t ops.Call info inner e scope c later = call_lets scope (slice_get t.calls.items info) c later
 by_op ts t ops.CallOfName info inner e scope c later = name_call_lets ts scope (slice_get t.calls.items info) c later
-by_op ts t ops.CallOfMember info inner e scope c later = member_call_lets ts scope (slice_get t.calls.items info) c later
+by_op ts t ops.CallOfMember info inner e scope c later =
+    member_call_lets ts scope (slice_get t.calls.items info) c later
 by_op ts t ops.CallOfIndex info inner e scope c later = index_call_lets scope (slice_get t.calls.items info) c later
 by_op ts t op info inner e scope c later = refl
 
@@ -156,15 +161,20 @@ pub takes : (ts : List (List ℕ)) (t : NodeTable) (w : Wide) (scope : Addr) (c 
     → passing_of t w.op w.info c ≡ k
     → taken scope (task_form ts t w) c (later_of ts t w) ≡ took scope (task_form ts t w) c (later_of ts t w) k
 unfolding task_form
-takes ts t w scope c k e = by_op ts t w.op w.info w.inner w.extra scope c (later_of ts t w) ∙ ap (took scope (form_in ts t w.op w.info w.inner w.extra) c (later_of ts t w)) e
+takes ts t w scope c k e =
+    by_op ts t w.op w.info w.inner w.extra scope c (later_of ts t w)
+    ∙ ap (took scope (form_in ts t w.op w.info w.inner w.extra) c (later_of ts t w)) e
 
 -- ---- outward
 
 -- a completion in the gap of a task
-pub risen-by : (ts : List (List ℕ)) (t : NodeTable) (root : Addr) (w : Wide) (ws : List Wide) (c : Completion) (k : Passing) (s : State)
+pub risen-by : (ts : List (List ℕ)) (t : NodeTable) (root : Addr) (w : Wide) (ws : List Wide) (c : Completion)
+    (k : Passing) (s : State)
     → passing_of t w.op w.info c ≡ k
-    → all_risen root (gaps_of ts t (w ∷ ws)) (travels c s) ≡ all_risen root (gaps_of ts t ws) (performed (took (scope_at root (gaps_of ts t ws)) (task_form ts t w) c (later_of ts t w) k) s)
-risen-by ts t root w ws c k s e = ap (λ a. all_risen root (gaps_of ts t ws) (performed a s)) (takes ts t w (scope_at root (gaps_of ts t ws)) c k e)
+    → all_risen root (gaps_of ts t (w ∷ ws)) (travels c s) ≡ all_risen root (gaps_of ts t ws)
+    (performed (took (scope_at root (gaps_of ts t ws)) (task_form ts t w) c (later_of ts t w) k) s)
+risen-by ts t root w ws c k s e =
+    ap (λ a. all_risen root (gaps_of ts t ws) (performed a s)) (takes ts t w (scope_at root (gaps_of ts t ws)) c k e)
 
 left : (c : Completion) (s : State) → performed (leave c) s ≡ travels c s
 unfolding performed
@@ -174,7 +184,9 @@ let_pass : (t : NodeTable) (c : Completion) (w : Wide) (ws : List Wide) (now : C
     → passing_of t w.op w.info c ≡ passings.Lets
     → HasPassedTasks t c (w ∷ ws) now ws now
 let_pass t c w ws now e = record {
-  moves = λ ts root v taken. risen-by ts t root w ws c passings.Lets (state_of v now taken) e ∙ ap (all_risen root (gaps_of ts t ws)) (left c (state_of v now taken));
+  moves =
+      λ ts root v taken. risen-by ts t root w ws c passings.Lets (state_of v now taken) e
+      ∙ ap (all_risen root (gaps_of ts t ws)) (left c (state_of v now taken));
   scoped = λ root s. s.1;
 }
 
@@ -183,11 +195,14 @@ unframe : (t : NodeTable) (c : Completion) (w : Wide) (ws : List Wide) (now afte
     → Turns pop_frame now after
     → HasPassedTasks t c (w ∷ ws) now ws after
 unframe t c w ws now after e f = record {
-  moves = λ ts root v taken. risen-by ts t root w ws c passings.Unframes (state_of v now taken) e ∙ ap (all_risen root (gaps_of ts t ws)) (f v taken (leave c) ∙ left c (state_of v after taken));
+  moves =
+      λ ts root v taken. risen-by ts t root w ws c passings.Unframes (state_of v now taken) e
+      ∙ ap (all_risen root (gaps_of ts t ws)) (f v taken (leave c) ∙ left c (state_of v after taken));
   scoped = λ root s. s.1;
 }
 
-behind : (t : NodeTable) (c : Completion) (old : List Wide) (before : Context) (mid : List Wide) (now : Context) (new : List Wide) (after : Context)
+behind : (t : NodeTable) (c : Completion) (old : List Wide) (before : Context) (mid : List Wide) (now : Context)
+    (new : List Wide) (after : Context)
     → HasPassedTasks t c old before mid now
     → HasPassedTasks t c mid now new after
     → HasPassedTasks t c old before new after
@@ -197,7 +212,8 @@ behind t c old before mid now new after h k = record {
 }
 
 -- past one more task, which is left
-pub passed-task : (t : NodeTable) (c : Completion) (old : List Wide) (before : Context) (mid new : List Wide) (now : Context) (task : Task)
+pub passed-task : (t : NodeTable) (c : Completion) (old : List Wide) (before : Context) (mid new : List Wide)
+    (now : Context) (task : Task)
     → HasPassedTasks t c old before mid now
     → mid ≡ wide task (values_of mid) (extra_of mid) ∷ outer_of mid
     → passing_of t task.op task.info c ≡ passings.Lets
@@ -206,10 +222,13 @@ pub passed-task : (t : NodeTable) (c : Completion) (old : List Wide) (before : C
 passed-task t c old before mid new now task h i e n =
     let P : List Wide → Type 0 = λ ws. HasPassedTasks t c ws now (outer_of mid) now in
     let Q : List Wide → Type 0 = λ ws. HasPassedTasks t c old before ws now in
-    subst Q (sym n) (behind t c old before mid now (outer_of mid) now h (subst P (sym i) (let_pass t c (wide task (values_of mid) (extra_of mid)) (outer_of mid) now e)))
+    subst Q (sym n)
+    (behind t c old before mid now (outer_of mid) now h
+    (subst P (sym i) (let_pass t c (wide task (values_of mid) (extra_of mid)) (outer_of mid) now e)))
 
 -- past an active call
-pub passed-call : (t : NodeTable) (c : Completion) (old : List Wide) (before : Context) (mid new : List Wide) (now after : Context) (task : Task)
+pub passed-call : (t : NodeTable) (c : Completion) (old : List Wide) (before : Context) (mid new : List Wide)
+    (now after : Context) (task : Task)
     → HasPassedTasks t c old before mid now
     → mid ≡ wide task (values_of mid) (extra_of mid) ∷ outer_of mid
     → passing_of t task.op task.info c ≡ passings.Unframes
@@ -219,4 +238,6 @@ pub passed-call : (t : NodeTable) (c : Completion) (old : List Wide) (before : C
 passed-call t c old before mid new now after task h i e f n =
     let P : List Wide → Type 0 = λ ws. HasPassedTasks t c ws now (outer_of mid) after in
     let Q : List Wide → Type 0 = λ ws. HasPassedTasks t c old before ws after in
-    subst Q (sym n) (behind t c old before mid now (outer_of mid) after h (subst P (sym i) (unframe t c (wide task (values_of mid) (extra_of mid)) (outer_of mid) now after e f)))
+    subst Q (sym n)
+    (behind t c old before mid now (outer_of mid) after h
+    (subst P (sym i) (unframe t c (wide task (values_of mid) (extra_of mid)) (outer_of mid) now after e f)))

@@ -59,12 +59,14 @@ last_more : (k : ℕ) (p : Program) (a : Addr) (r : Run)
     → last_printed (k + 1) p a r ≡ values_printed p a (steps_in k p a r)
 last_more k p a r = ap (λ n. last_printed n p a r) (add-one k)
 
-prints_by : (ts : List (List ℕ)) (t : NodeTable) (root : Addr) (ws : List Wide) (p : Point) (w : World) (c : Context) (k : ℕ) (vs us : List Wide) (q o : Point) (v x : World) (d e : Context) (stepped : Stepped) (b : Option Why)
+prints_by : (ts : List (List ℕ)) (t : NodeTable) (root : Addr) (ws : List Wide) (p : Point) (w : World) (c : Context)
+    (k : ℕ) (vs us : List Wide) (q o : Point) (v x : World) (d e : Context) (stepped : Stepped) (b : Option Why)
     → HasRun ts t root ws p w c k vs q v d
     → IsGoing q
     → why_of stepped ≡ b
     → (taken : List (List ℕ))
-    → Tells (next (program_of ts t) root (term_at ts t vs q) (state_of v d taken)) stepped (term_at ts t us o) (state_of x e taken)
+    → Tells (next (program_of ts t) root (term_at ts t vs q) (state_of v d taken)) stepped (term_at ts t us o)
+    (state_of x e taken)
     → PrintsBy b (last_printed (k + 1) (program_of ts t) root (run_of (term_at ts t ws p) (state_of w c taken)))
 prints_by ts t root ws p w c k vs us q o v x d e stepped b h g y taken told =
     let f =
@@ -72,28 +74,40 @@ prints_by ts t root ws p w c k vs us q o v x d e stepped b h g y taken told =
     ∙ ap (values_printed (program_of ts t) root) (h.runs taken)
     ∙ printed_of (program_of ts t) root (term_at ts t vs q) (state_of v d taken) (at-open ts t vs q h.stands.at g) in
     let P : Option (List Value) → Type 0 = PrintsBy (why_of stepped) in
-    let Q : Option Why → Type 0 = λ z. PrintsBy z (last_printed (k + 1) (program_of ts t) root (run_of (term_at ts t ws p) (state_of w c taken))) in
-    subst Q y (subst P (sym f) (told_prints (next (program_of ts t) root (term_at ts t vs q) (state_of v d taken)) stepped (term_at ts t us o) (state_of x e taken) told))
+    let Q : Option Why
+    → Type 0 = λ z. PrintsBy z
+    (last_printed (k + 1) (program_of ts t) root (run_of (term_at ts t ws p) (state_of w c taken))) in
+    subst Q y
+    (subst P (sym f)
+    (told_prints (next (program_of ts t) root (term_at ts t vs q) (state_of v d taken)) stepped
+    (term_at ts t us o) (state_of x e taken) told))
 
 -- a step after which it stops
-pub stop-prints : (ts : List (List ℕ)) (t : NodeTable) (root : Addr) (ws : List Wide) (p : Point) (w : World) (c : Context) (k : ℕ) (vs us : List Wide) (q o : Point) (v x : World) (d e : Context) (stepped : Stepped) (why : Why)
+pub stop-prints : (ts : List (List ℕ)) (t : NodeTable) (root : Addr) (ws : List Wide) (p : Point) (w : World)
+    (c : Context) (k : ℕ) (vs us : List Wide) (q o : Point) (v x : World) (d e : Context) (stepped : Stepped)
+    (why : Why)
     → HasRun ts t root ws p w c k vs q v d
     → IsGoing q
     → why_of stepped ≡ Some why
     → (taken : List (List ℕ))
-    → Tells (next (program_of ts t) root (term_at ts t vs q) (state_of v d taken)) stepped (term_at ts t us o) (state_of x e taken)
+    → Tells (next (program_of ts t) root (term_at ts t vs q) (state_of v d taken)) stepped (term_at ts t us o)
+    (state_of x e taken)
     → PrintsAs why (last_printed (k + 1) (program_of ts t) root (run_of (term_at ts t ws p) (state_of w c taken)))
-stop-prints ts t root ws p w c k vs us q o v x d e stepped why h g y taken told = prints_by ts t root ws p w c k vs us q o v x d e stepped (Some why) h g y taken told
+stop-prints ts t root ws p w c k vs us q o v x d e stepped why h g y taken told =
+    prints_by ts t root ws p w c k vs us q o v x d e stepped (Some why) h g y taken told
 
 -- a step after which it goes on
-pub next-silent : (ts : List (List ℕ)) (t : NodeTable) (root : Addr) (ws : List Wide) (p : Point) (w : World) (c : Context) (k : ℕ) (vs us : List Wide) (q o : Point) (v x : World) (d e : Context) (stepped : Stepped)
+pub next-silent : (ts : List (List ℕ)) (t : NodeTable) (root : Addr) (ws : List Wide) (p : Point) (w : World)
+    (c : Context) (k : ℕ) (vs us : List Wide) (q o : Point) (v x : World) (d e : Context) (stepped : Stepped)
     → HasRun ts t root ws p w c k vs q v d
     → IsGoing q
     → why_of stepped ≡ None
     → (taken : List (List ℕ))
-    → Tells (next (program_of ts t) root (term_at ts t vs q) (state_of v d taken)) stepped (term_at ts t us o) (state_of x e taken)
+    → Tells (next (program_of ts t) root (term_at ts t vs q) (state_of v d taken)) stepped (term_at ts t us o)
+    (state_of x e taken)
     → last_printed (k + 1) (program_of ts t) root (run_of (term_at ts t ws p) (state_of w c taken)) ≡ None
-next-silent ts t root ws p w c k vs us q o v x d e stepped h g y taken told = prints_by ts t root ws p w c k vs us q o v x d e stepped None h g y taken told
+next-silent ts t root ws p w c k vs us q o v x d e stepped h g y taken told =
+    prints_by ts t root ws p w c k vs us q o v x d e stepped None h g y taken told
 
 -- ---- the steps before it
 

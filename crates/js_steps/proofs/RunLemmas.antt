@@ -51,7 +51,8 @@ pub at-open : (ts : List (List ℕ)) (t : NodeTable) (ws : List Wide) (p : Point
 unfolding term_at
 at-open ts t [] points.Row h g = absurd h
 at-open ts t (w ∷ ws) points.Row h g = plugged_open (gaps_of ts t ws) (redex_of ts t w) refl
-at-open ts t ws (points.Leaf n) h g = plugged_open (gaps_of ts t ws) (tree ts t n) (open-tree ts t n (leaf_open (slice_get t.nodes.items n) h))
+at-open ts t ws (points.Leaf n) h g =
+    plugged_open (gaps_of ts t ws) (tree ts t n) (open-tree ts t n (leaf_open (slice_get t.nodes.items n) h))
 at-open ts t ws (points.Stands v place) h g = plugged_open (gaps_of ts t ws) (standing v place) refl
 at-open ts t ws (points.Done v) h g = absurd g
 
@@ -105,26 +106,38 @@ told-runs m steppeds.Memory t s h = tt
 
 -- ---- the loop
 
-pub runs-init : (ts : List (List ℕ)) (t : NodeTable) (root : Addr) (ws : List Wide) (p : Point) (w : World) (c : Context)
+pub runs-init : (ts : List (List ℕ)) (t : NodeTable) (root : Addr) (ws : List Wide) (p : Point) (w : World)
+    (c : Context)
     → StandsIn t root ws p
     → HasRun ts t root ws p w c 0 ws p w c
 runs-init ts t root ws p w c h = record { runs = λ taken. refl; left = λ taken. tt; stands = h }
 
-runs_by : (ts : List (List ℕ)) (t : NodeTable) (root : Addr) (ws : List Wide) (p : Point) (w : World) (c : Context) (k : ℕ) (vs us : List Wide) (q o : Point) (v x : World) (d e : Context) (stepped : Stepped) (b : Option Why)
+runs_by : (ts : List (List ℕ)) (t : NodeTable) (root : Addr) (ws : List Wide) (p : Point) (w : World) (c : Context)
+    (k : ℕ) (vs us : List Wide) (q o : Point) (v x : World) (d e : Context) (stepped : Stepped) (b : Option Why)
     → HasRun ts t root ws p w c k vs q v d
     → IsGoing q
     → why_of stepped ≡ b
     → (taken : List (List ℕ))
-    → Tells (next (program_of ts t) root (term_at ts t vs q) (state_of v d taken)) stepped (term_at ts t us o) (state_of x e taken)
-    → RunsBy (steps_in (k + 1) (program_of ts t) root (run_of (term_at ts t ws p) (state_of w c taken))) b (term_at ts t us o) (state_of x e taken)
+    → Tells (next (program_of ts t) root (term_at ts t vs q) (state_of v d taken)) stepped (term_at ts t us o)
+    (state_of x e taken)
+    → RunsBy (steps_in (k + 1) (program_of ts t) root (run_of (term_at ts t ws p) (state_of w c taken))) b
+    (term_at ts t us o) (state_of x e taken)
 runs_by ts t root ws p w c k vs us q o v x d e stepped b h g y taken told =
-    let P : Option Why → Type 0 = λ z. RunsBy (steps_in (k + 1) (program_of ts t) root (run_of (term_at ts t ws p) (state_of w c taken))) z (term_at ts t us o) (state_of x e taken) in
+    let P : Option Why
+    → Type 0 = λ z. RunsBy (steps_in (k + 1) (program_of ts t) root (run_of (term_at ts t ws p) (state_of w c taken))) z
+    (term_at ts t us o) (state_of x e taken) in
     let Q : Run → Type 0 = λ r. RunsBy r (why_of stepped) (term_at ts t us o) (state_of x e taken) in
-    let f = one_more k (program_of ts t) root (run_of (term_at ts t ws p) (state_of w c taken)) ∙ ap (step_in (program_of ts t) root) (h.runs taken) ∙ step-of (program_of ts t) root (term_at ts t vs q) (state_of v d taken) (at-open ts t vs q h.stands.at g) in
-    subst P y (subst Q (sym f) (told-runs (next (program_of ts t) root (term_at ts t vs q) (state_of v d taken)) stepped (term_at ts t us o) (state_of x e taken) told))
+    let f = one_more k (program_of ts t) root (run_of (term_at ts t ws p) (state_of w c taken))
+    ∙ ap (step_in (program_of ts t) root) (h.runs taken)
+    ∙ step-of (program_of ts t) root (term_at ts t vs q) (state_of v d taken) (at-open ts t vs q h.stands.at g) in
+    subst P y
+    (subst Q (sym f)
+    (told-runs (next (program_of ts t) root (term_at ts t vs q) (state_of v d taken)) stepped
+    (term_at ts t us o) (state_of x e taken) told))
 
 -- one more step of a run that isn't over
-pub more-left : (ts : List (List ℕ)) (t : NodeTable) (root : Addr) (ws : List Wide) (p : Point) (w : World) (c : Context) (k : ℕ) (vs : List Wide) (q : Point) (v : World) (d : Context)
+pub more-left : (ts : List (List ℕ)) (t : NodeTable) (root : Addr) (ws : List Wide) (p : Point) (w : World)
+    (c : Context) (k : ℕ) (vs : List Wide) (q : Point) (v : World) (d : Context)
     → HasRun ts t root ws p w c k vs q v d
     → IsGoing q
     → (taken : List (List ℕ))
@@ -133,19 +146,25 @@ more-left ts t root ws p w c k vs q v d h g taken =
     let r : Run = run_of (term_at ts t ws p) (state_of w c taken) in
     let P : Run → Type 0 = IsRunning in
     let Q : ℕ → Type 0 = λ n. RunsFor n (program_of ts t) root r in
-    let i = subst P (sym (h.runs taken)) (open_runs (term_at ts t vs q) (state_of v d taken) (at-open ts t vs q h.stands.at g)) in
+    let i = subst P (sym (h.runs taken))
+    (open_runs (term_at ts t vs q) (state_of v d taken) (at-open ts t vs q h.stands.at g)) in
     let e : suc k ≡ k + 1 = omega arith in
     subst Q e (left_more k (program_of ts t) root r (h.left taken) i)
 
 -- a step after which it stops
-pub stop-runs : (ts : List (List ℕ)) (t : NodeTable) (root : Addr) (ws : List Wide) (p : Point) (w : World) (c : Context) (k : ℕ) (vs us : List Wide) (q o : Point) (v x : World) (d e : Context) (stepped : Stepped) (why : Why)
+pub stop-runs : (ts : List (List ℕ)) (t : NodeTable) (root : Addr) (ws : List Wide) (p : Point) (w : World)
+    (c : Context) (k : ℕ) (vs us : List Wide) (q o : Point) (v x : World) (d e : Context) (stepped : Stepped)
+    (why : Why)
     → HasRun ts t root ws p w c k vs q v d
     → IsGoing q
     → why_of stepped ≡ Some why
     → (taken : List (List ℕ))
-    → Tells (next (program_of ts t) root (term_at ts t vs q) (state_of v d taken)) stepped (term_at ts t us o) (state_of x e taken)
-    → RunsTo (steps_in (k + 1) (program_of ts t) root (run_of (term_at ts t ws p) (state_of w c taken))) why (term_at ts t us o) (state_of x e taken)
-stop-runs ts t root ws p w c k vs us q o v x d e stepped why h g y taken told = runs_by ts t root ws p w c k vs us q o v x d e stepped (Some why) h g y taken told
+    → Tells (next (program_of ts t) root (term_at ts t vs q) (state_of v d taken)) stepped (term_at ts t us o)
+    (state_of x e taken)
+    → RunsTo (steps_in (k + 1) (program_of ts t) root (run_of (term_at ts t ws p) (state_of w c taken))) why
+    (term_at ts t us o) (state_of x e taken)
+stop-runs ts t root ws p w c k vs us q o v x d e stepped why h g y taken told =
+    runs_by ts t root ws p w c k vs us q o v x d e stepped (Some why) h g y taken told
 
 none_at : (o : Option Why) → is_some o ≡ false → o ≡ None
 none_at None e = refl
@@ -164,11 +183,14 @@ went_stands (steppeds.Full what) P e h = cc
 went_stands steppeds.Memory P e h = cc
 
 -- a step after which it goes on
-pub next-runs : (ts : List (List ℕ)) (t : NodeTable) (root : Addr) (ws : List Wide) (p : Point) (w : World) (c : Context) (k : ℕ) (vs us : List Wide) (q o : Point) (v x : World) (d e : Context) (stepped : Stepped)
+pub next-runs : (ts : List (List ℕ)) (t : NodeTable) (root : Addr) (ws : List Wide) (p : Point) (w : World)
+    (c : Context) (k : ℕ) (vs us : List Wide) (q o : Point) (v x : World) (d e : Context) (stepped : Stepped)
     → HasRun ts t root ws p w c k vs q v d
     → IsGoing q
     → why_of stepped ≡ None
-    → ((taken : List (List ℕ)) → Tells (next (program_of ts t) root (term_at ts t vs q) (state_of v d taken)) stepped (term_at ts t us o) (state_of x e taken))
+    → ((taken : List (List ℕ))
+    → Tells (next (program_of ts t) root (term_at ts t vs q) (state_of v d taken)) stepped (term_at ts t us o)
+    (state_of x e taken))
     → IfGoesOn stepped (StandsIn t root us o)
     → HasRun ts t root ws p w c (k + 1) us o x e
 next-runs ts t root ws p w c k vs us q o v x d e stepped h g y told s = record {
@@ -203,11 +225,13 @@ unfolding term_at
 done_at ts t v = refl
 
 -- nothing is left to reduce
-pub done-runs : (ts : List (List ℕ)) (t : NodeTable) (root : Addr) (ws : List Wide) (p : Point) (w : World) (c : Context) (k : ℕ) (vs : List Wide) (q : Point) (v : World) (d : Context) (value : Value)
+pub done-runs : (ts : List (List ℕ)) (t : NodeTable) (root : Addr) (ws : List Wide) (p : Point) (w : World)
+    (c : Context) (k : ℕ) (vs : List Wide) (q : Point) (v : World) (d : Context) (value : Value)
     → HasRun ts t root ws p w c k vs q v d
     → q ≡ points.Done value
     → (taken : List (List ℕ))
-    → steps_in k (program_of ts t) root (run_of (term_at ts t ws p) (state_of w c taken)) ≡ over (finish_of (finishes.Ended value)) (state_of v d taken)
+    → steps_in k (program_of ts t) root (run_of (term_at ts t ws p) (state_of w c taken)) ≡ over
+    (finish_of (finishes.Ended value)) (state_of v d taken)
 done-runs ts t root ws p w c k vs q v d value h e taken =
     let P : Point → Type 0 = IsAt t vs in
     h.runs taken
@@ -263,7 +287,8 @@ counts_by (steppeds.Full what) k most = omega arith
 counts_by steppeds.Memory k most = omega arith
 
 pub stop-counted : (stepped : Stepped) (why : Why) (k most : ℕ) → why_of stepped ≡ Some why → CountsAs why (k + 1) most
-stop-counted stepped why k most e = let P : Option Why → Type 0 = λ x. CountsBy x (k + 1) most in subst P e (counts_by stepped k most)
+stop-counted stepped why k most e =
+    let P : Option Why → Type 0 = λ x. CountsBy x (k + 1) most in subst P e (counts_by stepped k most)
 
 abbrev AsksBy : (Term → List Frame → Bool) → Option Why → Run → Type 0
 AsksBy f None r = Unit {0}
@@ -296,18 +321,21 @@ one_less steppeds.Effect k = refl
 one_less (steppeds.Full what) k = refl
 one_less steppeds.Memory k = refl
 
-pub stop-passed : (f : Term → List Frame → Bool) (stepped : Stepped) (why : Why) (k : ℕ) (p : Program) (a : Addr) (r : Run)
+pub stop-passed : (f : Term → List Frame → Bool) (stepped : Stepped) (why : Why) (k : ℕ) (p : Program) (a : Addr)
+    (r : Run)
     → why_of stepped ≡ Some why
     → HasPassed f k p a r
     → HasPassed f (passed_steps why (k + 1)) p a r
 stop-passed f stepped why k p a r e h =
     let P : ℕ → Type 0 = λ n. HasPassed f n p a r in
-    let same : k + 1 - 1 ≡ passed_steps why (k + 1) = sym (one_less stepped (k + 1)) ∙ ap (λ o. passed_by o (k + 1)) e in
+    let same : k + 1 - 1 ≡ passed_steps why (k + 1) = sym (one_less stepped (k + 1))
+    ∙ ap (λ o. passed_by o (k + 1)) e in
     subst P same (passed-but-last f k p a r h)
 
 -- ---- the question where the machine stands
 
-pub done-asks : (f : Term → List Frame → Bool) (ts : List (List ℕ)) (t : NodeTable) (ws : List Wide) (p : Point) (v : Value) (s : State)
+pub done-asks : (f : Term → List Frame → Bool) (ts : List (List ℕ)) (t : NodeTable) (ws : List Wide) (p : Point)
+    (v : Value) (s : State)
     → p ≡ points.Done v
     → IsAt t ws p
     → false ≡ asks_at f (run_of (term_at ts t ws p) s)
@@ -324,7 +352,8 @@ open_asks f (done v) s h = absurd cc
 open_asks f (standing v place) s h = refl
 open_asks f (part g now later) s h = refl
 
-pub going-asks : (f : Term → List Frame → Bool) (ts : List (List ℕ)) (t : NodeTable) (ws : List Wide) (p : Point) (s : State)
+pub going-asks : (f : Term → List Frame → Bool) (ts : List (List ℕ)) (t : NodeTable) (ws : List Wide) (p : Point)
+    (s : State)
     → IsAt t ws p
     → IsGoing p
     → f (term_at ts t ws p) s.frames ≡ asks_at f (run_of (term_at ts t ws p) s)

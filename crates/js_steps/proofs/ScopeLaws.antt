@@ -117,7 +117,8 @@ body_plain ts outer i (Some x) = refl
 body_plain ts outer i None = refl
 
 -- a form without one has its parts in the scope around it
-pub plain-scope : (ts : List (List ℕ)) (t : NodeTable) (op : Op) (info : ℕ) (inner : Addr) (e : Option Extra) (outer : Addr)
+pub plain-scope : (ts : List (List ℕ)) (t : NodeTable) (op : Op) (info : ℕ) (inner : Addr) (e : Option Extra)
+    (outer : Addr)
     → has_scope op info ≡ false
     → scope_in (form_in ts t op info inner e) outer ≡ outer
 unfolding form_of
@@ -183,7 +184,8 @@ plain-scope ts t ops.CallOfMember info inner e outer h = member_call_plain ts ou
 plain-scope ts t ops.CallOfIndex info inner e outer h = index_call_plain ts outer (slice_get t.calls.items info)
 
 -- a form with one has them there
-pub own-scope : (ts : List (List ℕ)) (t : NodeTable) (op : Op) (info : ℕ) (inner : Addr) (e : Option Extra) (outer : Addr)
+pub own-scope : (ts : List (List ℕ)) (t : NodeTable) (op : Op) (info : ℕ) (inner : Addr) (e : Option Extra)
+    (outer : Addr)
     → has_scope op info ≡ true
     → scope_in (form_in ts t op info inner e) outer ≡ inner
 unfolding form_of

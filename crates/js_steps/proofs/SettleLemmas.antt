@@ -59,14 +59,17 @@ open_if t old new (Some n) i = i.part.form
 -- settled, by what the parts are
 settled_by : (ts : List (List ℕ)) (t : NodeTable) (w : Wide) (ws : List Wide) (n : Option ℕ)
     → IsOpenIfSome t n
-    → resettled (gaps_of ts t ws) (settled (task_form ts t w) (parts_with ts t (w ∷ ws) n) (later_of ts t w)) ≡ after_parts ts t (w ∷ ws) n
-settled_by ts t w ws None o = ap (resettled (gaps_of ts t ws)) (settled-values (task_form ts t w) w.values (later_of ts t w))
+    → resettled (gaps_of ts t ws) (settled (task_form ts t w) (parts_with ts t (w ∷ ws) n) (later_of ts t w))
+    ≡ after_parts ts t (w ∷ ws) n
+settled_by ts t w ws None o =
+    ap (resettled (gaps_of ts t ws)) (settled-values (task_form ts t w) w.values (later_of ts t w))
 settled_by ts t w ws (Some n) o =
     ap (resettled (gaps_of ts t ws)) (settled_filled (gap_of ts t w) (tree ts t n) (open-tree ts t n o))
     ∙ resettled-part (gaps_of ts t ws) (task_form ts t w) (gap_parts (gap_of ts t w) (tree ts t n)) (later_of ts t w)
 
 within_by : (ts : List (List ℕ)) (t : NodeTable) (w : Wide) (ws : List Wide) (n : Option ℕ)
-    → plugged (gaps_of ts t ws) (part (task_form ts t w) (parts_with ts t (w ∷ ws) n) (later_of ts t w)) ≡ within_parts ts t (w ∷ ws) n
+    → plugged (gaps_of ts t ws) (part (task_form ts t w) (parts_with ts t (w ∷ ws) n) (later_of ts t w))
+    ≡ within_parts ts t (w ∷ ws) n
 within_by ts t w ws None = refl
 within_by ts t w ws (Some n) = refl
 
@@ -83,19 +86,24 @@ pub parts-settled : (ts : List (List ℕ)) (t : NodeTable) (old new : List Wide)
 parts-settled ts t [] new n i = settled_none ts t new n i
 parts-settled ts t (w ∷ ws) new n i =
     let u : Wide = record w { at = at_of new; values = values_of new } in
-    ap (λ now. resettled (gaps_of ts t ws) (settled (task_form ts t w) now (later_of ts t w))) (i.parts ts ∙ ap (λ x. parts_with ts t x n) i.same)
-    ∙ ap (λ f. resettled (gaps_of ts t ws) (settled f (parts_with ts t (u ∷ ws) n) (later_of ts t w))) (sym (moved_form ts t w (at_of new) (values_of new)))
+    ap (λ now. resettled (gaps_of ts t ws) (settled (task_form ts t w) now (later_of ts t w)))
+    (i.parts ts ∙ ap (λ x. parts_with ts t x n) i.same)
+    ∙ ap (λ f. resettled (gaps_of ts t ws) (settled f (parts_with ts t (u ∷ ws) n) (later_of ts t w)))
+    (sym (moved_form ts t w (at_of new) (values_of new)))
     ∙ settled_by ts t u ws n (open_if t (w ∷ ws) new n i)
     ∙ ap (λ x. after_parts ts t x n) (sym i.same)
 
 -- the term on the way inward, where no form gives way
 pub parts-within : (ts : List (List ℕ)) (t : NodeTable) (w : Wide) (ws new : List Wide) (n : Option ℕ)
     → IsNextPart t (w ∷ ws) new n
-    → plugged (gaps_of ts t ws) (part (task_form ts t w) (parts_of ts t (w ∷ ws)) (later_of ts t w)) ≡ within_parts ts t new n
+    → plugged (gaps_of ts t ws) (part (task_form ts t w) (parts_of ts t (w ∷ ws)) (later_of ts t w))
+    ≡ within_parts ts t new n
 parts-within ts t w ws new n i =
     let u : Wide = record w { at = at_of new; values = values_of new } in
-    ap (λ now. plugged (gaps_of ts t ws) (part (task_form ts t w) now (later_of ts t w))) (i.parts ts ∙ ap (λ x. parts_with ts t x n) i.same)
-    ∙ ap (λ f. plugged (gaps_of ts t ws) (part f (parts_with ts t (u ∷ ws) n) (later_of ts t w))) (sym (moved_form ts t w (at_of new) (values_of new)))
+    ap (λ now. plugged (gaps_of ts t ws) (part (task_form ts t w) now (later_of ts t w)))
+    (i.parts ts ∙ ap (λ x. parts_with ts t x n) i.same)
+    ∙ ap (λ f. plugged (gaps_of ts t ws) (part f (parts_with ts t (u ∷ ws) n) (later_of ts t w)))
+    (sym (moved_form ts t w (at_of new) (values_of new)))
     ∙ within_by ts t u ws n
     ∙ ap (λ x. within_parts ts t x n) (sym i.same)
 
@@ -108,8 +116,10 @@ value_form ts t w vs = refl
 pub value-settled : (ts : List (List ℕ)) (t : NodeTable) (w : Wide) (ws : List Wide) (v : Value)
     → resettled (gaps_of ts t (w ∷ ws)) (done v) ≡ settled_parts ts t (with_value v (w ∷ ws))
 value-settled ts t w ws v =
-    ap (λ now. resettled (gaps_of ts t ws) (settled (task_form ts t w) now (later_of ts t w))) (sym (joined-value w.values v (trees ts t w.at w.mid)))
-    ∙ ap (λ f. resettled (gaps_of ts t ws) (settled f (parts_of ts t (with_value v (w ∷ ws))) (later_of ts t w))) (sym (value_form ts t w (w.values ++ v ∷ [])))
+    ap (λ now. resettled (gaps_of ts t ws) (settled (task_form ts t w) now (later_of ts t w)))
+    (sym (joined-value w.values v (trees ts t w.at w.mid)))
+    ∙ ap (λ f. resettled (gaps_of ts t ws) (settled f (parts_of ts t (with_value v (w ∷ ws))) (later_of ts t w)))
+    (sym (value_form ts t w (w.values ++ v ∷ [])))
 
 -- ---- what stays when the parts get their values
 
@@ -117,13 +127,15 @@ pub scopes-moved : (t : NodeTable) (root : Addr) (at : ℕ) (vs : List Value) (o
     → InScopes t root old
     → InScopes t root (moved at vs old)
 scopes-moved t root at vs [] i = tt
-scopes-moved t root at vs (w ∷ ws) i = (λ ts. ap (λ f. scope_in f (scope_of root ws)) (moved_form ts t w at vs) ∙ i.0 ts, i.1)
+scopes-moved t root at vs (w ∷ ws) i =
+    (λ ts. ap (λ f. scope_in f (scope_of root ws)) (moved_form ts t w at vs) ∙ i.0 ts, i.1)
 
 pub scopes-value : (t : NodeTable) (root : Addr) (v : Value) (old : List Wide)
     → InScopes t root old
     → InScopes t root (with_value v old)
 scopes-value t root v [] i = tt
-scopes-value t root v (w ∷ ws) i = (λ ts. ap (λ f. scope_in f (scope_of root ws)) (value_form ts t w (w.values ++ v ∷ [])) ∙ i.0 ts, i.1)
+scopes-value t root v (w ∷ ws) i =
+    (λ ts. ap (λ f. scope_in f (scope_of root ws)) (value_form ts t w (w.values ++ v ∷ [])) ∙ i.0 ts, i.1)
 
 pub scope-moved : (root : Addr) (at : ℕ) (vs : List Value) (old : List Wide)
     → scope_of root (moved at vs old) ≡ scope_of root old

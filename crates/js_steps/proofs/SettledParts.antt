@@ -10,4 +10,5 @@ use Rattle.js_steps.specs.Parts.{parts_of}
 -- the parts of the innermost task have made a step
 abbrev pub settled_parts : List (List ℕ) → NodeTable → List Wide → Term
 settled_parts ts t [] = done values.Undefined
-settled_parts ts t (w ∷ ws) = resettled (gaps_of ts t ws) (settled (task_form ts t w) (parts_of ts t (w ∷ ws)) (later_of ts t w))
+settled_parts ts t (w ∷ ws) =
+    resettled (gaps_of ts t ws) (settled (task_form ts t w) (parts_of ts t (w ∷ ws)) (later_of ts t w))

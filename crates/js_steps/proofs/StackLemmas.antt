@@ -43,7 +43,9 @@ turns_at front n x y z e i =
     record {
       others = reverse front;
       before = reverse-append front (z ∷ []) ∙ ap (λ u. u ∷ reverse front) (sym q);
-      after = ap reverse (ap (λ k. slice_set (front ++ z ∷ []) k y) e ∙ set-append_seam front z [] y) ∙ reverse-append front (y ∷ []);
+      after =
+          ap reverse (ap (λ k. slice_set (front ++ z ∷ []) k y) e ∙ set-append_seam front z [] y)
+          ∙ reverse-append front (y ∷ []);
     }
 
 pub turns : {A : Type 0} (xs : List A) (n : ℕ) (x y : A)
@@ -62,10 +64,17 @@ get_seam [] x = refl
 get_seam (y ∷ front) x = get_seam front x
 
 back-get : {A : Type 0} (xs front : List A) (x : A) → xs ≡ front ++ x ∷ [] → slice_get xs (length xs - 1) ≡ Some x
-back-get xs front x e = ap (λ n. slice_get xs n) (seam xs front x (length xs) e refl) ∙ ap (λ ys. slice_get ys (length front)) e ∙ get_seam front x
+back-get xs front x e =
+    ap (λ n. slice_get xs n) (seam xs front x (length xs) e refl)
+    ∙ ap (λ ys. slice_get ys (length front)) e
+    ∙ get_seam front x
 
 back-take : {A : Type 0} (xs front : List A) (x : A) → xs ≡ front ++ x ∷ [] → take (length xs - 1) xs ≡ front
-back-take xs front x e = ap (λ n. take n xs) (seam xs front x (length xs) e refl) ∙ ap (λ ys. take (length front) ys) e ∙ take-append-le (length front) front (x ∷ []) (omega arith) ∙ take-length front
+back-take xs front x e =
+    ap (λ n. take n xs) (seam xs front x (length xs) e refl)
+    ∙ ap (λ ys. take (length front) ys) e
+    ∙ take-append-le (length front) front (x ∷ []) (omega arith)
+    ∙ take-length front
 
 back-reverse : {A : Type 0} (xs front : List A) (x : A) → xs ≡ front ++ x ∷ [] → reverse xs ≡ x ∷ reverse front
 back-reverse xs front x e = ap reverse e ∙ reverse-append front (x ∷ [])
@@ -80,7 +89,8 @@ extra-first [] = refl
 extra-first (e ∷ es) = first_at (e ∷ es) (last_of (e ∷ es) (omega arith))
 
 dropped_at : (es : List Extra) → Last es → reverse (take (length es - 1) es) ≡ other_extras true (reverse es)
-dropped_at es l = ap reverse (back-take es l.front l.entry l.is) ∙ ap (other_extras true) (sym (back-reverse es l.front l.entry l.is))
+dropped_at es l =
+    ap reverse (back-take es l.front l.entry l.is) ∙ ap (other_extras true) (sym (back-reverse es l.front l.entry l.is))
 
 pub extra-dropped : (es : List Extra) → reverse (take (length es - 1) es) ≡ other_extras true (reverse es)
 extra-dropped [] = refl
@@ -109,9 +119,14 @@ pub set-view : (f : List Wide → List Wide) (ts : List Task) (vs : List Value) 
 set-view f ts vs es t u n e h i b o k =
     let s : Turns ts (n - 1) t u = turns ts n t u e h i in
     ap (λ us. widened us vs (reverse es)) s.after
-    ∙ ap (λ m. wide u (drop m vs) (first_extra (has_extra u.op u.info) (reverse es)) ∷ widened s.others (take m vs) (other_extras (has_extra u.op u.info) (reverse es))) b
-    ∙ ap (λ m. wide u (drop t.base vs) (first_extra m (reverse es)) ∷ widened s.others (take t.base vs) (other_extras m (reverse es))) o
-    ∙ sym (k (drop t.base vs) (first_extra (has_extra t.op t.info) (reverse es)) (widened s.others (take t.base vs) (other_extras (has_extra t.op t.info) (reverse es))))
+    ∙ ap (λ m. wide u (drop m vs) (first_extra (has_extra u.op u.info) (reverse es)) ∷ widened s.others (take m vs)
+    (other_extras (has_extra u.op u.info) (reverse es)))
+    b
+    ∙ ap (λ m. wide u (drop t.base vs) (first_extra m (reverse es)) ∷ widened s.others (take t.base vs)
+    (other_extras m (reverse es)))
+    o
+    ∙ sym (k (drop t.base vs) (first_extra (has_extra t.op t.info) (reverse es))
+    (widened s.others (take t.base vs) (other_extras (has_extra t.op t.info) (reverse es))))
     ∙ ap (λ us. f (widened us vs (reverse es))) (sym s.before)
 
 based_same : (t u : Task) (ts us : List Task) (n : ℕ)
@@ -147,8 +162,10 @@ set-kept ts vs es t u n e h i b o k =
     let P : List Task → Type 0 = λ us. AreBased us (length vs) in
     let Q : List Task → Type 0 = λ us. extras_count us ≤ length es in
     record {
-      based = based_same t u s.others (reverse (slice_set ts (n - 1) u)) (length vs) s.after b (subst P s.before k.based);
-      owned = owned_same t u s.others (reverse (slice_set ts (n - 1) u)) (length es) s.after o (subst Q s.before k.owned);
+      based =
+          based_same t u s.others (reverse (slice_set ts (n - 1) u)) (length vs) s.after b (subst P s.before k.based);
+      owned =
+          owned_same t u s.others (reverse (slice_set ts (n - 1) u)) (length es) s.after o (subst Q s.before k.owned);
     }
 
 pub owns : (ts : List Task) (vs : List Value) (es : List Extra) (ws : List Wide) (t : Task) (n : ℕ) (op : Op) (info : ℕ)
@@ -185,10 +202,13 @@ pub extra-view : (ts : List Task) (vs : List Value) (es : List Extra) (t : Task)
     → slice_get es (length es - 1) ≡ extra_of (widened_back ts vs es)
 extra-view ts vs es t e h =
     let i : Innermost ts t = innermost ts t e in
-    extra-first es ∙ ap (λ b. first_extra b (reverse es)) (sym h) ∙ ap (λ us. extra_of (widened us vs (reverse es))) (sym i.is)
+    extra-first es
+    ∙ ap (λ b. first_extra b (reverse es)) (sym h)
+    ∙ ap (λ us. extra_of (widened us vs (reverse es))) (sym i.is)
 
 turned_first : (b : Bool) (t : Task) (vs : List Value) (es : List Extra) (ts : List Task) (us : List Value)
-    → wide t vs (first_extra b (turned_extras b es)) ∷ widened ts us (other_extras b (turned_extras b es)) ≡ wide t vs (turned_extra (first_extra b es)) ∷ widened ts us (other_extras b es)
+    → wide t vs (first_extra b (turned_extras b es)) ∷ widened ts us (other_extras b (turned_extras b es)) ≡ wide t vs
+    (turned_extra (first_extra b es)) ∷ widened ts us (other_extras b es)
 turned_first false t vs es ts us = refl
 turned_first true t vs [] ts us = refl
 turned_first true t vs (e ∷ es) ts us = refl
@@ -222,7 +242,8 @@ extra-replaced es x e n l h i =
     let s : Turns es (n - 1) x e = turns es n x e l h i in
     s.after ∙ ap (λ xs. e ∷ other_extras true xs) (sym s.before)
 
-pub own-view : (op : Op) (info at mid : ℕ) (ts : List Task) (vs : List Value) (es fs : List Extra) (t u : Task) (e : Extra) (n : ℕ)
+pub own-view : (op : Op) (info at mid : ℕ) (ts : List Task) (vs : List Value) (es fs : List Extra) (t u : Task)
+    (e : Extra) (n : ℕ)
     → n ≡ length ts
     → 0 < n
     → t ≡ slice_index_or ts (n - 1) t
@@ -237,10 +258,13 @@ own-view op info at mid ts vs es fs t u e n l h i o k g =
     ap (λ us. widened us vs (reverse fs)) s.after
     ∙ ap (λ gs. widened (u ∷ s.others) vs gs) g
     ∙ ap (λ x. widened (x ∷ s.others) vs (e ∷ rest)) o
-    ∙ ap (λ b. wide v (drop t.base vs) (first_extra b (e ∷ rest)) ∷ widened s.others (take t.base vs) (other_extras b (e ∷ rest))) k
+    ∙ ap (λ b. wide v (drop t.base vs) (first_extra b (e ∷ rest)) ∷ widened s.others (take t.base vs)
+    (other_extras b (e ∷ rest)))
+    k
     ∙ ap (λ us. owning op info at mid e (widened us vs (reverse es))) (sym s.before)
 
-pub own-kept : (op : Op) (info at mid : ℕ) (ts : List Task) (vs : List Value) (es fs : List Extra) (t u : Task) (e : Extra) (n : ℕ)
+pub own-kept : (op : Op) (info at mid : ℕ) (ts : List Task) (vs : List Value) (es fs : List Extra) (t u : Task)
+    (e : Extra) (n : ℕ)
     → n ≡ length ts
     → 0 < n
     → t ≡ slice_index_or ts (n - 1) t
@@ -255,11 +279,16 @@ own-kept op info at mid ts vs es fs t u e n l h i o k g a =
     let Q : List Task → Type 0 = λ us. extras_count us ≤ length es in
     let rest : List Extra = other_extras (has_extra t.op t.info) (reverse es) in
     let c : extras_count (t ∷ s.others) ≤ length es = subst Q s.before a.owned in
-    let d : extras_count s.others ≤ length rest = own_first (has_extra t.op t.info) (reverse es) s.others 0 (omega (arith, c, length-reverse es)) in
-    let count : extras_count (u ∷ s.others) ≡ 1 + extras_count s.others = ap (λ x. (if has_extra x.op x.info then 1 else 0) + extras_count s.others) o ∙ ap (λ b. (if b then 1 else 0) + extras_count s.others) k in
+    let d : extras_count s.others ≤ length rest = own_first (has_extra t.op t.info) (reverse es) s.others 0
+    (omega (arith, c, length-reverse es)) in
+    let count : extras_count (u ∷ s.others) ≡ 1 + extras_count s.others = ap
+    (λ x. (if has_extra x.op x.info then 1 else 0) + extras_count s.others) o
+    ∙ ap (λ b. (if b then 1 else 0) + extras_count s.others) k in
     let len : length fs ≡ 1 + length rest = omega (arith, length-reverse fs, ap length g) in
     record {
-      based = based_same t u s.others (reverse (slice_set ts (n - 1) u)) (length vs) s.after (ap (λ x. x.base) o) (subst P s.before a.based);
+      based =
+          based_same t u s.others (reverse (slice_set ts (n - 1) u)) (length vs) s.after (ap (λ x. x.base) o)
+          (subst P s.before a.based);
       owned = omega (arith, d, count, len, ap extras_count s.after);
     }
 
@@ -270,8 +299,12 @@ pub value-view : (ts : List Task) (vs : List Value) (v : Value) (es : List Extra
     → widened ts (vs ++ v ∷ []) es ≡ with_value v (widened ts vs es)
 value-view [] vs v es b = refl
 value-view (t ∷ ts) vs v es b =
-    ap (λ us. wide t us (first_extra (has_extra t.op t.info) es) ∷ widened ts (take t.base (vs ++ v ∷ [])) (other_extras (has_extra t.op t.info) es)) (drop-append-le t.base vs (v ∷ []) b.0)
-    ∙ ap (λ us. wide t (drop t.base vs ++ v ∷ []) (first_extra (has_extra t.op t.info) es) ∷ widened ts us (other_extras (has_extra t.op t.info) es)) (take-append-le t.base vs (v ∷ []) b.0)
+    ap (λ us. wide t us (first_extra (has_extra t.op t.info) es) ∷ widened ts (take t.base (vs ++ v ∷ []))
+    (other_extras (has_extra t.op t.info) es))
+    (drop-append-le t.base vs (v ∷ []) b.0)
+    ∙ ap (λ us. wide t (drop t.base vs ++ v ∷ []) (first_extra (has_extra t.op t.info) es) ∷ widened ts us
+    (other_extras (has_extra t.op t.info) es))
+    (take-append-le t.base vs (v ∷ []) b.0)
 
 based_more : (ts : List Task) (m n : ℕ) → m ≤ n → AreBased ts m → AreBased ts n
 based_more [] m n h b = tt
@@ -282,7 +315,8 @@ pub value-kept : (ts : List Task) (vs us : List Value) (v : Value) (es : List Ex
     → AreKept ts vs es
     → AreKept ts us es
 value-kept ts vs us v es e k = record {
-  based = based_more (reverse ts) (length vs) (length us) (omega (arith, ap length e, length-append vs (v ∷ []))) k.based;
+  based =
+      based_more (reverse ts) (length vs) (length us) (omega (arith, ap length e, length-append vs (v ∷ []))) k.based;
   owned = k.owned;
 }
 

@@ -41,7 +41,8 @@ use Rattle.js_steps.proofs.TravelLemmas.{task_redex, scopes-at}
 
 -- ---- what a step tells, of an equal move
 
-pub told-same : (ts : List (List ℕ)) (t : NodeTable) (root : Addr) (old new : List Wide) (p : Point) (m n : Move Term) (stepped : Stepped) (u : State)
+pub told-same : (ts : List (List ℕ)) (t : NodeTable) (root : Addr) (old new : List Wide) (p : Point) (m n : Move Term)
+    (stepped : Stepped) (u : State)
     → m ≡ n
     → TellsWithin ts t root old n stepped new p u
     → TellsWithin ts t root old m stepped new p u
@@ -50,7 +51,8 @@ told-same ts t root old new p m n stepped u e h =
     subst P (sym e) h
 
 -- and behind what was popped
-pub told-behind : (ts : List (List ℕ)) (t : NodeTable) (root : Addr) (old us new : List Wide) (p : Point) (m n : Move Term) (stepped : Stepped) (u : State)
+pub told-behind : (ts : List (List ℕ)) (t : NodeTable) (root : Addr) (old us new : List Wide) (p : Point)
+    (m n : Move Term) (stepped : Stepped) (u : State)
     → us ≡ outer_of old
     → m ≡ n
     → TellsWithin ts t root us n stepped new p u
@@ -69,18 +71,23 @@ row_says : (ts : List (List ℕ)) (t : NodeTable) (root : Addr) (w : Wide) (ws :
     → InScopes t root (w ∷ ws)
     → ((outer : Addr) → RowOf ts t w outer s r u)
     → Says ts t w (row_move ts t (scope_at root (gaps_of ts t ws)) w s) r (answer_of r) u
-row_says ts t root w ws r s u i h = says ts t w (row_move ts t (scope_at root (gaps_of ts t ws)) w s) r u (h (scope_at root (gaps_of ts t ws)) (ap (scope_in (task_form ts t w)) (scopes-at ts t root ws i.1) ∙ i.0 ts))
+row_says ts t root w ws r s u i h =
+    says ts t w (row_move ts t (scope_at root (gaps_of ts t ws)) w s) r u
+    (h (scope_at root (gaps_of ts t ws)) (ap (scope_in (task_form ts t w)) (scopes-at ts t root ws i.1) ∙ i.0 ts))
 
 row_next : (ts : List (List ℕ)) (t : NodeTable) (root : Addr) (w : Wide) (ws : List Wide) (s : State)
-    → next (program_of ts t) root (term_at ts t (w ∷ ws) points.Row) s ≡ all_risen root (gaps_of ts t ws) (row_move ts t (scope_at root (gaps_of ts t ws)) w s)
+    → next (program_of ts t) root (term_at ts t (w ∷ ws) points.Row) s ≡ all_risen root (gaps_of ts t ws)
+    (row_move ts t (scope_at root (gaps_of ts t ws)) w s)
 unfolding term_at
-row_next ts t root w ws s = next-row-within (program_of ts t) root (gaps_of ts t ws) (task_form ts t w) w.values (later_of ts t w) s
+row_next ts t root w ws s =
+    next-row-within (program_of ts t) root (gaps_of ts t ws) (task_form ts t w) w.values (later_of ts t w) s
 
 at_redex : (task : Task) (vs : List Value) (e : Option Extra)
     → task.at ≡ task.mid
     → wide task vs e ≡ redex (task_redex task) vs e
 at_redex task vs e h =
-    let f : ℕ → Wide = λ a. record { op = task.op; info = task.info; at = a; mid = task.mid; end = task.end; inner = task.inner; values = vs; extra = e } in
+    let f : ℕ
+    → Wide = λ a. record { op = task.op; info = task.info; at = a; mid = task.mid; end = task.end; inner = task.inner; values = vs; extra = e } in
     ap f h
 
 row_is : (w : Wide) (ws : List Wide) (task : Task)
@@ -89,7 +96,8 @@ row_is : (w : Wide) (ws : List Wide) (task : Task)
     → w ≡ redex (task_redex task) w.values w.extra
 row_is w ws task i h = ap innermost i ∙ at_redex task w.values w.extra (sym (ap at_of i) ∙ h ∙ ap mid_of i)
 
-row_of : (ts : List (List ℕ)) (t : NodeTable) (old : List Wide) (redex_at : Redex) (vs : List Value) (e : Option Extra) (r : Reduced) (s u : State)
+row_of : (ts : List (List ℕ)) (t : NodeTable) (old : List Wide) (redex_at : Redex) (vs : List Value) (e : Option Extra)
+    (r : Reduced) (s u : State)
     → vs ≡ values_of old
     → e ≡ extra_of old
     → ((outer : Addr) → RowOf ts t (redex redex_at vs e) outer s r u)
@@ -100,7 +108,8 @@ row_of ts t old f vs e r s u a b h =
     let Q : Option Extra → Type 0 = λ x. (outer : Addr) → RowOf ts t (redex f (values_of old) x) outer s r u in
     subst Q b (subst P a h)
 
-row_told : (ts : List (List ℕ)) (t : NodeTable) (root : Addr) (old new : List Wide) (p : Point) (task : Task) (r : Reduced) (a : Answer) (stepped : Stepped) (s u v : State)
+row_told : (ts : List (List ℕ)) (t : NodeTable) (root : Addr) (old new : List Wide) (p : Point) (task : Task)
+    (r : Reduced) (a : Answer) (stepped : Stepped) (s u v : State)
     → old ≡ wide task (values_of old) (extra_of old) ∷ outer_of old
     → IsAtRow old
     → InScopes t root old
@@ -114,10 +123,12 @@ row_told ts t root (w ∷ ws) new p task r a stepped s u v i at o b h k =
     let m : Move Term = row_move ts t (scope_at root (gaps_of ts t ws)) w s in
     let Q : Answer → Type 0 = λ x. Says ts t w m r x u in
     let R : Move Term → Type 0 = λ x. Tells x stepped (term_at ts t new p) v in
-    subst R (sym (row_next ts t root w ws s)) (k m (subst Q (sym b) (row_says ts t root w ws r s u o (subst P (sym (row_is w ws task i at)) h))))
+    subst R (sym (row_next ts t root w ws s))
+    (k m (subst Q (sym b) (row_says ts t root w ws r s u o (subst P (sym (row_is w ws task i at)) h))))
 
 -- the step of the innermost task, from its row's answer and what that is told as
-pub row-told : (ts : List (List ℕ)) (t : NodeTable) (root : Addr) (old new : List Wide) (p : Point) (task : Task) (vs : List Value) (e : Option Extra) (r : Reduced) (a : Answer) (stepped : Stepped) (s u v : State)
+pub row-told : (ts : List (List ℕ)) (t : NodeTable) (root : Addr) (old new : List Wide) (p : Point) (task : Task)
+    (vs : List Value) (e : Option Extra) (r : Reduced) (a : Answer) (stepped : Stepped) (s u v : State)
     → old ≡ wide task (values_of old) (extra_of old) ∷ outer_of old
     → IsAtRow old
     → InScopes t root old
@@ -127,7 +138,8 @@ pub row-told : (ts : List (List ℕ)) (t : NodeTable) (root : Addr) (old new : L
     → ((outer : Addr) → RowOf ts t (redex (task_redex task) vs e) outer s r u)
     → ((m : Move Term) → Says ts t (innermost old) m r a u → TellsWithin ts t root (outer_of old) m stepped new p v)
     → Steps ts t root old points.Row s stepped new p v
-row-told ts t root old new p task vs e r a stepped s u v i at o x y b h k = row_told ts t root old new p task r a stepped s u v i at o b (row_of ts t old (task_redex task) vs e r s u x y h) k
+row-told ts t root old new p task vs e r a stepped s u v i at o x y b h k =
+    row_told ts t root old new p task r a stepped s u v i at o b (row_of ts t old (task_redex task) vs e r s u x y h) k
 
 -- ---- a completion that is kept
 
@@ -172,14 +184,16 @@ leaf_tree : (ts : List (List ℕ)) (t : NodeTable) (n : ℕ) (node : Node) (inne
 leaf_tree ts t n node inner table e h =
     node-tree ts t n node inner table e h.value
     ∙ ap (λ f. part f (trees ts t node.first node.mid) (trees ts t node.mid node.end)) (leaf_form ts t node inner)
-    ∙ ap (λ x. part (task_form ts t (leaf_task node inner)) x (trees ts t node.mid node.end)) (ap (terms (tree ts t)) (kids-end t node.first node.mid (omega (arith, h.parts))))
+    ∙ ap (λ x. part (task_form ts t (leaf_task node inner)) x (trees ts t node.mid node.end))
+    (ap (terms (tree ts t)) (kids-end t node.first node.mid (omega (arith, h.parts))))
 
 leaf_scope : (ts : List (List ℕ)) (t : NodeTable) (n : ℕ) (node : Node) (inner outer : Addr)
     → IsTable t
     → slice_get t.nodes.items n ≡ Some node
     → scope_in (task_form ts t (leaf_task node inner)) outer ≡ outer
 unfolding task_form
-leaf_scope ts t n node inner outer table e = node-scope ts t node.op node.info inner outer (node-at t n node table e).source (node-at t n node table e).turns
+leaf_scope ts t n node inner outer table e =
+    node-scope ts t node.op node.info inner outer (node-at t n node table e).source (node-at t n node table e).turns
 
 -- its parts are in the scope of the innermost gap
 pub leaf-scope : (t : NodeTable) (n : ℕ) (node : Node) (inner : Addr) (root : Addr) (old : List Wide)
@@ -190,17 +204,21 @@ pub leaf-scope : (t : NodeTable) (n : ℕ) (node : Node) (inner : Addr) (root : 
     → scope_in (task_form ts t (redex (node_redex node inner) [] None)) (scope_of root old) ≡ inner
 leaf-scope t n node inner root old table e i ts = leaf_scope ts t n node inner (scope_of root old) table e ∙ sym i
 
-leaf_next : (ts : List (List ℕ)) (t : NodeTable) (root : Addr) (old : List Wide) (n : ℕ) (node : Node) (inner : Addr) (s : State)
+leaf_next : (ts : List (List ℕ)) (t : NodeTable) (root : Addr) (old : List Wide) (n : ℕ) (node : Node) (inner : Addr)
+    (s : State)
     → IsTable t
     → slice_get t.nodes.items n ≡ Some node
     → IsLeaf node
-    → next (program_of ts t) root (term_at ts t old (points.Leaf n)) s ≡ all_risen root (gaps_of ts t old) (row_move ts t (scope_at root (gaps_of ts t old)) (leaf_task node inner) s)
+    → next (program_of ts t) root (term_at ts t old (points.Leaf n)) s ≡ all_risen root (gaps_of ts t old)
+    (row_move ts t (scope_at root (gaps_of ts t old)) (leaf_task node inner) s)
 unfolding term_at
 leaf_next ts t root old n node inner s table e h =
     ap (λ x. next (program_of ts t) root (plugged (gaps_of ts t old) x) s) (leaf_tree ts t n node inner table e h)
-    ∙ next-row-within (program_of ts t) root (gaps_of ts t old) (task_form ts t (leaf_task node inner)) [] (later_of ts t (leaf_task node inner)) s
+    ∙ next-row-within (program_of ts t) root (gaps_of ts t old) (task_form ts t (leaf_task node inner)) []
+    (later_of ts t (leaf_task node inner)) s
 
-pub leaf-told : (ts : List (List ℕ)) (t : NodeTable) (root : Addr) (old new : List Wide) (p : Point) (n : ℕ) (node : Node) (inner : Addr) (r : Reduced) (a : Answer) (stepped : Stepped) (s u v : State)
+pub leaf-told : (ts : List (List ℕ)) (t : NodeTable) (root : Addr) (old new : List Wide) (p : Point) (n : ℕ)
+    (node : Node) (inner : Addr) (r : Reduced) (a : Answer) (stepped : Stepped) (s u v : State)
     → IsTable t
     → slice_get t.nodes.items n ≡ Some node
     → IsLeafAt (slice_get t.nodes.items n)
@@ -208,7 +226,9 @@ pub leaf-told : (ts : List (List ℕ)) (t : NodeTable) (root : Addr) (old new : 
     → InScopes t root old
     → a ≡ answer_of r
     → ((outer : Addr) → RowOf ts t (redex (node_redex node inner) [] None) outer s r u)
-    → ((m : Move Term) → Says ts t (redex (node_redex node inner) [] None) m r a u → TellsWithin ts t root old m stepped new p v)
+    → ((m : Move Term)
+    → Says ts t (redex (node_redex node inner) [] None) m r a u
+    → TellsWithin ts t root old m stepped new p v)
     → Steps ts t root old (points.Leaf n) s stepped new p v
 leaf-told ts t root old new p n node inner r a stepped s u v table e l i o b h k =
     let scope : Addr = scope_at root (gaps_of ts t old) in
@@ -217,16 +237,21 @@ leaf-told ts t root old new p n node inner r a stepped s u v table e l i o b h k
     let Q : Answer → Type 0 = λ x. Says ts t w m r x u in
     let R : Move Term → Type 0 = λ x. Tells x stepped (term_at ts t new p) v in
     subst R (sym (leaf_next ts t root old n node inner s table e (leaf_is t n node e l)))
-    (k m (subst Q (sym b) (says ts t w m r u (h scope (leaf_scope ts t n node inner scope table e ∙ scopes-at ts t root old o ∙ sym i)))))
+    (k m (subst Q (sym b)
+    (says ts t w m r u
+    (h scope (leaf_scope ts t n node inner scope table e ∙ scopes-at ts t root old o ∙ sym i)))))
 
 -- ---- a throw that stands
 
-standing_next : (ts : List (List ℕ)) (t : NodeTable) (root : Addr) (old : List Wide) (v : Value) (place : Spot) (s : State)
-    → next (program_of ts t) root (term_at ts t old (points.Stands v place)) s ≡ all_risen root (gaps_of ts t old) (travels (throws v place) s)
+standing_next : (ts : List (List ℕ)) (t : NodeTable) (root : Addr) (old : List Wide) (v : Value) (place : Spot)
+    (s : State)
+    → next (program_of ts t) root (term_at ts t old (points.Stands v place)) s ≡ all_risen root (gaps_of ts t old)
+    (travels (throws v place) s)
 unfolding term_at
 standing_next ts t root old v place s = next-standing-within (program_of ts t) root (gaps_of ts t old) v place s
 
-pub standing-told : (ts : List (List ℕ)) (t : NodeTable) (root : Addr) (old new : List Wide) (p q : Point) (v : Value) (place : Spot) (stepped : Stepped) (s u : State)
+pub standing-told : (ts : List (List ℕ)) (t : NodeTable) (root : Addr) (old new : List Wide) (p q : Point) (v : Value)
+    (place : Spot) (stepped : Stepped) (s u : State)
     → q ≡ points.Stands v place
     → TellsWithin ts t root old (travels (throws v place) s) stepped new p u
     → Steps ts t root old q s stepped new p u
@@ -236,9 +261,11 @@ standing-told ts t root old new p q v place stepped s u e h =
     subst P (sym e) (subst R (sym (standing_next ts t root old v place s)) h)
 
 -- undefined comes, for a completion that no `finally` kept
-pub nothing-told : (ts : List (List ℕ)) (t : NodeTable) (root : Addr) (old new : List Wide) (p : Point) (m : Move Term) (stepped : Stepped) (r : Result (Unit {0}) AllocError) (s : State)
+pub nothing-told : (ts : List (List ℕ)) (t : NodeTable) (root : Addr) (old new : List Wide) (p : Point) (m : Move Term)
+    (stepped : Stepped) (r : Result (Unit {0}) AllocError) (s : State)
     → stepped ≡ went_of r
     → m ≡ resumed None s
     → OnOk r ((names : List (List ℕ)) → resettled (gaps_of names t old) (done values.Undefined) ≡ term_at names t new p)
     → TellsWithin ts t root old m stepped new p s
-nothing-told ts t root old new p m stepped r s w e h = went-follows r stepped ts t root old new p m (λ names. done values.Undefined) s w e h
+nothing-told ts t root old new p m stepped r s w e h =
+    went-follows r stepped ts t root old new p m (λ names. done values.Undefined) s w e h

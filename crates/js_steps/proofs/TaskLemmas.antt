@@ -10,11 +10,13 @@ use Rattle.js_steps.specs.Stacks.{has_extra, wide, values_of, extra_of, other_ex
 
 widened_length : (ts : List Task) (vs : List Value) (es : List Extra) → length (widened ts vs es) ≡ length ts
 widened_length [] vs es = refl
-widened_length (t ∷ ts) vs es = ap (λ n. suc n) (widened_length ts (take t.base vs) (other_extras (has_extra t.op t.info) es))
+widened_length (t ∷ ts) vs es =
+    ap (λ n. suc n) (widened_length ts (take t.base vs) (other_extras (has_extra t.op t.info) es))
 
 widened_at : (ts : List Task) (vs : List Value) (es : List Extra) (i : ℕ) (t : Task)
     → slice_get ts i ≡ Some t
-    → slice_get (widened ts vs es) i ≡ Some (wide t (values_of (drop i (widened ts vs es))) (extra_of (drop i (widened ts vs es))))
+    → slice_get (widened ts vs es) i ≡ Some
+    (wide t (values_of (drop i (widened ts vs es))) (extra_of (drop i (widened ts vs es))))
 widened_at [] vs es i t h = cc
 widened_at (u ∷ ts) vs es zero t h = cc
 widened_at (u ∷ ts) vs es (suc i) t h = widened_at ts (take u.base vs) (other_extras (has_extra u.op u.info) es) i t h
@@ -23,7 +25,8 @@ widened_at (u ∷ ts) vs es (suc i) t h = widened_at ts (take u.base vs) (other_
 pub view-length : (ts : List Task) (vs : List Value) (es : List Extra) (ws : List Wide)
     → widened_back ts vs es ≡ ws
     → length ts ≡ length ws
-view-length ts vs es ws e = sym (length-reverse ts) ∙ sym (widened_length (reverse ts) vs (reverse es)) ∙ ap (λ (xs : List Wide). length xs) e
+view-length ts vs es ws e =
+    sym (length-reverse ts) ∙ sym (widened_length (reverse ts) vs (reverse es)) ∙ ap (λ (xs : List Wide). length xs) e
 
 back_get : (ts : List Task) (i : ℕ) (t : Task)
     → i < length ts

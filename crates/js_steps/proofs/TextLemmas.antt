@@ -54,10 +54,13 @@ perform_prints (raise v) s = refl
 perform_prints (leave c) s = refl
 perform_prints (make c k) s = after_prints s (make_cell s.world c) (λ a. perform (k a)) (λ a u. perform_prints (k a) u)
 perform_prints (write a c k) s = after_prints s (write_cell s.world a c) (λ x. perform k) (λ x u. perform_prints k u)
-perform_prints (print vs text) s = outside_prints (is_evaluation s.world) s (goes (done _) (record s { printed = s.printed ++ text ∷ [] }) _) (text, refl)
+perform_prints (print vs text) s =
+    outside_prints (is_evaluation s.world) s (goes (done _) (record s { printed = s.printed ++ text ∷ [] }) _)
+    (text, refl)
 perform_prints (take_line k) s =
     let u : State = record s { input = other_lines s.input } in
-    outside_prints (is_evaluation s.world) s (perform (k (first_line s.input)) u) (perform_prints (k (first_line s.input)) u)
+    outside_prints (is_evaluation s.world) s (perform (k (first_line s.input)) u)
+    (perform_prints (k (first_line s.input)) u)
 perform_prints (set_here m k) s = perform_prints k (with_here s m)
 perform_prints (push_frame f k) s = perform_prints k (record s { frames = f ∷ s.frames })
 perform_prints (pop_frame k) s = perform_prints k (record s { frames = rest_of s.frames })
@@ -89,13 +92,17 @@ mutual
   next_prints : (p : Program) (scope : Addr) (t : Term) (s : State) → MovePrints s.printed (next p scope t s)
   next_prints p scope (done v) s = refl
   next_prints p scope (standing v place) s = refl
-  next_prints p scope (part f now later) s = around_prints p scope f later s (walk p (scope_in f scope) now s) (walk_prints p (scope_in f scope) now s)
+  next_prints p scope (part f now later) s =
+      around_prints p scope f later s (walk p (scope_in f scope) now s) (walk_prints p (scope_in f scope) now s)
 
   walk_prints : (p : Program) (scope : Addr) (ts : Terms) (s : State) → WalkPrints s.printed (walk p scope ts s)
   walk_prints p scope end s = tt
-  walk_prints p scope (more (done v) ts) s = with_value_prints s.printed v (walk p scope ts s) (walk_prints p scope ts s)
+  walk_prints p scope (more (done v) ts) s =
+      with_value_prints s.printed v (walk p scope ts s) (walk_prints p scope ts s)
   walk_prints p scope (more (standing v place) ts) s = refl
-  walk_prints p scope (more (part f now later) ts) s = move_inside (λ t. more t ts) s.printed (next p scope (part f now later) s) (next_prints p scope (part f now later) s)
+  walk_prints p scope (more (part f now later) ts) s =
+      move_inside (λ t. more t ts) s.printed (next p scope (part f now later) s)
+      (next_prints p scope (part f now later) s)
 
 -- ---- runs
 

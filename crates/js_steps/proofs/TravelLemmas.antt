@@ -166,22 +166,26 @@ catches t old task e c v i h = catches_op t task.op task.info c v (takes_task t 
 -- ---- a `finally`
 
 keep_at : (ts : List (List ℕ)) (t : NodeTable) (task : Task) (vs : List Value) (ws : List Wide) (c : Completion)
-    → resettled (gaps_of ts t ws) (settled (ending (Some c)) (later_of ts t (wide task vs None)) end) ≡ proceeding ts t (begun ops.Ending 1 task.mid task.end task.end task.inner (Some (extras.Kept c)) ∷ ws)
+    → resettled (gaps_of ts t ws) (settled (ending (Some c)) (later_of ts t (wide task vs None)) end) ≡ proceeding ts t
+    (begun ops.Ending 1 task.mid task.end task.end task.inner (Some (extras.Kept c)) ∷ ws)
 unfolding task_form
 keep_at ts t task vs ws c =
     ap (resettled (gaps_of ts t ws)) (waits-settled (ending (Some c)) (trees ts t task.mid task.end) end refl)
     ∙ resettled-part (gaps_of ts t ws) (ending (Some c)) (trees ts t task.mid task.end) end
-    ∙ ap (λ x. plugged (gaps_of ts t ws) (part (ending (Some c)) (trees ts t task.mid task.end) x)) (sym (trees-none ts t task.end))
+    ∙ ap (λ x. plugged (gaps_of ts t ws) (part (ending (Some c)) (trees ts t task.mid task.end) x))
+    (sym (trees-none ts t task.end))
 
 pub keep-term : (ts : List (List ℕ)) (t : NodeTable) (old us new : List Wide) (task : Task) (c : Completion)
     → IsInnermost task None old
     → us ≡ outer_of old
     → new ≡ begun ops.Ending 1 task.mid task.end task.end task.inner (Some (extras.Kept c)) ∷ us
-    → resettled (gaps_of ts t (outer_of old)) (settled (ending (Some c)) (later_of ts t (innermost old)) end) ≡ proceeding ts t new
+    → resettled (gaps_of ts t (outer_of old)) (settled (ending (Some c)) (later_of ts t (innermost old)) end)
+    ≡ proceeding ts t new
 keep-term ts t old us new task c i o n =
     ap (λ ws. resettled (gaps_of ts t (outer_of ws)) (settled (ending (Some c)) (later_of ts t (innermost ws)) end)) i
     ∙ keep_at ts t task (values_of old) (outer_of old) c
-    ∙ ap (λ ws. proceeding ts t (begun ops.Ending 1 task.mid task.end task.end task.inner (Some (extras.Kept c)) ∷ ws)) (sym o)
+    ∙ ap (λ ws. proceeding ts t (begun ops.Ending 1 task.mid task.end task.end task.inner (Some (extras.Kept c)) ∷ ws))
+    (sym o)
     ∙ ap (proceeding ts t) (sym n)
 
 finishing_scope : (op : Op) (info : ℕ) → op ≡ ops.Finishing → has_scope op info ≡ false
@@ -198,12 +202,15 @@ pub keep-scopes : (t : NodeTable) (old us new : List Wide) (task : Task) (c : Co
 keep-scopes t old us new task c i f o n root s =
     let P : List Wide → Type 0 = InScopes t root in
     let b : Wide = begun ops.Ending 1 task.mid task.end task.end task.inner (Some (extras.Kept c)) in
-    subst P (sym (n ∙ ap (λ ws. b ∷ ws) o)) (scopes-same t root (wide task (values_of old) None) b (outer_of old) (finishing_scope task.op task.info f) refl refl (subst P i s))
+    subst P (sym (n ∙ ap (λ ws. b ∷ ws) o))
+    (scopes-same t root (wide task (values_of old) None) b (outer_of old) (finishing_scope task.op task.info f)
+    refl refl (subst P i s))
 
 -- ---- a turn
 
 turn_at : (ts : List (List ℕ)) (t : NodeTable) (w : Wide) (ws : List Wide) (at : ℕ)
-    → resettled (gaps_of ts t ws) (settled (task_form ts t w) end (later_of ts t w)) ≡ settled_row ts t (at_part at (without_values (w ∷ ws)))
+    → resettled (gaps_of ts t ws) (settled (task_form ts t w) end (later_of ts t w)) ≡ settled_row ts t
+    (at_part at (without_values (w ∷ ws)))
 unfolding task_form
 turn_at ts t w ws at = refl
 
@@ -211,9 +218,12 @@ pub turn-term : (ts : List (List ℕ)) (t : NodeTable) (old us new : List Wide) 
     → IsInnermost task e old
     → us ≡ without_values old
     → new ≡ at_part task.mid us
-    → resettled (gaps_of ts t (outer_of old)) (settled (task_form ts t (innermost old)) end (later_of ts t (innermost old))) ≡ settled_row ts t new
+    → resettled (gaps_of ts t (outer_of old))
+    (settled (task_form ts t (innermost old)) end (later_of ts t (innermost old))) ≡ settled_row ts t new
 turn-term ts t old us new task e i u n =
-    ap (λ ws. resettled (gaps_of ts t (outer_of ws)) (settled (task_form ts t (innermost ws)) end (later_of ts t (innermost ws)))) i
+    ap (λ ws. resettled (gaps_of ts t (outer_of ws))
+    (settled (task_form ts t (innermost ws)) end (later_of ts t (innermost ws))))
+    i
     ∙ turn_at ts t (wide task (values_of old) e) (outer_of old) task.mid
     ∙ ap (λ ws. settled_row ts t (at_part task.mid (without_values ws))) (sym i)
     ∙ ap (λ ws. settled_row ts t (at_part task.mid ws)) (sym u)
@@ -234,19 +244,31 @@ pub turn-scopes : (t : NodeTable) (old us new : List Wide) (task : Task) (e : Op
     → InScopes t root new
 turn-scopes t old us new task e i u n root s =
     let P : List Wide → Type 0 = InScopes t root in
-    subst P (sym (n ∙ ap (at_part task.mid) (u ∙ ap without_values i))) (same_scopes t root (wide task (values_of old) e) (outer_of old) task.mid (subst P i s))
+    subst P (sym (n ∙ ap (at_part task.mid) (u ∙ ap without_values i)))
+    (same_scopes t root (wide task (values_of old) e) (outer_of old) task.mid (subst P i s))
 
 -- ---- what the innermost task makes of it
 
-takes_inner : (ts : List (List ℕ)) (t : NodeTable) (root : Addr) (old : List Wide) (c : Completion) (k : Taking) (s : State)
+takes_inner : (ts : List (List ℕ)) (t : NodeTable) (root : Addr) (old : List Wide) (c : Completion) (k : Taking)
+    (s : State)
     → TakesSo t old c (Some k)
-    → all_risen root (gaps_of ts t old) (travels c s) ≡ all_risen root (gaps_of ts t (outer_of old)) (performed (took (scope_at root (gaps_of ts t (outer_of old))) (task_form ts t (innermost old)) c (later_of ts t (innermost old)) (passings.Takes k)) s)
+    → all_risen root (gaps_of ts t old) (travels c s) ≡ all_risen root (gaps_of ts t (outer_of old))
+    (performed
+    (took (scope_at root (gaps_of ts t (outer_of old))) (task_form ts t (innermost old)) c
+    (later_of ts t (innermost old)) (passings.Takes k))
+    s)
 takes_inner ts t root [] c k s h = absurd h
 takes_inner ts t root (w ∷ ws) c k s h = risen-by ts t root w ws c (passings.Takes k) s h
 
-pub told-by : (ts : List (List ℕ)) (t : NodeTable) (root : Addr) (old new : List Wide) (p : Point) (c : Completion) (k : Taking) (stepped : Stepped) (s u : State)
+pub told-by : (ts : List (List ℕ)) (t : NodeTable) (root : Addr) (old new : List Wide) (p : Point) (c : Completion)
+    (k : Taking) (stepped : Stepped) (s u : State)
     → TakesSo t old c (Some k)
-    → TellsWithin ts t root (outer_of old) (performed (took (scope_at root (gaps_of ts t (outer_of old))) (task_form ts t (innermost old)) c (later_of ts t (innermost old)) (passings.Takes k)) s) stepped new p u
+    → TellsWithin ts t root (outer_of old)
+    (performed
+    (took (scope_at root (gaps_of ts t (outer_of old))) (task_form ts t (innermost old)) c
+    (later_of ts t (innermost old)) (passings.Takes k))
+    s)
+    stepped new p u
     → TellsWithin ts t root old (travels c s) stepped new p u
 told-by ts t root old new p c k stepped s u h g =
     let P : Move Term → Type 0 = λ m. Tells m stepped (term_at ts t new p) u in
@@ -257,7 +279,9 @@ unfolding performed
 gone x s = refl
 
 -- a call returns
-pub returns-told : (ts : List (List ℕ)) (t : NodeTable) (root : Addr) (old new : List Wide) (p : Point) (c : Completion) (v : Value) (stepped : Stepped) (r : Result (Unit {0}) AllocError) (w : World) (before after : Context) (taken : List (List ℕ))
+pub returns-told : (ts : List (List ℕ)) (t : NodeTable) (root : Addr) (old new : List Wide) (p : Point) (c : Completion)
+    (v : Value) (stepped : Stepped) (r : Result (Unit {0}) AllocError) (w : World) (before after : Context)
+    (taken : List (List ℕ))
     → TakesSo t old c (Some (takings.Returns v))
     → Turns pop_frame before after
     → stepped ≡ went_of r
@@ -265,34 +289,46 @@ pub returns-told : (ts : List (List ℕ)) (t : NodeTable) (root : Addr) (old new
     → TellsWithin ts t root old (travels c (state_of w before taken)) stepped new p (state_of w after taken)
 returns-told ts t root old new p c v stepped r w before after taken h f e x =
     told-by ts t root old new p c (takings.Returns v) stepped (state_of w before taken) (state_of w after taken) h
-    (went-follows r stepped ts t root (outer_of old) new p (performed (pop_frame (give v)) (state_of w before taken)) (λ names. done v) (state_of w after taken) e (f w taken (give v) ∙ gone (done v) (state_of w after taken)) x)
+    (went-follows r stepped ts t root (outer_of old) new p (performed (pop_frame (give v)) (state_of w before taken))
+    (λ names. done v) (state_of w after taken) e (f w taken (give v) ∙ gone (done v) (state_of w after taken)) x)
 
 -- a loop ends
-pub breaks-told : (ts : List (List ℕ)) (t : NodeTable) (root : Addr) (old new : List Wide) (p : Point) (c : Completion) (stepped : Stepped) (r : Result (Unit {0}) AllocError) (s : State)
+pub breaks-told : (ts : List (List ℕ)) (t : NodeTable) (root : Addr) (old new : List Wide) (p : Point) (c : Completion)
+    (stepped : Stepped) (r : Result (Unit {0}) AllocError) (s : State)
     → TakesSo t old c (Some takings.Breaks)
     → stepped ≡ went_of r
-    → OnOk r ((names : List (List ℕ)) → resettled (gaps_of names t (outer_of old)) (done values.Undefined) ≡ term_at names t new p)
+    → OnOk r ((names : List (List ℕ))
+    → resettled (gaps_of names t (outer_of old)) (done values.Undefined) ≡ term_at names t new p)
     → TellsWithin ts t root old (travels c s) stepped new p s
 breaks-told ts t root old new p c stepped r s h e x =
     told-by ts t root old new p c takings.Breaks stepped s s h
-    (went-follows r stepped ts t root (outer_of old) new p (performed (give values.Undefined) s) (λ names. done values.Undefined) s e (gone (done values.Undefined) s) x)
+    (went-follows r stepped ts t root (outer_of old) new p (performed (give values.Undefined) s)
+    (λ names. done values.Undefined) s e (gone (done values.Undefined) s) x)
 
 -- a loop goes on
-pub turns-told : (ts : List (List ℕ)) (t : NodeTable) (root : Addr) (old new : List Wide) (p : Point) (c : Completion) (stepped : Stepped) (r : Result (Unit {0}) AllocError) (s : State)
+pub turns-told : (ts : List (List ℕ)) (t : NodeTable) (root : Addr) (old new : List Wide) (p : Point) (c : Completion)
+    (stepped : Stepped) (r : Result (Unit {0}) AllocError) (s : State)
     → TakesSo t old c (Some takings.Turns)
     → stepped ≡ went_of r
-    → OnOk r ((names : List (List ℕ)) → resettled (gaps_of names t (outer_of old)) (settled (task_form names t (innermost old)) end (later_of names t (innermost old))) ≡ term_at names t new p)
+    → OnOk r ((names : List (List ℕ))
+    → resettled (gaps_of names t (outer_of old))
+    (settled (task_form names t (innermost old)) end (later_of names t (innermost old)))
+    ≡ term_at names t new p)
     → TellsWithin ts t root old (travels c s) stepped new p s
 turns-told ts t root old new p c stepped r s h e x =
-    let u : List (List ℕ) → Term = λ names. settled (task_form names t (innermost old)) end (later_of names t (innermost old)) in
+    let u : List (List ℕ)
+    → Term = λ names. settled (task_form names t (innermost old)) end (later_of names t (innermost old)) in
     told-by ts t root old new p c takings.Turns stepped s s h
     (went-follows r stepped ts t root (outer_of old) new p (performed (go (u ts)) s) u s e (gone (u ts) s) x)
 
 -- a `finally` runs
-pub keeps-told : (ts : List (List ℕ)) (t : NodeTable) (root : Addr) (old new : List Wide) (p : Point) (c : Completion) (stepped : Stepped) (r : Result (Unit {0}) AllocError) (s : State)
+pub keeps-told : (ts : List (List ℕ)) (t : NodeTable) (root : Addr) (old new : List Wide) (p : Point) (c : Completion)
+    (stepped : Stepped) (r : Result (Unit {0}) AllocError) (s : State)
     → TakesSo t old c (Some takings.Keeps)
     → stepped ≡ went_of r
-    → OnOk r ((names : List (List ℕ)) → resettled (gaps_of names t (outer_of old)) (settled (ending (Some c)) (later_of names t (innermost old)) end) ≡ term_at names t new p)
+    → OnOk r ((names : List (List ℕ))
+    → resettled (gaps_of names t (outer_of old)) (settled (ending (Some c)) (later_of names t (innermost old)) end)
+    ≡ term_at names t new p)
     → TellsWithin ts t root old (travels c s) stepped new p s
 keeps-told ts t root old new p c stepped r s h e x =
     let u : List (List ℕ) → Term = λ names. settled (ending (Some c)) (later_of names t (innermost old)) end in
@@ -324,24 +360,43 @@ at-scopes t root old mid at e s =
     let P : List Wide → Type 0 = InScopes t root in
     subst P (sym e) (at_scoped t root old at s)
 
-catch_at : (ts : List (List ℕ)) (t : NodeTable) (root : Addr) (task : Task) (vs : List Value) (ws : List Wide) (c : Completion) (v : Value) (place : Spot) (r : Reduced) (s u : State)
+catch_at : (ts : List (List ℕ)) (t : NodeTable) (root : Addr) (task : Task) (vs : List Value) (ws : List Wide)
+    (c : Completion) (v : Value) (place : Spot) (r : Reduced) (s u : State)
     → c ≡ throws v place
     → CatchOf ts t (redex (task_redex task) vs None) (scope_at root (gaps_of ts t ws)) v place s r u
     → InScopes t root (wide task vs None ∷ ws)
-    → Reduces ts t (redex (task_redex task) vs None) (performed (taken (scope_at root (gaps_of ts t ws)) (task_form ts t (wide task vs None)) c (later_of ts t (wide task vs None))) s) r u
+    → Reduces ts t (redex (task_redex task) vs None)
+    (performed
+    (taken (scope_at root (gaps_of ts t ws)) (task_form ts t (wide task vs None)) c
+    (later_of ts t (wide task vs None)))
+    s)
+    r u
 unfolding task_form
 catch_at ts t root task vs ws c v place r s u e h i =
-    let P : Completion → Type 0 = λ x. Reduces ts t (redex (task_redex task) vs None) (performed (taken (scope_at root (gaps_of ts t ws)) (task_form ts t (wide task vs None)) x (later_of ts t (wide task vs None))) s) r u in
+    let P : Completion
+    → Type 0 = λ x. Reduces ts t (redex (task_redex task) vs None)
+    (performed
+    (taken (scope_at root (gaps_of ts t ws)) (task_form ts t (wide task vs None)) x
+    (later_of ts t (wide task vs None)))
+    s)
+    r u in
     subst P (sym e) (h (ap (scope_in (task_form ts t (wide task vs None))) (scopes-at ts t root ws i.1) ∙ i.0 ts))
 
-catch_within : (ts : List (List ℕ)) (t : NodeTable) (root : Addr) (old mid : List Wide) (task : Task) (c : Completion) (v : Value) (place : Spot) (r : Reduced) (a : Answer) (s u : State)
+catch_within : (ts : List (List ℕ)) (t : NodeTable) (root : Addr) (old mid : List Wide) (task : Task) (c : Completion)
+    (v : Value) (place : Spot) (r : Reduced) (a : Answer) (s u : State)
     → IsInnermost task None old
     → mid ≡ at_part task.mid old
     → a ≡ answer_of r
     → c ≡ throws v place
-    → CatchOf ts t (redex (task_redex task) (values_of old) None) (scope_at root (gaps_of ts t (outer_of old))) v place s r u
+    → CatchOf ts t (redex (task_redex task) (values_of old) None) (scope_at root (gaps_of ts t (outer_of old)))
+    v place s r u
     → InScopes t root old
-    → Says ts t (innermost mid) (performed (taken (scope_at root (gaps_of ts t (outer_of old))) (task_form ts t (innermost old)) c (later_of ts t (innermost old))) s) r a u
+    → Says ts t (innermost mid)
+    (performed
+    (taken (scope_at root (gaps_of ts t (outer_of old))) (task_form ts t (innermost old)) c
+    (later_of ts t (innermost old)))
+    s)
+    r a u
 catch_within ts t root old mid task c v place r a s u i n b e h o =
     let scope : Addr = scope_at root (gaps_of ts t (outer_of old)) in
     let at : Wide = redex (task_redex task) (values_of old) None in
@@ -350,37 +405,47 @@ catch_within ts t root old mid task c v place r a s u i n b e h o =
     let Q : Answer → Type 0 = λ x. Says ts t (innermost mid) (m (innermost old)) r x u in
     let R : Wide → Type 0 = λ w. Says ts t w (m (innermost old)) r (answer_of r) u in
     let S : Wide → Type 0 = λ w. Says ts t at (m w) r (answer_of r) u in
-    let k : Says ts t at (m (wide task (values_of old) None)) r (answer_of r) u = says ts t at (m (wide task (values_of old) None)) r u (catch_at ts t root task (values_of old) (outer_of old) c v place r s u e h (subst P i o)) in
+    let k : Says ts t at (m (wide task (values_of old) None)) r (answer_of r) u = says ts t at
+    (m (wide task (values_of old) None)) r u
+    (catch_at ts t root task (values_of old) (outer_of old) c v place r s u e h (subst P i o)) in
     subst Q (sym b) (subst R (sym (ap innermost (n ∙ ap (at_part task.mid) i))) (subst S (sym (ap innermost i)) k))
 
-pub catch-told : (ts : List (List ℕ)) (t : NodeTable) (root : Addr) (old mid new : List Wide) (p : Point) (task : Task) (c : Completion) (v : Value) (r : Reduced) (a : Answer) (stepped : Stepped) (s u : State)
+pub catch-told : (ts : List (List ℕ)) (t : NodeTable) (root : Addr) (old mid new : List Wide) (p : Point) (task : Task)
+    (c : Completion) (v : Value) (r : Reduced) (a : Answer) (stepped : Stepped) (s u : State)
     → IsInnermost task (extra_of old) old
     → OwnsOnly old
     → TakesSo t old c (Some (takings.Catches v))
     → InScopes t root old
     → mid ≡ at_part task.mid old
     → a ≡ answer_of r
-    → ((outer : Addr) (place : Spot) (vs : List Value) → CatchOf ts t (redex (task_redex task) vs None) outer v place s r u)
+    → ((outer : Addr) (place : Spot) (vs : List Value)
+    → CatchOf ts t (redex (task_redex task) vs None) outer v place s r u)
     → ((m : Move Term) → Says ts t (innermost mid) m r a u → TellsWithin ts t root (outer_of mid) m stepped new p u)
     → TellsWithin ts t root old (travels c s) stepped new p u
 catch-told ts t root old mid new p task c v r a stepped s u i o k h n b caught told =
     let x : Catches task.op c v = catches t old task (extra_of old) c v i k in
     let j : IsInnermost task None old = innermost-none old task i o (catching_owns task.op task.info x.form) in
-    let m : Move Term = performed (taken (scope_at root (gaps_of ts t (outer_of old))) (task_form ts t (innermost old)) c (later_of ts t (innermost old))) s in
+    let m : Move Term = performed
+    (taken (scope_at root (gaps_of ts t (outer_of old))) (task_form ts t (innermost old)) c
+    (later_of ts t (innermost old)))
+    s in
     let P : List Wide → Type 0 = λ ws. TellsWithin ts t root ws m stepped new p u in
     told-by ts t root old new p c (takings.Catches v) stepped s u k
     (subst P (at-outer old mid task.mid n)
-    (told m (catch_within ts t root old mid task c v x.throw.place r a s u j n b x.throw.is (caught (scope_at root (gaps_of ts t (outer_of old))) x.throw.place (values_of old)) h)))
+    (told m (catch_within ts t root old mid task c v x.throw.place r a s u j n b x.throw.is
+    (caught (scope_at root (gaps_of ts t (outer_of old))) x.throw.place (values_of old)) h)))
 
 -- ---- where it stands afterwards
 
-pub went-stood : (r : Result (Unit {0}) AllocError) (stepped : Stepped) (t : NodeTable) (root : Addr) (old new : List Wide) (p : Point)
+pub went-stood : (r : Result (Unit {0}) AllocError) (stepped : Stepped) (t : NodeTable) (root : Addr)
+    (old new : List Wide) (p : Point)
     → stepped ≡ went_of r
     → OnOk r (IsAt t new p)
     → OnOk r ((a : Addr) → InScopes t a old → InScopes t a new)
     → InScopes t root old
     → IfGoesOn stepped (StandsIn t root new p)
-went-stood r stepped t root old new p w a h s = goes-on-weaker stepped (λ k. k s) (went-stands r stepped t root old new p w a (on_ok_weaker r (λ k. k root) h))
+went-stood r stepped t root old new p w a h s =
+    goes-on-weaker stepped (λ k. k s) (went-stands r stepped t root old new p w a (on_ok_weaker r (λ k. k root) h))
 
 pub takes-as : (t : NodeTable) (ws : List Wide) (c : Completion) (k j : Taking)
     → k ≡ j

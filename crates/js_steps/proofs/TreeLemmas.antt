@@ -12,7 +12,11 @@ open_term : (ts : List (List ℕ)) (t : NodeTable) (at : ℕ → Term) (o : Opti
     → is_done (node_term ts t at o) ≡ false
 open_term ts t at None o = absurd o
 open_term ts t at (Some node) o =
-    let P : Bool → Bool = λ b. is_done (if b then done (constant_at t node.info) else part (form_of ts t node.op node.info) (terms at (kids_between t node.first node.mid)) (terms at (kids_between t node.mid node.end))) in
+    let P : Bool
+    → Bool = λ b. is_done
+    (if b then done (constant_at t node.info) else part (form_of ts t node.op node.info)
+    (terms at (kids_between t node.first node.mid)) (terms at (kids_between t node.mid node.end)))
+    in
     ap P o
 
 pub open-tree : (ts : List (List ℕ)) (t : NodeTable) (n : ℕ)

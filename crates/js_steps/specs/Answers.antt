@@ -56,15 +56,19 @@ operating op = op
 
 -- the operator of a compound assignment on the old value and the right side
 abbrev pub operated : List (List ℕ) → NodeTable → Wide → Value → Term
-operated ts t w old = part (form_of ts t (operating w.op) w.info) (more (done old) (one (head_of (later_of ts t w)))) end
+operated ts t w old =
+    part (form_of ts t (operating w.op) w.info) (more (done old) (one (head_of (later_of ts t w)))) end
 
 -- what a compound assignment is once the old value is read: an assignment of its operator's value
 abbrev pub assigned : List (List ℕ) → NodeTable → Wide → Value → Term
-assigned ts t w old = part (form_of ts t (assigning w.op) w.info) (joined (dones w.values) (one (operated ts t w old))) end
+assigned ts t w old =
+    part (form_of ts t (assigning w.op) w.info) (joined (dones w.values) (one (operated ts t w old))) end
 
 -- what a call is once its callee is read: the arguments come next
 abbrev pub called : List (List ℕ) → NodeTable → Wide → Value → Term
-called ts t w callee = part (call_form (slice_get t.calls.items w.info)) (more (done (this_of_call w.op w.values)) (more (done callee) (later_of ts t w))) end
+called ts t w callee =
+    part (call_form (slice_get t.calls.items w.info))
+    (more (done (this_of_call w.op w.values)) (more (done callee) (later_of ts t w))) end
 
 -- ---- loops
 
@@ -75,12 +79,14 @@ own_scope w = turn_scope w.info w.inner
 -- a `for .. of` that evaluates its list in this scope
 abbrev pub listed : List (List ℕ) → NodeTable → Wide → Addr → Term
 listed ts t w a =
-    part (list_form ts (slice_get t.for_ofs.items w.info)) (one (in_scope a (head_of (later_of ts t w)))) (rest_of (later_of ts t w))
+    part (list_form ts (slice_get t.for_ofs.items w.info)) (one (in_scope a (head_of (later_of ts t w))))
+    (rest_of (later_of ts t w))
 
 -- a `for .. of` in a turn whose name stands in this scope
 abbrev pub iterated : List (List ℕ) → NodeTable → Wide → Addr → Term
 iterated ts t w a =
-    settled (body_form ts (slice_get t.for_ofs.items w.info) (index_of w.extra + 1)) (one (in_scope a (body_part (later_of ts t w)))) (later_of ts t w)
+    settled (body_form ts (slice_get t.for_ofs.items w.info) (index_of w.extra + 1))
+    (one (in_scope a (body_part (later_of ts t w)))) (later_of ts t w)
 
 -- ---- object literals
 
@@ -92,7 +98,8 @@ now_of t = end
 -- an object literal once a method with a computed key is made, with the parts that come behind it
 abbrev pub added : List (List ℕ) → NodeTable → Wide → Value → Term
 added ts t w v =
-    part (task_form ts t w) (joined (dones w.values) (more (done v) (now_of (head_of (later_of ts t w))))) (rest_of (later_of ts t w))
+    part (task_form ts t w) (joined (dones w.values) (more (done v) (now_of (head_of (later_of ts t w)))))
+    (rest_of (later_of ts t w))
 
 -- ---- what goes on
 
@@ -110,7 +117,8 @@ reduced_term ts t w (reduced.Updates a) = at_update (Some a) (later_of ts t w)
 reduced_term ts t w reduced.Turns = at_body (own_scope w) (later_of ts t w)
 reduced_term ts t w (reduced.Initializes constant a) = for_in constant a (later_of ts t w)
 reduced_term ts t w (reduced.Lists a) = listed ts t w a
-reduced_term ts t w (reduced.Iterates v) = part (turn_form ts (slice_get t.for_ofs.items w.info) 0) end (more (done v) (later_of ts t w))
+reduced_term ts t w (reduced.Iterates v) =
+    part (turn_form ts (slice_get t.for_ofs.items w.info) 0) end (more (done v) (later_of ts t w))
 reduced_term ts t w (reduced.Iterated a) = iterated ts t w a
 reduced_term ts t w reduced.Commas = part comma (one (head_of (later_of ts t w))) (rest_of (later_of ts t w))
 reduced_term ts t w (reduced.Adds v) = added ts t w v

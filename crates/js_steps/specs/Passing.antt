@@ -59,7 +59,9 @@ TakesSo t [] c (Some k) = ⊥
 TakesSo t (w ∷ ws) c (Some k) = passing_of t w.op w.info c ≡ passings.Takes k
 
 -- the tasks that a completion has passed are left, and their frames
-pub record HasPassedTasks (t : NodeTable) (c : Completion) (old : List Wide) (before : Context) (new : List Wide) (after : Context) : Type 0 where
+pub record HasPassedTasks (t : NodeTable) (c : Completion) (old : List Wide) (before : Context) (new : List Wide)
+    (after : Context) : Type 0 where
   pub moves : (ts : List (List ℕ)) (root : Addr) (w : World) (taken : List (List ℕ))
-      → all_risen root (gaps_of ts t old) (travels c (state_of w before taken)) ≡ all_risen root (gaps_of ts t new) (travels c (state_of w after taken))
+      → all_risen root (gaps_of ts t old) (travels c (state_of w before taken)) ≡ all_risen root (gaps_of ts t new)
+      (travels c (state_of w after taken))
   pub scoped : (root : Addr) → InScopes t root old → InScopes t root new

@@ -20,12 +20,14 @@ use Rattle.js_steps.specs.Answers.{Reduces}
 
 -- what is about to be reduced, as a task whose parts have these values
 abbrev pub redex : Redex → List Value → Option Extra → Wide
-redex r vs extra = record { op = r.op; info = r.info; at = r.mid; mid = r.mid; end = r.end; inner = r.inner; values = vs; extra = extra }
+redex r vs extra =
+    record { op = r.op; info = r.info; at = r.mid; mid = r.mid; end = r.end; inner = r.inner; values = vs; extra = extra }
 
 -- where the form's parts are in its scope, the answer is its row's, from one state to another
 abbrev pub RowOf : List (List ℕ) → NodeTable → Wide → Addr → State → Reduced → State → Type 0
 RowOf ts t w outer s r u =
-    scope_in (task_form ts t w) outer ≡ w.inner → Reduces ts t w (performed (row (program_of ts t) s outer (task_form ts t w) w.values (later_of ts t w)) s) r u
+    scope_in (task_form ts t w) outer ≡ w.inner
+    → Reduces ts t w (performed (row (program_of ts t) s outer (task_form ts t w) w.values (later_of ts t w)) s) r u
 
 -- a `try` with its catch
 abbrev pub IsCatching : Op → Type 0
@@ -36,4 +38,5 @@ IsCatching op = ⊥
 -- the answer is what the form makes of a throw
 abbrev pub CatchOf : List (List ℕ) → NodeTable → Wide → Addr → Value → Spot → State → Reduced → State → Type 0
 CatchOf ts t w outer v place s r u =
-    scope_in (task_form ts t w) outer ≡ w.inner → Reduces ts t w (performed (taken outer (task_form ts t w) (throws v place) (later_of ts t w)) s) r u
+    scope_in (task_form ts t w) outer ≡ w.inner
+    → Reduces ts t w (performed (taken outer (task_form ts t w) (throws v place) (later_of ts t w)) s) r u

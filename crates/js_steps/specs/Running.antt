@@ -86,9 +86,11 @@ passed_steps why k = k - 1
 -- ---- the loop
 
 -- after so many steps a machine stands so
-pub record HasRun (ts : List (List ℕ)) (t : NodeTable) (root : Addr) (ws : List Wide) (p : Point) (w : World) (c : Context) (k : ℕ) (vs : List Wide) (q : Point) (v : World) (d : Context) : Type 0 where
+pub record HasRun (ts : List (List ℕ)) (t : NodeTable) (root : Addr) (ws : List Wide) (p : Point) (w : World)
+    (c : Context) (k : ℕ) (vs : List Wide) (q : Point) (v : World) (d : Context) : Type 0 where
   pub runs : (taken : List (List ℕ))
-      → steps_in k (program_of ts t) root (run_of (term_at ts t ws p) (state_of w c taken)) ≡ run_of (term_at ts t vs q) (state_of v d taken)
+      → steps_in k (program_of ts t) root (run_of (term_at ts t ws p) (state_of w c taken)) ≡ run_of (term_at ts t vs q)
+      (state_of v d taken)
   pub left : (taken : List (List ℕ))
       → RunsFor k (program_of ts t) root (run_of (term_at ts t ws p) (state_of w c taken))
   pub stands : StandsIn t root vs q

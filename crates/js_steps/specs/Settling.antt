@@ -70,7 +70,8 @@ closed ts t op info inner e now later closings.First = behind_first (turn_scope 
 closed ts t op info inner e now later closings.Doing = at_body (turn_scope info inner) later
 closed ts t op info inner e now later closings.Body = behind_body (turn_scope info inner) later
 closed ts t op info inner e now later closings.Updating = at_test (turn_scope info inner) later
-closed ts t op info inner e now later closings.Turn = next_turn_term ts (slice_get t.for_ofs.items info) (index_of e) now later
+closed ts t op info inner e now later closings.Turn =
+    next_turn_term ts (slice_get t.for_ofs.items info) (index_of e) now later
 closed ts t op info inner e now later closings.Finally = part (ending None) later end
 closed ts t op info inner e now later closings.Ending = ended_term (kept_of e) now later
 
@@ -84,7 +85,8 @@ settled_row ts t (w ∷ ws) = resettled (gaps_of ts t ws) (finished (task_form t
 -- the innermost task before its next part, with none in its gap
 abbrev pub proceeding : List (List ℕ) → NodeTable → List Wide → Term
 proceeding ts t [] = done values.Undefined
-proceeding ts t (w ∷ ws) = plugged (gaps_of ts t ws) (part (task_form ts t w) (parts_of ts t (w ∷ ws)) (later_of ts t w))
+proceeding ts t (w ∷ ws) =
+    plugged (gaps_of ts t ws) (part (task_form ts t w) (parts_of ts t (w ∷ ws)) (later_of ts t w))
 
 -- the term before what comes next
 abbrev pub next_term : List (List ℕ) → NodeTable → List Wide → Next → Term
@@ -155,7 +157,8 @@ kept_trees ts t task = trees ts t task.mid task.end
 
 -- a loop around its tasks goes on with this
 abbrev pub looped : List (List ℕ) → NodeTable → List Wide → (Option Addr → Terms → Term) → Task → Term
-looped ts t old stage task = resettled (gaps_of ts t (outer_of old)) (stage (turn_scope task.info task.inner) (kept_trees ts t task))
+looped ts t old stage task =
+    resettled (gaps_of ts t (outer_of old)) (stage (turn_scope task.info task.inner) (kept_trees ts t task))
 
 -- the innermost task does something else, with its kept parts alone
 abbrev pub restaged : Op → List Wide → List Wide

@@ -36,11 +36,13 @@ outer_of (w ∷ ws) = ws
 
 -- a task of a stack, with what it owns
 abbrev pub wide : Task → List Value → Option Extra → Wide
-wide t vs e = record { op = t.op; info = t.info; at = t.at; mid = t.mid; end = t.end; inner = t.inner; values = vs; extra = e }
+wide t vs e =
+    record { op = t.op; info = t.info; at = t.at; mid = t.mid; end = t.end; inner = t.inner; values = vs; extra = e }
 
 -- a task before its first value
 abbrev pub begun : Op → ℕ → ℕ → ℕ → ℕ → Addr → Option Extra → Wide
-begun op info at mid end inner e = record { op = op; info = info; at = at; mid = mid; end = end; inner = inner; values = []; extra = e }
+begun op info at mid end inner e =
+    record { op = op; info = info; at = at; mid = mid; end = end; inner = inner; values = []; extra = e }
 
 -- the innermost task has nothing that it doesn't own
 abbrev pub OwnsOnly : List Wide → Type 0
@@ -123,7 +125,9 @@ turned_extras true (e ∷ es) = next_turn e ∷ es
 -- the values of a task are those from its `base` on, up to those of the next one
 abbrev pub widened : List Task → List Value → List Extra → List Wide
 widened [] vs es = []
-widened (t ∷ ts) vs es = wide t (drop t.base vs) (first_extra (has_extra t.op t.info) es) ∷ widened ts (take t.base vs) (other_extras (has_extra t.op t.info) es)
+widened (t ∷ ts) vs es =
+    wide t (drop t.base vs) (first_extra (has_extra t.op t.info) es) ∷ widened ts (take t.base vs)
+    (other_extras (has_extra t.op t.info) es)
 
 -- the same of lists in which the innermost task comes last
 abbrev pub widened_back : List Task → List Value → List Extra → List Wide

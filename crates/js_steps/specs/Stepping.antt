@@ -141,4 +141,5 @@ abbrev pub Steps : List (List ℕ)
     → Point
     → State
     → Type 0
-Steps ts t root old q s stepped new p u = Tells (next (program_of ts t) root (term_at ts t old q) s) stepped (term_at ts t new p) u
+Steps ts t root old q s stepped new p u =
+    Tells (next (program_of ts t) root (term_at ts t old q) s) stepped (term_at ts t new p) u

@@ -83,7 +83,8 @@ later_of ts t w = with_list w.extra (trees ts t (kept_from w.extra w.mid) w.end)
 
 -- a task as a form with a gap before the parts that come
 abbrev pub gap_of : List (List ℕ) → NodeTable → Wide → Gap
-gap_of ts t w = record { form = task_form ts t w; before = w.values; after = trees ts t w.at w.mid; later = later_of ts t w }
+gap_of ts t w =
+    record { form = task_form ts t w; before = w.values; after = trees ts t w.at w.mid; later = later_of ts t w }
 
 -- tasks as forms with gaps, from the innermost one
 abbrev pub gaps_of : List (List ℕ) → NodeTable → List Wide → List Gap
@@ -104,4 +105,5 @@ scope_of root (w ∷ ws) = w.inner
 -- for any table of names, since scopes don't depend on it
 abbrev pub InScopes : NodeTable → Addr → List Wide → Type 0
 InScopes t root [] = Unit {0}
-InScopes t root (w ∷ ws) = ((ts : List (List ℕ)) → scope_in (task_form ts t w) (scope_of root ws) ≡ w.inner) × InScopes t root ws
+InScopes t root (w ∷ ws) =
+    ((ts : List (List ℕ)) → scope_in (task_form ts t w) (scope_of root ws) ≡ w.inner) × InScopes t root ws

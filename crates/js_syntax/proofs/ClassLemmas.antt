@@ -139,8 +139,10 @@ prefix_unary u None e = absurd cc
 prefix_unary u (Some t) e = unary_by u t.kind e
 
 pub prefix_update_by : (u : UpdateOperator) (k : TokenKind) → prefix_by k ≡ an_update u → k ≡ update_kind u
-prefix_update_by u kinds.Increment e = let is : updates.Increment ≡ u = cc in ap (λ (u : UpdateOperator). update_kind u) is
-prefix_update_by u kinds.Decrement e = let is : updates.Decrement ≡ u = cc in ap (λ (u : UpdateOperator). update_kind u) is
+prefix_update_by u kinds.Increment e =
+    let is : updates.Increment ≡ u = cc in ap (λ (u : UpdateOperator). update_kind u) is
+prefix_update_by u kinds.Decrement e =
+    let is : updates.Decrement ≡ u = cc in ap (λ (u : UpdateOperator). update_kind u) is
 prefix_update_by u _ e = absurd cc
 
 pub prefix_update : (u : UpdateOperator) (o : Option Token) → prefix o ≡ an_update u → IsNext (fixed (update_kind u)) o

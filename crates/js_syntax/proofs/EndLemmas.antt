@@ -53,10 +53,13 @@ last_end_at : (xs : List Declarator) (i : ℕ) (x : Declarator)
     → slice_get xs i ≡ Some x
     → end_of_declarators (declarators (map declarator_view xs)) ≡ end_of_one (declarator_view x)
 last_end_at [] i x l e = absurd (omega arith)
-last_end_at (y ∷ []) zero x l e = let p : y ≡ x = cc in one_end (declarator_view y) ∙ ap (λ z. end_of_one (declarator_view z)) p
+last_end_at (y ∷ []) zero x l e =
+    let p : y ≡ x = cc in one_end (declarator_view y) ∙ ap (λ z. end_of_one (declarator_view z)) p
 last_end_at (y ∷ []) (suc i) x l e = absurd (omega arith)
 last_end_at (y ∷ z ∷ ys) zero x l e = absurd (omega arith)
-last_end_at (y ∷ z ∷ ys) (suc i) x l e = later_end (declarator_view y) (declarator_view z) (declarators (map declarator_view ys)) ∙ last_end_at (z ∷ ys) i x (omega arith) e
+last_end_at (y ∷ z ∷ ys) (suc i) x l e =
+    later_end (declarator_view y) (declarator_view z) (declarators (map declarator_view ys))
+    ∙ last_end_at (z ∷ ys) i x (omega arith) e
 
 -- what the last declared name ends in
 pub last_end : (xs : List Declarator) (x : Declarator)

@@ -61,12 +61,14 @@ near_short k ts = choose (length ts) (is_on_line (head_of ts)) (expect k ts) _ (
 pub name_short : Short name_at
 unfolding name_at
 name_short [] = tt
-name_short (t ∷ ts) = choose (length (t ∷ ts)) (is_kind kinds.Name (Some t)) (Ok (t.string_value, ts)) _ (omega arith) tt
+name_short (t ∷ ts) =
+    choose (length (t ∷ ts)) (is_kind kinds.Name (Some t)) (Ok (t.string_value, ts)) _ (omega arith) tt
 
 fresh_short : (taken : List Identifier) → Short (fresh_name taken)
 unfolding fresh_name
 fresh_short taken [] = choose 0 (is_among taken []) _ (name_at []) tt (name_short [])
-fresh_short taken (t ∷ ts) = choose (length (t ∷ ts)) (is_among taken t.string_value) _ (name_at (t ∷ ts)) tt (name_short (t ∷ ts))
+fresh_short taken (t ∷ ts) =
+    choose (length (t ∷ ts)) (is_among taken t.string_value) _ (name_at (t ∷ ts)) tt (name_short (t ∷ ts))
 
 word_short : Short word_at
 unfolding word_at
@@ -75,7 +77,10 @@ word_short (t ∷ ts) = choose (length (t ∷ ts)) (is_word_next (Some t)) (Ok (
 
 semicolon_weak : (end : End) → Weak (semicolon_at end)
 unfolding semicolon_at
-semicolon_weak end ts = choose (suc (length ts)) (is_kind kinds.Semicolon (head_of ts)) (Ok (tt, tail_of ts)) _ (omega (arith, tail_shorter ts)) (choose (suc (length ts)) (absent end (head_of ts)) (Ok (tt, ts)) _ (omega arith) tt)
+semicolon_weak end ts =
+    choose (suc (length ts)) (is_kind kinds.Semicolon (head_of ts)) (Ok (tt, tail_of ts)) _
+    (omega (arith, tail_shorter ts))
+    (choose (suc (length ts)) (absent end (head_of ts)) (Ok (tt, ts)) _ (omega arith) tt)
 
 the_name_short : (n : List ℕ) → Short (expect_name n)
 unfolding expect_name
@@ -88,20 +93,27 @@ go_after_leaves : {A : Type 0} (n : ℕ) (go : Reader (List A)) (a : After) (ts 
     → length ts < n
     → Weak go
     → Leaves n (go_after go a ts)
-go_after_leaves n go goes_on ts l h = wider (suc (length (tail_of ts))) n (go (tail_of ts)) (h (tail_of ts)) (omega (arith, tail_shorter ts))
+go_after_leaves n go goes_on ts l h =
+    wider (suc (length (tail_of ts))) n (go (tail_of ts)) (h (tail_of ts)) (omega (arith, tail_shorter ts))
 go_after_leaves n go ends ts l h = omega (arith, tail_shorter ts)
 go_after_leaves n go neither ts l h = tt
 
 weaken : {A : Type 0} (r : Reader A) → Short r → Weak r
 weaken r h ts = wider (length ts) (suc (length ts)) (r ts) (h ts) (omega arith)
 
-elements_rest : {S A : Type 0} (one : S → Reader A) (next : S → A → S) (closer : TokenKind) (go : S → Reader (List A)) (s : S) (ts : List Token)
+elements_rest : {S A : Type 0} (one : S → Reader A) (next : S → A → S) (closer : TokenKind) (go : S → Reader (List A))
+    (s : S) (ts : List Token)
     → Short (one s)
     → ((s : S) → Weak (go s))
     → Leaves (length ts) (elements_by one next go closer s false ts)
-elements_rest one next closer go s ts h g = after_that (length ts) (length ts) (one s ts) _ (h ts) (λ x l. after_that (length ts) (length ts) (go_after (go (next s x.0)) (after closer (head_of x.1)) x.1) _ (go_after_leaves (length ts) (go (next s x.0)) (after closer (head_of x.1)) x.1 l (g (next s x.0))) (λ y k. k))
+elements_rest one next closer go s ts h g =
+    after_that (length ts) (length ts) (one s ts) _ (h ts)
+    (λ x l. after_that (length ts) (length ts) (go_after (go (next s x.0)) (after closer (head_of x.1)) x.1) _
+    (go_after_leaves (length ts) (go (next s x.0)) (after closer (head_of x.1)) x.1 l (g (next s x.0)))
+    (λ y k. k))
 
-elements_whole : {S A : Type 0} (one : S → Reader A) (next : S → A → S) (closer : TokenKind) (go : S → Reader (List A)) (s : S) (t : Token) (ts : List Token) (c : Bool)
+elements_whole : {S A : Type 0} (one : S → Reader A) (next : S → A → S) (closer : TokenKind) (go : S → Reader (List A))
+    (s : S) (t : Token) (ts : List Token) (c : Bool)
     → Short (one s)
     → ((s : S) → Weak (go s))
     → Leaves (length (t ∷ ts)) (elements_by one next go closer s c (t ∷ ts))
@@ -114,15 +126,23 @@ elements_short : {S A : Type 0} (one : S → Reader A) (next : S → A → S) (c
     → Short (elements one next closer k s)
 unfolding elements
 elements_short one next closer h zero s ts = tt
-elements_short one next closer h (suc k) s [] = elements_rest one next closer (λ s r. elements one next closer k s r) s [] (h s) (λ s. weaken (elements one next closer k s) (elements_short one next closer h k s))
-elements_short one next closer h (suc k) s (t ∷ ts) = elements_whole one next closer (λ s r. elements one next closer k s r) s t ts (is_kind closer (Some t)) (h s) (λ s. weaken (elements one next closer k s) (elements_short one next closer h k s))
+elements_short one next closer h (suc k) s [] =
+    elements_rest one next closer (λ s r. elements one next closer k s r) s [] (h s)
+    (λ s. weaken (elements one next closer k s) (elements_short one next closer h k s))
+elements_short one next closer h (suc k) s (t ∷ ts) =
+    elements_whole one next closer (λ s r. elements one next closer k s r) s t ts (is_kind closer (Some t)) (h s)
+    (λ s. weaken (elements one next closer k s) (elements_short one next closer h k s))
 
-others_rest : {S A : Type 0} (one : S → Reader A) (next : S → A → S) (go : S → Reader (List A)) (s : S) (ts : List Token) (c : Bool)
+others_rest : {S A : Type 0} (one : S → Reader A) (next : S → A → S) (go : S → Reader (List A)) (s : S)
+    (ts : List Token) (c : Bool)
     → Short (one s)
     → ((s : S) → Weak (go s))
     → Leaves (suc (length ts)) (others_by one next go s c ts)
 others_rest one next go s ts false h g = omega arith
-others_rest one next go s ts true h g = after_that (length (tail_of ts)) (suc (length ts)) (one s (tail_of ts)) _ (h (tail_of ts)) (λ x l. after_that (suc (length x.1)) (suc (length ts)) (go (next s x.0) x.1) _ (g (next s x.0) x.1) (λ y k. omega (arith, tail_shorter ts)))
+others_rest one next go s ts true h g =
+    after_that (length (tail_of ts)) (suc (length ts)) (one s (tail_of ts)) _ (h (tail_of ts))
+    (λ x l. after_that (suc (length x.1)) (suc (length ts)) (go (next s x.0) x.1) _ (g (next s x.0) x.1)
+    (λ y k. omega (arith, tail_shorter ts)))
 
 others_weak : {S A : Type 0} (one : S → Reader A) (next : S → A → S)
     → ((s : S) → Short (one s))
@@ -130,14 +150,20 @@ others_weak : {S A : Type 0} (one : S → Reader A) (next : S → A → S)
     → Weak (others one next k s)
 unfolding others
 others_weak one next h zero s ts = tt
-others_weak one next h (suc k) s ts = others_rest one next (λ s r. others one next k s r) s ts (is_kind kinds.Comma (head_of ts)) (h s) (λ s. others_weak one next h k s)
+others_weak one next h (suc k) s ts =
+    others_rest one next (λ s r. others one next k s r) s ts (is_kind kinds.Comma (head_of ts)) (h s)
+    (λ s. others_weak one next h k s)
 
-items_rest : {S A : Type 0} (one : S → Reader A) (next : S → A → S) (go : S → Reader (List A)) (s : S) (ts : List Token) (c : Bool)
+items_rest : {S A : Type 0} (one : S → Reader A) (next : S → A → S) (go : S → Reader (List A)) (s : S) (ts : List Token)
+    (c : Bool)
     → Short (one s)
     → ((s : S) → Weak (go s))
     → Leaves (suc (length ts)) (items_by one next go s c ts)
 items_rest one next go s ts true h g = omega arith
-items_rest one next go s ts false h g = after_that (length ts) (suc (length ts)) (one s ts) _ (h ts) (λ x l. after_that (suc (length x.1)) (suc (length ts)) (go (next s x.0) x.1) _ (g (next s x.0) x.1) (λ y k. omega arith))
+items_rest one next go s ts false h g =
+    after_that (length ts) (suc (length ts)) (one s ts) _ (h ts)
+    (λ x l. after_that (suc (length x.1)) (suc (length ts)) (go (next s x.0) x.1) _ (g (next s x.0) x.1)
+    (λ y k. omega arith))
 
 items_weak : {S A : Type 0} (one : S → Reader A) (next : S → A → S)
     → ((s : S) → Short (one s))
@@ -145,7 +171,9 @@ items_weak : {S A : Type 0} (one : S → Reader A) (next : S → A → S)
     → Weak (items one next k s)
 unfolding items
 items_weak one next h zero s ts = tt
-items_weak one next h (suc k) s ts = items_rest one next (λ s r. items one next k s r) s ts (ends_list (head_of ts)) (h s) (λ s. items_weak one next h k s)
+items_weak one next h (suc k) s ts =
+    items_rest one next (λ s r. items one next k s r) s ts (ends_list (head_of ts)) (h s)
+    (λ s. items_weak one next h k s)
 
 -- ---- what reads below a node
 
@@ -164,52 +192,82 @@ pub record ShortBelow (b : Below) : Type 0 where
 
 arguments_short : (b : Below) (h : ShortBelow b) (closer : TokenKind) → Short (arguments_before b closer)
 unfolding arguments_before
-arguments_short b h closer ts = after_that (length ts) (length ts) _ _ (elements_short (one_of b.assignment) no_state closer (λ s. h.assignment) (suc (length ts)) tt ts) (λ x l. l)
+arguments_short b h closer ts =
+    after_that (length ts) (length ts) _ _
+    (elements_short (one_of b.assignment) no_state closer (λ s. h.assignment) (suc (length ts)) tt ts) (λ x l. l)
 
 more_weak : (b : Below) (h : ShortBelow b) → Weak (more_assignments b)
 unfolding more_assignments
-more_weak b h ts = after_that (suc (length ts)) (suc (length ts)) _ _ (others_weak (one_of b.assignment) no_state (λ s. h.assignment) (suc (length ts)) tt ts) (λ x l. l)
+more_weak b h ts =
+    after_that (suc (length ts)) (suc (length ts)) _ _
+    (others_weak (one_of b.assignment) no_state (λ s. h.assignment) (suc (length ts)) tt ts) (λ x l. l)
 
 names_short : Short names_before
 unfolding names_before
-names_short ts = elements_short (one_of name_at) no_state kinds.RightParenthesis (λ s. name_short) (suc (length ts)) tt ts
+names_short ts =
+    elements_short (one_of name_at) no_state kinds.RightParenthesis (λ s. name_short) (suc (length ts)) tt ts
 
 parameters_short : Short parameters_at
 unfolding parameters_at
-parameters_short ts = after_that (length ts) (length ts) (expect kinds.LeftParenthesis ts) _ (expect_short kinds.LeftParenthesis ts) (λ o l. wider (length o.1) (length ts) _ (elements_short fresh_name with_name kinds.RightParenthesis fresh_short (suc (length o.1)) [] o.1) (omega arith))
+parameters_short ts =
+    after_that (length ts) (length ts) (expect kinds.LeftParenthesis ts) _ (expect_short kinds.LeftParenthesis ts)
+    (λ o l. wider (length o.1) (length ts) _
+    (elements_short fresh_name with_name kinds.RightParenthesis fresh_short (suc (length o.1)) [] o.1)
+    (omega arith))
 
 items_at_weak : (b : Below) (h : ShortBelow b) (c : Context) (taken : List Identifier) → Weak (items_at b c taken)
 unfolding items_at
-items_at_weak b h c taken ts = after_that (suc (length ts)) (suc (length ts)) _ _ (items_weak (λ names r. b.item c names r) with_declared (h.item c) (suc (length ts)) taken ts) (λ x l. l)
+items_at_weak b h c taken ts =
+    after_that (suc (length ts)) (suc (length ts)) _ _
+    (items_weak (λ names r. b.item c names r) with_declared (h.item c) (suc (length ts)) taken ts) (λ x l. l)
 
 braces_short : (b : Below) (h : ShortBelow b) (c : Context) (taken : List Identifier) → Short (braces b c taken)
 unfolding braces
-braces_short b h c taken ts = after_that (length ts) (length ts) (expect kinds.LeftBrace ts) _ (expect_short kinds.LeftBrace ts) (λ o l. after_that (suc (length o.1)) (length ts) (items_at b c taken o.1) _ (items_at_weak b h c taken o.1) (λ x k. after_that (length x.1) (length ts) (expect kinds.RightBrace x.1) _ (expect_short kinds.RightBrace x.1) (λ y m. omega arith)))
+braces_short b h c taken ts =
+    after_that (length ts) (length ts) (expect kinds.LeftBrace ts) _ (expect_short kinds.LeftBrace ts)
+    (λ o l. after_that (suc (length o.1)) (length ts) (items_at b c taken o.1) _ (items_at_weak b h c taken o.1)
+    (λ x k. after_that (length x.1) (length ts) (expect kinds.RightBrace x.1) _
+    (expect_short kinds.RightBrace x.1) (λ y m. omega arith)))
 
 code_short : (b : Below) (h : ShortBelow b) → Short (code_at b)
 unfolding code_at
-code_short b h ts = after_that (length ts) (length ts) (parameters_at ts) _ (parameters_short ts) (λ ps l. after_that (length ps.1) (length ts) _ _ (braces_short b h _ _ ps.1) (λ x k. omega arith))
+code_short b h ts =
+    after_that (length ts) (length ts) (parameters_at ts) _ (parameters_short ts)
+    (λ ps l. after_that (length ps.1) (length ts) _ _ (braces_short b h _ _ ps.1) (λ x k. omega arith))
 
 initializer_weak : (b : Below) (h : ShortBelow b) (constant : Bool) (n : Identifier) (c : Bool)
     → Weak (initializer_by b constant n c)
-initializer_weak b h constant n true ts = after_that (length (tail_of ts)) (suc (length ts)) (b.assignment (tail_of ts)) _ (h.assignment (tail_of ts)) (λ x l. omega (arith, tail_shorter ts))
+initializer_weak b h constant n true ts =
+    after_that (length (tail_of ts)) (suc (length ts)) (b.assignment (tail_of ts)) _ (h.assignment (tail_of ts))
+    (λ x l. omega (arith, tail_shorter ts))
 initializer_weak b h true n false ts = tt
 initializer_weak b h false n false ts = omega arith
 
 declarator_short : (b : Below) (h : ShortBelow b) (constant : Bool) (taken : List Identifier)
     → Short (declarator_at b constant taken)
 unfolding declarator_at
-declarator_short b h constant taken ts = after_that (length ts) (length ts) (fresh_name taken ts) _ (fresh_short taken ts) (λ n l. wider (suc (length n.1)) (length ts) _ (initializer_weak b h constant n.0 (is_kind kinds.Assign (head_of n.1)) n.1) (omega arith))
+declarator_short b h constant taken ts =
+    after_that (length ts) (length ts) (fresh_name taken ts) _ (fresh_short taken ts)
+    (λ n l. wider (suc (length n.1)) (length ts) _
+    (initializer_weak b h constant n.0 (is_kind kinds.Assign (head_of n.1)) n.1) (omega arith))
 
 declarators_short : (b : Below) (h : ShortBelow b) (constant : Bool) (taken : List Identifier)
     → Short (declarators_at b constant taken)
 unfolding declarators_at
-declarators_short b h constant taken ts = after_that (length ts) (length ts) (declarator_at b constant taken ts) _ (declarator_short b h constant taken ts) (λ d l. after_that (suc (length d.1)) (length ts) _ _ (others_weak (λ names r. declarator_at b constant names r) with_declarator (declarator_short b h constant) (suc (length d.1)) (with_declarator taken d.0) d.1) (λ x k. omega arith))
+declarators_short b h constant taken ts =
+    after_that (length ts) (length ts) (declarator_at b constant taken ts) _ (declarator_short b h constant taken ts)
+    (λ d l. after_that (suc (length d.1)) (length ts) _ _
+    (others_weak (λ names r. declarator_at b constant names r) with_declarator (declarator_short b h constant)
+    (suc (length d.1)) (with_declarator taken d.0) d.1)
+    (λ x k. omega arith))
 
 optional_by_short : (b : Below) (h : ShortBelow b) (closer : TokenKind) (t : Token) (ts : List Token) (c : Bool)
     → Leaves (length (t ∷ ts)) (optional_by b closer c (t ∷ ts))
 optional_by_short b h closer t ts true = omega arith
-optional_by_short b h closer t ts false = after_that (length (t ∷ ts)) (length (t ∷ ts)) (b.expression (t ∷ ts)) _ (h.expression (t ∷ ts)) (λ x l. after_that (length x.1) (length (t ∷ ts)) (expect closer x.1) _ (expect_short closer x.1) (λ y k. omega arith))
+optional_by_short b h closer t ts false =
+    after_that (length (t ∷ ts)) (length (t ∷ ts)) (b.expression (t ∷ ts)) _ (h.expression (t ∷ ts))
+    (λ x l. after_that (length x.1) (length (t ∷ ts)) (expect closer x.1) _ (expect_short closer x.1)
+    (λ y k. omega arith))
 
 optional_short : (b : Below) (h : ShortBelow b) (closer : TokenKind) → Short (optional_before b closer)
 unfolding optional_before
@@ -218,7 +276,9 @@ optional_short b h closer (t ∷ ts) = optional_by_short b h closer t ts (is_kin
 
 ended_short : (b : Below) (h : ShortBelow b) → Short (ended_expression b)
 unfolding ended_expression
-ended_short b h ts = after_that (length ts) (length ts) (b.expression ts) _ (h.expression ts) (λ x l. after_that (suc (length x.1)) (length ts) _ _ (semicolon_weak _ x.1) (λ y k. omega arith))
+ended_short b h ts =
+    after_that (length ts) (length ts) (b.expression ts) _ (h.expression ts)
+    (λ x l. after_that (suc (length x.1)) (length ts) _ _ (semicolon_weak _ x.1) (λ y k. omega arith))
 
 -- an item that reads some token
 abbrev reads_some : Item → Bool
@@ -249,7 +309,10 @@ item_weak b h _ false e ts = absurd cc
 
 seq_weak : (b : Below) (h : ShortBelow b) (is : List Item) → Weak (seq b is)
 seq_weak b h [] ts = omega arith
-seq_weak b h (i ∷ is) ts = after_that (suc (length ts)) (suc (length ts)) (item b i ts) _ (item_weak b h i (reads_some i) refl ts) (λ x l. after_that (suc (length x.1)) (suc (length ts)) (seq b is x.1) _ (seq_weak b h is x.1) (λ y k. omega arith))
+seq_weak b h (i ∷ is) ts =
+    after_that (suc (length ts)) (suc (length ts)) (item b i ts) _ (item_weak b h i (reads_some i) refl ts)
+    (λ x l. after_that (suc (length x.1)) (suc (length ts)) (seq b is x.1) _ (seq_weak b h is x.1)
+    (λ y k. omega arith))
 
 abbrev reads_first : List Item → Bool
 reads_first [] = false
@@ -257,7 +320,9 @@ reads_first (i ∷ is) = reads_some i
 
 seq_short : (b : Below) (h : ShortBelow b) (is : List Item) → reads_first is ≡ true → Short (seq b is)
 seq_short b h [] e ts = absurd cc
-seq_short b h (i ∷ is) e ts = after_that (length ts) (length ts) (item b i ts) _ (item_short b h i e ts) (λ x l. after_that (suc (length x.1)) (length ts) (seq b is x.1) _ (seq_weak b h is x.1) (λ y k. omega arith))
+seq_short b h (i ∷ is) e ts =
+    after_that (length ts) (length ts) (item b i ts) _ (item_short b h i e ts)
+    (λ x l. after_that (suc (length x.1)) (length ts) (seq b is x.1) _ (seq_weak b h is x.1) (λ y k. omega arith))
 
 made_short : {A : Type 0} (b : Below) (h : ShortBelow b) (is : List Item) (make : productions.Values is → A)
     → reads_first is ≡ true
@@ -276,7 +341,9 @@ key_by_short : (b : Below) (h : ShortBelow b) (t : Token) (ts : List Token) (k :
 key_by_short b h t ts (classes.a_word_key w) = omega arith
 key_by_short b h t ts (classes.a_string_key s) = omega arith
 key_by_short b h t ts (classes.a_number_key v) = omega arith
-key_by_short b h t ts classes.a_computed_key = made_short b h (tok kinds.LeftBracket ∷ an_assignment ∷ tok kinds.RightBracket ∷ []) (λ v. trees.computed_key v.1.0) refl (t ∷ ts)
+key_by_short b h t ts classes.a_computed_key =
+    made_short b h (tok kinds.LeftBracket ∷ an_assignment ∷ tok kinds.RightBracket ∷ []) (λ v. trees.computed_key v.1.0)
+    refl (t ∷ ts)
 key_by_short b h t ts classes.no_key = tt
 
 key_short : (b : Below) (h : ShortBelow b) → Short (parsing.key_at b)
@@ -285,13 +352,17 @@ key_short b h [] = tt
 key_short b h (t ∷ ts) = key_by_short b h t ts (key_start (Some t))
 
 member_short : (b : Below) (h : ShortBelow b) (n : ℕ) (k : Key) (a : AfterKey) → Short (parsing.member_by b n k a)
-member_short b h n k classes.colon ts = made_short b h (tok kinds.Colon ∷ an_assignment ∷ []) (λ v. trees.value k v.1.0) refl ts
-member_short b h n k classes.parameters ts = low_leaves (length ts) _ n ts _ (after_that (length ts) (length ts) (b.function ts) _ (h.function ts) (λ x l. l))
+member_short b h n k classes.colon ts =
+    made_short b h (tok kinds.Colon ∷ an_assignment ∷ []) (λ v. trees.value k v.1.0) refl ts
+member_short b h n k classes.parameters ts =
+    low_leaves (length ts) _ n ts _ (after_that (length ts) (length ts) (b.function ts) _ (h.function ts) (λ x l. l))
 member_short b h n k classes.no_member ts = tt
 
 property_by_short : (b : Below) (h : ShortBelow b) (n : ℕ) (c : Bool) → Short (parsing.property_by b n c)
 property_by_short b h n true ts = after_that (length ts) (length ts) (name_at ts) _ (name_short ts) (λ x l. l)
-property_by_short b h n false ts = after_that (length ts) (length ts) (parsing.key_at b ts) _ (key_short b h ts) (λ k l. wider (length k.1) (length ts) _ (member_short b h n k.0 (after_key (head_of k.1)) k.1) (omega arith))
+property_by_short b h n false ts =
+    after_that (length ts) (length ts) (parsing.key_at b ts) _ (key_short b h ts)
+    (λ k l. wider (length k.1) (length ts) _ (member_short b h n k.0 (after_key (head_of k.1)) k.1) (omega arith))
 
 pub property_short : (b : Below) (h : ShortBelow b) (n : ℕ) → Short (parsing.property_at b n)
 unfolding parsing.property_at
@@ -299,12 +370,17 @@ property_short b h n ts = property_by_short b h n (is_shorthand ts) ts
 
 properties_short : (b : Below) (h : ShortBelow b) (n : ℕ) → Short (parsing.properties_at b n)
 unfolding parsing.properties_at
-properties_short b h n ts = after_that (length ts) (length ts) _ _ (elements_short (one_of (λ r. parsing.property_at b n r)) no_state kinds.RightBrace (λ s. property_short b h n) (suc (length ts)) tt ts) (λ x l. l)
+properties_short b h n ts =
+    after_that (length ts) (length ts) _ _
+    (elements_short (one_of (λ r. parsing.property_at b n r)) no_state kinds.RightBrace (λ s. property_short b h n)
+    (suc (length ts)) tt ts)
+    (λ x l. l)
 
 -- ---- primaries, members and calls
 
 function_by_short : (b : Below) (h : ShortBelow b) (c : Bool) → Short (parsing.function_by b c)
-function_by_short b h true ts = made_short b h (a_name ∷ code ∷ []) (λ v. trees.function (Some v.0) v.1.0.parameters v.1.0.body) refl ts
+function_by_short b h true ts =
+    made_short b h (a_name ∷ code ∷ []) (λ v. trees.function (Some v.0) v.1.0.parameters v.1.0.body) refl ts
 function_by_short b h false ts = made_short b h (code ∷ []) (λ v. trees.function None v.0.parameters v.0.body) refl ts
 
 function_short : (b : Below) (h : ShortBelow b) → Short (parsing.function_at b)
@@ -319,10 +395,16 @@ primary_by_short b h n t ts (classes.a_number v) = omega arith
 primary_by_short b h n t ts (classes.a_string s) = omega arith
 primary_by_short b h n t ts (classes.a_boolean v) = omega arith
 primary_by_short b h n t ts classes.null_word = omega arith
-primary_by_short b h n t ts classes.bracket = made_short b h (tok kinds.LeftBracket ∷ arguments kinds.RightBracket ∷ []) (λ v. trees.array v.1.0) refl (t ∷ ts)
-primary_by_short b h n t ts classes.brace = after_that (length ts) (length (t ∷ ts)) (parsing.properties_at b n ts) _ (properties_short b h n ts) (λ x l. omega arith)
-primary_by_short b h n t ts classes.parenthesis = made_short b h (tok kinds.LeftParenthesis ∷ an_expression ∷ tok kinds.RightParenthesis ∷ []) (λ v. trees.parenthesized v.1.0) refl (t ∷ ts)
-primary_by_short b h n t ts classes.function_word = wider (length ts) (length (t ∷ ts)) _ (function_short b h ts) (omega arith)
+primary_by_short b h n t ts classes.bracket =
+    made_short b h (tok kinds.LeftBracket ∷ arguments kinds.RightBracket ∷ []) (λ v. trees.array v.1.0) refl (t ∷ ts)
+primary_by_short b h n t ts classes.brace =
+    after_that (length ts) (length (t ∷ ts)) (parsing.properties_at b n ts) _ (properties_short b h n ts)
+    (λ x l. omega arith)
+primary_by_short b h n t ts classes.parenthesis =
+    made_short b h (tok kinds.LeftParenthesis ∷ an_expression ∷ tok kinds.RightParenthesis ∷ [])
+    (λ v. trees.parenthesized v.1.0) refl (t ∷ ts)
+primary_by_short b h n t ts classes.function_word =
+    wider (length ts) (length (t ∷ ts)) _ (function_short b h ts) (omega arith)
 primary_by_short b h n t ts classes.no_start = tt
 
 primary_short : (b : Below) (h : ShortBelow b) (n : ℕ) → Short (parsing.primary b n)
@@ -331,99 +413,168 @@ primary_short b h n [] = tt
 primary_short b h n (t ∷ ts) = primary_by_short b h n t ts (start (Some t))
 
 linked_weak : (b : Below) (h : ShortBelow b) (e : Expression) (l : Link) → Weak (parsing.linked_by b e l)
-linked_weak b h e classes.dot ts = after_that (length (tail_of ts)) (suc (length ts)) (word_at (tail_of ts)) _ (word_short (tail_of ts)) (λ x l. omega (arith, tail_shorter ts))
-linked_weak b h e classes.key ts = weaken _ (made_short b h (tok kinds.LeftBracket ∷ an_expression ∷ tok kinds.RightBracket ∷ []) (λ v. trees.index e v.1.0) refl) ts
-linked_weak b h e classes.arguments ts = weaken _ (made_short b h (tok kinds.LeftParenthesis ∷ arguments kinds.RightParenthesis ∷ []) (λ v. trees.call e v.1.0) refl) ts
+linked_weak b h e classes.dot ts =
+    after_that (length (tail_of ts)) (suc (length ts)) (word_at (tail_of ts)) _ (word_short (tail_of ts))
+    (λ x l. omega (arith, tail_shorter ts))
+linked_weak b h e classes.key ts =
+    weaken _ (made_short b h (tok kinds.LeftBracket ∷ an_expression ∷ tok kinds.RightBracket ∷ [])
+    (λ v. trees.index e v.1.0) refl)
+    ts
+linked_weak b h e classes.arguments ts =
+    weaken _ (made_short b h (tok kinds.LeftParenthesis ∷ arguments kinds.RightParenthesis ∷ [])
+    (λ v. trees.call e v.1.0) refl)
+    ts
 linked_weak b h e classes.no_link ts = tt
 
 links_then : (b : Below) (h : ShortBelow b) (n : ℕ) (go : Expression → Reader Expression) (e : Expression) (l : Link)
     → ((f : Expression) → Weak (go f))
     → Weak (parsing.links_by b n go e l)
 links_then b h n go e classes.no_link g ts = omega arith
-links_then b h n go e classes.dot g ts = low_leaves _ _ n ts _ (after_that (suc (length ts)) (suc (length ts)) (parsing.linked_by b e classes.dot ts) _ (linked_weak b h e classes.dot ts) (λ x l. wider (suc (length x.1)) (suc (length ts)) _ (g x.0 x.1) (omega arith)))
-links_then b h n go e classes.key g ts = low_leaves _ _ n ts _ (after_that (suc (length ts)) (suc (length ts)) (parsing.linked_by b e classes.key ts) _ (linked_weak b h e classes.key ts) (λ x l. wider (suc (length x.1)) (suc (length ts)) _ (g x.0 x.1) (omega arith)))
-links_then b h n go e classes.arguments g ts = low_leaves _ _ n ts _ (after_that (suc (length ts)) (suc (length ts)) (parsing.linked_by b e classes.arguments ts) _ (linked_weak b h e classes.arguments ts) (λ x l. wider (suc (length x.1)) (suc (length ts)) _ (g x.0 x.1) (omega arith)))
+links_then b h n go e classes.dot g ts =
+    low_leaves _ _ n ts _
+    (after_that (suc (length ts)) (suc (length ts)) (parsing.linked_by b e classes.dot ts) _
+    (linked_weak b h e classes.dot ts)
+    (λ x l. wider (suc (length x.1)) (suc (length ts)) _ (g x.0 x.1) (omega arith)))
+links_then b h n go e classes.key g ts =
+    low_leaves _ _ n ts _
+    (after_that (suc (length ts)) (suc (length ts)) (parsing.linked_by b e classes.key ts) _
+    (linked_weak b h e classes.key ts)
+    (λ x l. wider (suc (length x.1)) (suc (length ts)) _ (g x.0 x.1) (omega arith)))
+links_then b h n go e classes.arguments g ts =
+    low_leaves _ _ n ts _
+    (after_that (suc (length ts)) (suc (length ts)) (parsing.linked_by b e classes.arguments ts) _
+    (linked_weak b h e classes.arguments ts)
+    (λ x l. wider (suc (length x.1)) (suc (length ts)) _ (g x.0 x.1) (omega arith)))
 
 links_weak : (b : Below) (h : ShortBelow b) (n turns : ℕ) (e : Expression) → Weak (parsing.links b n turns e)
 unfolding parsing.links
 links_weak b h n zero e ts = tt
-links_weak b h n (suc turns) e ts = links_then b h n (λ f r. parsing.links b n turns f r) e (link (head_of ts)) (λ f. links_weak b h n turns f) ts
+links_weak b h n (suc turns) e ts =
+    links_then b h n (λ f r. parsing.links b n turns f r) e (link (head_of ts)) (λ f. links_weak b h n turns f) ts
 
 call_short : (b : Below) (h : ShortBelow b) (n : ℕ) → Short (parsing.call b n)
 unfolding parsing.call
-call_short b h n ts = after_that (length ts) (length ts) (parsing.primary b n ts) _ (primary_short b h n ts) (λ x l. wider (suc (length x.1)) (length ts) _ (links_weak b h n (suc n) x.0 x.1) (omega arith))
+call_short b h n ts =
+    after_that (length ts) (length ts) (parsing.primary b n ts) _ (primary_short b h n ts)
+    (λ x l. wider (suc (length x.1)) (length ts) _ (links_weak b h n (suc n) x.0 x.1) (omega arith))
 
 -- ---- operators
 
 updated_weak : (n : ℕ) (e : Expression) (o : Option _) → Weak (parsing.updated_by n e o)
 updated_weak n e None ts = omega arith
-updated_weak n e (Some o) ts = choose (suc (length ts)) (is_target e) _ _ (low_leaves (suc (length ts)) _ n ts (Ok (trees.postfix o e, tail_of ts)) (omega (arith, tail_shorter ts))) tt
+updated_weak n e (Some o) ts =
+    choose (suc (length ts)) (is_target e) _ _
+    (low_leaves (suc (length ts)) _ n ts (Ok (trees.postfix o e, tail_of ts)) (omega (arith, tail_shorter ts))) tt
 
 postfix_short : (b : Below) (h : ShortBelow b) (n : ℕ) → Short (parsing.postfix b n)
 unfolding parsing.postfix
-postfix_short b h n ts = after_that (length ts) (length ts) (parsing.call b n ts) _ (call_short b h n ts) (λ x l. wider (suc (length x.1)) (length ts) _ (updated_weak n x.0 (update_near (head_of x.1)) x.1) (omega arith))
+postfix_short b h n ts =
+    after_that (length ts) (length ts) (parsing.call b n ts) _ (call_short b h n ts)
+    (λ x l. wider (suc (length x.1)) (length ts) _ (updated_weak n x.0 (update_near (head_of x.1)) x.1)
+    (omega arith))
 
 unary_by_short : (b : Below) (h : ShortBelow b) (n : ℕ) (p : Prefix) → Short (parsing.unary_by b n p)
-unary_by_short b h n classes.deletes ts = after_that (length (tail_of ts)) (length ts) (b.call (tail_of ts)) _ (h.call (tail_of ts)) (λ x l. choose (length ts) (is_property x.0) (Ok (trees.unary unaries.Delete x.0, x.1)) _ (omega (arith, tail_shorter ts)) tt)
-unary_by_short b h n (classes.a_unary o) ts = after_that (length (tail_of ts)) (length ts) (b.unary (tail_of ts)) _ (h.unary (tail_of ts)) (λ x l. omega (arith, tail_shorter ts))
-unary_by_short b h n (classes.an_update o) ts = after_that (length (tail_of ts)) (length ts) (b.call (tail_of ts)) _ (h.call (tail_of ts)) (λ x l. choose (length ts) (is_target x.0) (Ok (trees.prefix o x.0, x.1)) _ (omega (arith, tail_shorter ts)) tt)
+unary_by_short b h n classes.deletes ts =
+    after_that (length (tail_of ts)) (length ts) (b.call (tail_of ts)) _ (h.call (tail_of ts))
+    (λ x l. choose (length ts) (is_property x.0) (Ok (trees.unary unaries.Delete x.0, x.1)) _
+    (omega (arith, tail_shorter ts)) tt)
+unary_by_short b h n (classes.a_unary o) ts =
+    after_that (length (tail_of ts)) (length ts) (b.unary (tail_of ts)) _ (h.unary (tail_of ts))
+    (λ x l. omega (arith, tail_shorter ts))
+unary_by_short b h n (classes.an_update o) ts =
+    after_that (length (tail_of ts)) (length ts) (b.call (tail_of ts)) _ (h.call (tail_of ts))
+    (λ x l. choose (length ts) (is_target x.0) (Ok (trees.prefix o x.0, x.1)) _ (omega (arith, tail_shorter ts)) tt)
 unary_by_short b h n classes.no_prefix ts = postfix_short b h n ts
 
 unary_short : (b : Below) (h : ShortBelow b) (n : ℕ) → Short (parsing.unary b n)
 unfolding parsing.unary
 unary_short b h n ts = unary_by_short b h n (prefix (head_of ts)) ts
 
-chain_then : (b : Below) (h : ShortBelow b) (n : ℕ) (go : Expression → Reader Expression) (e : Expression) (o : Option _)
+chain_then : (b : Below) (h : ShortBelow b) (n : ℕ) (go : Expression → Reader Expression) (e : Expression)
+    (o : Option _)
     → ((f : Expression) → Weak (go f))
     → Weak (parsing.chain_by b n go e o)
 chain_then b h n go e None g ts = omega arith
-chain_then b h n go e (Some o) g ts = low_leaves _ _ n ts _ (after_that (length (tail_of ts)) (suc (length ts)) (b.operation (suc (strength o)) (tail_of ts)) _ (h.operation (suc (strength o)) (tail_of ts)) (λ x l. wider (suc (length x.1)) (suc (length ts)) _ (g (trees.binary o e x.0) x.1) (omega (arith, tail_shorter ts))))
+chain_then b h n go e (Some o) g ts =
+    low_leaves _ _ n ts _
+    (after_that (length (tail_of ts)) (suc (length ts)) (b.operation (suc (strength o)) (tail_of ts)) _
+    (h.operation (suc (strength o)) (tail_of ts))
+    (λ x l. wider (suc (length x.1)) (suc (length ts)) _ (g (trees.binary o e x.0) x.1)
+    (omega (arith, tail_shorter ts))))
 
 chain_weak : (b : Below) (h : ShortBelow b) (n m turns : ℕ) (e : Expression) → Weak (parsing.chain b n m turns e)
 unfolding parsing.chain
 chain_weak b h n m zero e ts = tt
-chain_weak b h n m (suc turns) e ts = chain_then b h n (λ f r. parsing.chain b n m turns f r) e (parsing.operator_from m (operator (head_of ts))) (λ f. chain_weak b h n m turns f) ts
+chain_weak b h n m (suc turns) e ts =
+    chain_then b h n (λ f r. parsing.chain b n m turns f r) e (parsing.operator_from m (operator (head_of ts)))
+    (λ f. chain_weak b h n m turns f) ts
 
 operation_short : (b : Below) (h : ShortBelow b) (n m : ℕ) → Short (parsing.operation b n m)
 unfolding parsing.operation
-operation_short b h n m ts = after_that (length ts) (length ts) (parsing.unary b n ts) _ (unary_short b h n ts) (λ x l. wider (suc (length x.1)) (length ts) _ (chain_weak b h n m (suc n) x.0 x.1) (omega arith))
+operation_short b h n m ts =
+    after_that (length ts) (length ts) (parsing.unary b n ts) _ (unary_short b h n ts)
+    (λ x l. wider (suc (length x.1)) (length ts) _ (chain_weak b h n m (suc n) x.0 x.1) (omega arith))
 
 -- ---- arrow functions
 
 arrow_body_short : (b : Below) (h : ShortBelow b) (ps : Parameters) (names : List Identifier) (c : Bool)
     → Short (parsing.arrow_body_by b ps names c)
-arrow_body_short b h ps names true ts = made_short b h (in_braces function_body (with_names [] names) ∷ []) (λ v. trees.arrow_block ps v.0) refl ts
+arrow_body_short b h ps names true ts =
+    made_short b h (in_braces function_body (with_names [] names) ∷ []) (λ v. trees.arrow_block ps v.0) refl ts
 arrow_body_short b h ps names false ts = made_short b h (an_assignment ∷ []) (λ v. trees.arrow ps v.0) refl ts
 
 arrow_short : (b : Below) (h : ShortBelow b) (ps : Parameters) (names : List Identifier)
     → Short (parsing.arrow_rest b ps names)
 unfolding parsing.arrow_rest
-arrow_short b h ps names ts = after_that (length ts) (length ts) (expect_near kinds.Arrow ts) _ (near_short kinds.Arrow ts) (λ a l. wider (length a.1) (length ts) _ (arrow_body_short b h ps names (is_kind kinds.LeftBrace (head_of a.1)) a.1) (omega arith))
+arrow_short b h ps names ts =
+    after_that (length ts) (length ts) (expect_near kinds.Arrow ts) _ (near_short kinds.Arrow ts)
+    (λ a l. wider (length a.1) (length ts) _
+    (arrow_body_short b h ps names (is_kind kinds.LeftBrace (head_of a.1)) a.1) (omega arith))
 
 arrow_of_one_short : (b : Below) (h : ShortBelow b) → Short (parsing.arrow_of_one b)
 unfolding parsing.arrow_of_one
-arrow_of_one_short b h ts = after_that (length ts) (length ts) (name_at ts) _ (name_short ts) (λ x l. wider (length x.1) (length ts) _ (arrow_short b h (trees.one_name x.0) (x.0 ∷ []) x.1) (omega arith))
+arrow_of_one_short b h ts =
+    after_that (length ts) (length ts) (name_at ts) _ (name_short ts)
+    (λ x l. wider (length x.1) (length ts) _ (arrow_short b h (trees.one_name x.0) (x.0 ∷ []) x.1) (omega arith))
 
 arrow_of_names_short : (b : Below) (h : ShortBelow b) (only : Bool) (names : List Identifier)
     → Short (parsing.arrow_of_names b only names)
-arrow_of_names_short b h only names ts = choose (length ts) (parsing.are_fresh [] names) _ _ (arrow_short b h (trees.name_list names) names ts) (choose (length ts) only _ _ tt tt)
+arrow_of_names_short b h only names ts =
+    choose (length ts) (parsing.are_fresh [] names) _ _ (arrow_short b h (trees.name_list names) names ts)
+    (choose (length ts) only _ _ tt tt)
 
 arrow_of_list_short : (b : Below) (h : ShortBelow b) (only : Bool) → Short (parsing.arrow_of_list b only)
 unfolding parsing.arrow_of_list
-arrow_of_list_short b h only ts = after_that (length ts) (length ts) (expect kinds.LeftParenthesis ts) _ (expect_short kinds.LeftParenthesis ts) (λ o l. after_that (length o.1) (length ts) (names_before o.1) _ (names_short o.1) (λ ns k. wider (length ns.1) (length ts) _ (arrow_of_names_short b h only ns.0 ns.1) (omega arith)))
+arrow_of_list_short b h only ts =
+    after_that (length ts) (length ts) (expect kinds.LeftParenthesis ts) _ (expect_short kinds.LeftParenthesis ts)
+    (λ o l. after_that (length o.1) (length ts) (names_before o.1) _ (names_short o.1)
+    (λ ns k. wider (length ns.1) (length ts) _ (arrow_of_names_short b h only ns.0 ns.1) (omega arith)))
 
 -- ---- assignments
 
 joined_by_weak : (b : Below) (h : ShortBelow b) (n : ℕ) (t : Expression) (j : Joint) → Weak (parsing.joined_by b n t j)
-joined_by_weak b h n t classes.question ts = low_leaves _ _ n ts _ (weaken _ (made_short b h (tok kinds.Question ∷ an_assignment ∷ tok kinds.Colon ∷ an_assignment ∷ []) (λ v. trees.conditional t v.1.0 v.1.1.1.0) refl) ts)
-joined_by_weak b h n t (classes.assigns_by o) ts = choose (suc (length ts)) (is_target t) _ _ (low_leaves _ _ n ts _ (weaken _ (made_short b h (tok (assign_kind o) ∷ an_assignment ∷ []) (λ v. trees.assign o t v.1.0) refl) ts)) tt
+joined_by_weak b h n t classes.question ts =
+    low_leaves _ _ n ts _
+    (weaken _
+    (made_short b h (tok kinds.Question ∷ an_assignment ∷ tok kinds.Colon ∷ an_assignment ∷ [])
+    (λ v. trees.conditional t v.1.0 v.1.1.1.0) refl)
+    ts)
+joined_by_weak b h n t (classes.assigns_by o) ts =
+    choose (suc (length ts)) (is_target t) _ _
+    (low_leaves _ _ n ts _
+    (weaken _ (made_short b h (tok (assign_kind o) ∷ an_assignment ∷ []) (λ v. trees.assign o t v.1.0) refl)
+    ts))
+    tt
 joined_by_weak b h n t classes.no_joint ts = omega arith
 
 assignment_by_short : (b : Below) (h : ShortBelow b) (n : ℕ) (a : Head) → Short (parsing.assignment_by b n a)
 unfolding parsing.joined
 assignment_by_short b h n classes.one_parameter ts = arrow_of_one_short b h ts
 assignment_by_short b h n (classes.listed only) ts = arrow_of_list_short b h only ts
-assignment_by_short b h n classes.no_arrow ts = after_that (length ts) (length ts) (parsing.operation b n 3 ts) _ (operation_short b h n 3 ts) (λ x l. wider (suc (length x.1)) (length ts) _ (joined_by_weak b h n x.0 (joint (head_of x.1)) x.1) (omega arith))
+assignment_by_short b h n classes.no_arrow ts =
+    after_that (length ts) (length ts) (parsing.operation b n 3 ts) _ (operation_short b h n 3 ts)
+    (λ x l. wider (suc (length x.1)) (length ts) _ (joined_by_weak b h n x.0 (joint (head_of x.1)) x.1)
+    (omega arith))
 
 assignment_short : (b : Below) (h : ShortBelow b) (n : ℕ) → Short (parsing.assignment b n)
 unfolding parsing.assignment
@@ -431,75 +582,115 @@ assignment_short b h n ts = assignment_by_short b h n (arrow_head ts) ts
 
 comma_weak : (b : Below) (h : ShortBelow b) (n : ℕ) (e : Expression) (c : Bool) → Weak (parsing.comma_by b n e c)
 comma_weak b h n e false ts = omega arith
-comma_weak b h n e true ts = low_leaves _ _ n ts _ (after_that (suc (length ts)) (suc (length ts)) (more_assignments b ts) _ (more_weak b h ts) (λ x l. l))
+comma_weak b h n e true ts =
+    low_leaves _ _ n ts _
+    (after_that (suc (length ts)) (suc (length ts)) (more_assignments b ts) _ (more_weak b h ts) (λ x l. l))
 
 expression_short : (b : Below) (h : ShortBelow b) (n : ℕ) → Short (parsing.expression b n)
 unfolding parsing.expression
-expression_short b h n ts = after_that (length ts) (length ts) (parsing.assignment b n ts) _ (assignment_short b h n ts) (λ x l. wider (suc (length x.1)) (length ts) _ (comma_weak b h n x.0 (is_kind kinds.Comma (head_of x.1)) x.1) (omega arith))
+expression_short b h n ts =
+    after_that (length ts) (length ts) (parsing.assignment b n ts) _ (assignment_short b h n ts)
+    (λ x l. wider (suc (length x.1)) (length ts) _ (comma_weak b h n x.0 (is_kind kinds.Comma (head_of x.1)) x.1)
+    (omega arith))
 
 -- ---- statements
 
 else_weak : (b : Below) (h : ShortBelow b) (c : Context) (e : Expression) (s : Statement) (o : Bool)
     → Weak (parsing.else_by b c e s o)
-else_weak b h c e s true ts = weaken _ (made_short b h (tok kinds.Else ∷ a_statement c ∷ []) (λ v. trees.if_else e s v.1.0) refl) ts
+else_weak b h c e s true ts =
+    weaken _ (made_short b h (tok kinds.Else ∷ a_statement c ∷ []) (λ v. trees.if_else e s v.1.0) refl) ts
 else_weak b h c e s false ts = omega arith
 
 if_short : (b : Below) (h : ShortBelow b) (c : Context) → Short (parsing.if_at b c)
 unfolding parsing.if_at
-if_short b h c ts = after_that (length ts) (length ts) (seq b (parsing.if_items c) ts) _ (seq_short b h (parsing.if_items c) refl ts) (λ x l. wider (suc (length x.1)) (length ts) _ (else_weak b h c x.0.1.1.0 x.0.1.1.1.1.0 (is_kind kinds.Else (head_of x.1)) x.1) (omega arith))
+if_short b h c ts =
+    after_that (length ts) (length ts) (seq b (parsing.if_items c) ts) _ (seq_short b h (parsing.if_items c) refl ts)
+    (λ x l. wider (suc (length x.1)) (length ts) _
+    (else_weak b h c x.0.1.1.0 x.0.1.1.1.1.0 (is_kind kinds.Else (head_of x.1)) x.1) (omega arith))
 
 for_by_short : (b : Below) (h : ShortBelow b) (c : Context) (a : ForHead) → Short (parsing.for_by b c a)
-for_by_short b h c (classes.each constant) ts = made_short b h (parsing.for_of_items c constant) (λ v. trees.for_of constant v.1.1.1.0 v.1.1.1.1.1.0 v.1.1.1.1.1.1.1.0) refl ts
-for_by_short b h c (classes.declares constant) ts = made_short b h (parsing.for_lexical_items c constant) (λ v. trees.for_lexical constant v.1.1.1.0 v.1.1.1.1.1.0 v.1.1.1.1.1.1.0 v.1.1.1.1.1.1.1.0) refl ts
-for_by_short b h c classes.plain_head ts = made_short b h (parsing.for_items c) (λ v. trees.for v.1.1.0 v.1.1.1.0 v.1.1.1.1.0 v.1.1.1.1.1.0) refl ts
+for_by_short b h c (classes.each constant) ts =
+    made_short b h (parsing.for_of_items c constant)
+    (λ v. trees.for_of constant v.1.1.1.0 v.1.1.1.1.1.0 v.1.1.1.1.1.1.1.0) refl ts
+for_by_short b h c (classes.declares constant) ts =
+    made_short b h (parsing.for_lexical_items c constant)
+    (λ v. trees.for_lexical constant v.1.1.1.0 v.1.1.1.1.1.0 v.1.1.1.1.1.1.0 v.1.1.1.1.1.1.1.0) refl ts
+for_by_short b h c classes.plain_head ts =
+    made_short b h (parsing.for_items c) (λ v. trees.for v.1.1.0 v.1.1.1.0 v.1.1.1.1.0 v.1.1.1.1.1.0) refl ts
 
 for_short : (b : Below) (h : ShortBelow b) (c : Context) → Short (parsing.for_at b c)
 unfolding parsing.for_at
 for_short b h c ts = for_by_short b h c (for_head (tail_of (tail_of ts))) ts
 
 return_short : (b : Below) (h : ShortBelow b) (o : Bool) → Short (parsing.return_by b o)
-return_short b h true ts = made_short b h (tok kinds.Return ∷ an_end after_word ∷ []) (λ v. trees.return trees.omitted) refl ts
-return_short b h false ts = made_short b h (tok kinds.Return ∷ ended ∷ []) (λ v. trees.return (trees.present v.1.0)) refl ts
+return_short b h true ts =
+    made_short b h (tok kinds.Return ∷ an_end after_word ∷ []) (λ v. trees.return trees.omitted) refl ts
+return_short b h false ts =
+    made_short b h (tok kinds.Return ∷ ended ∷ []) (λ v. trees.return (trees.present v.1.0)) refl ts
 
 throw_short : (b : Below) (h : ShortBelow b) (o : Bool) → Short (parsing.throw_by b o)
 throw_short b h true ts = made_short b h (tok kinds.Throw ∷ ended ∷ []) (λ v. trees.throw v.1.0) refl ts
 throw_short b h false ts = tt
 
 catch_short : (b : Below) (h : ShortBelow b) (c : Context) (o : Bool) → Short (parsing.catch_by b c o)
-catch_short b h c true ts = after_that (length ts) (length ts) (seq b (tok kinds.LeftParenthesis ∷ a_name ∷ tok kinds.RightParenthesis ∷ []) ts) _ (seq_short b h (tok kinds.LeftParenthesis ∷ a_name ∷ tok kinds.RightParenthesis ∷ []) refl ts) (λ n l. after_that (length n.1) (length ts) (b.block c (n.0.1.0 ∷ []) n.1) _ (h.block c (n.0.1.0 ∷ []) n.1) (λ x k. omega arith))
+catch_short b h c true ts =
+    after_that (length ts) (length ts) (seq b (tok kinds.LeftParenthesis ∷ a_name ∷ tok kinds.RightParenthesis ∷ []) ts)
+    _ (seq_short b h (tok kinds.LeftParenthesis ∷ a_name ∷ tok kinds.RightParenthesis ∷ []) refl ts)
+    (λ n l. after_that (length n.1) (length ts) (b.block c (n.0.1.0 ∷ []) n.1) _ (h.block c (n.0.1.0 ∷ []) n.1)
+    (λ x k. omega arith))
 catch_short b h c false ts = after_that (length ts) (length ts) (b.block c [] ts) _ (h.block c [] ts) (λ x l. l)
 
 handler_by_weak : (b : Below) (h : ShortBelow b) (c : Context) (o : Bool) → Weak (parsing.handler_by b c o)
-handler_by_weak b h c true ts = wider (length (tail_of ts)) (suc (length ts)) _ (catch_short b h c (is_kind kinds.LeftParenthesis (head_of (tail_of ts))) (tail_of ts)) (omega (arith, tail_shorter ts))
+handler_by_weak b h c true ts =
+    wider (length (tail_of ts)) (suc (length ts)) _
+    (catch_short b h c (is_kind kinds.LeftParenthesis (head_of (tail_of ts))) (tail_of ts))
+    (omega (arith, tail_shorter ts))
 handler_by_weak b h c false ts = omega arith
 
 finalizer_by_weak : (b : Below) (h : ShortBelow b) (c : Context) (a : Handler) (o : Bool)
     → Weak (parsing.finalizer_by b c a o)
-finalizer_by_weak b h c a true ts = weaken _ (made_short b h (tok kinds.Finally ∷ a_block c [] ∷ []) (λ v. trees.finally v.1.0) refl) ts
+finalizer_by_weak b h c a true ts =
+    weaken _ (made_short b h (tok kinds.Finally ∷ a_block c [] ∷ []) (λ v. trees.finally v.1.0) refl) ts
 finalizer_by_weak b h c trees.no_catch false ts = tt
 finalizer_by_weak b h c (trees.catch n ss) false ts = omega arith
 
 try_short : (b : Below) (h : ShortBelow b) (c : Context) → Short (parsing.try_at b c)
 unfolding parsing.try_at parsing.handler_at parsing.finalizer_at
-try_short b h c ts = after_that (length ts) (length ts) (seq b (tok kinds.Try ∷ a_block c [] ∷ []) ts) _ (seq_short b h (tok kinds.Try ∷ a_block c [] ∷ []) refl ts) (λ x l. after_that (suc (length x.1)) (length ts) (parsing.handler_at b c x.1) _ (handler_by_weak b h c (is_kind kinds.Catch (head_of x.1)) x.1) (λ a k. after_that (suc (length a.1)) (length ts) (parsing.finalizer_at b c a.0 a.1) _ (finalizer_by_weak b h c a.0 (is_kind kinds.Finally (head_of a.1)) a.1) (λ f m. omega arith)))
+try_short b h c ts =
+    after_that (length ts) (length ts) (seq b (tok kinds.Try ∷ a_block c [] ∷ []) ts) _
+    (seq_short b h (tok kinds.Try ∷ a_block c [] ∷ []) refl ts)
+    (λ x l. after_that (suc (length x.1)) (length ts) (parsing.handler_at b c x.1) _
+    (handler_by_weak b h c (is_kind kinds.Catch (head_of x.1)) x.1)
+    (λ a k. after_that (suc (length a.1)) (length ts) (parsing.finalizer_at b c a.0 a.1) _
+    (finalizer_by_weak b h c a.0 (is_kind kinds.Finally (head_of a.1)) a.1) (λ f m. omega arith)))
 
 statement_by_short : (b : Below) (h : ShortBelow b) (c : Context) (t : Token) (ts : List Token) (f : First)
     → Leaves (length (t ∷ ts)) (parsing.statement_by b c f (t ∷ ts))
-statement_by_short b h c t ts classes.a_block = made_short b h (in_braces c [] ∷ []) (λ v. trees.block v.0) refl (t ∷ ts)
+statement_by_short b h c t ts classes.a_block =
+    made_short b h (in_braces c [] ∷ []) (λ v. trees.block v.0) refl (t ∷ ts)
 statement_by_short b h c t ts (classes.a_lexical constant) = tt
 statement_by_short b h c t ts classes.a_semicolon = omega arith
 statement_by_short b h c t ts classes.an_if = if_short b h c (t ∷ ts)
-statement_by_short b h c t ts classes.a_do = made_short b h (parsing.do_items c) (λ v. trees.do_while v.1.0 v.1.1.1.1.0) refl (t ∷ ts)
-statement_by_short b h c t ts classes.a_while = made_short b h (parsing.while_items c) (λ v. trees.while v.1.1.0 v.1.1.1.1.0) refl (t ∷ ts)
+statement_by_short b h c t ts classes.a_do =
+    made_short b h (parsing.do_items c) (λ v. trees.do_while v.1.0 v.1.1.1.1.0) refl (t ∷ ts)
+statement_by_short b h c t ts classes.a_while =
+    made_short b h (parsing.while_items c) (λ v. trees.while v.1.1.0 v.1.1.1.1.0) refl (t ∷ ts)
 statement_by_short b h c t ts classes.a_for = for_short b h c (t ∷ ts)
-statement_by_short b h c t ts classes.a_continue = choose (length (t ∷ ts)) c.in_loop _ _ (made_short b h (tok kinds.Continue ∷ an_end after_word ∷ []) (λ v. trees.continue) refl (t ∷ ts)) tt
-statement_by_short b h c t ts classes.a_break = choose (length (t ∷ ts)) c.in_loop _ _ (made_short b h (tok kinds.Break ∷ an_end after_word ∷ []) (λ v. trees.break) refl (t ∷ ts)) tt
-statement_by_short b h c t ts classes.a_return = choose (length (t ∷ ts)) c.in_function _ _ (return_short b h (ends_return (head_of ts)) (t ∷ ts)) tt
+statement_by_short b h c t ts classes.a_continue =
+    choose (length (t ∷ ts)) c.in_loop _ _
+    (made_short b h (tok kinds.Continue ∷ an_end after_word ∷ []) (λ v. trees.continue) refl (t ∷ ts)) tt
+statement_by_short b h c t ts classes.a_break =
+    choose (length (t ∷ ts)) c.in_loop _ _
+    (made_short b h (tok kinds.Break ∷ an_end after_word ∷ []) (λ v. trees.break) refl (t ∷ ts)) tt
+statement_by_short b h c t ts classes.a_return =
+    choose (length (t ∷ ts)) c.in_function _ _ (return_short b h (ends_return (head_of ts)) (t ∷ ts)) tt
 statement_by_short b h c t ts classes.a_throw = throw_short b h (is_on_line (head_of ts)) (t ∷ ts)
 statement_by_short b h c t ts classes.a_try = try_short b h c (t ∷ ts)
-statement_by_short b h c t ts classes.a_debugger = made_short b h (tok kinds.Debugger ∷ an_end after_word ∷ []) (λ v. trees.debugger) refl (t ∷ ts)
+statement_by_short b h c t ts classes.a_debugger =
+    made_short b h (tok kinds.Debugger ∷ an_end after_word ∷ []) (λ v. trees.debugger) refl (t ∷ ts)
 statement_by_short b h c t ts classes.a_function = tt
-statement_by_short b h c t ts classes.an_expression = made_short b h (ended ∷ []) (λ v. trees.expression v.0) refl (t ∷ ts)
+statement_by_short b h c t ts classes.an_expression =
+    made_short b h (ended ∷ []) (λ v. trees.expression v.0) refl (t ∷ ts)
 
 statement_short : (b : Below) (h : ShortBelow b) (c : Context) → Short (parsing.statement b c)
 unfolding parsing.statement
@@ -509,11 +700,18 @@ statement_short b h c (t ∷ ts) = statement_by_short b h c t ts (first (Some t)
 lexical_short : (b : Below) (h : ShortBelow b) (constant : Bool) (taken : List Identifier)
     → Short (parsing.lexical_at b constant taken)
 unfolding parsing.lexical_at
-lexical_short b h constant taken ts = after_that (length (tail_of ts)) (length ts) (declarators_at b constant taken (tail_of ts)) _ (declarators_short b h constant taken (tail_of ts)) (λ d l. after_that (suc (length d.1)) (length ts) (semicolon_at _ d.1) _ (semicolon_weak _ d.1) (λ x k. omega (arith, tail_shorter ts)))
+lexical_short b h constant taken ts =
+    after_that (length (tail_of ts)) (length ts) (declarators_at b constant taken (tail_of ts)) _
+    (declarators_short b h constant taken (tail_of ts))
+    (λ d l. after_that (suc (length d.1)) (length ts) (semicolon_at _ d.1) _ (semicolon_weak _ d.1)
+    (λ x k. omega (arith, tail_shorter ts)))
 
 declaration_short : (b : Below) (h : ShortBelow b) (taken : List Identifier) → Short (parsing.declaration_at b taken)
 unfolding parsing.declaration_at
-declaration_short b h taken ts = after_that (length (tail_of ts)) (length ts) (fresh_name taken (tail_of ts)) _ (fresh_short taken (tail_of ts)) (λ n l. after_that (length n.1) (length ts) (code_at b n.1) _ (code_short b h n.1) (λ x k. omega (arith, tail_shorter ts)))
+declaration_short b h taken ts =
+    after_that (length (tail_of ts)) (length ts) (fresh_name taken (tail_of ts)) _ (fresh_short taken (tail_of ts))
+    (λ n l. after_that (length n.1) (length ts) (code_at b n.1) _ (code_short b h n.1)
+    (λ x k. omega (arith, tail_shorter ts)))
 
 item_by_short : (b : Below) (h : ShortBelow b) (c : Context) (taken : List Identifier) (f : First)
     → Short (parsing.item_by b c taken f)

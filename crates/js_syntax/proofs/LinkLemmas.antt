@@ -18,7 +18,8 @@ use Rattle.js_syntax.specs.Productions.{Below}
 use Rattle.js_syntax.specs.Parsing.{if_low, linked_by, links_by, links, operator_from, chain}
 
 goes_on : (b : Below) (n : ℕ) (go : Expression → Reader Expression) (e : Expression) (l : Link) (ts : List Token)
-    → links_by b n go e (link_view (Some l)) ts ≡ if_low (height e) n ts (linked_by b e (link_view (Some l)) ts >>= λ x. go x.0 x.1)
+    → links_by b n go e (link_view (Some l)) ts ≡ if_low (height e) n ts
+    (linked_by b e (link_view (Some l)) ts >>= λ x. go x.0 x.1)
 goes_on b n go e code.Dot ts = refl
 goes_on b n go e code.Key ts = refl
 goes_on b n go e code.Arguments ts = refl
@@ -34,7 +35,8 @@ pub links_deep : (b : Below) (n turns : ℕ) (e : Expression) (l : Link) (ts : L
     → links b n turns e ts ≡ Err (deep (length (tail_of ts)))
 unfolding links
 links_deep b n zero e l ts is h k = absurd (omega arith)
-links_deep b n (suc turns) e l ts is h k = rw (← is) (goes_on b n (λ f r. links b n turns f r) e l ts ∙ rw (high (height e) n h) refl)
+links_deep b n (suc turns) e l ts is h k =
+    rw (← is) (goes_on b n (λ f r. links b n turns f r) e l ts ∙ rw (high (height e) n h) refl)
 
 -- one more
 pub links_more : (b : Below) (n turns : ℕ) (e t : Expression) (l : Link) (ts r : List Token)
@@ -45,7 +47,10 @@ pub links_more : (b : Below) (n turns : ℕ) (e t : Expression) (l : Link) (ts r
     → links b n turns e ts ≡ links b n (turns - 1) t r
 unfolding links
 links_more b n zero e t l ts r is h o k = absurd (omega arith)
-links_more b n (suc turns) e t l ts r is h o k = rw (← is) (goes_on b n (λ f r. links b n turns f r) e l ts ∙ rw (le-leb (height e) n h, o) (ap (λ k. links b n k t r) (omega arith)))
+links_more b n (suc turns) e t l ts r is h o k =
+    rw (← is)
+    (goes_on b n (λ f r. links b n turns f r) e l ts
+    ∙ rw (le-leb (height e) n h, o) (ap (λ k. links b n k t r) (omega arith)))
 
 -- an operand too high for an operation
 pub chain_deep : (b : Below) (n m turns : ℕ) (e : Expression) (o : BinaryOperator) (ts : List Token)
@@ -66,4 +71,5 @@ pub chain_more : (b : Below) (n m turns : ℕ) (e f : Expression) (o : BinaryOpe
     → chain b n m turns e ts ≡ chain b n m (turns - 1) (trees.binary o e f) r
 unfolding chain
 chain_more b n m zero e f o ts r is h a k = absurd (omega arith)
-chain_more b n m (suc turns) e f o ts r is h a k = rw (← is) (rw (le-leb (height e) n h, a) (ap (λ k. chain b n m k (trees.binary o e f) r) (omega arith)))
+chain_more b n m (suc turns) e f o ts r is h a k =
+    rw (← is) (rw (le-leb (height e) n h, a) (ap (λ k. chain b n m k (trees.binary o e f) r) (omega arith)))

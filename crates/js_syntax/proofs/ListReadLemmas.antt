@@ -26,8 +26,11 @@ heights_push [] x = omega arith
 heights_push (y ∷ xs) x = omega (arith, heights_push xs x)
 
 -- expressions up to a token
-pub record ReadsElements (room : ℕ) (closer : TokenKind) (ts : List Token) (xs : List Expr) (high : ℕ) (rest : List Token) : Type 0 where
-  pub reads : Elements (one_of (below room).assignment) no_state closer (elements (one_of (below room).assignment) no_state closer (suc (length ts)) tt ts) (map expression_view xs) tt rest
+pub record ReadsElements (room : ℕ) (closer : TokenKind) (ts : List Token) (xs : List Expr) (high : ℕ)
+    (rest : List Token) : Type 0 where
+  pub reads : Elements (one_of (below room).assignment) no_state closer
+      (elements (one_of (below room).assignment) no_state closer (suc (length ts)) tt ts) (map expression_view xs)
+      tt rest
   pub is_height : high ≡ height_of_expressions (expressions (map expression_view xs))
   pub low : high ≤ room
 
@@ -38,7 +41,8 @@ elements_init room closer ts = record {
   low = omega arith;
 }
 
-pub elements_next : (room : ℕ) (closer : TokenKind) (ts : List Token) (xs : List Expr) (high : ℕ) (rest : List Token) (x : Expr) (h : ℕ) (later : List Token)
+pub elements_next : (room : ℕ) (closer : TokenKind) (ts : List Token) (xs : List Expr) (high : ℕ) (rest : List Token)
+    (x : Expr) (h : ℕ) (later : List Token)
     → ReadsElements room closer ts xs high rest
     → is_kind closer (head_of rest) ≡ false
     → (below room).assignment rest ≡ Ok (expression_view x, later)
@@ -47,14 +51,19 @@ pub elements_next : (room : ℕ) (closer : TokenKind) (ts : List Token) (xs : Li
     → after closer (head_of later) ≡ goes_on
     → ReadsElements room closer ts (xs ++ (x ∷ [])) (max high h) (tail_of later)
 elements_next room closer ts xs high rest x h later r c o d l g = record {
-  reads = rw map_push (elements_more (one_of (below room).assignment) no_state closer _ _ tt rest (expression_view x) later (shorter (below room).assignment rest (expression_view x) later (short room).assignment o) r.reads c o g);
+  reads =
+      rw map_push
+      (elements_more (one_of (below room).assignment) no_state closer _ _ tt rest (expression_view x) later
+      (shorter (below room).assignment rest (expression_view x) later (short room).assignment o)
+      r.reads c o g);
   is_height = rw map_push (omega (arith, heights_push (map expression_view xs) (expression_view x), r.is_height));
   low = omega (arith, r.low);
 }
 
 -- further expressions
 pub record ReadsOthers (room : ℕ) (ts : List Token) (xs : List Expr) (high : ℕ) (rest : List Token) : Type 0 where
-  pub reads : Others (one_of (below room).assignment) no_state (others (one_of (below room).assignment) no_state (suc (length ts)) tt ts) (map expression_view xs) tt rest
+  pub reads : Others (one_of (below room).assignment) no_state
+      (others (one_of (below room).assignment) no_state (suc (length ts)) tt ts) (map expression_view xs) tt rest
   pub is_height : high ≡ height_of_expressions (expressions (map expression_view xs))
   pub low : high ≤ room
 
@@ -65,7 +74,8 @@ others_init room ts = record {
   low = omega arith;
 }
 
-pub others_next : (room : ℕ) (ts : List Token) (xs : List Expr) (high : ℕ) (rest : List Token) (x : Expr) (h : ℕ) (later : List Token)
+pub others_next : (room : ℕ) (ts : List Token) (xs : List Expr) (high : ℕ) (rest : List Token) (x : Expr) (h : ℕ)
+    (later : List Token)
     → ReadsOthers room ts xs high rest
     → is_kind kinds.Comma (head_of rest) ≡ true
     → (below room).assignment (tail_of rest) ≡ Ok (expression_view x, later)
@@ -73,7 +83,11 @@ pub others_next : (room : ℕ) (ts : List Token) (xs : List Expr) (high : ℕ) (
     → h ≤ room
     → ReadsOthers room ts (xs ++ (x ∷ [])) (max high h) later
 others_next room ts xs high rest x h later r c o d l = record {
-  reads = rw map_push (others_more (one_of (below room).assignment) no_state _ _ tt rest (expression_view x) later (shorter (below room).assignment (tail_of rest) (expression_view x) later (short room).assignment o) r.reads c o);
+  reads =
+      rw map_push
+      (others_more (one_of (below room).assignment) no_state _ _ tt rest (expression_view x) later
+      (shorter (below room).assignment (tail_of rest) (expression_view x) later (short room).assignment o)
+      r.reads c o);
   is_height = rw map_push (omega (arith, heights_push (map expression_view xs) (expression_view x), r.is_height));
   low = omega (arith, r.low);
 }
@@ -81,12 +95,16 @@ others_next room ts xs high rest x h later r c o d l = record {
 -- ---- members of an object literal
 
 properties_push : (xs : List Property) (x : Property)
-    → height_of_properties (properties (xs ++ (x ∷ []))) ≡ max (height_of_properties (properties xs)) (height_of_property x)
+    → height_of_properties (properties (xs ++ (x ∷ []))) ≡ max (height_of_properties (properties xs))
+    (height_of_property x)
 properties_push [] x = omega arith
 properties_push (y ∷ xs) x = omega (arith, properties_push xs x)
 
-pub record ReadsMembers (room : ℕ) (ts : List Token) (xs : List PropertyDefinition) (high : ℕ) (rest : List Token) : Type 0 where
-  pub reads : Elements (one_of (λ r. property_at (below room) room r)) no_state kinds.RightBrace (elements (one_of (λ r. property_at (below room) room r)) no_state kinds.RightBrace (suc (length ts)) tt ts) (map property_view xs) tt rest
+pub record ReadsMembers (room : ℕ) (ts : List Token) (xs : List PropertyDefinition) (high : ℕ) (rest : List Token)
+    : Type 0 where
+  pub reads : Elements (one_of (λ r. property_at (below room) room r)) no_state kinds.RightBrace
+      (elements (one_of (λ r. property_at (below room) room r)) no_state kinds.RightBrace (suc (length ts)) tt ts)
+      (map property_view xs) tt rest
   pub is_height : high ≡ height_of_properties (properties (map property_view xs))
   pub low : high ≤ room
 
@@ -100,9 +118,11 @@ members_init room ts = record {
 pub member_shorter : (room : ℕ) (rest : List Token) (x : Property) (later : List Token)
     → property_at (below room) room rest ≡ Ok (x, later)
     → length later < length rest
-member_shorter room rest x later o = shorter (λ r. property_at (below room) room r) rest x later (property_short (below room) (short room) room) o
+member_shorter room rest x later o =
+    shorter (λ r. property_at (below room) room r) rest x later (property_short (below room) (short room) room) o
 
-pub members_next : (room : ℕ) (ts : List Token) (xs : List PropertyDefinition) (high : ℕ) (rest : List Token) (x : PropertyDefinition) (h : ℕ) (later : List Token)
+pub members_next : (room : ℕ) (ts : List Token) (xs : List PropertyDefinition) (high : ℕ) (rest : List Token)
+    (x : PropertyDefinition) (h : ℕ) (later : List Token)
     → ReadsMembers room ts xs high rest
     → is_kind kinds.RightBrace (head_of rest) ≡ false
     → property_at (below room) room rest ≡ Ok (property_view x, later)
@@ -111,7 +131,10 @@ pub members_next : (room : ℕ) (ts : List Token) (xs : List PropertyDefinition)
     → after kinds.RightBrace (head_of later) ≡ goes_on
     → ReadsMembers room ts (xs ++ (x ∷ [])) (max high h) (tail_of later)
 members_next room ts xs high rest x h later r c o d l g = record {
-  reads = rw map_push (elements_more (one_of (λ r. property_at (below room) room r)) no_state kinds.RightBrace _ _ tt rest (property_view x) later (member_shorter room rest (property_view x) later o) r.reads c o g);
+  reads =
+      rw map_push
+      (elements_more (one_of (λ r. property_at (below room) room r)) no_state kinds.RightBrace _ _ tt rest
+      (property_view x) later (member_shorter room rest (property_view x) later o) r.reads c o g);
   is_height = rw map_push (omega (arith, properties_push (map property_view xs) (property_view x), r.is_height));
   low = omega (arith, r.low);
 }
@@ -127,11 +150,13 @@ pub last_property_height : (xs : List PropertyDefinition) (x : PropertyDefinitio
     → high ≡ height_of_properties (properties (map property_view xs))
     → h ≡ height_of_property (property_view x)
     → max high h ≡ height_of_properties (properties (map property_view (xs ++ (x ∷ []))))
-last_property_height xs x high h d e = rw map_push (omega (arith, properties_push (map property_view xs) (property_view x)))
+last_property_height xs x high h d e =
+    rw map_push (omega (arith, properties_push (map property_view xs) (property_view x)))
 
 pub others_smaller : (room : ℕ) (rest later : List lexer.Token) (x : Expression)
     → (below room).assignment (tail_of (tokens_view rest)) ≡ Ok (x, tokens_view later)
     → length later < length rest
 others_smaller room rest later x o =
-    let l : length (tokens_view later) < length (tail_of (tokens_view rest)) = shorter (below room).assignment (tail_of (tokens_view rest)) x (tokens_view later) (short room).assignment o in
+    let l : length (tokens_view later) < length (tail_of (tokens_view rest)) = shorter (below room).assignment
+    (tail_of (tokens_view rest)) x (tokens_view later) (short room).assignment o in
     less_in_view rest later (omega (arith, tail_shorter (tokens_view rest)))

@@ -18,7 +18,8 @@ regroup front x (Err f) = refl
 -- ---- elements up to what ends a list of statements
 
 -- these elements were read, and this state was made; the others are still read from the rest
-pub record ReadsItems {S A : Type 0} (one : S → Reader A) (next : S → A → S) (s₀ : S) (ts : List Token) (xs : List A) (s : S) (rest : List Token) : Type 0 where
+pub record ReadsItems {S A : Type 0} (one : S → Reader A) (next : S → A → S) (s₀ : S) (ts : List Token) (xs : List A)
+    (s : S) (rest : List Token) : Type 0 where
   pub fuel : ℕ
   pub enough : length rest < fuel
   pub same : with_front xs (items one next fuel s rest) ≡ items one next (suc (length ts)) s₀ ts
@@ -31,7 +32,8 @@ items_begin one next s ts = record {
   same = with_nothing (items one next (suc (length ts)) s ts);
 }
 
-item_more : {S A : Type 0} (one : S → Reader A) (next : S → A → S) (goal : Read (List A)) (xs : List A) (s : S) (rest : List Token) (x : A) (later : List Token) (k : ℕ)
+item_more : {S A : Type 0} (one : S → Reader A) (next : S → A → S) (goal : Read (List A)) (xs : List A) (s : S)
+    (rest : List Token) (x : A) (later : List Token) (k : ℕ)
     → ends_list (head_of rest) ≡ false
     → length rest < k
     → with_front xs (items one next k s rest) ≡ goal
@@ -39,9 +41,11 @@ item_more : {S A : Type 0} (one : S → Reader A) (next : S → A → S) (goal :
     → (j : ℕ) × (suc j ≡ k) × (with_front (xs ++ x ∷ []) (items one next j (next s x) later) ≡ goal)
 unfolding items
 item_more one next goal xs s rest x later zero g f e a = absurd (omega arith)
-item_more one next goal xs s rest x later (suc k) g f e a = (k, refl, sym (regroup xs x (items one next k (next s x) later)) ∙ (rw (g, a) at e))
+item_more one next goal xs s rest x later (suc k) g f e a =
+    (k, refl, sym (regroup xs x (items one next k (next s x) later)) ∙ (rw (g, a) at e))
 
-pub items_go_on : {S A : Type 0} (one : S → Reader A) (next : S → A → S) (s₀ : S) (ts : List Token) (xs : List A) (s : S) (rest : List Token) (x : A) (later : List Token)
+pub items_go_on : {S A : Type 0} (one : S → Reader A) (next : S → A → S) (s₀ : S) (ts : List Token) (xs : List A)
+    (s : S) (rest : List Token) (x : A) (later : List Token)
     → ReadsItems one next s₀ ts xs s rest
     → ends_list (head_of rest) ≡ false
     → one s rest ≡ Ok (x, later)
@@ -55,7 +59,8 @@ items_go_on one next s₀ ts xs s rest x later r g a l =
       same = m.2;
     }
 
-items_end_by : {S A : Type 0} (one : S → Reader A) (next : S → A → S) (goal : Read (List A)) (xs : List A) (s : S) (rest : List Token) (k : ℕ)
+items_end_by : {S A : Type 0} (one : S → Reader A) (next : S → A → S) (goal : Read (List A)) (xs : List A) (s : S)
+    (rest : List Token) (k : ℕ)
     → ends_list (head_of rest) ≡ true
     → length rest < k
     → with_front xs (items one next k s rest) ≡ goal
@@ -64,13 +69,16 @@ unfolding items
 items_end_by one next goal xs s rest zero g f e = absurd (omega arith)
 items_end_by one next goal xs s rest (suc k) g f e = sym (rw g at e) ∙ ap (λ ys. Ok (ys, rest)) (append_nil xs)
 
-pub items_end : {S A : Type 0} (one : S → Reader A) (next : S → A → S) (s₀ : S) (ts : List Token) (xs : List A) (s : S) (rest : List Token)
+pub items_end : {S A : Type 0} (one : S → Reader A) (next : S → A → S) (s₀ : S) (ts : List Token) (xs : List A) (s : S)
+    (rest : List Token)
     → ReadsItems one next s₀ ts xs s rest
     → ends_list (head_of rest) ≡ true
     → items one next (suc (length ts)) s₀ ts ≡ Ok (xs, rest)
-items_end one next s₀ ts xs s rest r g = items_end_by one next (items one next (suc (length ts)) s₀ ts) xs s rest r.fuel g r.enough r.same
+items_end one next s₀ ts xs s rest r g =
+    items_end_by one next (items one next (suc (length ts)) s₀ ts) xs s rest r.fuel g r.enough r.same
 
-items_fault : {S A : Type 0} (one : S → Reader A) (next : S → A → S) (goal : Read (List A)) (xs : List A) (s : S) (rest : List Token) (k : ℕ) (f : Fault)
+items_fault : {S A : Type 0} (one : S → Reader A) (next : S → A → S) (goal : Read (List A)) (xs : List A) (s : S)
+    (rest : List Token) (k : ℕ) (f : Fault)
     → ends_list (head_of rest) ≡ false
     → length rest < k
     → with_front xs (items one next k s rest) ≡ goal
@@ -80,18 +88,22 @@ unfolding items
 items_fault one next goal xs s rest zero f g l e a = absurd (omega arith)
 items_fault one next goal xs s rest (suc k) f g l e a = sym (rw (g, a) at e)
 
-pub items_fail : {S A : Type 0} (one : S → Reader A) (next : S → A → S) (s₀ : S) (ts : List Token) (xs : List A) (s : S) (rest : List Token) (e : ParseError)
+pub items_fail : {S A : Type 0} (one : S → Reader A) (next : S → A → S) (s₀ : S) (ts : List Token) (xs : List A) (s : S)
+    (rest : List Token) (e : ParseError)
     → ReadsItems one next s₀ ts xs s rest
     → ends_list (head_of rest) ≡ false
     → Fails e (one s rest)
     → Fails e (items one next (suc (length ts)) s₀ ts)
 items_fail one next s₀ ts xs s rest errors.Memory r g a = tt
-items_fail one next s₀ ts xs s rest (errors.TooDeep left) r g a = items_fault one next (items one next (suc (length ts)) s₀ ts) xs s rest r.fuel (deep left) g r.enough r.same a
-items_fail one next s₀ ts xs s rest (errors.Syntax left) r g a = items_fault one next (items one next (suc (length ts)) s₀ ts) xs s rest r.fuel (stuck left) g r.enough r.same a
+items_fail one next s₀ ts xs s rest (errors.TooDeep left) r g a =
+    items_fault one next (items one next (suc (length ts)) s₀ ts) xs s rest r.fuel (deep left) g r.enough r.same a
+items_fail one next s₀ ts xs s rest (errors.Syntax left) r g a =
+    items_fault one next (items one next (suc (length ts)) s₀ ts) xs s rest r.fuel (stuck left) g r.enough r.same a
 
 -- ---- further elements, each behind a comma
 
-pub record ReadsOthers {S A : Type 0} (one : S → Reader A) (next : S → A → S) (s₀ : S) (ts : List Token) (xs : List A) (s : S) (rest : List Token) : Type 0 where
+pub record ReadsOthers {S A : Type 0} (one : S → Reader A) (next : S → A → S) (s₀ : S) (ts : List Token) (xs : List A)
+    (s : S) (rest : List Token) : Type 0 where
   pub fuel : ℕ
   pub enough : length rest < fuel
   pub same : with_front xs (others one next fuel s rest) ≡ others one next (suc (length ts)) s₀ ts
@@ -111,7 +123,8 @@ pub behind_comma : (rest : List Token)
 behind_comma [] e = absurd cc
 behind_comma (x ∷ rest) e = refl
 
-other_more : {S A : Type 0} (one : S → Reader A) (next : S → A → S) (goal : Read (List A)) (xs : List A) (s : S) (rest : List Token) (x : A) (later : List Token) (k : ℕ)
+other_more : {S A : Type 0} (one : S → Reader A) (next : S → A → S) (goal : Read (List A)) (xs : List A) (s : S)
+    (rest : List Token) (x : A) (later : List Token) (k : ℕ)
     → is_kind kinds.Comma (head_of rest) ≡ true
     → length rest < k
     → with_front xs (others one next k s rest) ≡ goal
@@ -119,23 +132,27 @@ other_more : {S A : Type 0} (one : S → Reader A) (next : S → A → S) (goal 
     → (j : ℕ) × (suc j ≡ k) × (with_front (xs ++ x ∷ []) (others one next j (next s x) later) ≡ goal)
 unfolding others
 other_more one next goal xs s rest x later zero g f e a = absurd (omega arith)
-other_more one next goal xs s rest x later (suc k) g f e a = (k, refl, sym (regroup xs x (others one next k (next s x) later)) ∙ (rw (g, a) at e))
+other_more one next goal xs s rest x later (suc k) g f e a =
+    (k, refl, sym (regroup xs x (others one next k (next s x) later)) ∙ (rw (g, a) at e))
 
-pub others_go_on : {S A : Type 0} (one : S → Reader A) (next : S → A → S) (s₀ : S) (ts : List Token) (xs : List A) (s : S) (rest : List Token) (x : A) (later : List Token)
+pub others_go_on : {S A : Type 0} (one : S → Reader A) (next : S → A → S) (s₀ : S) (ts : List Token) (xs : List A)
+    (s : S) (rest : List Token) (x : A) (later : List Token)
     → ReadsOthers one next s₀ ts xs s rest
     → is_kind kinds.Comma (head_of rest) ≡ true
     → one s (tail_of rest) ≡ Ok (x, later)
     → length later ≤ length (tail_of rest)
     → ReadsOthers one next s₀ ts (xs ++ x ∷ []) (next s x) later
 others_go_on one next s₀ ts xs s rest x later r g a l =
-    let m = other_more one next (others one next (suc (length ts)) s₀ ts) xs s rest x later r.fuel g r.enough r.same a in
+    let m = other_more one next (others one next (suc (length ts)) s₀ ts)
+    xs s rest x later r.fuel g r.enough r.same a in
     record {
       fuel = m.0;
       enough = omega (arith, r.enough, m.1, behind_comma rest g);
       same = m.2;
     }
 
-others_end_by : {S A : Type 0} (one : S → Reader A) (next : S → A → S) (goal : Read (List A)) (xs : List A) (s : S) (rest : List Token) (k : ℕ)
+others_end_by : {S A : Type 0} (one : S → Reader A) (next : S → A → S) (goal : Read (List A)) (xs : List A) (s : S)
+    (rest : List Token) (k : ℕ)
     → is_kind kinds.Comma (head_of rest) ≡ false
     → length rest < k
     → with_front xs (others one next k s rest) ≡ goal
@@ -144,13 +161,16 @@ unfolding others
 others_end_by one next goal xs s rest zero g f e = absurd (omega arith)
 others_end_by one next goal xs s rest (suc k) g f e = sym (rw g at e) ∙ ap (λ ys. Ok (ys, rest)) (append_nil xs)
 
-pub others_end : {S A : Type 0} (one : S → Reader A) (next : S → A → S) (s₀ : S) (ts : List Token) (xs : List A) (s : S) (rest : List Token)
+pub others_end : {S A : Type 0} (one : S → Reader A) (next : S → A → S) (s₀ : S) (ts : List Token) (xs : List A) (s : S)
+    (rest : List Token)
     → ReadsOthers one next s₀ ts xs s rest
     → is_kind kinds.Comma (head_of rest) ≡ false
     → others one next (suc (length ts)) s₀ ts ≡ Ok (xs, rest)
-others_end one next s₀ ts xs s rest r g = others_end_by one next (others one next (suc (length ts)) s₀ ts) xs s rest r.fuel g r.enough r.same
+others_end one next s₀ ts xs s rest r g =
+    others_end_by one next (others one next (suc (length ts)) s₀ ts) xs s rest r.fuel g r.enough r.same
 
-others_fault : {S A : Type 0} (one : S → Reader A) (next : S → A → S) (goal : Read (List A)) (xs : List A) (s : S) (rest : List Token) (k : ℕ) (f : Fault)
+others_fault : {S A : Type 0} (one : S → Reader A) (next : S → A → S) (goal : Read (List A)) (xs : List A) (s : S)
+    (rest : List Token) (k : ℕ) (f : Fault)
     → is_kind kinds.Comma (head_of rest) ≡ true
     → length rest < k
     → with_front xs (others one next k s rest) ≡ goal
@@ -160,52 +180,70 @@ unfolding others
 others_fault one next goal xs s rest zero f g l e a = absurd (omega arith)
 others_fault one next goal xs s rest (suc k) f g l e a = sym (rw (g, a) at e)
 
-pub others_fail : {S A : Type 0} (one : S → Reader A) (next : S → A → S) (s₀ : S) (ts : List Token) (xs : List A) (s : S) (rest : List Token) (e : ParseError)
+pub others_fail : {S A : Type 0} (one : S → Reader A) (next : S → A → S) (s₀ : S) (ts : List Token) (xs : List A)
+    (s : S) (rest : List Token) (e : ParseError)
     → ReadsOthers one next s₀ ts xs s rest
     → is_kind kinds.Comma (head_of rest) ≡ true
     → Fails e (one s (tail_of rest))
     → Fails e (others one next (suc (length ts)) s₀ ts)
 others_fail one next s₀ ts xs s rest errors.Memory r g a = tt
-others_fail one next s₀ ts xs s rest (errors.TooDeep left) r g a = others_fault one next (others one next (suc (length ts)) s₀ ts) xs s rest r.fuel (deep left) g r.enough r.same a
-others_fail one next s₀ ts xs s rest (errors.Syntax left) r g a = others_fault one next (others one next (suc (length ts)) s₀ ts) xs s rest r.fuel (stuck left) g r.enough r.same a
+others_fail one next s₀ ts xs s rest (errors.TooDeep left) r g a =
+    others_fault one next (others one next (suc (length ts)) s₀ ts) xs s rest r.fuel (deep left) g r.enough r.same a
+others_fail one next s₀ ts xs s rest (errors.Syntax left) r g a =
+    others_fault one next (others one next (suc (length ts)) s₀ ts) xs s rest r.fuel (stuck left) g r.enough r.same a
 
 -- ---- elements up to a token
 
-pub record ReadsElements {S A : Type 0} (one : S → Reader A) (next : S → A → S) (closer : TokenKind) (s₀ : S) (ts : List Token) (xs : List A) (s : S) (rest : List Token) : Type 0 where
+pub record ReadsElements {S A : Type 0} (one : S → Reader A) (next : S → A → S) (closer : TokenKind) (s₀ : S)
+    (ts : List Token) (xs : List A) (s : S) (rest : List Token) : Type 0 where
   pub fuel : ℕ
   pub enough : length rest < fuel
   pub same : with_front xs (elements one next closer fuel s rest) ≡ elements one next closer (suc (length ts)) s₀ ts
 
 -- at the token that ends the list
-elements_end_by : {S A : Type 0} (one : S → Reader A) (next : S → A → S) (closer : TokenKind) (goal : Read (List A)) (xs : List A) (s : S) (rest : List Token) (k : ℕ)
+elements_end_by : {S A : Type 0} (one : S → Reader A) (next : S → A → S) (closer : TokenKind) (goal : Read (List A))
+    (xs : List A) (s : S) (rest : List Token) (k : ℕ)
     → is_kind closer (head_of rest) ≡ true
     → length rest < k
     → with_front xs (elements one next closer k s rest) ≡ goal
     → goal ≡ Ok (xs, tail_of rest)
 unfolding elements
 elements_end_by one next closer goal xs s rest zero g f e = absurd (omega arith)
-elements_end_by one next closer goal xs s rest (suc k) g f e = sym (rw g at e) ∙ ap (λ ys. Ok (ys, tail_of rest)) (append_nil xs)
+elements_end_by one next closer goal xs s rest (suc k) g f e =
+    sym (rw g at e) ∙ ap (λ ys. Ok (ys, tail_of rest)) (append_nil xs)
 
-pub elements_end : {S A : Type 0} (one : S → Reader A) (next : S → A → S) (closer : TokenKind) (s₀ : S) (ts : List Token) (xs : List A) (s : S) (rest : List Token)
+pub elements_end : {S A : Type 0} (one : S → Reader A) (next : S → A → S) (closer : TokenKind) (s₀ : S)
+    (ts : List Token) (xs : List A) (s : S) (rest : List Token)
     → ReadsElements one next closer s₀ ts xs s rest
     → is_kind closer (head_of rest) ≡ true
     → elements one next closer (suc (length ts)) s₀ ts ≡ Ok (xs, tail_of rest)
-elements_end one next closer s₀ ts xs s rest r g = elements_end_by one next closer (elements one next closer (suc (length ts)) s₀ ts) xs s rest r.fuel g r.enough r.same
+elements_end one next closer s₀ ts xs s rest r g =
+    elements_end_by one next closer (elements one next closer (suc (length ts)) s₀ ts)
+    xs s rest r.fuel g r.enough r.same
 
 -- behind one more element, by what comes there
-element_by : {S A : Type 0} (one : S → Reader A) (next : S → A → S) (closer : TokenKind) (goal : Read (List A)) (xs : List A) (s : S) (rest : List Token) (x : A) (later : List Token) (k : ℕ)
+element_by : {S A : Type 0} (one : S → Reader A) (next : S → A → S) (closer : TokenKind) (goal : Read (List A))
+    (xs : List A) (s : S) (rest : List Token) (x : A) (later : List Token) (k : ℕ)
     → is_kind closer (head_of rest) ≡ false
     → length rest < k
     → with_front xs (elements one next closer k s rest) ≡ goal
     → one s rest ≡ Ok (x, later)
     → (j : ℕ)
     × (suc j ≡ k)
-    × (with_front (xs ++ x ∷ []) (go_after (λ r. elements one next closer j (next s x) r) (after closer (head_of later)) later) ≡ goal)
+    × (with_front (xs ++ x ∷ [])
+    (go_after (λ r. elements one next closer j (next s x) r) (after closer (head_of later)) later) ≡ goal)
 unfolding elements
 element_by one next closer goal xs s rest x later zero g f e a = absurd (omega arith)
-element_by one next closer goal xs s rest x later (suc k) g f e a = (k, refl, sym (regroup xs x (go_after (λ r. elements one next closer k (next s x) r) (after closer (head_of later)) later)) ∙ (rw (g, a) at e))
+element_by one next closer goal xs s rest x later (suc k) g f e a = (
+  k,
+  refl,
+  sym (regroup xs x
+      (go_after (λ r. elements one next closer k (next s x) r) (after closer (head_of later)) later))
+      ∙ (rw (g, a) at e),
+)
 
-pub elements_go_on : {S A : Type 0} (one : S → Reader A) (next : S → A → S) (closer : TokenKind) (s₀ : S) (ts : List Token) (xs : List A) (s : S) (rest : List Token) (x : A) (later : List Token)
+pub elements_go_on : {S A : Type 0} (one : S → Reader A) (next : S → A → S) (closer : TokenKind) (s₀ : S)
+    (ts : List Token) (xs : List A) (s : S) (rest : List Token) (x : A) (later : List Token)
     → ReadsElements one next closer s₀ ts xs s rest
     → is_kind closer (head_of rest) ≡ false
     → one s rest ≡ Ok (x, later)
@@ -213,34 +251,40 @@ pub elements_go_on : {S A : Type 0} (one : S → Reader A) (next : S → A → S
     → length (tail_of later) < length rest
     → ReadsElements one next closer s₀ ts (xs ++ x ∷ []) (next s x) (tail_of later)
 elements_go_on one next closer s₀ ts xs s rest x later r g a h l =
-    let m = element_by one next closer (elements one next closer (suc (length ts)) s₀ ts) xs s rest x later r.fuel g r.enough r.same a in
+    let m = element_by one next closer (elements one next closer (suc (length ts)) s₀ ts)
+    xs s rest x later r.fuel g r.enough r.same a in
     record {
       fuel = m.0;
       enough = omega (arith, r.enough, m.1);
       same = rw h at m.2;
     }
 
-pub elements_end_after : {S A : Type 0} (one : S → Reader A) (next : S → A → S) (closer : TokenKind) (s₀ : S) (ts : List Token) (xs : List A) (s : S) (rest : List Token) (x : A) (later : List Token)
+pub elements_end_after : {S A : Type 0} (one : S → Reader A) (next : S → A → S) (closer : TokenKind) (s₀ : S)
+    (ts : List Token) (xs : List A) (s : S) (rest : List Token) (x : A) (later : List Token)
     → ReadsElements one next closer s₀ ts xs s rest
     → is_kind closer (head_of rest) ≡ false
     → one s rest ≡ Ok (x, later)
     → after closer (head_of later) ≡ ends
     → elements one next closer (suc (length ts)) s₀ ts ≡ Ok (xs ++ x ∷ [], tail_of later)
 elements_end_after one next closer s₀ ts xs s rest x later r g a h =
-    let m = element_by one next closer (elements one next closer (suc (length ts)) s₀ ts) xs s rest x later r.fuel g r.enough r.same a in
+    let m = element_by one next closer (elements one next closer (suc (length ts)) s₀ ts)
+    xs s rest x later r.fuel g r.enough r.same a in
     sym (rw h at m.2) ∙ ap (λ ys. Ok (ys, tail_of later)) (append_nil (xs ++ x ∷ []))
 
-pub elements_stop : {S A : Type 0} (one : S → Reader A) (next : S → A → S) (closer : TokenKind) (s₀ : S) (ts : List Token) (xs : List A) (s : S) (rest : List Token) (x : A) (later : List Token)
+pub elements_stop : {S A : Type 0} (one : S → Reader A) (next : S → A → S) (closer : TokenKind) (s₀ : S)
+    (ts : List Token) (xs : List A) (s : S) (rest : List Token) (x : A) (later : List Token)
     → ReadsElements one next closer s₀ ts xs s rest
     → is_kind closer (head_of rest) ≡ false
     → one s rest ≡ Ok (x, later)
     → after closer (head_of later) ≡ neither
     → elements one next closer (suc (length ts)) s₀ ts ≡ Err (stuck (length later))
 elements_stop one next closer s₀ ts xs s rest x later r g a h =
-    let m = element_by one next closer (elements one next closer (suc (length ts)) s₀ ts) xs s rest x later r.fuel g r.enough r.same a in
+    let m = element_by one next closer (elements one next closer (suc (length ts)) s₀ ts)
+    xs s rest x later r.fuel g r.enough r.same a in
     sym (rw h at m.2)
 
-elements_fault : {S A : Type 0} (one : S → Reader A) (next : S → A → S) (closer : TokenKind) (goal : Read (List A)) (xs : List A) (s : S) (rest : List Token) (k : ℕ) (f : Fault)
+elements_fault : {S A : Type 0} (one : S → Reader A) (next : S → A → S) (closer : TokenKind) (goal : Read (List A))
+    (xs : List A) (s : S) (rest : List Token) (k : ℕ) (f : Fault)
     → is_kind closer (head_of rest) ≡ false
     → length rest < k
     → with_front xs (elements one next closer k s rest) ≡ goal
@@ -250,11 +294,16 @@ unfolding elements
 elements_fault one next closer goal xs s rest zero f g l e a = absurd (omega arith)
 elements_fault one next closer goal xs s rest (suc k) f g l e a = sym (rw (g, a) at e)
 
-pub elements_fail : {S A : Type 0} (one : S → Reader A) (next : S → A → S) (closer : TokenKind) (s₀ : S) (ts : List Token) (xs : List A) (s : S) (rest : List Token) (e : ParseError)
+pub elements_fail : {S A : Type 0} (one : S → Reader A) (next : S → A → S) (closer : TokenKind) (s₀ : S)
+    (ts : List Token) (xs : List A) (s : S) (rest : List Token) (e : ParseError)
     → ReadsElements one next closer s₀ ts xs s rest
     → is_kind closer (head_of rest) ≡ false
     → Fails e (one s rest)
     → Fails e (elements one next closer (suc (length ts)) s₀ ts)
 elements_fail one next closer s₀ ts xs s rest errors.Memory r g a = tt
-elements_fail one next closer s₀ ts xs s rest (errors.TooDeep left) r g a = elements_fault one next closer (elements one next closer (suc (length ts)) s₀ ts) xs s rest r.fuel (deep left) g r.enough r.same a
-elements_fail one next closer s₀ ts xs s rest (errors.Syntax left) r g a = elements_fault one next closer (elements one next closer (suc (length ts)) s₀ ts) xs s rest r.fuel (stuck left) g r.enough r.same a
+elements_fail one next closer s₀ ts xs s rest (errors.TooDeep left) r g a =
+    elements_fault one next closer (elements one next closer (suc (length ts)) s₀ ts) xs s rest r.fuel (deep left)
+    g r.enough r.same a
+elements_fail one next closer s₀ ts xs s rest (errors.Syntax left) r g a =
+    elements_fault one next closer (elements one next closer (suc (length ts)) s₀ ts) xs s rest r.fuel (stuck left)
+    g r.enough r.same a

@@ -30,7 +30,8 @@ tail_shorter (t ∷ ts) = omega arith
 
 -- ---- elements up to the token that ends them
 
-pub record Elements {S A : Type 0} (one : S → Reader A) (next : S → A → S) (closer : TokenKind) (all : Read (List A)) (front : List A) (s : S) (rest : List Token) : Type 0 where
+pub record Elements {S A : Type 0} (one : S → Reader A) (next : S → A → S) (closer : TokenKind) (all : Read (List A))
+    (front : List A) (s : S) (rest : List Token) : Type 0 where
   pub fuel : ℕ
   pub enough : length rest < fuel
   pub same : with_front front (elements one next closer fuel s rest) ≡ all
@@ -39,7 +40,8 @@ pub with_nothing : {A : Type 0} (read : Read (List A)) → with_front [] read �
 with_nothing (Ok x) = refl
 with_nothing (Err f) = refl
 
-pub elements_begin : {S A : Type 0} (one : S → Reader A) (next : S → A → S) (closer : TokenKind) (s : S) (ts : List Token)
+pub elements_begin : {S A : Type 0} (one : S → Reader A) (next : S → A → S) (closer : TokenKind) (s : S)
+    (ts : List Token)
     → Elements one next closer (elements one next closer (suc (length ts)) s ts) [] s ts
 elements_begin one next closer s ts = record {
   fuel = suc (length ts);
@@ -47,22 +49,26 @@ elements_begin one next closer s ts = record {
   same = with_nothing (elements one next closer (suc (length ts)) s ts);
 }
 
-none_left : {S A : Type 0} (one : S → Reader A) (next : S → A → S) (closer : TokenKind) (all : Read (List A)) (front : List A) (s : S) (rest : List Token) (k : ℕ)
+none_left : {S A : Type 0} (one : S → Reader A) (next : S → A → S) (closer : TokenKind) (all : Read (List A))
+    (front : List A) (s : S) (rest : List Token) (k : ℕ)
     → length rest < k
     → with_front front (elements one next closer k s rest) ≡ all
     → is_kind closer (head_of rest) ≡ true
     → all ≡ Ok (front, tail_of rest)
 unfolding elements
 none_left one next closer all front s rest zero l e c = absurd (omega arith)
-none_left one next closer all front s rest (suc k) l e c = sym (rw c at e) ∙ ap (λ xs. Ok (xs, tail_of rest)) (append_nil front)
+none_left one next closer all front s rest (suc k) l e c =
+    sym (rw c at e) ∙ ap (λ xs. Ok (xs, tail_of rest)) (append_nil front)
 
-pub elements_none : {S A : Type 0} (one : S → Reader A) (next : S → A → S) (closer : TokenKind) (all : Read (List A)) (front : List A) (s : S) (rest : List Token)
+pub elements_none : {S A : Type 0} (one : S → Reader A) (next : S → A → S) (closer : TokenKind) (all : Read (List A))
+    (front : List A) (s : S) (rest : List Token)
     → Elements one next closer all front s rest
     → is_kind closer (head_of rest) ≡ true
     → all ≡ Ok (front, tail_of rest)
 elements_none one next closer all front s rest r c = none_left one next closer all front s rest r.fuel r.enough r.same c
 
-one_fails : {S A : Type 0} (one : S → Reader A) (next : S → A → S) (closer : TokenKind) (all : Read (List A)) (front : List A) (s : S) (rest : List Token) (k : ℕ) (f : Fault)
+one_fails : {S A : Type 0} (one : S → Reader A) (next : S → A → S) (closer : TokenKind) (all : Read (List A))
+    (front : List A) (s : S) (rest : List Token) (k : ℕ) (f : Fault)
     → length rest < k
     → with_front front (elements one next closer k s rest) ≡ all
     → is_kind closer (head_of rest) ≡ false
@@ -72,16 +78,20 @@ unfolding elements
 one_fails one next closer all front s rest zero f l e c o = absurd (omega arith)
 one_fails one next closer all front s rest (suc k) f l e c o = sym (rw (c, o) at e)
 
-pub elements_fail : {S A : Type 0} (one : S → Reader A) (next : S → A → S) (closer : TokenKind) (all : Read (List A)) (front : List A) (s : S) (rest : List Token) (fault : ParseError)
+pub elements_fail : {S A : Type 0} (one : S → Reader A) (next : S → A → S) (closer : TokenKind) (all : Read (List A))
+    (front : List A) (s : S) (rest : List Token) (fault : ParseError)
     → Elements one next closer all front s rest
     → is_kind closer (head_of rest) ≡ false
     → Fails fault (one s rest)
     → Fails fault all
 elements_fail one next closer all front s rest errors.Memory r c o = tt
-elements_fail one next closer all front s rest (errors.TooDeep left) r c o = one_fails one next closer all front s rest r.fuel (deep left) r.enough r.same c o
-elements_fail one next closer all front s rest (errors.Syntax left) r c o = one_fails one next closer all front s rest r.fuel (stuck left) r.enough r.same c o
+elements_fail one next closer all front s rest (errors.TooDeep left) r c o =
+    one_fails one next closer all front s rest r.fuel (deep left) r.enough r.same c o
+elements_fail one next closer all front s rest (errors.Syntax left) r c o =
+    one_fails one next closer all front s rest r.fuel (stuck left) r.enough r.same c o
 
-one_more : {S A : Type 0} (one : S → Reader A) (next : S → A → S) (closer : TokenKind) (all : Read (List A)) (front : List A) (s : S) (rest : List Token) (k : ℕ) (x : A) (later : List Token) (a : After)
+one_more : {S A : Type 0} (one : S → Reader A) (next : S → A → S) (closer : TokenKind) (all : Read (List A))
+    (front : List A) (s : S) (rest : List Token) (k : ℕ) (x : A) (later : List Token) (a : After)
     → length rest < k
     → with_front front (elements one next closer k s rest) ≡ all
     → is_kind closer (head_of rest) ≡ false
@@ -93,9 +103,11 @@ one_more : {S A : Type 0} (one : S → Reader A) (next : S → A → S) (closer 
     × (with_front (front ++ (x ∷ [])) (elements one next closer j (next s x) (tail_of later)) ≡ all)
 unfolding elements
 one_more one next closer all front s rest zero x later a l e c o is g = absurd (omega arith)
-one_more one next closer all front s rest (suc k) x later a l e c o is g = (k, refl, sym (regroup front x (elements one next closer k (next s x) (tail_of later))) ∙ (rw (c, o, is, g) at e))
+one_more one next closer all front s rest (suc k) x later a l e c o is g =
+    (k, refl, sym (regroup front x (elements one next closer k (next s x) (tail_of later))) ∙ (rw (c, o, is, g) at e))
 
-pub elements_more : {S A : Type 0} (one : S → Reader A) (next : S → A → S) (closer : TokenKind) (all : Read (List A)) (front : List A) (s : S) (rest : List Token) (x : A) (later : List Token)
+pub elements_more : {S A : Type 0} (one : S → Reader A) (next : S → A → S) (closer : TokenKind) (all : Read (List A))
+    (front : List A) (s : S) (rest : List Token) (x : A) (later : List Token)
     → length later < length rest
     → Elements one next closer all front s rest
     → is_kind closer (head_of rest) ≡ false
@@ -103,14 +115,16 @@ pub elements_more : {S A : Type 0} (one : S → Reader A) (next : S → A → S)
     → after closer (head_of later) ≡ goes_on
     → Elements one next closer all (front ++ (x ∷ [])) (next s x) (tail_of later)
 elements_more one next closer all front s rest x later h r c o g =
-    let m = one_more one next closer all front s rest r.fuel x later (after closer (head_of later)) r.enough r.same c o refl g in
+    let m = one_more one next closer all front s rest r.fuel x later (after closer (head_of later))
+    r.enough r.same c o refl g in
     record {
       fuel = m.0;
       enough = omega (arith, tail_shorter later, r.enough, m.1);
       same = m.2;
     }
 
-last_one : {S A : Type 0} (one : S → Reader A) (next : S → A → S) (closer : TokenKind) (all : Read (List A)) (front : List A) (s : S) (rest : List Token) (k : ℕ) (x : A) (later : List Token)
+last_one : {S A : Type 0} (one : S → Reader A) (next : S → A → S) (closer : TokenKind) (all : Read (List A))
+    (front : List A) (s : S) (rest : List Token) (k : ℕ) (x : A) (later : List Token)
     → length rest < k
     → with_front front (elements one next closer k s rest) ≡ all
     → is_kind closer (head_of rest) ≡ false
@@ -121,15 +135,18 @@ unfolding elements
 last_one one next closer all front s rest zero x later l e c o g = absurd (omega arith)
 last_one one next closer all front s rest (suc k) x later l e c o g = sym (rw (c, o, g) at e)
 
-pub elements_end : {S A : Type 0} (one : S → Reader A) (next : S → A → S) (closer : TokenKind) (all : Read (List A)) (front : List A) (s : S) (rest : List Token) (x : A) (later : List Token)
+pub elements_end : {S A : Type 0} (one : S → Reader A) (next : S → A → S) (closer : TokenKind) (all : Read (List A))
+    (front : List A) (s : S) (rest : List Token) (x : A) (later : List Token)
     → Elements one next closer all front s rest
     → is_kind closer (head_of rest) ≡ false
     → one s rest ≡ Ok (x, later)
     → after closer (head_of later) ≡ ends
     → all ≡ Ok (front ++ (x ∷ []), tail_of later)
-elements_end one next closer all front s rest x later r c o g = last_one one next closer all front s rest r.fuel x later r.enough r.same c o g
+elements_end one next closer all front s rest x later r c o g =
+    last_one one next closer all front s rest r.fuel x later r.enough r.same c o g
 
-stops : {S A : Type 0} (one : S → Reader A) (next : S → A → S) (closer : TokenKind) (all : Read (List A)) (front : List A) (s : S) (rest : List Token) (k : ℕ) (x : A) (later : List Token)
+stops : {S A : Type 0} (one : S → Reader A) (next : S → A → S) (closer : TokenKind) (all : Read (List A))
+    (front : List A) (s : S) (rest : List Token) (k : ℕ) (x : A) (later : List Token)
     → length rest < k
     → with_front front (elements one next closer k s rest) ≡ all
     → is_kind closer (head_of rest) ≡ false
@@ -140,17 +157,20 @@ unfolding elements
 stops one next closer all front s rest zero x later l e c o g = absurd (omega arith)
 stops one next closer all front s rest (suc k) x later l e c o g = sym (rw (c, o, g) at e)
 
-pub elements_stop : {S A : Type 0} (one : S → Reader A) (next : S → A → S) (closer : TokenKind) (all : Read (List A)) (front : List A) (s : S) (rest : List Token) (x : A) (later : List Token)
+pub elements_stop : {S A : Type 0} (one : S → Reader A) (next : S → A → S) (closer : TokenKind) (all : Read (List A))
+    (front : List A) (s : S) (rest : List Token) (x : A) (later : List Token)
     → Elements one next closer all front s rest
     → is_kind closer (head_of rest) ≡ false
     → one s rest ≡ Ok (x, later)
     → after closer (head_of later) ≡ neither
     → all ≡ Err (stuck (length later))
-elements_stop one next closer all front s rest x later r c o g = stops one next closer all front s rest r.fuel x later r.enough r.same c o g
+elements_stop one next closer all front s rest x later r c o g =
+    stops one next closer all front s rest r.fuel x later r.enough r.same c o g
 
 -- ---- further elements, each behind a comma
 
-pub record Others {S A : Type 0} (one : S → Reader A) (next : S → A → S) (all : Read (List A)) (front : List A) (s : S) (rest : List Token) : Type 0 where
+pub record Others {S A : Type 0} (one : S → Reader A) (next : S → A → S) (all : Read (List A)) (front : List A) (s : S)
+    (rest : List Token) : Type 0 where
   pub fuel : ℕ
   pub enough : length rest < fuel
   pub same : with_front front (others one next fuel s rest) ≡ all
@@ -163,7 +183,8 @@ others_begin one next s ts = record {
   same = with_nothing (others one next (suc (length ts)) s ts);
 }
 
-no_other : {S A : Type 0} (one : S → Reader A) (next : S → A → S) (all : Read (List A)) (front : List A) (s : S) (rest : List Token) (k : ℕ)
+no_other : {S A : Type 0} (one : S → Reader A) (next : S → A → S) (all : Read (List A)) (front : List A) (s : S)
+    (rest : List Token) (k : ℕ)
     → length rest < k
     → with_front front (others one next k s rest) ≡ all
     → is_kind kinds.Comma (head_of rest) ≡ false
@@ -172,13 +193,15 @@ unfolding others
 no_other one next all front s rest zero l e c = absurd (omega arith)
 no_other one next all front s rest (suc k) l e c = sym (rw c at e) ∙ ap (λ xs. Ok (xs, rest)) (append_nil front)
 
-pub others_none : {S A : Type 0} (one : S → Reader A) (next : S → A → S) (all : Read (List A)) (front : List A) (s : S) (rest : List Token)
+pub others_none : {S A : Type 0} (one : S → Reader A) (next : S → A → S) (all : Read (List A)) (front : List A) (s : S)
+    (rest : List Token)
     → Others one next all front s rest
     → is_kind kinds.Comma (head_of rest) ≡ false
     → all ≡ Ok (front, rest)
 others_none one next all front s rest r c = no_other one next all front s rest r.fuel r.enough r.same c
 
-other_fails : {S A : Type 0} (one : S → Reader A) (next : S → A → S) (all : Read (List A)) (front : List A) (s : S) (rest : List Token) (k : ℕ) (f : Fault)
+other_fails : {S A : Type 0} (one : S → Reader A) (next : S → A → S) (all : Read (List A)) (front : List A) (s : S)
+    (rest : List Token) (k : ℕ) (f : Fault)
     → length rest < k
     → with_front front (others one next k s rest) ≡ all
     → is_kind kinds.Comma (head_of rest) ≡ true
@@ -188,16 +211,20 @@ unfolding others
 other_fails one next all front s rest zero f l e c o = absurd (omega arith)
 other_fails one next all front s rest (suc k) f l e c o = sym (rw (c, o) at e)
 
-pub others_fail : {S A : Type 0} (one : S → Reader A) (next : S → A → S) (all : Read (List A)) (front : List A) (s : S) (rest : List Token) (fault : ParseError)
+pub others_fail : {S A : Type 0} (one : S → Reader A) (next : S → A → S) (all : Read (List A)) (front : List A) (s : S)
+    (rest : List Token) (fault : ParseError)
     → Others one next all front s rest
     → is_kind kinds.Comma (head_of rest) ≡ true
     → Fails fault (one s (tail_of rest))
     → Fails fault all
 others_fail one next all front s rest errors.Memory r c o = tt
-others_fail one next all front s rest (errors.TooDeep left) r c o = other_fails one next all front s rest r.fuel (deep left) r.enough r.same c o
-others_fail one next all front s rest (errors.Syntax left) r c o = other_fails one next all front s rest r.fuel (stuck left) r.enough r.same c o
+others_fail one next all front s rest (errors.TooDeep left) r c o =
+    other_fails one next all front s rest r.fuel (deep left) r.enough r.same c o
+others_fail one next all front s rest (errors.Syntax left) r c o =
+    other_fails one next all front s rest r.fuel (stuck left) r.enough r.same c o
 
-one_other : {S A : Type 0} (one : S → Reader A) (next : S → A → S) (all : Read (List A)) (front : List A) (s : S) (rest : List Token) (k : ℕ) (x : A) (later : List Token)
+one_other : {S A : Type 0} (one : S → Reader A) (next : S → A → S) (all : Read (List A)) (front : List A) (s : S)
+    (rest : List Token) (k : ℕ) (x : A) (later : List Token)
     → length rest < k
     → with_front front (others one next k s rest) ≡ all
     → is_kind kinds.Comma (head_of rest) ≡ true
@@ -205,9 +232,11 @@ one_other : {S A : Type 0} (one : S → Reader A) (next : S → A → S) (all : 
     → (j : ℕ) × (suc j ≡ k) × (with_front (front ++ (x ∷ [])) (others one next j (next s x) later) ≡ all)
 unfolding others
 one_other one next all front s rest zero x later l e c o = absurd (omega arith)
-one_other one next all front s rest (suc k) x later l e c o = (k, refl, sym (regroup front x (others one next k (next s x) later)) ∙ (rw (c, o) at e))
+one_other one next all front s rest (suc k) x later l e c o =
+    (k, refl, sym (regroup front x (others one next k (next s x) later)) ∙ (rw (c, o) at e))
 
-pub others_more : {S A : Type 0} (one : S → Reader A) (next : S → A → S) (all : Read (List A)) (front : List A) (s : S) (rest : List Token) (x : A) (later : List Token)
+pub others_more : {S A : Type 0} (one : S → Reader A) (next : S → A → S) (all : Read (List A)) (front : List A) (s : S)
+    (rest : List Token) (x : A) (later : List Token)
     → length later < length (tail_of rest)
     → Others one next all front s rest
     → is_kind kinds.Comma (head_of rest) ≡ true
@@ -235,7 +264,14 @@ pub less_by_view : (rest later after : List lexer.Token)
     → tokens_view after ≡ tail_of (tokens_view later)
     → length (tokens_view later) < length (tokens_view rest)
     → length after < length rest
-less_by_view rest later after e l = omega (arith, tail_shorter (tokens_view later), length_view rest, length_view after, ap (λ (ts : List Token). length ts) e)
+less_by_view rest later after e l =
+    omega (
+      arith,
+      tail_shorter (tokens_view later),
+      length_view rest,
+      length_view after,
+      ap (λ (ts : List Token). length ts) e,
+    )
 
 pub less_in_view : (rest later : List lexer.Token)
     → length (tokens_view later) < length (tokens_view rest)

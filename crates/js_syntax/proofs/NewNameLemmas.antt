@@ -25,7 +25,9 @@ pub fresh_fails : (taken : List Identifier) (ts : List Token) (f : Fault)
     → name_at ts ≡ Err f
     → fresh_name taken ts ≡ Err f
 unfolding name_at fresh_name
-fresh_fails taken ts f e = fails_by (is_among taken (text_of (head_of ts))) (is_kind kinds.Name (head_of ts)) (text_of (head_of ts), tail_of ts) (stuck (length ts)) f e
+fresh_fails taken ts f e =
+    fails_by (is_among taken (text_of (head_of ts))) (is_kind kinds.Name (head_of ts))
+    (text_of (head_of ts), tail_of ts) (stuck (length ts)) f e
 
 text_by : (k : Bool) (x y : Identifier × List Token) (d : Fault) → cond k (got x) (faulty d) ≡ got y → x.0 ≡ y.0
 text_by true x y d e = let p : x ≡ y = cc in ap (λ z. z.0) p
@@ -33,7 +35,8 @@ text_by false x y d e = absurd cc
 
 name_text : (ts : List Token) (n : Identifier) (r : List Token) → name_at ts ≡ Ok (n, r) → text_of (head_of ts) ≡ n
 unfolding name_at
-name_text ts n r e = text_by (is_kind kinds.Name (head_of ts)) (text_of (head_of ts), tail_of ts) (n, r) (stuck (length ts)) e
+name_text ts n r e =
+    text_by (is_kind kinds.Name (head_of ts)) (text_of (head_of ts), tail_of ts) (n, r) (stuck (length ts)) e
 
 -- a name that isn't taken
 pub fresh_found : (taken : List Identifier) (ts : List Token) (n : Identifier) (r : List Token)

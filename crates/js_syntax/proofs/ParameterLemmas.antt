@@ -22,7 +22,8 @@ pub parameters_shorten : (names : List Identifier) (rest : List Token) (n : Iden
     → length (tail_of later) < length rest
 parameters_shorten names rest n later e = omega (arith, fresh_shorter names rest n later e, tail_shorter later)
 
-pub parameters_go_on : (ts : List Token) (xs names : List Identifier) (rest : List Token) (n : Identifier) (later : List Token)
+pub parameters_go_on : (ts : List Token) (xs names : List Identifier) (rest : List Token) (n : Identifier)
+    (later : List Token)
     → ReadsParameters ts xs names rest
     → is_kind kinds.RightParenthesis (head_of rest) ≡ false
     → fresh_name names rest ≡ Ok (n, later)
@@ -30,21 +31,27 @@ pub parameters_go_on : (ts : List Token) (xs names : List Identifier) (rest : Li
     → ReadsParameters ts (xs ++ n ∷ []) (n ∷ names) (tail_of later)
 parameters_go_on ts xs names rest n later r g e h = record {
   taken = rw (with_names_push [] xs n) (ap (λ (ns : List Identifier). n ∷ ns) r.taken);
-  reads = elements_go_on fresh_name with_name kinds.RightParenthesis [] ts xs names rest n later r.reads g e h (parameters_shorten names rest n later e);
+  reads =
+      elements_go_on fresh_name with_name kinds.RightParenthesis [] ts xs names rest n later r.reads g e h
+      (parameters_shorten names rest n later e);
 }
 
-pub parameters_end_after : (ts : List Token) (xs names : List Identifier) (rest : List Token) (n : Identifier) (later : List Token)
+pub parameters_end_after : (ts : List Token) (xs names : List Identifier) (rest : List Token) (n : Identifier)
+    (later : List Token)
     → ReadsParameters ts xs names rest
     → is_kind kinds.RightParenthesis (head_of rest) ≡ false
     → fresh_name names rest ≡ Ok (n, later)
     → after kinds.RightParenthesis (head_of later) ≡ ends
     → (elements fresh_name with_name kinds.RightParenthesis (suc (length ts)) [] ts ≡ Ok (xs ++ n ∷ [], tail_of later))
     × (n ∷ names ≡ with_names [] (xs ++ n ∷ []))
-parameters_end_after ts xs names rest n later r g e h =
-    (elements_end_after fresh_name with_name kinds.RightParenthesis [] ts xs names rest n later r.reads g e h, rw (with_names_push [] xs n) (ap (λ (ns : List Identifier). n ∷ ns) r.taken))
+parameters_end_after ts xs names rest n later r g e h = (
+  elements_end_after fresh_name with_name kinds.RightParenthesis [] ts xs names rest n later r.reads g e h,
+  rw (with_names_push [] xs n) (ap (λ (ns : List Identifier). n ∷ ns) r.taken),
+)
 
 pub less_by_view : (rest later new : List lexer.Token)
     → tokens_view new ≡ tail_of (tokens_view later)
     → length (tail_of (tokens_view later)) < length (tokens_view rest)
     → length new < length rest
-less_by_view rest later new e l = omega (arith, length_view rest, length_view new, ap (λ (ts : List Token). length ts) e)
+less_by_view rest later new e l =
+    omega (arith, length_view rest, length_view new, ap (λ (ts : List Token). length ts) e)

@@ -47,8 +47,10 @@ runs : (spans : List Span) (ps qs : List Place) (before : ℕ) (ts mid left : Li
 runs spans [] qs before ts mid left p q = rw p (q before)
 runs spans (opens n ∷ ps) qs before ts mid left p q = (p.0, runs spans ps qs before ts mid left p.1 q)
 runs spans (closes n ∷ ps) qs before ts mid left p q = (p.0, runs spans ps qs before ts mid left p.1 q)
-runs spans (stands s ∷ ps) qs before ts mid left p q = (p.0, runs spans ps qs (end_of (head_of ts)) (tail_of ts) mid left p.1 q)
-runs spans (stands_maybe k ∷ ps) qs before ts mid left (inl p) q = inl (p.0, runs spans ps qs (end_of (head_of ts)) (tail_of ts) mid left p.1 q)
+runs spans (stands s ∷ ps) qs before ts mid left p q =
+    (p.0, runs spans ps qs (end_of (head_of ts)) (tail_of ts) mid left p.1 q)
+runs spans (stands_maybe k ∷ ps) qs before ts mid left (inl p) q =
+    inl (p.0, runs spans ps qs (end_of (head_of ts)) (tail_of ts) mid left p.1 q)
 runs spans (stands_maybe k ∷ ps) qs before ts mid left (inr p) q = inr (p.0, runs spans ps qs before ts mid left p.1 q)
 
 -- where the last of the tokens used ends
@@ -64,9 +66,11 @@ used spans [] before ts left p = ([], p)
 used spans (opens n ∷ ps) before ts left p = used spans ps before ts left p.1
 used spans (closes n ∷ ps) before ts left p = used spans ps before ts left p.1
 used spans (stands s ∷ ps) before [] left p = absurd p.0
-used spans (stands s ∷ ps) before (t ∷ ts) left p = let u = used spans ps t.end ts left p.1 in (t ∷ u.0, ap (λ us. t ∷ us) u.1)
+used spans (stands s ∷ ps) before (t ∷ ts) left p =
+    let u = used spans ps t.end ts left p.1 in (t ∷ u.0, ap (λ us. t ∷ us) u.1)
 used spans (stands_maybe k ∷ ps) before [] left (inl p) = absurd p.0
-used spans (stands_maybe k ∷ ps) before (t ∷ ts) left (inl p) = let u = used spans ps t.end ts left p.1 in (t ∷ u.0, ap (λ us. t ∷ us) u.1)
+used spans (stands_maybe k ∷ ps) before (t ∷ ts) left (inl p) =
+    let u = used spans ps t.end ts left p.1 in (t ∷ u.0, ap (λ us. t ∷ us) u.1)
 used spans (stands_maybe k ∷ ps) before ts left (inr p) = used spans ps before ts left p.1
 
 -- the end of a node that closes where a run of places ends
@@ -78,10 +82,13 @@ closed_run spans n [] before ts left p e = (e [] p, p)
 closed_run spans n (opens m ∷ ps) before ts left p e = (p.0, closed_run spans n ps before ts left p.1 e)
 closed_run spans n (closes m ∷ ps) before ts left p e = (p.0, closed_run spans n ps before ts left p.1 e)
 closed_run spans n (stands s ∷ ps) before [] left p e = absurd p.0
-closed_run spans n (stands s ∷ ps) before (t ∷ ts) left p e = (p.0, closed_run spans n ps t.end ts left p.1 (λ us h. e (t ∷ us) (ap (λ us. t ∷ us) h)))
+closed_run spans n (stands s ∷ ps) before (t ∷ ts) left p e =
+    (p.0, closed_run spans n ps t.end ts left p.1 (λ us h. e (t ∷ us) (ap (λ us. t ∷ us) h)))
 closed_run spans n (stands_maybe k ∷ ps) before [] left (inl p) e = absurd p.0
-closed_run spans n (stands_maybe k ∷ ps) before (t ∷ ts) left (inl p) e = inl (p.0, closed_run spans n ps t.end ts left p.1 (λ us h. e (t ∷ us) (ap (λ us. t ∷ us) h)))
-closed_run spans n (stands_maybe k ∷ ps) before ts left (inr p) e = inr (p.0, closed_run spans n ps before ts left p.1 e)
+closed_run spans n (stands_maybe k ∷ ps) before (t ∷ ts) left (inl p) e =
+    inl (p.0, closed_run spans n ps t.end ts left p.1 (λ us h. e (t ∷ us) (ap (λ us. t ∷ us) h)))
+closed_run spans n (stands_maybe k ∷ ps) before ts left (inr p) e =
+    inr (p.0, closed_run spans n ps before ts left p.1 e)
 
 last_at : (before : ℕ) (u : Token) (us left : List Token)
     → end_of (slice_get (u ∷ (us ++ left)) (length us)) ≡ last_end before (u ∷ us)
@@ -144,7 +151,8 @@ one_forward old s e h f = rw e (All-push IsForward old s h f)
 
 -- nothing
 nothing_stands : {spans : List Span} {ts : List Token} → InPlace false spans spans [] ts ts
-nothing_stands {spans} {ts} = record { grew = same_spans spans; fewer = λ h. absurd cc; exact = λ later g before. refl; numbers = refl }
+nothing_stands {spans} {ts} =
+    record { grew = same_spans spans; fewer = λ h. absurd cc; exact = λ later g before. refl; numbers = refl }
 
 pub nothing : {spans : List Span} {ts : List Token} → Placed false spans spans [] ts ts
 nothing {spans} {ts} = record { stands = nothing_stands; forward = λ i h. h }
@@ -183,7 +191,9 @@ then_stands : {a b : Bool} {old mid new : List Span} {ps qs : List Place} {ts re
 then_stands {a} {b} {old} {mid} {new} {ps} {qs} {ts} {rest} {left} p q = record {
   grew = goes_on p.grew q.grew;
   fewer = either_some a b (length left) (length rest) (length ts) p.fewer q.fewer (no_longer p) (no_longer q);
-  exact = λ spans g before. runs spans ps qs before ts rest left (p.exact spans (goes_on q.grew g) before) (λ before. q.exact spans g before);
+  exact =
+      λ spans g before. runs spans ps qs before ts rest left (p.exact spans (goes_on q.grew g) before)
+      (λ before. q.exact spans g before);
   numbers = numbered_runs (length old) (length mid) (length new) ps qs p.numbers q.numbers;
 }
 
@@ -191,10 +201,16 @@ pub then : {a b : Bool} {old mid new : List Span} {ps qs : List Place} {ts rest 
     → Placed a old mid ps ts rest
     → Placed b mid new qs rest left
     → Placed (a || b) old new (ps ++ qs) ts left
-then p q = record { stands = then_stands p.stands q.stands; forward = λ i h. q.forward (left_in_order p.stands i) (p.forward i h) }
+then p q =
+    record {
+      stands = then_stands p.stands q.stands;
+      forward = λ i h. q.forward (left_in_order p.stands i)
+          (p.forward i h);
+    }
 
 -- two pieces, and then
-pub then_both : {a b : Bool} {old mid new : List Span} {rs : List Place} {ts rest left : List Token} (ps qs : List Place)
+pub then_both : {a b : Bool} {old mid new : List Span} {rs : List Place} {ts rest left : List Token}
+    (ps qs : List Place)
     → Placed a old mid (ps ++ qs) ts rest
     → Placed b mid new rs rest left
     → Placed (a || b) old new (ps ++ (qs ++ rs)) ts left
@@ -225,9 +241,14 @@ node {old} {mid} {new} {n} {ps} {ts} {left} p e h =
       grew = goes_on p.grew more;
       fewer = p.fewer;
       exact = λ spans g before.
-          let is : span_of spans n ≡ span_between ts left = rw h (numbered mid (span_between ts left) e g) in
-          (ap (λ (s : Span). s.start) is, closed_run spans n ps before ts left (p.exact spans (goes_on more g) before) (λ us h. ap (λ (s : Span). s.end) is ∙ (rw h (end_of_used before us left (rw h at (p.fewer refl))))));
-      numbers = numbered_runs (length old) (length mid) (length new) ps (closes n ∷ []) p.numbers (h, one_longer mid (span_between ts left) e);
+          let is : span_of spans n ≡ span_between ts left = rw h (numbered mid (span_between ts left) e g) in (
+            ap (λ (s : Span). s.start) is,
+            closed_run spans n ps before ts left (p.exact spans (goes_on more g) before)
+                (λ us h. ap (λ (s : Span). s.end) is ∙ (rw h (end_of_used before us left (rw h at (p.fewer refl))))),
+          );
+      numbers =
+          numbered_runs (length old) (length mid) (length new) ps (closes n ∷ []) p.numbers
+          (h, one_longer mid (span_between ts left) e);
     }
 
 pub closed : {old mid new : List Span} {n : ℕ} {ps : List Place} {ts left : List Token} (places : List Place)
@@ -238,11 +259,14 @@ pub closed : {old mid new : List Span} {n : ℕ} {ps : List Place} {ts left : Li
     → Placed true old new places ts left
 closed {old} {mid} {new} {n} {ps} {ts} {left} places p e h is = rw is (record {
   stands = node p.stands e h;
-  forward = λ i all. one_forward mid (span_between ts left) e (p.forward i all) (span_forward ts left i (p.stands.fewer refl));
+  forward =
+      λ i all. one_forward mid (span_between ts left) e (p.forward i all)
+      (span_forward ts left i (p.stands.fewer refl));
 })
 
 -- A node whose last piece is a node over the last tokens, which ends first and was numbered before it.
-pub closed_twice : {old mid m0 m1 new : List Span} {n k : ℕ} {ps qs : List Place} {ts rest left : List Token} (places : List Place)
+pub closed_twice : {old mid m0 m1 new : List Span} {n k : ℕ} {ps qs : List Place} {ts rest left : List Token}
+    (places : List Place)
     → Placed true old mid ps ts rest
     → Placed true mid m0 qs rest left
     → new ≡ m1 ++ span_between ts left ∷ []

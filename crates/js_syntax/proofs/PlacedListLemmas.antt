@@ -25,7 +25,10 @@ before_commas (p ∷ ps) = p ++ (comma ∷ before_commas ps)
 
 behind_last : (ps : List (List Place)) (p : List Place) → behind_commas (ps ++ p ∷ []) ≡ comma ∷ (before_commas ps ++ p)
 behind_last [] p = ap (λ qs. comma ∷ qs) (append_nil p)
-behind_last (q ∷ ps) p = ap (λ qs. comma ∷ qs) (ap (λ qs. q ++ qs) (append_nil (behind_commas (ps ++ p ∷ [])) ∙ behind_last ps p) ∙ sym (append_assoc q (comma ∷ before_commas ps) p))
+behind_last (q ∷ ps) p =
+    ap (λ qs. comma ∷ qs)
+    (ap (λ qs. q ++ qs) (append_nil (behind_commas (ps ++ p ∷ [])) ∙ behind_last ps p)
+    ∙ sym (append_assoc q (comma ∷ before_commas ps) p))
 
 -- the last piece has none behind it
 with_last : (ps : List (List Place)) (p : List Place) → with_commas (ps ++ p ∷ []) ≡ before_commas ps ++ p
@@ -37,19 +40,23 @@ before_more : (ps : List (List Place)) (p : List Place)
 before_more [] p = refl
 before_more (q ∷ ps) p =
     ap (λ qs. q ++ (comma ∷ qs)) (before_more ps p)
-    ∙ (sym (append_assoc q ((comma ∷ before_commas ps) ++ p) (comma ∷ [])) ∙ ap (λ qs. qs ++ comma ∷ []) (sym (append_assoc q (comma ∷ before_commas ps) p)))
+    ∙ (sym (append_assoc q ((comma ∷ before_commas ps) ++ p) (comma ∷ []))
+    ∙ ap (λ qs. qs ++ comma ∷ []) (sym (append_assoc q (comma ∷ before_commas ps) p)))
 
 -- a comma behind the last piece
 before_is : (q : List Place) (ps : List (List Place)) → before_commas (q ∷ ps) ≡ with_commas (q ∷ ps) ++ comma ∷ []
 before_is q [] = ap (λ qs. qs ++ comma ∷ []) (sym (append_nil q))
 before_is q (p ∷ ps) =
-    ap (λ qs. q ++ (comma ∷ qs)) (before_is p ps ∙ ap (λ qs. (p ++ qs) ++ comma ∷ []) (sym (append_nil (behind_commas ps))))
+    ap (λ qs. q ++ (comma ∷ qs))
+    (before_is p ps ∙ ap (λ qs. (p ++ qs) ++ comma ∷ []) (sym (append_nil (behind_commas ps))))
     ∙ sym (append_assoc q (comma ∷ (p ++ (behind_commas ps ++ []))) (comma ∷ []))
 
 behind_more : (ps : List (List Place)) (p : List Place) → behind_commas (ps ++ p ∷ []) ≡ behind_commas ps ++ (comma ∷ p)
 behind_more [] p = ap (λ qs. comma ∷ qs) (append_nil p)
 behind_more (q ∷ ps) p =
-    ap (λ qs. comma ∷ (q ++ qs)) (append_nil (behind_commas (ps ++ p ∷ [])) ∙ (behind_more ps p ∙ ap (λ qs. qs ++ (comma ∷ p)) (sym (append_nil (behind_commas ps)))))
+    ap (λ qs. comma ∷ (q ++ qs))
+    (append_nil (behind_commas (ps ++ p ∷ []))
+    ∙ (behind_more ps p ∙ ap (λ qs. qs ++ (comma ∷ p)) (sym (append_nil (behind_commas ps)))))
     ∙ ap (λ qs. comma ∷ qs) (sym (append_assoc q (behind_commas ps ++ []) (comma ∷ p)))
 
 turn_more : (ps : List (List Place)) (p : List Place) → in_turn (ps ++ p ∷ []) ≡ in_turn ps ++ p
@@ -65,8 +72,10 @@ maybe_there : (spans : List Span) (k : TokenKind) (ps : List Place) (before : �
 maybe_there spans k [] before ts left p = inl p
 maybe_there spans k (opens n ∷ ps) before ts left p = (p.0, maybe_there spans k ps before ts left p.1)
 maybe_there spans k (closes n ∷ ps) before ts left p = (p.0, maybe_there spans k ps before ts left p.1)
-maybe_there spans k (stands s ∷ ps) before ts left p = (p.0, maybe_there spans k ps (end_of (head_of ts)) (tail_of ts) left p.1)
-maybe_there spans k (stands_maybe j ∷ ps) before ts left (inl p) = inl (p.0, maybe_there spans k ps (end_of (head_of ts)) (tail_of ts) left p.1)
+maybe_there spans k (stands s ∷ ps) before ts left p =
+    (p.0, maybe_there spans k ps (end_of (head_of ts)) (tail_of ts) left p.1)
+maybe_there spans k (stands_maybe j ∷ ps) before ts left (inl p) =
+    inl (p.0, maybe_there spans k ps (end_of (head_of ts)) (tail_of ts) left p.1)
 maybe_there spans k (stands_maybe j ∷ ps) before ts left (inr p) = inr (p.0, maybe_there spans k ps before ts left p.1)
 
 numbered_maybe : (k : TokenKind) (ps : List Place) (first next : ℕ)
@@ -96,25 +105,34 @@ abbrev pub ended_list : List Place → TokenKind → List Place
 ended_list ps closer = ps ++ (stands_maybe kinds.Comma ∷ stands (fixed closer) ∷ [])
 
 -- The list ends where another element could begin.
-pub elements_over : {old new : List Span} {ts rest : List Token} (closer : TokenKind) (ps : List (List Place)) (left : List Token)
+pub elements_over : {old new : List Span} {ts rest : List Token} (closer : TokenKind) (ps : List (List Place))
+    (left : List Token)
     → Placed false old new (before_commas ps) ts rest
     → is_kind closer (head_of rest) ≡ true
     → left ≡ tail_of rest
     → is_same_kind closer kinds.Comma ≡ false
     → Placed true old new (ended_list (with_commas ps) closer) ts left
-elements_over {old} {new} {ts} {rest} closer [] left p h is apart = then p (then (left_out new kinds.Comma rest (kind_not closer kinds.Comma (head_of rest) h apart)) (tested new closer rest left h is))
+elements_over {old} {new} {ts} {rest} closer [] left p h is apart =
+    then p (then (left_out new kinds.Comma rest (kind_not closer kinds.Comma (head_of rest) h apart))
+    (tested new closer rest left h is))
 elements_over {old} {new} {ts} {rest} closer (q ∷ ps) left p h is apart =
     let commas : Placed false old new (with_commas (q ∷ ps) ++ comma ∷ []) ts rest = rw before_is at p in
-    rw (← append_assoc (with_commas (q ∷ ps)) (stands_maybe kinds.Comma ∷ []) (stands (fixed closer) ∷ [])) (then (there kinds.Comma (with_commas (q ∷ ps)) commas) (tested new closer rest left h is))
+    rw (← append_assoc (with_commas (q ∷ ps)) (stands_maybe kinds.Comma ∷ []) (stands (fixed closer) ∷ []))
+    (then (there kinds.Comma (with_commas (q ∷ ps)) commas) (tested new closer rest left h is))
 
 -- an element behind which the list goes on
-pub element_more : {old mid new : List Span} {ts rest mark : List Token} (closer : TokenKind) (ps : List (List Place)) (p : List Place) (left : List Token)
+pub element_more : {old mid new : List Span} {ts rest mark : List Token} (closer : TokenKind) (ps : List (List Place))
+    (p : List Place) (left : List Token)
     → Placed false old mid (before_commas ps) ts rest
     → Placed true mid new p rest mark
     → after closer (head_of mark) ≡ goes_on
     → left ≡ tail_of mark
     → Placed false old new (before_commas (ps ++ p ∷ [])) ts left
-element_more {old} {mid} {new} {ts} {rest} {mark} closer ps p left a b h is = rw (before_more ps p) (loosely (then (then a b) (tested new kinds.Comma mark left (comma_next (is_kind closer (head_of mark)) (is_kind kinds.Comma (head_of mark)) h) is)))
+element_more {old} {mid} {new} {ts} {rest} {mark} closer ps p left a b h is =
+    rw (before_more ps p)
+    (loosely (then (then a b)
+    (tested new kinds.Comma mark left
+    (comma_next (is_kind closer (head_of mark)) (is_kind kinds.Comma (head_of mark)) h) is)))
   where
     comma_next : (c k : Bool) → after_by c k ≡ goes_on → k ≡ true
     comma_next true k e = absurd cc
@@ -122,7 +140,8 @@ element_more {old} {mid} {new} {ts} {rest} {mark} closer ps p left a b h is = rw
     comma_next false false e = absurd cc
 
 -- an element behind which the list ends
-pub element_last : {old mid new : List Span} {ts rest mark : List Token} (closer : TokenKind) (ps : List (List Place)) (p : List Place) (left : List Token)
+pub element_last : {old mid new : List Span} {ts rest mark : List Token} (closer : TokenKind) (ps : List (List Place))
+    (p : List Place) (left : List Token)
     → Placed false old mid (before_commas ps) ts rest
     → Placed true mid new p rest mark
     → after closer (head_of mark) ≡ ends
@@ -131,7 +150,10 @@ pub element_last : {old mid new : List Span} {ts rest mark : List Token} (closer
     → Placed true old new (ended_list (with_commas (ps ++ p ∷ [])) closer) ts left
 element_last {old} {mid} {new} {ts} {rest} {mark} closer ps p left a b h is apart =
     let next = closer_next (is_kind closer (head_of mark)) (is_kind kinds.Comma (head_of mark)) h in
-    rw (with_last ps p) (then (then a b) (then (left_out new kinds.Comma mark (kind_not closer kinds.Comma (head_of mark) next apart)) (tested new closer mark left next is)))
+    rw (with_last ps p)
+    (then (then a b)
+    (then (left_out new kinds.Comma mark (kind_not closer kinds.Comma (head_of mark) next apart))
+    (tested new closer mark left next is)))
   where
     closer_next : (c k : Bool) → after_by c k ≡ ends → c ≡ true
     closer_next true k e = refl
@@ -140,16 +162,19 @@ element_last {old} {mid} {new} {ts} {rest} {mark} closer ps p left a b h is apar
 
 -- ---- others, each behind a comma
 
-pub other_more : {old mid new : List Span} {ts rest left : List Token} (ps : List (List Place)) (p : List Place) (mark : List Token)
+pub other_more : {old mid new : List Span} {ts rest left : List Token} (ps : List (List Place)) (p : List Place)
+    (mark : List Token)
     → Placed false old mid (behind_commas ps) ts rest
     → is_kind kinds.Comma (head_of rest) ≡ true
     → mark ≡ tail_of rest
     → Placed true mid new p mark left
     → Placed false old new (behind_commas (ps ++ p ∷ [])) ts left
-other_more {old} {mid} {new} {ts} {rest} {left} ps p mark a h is b = rw (behind_more ps p) (loosely (then a (then (tested mid kinds.Comma rest mark h is) b)))
+other_more {old} {mid} {new} {ts} {rest} {left} ps p mark a h is b =
+    rw (behind_more ps p) (loosely (then a (then (tested mid kinds.Comma rest mark h is) b)))
 
 -- another of a list that isn't empty
-pub listed_more : {old mid new : List Span} {ts rest left : List Token} (ps : List (List Place)) (p : List Place) (mark : List Token)
+pub listed_more : {old mid new : List Span} {ts rest left : List Token} (ps : List (List Place)) (p : List Place)
+    (mark : List Token)
     → Placed true old mid (with_commas ps) ts rest
     → is_kind kinds.Comma (head_of rest) ≡ true
     → mark ≡ tail_of rest
@@ -160,7 +185,8 @@ listed_more {old} {mid} {new} {ts} {rest} {left} [] p mark a h is b =
     let fewer : length rest < length ts = a.stands.fewer refl in
     absurd (omega (arith, ap (λ (l : List Token). length l) same, fewer))
 listed_more {old} {mid} {new} {ts} {rest} {left} (q ∷ ps) p mark a h is b =
-    rw (behind_more ps p, ← append_assoc q (behind_commas ps) (comma ∷ p)) (then a (then (tested mid kinds.Comma rest mark h is) b))
+    rw (behind_more ps p, ← append_assoc q (behind_commas ps) (comma ∷ p))
+    (then a (then (tested mid kinds.Comma rest mark h is) b))
 
 -- ---- statements
 

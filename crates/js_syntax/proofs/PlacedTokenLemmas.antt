@@ -83,7 +83,8 @@ pub named : (spans : List Span) (n : List ℕ) (ts left : List Token)
     → Placed true spans spans (stands (identifier n) ∷ []) ts left
 unfolding name_at
 named spans n ts left e =
-    let p = chosen (is_kind kinds.Name (head_of ts)) (text_of (head_of ts), tail_of ts) (n, left) (stuck (length ts)) e in
+    let p = chosen (is_kind kinds.Name (head_of ts)) (text_of (head_of ts), tail_of ts) (n, left) (stuck (length ts))
+    e in
     let is : text_of (head_of ts) ≡ n = ap (λ x. x.0) p.1 in
     symbol spans (identifier n) ts left (rw is at (name_next (head_of ts) p.0)) (sym (ap (λ x. x.1) p.1))
 
@@ -181,10 +182,13 @@ put_in spans k ts left e is = rw is (record {
 
 semicolon_by : (spans : List Span) (a b : Bool) (ts left : List Token)
     → is_kind kinds.Semicolon (head_of ts) ≡ a
-    → cond a (read_is {A = Unit {0}} (tt, tail_of ts)) (cond b (read_is {A = Unit {0}} (tt, ts)) (Err (stuck (length ts)))) ≡ Ok (tt, left)
+    → cond a (read_is {A = Unit {0}} (tt, tail_of ts))
+    (cond b (read_is {A = Unit {0}} (tt, ts)) (Err (stuck (length ts)))) ≡ Ok (tt, left)
     → Placed false spans spans (stands_maybe kinds.Semicolon ∷ []) ts left
-semicolon_by spans true b ts left h e = put_in spans kinds.Semicolon ts left h (sym (rest_is {A = Unit {0}} (tt, tail_of ts) (tt, left) e))
-semicolon_by spans false true ts left h e = rw (← rest_is {A = Unit {0}} (tt, ts) (tt, left) e) (left_out spans kinds.Semicolon ts h)
+semicolon_by spans true b ts left h e =
+    put_in spans kinds.Semicolon ts left h (sym (rest_is {A = Unit {0}} (tt, tail_of ts) (tt, left) e))
+semicolon_by spans false true ts left h e =
+    rw (← rest_is {A = Unit {0}} (tt, ts) (tt, left) e) (left_out spans kinds.Semicolon ts h)
 semicolon_by spans false false ts left h e = absurd cc
 
 -- the semicolon of a statement, present or absent
@@ -192,4 +196,5 @@ pub ended_so : (spans : List Span) (end : End) (ts left : List Token)
     → semicolon_at end ts ≡ Ok (tt, left)
     → Placed false spans spans (stands_maybe kinds.Semicolon ∷ []) ts left
 unfolding semicolon_at
-ended_so spans end ts left e = semicolon_by spans (is_kind kinds.Semicolon (head_of ts)) (absent end (head_of ts)) ts left refl e
+ended_so spans end ts left e =
+    semicolon_by spans (is_kind kinds.Semicolon (head_of ts)) (absent end (head_of ts)) ts left refl e

@@ -23,7 +23,8 @@ unfolding expect
 expect_found k ts e = rw e refl
 
 -- a statement that is no declaration takes no names
-pub names_kept : {X : Type 0} (n : ℕ) (context : Context) (taken : List Identifier) (ts : List Token) (r : Result X ParseError) (look : X → Statement × List Token)
+pub names_kept : {X : Type 0} (n : ℕ) (context : Context) (taken : List Identifier) (ts : List Token)
+    (r : Result X ParseError) (look : X → Statement × List Token)
     → Gives look r (statement (below n) context ts)
     → IfOk r (λ x. taken ≡ with_declared taken (look x).0)
 names_kept n context taken ts (Ok x) look g = takes_nothing n context taken ts (look x).0 (look x).1 g

@@ -173,8 +173,12 @@ is_arrow o = is_on_line o && is_kind kinds.Arrow o
 -- How names in parentheses end, behind the first parenthesis: whether an arrow alone can follow, since there is no name or a comma behind the last one; and the tokens after the last parenthesis. None where other tokens stand there.
 abbrev pub past_names : Bool → List Token → Option (Bool × List Token)
 past_names at_name [] = None
-past_names true (t ∷ ts) = if is_kind kinds.RightParenthesis (Some t) then Some (true, ts) else (if is_kind kinds.Name (Some t) then past_names false ts else None)
-past_names false (t ∷ ts) = if is_kind kinds.RightParenthesis (Some t) then Some (false, ts) else (if is_kind kinds.Comma (Some t) then past_names true ts else None)
+past_names true (t ∷ ts) =
+    if is_kind kinds.RightParenthesis (Some t) then Some (true, ts) else
+    (if is_kind kinds.Name (Some t) then past_names false ts else None)
+past_names false (t ∷ ts) =
+    if is_kind kinds.RightParenthesis (Some t) then Some (false, ts) else
+    (if is_kind kinds.Comma (Some t) then past_names true ts else None)
 
 -- what an arrow function begins with
 pub data Head : Type 0 where
@@ -309,7 +313,8 @@ pub data ForHead : Type 0 where
 
 -- the head whose first token begins so, with the tokens behind it
 abbrev pub for_head_by : First → List Token → ForHead
-for_head_by (a_lexical c) ts = if is_kind kinds.Name (head_of ts) && is_name (codes "of") (head_of (tail_of ts)) then each c else declares c
+for_head_by (a_lexical c) ts =
+    if is_kind kinds.Name (head_of ts) && is_name (codes "of") (head_of (tail_of ts)) then each c else declares c
 for_head_by _ ts = plain_head
 
 -- the head that the tokens behind the parenthesis begin

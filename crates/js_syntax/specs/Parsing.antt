@@ -29,7 +29,8 @@ abbrev pub key_by : Below → KeyStart → Reader Key
 key_by b (classes.a_word_key w) ts = Ok (trees.word_key w, tail_of ts)
 key_by b (classes.a_string_key s) ts = Ok (trees.string_key s, tail_of ts)
 key_by b (classes.a_number_key v) ts = Ok (trees.number_key v, tail_of ts)
-key_by b classes.a_computed_key ts = made b (tok kinds.LeftBracket ∷ an_assignment ∷ tok kinds.RightBracket ∷ []) (λ v. trees.computed_key v.1.0) ts
+key_by b classes.a_computed_key ts =
+    made b (tok kinds.LeftBracket ∷ an_assignment ∷ tok kinds.RightBracket ∷ []) (λ v. trees.computed_key v.1.0) ts
 key_by b classes.no_key ts = Err (stuck (length ts))
 
 -- the key of a member (13.2.5, PropertyName)
@@ -86,11 +87,14 @@ primary_by b n (classes.a_number v) ts = Ok (trees.number v, tail_of ts)
 primary_by b n (classes.a_string s) ts = Ok (trees.string s, tail_of ts)
 primary_by b n (classes.a_boolean v) ts = Ok (trees.boolean v, tail_of ts)
 primary_by b n classes.null_word ts = Ok (trees.null, tail_of ts)
-primary_by b n classes.bracket ts = made b (tok kinds.LeftBracket ∷ arguments kinds.RightBracket ∷ []) (λ v. trees.array v.1.0) ts
+primary_by b n classes.bracket ts =
+    made b (tok kinds.LeftBracket ∷ arguments kinds.RightBracket ∷ []) (λ v. trees.array v.1.0) ts
 primary_by b n classes.brace ts = do
   ps ← properties_at b n (tail_of ts)
   Ok (trees.object ps.0, ps.1)
-primary_by b n classes.parenthesis ts = made b (tok kinds.LeftParenthesis ∷ an_expression ∷ tok kinds.RightParenthesis ∷ []) (λ v. trees.parenthesized v.1.0) ts
+primary_by b n classes.parenthesis ts =
+    made b (tok kinds.LeftParenthesis ∷ an_expression ∷ tok kinds.RightParenthesis ∷ [])
+    (λ v. trees.parenthesized v.1.0) ts
 primary_by b n classes.function_word ts = function_at b (tail_of ts)
 primary_by b n classes.no_start ts = Err (stuck (length ts))
 
@@ -103,8 +107,10 @@ abbrev pub linked_by : Below → Expression → Link → Reader Expression
 linked_by b e dot ts = do
   x ← word_at (tail_of ts)
   Ok (trees.member e x.0, x.1)
-linked_by b e key ts = made b (tok kinds.LeftBracket ∷ an_expression ∷ tok kinds.RightBracket ∷ []) (λ v. trees.index e v.1.0) ts
-linked_by b e classes.arguments ts = made b (tok kinds.LeftParenthesis ∷ arguments kinds.RightParenthesis ∷ []) (λ v. trees.call e v.1.0) ts
+linked_by b e key ts =
+    made b (tok kinds.LeftBracket ∷ an_expression ∷ tok kinds.RightBracket ∷ []) (λ v. trees.index e v.1.0) ts
+linked_by b e classes.arguments ts =
+    made b (tok kinds.LeftParenthesis ∷ arguments kinds.RightParenthesis ∷ []) (λ v. trees.call e v.1.0) ts
 linked_by b e no_link ts = Err (stuck (length ts))
 
 -- what was read, alone or with what goes on with it and all that follows
@@ -130,7 +136,8 @@ call b n ts = do
 -- what was read, with the update operator behind it, if there is one; a target alone takes one
 abbrev pub updated_by : ℕ → Expression → Option UpdateOperator → Reader Expression
 updated_by n e None ts = Ok (e, ts)
-updated_by n e (Some o) ts = if is_target e then if_low (height e) n ts (Ok (trees.postfix o e, tail_of ts)) else Err (stuck (length ts))
+updated_by n e (Some o) ts =
+    if is_target e then if_low (height e) n ts (Ok (trees.postfix o e, tail_of ts)) else Err (stuck (length ts))
 
 -- an expression, with or without an update operator behind it (13.4)
 unfoldable pub postfix : Below → ℕ → Reader Expression
@@ -175,7 +182,8 @@ chain_by b n go l (Some o) ts = if_low (height l) n ts (do
 -- operators to the right of what was read, up to the room
 unfoldable pub chain : Below → ℕ → ℕ → ℕ → Expression → Reader Expression
 chain b n m zero l ts = Err (deep (length ts))
-chain b n m (suc turns) l ts = chain_by b n (λ e r. chain b n m turns e r) l (operator_from m (operator (head_of ts))) ts
+chain b n m (suc turns) l ts =
+    chain_by b n (λ e r. chain b n m turns e r) l (operator_from m (operator (head_of ts))) ts
 
 -- operands with the operators between them that bind at least so tightly (13.6 to 13.13)
 unfoldable pub operation : Below → ℕ → ℕ → Reader Expression
@@ -187,7 +195,8 @@ operation b n m ts = do
 
 -- the body of an arrow function: statements in braces, or an expression (15.3, ConciseBody)
 abbrev pub arrow_body_by : Below → Parameters → List Identifier → Bool → Reader Expression
-arrow_body_by b ps names true ts = made b (in_braces function_body (with_names [] names) ∷ []) (λ v. trees.arrow_block ps v.0) ts
+arrow_body_by b ps names true ts =
+    made b (in_braces function_body (with_names [] names) ∷ []) (λ v. trees.arrow_block ps v.0) ts
 arrow_body_by b ps names false ts = made b (an_assignment ∷ []) (λ v. trees.arrow ps v.0) ts
 
 -- the arrow and what follows it
@@ -224,8 +233,14 @@ arrow_of_list b only ts = do
 
 -- what was read: the test of a conditional, the target of an assignment, or all there is
 abbrev pub joined_by : Below → ℕ → Expression → Joint → Reader Expression
-joined_by b n t question ts = if_low (height t) n ts (made b (tok kinds.Question ∷ an_assignment ∷ tok kinds.Colon ∷ an_assignment ∷ []) (λ v. trees.conditional t v.1.0 v.1.1.1.0) ts)
-joined_by b n t (assigns_by o) ts = if is_target t then if_low (height t) n ts (made b (tok (assign_kind o) ∷ an_assignment ∷ []) (λ v. trees.assign o t v.1.0) ts) else Err (stuck (length ts))
+joined_by b n t question ts =
+    if_low (height t) n ts
+    (made b (tok kinds.Question ∷ an_assignment ∷ tok kinds.Colon ∷ an_assignment ∷ [])
+    (λ v. trees.conditional t v.1.0 v.1.1.1.0) ts)
+joined_by b n t (assigns_by o) ts =
+    if is_target t then if_low (height t) n ts
+    (made b (tok (assign_kind o) ∷ an_assignment ∷ []) (λ v. trees.assign o t v.1.0) ts) else Err
+    (stuck (length ts))
 joined_by b n t no_joint ts = Ok (t, ts)
 
 -- an operation that was read, with what goes on with it (13.14, 13.15)
@@ -266,7 +281,8 @@ else_by b context e s false ts = Ok (trees.if_then e s, ts)
 
 -- an `if` up to its first branch
 abbrev pub if_items : Context → List Item
-if_items context = tok kinds.If ∷ tok kinds.LeftParenthesis ∷ an_expression ∷ tok kinds.RightParenthesis ∷ a_statement context ∷ []
+if_items context =
+    tok kinds.If ∷ tok kinds.LeftParenthesis ∷ an_expression ∷ tok kinds.RightParenthesis ∷ a_statement context ∷ []
 
 -- an `if` statement; an `else` goes with the nearest one (14.6)
 unfoldable pub if_at : Below → Context → Reader Statement
@@ -281,29 +297,44 @@ let_kind false = kinds.Let
 
 -- a `do` statement (14.7.2)
 abbrev pub do_items : Context → List Item
-do_items context = tok kinds.Do ∷ a_statement (loop_body context) ∷ tok kinds.While ∷ tok kinds.LeftParenthesis ∷ an_expression ∷ tok kinds.RightParenthesis ∷ an_end after_do ∷ []
+do_items context =
+    tok kinds.Do ∷ a_statement (loop_body context)
+    ∷ tok kinds.While ∷ tok kinds.LeftParenthesis ∷ an_expression ∷ tok kinds.RightParenthesis ∷ an_end after_do ∷ []
 
 -- a `while` statement (14.7.3)
 abbrev pub while_items : Context → List Item
-while_items context = tok kinds.While ∷ tok kinds.LeftParenthesis ∷ an_expression ∷ tok kinds.RightParenthesis ∷ a_statement (loop_body context) ∷ []
+while_items context =
+    tok kinds.While ∷ tok kinds.LeftParenthesis ∷ an_expression ∷ tok kinds.RightParenthesis ∷ a_statement
+    (loop_body context) ∷ []
 
 -- a `for` without a declaration, each part of which may be left out (14.7.4)
 abbrev pub for_items : Context → List Item
-for_items context = tok kinds.For ∷ tok kinds.LeftParenthesis ∷ optional kinds.Semicolon ∷ optional kinds.Semicolon ∷ optional kinds.RightParenthesis ∷ a_statement (loop_body context) ∷ []
+for_items context =
+    tok kinds.For ∷ tok kinds.LeftParenthesis ∷ optional kinds.Semicolon ∷ optional kinds.Semicolon ∷ optional kinds.RightParenthesis ∷ a_statement
+    (loop_body context) ∷ []
 
 -- a `for` with `let` or `const` (14.7.4)
 abbrev pub for_lexical_items : Context → Bool → List Item
-for_lexical_items context constant = tok kinds.For ∷ tok kinds.LeftParenthesis ∷ tok (let_kind constant) ∷ declared constant [] ∷ tok kinds.Semicolon ∷ optional kinds.Semicolon ∷ optional kinds.RightParenthesis ∷ a_statement (loop_body context) ∷ []
+for_lexical_items context constant =
+    tok kinds.For ∷ tok kinds.LeftParenthesis ∷ tok (let_kind constant)
+    ∷ declared constant [] ∷ tok kinds.Semicolon ∷ optional kinds.Semicolon ∷ optional kinds.RightParenthesis ∷ a_statement
+    (loop_body context) ∷ []
 
 -- a `for .. of` with one name (14.7.5)
 abbrev pub for_of_items : Context → Bool → List Item
-for_of_items context constant = tok kinds.For ∷ tok kinds.LeftParenthesis ∷ tok (let_kind constant) ∷ a_name ∷ the_name (codes "of") ∷ an_assignment ∷ tok kinds.RightParenthesis ∷ a_statement (loop_body context) ∷ []
+for_of_items context constant =
+    tok kinds.For ∷ tok kinds.LeftParenthesis ∷ tok (let_kind constant) ∷ a_name ∷ the_name (codes "of")
+    ∷ an_assignment ∷ tok kinds.RightParenthesis ∷ a_statement (loop_body context) ∷ []
 
 -- a `for` whose head begins so
 abbrev pub for_by : Below → Context → ForHead → Reader Statement
-for_by b context (each constant) ts = made b (for_of_items context constant) (λ v. trees.for_of constant v.1.1.1.0 v.1.1.1.1.1.0 v.1.1.1.1.1.1.1.0) ts
-for_by b context (declares constant) ts = made b (for_lexical_items context constant) (λ v. trees.for_lexical constant v.1.1.1.0 v.1.1.1.1.1.0 v.1.1.1.1.1.1.0 v.1.1.1.1.1.1.1.0) ts
-for_by b context plain_head ts = made b (for_items context) (λ v. trees.for v.1.1.0 v.1.1.1.0 v.1.1.1.1.0 v.1.1.1.1.1.0) ts
+for_by b context (each constant) ts =
+    made b (for_of_items context constant) (λ v. trees.for_of constant v.1.1.1.0 v.1.1.1.1.1.0 v.1.1.1.1.1.1.1.0) ts
+for_by b context (declares constant) ts =
+    made b (for_lexical_items context constant)
+    (λ v. trees.for_lexical constant v.1.1.1.0 v.1.1.1.1.1.0 v.1.1.1.1.1.1.0 v.1.1.1.1.1.1.1.0) ts
+for_by b context plain_head ts =
+    made b (for_items context) (λ v. trees.for v.1.1.0 v.1.1.1.0 v.1.1.1.1.0 v.1.1.1.1.1.0) ts
 
 -- a `for` of any kind, by what stands behind its parenthesis
 unfoldable pub for_at : Below → Context → Reader Statement
@@ -369,12 +400,18 @@ statement_by b context classes.an_if ts = if_at b context ts
 statement_by b context classes.a_do ts = made b (do_items context) (λ v. trees.do_while v.1.0 v.1.1.1.1.0) ts
 statement_by b context classes.a_while ts = made b (while_items context) (λ v. trees.while v.1.1.0 v.1.1.1.1.0) ts
 statement_by b context classes.a_for ts = for_at b context ts
-statement_by b context classes.a_continue ts = if context.in_loop then made b (tok kinds.Continue ∷ an_end after_word ∷ []) (λ v. trees.continue) ts else Err (stuck (length ts))
-statement_by b context classes.a_break ts = if context.in_loop then made b (tok kinds.Break ∷ an_end after_word ∷ []) (λ v. trees.break) ts else Err (stuck (length ts))
-statement_by b context classes.a_return ts = if context.in_function then return_by b (ends_return (head_of (tail_of ts))) ts else Err (stuck (length ts))
+statement_by b context classes.a_continue ts =
+    if context.in_loop then made b (tok kinds.Continue ∷ an_end after_word ∷ []) (λ v. trees.continue) ts else Err
+    (stuck (length ts))
+statement_by b context classes.a_break ts =
+    if context.in_loop then made b (tok kinds.Break ∷ an_end after_word ∷ []) (λ v. trees.break) ts else Err
+    (stuck (length ts))
+statement_by b context classes.a_return ts =
+    if context.in_function then return_by b (ends_return (head_of (tail_of ts))) ts else Err (stuck (length ts))
 statement_by b context classes.a_throw ts = throw_by b (is_on_line (head_of (tail_of ts))) ts
 statement_by b context classes.a_try ts = try_at b context ts
-statement_by b context classes.a_debugger ts = made b (tok kinds.Debugger ∷ an_end after_word ∷ []) (λ v. trees.debugger) ts
+statement_by b context classes.a_debugger ts =
+    made b (tok kinds.Debugger ∷ an_end after_word ∷ []) (λ v. trees.debugger) ts
 statement_by b context classes.a_function ts = Err (stuck (length ts))
 statement_by b context classes.an_expression ts = made b (ended ∷ []) (λ v. trees.expression v.0) ts
 

@@ -112,7 +112,8 @@ with_declarator taken d = name_of d ∷ taken
 unfoldable pub declarators_at : Below → Bool → List Identifier → Reader Declarators
 declarators_at b constant taken ts = do
   d ← declarator_at b constant taken ts
-  ds ← others (λ names r. declarator_at b constant names r) with_declarator (suc (length d.1)) (with_declarator taken d.0) d.1
+  ds ← others (λ names r. declarator_at b constant names r) with_declarator (suc (length d.1))
+      (with_declarator taken d.0) d.1
   Ok (trees.a_declarator d.0 (declarators ds.0), ds.1)
 
 -- ---- expressions with what ends them

@@ -105,7 +105,8 @@ elements_by one next go closer s false ts = do
 -- the elements of a list up to the token that ends it, and that token
 unfoldable pub elements : {S A : Type 0} → (S → Reader A) → (S → A → S) → TokenKind → ℕ → S → Reader (List A)
 elements one next closer zero s ts = Err (deep (length ts))
-elements one next closer (suc k) s ts = elements_by one next (λ s r. elements one next closer k s r) closer s (is_kind closer (head_of ts)) ts
+elements one next closer (suc k) s ts =
+    elements_by one next (λ s r. elements one next closer k s r) closer s (is_kind closer (head_of ts)) ts
 
 -- further elements, each behind a comma
 abbrev pub others_by : {S A : Type 0}

@@ -16,16 +16,22 @@ use Rattle.js_terms.specs.Views.{term_view, terms_view, term_layer, terms_layer,
 
 pub view_done : (v : Value) → term_view (Term.Done v) ≡ semantics.done v
 unfolding term_view terms_view
-view_done v = ap term_view (sym (rolls-Done v)) ∙ fold-roll-Term semantics.Term semantics.Terms term_layer terms_layer (Term-F.Done v)
+view_done v =
+    ap term_view (sym (rolls-Done v))
+    ∙ fold-roll-Term semantics.Term semantics.Terms term_layer terms_layer (Term-F.Done v)
 
 pub view_standing : (v : Value) (s : Spot) → term_view (Term.Standing v s) ≡ semantics.standing v s
 unfolding term_view terms_view
-view_standing v s = ap term_view (sym (rolls-Standing v s)) ∙ fold-roll-Term semantics.Term semantics.Terms term_layer terms_layer (Term-F.Standing v s)
+view_standing v s =
+    ap term_view (sym (rolls-Standing v s))
+    ∙ fold-roll-Term semantics.Term semantics.Terms term_layer terms_layer (Term-F.Standing v s)
 
 pub view_part : (f : Box Form) (now later : Terms)
     → term_view (views.Part f now later) ≡ semantics.part f.value (terms_view now) (terms_view later)
 unfolding term_view terms_view
-view_part f now later = ap term_view (sym (rolls-Part f now later)) ∙ fold-roll-Term semantics.Term semantics.Terms term_layer terms_layer (Term-F.Part f now later)
+view_part f now later =
+    ap term_view (sym (rolls-Part f now later))
+    ∙ fold-roll-Term semantics.Term semantics.Terms term_layer terms_layer (Term-F.Part f now later)
 
 pub view_terms : (items : Vec Term) → terms_view (views.roll-Terms (record { items = items })) ≡ listed_view items.items
 unfolding term_view terms_view

@@ -62,7 +62,8 @@ abbrev mutual
   height_of_statement (for i t u s) =
       suc (max (height_of_optional i) (max (height_of_optional t) (max (height_of_optional u) (height_of_statement s))))
   height_of_statement (for_lexical c ds t u s) =
-      suc (max (height_of_declarators ds) (max (height_of_optional t) (max (height_of_optional u) (height_of_statement s))))
+      suc (max (height_of_declarators ds)
+      (max (height_of_optional t) (max (height_of_optional u) (height_of_statement s))))
   height_of_statement (for_of c n e s) = suc (max (height e) (height_of_statement s))
   height_of_statement (return e) = suc (height_of_optional e)
   height_of_statement (throw e) = suc (height e)

@@ -65,13 +65,19 @@ less_more : (x u : ℕ) → (u + x) - x ≡ u
 less_more x u = omega arith
 
 fits : (w : World) (a : Addr) (c : Cell) (x : ℕ)
-    → let t : Tried (Unit {0}) = if nat_le x (w.room.units + x) then fine tt (record (replaced w a c) { room = room_after w.room x x }) else full counted.Units in t ≡ fine tt (replaced w a c)
-fits w a c x = rw (le_more x w.room.units, less_more x w.room.units) (ap {B = Tried (Unit {0})} (λ v. fine tt v) (same_room w a c))
+    → let t : Tried (Unit {0}) = if nat_le x (w.room.units + x) then fine tt
+    (record (replaced w a c) { room = room_after w.room x x }) else full counted.Units in
+    t ≡ fine tt (replaced w a c)
+fits w a c x =
+    rw (le_more x w.room.units, less_more x w.room.units) (ap {B = Tried (Unit {0})} (λ v. fine tt v) (same_room w a c))
 
-written_scope : (w : World) (a : Addr) (k : ScopeKind) (name : List ℕ) (o : Option Addr) (ns : List Binding) (n : List ℕ) (v : Value)
+written_scope : (w : World) (a : Addr) (k : ScopeKind) (name : List ℕ) (o : Option Addr) (ns : List Binding)
+    (n : List ℕ) (v : Value)
     → name_place ns n < length ns
-    → written_at w a (Some (cells.Bindings k name o ns)) (changes.Bind n v) ≡ fine tt (replaced w a (cells.Bindings k name o (bound ns n v)))
-written_scope w a k name o ns n v h = rw (binding-some ns n h, bound-length ns n v) (fits w a (cells.Bindings k name o (bound ns n v)) (8 * length ns))
+    → written_at w a (Some (cells.Bindings k name o ns)) (changes.Bind n v) ≡ fine tt
+    (replaced w a (cells.Bindings k name o (bound ns n v)))
+written_scope w a k name o ns n v h =
+    rw (binding-some ns n h, bound-length ns n v) (fits w a (cells.Bindings k name o (bound ns n v)) (8 * length ns))
 
 -- the names of a scope's cell
 abbrev pub names_in : Cell → List Binding
@@ -82,7 +88,8 @@ abbrev pub rebound_cell : Cell → List ℕ → Value → Cell
 rebound_cell (cells.Bindings k name o ns) n v = cells.Bindings k name o (bound ns n v)
 rebound_cell c n v = c
 
-scope_value : (ts : List (List ℕ)) (c : Stored) (place n : ℕ) (v : Value) (k : ScopeKind) (name : List ℕ) (o : Option Addr) (ns : List Binding)
+scope_value : (ts : List (List ℕ)) (c : Stored) (place n : ℕ) (v : Value) (k : ScopeKind) (name : List ℕ)
+    (o : Option Addr) (ns : List Binding)
     → Differ ts
     → cell_of ts c ≡ cells.Bindings k name o ns
     → place ≡ name_place ns (name_of ts n)
@@ -90,26 +97,36 @@ scope_value : (ts : List (List ℕ)) (c : Stored) (place n : ℕ) (v : Value) (k
 scope_value ts (stored.Scope l m p ss) place n v k name o ns d e h =
     let f : bindings ts ss ≡ ns = ap names_in e in
     let g : place ≡ slot_place ss n = h ∙ sym (ap (λ bs. name_place bs (name_of ts n)) f) ∙ place-names ts ss n d in
-    let r : cells.Bindings k name o (bound ns (name_of ts n) v) ≡ cells.Bindings l (name_text ts m) p (bound (bindings ts ss) (name_of ts n) v) = ap (λ c. rebound_cell c (name_of ts n) v) (sym e) in
-    r ∙ ap (λ bs. cells.Bindings l (name_text ts m) p bs) (sym (value-at ts ss n v d)) ∙ ap (λ i. cells.Bindings l (name_text ts m) p (bindings ts (with_value_at ss i v))) (sym g)
+    let r : cells.Bindings k name o (bound ns (name_of ts n) v) ≡ cells.Bindings l (name_text ts m) p
+    (bound (bindings ts ss) (name_of ts n) v) = ap (λ c. rebound_cell c (name_of ts n) v) (sym e) in
+    r
+    ∙ ap (λ bs. cells.Bindings l (name_text ts m) p bs) (sym (value-at ts ss n v d))
+    ∙ ap (λ i. cells.Bindings l (name_text ts m) p (bindings ts (with_value_at ss i v))) (sym g)
 scope_value ts (stored.Object ps) place n v k name o ns d e h = absurd cc
 scope_value ts (stored.Error class ps) place n v k name o ns d e h = absurd cc
 scope_value ts (stored.Array vs) place n v k name o ns d e h = absurd cc
 scope_value ts (stored.Text us) place n v k name o ns d e h = absurd cc
 scope_value ts (stored.Function f) place n v k name o ns d e h = absurd cc
 
-pub scope-replaced : (ts : List (List ℕ)) (cs : List Stored) (i place n : ℕ) (v : Value) (k : ScopeKind) (name : List ℕ) (o : Option Addr) (ns : List Binding)
+pub scope-replaced : (ts : List (List ℕ)) (cs : List Stored) (i place n : ℕ) (v : Value) (k : ScopeKind) (name : List ℕ)
+    (o : Option Addr) (ns : List Binding)
     → Differ ts
     → slice_get (cells_of ts cs) i ≡ Some (cells.Bindings k name o ns)
     → place ≡ name_place ns (name_of ts n)
-    → slice_set (cells_of ts cs) i (cells.Bindings k name o (bound ns (name_of ts n) v)) ≡ cells_of ts (value_in_cells cs i place v)
+    → slice_set (cells_of ts cs) i (cells.Bindings k name o (bound ns (name_of ts n) v)) ≡ cells_of ts
+    (value_in_cells cs i place v)
 scope-replaced ts [] i place n v k name o ns d e h = refl
-scope-replaced ts (c ∷ cs) zero place n v k name o ns d e h = let f : cell_of ts c ≡ cells.Bindings k name o ns = cc in ap {B = List Cell} (λ b. b ∷ cells_of ts cs) (scope_value ts c place n v k name o ns d f h)
-scope-replaced ts (c ∷ cs) (suc i) place n v k name o ns d e h = ap {B = List Cell} (λ bs. cell_of ts c ∷ bs) (scope-replaced ts cs i place n v k name o ns d e h)
+scope-replaced ts (c ∷ cs) zero place n v k name o ns d e h =
+    let f : cell_of ts c ≡ cells.Bindings k name o ns = cc in
+    ap {B = List Cell} (λ b. b ∷ cells_of ts cs) (scope_value ts c place n v k name o ns d f h)
+scope-replaced ts (c ∷ cs) (suc i) place n v k name o ns d e h =
+    ap {B = List Cell} (λ bs. cell_of ts c ∷ bs) (scope-replaced ts cs i place n v k name o ns d e h)
 
-pub scope-written : (w : World) (a : Addr) (k : ScopeKind) (name : List ℕ) (o : Option Addr) (ns : List Binding) (place : ℕ) (n : List ℕ) (v : Value)
+pub scope-written : (w : World) (a : Addr) (k : ScopeKind) (name : List ℕ) (o : Option Addr) (ns : List Binding)
+    (place : ℕ) (n : List ℕ) (v : Value)
     → HasPlace (Some (cells.Bindings k name o ns)) place n
-    → written_at w a (Some (cells.Bindings k name o ns)) (changes.Bind n v) ≡ fine tt (replaced w a (cells.Bindings k name o (bound ns n v)))
+    → written_at w a (Some (cells.Bindings k name o ns)) (changes.Bind n v) ≡ fine tt
+    (replaced w a (cells.Bindings k name o (bound ns n v)))
 scope-written w a k name o ns place n v h =
     let Q : ℕ → Type 0 = λ j. j < length ns in
     written_scope w a k name o ns n v (subst Q h.0 h.1)
@@ -118,13 +135,17 @@ bind_cell : (ts : List (List ℕ)) (cs : List Stored) (l u i place n : ℕ) (v :
     → Differ ts
     → slice_get (cells_of ts cs) i ≡ o
     → HasPlace o place (name_of ts n)
-    → write_cell (base_world ts cs l u) (Base i) (changes.Bind (name_of ts n) v) ≡ fine tt (base_world ts (value_in_cells cs i place v) l u)
+    → write_cell (base_world ts cs l u) (Base i) (changes.Bind (name_of ts n) v) ≡ fine tt
+    (base_world ts (value_in_cells cs i place v) l u)
 bind_cell ts cs l u i place n v (Some (cells.Bindings k name p ns)) d e h =
     let w : World = base_world ts cs l u in
     let Q : ℕ → Type 0 = λ j. j < length ns in
-    let P : Option Cell → Type 0 = λ o. written_at w (Base i) o (changes.Bind (name_of ts n) v) ≡ fine tt (replaced w (Base i) (cells.Bindings k name p (bound ns (name_of ts n) v))) in
+    let P : Option Cell
+    → Type 0 = λ o. written_at w (Base i) o (changes.Bind (name_of ts n) v) ≡ fine tt
+    (replaced w (Base i) (cells.Bindings k name p (bound ns (name_of ts n) v))) in
     subst P (sym e) (written_scope w (Base i) k name p ns (name_of ts n) v (subst Q h.0 h.1))
-    ∙ ap {B = Tried (Unit {0})} (λ b. fine tt (record w { base = b })) (scope-replaced ts cs i place n v k name p ns d e h.0)
+    ∙ ap {B = Tried (Unit {0})} (λ b. fine tt (record w { base = b }))
+    (scope-replaced ts cs i place n v k name p ns d e h.0)
 bind_cell ts cs l u i place n v None d e h = absurd h
 bind_cell ts cs l u i place n v (Some (cells.Object ps)) d e h = absurd h
 bind_cell ts cs l u i place n v (Some (cells.Error class ps)) d e h = absurd h
@@ -138,16 +159,29 @@ pub bind-heap : (ts : List (List ℕ)) (h g : Heap) (ds : List Stored) (i place 
     → Differ ts
     → HasPlace (read_cell (heap_world ts g) a) place (name_of ts n)
     → ds ≡ value_in_cells h.cells i place v
-    → write_cell (heap_world ts g) a (changes.Bind (name_of ts n) v) ≡ fine tt (base_world ts ds h.cells_left h.units_left)
+    → write_cell (heap_world ts g) a (changes.Bind (name_of ts n) v) ≡ fine tt
+    (base_world ts ds h.cells_left h.units_left)
 bind-heap ts h g ds i place n v a e f d k l =
-    let P : Heap → Type 0 = λ x. write_cell (heap_world ts x) (Base i) (changes.Bind (name_of ts n) v) ≡ fine tt (base_world ts ds h.cells_left h.units_left) in
+    let P : Heap
+    → Type 0 = λ x. write_cell (heap_world ts x) (Base i) (changes.Bind (name_of ts n) v) ≡ fine tt
+    (base_world ts ds h.cells_left h.units_left) in
     let Q : Heap → Type 0 = λ x. HasPlace (read_cell (heap_world ts x) (Base i)) place (name_of ts n) in
     let R : Addr → Type 0 = λ b. HasPlace (read_cell (heap_world ts g) b) place (name_of ts n) in
-    let S : Addr → Type 0 = λ b. write_cell (heap_world ts g) b (changes.Bind (name_of ts n) v) ≡ fine tt (base_world ts ds h.cells_left h.units_left) in
+    let S : Addr
+    → Type 0 = λ b. write_cell (heap_world ts g) b (changes.Bind (name_of ts n) v) ≡ fine tt
+    (base_world ts ds h.cells_left h.units_left) in
     let q : HasPlace (slice_get (cells_of ts h.cells) i) place (name_of ts n) = subst Q (sym e) (subst R f k) in
-    subst S (sym f) (subst P e (bind_cell ts h.cells h.cells_left h.units_left i place n v (slice_get (cells_of ts h.cells) i) d refl q ∙ ap {B = Tried (Unit {0})} (λ xs. fine tt (base_world ts xs h.cells_left h.units_left)) (sym l)))
+    subst S (sym f)
+    (subst P e
+    (bind_cell ts h.cells h.cells_left h.units_left i place n v (slice_get (cells_of ts h.cells) i) d refl q
+    ∙ ap {B = Tried (Unit {0})} (λ xs. fine tt (base_world ts xs h.cells_left h.units_left)) (sym l)))
 
 pub value-fit : (cs : List Stored) (ends l i place : ℕ) (v : Value)
     → Fit cs ends l
     → Fit (value_in_cells cs i place v) ends l
-value-fit cs ends l i place v f = record { within = cells-value ends cs i place v f.within; places = omega (arith, f.places, value-length cs i place v) }
+value-fit cs ends l i place v f =
+    record {
+      within = cells-value ends cs i place v f.within;
+      places = omega
+          (arith, f.places, value-length cs i place v);
+    }

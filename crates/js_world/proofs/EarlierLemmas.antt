@@ -30,7 +30,8 @@ value_others : (n : ℕ) (cs : List Stored) (i place : ℕ) (v : Value)
 value_others zero cs i place v h = refl
 value_others (suc n) [] i place v h = refl
 value_others (suc n) (d ∷ cs) zero place v h = absurd (omega arith)
-value_others (suc n) (d ∷ cs) (suc i) place v h = ap {B = List Stored} (λ ds. d ∷ ds) (value_others n cs i place v (omega arith))
+value_others (suc n) (d ∷ cs) (suc i) place v h =
+    ap {B = List Stored} (λ ds. d ∷ ds) (value_others n cs i place v (omega arith))
 
 pub take-within : (k n : ℕ) (cs : List Stored) → AllWithin k cs → AllWithin k (take n cs)
 take-within k zero cs h = tt
@@ -66,7 +67,12 @@ pub earlier-more : (cs ds : List Stored) (c : Stored) (place known : ℕ)
 earlier-more cs ds c place known e h =
     let P : List Stored → Type 0 = λ xs. Earlier xs place known in
     let Q : List Stored → Type 0 = λ xs. AllWithin known xs in
-    subst P (sym e) (record { within = subst Q (sym (take-append-le place cs (c ∷ []) h.before)) h.within; before = omega (arith, h.before, length-append cs (c ∷ [])) })
+    subst P (sym e)
+    (record {
+      within = subst Q (sym (take-append-le place cs (c ∷ []) h.before)) h.within;
+      before = omega
+          (arith, h.before, length-append cs (c ∷ []));
+    })
 
 pub earlier-value : (cs ds : List Stored) (i place at known : ℕ) (v : Value)
     → ds ≡ value_in_cells cs i at v
@@ -75,7 +81,9 @@ pub earlier-value : (cs ds : List Stored) (i place at known : ℕ) (v : Value)
     → Earlier ds place known
 earlier-value cs ds i place at known v e l h =
     let P : List Stored → Type 0 = λ xs. Earlier xs place known in
-    subst P (sym e) (earlier-same cs (value_in_cells cs i at v) place known (value_others place cs i at v l) (value-length cs i at v) h)
+    subst P (sym e)
+    (earlier-same cs (value_in_cells cs i at v) place known (value_others place cs i at v l)
+    (value-length cs i at v) h)
 
 -- ---- cutting back
 
@@ -84,7 +92,8 @@ before_mark : (cs : List Stored) (place known count ends : ℕ)
     → count ≤ place
     → known ≤ ends
     → AllWithin ends (take count cs)
-before_mark cs place known count ends h l k = cells-more known ends (take count cs) k (fewer_within known count place cs l h.within)
+before_mark cs place known count ends h l k =
+    cells-more known ends (take count cs) k (fewer_within known count place cs l h.within)
 
 pub before-mark : (h g : Heap) (m n : Marked) (place known : ℕ)
     → h ≡ g
@@ -117,7 +126,11 @@ cut-fit h g m n ds ends e f k w l =
     let P : Heap → Type 0 = λ x. AllWithin ends (take m.count x.cells) in
     let Q : Marked → Type 0 = λ x. AllWithin ends (take x.count g.cells) in
     let R : List Stored → Type 0 = λ xs. Fit xs ends m.cells_left in
-    subst R (sym k) (record { within = subst P (sym e) (subst Q (sym f) w); places = omega (arith, l, length-take m.count h.cells) })
+    subst R (sym k)
+    (record {
+      within = subst P (sym e) (subst Q (sym f) w);
+      places = omega (arith, l, length-take m.count h.cells);
+    })
 
 take_earlier : (count place known : ℕ) (cs : List Stored)
     → place ≤ count
@@ -135,7 +148,12 @@ cut_earlier : (cs ds : List Stored) (count place known : ℕ)
     → Earlier ds place known
 cut_earlier cs ds count place known e l h =
     let P : List Stored → Type 0 = λ xs. Earlier xs place known in
-    subst P (sym e) (record { within = take_earlier count place known cs l h.within; before = omega (arith, h.before, length-take count cs) })
+    subst P (sym e)
+    (record {
+      within = take_earlier count place known cs l h.within;
+      before = omega
+          (arith, h.before, length-take count cs);
+    })
 
 pub cut-min : (cs ds : List Stored) (count place at known : ℕ)
     → ds ≡ take count cs
@@ -144,14 +162,16 @@ pub cut-min : (cs ds : List Stored) (count place at known : ℕ)
     → Earlier ds at known
 cut-min cs ds count place at known e m h =
     let l : at ≤ place = omega (arith, m) in
-    cut_earlier cs ds count at known e (omega (arith, m)) (record { within = fewer_within known at place cs l h.within; before = omega (arith, h.before, l) })
+    cut_earlier cs ds count at known e (omega (arith, m))
+    (record { within = fewer_within known at place cs l h.within; before = omega (arith, h.before, l) })
 
 pub cut-space : (h g : Heap) (ds : List Stored) (m n : Marked)
     → h ≡ g
     → m ≡ n
     → ds ≡ take m.count h.cells
     → (ts : List (List ℕ))
-    → let x : ScratchSpace = record { cells = cells_of ts ds; room = record { cells = m.cells_left; units = m.units_left } } in x ≡ space_at (space_of ts g) n
+    → let x : ScratchSpace = record { cells = cells_of ts ds; room = record { cells = m.cells_left; units = m.units_left } } in
+    x ≡ space_at (space_of ts g) n
 cut-space h g ds m n e f k ts =
     let x : ScratchSpace = record { cells = cells_of ts ds; room = record { cells = m.cells_left; units = m.units_left } } in
     let P : Heap → Type 0 = λ y. x ≡ space_at (space_of ts y) n in
@@ -167,7 +187,15 @@ kept_over : (ts : List (List ℕ)) (bs : List Cell) (cs ds : List Stored) (us : 
     → keep_source (overlay_world ts bs cs st l u) us ≡ fine (Scratch at) (overlay_world ts bs ds st l left)
 kept_over ts bs cs ds us st l u left at e f i =
     let g : u - length us ≡ left = omega (arith, f) in
-    rw (le-leb (length us) u (omega (arith, f)), g, cells-length ts cs, ← i, e, cells-append ts cs (stored.Text us ∷ [])) refl
+    rw (
+      le-leb (length us) u (omega (arith, f)),
+      g,
+      cells-length ts cs,
+      ← i,
+      e,
+      cells-append ts cs (stored.Text us ∷ []),
+    )
+    refl
 
 pub kept-over : (h g : Over) (ds : List Stored) (us : List ℕ) (left at : ℕ)
     → h ≡ g
@@ -175,9 +203,12 @@ pub kept-over : (h g : Over) (ds : List Stored) (us : List ℕ) (left at : ℕ)
     → length us + left ≡ h.units_left
     → at ≡ length h.cells
     → (ts : List (List ℕ))
-    → keep_source (over_world ts g) us ≡ fine (Scratch at) (overlay_world ts (cells_of ts h.base.cells) ds h.start h.cells_left left)
+    → keep_source (over_world ts g) us ≡ fine (Scratch at)
+    (overlay_world ts (cells_of ts h.base.cells) ds h.start h.cells_left left)
 kept-over h g ds us left at e f m i ts =
-    let P : Over → Type 0 = λ x. keep_source (over_world ts x) us ≡ fine (Scratch at) (overlay_world ts (cells_of ts h.base.cells) ds h.start h.cells_left left) in
+    let P : Over
+    → Type 0 = λ x. keep_source (over_world ts x) us ≡ fine (Scratch at)
+    (overlay_world ts (cells_of ts h.base.cells) ds h.start h.cells_left left) in
     subst P e (kept_over ts (cells_of ts h.base.cells) h.cells ds us h.start h.cells_left h.units_left left at f m i)
 
 pub kept-fit : (cs ds : List Stored) (us : List ℕ) (ends l : ℕ)
@@ -187,4 +218,9 @@ pub kept-fit : (cs ds : List Stored) (us : List ℕ) (ends l : ℕ)
     → Fit ds ends l
 kept-fit cs ds us ends l f e k =
     let P : List Stored → Type 0 = λ xs. Fit xs ends l in
-    subst P (sym e) (record { within = within-append ends cs (stored.Text us) f.within tt; places = omega (arith, k, length-append cs (stored.Text us ∷ [])) })
+    subst P (sym e)
+    (record {
+      within = within-append ends cs (stored.Text us) f.within tt;
+      places = omega
+          (arith, k, length-append cs (stored.Text us ∷ []));
+    })

@@ -27,7 +27,10 @@ pub outward-step : (n i : ℕ) (w : World) (name : List ℕ) (at a : Addr) (cell
     → kept_found (found_within (n - (i + 1)) w name a) ≡ first
 outward-step n i w name at a cell first h e k f =
     let m : ℕ = n - (i + 1) in
-    let s : found_within (n - i) w name at ≡ found_in at (read_cell w at) name (found_within m w name) = found-step (n - i) m w name at (omega arith) in
-    let P : Option Cell → Type 0 = λ c. kept_found (found_in at c name (found_within m w name)) ≡ kept_found (found_within m w name a) in
-    let q : kept_found (found_in at (read_cell w at) name (found_within m w name)) ≡ kept_found (found_within m w name a) = subst P e (k (found_within m w name)) in
+    let s : found_within (n - i) w name at ≡ found_in at (read_cell w at) name (found_within m w name) = found-step
+    (n - i) m w name at (omega arith) in
+    let P : Option Cell
+    → Type 0 = λ c. kept_found (found_in at c name (found_within m w name)) ≡ kept_found (found_within m w name a) in
+    let q : kept_found (found_in at (read_cell w at) name (found_within m w name)) ≡ kept_found
+    (found_within m w name a) = subst P e (k (found_within m w name)) in
     sym q ∙ sym (ap kept_found s) ∙ f

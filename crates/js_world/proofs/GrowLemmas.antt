@@ -171,7 +171,8 @@ pub number-other : (ts : List (List ℕ)) (t u : List ℕ)
     → number_of (ts ++ t ∷ []) u ≡ number_of ts u
 number-other ts t u e =
     let f : text_place (t ∷ []) u ≡ 1 = rw e refl in
-    numbered_same (nat_lt (text_place ts u) (length ts)) (text_place ts u) (text_place (ts ++ t ∷ []) u) (length ts) (length (ts ++ t ∷ [])) refl
+    numbered_same (nat_lt (text_place ts u) (length ts)) (text_place ts u) (text_place (ts ++ t ∷ []) u) (length ts)
+    (length (ts ++ t ∷ [])) refl
     (λ h. place-first ts (t ∷ []) u h)
     (λ h. omega (arith, place-other ts (t ∷ []) u h, f, length_one ts t))
     (omega (arith, length_one ts t))
@@ -182,8 +183,10 @@ pub number-last : (ts : List (List ℕ)) (t : List ℕ)
     → number_of (ts ++ t ∷ []) t ≡ Some (length ts)
 number-last ts t e =
     let f : text_place (t ∷ []) t ≡ 0 = rw (same-refl t) refl in
-    let g : text_place (ts ++ t ∷ []) t ≡ length ts = omega (arith, place-other ts (t ∷ []) t (number-none ts t e), f) in
-    numbered_in (text_place (ts ++ t ∷ []) t) (length (ts ++ t ∷ [])) (omega (arith, g, length_one ts t)) ∙ ap (λ x. Some x) g
+    let g : text_place (ts ++ t ∷ []) t ≡ length ts = omega (arith, place-other ts (t ∷ []) t (number-none ts t e), f)
+    in
+    numbered_in (text_place (ts ++ t ∷ []) t) (length (ts ++ t ∷ [])) (omega (arith, g, length_one ts t))
+    ∙ ap (λ x. Some x) g
 
 -- ---- tables that are cut
 
@@ -212,7 +215,9 @@ slice_below (u ∷ ts) (suc i) t e = omega (arith, slice_below ts i t e)
 
 -- the last text is none of those before it
 pub number-gone : (ts : List (List ℕ)) (t : List ℕ) → Differ (ts ++ t ∷ []) → number_of ts t ≡ None
-number-gone ts t d = number_gone ts t (λ i e. omega (arith, slice_below ts i t e, d i (length ts) t (get_more ts (t ∷ []) i t e) (get_last ts t)))
+number-gone ts t d =
+    number_gone ts t
+    (λ i e. omega (arith, slice_below ts i t e, d i (length ts) t (get_more ts (t ∷ []) i t e) (get_last ts t)))
 
 get_taken : (n : ℕ) (ts : List (List ℕ)) (i : ℕ) (t : List ℕ)
     → slice_get (take n ts) i ≡ Some t
@@ -227,7 +232,8 @@ pub number-next : (ts : List (List ℕ)) (n : ℕ) (t : List ℕ)
     → Differ ts
     → slice_get ts n ≡ Some t
     → number_of (take n ts) t ≡ None
-number-next ts n t d e = number_gone (take n ts) t (λ i f. let p = get_taken n ts i t f in omega (arith, p.1, d i n t p.0 e))
+number-next ts n t d e =
+    number_gone (take n ts) t (λ i f. let p = get_taken n ts i t f in omega (arith, p.1, d i n t p.0 e))
 
 get_here : (ts : List (List ℕ)) (n : ℕ) (t : List ℕ) → n < length ts → t ≡ get_or ts n t → slice_get ts n ≡ Some t
 get_here [] n t h e = absurd (omega arith)

@@ -61,15 +61,23 @@ set_same (d ∷ cs) (suc i) c e = ap {B = List Cell} (λ es. d ∷ es) (set_same
 
 -- ---- the change of one cell
 
-weighed_cell : (ts : List (List ℕ)) (cs : List Stored) (i : ℕ) (old new : Stored) (o : Option Cell) (u : ℕ) (r : Result ℕ Refused)
+weighed_cell : (ts : List (List ℕ)) (cs : List Stored) (i : ℕ) (old new : Stored) (o : Option Cell) (u : ℕ)
+    (r : Result ℕ Refused)
     → slice_get (cells_of ts cs) i ≡ Some (cell_of ts old)
     → Weighed weight (cell_of ts old) o u r (cell_of ts new)
     → WeighedCell (cells_of ts cs) i (cell_of ts old) o u r (cells_of ts (slice_set cs i new))
-weighed_cell ts cs i old new None u (Ok left) g w = (set_cells ts cs i new ∙ ap (λ c. slice_set (cells_of ts cs) i c) w.0 ∙ set_same (cells_of ts cs) i (cell_of ts old) g, w.1)
-weighed_cell ts cs i old new (Some d) u (Ok left) g w = (set_cells ts cs i new ∙ ap (λ c. slice_set (cells_of ts cs) i c) w.0, w.1)
+weighed_cell ts cs i old new None u (Ok left) g w = (
+  set_cells ts cs i new
+      ∙ ap (λ c. slice_set (cells_of ts cs) i c) w.0
+      ∙ set_same (cells_of ts cs) i (cell_of ts old) g,
+  w.1,
+)
+weighed_cell ts cs i old new (Some d) u (Ok left) g w =
+    (set_cells ts cs i new ∙ ap (λ c. slice_set (cells_of ts cs) i c) w.0, w.1)
 weighed_cell ts cs i old new o u (Err e) g w = w
 
-pub weighed-at : (ts : List (List ℕ)) (cs : List Stored) (i : ℕ) (old new : Stored) (ch : Change) (u : ℕ) (r : Result ℕ Refused)
+pub weighed-at : (ts : List (List ℕ)) (cs : List Stored) (i : ℕ) (old new : Stored) (ch : Change) (u : ℕ)
+    (r : Result ℕ Refused)
     → i < length cs
     → get_or cs i old ≡ old
     → Weighed weight (cell_of ts old) (changed (cell_of ts old) ch) u r (cell_of ts new)

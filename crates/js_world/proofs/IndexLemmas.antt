@@ -69,7 +69,9 @@ finds_if true ts m n key text e i f u =
     let P : List ℕ → Type 0 = λ t. get_by (is_text t) n ≡ number_of (ts ++ key.items ∷ []) t in
     subst P (sym g) (u.1 ∙ sym (number-last ts key.items f))
 finds_if false ts m n key text e i f u =
-    keeps key m.entries n.entries text u.3 e ∙ i.finds text ∙ sym (number-other ts key.items text (turned text key.items e))
+    keeps key m.entries n.entries text u.3 e
+    ∙ i.finds text
+    ∙ sym (number-other ts key.items text (turned text key.items e))
 
 -- one text more
 pub indexed-more : {Z S : Type 0} (ts : List (List ℕ)) (m n : HashMap (Vec ℕ Z) ℕ S) (key : Vec ℕ Z)
@@ -78,7 +80,11 @@ pub indexed-more : {Z S : Type 0} (ts : List (List ℕ)) (m n : HashMap (Vec ℕ
     → Updates same_key m n key (Some (length ts))
     → IsIndexed (ts ++ key.items ∷ []) n
 indexed-more ts m n key i f u =
-    record { finds = λ text. finds_if (pointwise nat_eq text key.items) ts m n key text refl i f u; differ = differ-more ts key.items i.differ f }
+    record {
+      finds = λ text. finds_if (pointwise nat_eq text key.items)
+          ts m n key text refl i f u;
+      differ = differ-more ts key.items i.differ f;
+    }
 
 -- ---- one text less
 
@@ -116,7 +122,11 @@ popped ts us m n last text f e i u =
     let P : List (List ℕ) → Type 0 = λ xs. IsIndexed xs m in
     let e : us ≡ ts ++ text ∷ [] = e ∙ ap (λ t. ts ++ t ∷ []) (sym f) in
     let j : IsIndexed (ts ++ text ∷ []) m = subst P e i in
-    record { finds = λ other. left_if (pointwise nat_eq other text) ts m n text other refl j u; differ = differ-less ts text j.differ }
+    record {
+      finds = λ other. left_if (pointwise nat_eq other text)
+          ts m n text other refl j u;
+      differ = differ-less ts text j.differ;
+    }
 
 -- ---- as the code has it
 
@@ -129,7 +139,8 @@ found-text ts us m text n v i e =
     let P : List (List ℕ) → Type 0 = λ xs. (name_of xs n ≡ text) × (n < length xs) in
     subst P v (number-text ts text n (sym (i.finds text) ∙ sym e))
 
-pub pushed : {Z S : Type 0} (ts us vs ws : List (List ℕ)) (m n : HashMap (Vec ℕ Z) ℕ S) (key : Vec ℕ Z) (text name : List ℕ) (l : ℕ)
+pub pushed : {Z S : Type 0} (ts us vs ws : List (List ℕ)) (m n : HashMap (Vec ℕ Z) ℕ S) (key : Vec ℕ Z)
+    (text name : List ℕ) (l : ℕ)
     → ts ≡ us
     → IsIndexed ts m
     → number_of us text ≡ None

@@ -20,7 +20,16 @@ made_base : (ts : List (List ℕ)) (cs ds : List Stored) (c : Stored) (l u left 
     → make_cell (base_world ts cs l u) (cell_of ts c) ≡ fine (Base at) (base_world ts ds (l - 1) left)
 made_base ts cs ds c l u left at e h f i =
     let g : u - weight (cell_of ts c) ≡ left = omega (arith, f) in
-    rw (lt-ltb 0 l h, le-leb (weight (cell_of ts c)) u (omega (arith, f)), g, cells-length ts cs, ← i, e, cells-append ts cs (c ∷ [])) refl
+    rw (
+      lt-ltb 0 l h,
+      le-leb (weight (cell_of ts c)) u (omega (arith, f)),
+      g,
+      cells-length ts cs,
+      ← i,
+      e,
+      cells-append ts cs (c ∷ []),
+    )
+    refl
 
 pub units_same : (units left u w : ℕ) → units + left ≡ u → units ≡ min w (2 ^ 64 - 1) → u < 2 ^ 32 → w + left ≡ u
 units_same units left u w e f h = grind arith
@@ -35,8 +44,12 @@ pub made-heap : (h g : Heap) (ds : List Stored) (c : Stored) (units left at : �
     → (ts : List (List ℕ))
     → make_cell (heap_world ts g) (cell_of ts c) ≡ fine (Base at) (base_world ts ds (h.cells_left - 1) left)
 made-heap h g ds c units left at e f m w s i ts =
-    let P : Heap → Type 0 = λ x. make_cell (heap_world ts x) (cell_of ts c) ≡ fine (Base at) (base_world ts ds (h.cells_left - 1) left) in
-    subst P e (made_base ts h.cells ds c h.cells_left h.units_left left at f m.0 (units_same units left h.units_left (weight (cell_of ts c)) m.1 (w ts) s) i)
+    let P : Heap
+    → Type 0 = λ x. make_cell (heap_world ts x) (cell_of ts c) ≡ fine (Base at)
+    (base_world ts ds (h.cells_left - 1) left) in
+    subst P e
+    (made_base ts h.cells ds c h.cells_left h.units_left left at f m.0
+    (units_same units left h.units_left (weight (cell_of ts c)) m.1 (w ts) s) i)
 
 pub made-fit : (cs ds : List Stored) (c : Stored) (ends l : ℕ)
     → Fit cs ends l
@@ -46,4 +59,9 @@ pub made-fit : (cs ds : List Stored) (c : Stored) (ends l : ℕ)
     → Fit ds ends (l - 1)
 made-fit cs ds c ends l f e g h =
     let P : List Stored → Type 0 = λ xs. Fit xs ends (l - 1) in
-    subst P (sym g) (record { within = within-append ends cs c f.within (test-within c ends e); places = omega (arith, f.places, h, length-append cs (c ∷ [])) })
+    subst P (sym g)
+    (record {
+      within = within-append ends cs c f.within (test-within c ends e);
+      places = omega
+          (arith, f.places, h, length-append cs (c ∷ []));
+    })

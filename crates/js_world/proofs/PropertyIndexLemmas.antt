@@ -39,7 +39,8 @@ index-text key i h =
     let tests = and_parts (is_shortest key) (all_ascii_digits key) outer.0 in
     let low = ltb-true (digits_value 10 key) (2 ^ 32 - 1) inner.0 in
     let small : digits_value 10 key < 2 ^ 64 = omega arith in
-    let text = decimal-digits_value digits_are_numerals key tests.1 (shortest_full key tests.0) (shortest_first key tests.0) small in
+    let text = decimal-digits_value digits_are_numerals key tests.1 (shortest_full key tests.0)
+    (shortest_first key tests.0) small in
     let is : digits_value 10 key ≡ i = cc (inner.1) in
     cc
 
@@ -91,7 +92,8 @@ pub indices-place : (is : List ℕ) (ps : List Property) (key : List ℕ) (x : �
 indices-place [] [] key x h k = refl
 indices-place [] (p ∷ ps) key x h k = absurd h
 indices-place (i ∷ is) [] key x h k = absurd h
-indices-place (i ∷ is) (p ∷ ps) key x h k = choose _ _ _ _ (same-index p.key key i x h.0 k) (indices-place is ps key x h.1 k)
+indices-place (i ∷ is) (p ∷ ps) key x h k =
+    choose _ _ _ _ (same-index p.key key i x h.0 k) (indices-place is ps key x h.1 k)
 
 else_more : (b : Bool) (m n : ℕ) → b ≡ false → m ≡ n → (if b then 0 else 1 + m) ≡ suc n
 else_more true m n e f = cc
@@ -109,7 +111,8 @@ pub indices-other : (is : List ℕ) (ps : List Property) (key : List ℕ)
 indices-other [] [] key h k = refl
 indices-other [] (p ∷ ps) key h k = absurd h
 indices-other (i ∷ is) [] key h k = absurd h
-indices-other (i ∷ is) (p ∷ ps) key h k = else_more (same_units p.key key) _ _ (other-key p.key key i h.0 k) (indices-other is ps key h.1 k)
+indices-other (i ∷ is) (p ∷ ps) key h k =
+    else_more (same_units p.key key) _ _ (other-key p.key key i h.0 k) (indices-other is ps key h.1 k)
 
 before_if : (x i : ℕ) (o : Option ℕ) → o ≡ Some i → stands_before (Some x) o ≡ nat_lt x i
 before_if x i o e = ap (stands_before (Some x)) e
@@ -120,7 +123,8 @@ pub indices-above : (is : List ℕ) (ps : List Property) (x : ℕ)
 indices-above [] [] x h = refl
 indices-above [] (p ∷ ps) x h = absurd h
 indices-above (i ∷ is) [] x h = absurd h
-indices-above (i ∷ is) (p ∷ ps) x h = choose _ _ _ _ (before_if x i (index_of_key p.key) h.0) (indices-above is ps x h.1)
+indices-above (i ∷ is) (p ∷ ps) x h =
+    choose _ _ _ _ (before_if x i (index_of_key p.key) h.0) (indices-above is ps x h.1)
 
 -- ---- ascending indices
 
@@ -167,7 +171,8 @@ place-found (j ∷ is) x (suc i) h l e =
 
 place-absent : (is : List ℕ) (x : ℕ) → ((k : ℕ) → k < length is → get_or is k 0 ≡ x → ⊥) → index_place is x ≡ length is
 place-absent [] x h = refl
-place-absent (j ∷ is) x h = else_more (nat_eq j x) _ _ (ne_eqb j x (h 0 (omega arith))) (place-absent is x (λ k l. h (suc k) (omega arith)))
+place-absent (j ∷ is) x h =
+    else_more (nat_eq j x) _ _ (ne_eqb j x (h 0 (omega arith))) (place-absent is x (λ k l. h (suc k) (omega arith)))
 
 place-above : (is : List ℕ) (x i : ℕ)
     → i ≤ length is
@@ -178,7 +183,9 @@ place-above [] x i l b a = omega arith
 place-above (j ∷ is) x zero l b a = then_none (nat_lt x j) _ (lt-ltb x j (a 0 (omega arith) (omega arith)))
 place-above (j ∷ is) x (suc i) l b a =
     let low : j < x = b 0 (omega arith) in
-    else_more (nat_lt x j) _ _ (le-ltb x j (omega arith)) (place-above is x i (omega arith) (λ k m. b (suc k) (omega arith)) (λ k m n. a (suc k) (omega arith) (omega arith)))
+    else_more (nat_lt x j) _ _ (le-ltb x j (omega arith))
+    (place-above is x i (omega arith) (λ k m. b (suc k) (omega arith))
+    (λ k m n. a (suc k) (omega arith) (omega arith)))
 
 -- ---- what a search says of the properties
 
@@ -256,7 +263,11 @@ ascend-insert : (is : List ℕ) (i x : ℕ)
     → Ascend (insert is i x)
 ascend-insert is zero x h l b a = (above-all x is (λ k m. a k (omega arith) m), h)
 ascend-insert [] (suc i) x h l b a = absurd (omega arith)
-ascend-insert (j ∷ is) (suc i) x h l b a = (above-insert j is i x h.0 (b 0 (omega arith)), ascend-insert is i x h.1 (omega arith) (λ k m. b (suc k) (omega arith)) (λ k m n. a (suc k) (omega arith) (omega arith)))
+ascend-insert (j ∷ is) (suc i) x h l b a = (
+  above-insert j is i x h.0 (b 0 (omega arith)),
+  ascend-insert is i x h.1 (omega arith) (λ k m. b (suc k) (omega arith))
+      (λ k m n. a (suc k) (omega arith) (omega arith)),
+)
 
 pub search-ascend : (is : List ℕ) (x i : ℕ) (r : Result ℕ ℕ)
     → Ascend is

@@ -26,7 +26,8 @@ pub same-sym : (us vs : List ℕ) → same_units us vs ≡ same_units vs us
 same-sym [] [] = refl
 same-sym [] (v ∷ vs) = refl
 same-sym (u ∷ us) [] = refl
-same-sym (u ∷ us) (v ∷ vs) = both (nat_eq u v) (nat_eq v u) (same_units us vs) (same_units vs us) (eq_sym u v) (same-sym us vs)
+same-sym (u ∷ us) (v ∷ vs) =
+    both (nat_eq u v) (nat_eq v u) (same_units us vs) (same_units vs us) (eq_sym u v) (same-sym us vs)
 
 -- ---- a list beside the properties
 
@@ -47,7 +48,8 @@ zip-push R [] (q ∷ ps) x p h r = absurd h
 zip-push R (y ∷ xs) [] x p h r = absurd h
 zip-push R (y ∷ xs) (q ∷ ps) x p h r = (h.0, zip-push R xs ps x p h.1 r)
 
-pub zip-insert : {A : Type 0} (R : A → Property → Type 0) (xs : List A) (ps : List Property) (i : ℕ) (x : A) (p : Property)
+pub zip-insert : {A : Type 0} (R : A → Property → Type 0) (xs : List A) (ps : List Property) (i : ℕ) (x : A)
+    (p : Property)
     → AllZip R xs ps
     → R x p
     → AllZip R (insert xs i x) (insert ps i p)
@@ -67,7 +69,9 @@ zip-remove R (y ∷ xs) [] i h = absurd h
 zip-remove R (y ∷ xs) (q ∷ ps) zero h = h.1
 zip-remove R (y ∷ xs) (q ∷ ps) (suc i) h = (h.0, zip-remove R xs ps i h.1)
 
-pub zip-value : {A : Type 0} (R : A → Property → Type 0) (same : (x : A) (p : Property) (v : Value) → R x p → R x (record p { value = v })) (xs : List A) (ps : List Property) (i : ℕ) (v : Value)
+pub zip-value : {A : Type 0} (R : A → Property → Type 0)
+    (same : (x : A) (p : Property) (v : Value) → R x p → R x (record p { value = v })) (xs : List A)
+    (ps : List Property) (i : ℕ) (v : Value)
     → AllZip R xs ps
     → AllZip R xs (with_value_at ps i v)
 zip-value R same [] [] i v h = tt
@@ -102,7 +106,9 @@ pub keys-place : {Z : Type 0} (ks : List (Vec ℕ Z)) (ps : List Property) (key 
 keys-place [] [] key h = refl
 keys-place [] (p ∷ ps) key h = absurd h
 keys-place (k ∷ ks) [] key h = absurd h
-keys-place (k ∷ ks) (p ∷ ps) key h = place_if (pointwise nat_eq key k.items) (same_units p.key key) _ (key_place ps key) (same_key key k.items p h.0) (keys-place ks ps key h.1)
+keys-place (k ∷ ks) (p ∷ ps) key h =
+    place_if (pointwise nat_eq key k.items) (same_units p.key key) _ (key_place ps key) (same_key key k.items p h.0)
+    (keys-place ks ps key h.1)
 
 cond_some : (b : Bool) (n i : ℕ) → Some i ≡ cond b (Some n) None → i ≡ n
 cond_some true n i e = cc
@@ -144,7 +150,9 @@ pub keys-has : {Z : Type 0} (ks : List (Vec ℕ Z)) (ps : List Property) (key : 
 keys-has [] [] key h = refl
 keys-has [] (p ∷ ps) key h = absurd h
 keys-has (k ∷ ks) [] key h = absurd h
-keys-has (k ∷ ks) (p ∷ ps) key h = either (pointwise nat_eq key k.items) (same_units p.key key) _ (has_key ps key) (same_key key k.items p h.0) (keys-has ks ps key h.1)
+keys-has (k ∷ ks) (p ∷ ps) key h =
+    either (pointwise nat_eq key k.items) (same_units p.key key) _ (has_key ps key) (same_key key k.items p h.0)
+    (keys-has ks ps key h.1)
 
 pub if_false : {A : Type 0} (b : Bool) (xs ys : List A) → b ≡ false → (if b then xs else ys) ≡ ys
 if_false true xs ys e = cc

@@ -52,7 +52,9 @@ value-place (p ∷ ps) key v = value_if (same_units p.key key) p ps _ v _ (value
 pub put-there : (ps : List Property) (key : List ℕ) (v : Value)
     → key_place ps key < length ps
     → put_property ps key v ≡ with_value_at ps (key_place ps key) v
-put-there ps key v h = put_old (has_key ps key) ps key v (has-place ps key ∙ lt-ltb (key_place ps key) (length ps) h) ∙ value-place ps key v
+put-there ps key v h =
+    put_old (has_key ps key) ps key v (has-place ps key ∙ lt-ltb (key_place ps key) (length ps) h)
+    ∙ value-place ps key v
 
 pub has-past : (ps : List Property) (key : List ℕ) → length ps ≤ key_place ps key → has_key ps key ≡ false
 has-past ps key h = has-place ps key ∙ le-ltb (key_place ps key) (length ps) h

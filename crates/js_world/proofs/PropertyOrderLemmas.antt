@@ -33,8 +33,10 @@ follow_before : (p q : Property) (ps : List Property)
     → AllFollow p ps
 follow_before p q [] b n h = tt
 follow_before p q (r ∷ ps) b n h =
-    let t = or_parts (same_units r.key p.key) (has_key ps p.key) n in
-    ((same-sym p.key r.key ∙ t.0, before_all (index_of_key p.key) (index_of_key q.key) (index_of_key r.key) b h.0.1), follow_before p q ps b t.1 h.1)
+    let t = or_parts (same_units r.key p.key) (has_key ps p.key) n in (
+      (same-sym p.key r.key ∙ t.0, before_all (index_of_key p.key) (index_of_key q.key) (index_of_key r.key) b h.0.1),
+      follow_before p q ps b t.1 h.1,
+    )
 
 follow_if : (b : Bool) (q p r : Property) (ps qs : List Property)
     → MayFollow q p
@@ -46,7 +48,9 @@ follow_if false q p r ps qs m h k = (h.0, k)
 
 follow_placed : (q p : Property) (ps : List Property) → MayFollow q p → AllFollow q ps → AllFollow q (placed ps p)
 follow_placed q p [] m h = (m, tt)
-follow_placed q p (r ∷ ps) m h = follow_if (stands_before (index_of_key p.key) (index_of_key r.key)) q p r ps (placed ps p) m h (follow_placed q p ps m h.1)
+follow_placed q p (r ∷ ps) m h =
+    follow_if (stands_before (index_of_key p.key) (index_of_key r.key)) q p r ps (placed ps p) m h
+    (follow_placed q p ps m h.1)
 
 placed_if : (b : Bool) (p q : Property) (ps qs : List Property)
     → (b ≡ true → AreInOrder (p ∷ q ∷ ps))
@@ -63,7 +67,13 @@ order-placed [] p h n = (tt, tt)
 order-placed (q ∷ ps) p h n =
     let t = or_parts (same_units q.key p.key) (has_key ps p.key) n in
     placed_if (stands_before (index_of_key p.key) (index_of_key q.key)) p q ps (placed ps p)
-    (λ b. (((same-sym p.key q.key ∙ t.0, before_other (index_of_key p.key) (index_of_key q.key) b), follow_before p q ps b t.1 h.0), h))
+    (λ b. (
+      (
+        (same-sym p.key q.key ∙ t.0, before_other (index_of_key p.key) (index_of_key q.key) b),
+        follow_before p q ps b t.1 h.0,
+      ),
+      h,
+    ))
     (λ b. (follow_placed q p ps (t.0, b) h.0, order-placed ps p h.1 t.1))
 
 -- ---- another value, one property less
@@ -131,7 +141,8 @@ pub order-fresh : (ps : List Property) (n : ℕ) (d : Property)
     → has_key (take n ps) (get_or ps n d).key ≡ false
 order-fresh ps zero d h l = refl
 order-fresh [] (suc n) d h l = absurd (omega arith)
-order-fresh (p ∷ ps) (suc n) d h l = or_from _ _ (follow_at p d ps n h.0 (omega arith)) (order-fresh ps n d h.1 (omega arith))
+order-fresh (p ∷ ps) (suc n) d h l =
+    or_from _ _ (follow_at p d ps n h.0 (omega arith)) (order-fresh ps n d h.1 (omega arith))
 
 -- ---- indices in front, names behind
 
@@ -145,7 +156,8 @@ above_from p i [] (q ∷ ps) e h f = absurd h
 above_from p i (j ∷ is) [] e h f = absurd h
 above_from p i (j ∷ is) (q ∷ ps) e h f =
     let differ = eqb-false i j (sym (same-index p.key q.key i j e h.0) ∙ f.0.0) in
-    let late = ltb-false j i (sym (ap (stands_before (Some j)) e) ∙ sym (ap (λ o. stands_before o (index_of_key p.key)) h.0) ∙ f.0.1) in
+    let late = ltb-false j i
+    (sym (ap (stands_before (Some j)) e) ∙ sym (ap (λ o. stands_before o (index_of_key p.key)) h.0) ∙ f.0.1) in
     let k : i < j = omega arith in
     (k, above_from p i is ps e h.1 f.1)
 

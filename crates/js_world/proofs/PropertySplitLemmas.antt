@@ -78,7 +78,8 @@ placed_first : (ns : List Property) (p : Property) (i : ℕ)
     → index_of_key p.key ≡ Some i
     → placed ns p ≡ p ∷ ns
 placed_first [] p i h e = refl
-placed_first (n ∷ ns) p i h e = if_true (stands_before (index_of_key p.key) (index_of_key n.key)) _ _ (before_name i _ _ e h.0)
+placed_first (n ∷ ns) p i h e =
+    if_true (stands_before (index_of_key p.key) (index_of_key n.key)) _ _ (before_name i _ _ e h.0)
 
 placed_if : (b : Bool) (p e : Property) (es ns qs rs : List Property)
     → qs ≡ rs ++ ns
@@ -92,7 +93,8 @@ pub placed-index : (es ns : List Property) (p : Property) (i : ℕ)
     → index_of_key p.key ≡ Some i
     → placed (es ++ ns) p ≡ placed es p ++ ns
 placed-index [] ns p i h e = placed_first ns p i h e
-placed-index (q ∷ es) ns p i h e = placed_if (stands_before (index_of_key p.key) (index_of_key q.key)) p q es ns _ _ (placed-index es ns p i h e)
+placed-index (q ∷ es) ns p i h e =
+    placed_if (stands_before (index_of_key p.key) (index_of_key q.key)) p q es ns _ _ (placed-index es ns p i h e)
 
 no_name_before : (o p : Option ℕ) → o ≡ None → stands_before o p ≡ false
 no_name_before o p e = cc

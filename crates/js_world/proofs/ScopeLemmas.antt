@@ -43,12 +43,15 @@ pub binding-there : (ts : List (List ℕ)) (ss : List Slot) (n : ℕ) (d : Slot)
     → slot_place ss n < length ss
     → binding_of (bindings ts ss) (name_of ts n) ≡ Some (binding_at ts (get_or ss (slot_place ss n) d))
 binding-there ts [] n d f h = absurd (omega arith)
-binding-there ts (s ∷ ss) n d f h = rw (same-names ts s.name.number n f) (there (nat_eq s.name.number n) (binding-there ts ss n d f) h)
+binding-there ts (s ∷ ss) n d f h =
+    rw (same-names ts s.name.number n f) (there (nat_eq s.name.number n) (binding-there ts ss n d f) h)
   where
     there : (t : Bool)
-        → (slot_place ss n < length ss → binding_of (bindings ts ss) (name_of ts n) ≡ Some (binding_at ts (get_or ss (slot_place ss n) d)))
+        → (slot_place ss n < length ss
+        → binding_of (bindings ts ss) (name_of ts n) ≡ Some (binding_at ts (get_or ss (slot_place ss n) d)))
         → (if t then 0 else 1 + slot_place ss n) < suc (length ss)
-        → (if t then Some (binding_at ts s) else binding_of (bindings ts ss) (name_of ts n)) ≡ Some (binding_at ts (get_or (s ∷ ss) (if t then 0 else 1 + slot_place ss n) d))
+        → (if t then Some (binding_at ts s) else binding_of (bindings ts ss) (name_of ts n)) ≡ Some
+        (binding_at ts (get_or (s ∷ ss) (if t then 0 else 1 + slot_place ss n) d))
     there true k l = refl
     there false k l = rw (one_plus (slot_place ss n)) (k (omega arith))
 
@@ -57,7 +60,8 @@ pub binding-nowhere : (ts : List (List ℕ)) (ss : List Slot) (n : ℕ)
     → length ss ≤ slot_place ss n
     → binding_of (bindings ts ss) (name_of ts n) ≡ None
 binding-nowhere ts [] n f h = refl
-binding-nowhere ts (s ∷ ss) n f h = rw (same-names ts s.name.number n f) (nowhere (nat_eq s.name.number n) (binding-nowhere ts ss n f) h)
+binding-nowhere ts (s ∷ ss) n f h =
+    rw (same-names ts s.name.number n f) (nowhere (nat_eq s.name.number n) (binding-nowhere ts ss n f) h)
   where
     nowhere : (t : Bool)
         → (length ss ≤ slot_place ss n → binding_of (bindings ts ss) (name_of ts n) ≡ None)
@@ -71,13 +75,17 @@ binding-nowhere ts (s ∷ ss) n f h = rw (same-names ts s.name.number n f) (nowh
 pub parameters-slots : (ts : List (List ℕ)) (i : ℕ) (ns : List NameId) (args : List Value)
     → bindings ts (slots_from i ns args) ≡ parameters_from i (texts_of ts ns) args
 parameters-slots ts i [] args = refl
-parameters-slots ts i (n ∷ ns) args = ap {B = List Binding} (λ bs. record { name = name_of ts n.number; constant = false; value = Some (argument args i) } ∷ bs) (parameters-slots ts (i + 1) ns args)
+parameters-slots ts i (n ∷ ns) args =
+    ap {B = List Binding}
+    (λ bs. record { name = name_of ts n.number; constant = false; value = Some (argument args i) } ∷ bs)
+    (parameters-slots ts (i + 1) ns args)
 
 pub call-slots : (ts : List (List ℕ)) (ns : List NameId) (args : List Value) (ss all others : List Slot)
     → ss ≡ slots_from 0 ns args
     → all ≡ ss ++ others
     → bindings ts all ≡ parameters_from 0 (texts_of ts ns) args ++ bindings ts others
-call-slots ts ns args ss all others e f = rw (f, e, bindings-append ts (slots_from 0 ns args) others, parameters-slots ts 0 ns args) refl
+call-slots ts ns args ss all others e f =
+    rw (f, e, bindings-append ts (slots_from 0 ns args) others, parameters-slots ts 0 ns args) refl
 
 pub argument-at : (vs : List Value) (i : ℕ) (d : Value) → i < length vs → argument vs i ≡ get_or vs i d
 argument-at [] i d h = absurd (omega arith)
@@ -97,7 +105,8 @@ pub look-there : (ts : List (List ℕ)) (ss : List Slot) (place n : ℕ) (d : Sl
     → Differ ts
     → place ≡ slot_place ss n
     → place < length ss
-    → kept_found (found_here a (binding_of (bindings ts ss) (name_of ts n)) further) ≡ Some (record { scope = a; constant = (get_or ss place d).constant; value = (get_or ss place d).value })
+    → kept_found (found_here a (binding_of (bindings ts ss) (name_of ts n)) further) ≡ Some
+    (record { scope = a; constant = (get_or ss place d).constant; value = (get_or ss place d).value })
 look-there ts ss place n d a further f e h =
     let P : ℕ → Type 0 = λ i. i < length ss in
     let k : slot_place ss n < length ss = subst P e h in
@@ -130,7 +139,9 @@ value-at ts (s ∷ ss) n v f = rw (same-names ts s.name.number n f) (at (nat_eq 
   where
     at : (t : Bool)
         → bindings ts (with_value_at ss (slot_place ss n) v) ≡ bound (bindings ts ss) (name_of ts n) v
-        → bindings ts (with_value_at (s ∷ ss) (if t then 0 else 1 + slot_place ss n) v) ≡ (if t then record (binding_at ts s) { value = Some v } ∷ bindings ts ss else binding_at ts s ∷ bound (bindings ts ss) (name_of ts n) v)
+        → bindings ts (with_value_at (s ∷ ss) (if t then 0 else 1 + slot_place ss n) v) ≡
+        (if t then record (binding_at ts s) { value = Some v } ∷ bindings ts ss else binding_at ts s ∷ bound
+        (bindings ts ss) (name_of ts n) v)
     at true e = refl
     at false e = rw (one_plus (slot_place ss n)) (ap {B = List Binding} (λ bs. binding_at ts s ∷ bs) e)
 

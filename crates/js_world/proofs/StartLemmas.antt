@@ -17,7 +17,8 @@ use Rattle.js_world.proofs.WithinLemmas.{slots-append, within-append}
 -- ---- tables
 
 pub goes-then : (ts us vs : List (List ℕ)) → GoesOn ts us → GoesOn us vs → GoesOn ts vs
-goes-then ts us vs a b = record { more = a.more ++ b.more; is = b.is ∙ ap (λ xs. xs ++ b.more) a.is ∙ append_assoc ts a.more b.more }
+goes-then ts us vs a b =
+    record { more = a.more ++ b.more; is = b.is ∙ ap (λ xs. xs ++ b.more) a.is ∙ append_assoc ts a.more b.more }
 
 -- ---- names
 
@@ -28,7 +29,12 @@ pub name-more : (ts : List (List ℕ)) (ss rs : List Slot) (s : Slot) (b : Bindi
     → GainsNames ts ss rs (b ∷ [])
 name-more ts ss rs s b e f h =
     let P : List Slot → Type 0 = λ xs. GainsNames ts ss xs (b ∷ []) in
-    subst P (sym e) (record { names = bindings-append ts ss (s ∷ []) ∙ ap (λ c. bindings ts ss ++ c ∷ []) f; within = λ k. slots-append (length ts) ss s k h })
+    subst P (sym e)
+    (record {
+      names = bindings-append ts ss (s ∷ [])
+          ∙ ap (λ c. bindings ts ss ++ c ∷ []) f;
+      within = λ k. slots-append (length ts) ss s k h;
+    })
 
 -- ---- cells
 
@@ -41,13 +47,24 @@ pub cell-more : (ts : List (List ℕ)) (cs ds : List Stored) (c : Stored) (d : C
     → GainsCells ts cs ds (d ∷ [])
 cell-more ts cs ds c d e i =
     let P : List Stored → Type 0 = λ xs. GainsCells ts cs xs (d ∷ []) in
-    subst P (sym e) (record { cells = cells-append ts cs (c ∷ []) ∙ ap (λ x. cells_of ts cs ++ x ∷ []) i.cell; within = λ k. within-append (length ts) cs c k i.within })
+    subst P (sym e)
+    (record {
+      cells = cells-append ts cs (c ∷ [])
+          ∙ ap (λ x. cells_of ts cs ++ x ∷ []) i.cell;
+      within = λ k. within-append (length ts) cs c k i.within;
+    })
 
 pub cells-then : (ts : List (List ℕ)) (cs ds es : List Stored) (xs ys : List Cell)
     → GainsCells ts cs ds xs
     → GainsCells ts ds es ys
     → GainsCells ts cs es (xs ++ ys)
-cells-then ts cs ds es xs ys a b = record { cells = b.cells ∙ ap (λ bs. bs ++ ys) a.cells ∙ append_assoc (cells_of ts cs) xs ys; within = λ k. b.within (a.within k) }
+cells-then ts cs ds es xs ys a b =
+    record {
+      cells = b.cells
+          ∙ ap (λ bs. bs ++ ys) a.cells
+          ∙ append_assoc (cells_of ts cs) xs ys;
+      within = λ k. b.within (a.within k);
+    }
 
 -- ---- literals
 
@@ -68,7 +85,8 @@ pub literals-step : (ts : List (List ℕ)) (cs ds es : List Stored) (xs : List (
 literals-step ts cs ds es xs i x a b h e =
     let o : suc i ≡ i + 1 = omega arith in
     let P : List Cell → Type 0 = λ ys. GainsCells ts cs es ys in
-    subst P (sym (take_more xs i x h e) ∙ ap (λ j. literal_cells (take j xs)) o) (cells-then ts cs ds es (literal_cells (take i xs)) (literal_cells (x ∷ [])) a b)
+    subst P (sym (take_more xs i x h e) ∙ ap (λ j. literal_cells (take j xs)) o)
+    (cells-then ts cs ds es (literal_cells (take i xs)) (literal_cells (x ∷ [])) a b)
 
 take_all : (xs : List (List ℕ)) (i : ℕ) → length xs ≤ i → take i xs ≡ xs
 take_all [] zero h = refl
@@ -91,7 +109,8 @@ literals_length (x ∷ xs) = ap suc (literals_length xs)
 gains_length : (ts : List (List ℕ)) (cs ds : List Stored) (xs : List Cell)
     → GainsCells ts cs ds xs
     → length ds ≡ length cs + length xs
-gains_length ts cs ds xs g = omega (arith, cells-length ts ds, cells-length ts cs, ap length g.cells, length-append (cells_of ts cs) xs)
+gains_length ts cs ds xs g =
+    omega (arith, cells-length ts ds, cells-length ts cs, ap length g.cells, length-append (cells_of ts cs) xs)
 
 pub start-fit : (ts : List (List ℕ)) (cs ds es : List Stored) (xs : List (List ℕ))
     → cs ≡ []
@@ -104,5 +123,13 @@ start-fit ts cs ds es xs e a b h =
     let l : length cs ≡ 0 = ap length e in
     record {
       within = b.within (a.within none);
-      places = omega (arith, h, l, gains_length ts cs ds built_in_cells a, gains_length ts ds es (literal_cells xs) b, literals_length xs);
+      places =
+          omega (
+            arith,
+            h,
+            l,
+            gains_length ts cs ds built_in_cells a,
+            gains_length ts ds es (literal_cells xs) b,
+            literals_length xs,
+          );
     }

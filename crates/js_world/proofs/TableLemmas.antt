@@ -37,9 +37,15 @@ one_number : (ts : List (List ℕ)) (m n : ℕ) (o p : Option (List ℕ))
     → unwrap_or o (spare ts m) ≡ unwrap_or p (spare ts n)
     → m ≡ n
 one_number ts m n (Some t) (Some u) e f d h = d m n t e (let h' : t ≡ u = h in f ∙ ap (λ s. Some s) (sym h'))
-one_number ts m n (Some t) None e f d h = let l : length t ≡ length (spare ts n) = ap length h in absurd (omega (arith, l, get_total ts m t e, spare_long ts n))
-one_number ts m n None (Some u) e f d h = let l : length (spare ts m) ≡ length u = ap length h in absurd (omega (arith, l, get_total ts n u f, spare_long ts m))
-one_number ts m n None None e f d h = let l : length (spare ts m) ≡ length (spare ts n) = ap length h in omega (arith, l, spare_long ts m, spare_long ts n)
+one_number ts m n (Some t) None e f d h =
+    let l : length t ≡ length (spare ts n) = ap length h in
+    absurd (omega (arith, l, get_total ts m t e, spare_long ts n))
+one_number ts m n None (Some u) e f d h =
+    let l : length (spare ts m) ≡ length u = ap length h in
+    absurd (omega (arith, l, get_total ts n u f, spare_long ts m))
+one_number ts m n None None e f d h =
+    let l : length (spare ts m) ≡ length (spare ts n) = ap length h in
+    omega (arith, l, spare_long ts m, spare_long ts n)
 
 pub name-once : (ts : List (List ℕ)) (m n : ℕ) → Differ ts → name_of ts m ≡ name_of ts n → m ≡ n
 unfolding name_of

@@ -66,16 +66,21 @@ placed_if false p new ps qs e = (omega (arith, e.0), omega (arith, e.1))
 placed_counts : (ps : List Property) (new : Property)
     → (properties_weight (placed ps new) ≡ properties_weight (new ∷ ps)) × (length (placed ps new) ≡ suc (length ps))
 placed_counts [] new = (refl, refl)
-placed_counts (p ∷ ps) new = placed_if (stands_before (index_of_key new.key) (index_of_key p.key)) p new ps (placed ps new) (placed_counts ps new)
+placed_counts (p ∷ ps) new =
+    placed_if (stands_before (index_of_key new.key) (index_of_key p.key)) p new ps (placed ps new)
+    (placed_counts ps new)
 
 -- what properties count with a key
 put_if : (b : Bool) (ps : List Property) (key : List ℕ) (v : Value)
-    → let qs : List Property = if b then with_value ps key v else placed ps (assigned key v) in (properties_weight qs ≡ properties_weight ps + (if b then 0 else 8 + length key)) × (length qs ≡ length ps + (if b then 0 else 1))
+    → let qs : List Property = if b then with_value ps key v else placed ps (assigned key v) in
+    (properties_weight qs ≡ properties_weight ps + (if b then 0 else 8 + length key))
+    × (length qs ≡ length ps + (if b then 0 else 1))
 put_if true ps key v = let e = with_counts ps key v in (omega (arith, e.0), omega (arith, e.1))
 put_if false ps key v = let e = placed_counts ps (assigned key v) in (omega (arith, e.0), omega (arith, e.1))
 
 put_counts : (ps : List Property) (key : List ℕ) (v : Value)
-    → (properties_weight (put_property ps key v) ≡ properties_weight ps + (if has_key ps key then 0 else 8 + length key))
+    → (properties_weight (put_property ps key v) ≡ properties_weight ps +
+    (if has_key ps key then 0 else 8 + length key))
     × (length (put_property ps key v) ≡ length ps + (if has_key ps key then 0 else 1))
 put_counts ps key v = put_if (has_key ps key) ps key v
 
@@ -100,7 +105,9 @@ pub put-same : (ps qs : List Property) (key : List ℕ) (v : Value) (u : ℕ)
 put-same ps qs key v u e f =
     let c = put_counts ps key v in
     let g : length (put_property ps key v) ≡ length ps = rw (← e) f in
-    let w : properties_weight (put_property ps key v) ≡ properties_weight ps = same_if (has_key ps key) (properties_weight (put_property ps key v)) (properties_weight ps) (length (put_property ps key v)) (length ps) (8 + length key) c.0 c.1 g in
+    let w : properties_weight (put_property ps key v) ≡ properties_weight ps = same_if (has_key ps key)
+    (properties_weight (put_property ps key v)) (properties_weight ps) (length (put_property ps key v)) (length ps)
+    (8 + length key) c.0 c.1 g in
     (e, omega (arith, w))
 
 -- another length: the key is new
@@ -112,7 +119,8 @@ pub put-more : (ps qs : List Property) (key : List ℕ) (v : Value) (u : ℕ)
 put-more ps qs key v u e f h =
     let c = put_counts ps key v in
     let g : length (put_property ps key v) ≡ length ps → ⊥ = λ i. f (rw e i) in
-    let w = more_if (has_key ps key) (properties_weight (put_property ps key v)) (properties_weight ps) (length (put_property ps key v)) (length ps) (8 + length key) u c.0 c.1 g h in
+    let w = more_if (has_key ps key) (properties_weight (put_property ps key v)) (properties_weight ps)
+    (length (put_property ps key v)) (length ps) (8 + length key) u c.0 c.1 g h in
     (w.1, (e, omega (arith, w.0, w.1)))
 
 pub put-exceeds : (ps : List Property) (key : List ℕ) (v : Value) (u : ℕ)
@@ -130,15 +138,22 @@ without_if : (b : Bool) (p : Property) (ps qs : List Property) (key : List ℕ)
     → same_units p.key key ≡ b
     → (length qs ≡ length ps → properties_weight qs ≡ properties_weight ps)
     × ((length qs ≡ length ps → ⊥) → properties_weight qs + (8 + length key) ≡ properties_weight ps)
-    → let rs : List Property = if b then ps else p ∷ qs in (length rs ≡ suc (length ps) → properties_weight rs ≡ properties_weight (p ∷ ps)) × ((length rs ≡ suc (length ps) → ⊥) → properties_weight rs + (8 + length key) ≡ properties_weight (p ∷ ps))
-without_if true p ps qs key e f = let l : length p.key ≡ length key = ap length (same-only p.key key e) in (λ g. absurd (omega (arith, g)), λ g. omega (arith, l))
-without_if false p ps qs key e f = (λ g. omega (arith, f.0 (omega (arith, g))), λ g. omega (arith, f.1 (λ h. g (ap suc h))))
+    → let rs : List Property = if b then ps else p ∷ qs in
+    (length rs ≡ suc (length ps) → properties_weight rs ≡ properties_weight (p ∷ ps))
+    × ((length rs ≡ suc (length ps) → ⊥) → properties_weight rs + (8 + length key) ≡ properties_weight (p ∷ ps))
+without_if true p ps qs key e f =
+    let l : length p.key ≡ length key = ap length (same-only p.key key e) in
+    (λ g. absurd (omega (arith, g)), λ g. omega (arith, l))
+without_if false p ps qs key e f =
+    (λ g. omega (arith, f.0 (omega (arith, g))), λ g. omega (arith, f.1 (λ h. g (ap suc h))))
 
 without_counts : (ps : List Property) (key : List ℕ)
     → (length (without_key ps key) ≡ length ps → properties_weight (without_key ps key) ≡ properties_weight ps)
-    × ((length (without_key ps key) ≡ length ps → ⊥) → properties_weight (without_key ps key) + (8 + length key) ≡ properties_weight ps)
+    × ((length (without_key ps key) ≡ length ps → ⊥)
+    → properties_weight (without_key ps key) + (8 + length key) ≡ properties_weight ps)
 without_counts [] key = (λ g. refl, λ g. absurd (g refl))
-without_counts (p ∷ ps) key = without_if (same_units p.key key) p ps (without_key ps key) key refl (without_counts ps key)
+without_counts (p ∷ ps) key =
+    without_if (same_units p.key key) p ps (without_key ps key) key refl (without_counts ps key)
 
 pub without-same : (ps qs : List Property) (key : List ℕ) (u : ℕ)
     → qs ≡ without_key ps key
@@ -204,5 +219,10 @@ pub weight-step : (ps : List Property) (i : ℕ) (p : Property) (total next : �
     × (min (next + properties_weight (drop (i + 1) ps)) (2 ^ 64 - 1) ≡ min (properties_weight ps) (2 ^ 64 - 1))
 weight-step ps i p total next e f h =
     let o : suc i ≡ i + 1 = omega arith in
-    let w : properties_weight (drop i ps) ≡ 8 + length p.key + properties_weight (drop (i + 1) ps) = ap properties_weight (drop_get ps i p e ∙ ap (λ j. p ∷ drop j ps) o) in
-    (least total next (length p.key) f, step_min total next (properties_weight (drop i ps)) (properties_weight (drop (i + 1) ps)) (2 ^ 64 - 1) (length p.key) f w ∙ h.1)
+    let w : properties_weight (drop i ps) ≡ 8 + length p.key + properties_weight (drop (i + 1) ps)
+    = ap properties_weight (drop_get ps i p e ∙ ap (λ j. p ∷ drop j ps) o) in (
+      least total next (length p.key) f,
+      step_min total next (properties_weight (drop i ps)) (properties_weight (drop (i + 1) ps)) (2 ^ 64 - 1)
+          (length p.key) f w
+          ∙ h.1,
+    )

@@ -94,10 +94,13 @@ name_below (function_names.Made t) n e = tt
 
 slots_below : (ss : List Slot) (n : ℕ) → all_below ss n ≡ true → SlotsWithin n ss
 slots_below [] n e = tt
-slots_below (s ∷ ss) n e = let b = and_parts (nat_lt s.name.number n) (all_below ss n) e in (ltb-true s.name.number n b.0, slots_below ss n b.1)
+slots_below (s ∷ ss) n e =
+    let b = and_parts (nat_lt s.name.number n) (all_below ss n) e in
+    (ltb-true s.name.number n b.0, slots_below ss n b.1)
 
 pub test-within : (c : Stored) (n : ℕ) → is_within c n ≡ true → Within n c
-test-within (stored.Scope k x o ss) n e = let b = and_parts (is_below x n) (all_below ss n) e in (name_below x n b.0, slots_below ss n b.1)
+test-within (stored.Scope k x o ss) n e =
+    let b = and_parts (is_below x n) (all_below ss n) e in (name_below x n b.0, slots_below ss n b.1)
 test-within (stored.Function f) n e = name_below f.value.name n e
 test-within (stored.Object ps) n e = tt
 test-within (stored.Error class ps) n e = tt

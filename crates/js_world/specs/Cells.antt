@@ -69,7 +69,8 @@ texts_of ts (n ∷ ns) = name_of ts n.number ∷ texts_of ts ns
 -- parameters with their arguments
 abbrev pub slots_from : ℕ → List NameId → List Value → List Slot
 slots_from i [] args = []
-slots_from i (n ∷ ns) args = record { name = n; constant = false; value = Some (argument args i) } ∷ slots_from (i + 1) ns args
+slots_from i (n ∷ ns) args =
+    record { name = n; constant = false; value = Some (argument args i) } ∷ slots_from (i + 1) ns args
 
 -- ---- only numbers below one
 

@@ -36,7 +36,11 @@ AreNames (p ∷ ps) = (index_of_key p.key ≡ None) × AreNames ps
 
 -- the place of a number among ascending ones, or else the place at which it would stand
 abbrev pub IsSearched : List ℕ → ℕ → Result ℕ ℕ → Type 0
-IsSearched is x r = MatchResult r (λ i. (i < length is) × (slice_index is i ≡ x)) (λ i. (i ≤ length is) × ((k : ℕ) → k < i → slice_index is k < x) × ((k : ℕ) → i ≤ k → k < length is → x < slice_index is k))
+IsSearched is x r =
+    MatchResult r (λ i. (i < length is) × (slice_index is i ≡ x))
+    (λ i. (i ≤ length is)
+    × ((k : ℕ) → k < i → slice_index is k < x)
+    × ((k : ℕ) → i ≤ k → k < length is → x < slice_index is k))
 
 -- a property may stand behind another: its key differs, and isn't one that stands before (ECMA-262, 10.1.11)
 abbrev pub MayFollow : Property → Property → Type 0

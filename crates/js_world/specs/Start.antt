@@ -11,7 +11,9 @@ use Rattle.js_world.specs.Cells.{bindings, cell_of, cells_of, SlotsWithin, Withi
 
 -- an object with a function as its only property
 abbrev pub holder : Bool → List ℕ → Addr → Cell
-holder enumerable key a = cells.Object (record { key = key; value = values.Object a; writable = true; enumerable = enumerable; configurable = true } ∷ [])
+holder enumerable key a =
+    cells.Object
+    (record { key = key; value = values.Object a; writable = true; enumerable = enumerable; configurable = true } ∷ [])
 
 -- a cell that is of any table of names
 abbrev pub IsCell : Stored → Cell → Type 0

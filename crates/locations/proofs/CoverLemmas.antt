@@ -37,16 +37,23 @@ pub mark_stands : (spans : List Span) (ms : Marks) (i : ℕ) (m : Marked)
     → HasKind (kind_at spans ms (offset_of spans m.mark))
 mark_stands spans [] i m l e = absurd (omega arith)
 mark_stands spans (x ∷ ms) zero m l e =
-    let there : nat_eq (offset_of spans x.mark) (offset_of spans m.mark) ≡ true = eq-eqb (offset_of spans x.mark) (offset_of spans m.mark) (ap (λ (y : Marked). offset_of spans y.mark) e) in
-    subst (λ b. HasKind (if b then strongest x.kind (kind_at spans ms (offset_of spans m.mark)) else kind_at spans ms (offset_of spans m.mark))) (sym there) (strongest_stands x.kind (kind_at spans ms (offset_of spans m.mark)))
+    let there : nat_eq (offset_of spans x.mark) (offset_of spans m.mark) ≡ true = eq-eqb (offset_of spans x.mark)
+    (offset_of spans m.mark) (ap (λ (y : Marked). offset_of spans y.mark) e) in
+    subst (λ b. HasKind
+    (if b then strongest x.kind (kind_at spans ms (offset_of spans m.mark)) else kind_at spans ms
+    (offset_of spans m.mark)))
+    (sym there) (strongest_stands x.kind (kind_at spans ms (offset_of spans m.mark)))
 mark_stands spans (x ∷ ms) (suc i) m l e =
-    later_stands (nat_eq (offset_of spans x.mark) (offset_of spans m.mark)) x.kind (kind_at spans ms (offset_of spans m.mark)) (mark_stands spans ms i m (omega arith) e)
+    later_stands (nat_eq (offset_of spans x.mark) (offset_of spans m.mark)) x.kind
+    (kind_at spans ms (offset_of spans m.mark)) (mark_stands spans ms i m (omega arith) e)
 
 -- what stands at an offset is a location
 spot_here : (u : List ℕ) (x : ℕ) (k : SpotKind) (o : Option SpotKind)
     → o ≡ Some k
     → Contains (here u x o) (record { pos = position u x; kind = k })
-spot_here u x k o e = subst (λ (q : Option SpotKind). Contains (here u x q) (record { pos = position u x; kind = k })) (sym e) (0, omega arith, refl)
+spot_here u x k o e =
+    subst (λ (q : Option SpotKind). Contains (here u x q) (record { pos = position u x; kind = k })) (sym e)
+    (0, omega arith, refl)
 
 pub location_stands : (u : List ℕ) (kinds : ℕ → Option SpotKind) (n x : ℕ) (k : SpotKind)
     → x < n
@@ -55,10 +62,14 @@ pub location_stands : (u : List ℕ) (kinds : ℕ → Option SpotKind) (n x : �
 location_stands u kinds zero x k l e = absurd (omega arith)
 location_stands u kinds (suc n) x k l e =
     elim (cases_lt x n) [
-      | inl lt ↦ Contains-append_left (locations_below u kinds n) (here u n (kinds n)) (record { pos = position u x; kind = k }) (location_stands u kinds n x k lt e)
+      | inl lt ↦ Contains-append_left (locations_below u kinds n) (here u n (kinds n))
+          (record { pos = position u x; kind = k }) (location_stands u kinds n x k lt e)
       | inr ge ↦
           let same : x ≡ n = omega arith in
-          Contains-append_right (locations_below u kinds n) (here u n (kinds n)) (record { pos = position u x; kind = k }) (subst (λ (y : ℕ). Contains (here u y (kinds y)) (record { pos = position u x; kind = k })) same (spot_here u x k (kinds x) e))
+          Contains-append_right (locations_below u kinds n) (here u n (kinds n))
+          (record { pos = position u x; kind = k })
+          (subst (λ (y : ℕ). Contains (here u y (kinds y)) (record { pos = position u x; kind = k })) same
+          (spot_here u x k (kinds x) e))
     ]
 
 -- a mark within the source stands at a location
@@ -68,8 +79,12 @@ pub mark_located : (s : Script) (m : Marked)
     → (kind : SpotKind)
     × Contains (break_locations s) (record { pos = position s.source (offset_of s.spans m.mark); kind = kind })
 mark_located s m h within =
-    let at : HasKind (kind_at s.spans (script_marks s) (offset_of s.spans m.mark)) = mark_stands s.spans (script_marks s) h.0 m h.1 h.2 in
-    (at.0, location_stands s.source (kind_at s.spans (script_marks s)) (suc (length s.source)) (offset_of s.spans m.mark) at.0 (omega arith) at.1)
+    let at : HasKind (kind_at s.spans (script_marks s) (offset_of s.spans m.mark)) = mark_stands s.spans
+    (script_marks s) h.0 m h.1 h.2 in (
+      at.0,
+      location_stands s.source (kind_at s.spans (script_marks s)) (suc (length s.source))
+          (offset_of s.spans m.mark) at.0 (omega arith) at.1,
+    )
 
 -- ---- marks within the source
 
@@ -83,8 +98,10 @@ span_within n spans h node =
 
 pub mark_within : (n : ℕ) (spans : List Span) → All (IsWithin n) spans → (m : Mark) → offset_of spans m ≤ n
 mark_within n spans h Beginning = omega arith
-mark_within n spans h (Start node) = let w : IsWithin n (span_of spans node) = span_within n spans h node in omega (arith, w.0, w.1)
-mark_within n spans h (BeforeEnd node back) = let w : IsWithin n (span_of spans node) = span_within n spans h node in omega (arith, w.1)
+mark_within n spans h (Start node) =
+    let w : IsWithin n (span_of spans node) = span_within n spans h node in omega (arith, w.0, w.1)
+mark_within n spans h (BeforeEnd node back) =
+    let w : IsWithin n (span_of spans node) = span_within n spans h node in omega (arith, w.1)
 
 pub mark_found : (s : Script) (spots : List Spot)
     → spots ≡ break_locations s
@@ -92,5 +109,11 @@ pub mark_found : (s : Script) (spots : List Spot)
     → Contains (script_marks s) m
     → (kind : SpotKind) × Contains spots (record { pos = position s.source (offset_of s.spans m.mark); kind = kind })
 mark_found s spots is m h =
-    let at : (kind : SpotKind) × Contains (break_locations s) (record { pos = position s.source (offset_of s.spans m.mark); kind = kind }) = mark_located s m h (mark_within (length s.source) s.spans s.within m.mark) in
-    (at.0, subst (λ (xs : List Spot). Contains xs (record { pos = position s.source (offset_of s.spans m.mark); kind = at.0 })) (sym is) at.1)
+    let at : (kind : SpotKind)
+    × Contains (break_locations s) (record { pos = position s.source (offset_of s.spans m.mark); kind = kind })
+    = mark_located s m h (mark_within (length s.source) s.spans s.within m.mark) in (
+      at.0,
+      subst
+          (λ (xs : List Spot). Contains xs (record { pos = position s.source (offset_of s.spans m.mark); kind = at.0 }))
+          (sym is) at.1,
+    )

@@ -59,7 +59,8 @@ kind_here : (spans : List Span) (m : Marked) (ms : Marks) (x : ℕ) (b : Bool)
     → kind_at spans (m ∷ ms) x ≡ (if b then strongest m.kind (kind_at spans ms x) else kind_at spans ms x)
 kind_here spans m ms x b e = ap (λ t. if t then strongest m.kind (kind_at spans ms x) else kind_at spans ms x) e
 
-put_here : (spans : List Span) (m : Marked) (ms : Marks) (kinds : List (Option SpotKind)) (off x : ℕ) (k : Option SpotKind)
+put_here : (spans : List Span) (m : Marked) (ms : Marks) (kinds : List (Option SpotKind)) (off x : ℕ)
+    (k : Option SpotKind)
     → off ≡ offset_of spans m.mark
     → k ≡ with_mark (kind_of kinds off) m.kind
     → x < length kinds
@@ -69,7 +70,11 @@ put_here : (spans : List Span) (m : Marked) (ms : Marks) (kinds : List (Option S
 put_here spans m ms kinds off x k is with l true e =
     let same : off ≡ x = eqb-true off x e in
     let there : nat_eq (offset_of spans m.mark) x ≡ true = ap (λ o. nat_eq o x) (sym is) ∙ e in
-    ap (λ q. merged q (kind_at spans ms x)) (ap (λ o. get_or (set kinds o k) x None) same ∙ get_or-set_same kinds x k None l ∙ with ∙ ap (λ o. with_mark (kind_of kinds o) m.kind) same)
+    ap (λ q. merged q (kind_at spans ms x))
+    (ap (λ o. get_or (set kinds o k) x None) same
+    ∙ get_or-set_same kinds x k None l
+    ∙ with
+    ∙ ap (λ o. with_mark (kind_of kinds o) m.kind) same)
     ∙ merged_mark (kind_of kinds x) m.kind (kind_at spans ms x)
     ∙ ap (merged (kind_of kinds x)) (sym (kind_here spans m ms x true there))
 put_here spans m ms kinds off x k is with l false e =
@@ -77,7 +82,8 @@ put_here spans m ms kinds off x k is with l false e =
     ap (λ q. merged q (kind_at spans ms x)) (get_or-set_other kinds off x k None (λ q. eqb-false off x e (sym q)))
     ∙ ap (merged (kind_of kinds x)) (sym (kind_here spans m ms x false there))
 
-pub put_more : (spans : List Span) (ms : Marks) (i : ℕ) (d : Marked) (kinds : List (Option SpotKind)) (off : ℕ) (here k : Option SpotKind) (whole : Option SpotKind)
+pub put_more : (spans : List Span) (ms : Marks) (i : ℕ) (d : Marked) (kinds : List (Option SpotKind)) (off : ℕ)
+    (here k : Option SpotKind) (whole : Option SpotKind)
     → i < length ms
     → off ≡ offset_of spans (get_or ms i d).mark
     → off < length kinds
@@ -91,7 +97,8 @@ put_more spans ms i d kinds off here k whole h there in_it was with x l before =
     let e : here ≡ kind_of kinds off = was ∙ get_or_default kinds off here None in_it in
     let rest : drop i ms ≡ get_or ms i d ∷ drop (i + 1) ms = rw add-one (drop-cons ms i d h) in
     let n : x < length kinds = subst (λ (y : ℕ). x < y) (length-set kinds off k) l in
-    put_here spans (get_or ms i d) (drop (i + 1) ms) kinds off x k there (with ∙ ap (λ o. with_mark o (get_or ms i d).kind) e) n (nat_eq off x) refl
+    put_here spans (get_or ms i d) (drop (i + 1) ms) kinds off x k there
+    (with ∙ ap (λ o. with_mark o (get_or ms i d).kind) e) n (nat_eq off x) refl
     ∙ ap (λ (ys : Marks). merged (kind_of kinds x) (kind_at spans ys x)) (sym rest)
     ∙ before
 
@@ -99,7 +106,8 @@ pub put_all : (spans : List Span) (ms : Marks) (i : ℕ) (kind whole : Option Sp
     → length ms ≤ i
     → merged kind (kind_at spans (drop i ms) x) ≡ whole
     → kind ≡ whole
-put_all spans ms i kind whole x h e = sym (merged_none kind) ∙ ap (λ (ys : Marks). merged kind (kind_at spans ys x)) (sym (drop_all i ms h)) ∙ e
+put_all spans ms i kind whole x h e =
+    sym (merged_none kind) ∙ ap (λ (ys : Marks). merged kind (kind_at spans ys x)) (sym (drop_all i ms h)) ∙ e
   where
     merged_none : (k : Option SpotKind) → merged k None ≡ k
     merged_none None = refl

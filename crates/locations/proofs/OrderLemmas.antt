@@ -29,14 +29,17 @@ here_before : (u : List ℕ) (i j : ℕ)
     → (o : Option SpotKind)
     → All (λ s. IsBefore s.pos (position u j)) (here u i o)
 here_before u i j h None = All-nil (λ (s : Spot). IsBefore s.pos (position u j))
-here_before u i j h (Some kind) = all_one (λ (s : Spot). IsBefore s.pos (position u j)) (record { pos = position u i; kind = kind }) (position_before u i j h)
+here_before u i j h (Some kind) =
+    all_one (λ (s : Spot). IsBefore s.pos (position u j)) (record { pos = position u i; kind = kind })
+    (position_before u i j h)
 
 below_before : (u : List ℕ) (kinds : ℕ → Option SpotKind) (n m : ℕ)
     → n ≤ m
     → All (λ s. IsBefore s.pos (position u m)) (locations_below u kinds n)
 below_before u kinds zero m h = All-nil (λ (s : Spot). IsBefore s.pos (position u m))
 below_before u kinds (suc n) m h =
-    All-append (λ (s : Spot). IsBefore s.pos (position u m)) (locations_below u kinds n) (here u n (kinds n)) (below_before u kinds n m (omega arith)) (here_before u n m (omega arith) (kinds n))
+    All-append (λ (s : Spot). IsBefore s.pos (position u m)) (locations_below u kinds n) (here u n (kinds n))
+    (below_before u kinds n m (omega arith)) (here_before u n m (omega arith) (kinds n))
 
 ascending_more : (u : List ℕ) (n : ℕ) (spots : List Spot)
     → IsAscending spots
@@ -44,11 +47,14 @@ ascending_more : (u : List ℕ) (n : ℕ) (spots : List Spot)
     → (o : Option SpotKind)
     → IsAscending (spots ++ here u n o)
 ascending_more u n spots h b None = subst IsAscending (sym (append-nil spots)) h
-ascending_more u n spots h b (Some kind) = all_pairs_push (λ (s t : Spot). IsBefore s.pos t.pos) spots (record { pos = position u n; kind = kind }) h b
+ascending_more u n spots h b (Some kind) =
+    all_pairs_push (λ (s t : Spot). IsBefore s.pos t.pos) spots (record { pos = position u n; kind = kind }) h b
 
 pub ascending_below : (u : List ℕ) (kinds : ℕ → Option SpotKind) (n : ℕ) → IsAscending (locations_below u kinds n)
 ascending_below u kinds zero = λ i j d h l. absurd (omega arith)
-ascending_below u kinds (suc n) = ascending_more u n (locations_below u kinds n) (ascending_below u kinds n) (below_before u kinds n n (omega arith)) (kinds n)
+ascending_below u kinds (suc n) =
+    ascending_more u n (locations_below u kinds n) (ascending_below u kinds n) (below_before u kinds n n (omega arith))
+    (kinds n)
 
 -- ---- what stands at each offset
 

@@ -41,7 +41,9 @@ decided b p q h = decided_by b (is_before p q) (IsBefore p q) h (before_true p q
 pub partitioned : (spots : List Spot) (pos : Pos) → IsAscending spots → IsPartitionedBy (λ s. is_before s.pos pos) spots
 partitioned spots pos h i j d l m e =
     elim (cases_lt i j) [
-      | inl lt ↦ true_before (get_or spots i d).pos pos (before_before (get_or spots i d).pos (get_or spots j d).pos pos (h i j d lt m) (before_true (get_or spots j d).pos pos e))
+      | inl lt ↦ true_before (get_or spots i d).pos pos
+          (before_before (get_or spots i d).pos (get_or spots j d).pos pos (h i j d lt m)
+          (before_true (get_or spots j d).pos pos e))
       | inr ge ↦ let same : j ≡ i = omega arith in subst (λ (k : ℕ). is_before (get_or spots k d).pos pos ≡ true) same e
     ]
 
@@ -53,7 +55,8 @@ first_splits : (p : Spot → Bool) (s : Spot) (ss : List Spot) (n : ℕ) → Spl
 first_splits p s ss n h = h.0 0 s (omega arith) (omega arith)
 
 rest_splits : (p : Spot → Bool) (s : Spot) (ss : List Spot) (n : ℕ) → Splits p (s ∷ ss) (suc n) → Splits p ss n
-rest_splits p s ss n h = (λ k d a b. h.0 (suc k) d (omega arith) (omega arith), λ k d a b. h.1 (suc k) d (omega arith) (omega arith))
+rest_splits p s ss n h =
+    (λ k d a b. h.0 (suc k) d (omega arith) (omega arith), λ k d a b. h.1 (suc k) d (omega arith) (omega arith))
 
 none_splits : (p : Spot → Bool) (s : Spot) (ss : List Spot) → Splits p (s ∷ ss) 0 → p s ≡ false
 none_splits p s ss h = h.1 0 s (omega arith) (omega arith)
@@ -65,10 +68,12 @@ pub first_at : (pos : Pos) (spots : List Spot) (n : ℕ)
     → Splits (λ s. is_before s.pos pos) spots n
     → slice_get spots n ≡ first_from pos spots
 first_at pos [] n h = refl
-first_at pos (s ∷ ss) zero h = ap (λ b. if b then first_from pos ss else Some s) (sym (none_splits (λ (x : Spot). is_before x.pos pos) s ss h))
+first_at pos (s ∷ ss) zero h =
+    ap (λ b. if b then first_from pos ss else Some s) (sym (none_splits (λ (x : Spot). is_before x.pos pos) s ss h))
 first_at pos (s ∷ ss) (suc n) h =
     first_at pos ss n (rest_splits (λ (x : Spot). is_before x.pos pos) s ss n h)
-    ∙ ap (λ b. if b then first_from pos ss else Some s) (sym (first_splits (λ (x : Spot). is_before x.pos pos) s ss n h))
+    ∙ ap (λ b. if b then first_from pos ss else Some s)
+    (sym (first_splits (λ (x : Spot). is_before x.pos pos) s ss n h))
 
 -- ---- none, where each is before
 
@@ -95,7 +100,8 @@ before_each pos (s ∷ ss) h =
 pub none_first : (pos : Pos) (spots : List Spot) (o : Option Spot)
     → o ≡ first_from pos spots
     → IsNone o ↔ All (λ s. IsBefore s.pos pos) spots
-none_first pos spots o e = (λ h. each_before pos spots (ap is_some (sym e) ∙ h), λ h. ap is_some e ∙ before_each pos spots h)
+none_first pos spots o e =
+    (λ h. each_before pos spots (ap is_some (sym e) ∙ h), λ h. ap is_some e ∙ before_each pos spots h)
 
 -- ---- those between two positions
 
@@ -104,8 +110,11 @@ between_all : (start : Pos) (end : Option Pos) (spots : List Spot)
     → filter (is_between start end) spots ≡ filter (λ s. is_before_end end s.pos) spots
 between_all start end [] h = refl
 between_all start end (s ∷ ss) h =
-    ap (λ b. cond (not b && is_before_end end s.pos) (s ∷ filter (is_between start end) ss) (filter (is_between start end) ss)) (none_splits (λ (x : Spot). is_before x.pos start) s ss h)
-    ∙ ap (λ rest. cond (is_before_end end s.pos) (s ∷ rest) rest) (between_all start end ss (others_split (λ (x : Spot). is_before x.pos start) s ss h))
+    ap (λ b. cond (not b && is_before_end end s.pos) (s ∷ filter (is_between start end) ss)
+    (filter (is_between start end) ss))
+    (none_splits (λ (x : Spot). is_before x.pos start) s ss h)
+    ∙ ap (λ rest. cond (is_before_end end s.pos) (s ∷ rest) rest)
+    (between_all start end ss (others_split (λ (x : Spot). is_before x.pos start) s ss h))
 
 pub between_from : (start : Pos) (end : Option Pos) (spots : List Spot) (n : ℕ)
     → Splits (λ s. is_before s.pos start) spots n
@@ -113,7 +122,9 @@ pub between_from : (start : Pos) (end : Option Pos) (spots : List Spot) (n : ℕ
 between_from start end spots zero h = between_all start end spots h
 between_from start end [] (suc n) h = refl
 between_from start end (s ∷ ss) (suc n) h =
-    ap (λ b. cond (not b && is_before_end end s.pos) (s ∷ filter (is_between start end) ss) (filter (is_between start end) ss)) (first_splits (λ (x : Spot). is_before x.pos start) s ss n h)
+    ap (λ b. cond (not b && is_before_end end s.pos) (s ∷ filter (is_between start end) ss)
+    (filter (is_between start end) ss))
+    (first_splits (λ (x : Spot). is_before x.pos start) s ss n h)
     ∙ between_from start end ss n (rest_splits (λ (x : Spot). is_before x.pos start) s ss n h)
 
 pub to_the_end : (spots : List Spot) → filter (λ s. is_before_end None s.pos) spots ≡ spots
@@ -125,7 +136,9 @@ none_before : (end : Pos) (spots : List Spot)
     → filter (λ s. is_before_end (Some end) s.pos) spots ≡ []
 none_before end [] h = refl
 none_before end (s ∷ ss) h =
-    ap (λ b. cond b (s ∷ filter (λ (x : Spot). is_before_end (Some end) x.pos) ss) (filter (λ (x : Spot). is_before_end (Some end) x.pos) ss)) (none_splits (λ (x : Spot). is_before x.pos end) s ss h)
+    ap (λ b. cond b (s ∷ filter (λ (x : Spot). is_before_end (Some end) x.pos) ss)
+    (filter (λ (x : Spot). is_before_end (Some end) x.pos) ss))
+    (none_splits (λ (x : Spot). is_before x.pos end) s ss h)
     ∙ none_before end ss (others_split (λ (x : Spot). is_before x.pos end) s ss h)
 
 pub up_to : (end : Pos) (spots : List Spot) (n : ℕ)
@@ -134,7 +147,9 @@ pub up_to : (end : Pos) (spots : List Spot) (n : ℕ)
 up_to end spots zero h = none_before end spots h
 up_to end [] (suc n) h = refl
 up_to end (s ∷ ss) (suc n) h =
-    ap (λ b. cond b (s ∷ filter (λ (x : Spot). is_before_end (Some end) x.pos) ss) (filter (λ (x : Spot). is_before_end (Some end) x.pos) ss)) (first_splits (λ (x : Spot). is_before x.pos end) s ss n h)
+    ap (λ b. cond b (s ∷ filter (λ (x : Spot). is_before_end (Some end) x.pos) ss)
+    (filter (λ (x : Spot). is_before_end (Some end) x.pos) ss))
+    (first_splits (λ (x : Spot). is_before x.pos end) s ss n h)
     ∙ ap (λ rest. s ∷ rest) (up_to end ss n (rest_splits (λ (x : Spot). is_before x.pos end) s ss n h))
 
 -- the slice from a place on
@@ -147,7 +162,10 @@ pub between_none : (start : Pos) (end : Option Pos) (spots rest : List Spot) (n 
     → Splits (λ s. is_before s.pos start) spots n
     → rest ≡ filter (is_between start end) spots
 between_none start end spots rest n is same h =
-    same ∙ sym (ap (λ o. filter (is_between start o) spots) is ∙ between_from start None spots n h ∙ to_the_end (drop n spots))
+    same
+    ∙ sym (ap (λ o. filter (is_between start o) spots) is
+    ∙ between_from start None spots n h
+    ∙ to_the_end (drop n spots))
 
 pub between_some : (start e : Pos) (end : Option Pos) (spots rest : List Spot) (n m : ℕ)
     → end ≡ Some e
@@ -156,4 +174,7 @@ pub between_some : (start e : Pos) (end : Option Pos) (spots rest : List Spot) (
     → Splits (λ s. is_before s.pos e) rest m
     → take m rest ≡ filter (is_between start end) spots
 between_some start e end spots rest n m is same h k =
-    sym (ap (λ o. filter (is_between start o) spots) is ∙ between_from start (Some e) spots n h ∙ ap (filter (λ (s : Spot). is_before_end (Some e) s.pos)) (sym same) ∙ up_to e rest m k)
+    sym (ap (λ o. filter (is_between start o) spots) is
+    ∙ between_from start (Some e) spots n h
+    ∙ ap (filter (λ (s : Spot). is_before_end (Some e) s.pos)) (sym same)
+    ∙ up_to e rest m k)

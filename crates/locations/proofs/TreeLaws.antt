@@ -34,24 +34,36 @@ use Rattle.js_tree.proofs.ViewLemmas.{Layer}
 
 -- the marks of a tree are made of those of its parts
 pub expression_turn : (x : Layer Expr-F)
-    → expression_marks (views.roll-Expr x) ≡ expression_layer (map-Expr Expr PropertyDefinition PropertyName Stmt Block Catch Declarator Declarators Exprs PropertyDefinitions Stmts Marking Marks Marks Marks Marks Marks Marks Marks Marks Marks Marks expression_marks property_marks key_marks statement_marks block_marks catch_marks declarator_marks declarators_marks expressions_marks properties_marks statements_marks x)
-unfolding expression_marks property_marks key_marks statement_marks block_marks catch_marks declarator_marks declarators_marks expressions_marks properties_marks statements_marks
-expression_turn x = fold-roll-Expr Marking Marks Marks Marks Marks Marks Marks Marks Marks Marks Marks expression_layer property_layer key_layer statement_layer block_layer catch_layer declarator_layer declarators_layer expressions_layer properties_layer statements_layer x
+    → expression_marks (views.roll-Expr x) ≡ expression_layer
+    (map-Expr Expr PropertyDefinition PropertyName Stmt Block Catch Declarator Declarators Exprs PropertyDefinitions Stmts Marking Marks Marks Marks Marks Marks Marks Marks Marks Marks Marks expression_marks property_marks key_marks statement_marks block_marks catch_marks declarator_marks declarators_marks expressions_marks properties_marks statements_marks x)
+unfolding expression_marks property_marks key_marks statement_marks block_marks catch_marks declarator_marks
+    declarators_marks expressions_marks properties_marks statements_marks
+expression_turn x =
+    fold-roll-Expr Marking Marks Marks Marks Marks Marks Marks Marks Marks Marks Marks expression_layer property_layer key_layer statement_layer block_layer catch_layer declarator_layer declarators_layer expressions_layer properties_layer statements_layer x
 
 pub property_turn : (x : Layer PropertyDefinition-F)
-    → property_marks (views.roll-PropertyDefinition x) ≡ property_layer (map-PropertyDefinition Expr PropertyDefinition PropertyName Stmt Block Catch Declarator Declarators Exprs PropertyDefinitions Stmts Marking Marks Marks Marks Marks Marks Marks Marks Marks Marks Marks expression_marks property_marks key_marks statement_marks block_marks catch_marks declarator_marks declarators_marks expressions_marks properties_marks statements_marks x)
-unfolding expression_marks property_marks key_marks statement_marks block_marks catch_marks declarator_marks declarators_marks expressions_marks properties_marks statements_marks
-property_turn x = fold-roll-PropertyDefinition Marking Marks Marks Marks Marks Marks Marks Marks Marks Marks Marks expression_layer property_layer key_layer statement_layer block_layer catch_layer declarator_layer declarators_layer expressions_layer properties_layer statements_layer x
+    → property_marks (views.roll-PropertyDefinition x) ≡ property_layer
+    (map-PropertyDefinition Expr PropertyDefinition PropertyName Stmt Block Catch Declarator Declarators Exprs PropertyDefinitions Stmts Marking Marks Marks Marks Marks Marks Marks Marks Marks Marks Marks expression_marks property_marks key_marks statement_marks block_marks catch_marks declarator_marks declarators_marks expressions_marks properties_marks statements_marks x)
+unfolding expression_marks property_marks key_marks statement_marks block_marks catch_marks declarator_marks
+    declarators_marks expressions_marks properties_marks statements_marks
+property_turn x =
+    fold-roll-PropertyDefinition Marking Marks Marks Marks Marks Marks Marks Marks Marks Marks Marks expression_layer property_layer key_layer statement_layer block_layer catch_layer declarator_layer declarators_layer expressions_layer properties_layer statements_layer x
 
 pub key_turn : (x : Layer PropertyName-F)
-    → key_marks (views.roll-PropertyName x) ≡ key_layer (map-PropertyName Expr PropertyDefinition PropertyName Stmt Block Catch Declarator Declarators Exprs PropertyDefinitions Stmts Marking Marks Marks Marks Marks Marks Marks Marks Marks Marks Marks expression_marks property_marks key_marks statement_marks block_marks catch_marks declarator_marks declarators_marks expressions_marks properties_marks statements_marks x)
-unfolding expression_marks property_marks key_marks statement_marks block_marks catch_marks declarator_marks declarators_marks expressions_marks properties_marks statements_marks
-key_turn x = fold-roll-PropertyName Marking Marks Marks Marks Marks Marks Marks Marks Marks Marks Marks expression_layer property_layer key_layer statement_layer block_layer catch_layer declarator_layer declarators_layer expressions_layer properties_layer statements_layer x
+    → key_marks (views.roll-PropertyName x) ≡ key_layer
+    (map-PropertyName Expr PropertyDefinition PropertyName Stmt Block Catch Declarator Declarators Exprs PropertyDefinitions Stmts Marking Marks Marks Marks Marks Marks Marks Marks Marks Marks Marks expression_marks property_marks key_marks statement_marks block_marks catch_marks declarator_marks declarators_marks expressions_marks properties_marks statements_marks x)
+unfolding expression_marks property_marks key_marks statement_marks block_marks catch_marks declarator_marks
+    declarators_marks expressions_marks properties_marks statements_marks
+key_turn x =
+    fold-roll-PropertyName Marking Marks Marks Marks Marks Marks Marks Marks Marks Marks Marks expression_layer property_layer key_layer statement_layer block_layer catch_layer declarator_layer declarators_layer expressions_layer properties_layer statements_layer x
 
 pub statement_turn : (x : Layer Stmt-F)
-    → statement_marks (views.roll-Stmt x) ≡ statement_layer (map-Stmt Expr PropertyDefinition PropertyName Stmt Block Catch Declarator Declarators Exprs PropertyDefinitions Stmts Marking Marks Marks Marks Marks Marks Marks Marks Marks Marks Marks expression_marks property_marks key_marks statement_marks block_marks catch_marks declarator_marks declarators_marks expressions_marks properties_marks statements_marks x)
-unfolding expression_marks property_marks key_marks statement_marks block_marks catch_marks declarator_marks declarators_marks expressions_marks properties_marks statements_marks
-statement_turn x = fold-roll-Stmt Marking Marks Marks Marks Marks Marks Marks Marks Marks Marks Marks expression_layer property_layer key_layer statement_layer block_layer catch_layer declarator_layer declarators_layer expressions_layer properties_layer statements_layer x
+    → statement_marks (views.roll-Stmt x) ≡ statement_layer
+    (map-Stmt Expr PropertyDefinition PropertyName Stmt Block Catch Declarator Declarators Exprs PropertyDefinitions Stmts Marking Marks Marks Marks Marks Marks Marks Marks Marks Marks Marks expression_marks property_marks key_marks statement_marks block_marks catch_marks declarator_marks declarators_marks expressions_marks properties_marks statements_marks x)
+unfolding expression_marks property_marks key_marks statement_marks block_marks catch_marks declarator_marks
+    declarators_marks expressions_marks properties_marks statements_marks
+statement_turn x =
+    fold-roll-Stmt Marking Marks Marks Marks Marks Marks Marks Marks Marks Marks Marks expression_layer property_layer key_layer statement_layer block_layer catch_layer declarator_layer declarators_layer expressions_layer properties_layer statements_layer x
 
 -- ---- expressions
 
@@ -84,32 +96,41 @@ pub marks_object : (node : NodeId) (ps : PropertyDefinitions)
 marks_object node ps = ap expression_marks (sym (rolls-Object node ps)) ∙ expression_turn (Expr-F.Object node ps)
 
 pub marks_function : (node : NodeId) (n : Option (List ℕ)) (ps : List (List ℕ)) (body : Stmts)
-    → expression_marks (views.Function node n ps body) ≡ definitions.marking node.0 (definitions.in_function node.0 (statements_marks body))
-marks_function node n ps body = ap expression_marks (sym (rolls-Function node n ps body)) ∙ expression_turn (Expr-F.Function node n ps body)
+    → expression_marks (views.Function node n ps body) ≡ definitions.marking node.0
+    (definitions.in_function node.0 (statements_marks body))
+marks_function node n ps body =
+    ap expression_marks (sym (rolls-Function node n ps body)) ∙ expression_turn (Expr-F.Function node n ps body)
 
 pub marks_arrow : (node : NodeId) (ps : ArrowParameters) (x : Box Expr)
-    → expression_marks (views.Arrow node ps x) ≡ definitions.marking node.0 (definitions.in_returned (expression_marks x.value))
+    → expression_marks (views.Arrow node ps x) ≡ definitions.marking node.0
+    (definitions.in_returned (expression_marks x.value))
 marks_arrow node ps x = ap expression_marks (sym (rolls-Arrow node ps x)) ∙ expression_turn (Expr-F.Arrow node ps x)
 
 pub marks_arrow_block : (node : NodeId) (ps : ArrowParameters) (body : Stmts)
-    → expression_marks (views.ArrowBlock node ps body) ≡ definitions.marking node.0 (definitions.in_function node.0 (statements_marks body))
-marks_arrow_block node ps body = ap expression_marks (sym (rolls-ArrowBlock node ps body)) ∙ expression_turn (Expr-F.ArrowBlock node ps body)
+    → expression_marks (views.ArrowBlock node ps body) ≡ definitions.marking node.0
+    (definitions.in_function node.0 (statements_marks body))
+marks_arrow_block node ps body =
+    ap expression_marks (sym (rolls-ArrowBlock node ps body)) ∙ expression_turn (Expr-F.ArrowBlock node ps body)
 
 pub marks_parenthesized : (node : NodeId) (x : Box Expr)
     → expression_marks (views.Parenthesized node x) ≡ definitions.marking node.0 (expression_marks x.value).marks
-marks_parenthesized node x = ap expression_marks (sym (rolls-Parenthesized node x)) ∙ expression_turn (Expr-F.Parenthesized node x)
+marks_parenthesized node x =
+    ap expression_marks (sym (rolls-Parenthesized node x)) ∙ expression_turn (Expr-F.Parenthesized node x)
 
 pub marks_member : (node : NodeId) (x : Box Expr) (n : List ℕ)
     → expression_marks (views.Member node x n) ≡ definitions.member_marking node.0 (expression_marks x.value) (length n)
 marks_member node x n = ap expression_marks (sym (rolls-Member node x n)) ∙ expression_turn (Expr-F.Member node x n)
 
 pub marks_index : (node : NodeId) (x : Box Expr) (k : Box Expr)
-    → expression_marks (views.Index node x k) ≡ definitions.marking node.0 ((expression_marks x.value).marks ++ (expression_marks k.value).marks)
+    → expression_marks (views.Index node x k) ≡ definitions.marking node.0
+    ((expression_marks x.value).marks ++ (expression_marks k.value).marks)
 marks_index node x k = ap expression_marks (sym (rolls-Index node x k)) ∙ expression_turn (Expr-F.Index node x k)
 
 pub marks_call : (node : NodeId) (f : Box Expr) (parentheses : NodeId) (es : Exprs)
-    → expression_marks (views.Call node f parentheses es) ≡ definitions.marking node.0 (definitions.in_call (expression_marks f.value) parentheses.0 (expressions_marks es))
-marks_call node f parentheses es = ap expression_marks (sym (rolls-Call node f parentheses es)) ∙ expression_turn (Expr-F.Call node f parentheses es)
+    → expression_marks (views.Call node f parentheses es) ≡ definitions.marking node.0
+    (definitions.in_call (expression_marks f.value) parentheses.0 (expressions_marks es))
+marks_call node f parentheses es =
+    ap expression_marks (sym (rolls-Call node f parentheses es)) ∙ expression_turn (Expr-F.Call node f parentheses es)
 
 pub marks_postfix : (node : NodeId) (o : UpdateOperator) (x : Box Expr)
     → expression_marks (views.Postfix node o x) ≡ definitions.marking node.0 (expression_marks x.value).marks
@@ -124,16 +145,22 @@ pub marks_unary : (node : NodeId) (o : UnaryOperator) (x : Box Expr)
 marks_unary node o x = ap expression_marks (sym (rolls-Unary node o x)) ∙ expression_turn (Expr-F.Unary node o x)
 
 pub marks_binary : (node : NodeId) (o : BinaryOperator) (l : Box Expr) (r : Box Expr)
-    → expression_marks (views.Binary node o l r) ≡ definitions.marking node.0 ((expression_marks l.value).marks ++ (expression_marks r.value).marks)
-marks_binary node o l r = ap expression_marks (sym (rolls-Binary node o l r)) ∙ expression_turn (Expr-F.Binary node o l r)
+    → expression_marks (views.Binary node o l r) ≡ definitions.marking node.0
+    ((expression_marks l.value).marks ++ (expression_marks r.value).marks)
+marks_binary node o l r =
+    ap expression_marks (sym (rolls-Binary node o l r)) ∙ expression_turn (Expr-F.Binary node o l r)
 
 pub marks_conditional : (node : NodeId) (t : Box Expr) (a : Box Expr) (b : Box Expr)
-    → expression_marks (views.Conditional node t a b) ≡ definitions.marking node.0 ((expression_marks t.value).marks ++ (expression_marks a.value).marks ++ (expression_marks b.value).marks)
-marks_conditional node t a b = ap expression_marks (sym (rolls-Conditional node t a b)) ∙ expression_turn (Expr-F.Conditional node t a b)
+    → expression_marks (views.Conditional node t a b) ≡ definitions.marking node.0
+    ((expression_marks t.value).marks ++ (expression_marks a.value).marks ++ (expression_marks b.value).marks)
+marks_conditional node t a b =
+    ap expression_marks (sym (rolls-Conditional node t a b)) ∙ expression_turn (Expr-F.Conditional node t a b)
 
 pub marks_assign : (node : NodeId) (o : AssignmentOperator) (t : Box Expr) (v : Box Expr)
-    → expression_marks (views.Assign node o t v) ≡ definitions.marking node.0 ((expression_marks t.value).marks ++ (expression_marks v.value).marks)
-marks_assign node o t v = ap expression_marks (sym (rolls-Assign node o t v)) ∙ expression_turn (Expr-F.Assign node o t v)
+    → expression_marks (views.Assign node o t v) ≡ definitions.marking node.0
+    ((expression_marks t.value).marks ++ (expression_marks v.value).marks)
+marks_assign node o t v =
+    ap expression_marks (sym (rolls-Assign node o t v)) ∙ expression_turn (Expr-F.Assign node o t v)
 
 pub marks_comma : (node : NodeId) (es : Exprs)
     → expression_marks (views.Comma node es) ≡ definitions.marking node.0 (expressions_marks es)
@@ -161,8 +188,10 @@ pub marks_value : (k : PropertyName) (x : Expr)
 marks_value k x = ap property_marks (sym (rolls-Value k x)) ∙ property_turn (PropertyDefinition-F.Value k x)
 
 pub marks_method : (node : NodeId) (k : PropertyName) (ps : List (List ℕ)) (body : Stmts)
-    → property_marks (views.Method node k ps body) ≡ key_marks k ++ definitions.in_function node.0 (statements_marks body)
-marks_method node k ps body = ap property_marks (sym (rolls-Method node k ps body)) ∙ property_turn (PropertyDefinition-F.Method node k ps body)
+    → property_marks (views.Method node k ps body) ≡ key_marks k ++ definitions.in_function node.0
+    (statements_marks body)
+marks_method node k ps body =
+    ap property_marks (sym (rolls-Method node k ps body)) ∙ property_turn (PropertyDefinition-F.Method node k ps body)
 
 -- ---- statements
 
@@ -181,39 +210,74 @@ pub marks_expression : (node : NodeId) (x : Expr)
 marks_expression node x = ap statement_marks (sym (rolls-Expression node x)) ∙ statement_turn (Stmt-F.Expression node x)
 
 pub marks_if : (node : NodeId) (x : Expr) (s : Box Stmt) (t : Option (Box Stmt))
-    → statement_marks (views.If node x s t) ≡ definitions.beginning kinds.Plain node.0 ++ (expression_marks x).marks ++ statement_marks s.value ++ definitions.where_present (option_map (λ b. statement_marks b.value) t)
+    → statement_marks (views.If node x s t) ≡ definitions.beginning kinds.Plain node.0 ++
+    (expression_marks x).marks ++ statement_marks s.value ++ definitions.where_present
+    (option_map (λ b. statement_marks b.value) t)
 marks_if node x s None = ap statement_marks (sym (rolls-If node x s None)) ∙ statement_turn (Stmt-F.If node x s None)
-marks_if node x s (Some t) = ap statement_marks (sym (rolls-If node x s (Some t))) ∙ statement_turn (Stmt-F.If node x s (Some t))
+marks_if node x s (Some t) =
+    ap statement_marks (sym (rolls-If node x s (Some t))) ∙ statement_turn (Stmt-F.If node x s (Some t))
 
 pub marks_do_while : (node : NodeId) (s : Box Stmt) (x : Expr)
-    → statement_marks (views.DoWhile node s x) ≡ definitions.beginning kinds.Plain node.0 ++ statement_marks s.value ++ (expression_marks x).marks
+    → statement_marks (views.DoWhile node s x) ≡ definitions.beginning kinds.Plain node.0 ++ statement_marks s.value ++
+    (expression_marks x).marks
 marks_do_while node s x = ap statement_marks (sym (rolls-DoWhile node s x)) ∙ statement_turn (Stmt-F.DoWhile node s x)
 
 pub marks_while : (node : NodeId) (x : Expr) (s : Box Stmt)
-    → statement_marks (views.While node x s) ≡ definitions.beginning kinds.Plain node.0 ++ (expression_marks x).marks ++ statement_marks s.value
+    → statement_marks (views.While node x s) ≡ definitions.beginning kinds.Plain node.0 ++
+    (expression_marks x).marks ++ statement_marks s.value
 marks_while node x s = ap statement_marks (sym (rolls-While node x s)) ∙ statement_turn (Stmt-F.While node x s)
 
 pub marks_for : (node : NodeId) (i : Option Expr) (t : Option Expr) (u : Option Expr) (s : Box Stmt)
-    → statement_marks (views.For node i t u s) ≡ definitions.beginning kinds.Plain node.0 ++ definitions.in_present (option_map expression_marks i) ++ definitions.in_present (option_map expression_marks t) ++ definitions.in_present (option_map expression_marks u) ++ statement_marks s.value
-marks_for node None None None s = ap statement_marks (sym (rolls-For node None None None s)) ∙ statement_turn (Stmt-F.For node None None None s)
-marks_for node None None (Some u) s = ap statement_marks (sym (rolls-For node None None (Some u) s)) ∙ statement_turn (Stmt-F.For node None None (Some u) s)
-marks_for node None (Some t) None s = ap statement_marks (sym (rolls-For node None (Some t) None s)) ∙ statement_turn (Stmt-F.For node None (Some t) None s)
-marks_for node None (Some t) (Some u) s = ap statement_marks (sym (rolls-For node None (Some t) (Some u) s)) ∙ statement_turn (Stmt-F.For node None (Some t) (Some u) s)
-marks_for node (Some i) None None s = ap statement_marks (sym (rolls-For node (Some i) None None s)) ∙ statement_turn (Stmt-F.For node (Some i) None None s)
-marks_for node (Some i) None (Some u) s = ap statement_marks (sym (rolls-For node (Some i) None (Some u) s)) ∙ statement_turn (Stmt-F.For node (Some i) None (Some u) s)
-marks_for node (Some i) (Some t) None s = ap statement_marks (sym (rolls-For node (Some i) (Some t) None s)) ∙ statement_turn (Stmt-F.For node (Some i) (Some t) None s)
-marks_for node (Some i) (Some t) (Some u) s = ap statement_marks (sym (rolls-For node (Some i) (Some t) (Some u) s)) ∙ statement_turn (Stmt-F.For node (Some i) (Some t) (Some u) s)
+    → statement_marks (views.For node i t u s) ≡ definitions.beginning kinds.Plain node.0 ++ definitions.in_present
+    (option_map expression_marks i) ++ definitions.in_present (option_map expression_marks t)
+    ++ definitions.in_present (option_map expression_marks u) ++ statement_marks s.value
+marks_for node None None None s =
+    ap statement_marks (sym (rolls-For node None None None s)) ∙ statement_turn (Stmt-F.For node None None None s)
+marks_for node None None (Some u) s =
+    ap statement_marks (sym (rolls-For node None None (Some u) s))
+    ∙ statement_turn (Stmt-F.For node None None (Some u) s)
+marks_for node None (Some t) None s =
+    ap statement_marks (sym (rolls-For node None (Some t) None s))
+    ∙ statement_turn (Stmt-F.For node None (Some t) None s)
+marks_for node None (Some t) (Some u) s =
+    ap statement_marks (sym (rolls-For node None (Some t) (Some u) s))
+    ∙ statement_turn (Stmt-F.For node None (Some t) (Some u) s)
+marks_for node (Some i) None None s =
+    ap statement_marks (sym (rolls-For node (Some i) None None s))
+    ∙ statement_turn (Stmt-F.For node (Some i) None None s)
+marks_for node (Some i) None (Some u) s =
+    ap statement_marks (sym (rolls-For node (Some i) None (Some u) s))
+    ∙ statement_turn (Stmt-F.For node (Some i) None (Some u) s)
+marks_for node (Some i) (Some t) None s =
+    ap statement_marks (sym (rolls-For node (Some i) (Some t) None s))
+    ∙ statement_turn (Stmt-F.For node (Some i) (Some t) None s)
+marks_for node (Some i) (Some t) (Some u) s =
+    ap statement_marks (sym (rolls-For node (Some i) (Some t) (Some u) s))
+    ∙ statement_turn (Stmt-F.For node (Some i) (Some t) (Some u) s)
 
 pub marks_for_lexical : (node : NodeId) (c : Bool) (ds : Declarators) (t : Option Expr) (u : Option Expr) (s : Box Stmt)
-    → statement_marks (views.ForLexical node c ds t u s) ≡ definitions.beginning kinds.Plain node.0 ++ declarators_marks ds ++ definitions.in_present (option_map expression_marks t) ++ definitions.in_present (option_map expression_marks u) ++ statement_marks s.value
-marks_for_lexical node c ds None None s = ap statement_marks (sym (rolls-ForLexical node c ds None None s)) ∙ statement_turn (Stmt-F.ForLexical node c ds None None s)
-marks_for_lexical node c ds None (Some u) s = ap statement_marks (sym (rolls-ForLexical node c ds None (Some u) s)) ∙ statement_turn (Stmt-F.ForLexical node c ds None (Some u) s)
-marks_for_lexical node c ds (Some t) None s = ap statement_marks (sym (rolls-ForLexical node c ds (Some t) None s)) ∙ statement_turn (Stmt-F.ForLexical node c ds (Some t) None s)
-marks_for_lexical node c ds (Some t) (Some u) s = ap statement_marks (sym (rolls-ForLexical node c ds (Some t) (Some u) s)) ∙ statement_turn (Stmt-F.ForLexical node c ds (Some t) (Some u) s)
+    → statement_marks (views.ForLexical node c ds t u s)
+    ≡ definitions.beginning kinds.Plain node.0 ++ declarators_marks ds ++ definitions.in_present
+    (option_map expression_marks t) ++ definitions.in_present (option_map expression_marks u)
+    ++ statement_marks s.value
+marks_for_lexical node c ds None None s =
+    ap statement_marks (sym (rolls-ForLexical node c ds None None s))
+    ∙ statement_turn (Stmt-F.ForLexical node c ds None None s)
+marks_for_lexical node c ds None (Some u) s =
+    ap statement_marks (sym (rolls-ForLexical node c ds None (Some u) s))
+    ∙ statement_turn (Stmt-F.ForLexical node c ds None (Some u) s)
+marks_for_lexical node c ds (Some t) None s =
+    ap statement_marks (sym (rolls-ForLexical node c ds (Some t) None s))
+    ∙ statement_turn (Stmt-F.ForLexical node c ds (Some t) None s)
+marks_for_lexical node c ds (Some t) (Some u) s =
+    ap statement_marks (sym (rolls-ForLexical node c ds (Some t) (Some u) s))
+    ∙ statement_turn (Stmt-F.ForLexical node c ds (Some t) (Some u) s)
 
 pub marks_for_of : (node : NodeId) (c : Bool) (n : List ℕ) (x : Expr) (s : Box Stmt)
-    → statement_marks (views.ForOf node c n x s) ≡ definitions.beginning kinds.Plain node.0 ++ (expression_marks x).marks ++ statement_marks s.value
-marks_for_of node c n x s = ap statement_marks (sym (rolls-ForOf node c n x s)) ∙ statement_turn (Stmt-F.ForOf node c n x s)
+    → statement_marks (views.ForOf node c n x s) ≡ definitions.beginning kinds.Plain node.0 ++
+    (expression_marks x).marks ++ statement_marks s.value
+marks_for_of node c n x s =
+    ap statement_marks (sym (rolls-ForOf node c n x s)) ∙ statement_turn (Stmt-F.ForOf node c n x s)
 
 pub marks_continue : (node : NodeId) → statement_marks (Stmt.Continue node) ≡ definitions.beginning kinds.Plain node.0
 marks_continue node = ap statement_marks (sym (rolls-Continue node)) ∙ statement_turn (Stmt-F.Continue node)
@@ -222,65 +286,116 @@ pub marks_break : (node : NodeId) → statement_marks (Stmt.Break node) ≡ defi
 marks_break node = ap statement_marks (sym (rolls-Break node)) ∙ statement_turn (Stmt-F.Break node)
 
 pub marks_return : (node : NodeId) (x : Option Expr)
-    → statement_marks (views.Return node x) ≡ definitions.beginning kinds.Return node.0 ++ definitions.in_present (option_map expression_marks x)
+    → statement_marks (views.Return node x) ≡ definitions.beginning kinds.Return node.0 ++ definitions.in_present
+    (option_map expression_marks x)
 marks_return node None = ap statement_marks (sym (rolls-Return node None)) ∙ statement_turn (Stmt-F.Return node None)
-marks_return node (Some x) = ap statement_marks (sym (rolls-Return node (Some x))) ∙ statement_turn (Stmt-F.Return node (Some x))
+marks_return node (Some x) =
+    ap statement_marks (sym (rolls-Return node (Some x))) ∙ statement_turn (Stmt-F.Return node (Some x))
 
 pub marks_throw : (node : NodeId) (x : Expr)
     → statement_marks (Stmt.Throw node x) ≡ definitions.beginning kinds.Plain node.0 ++ (expression_marks x).marks
 marks_throw node x = ap statement_marks (sym (rolls-Throw node x)) ∙ statement_turn (Stmt-F.Throw node x)
 
 pub marks_try : (node : NodeId) (b : Block) (h : Option Catch) (f : Option Block)
-    → statement_marks (views.Try node b h f) ≡ definitions.beginning kinds.Plain node.0 ++ block_marks b ++ definitions.where_present (option_map catch_marks h) ++ definitions.where_present (option_map block_marks f)
-marks_try node b None None = ap statement_marks (sym (rolls-Try node b None None)) ∙ statement_turn (Stmt-F.Try node b None None)
-marks_try node b None (Some f) = ap statement_marks (sym (rolls-Try node b None (Some f))) ∙ statement_turn (Stmt-F.Try node b None (Some f))
-marks_try node b (Some h) None = ap statement_marks (sym (rolls-Try node b (Some h) None)) ∙ statement_turn (Stmt-F.Try node b (Some h) None)
-marks_try node b (Some h) (Some f) = ap statement_marks (sym (rolls-Try node b (Some h) (Some f))) ∙ statement_turn (Stmt-F.Try node b (Some h) (Some f))
+    → statement_marks (views.Try node b h f)
+    ≡ definitions.beginning kinds.Plain node.0 ++ block_marks b ++ definitions.where_present
+    (option_map catch_marks h) ++ definitions.where_present (option_map block_marks f)
+marks_try node b None None =
+    ap statement_marks (sym (rolls-Try node b None None)) ∙ statement_turn (Stmt-F.Try node b None None)
+marks_try node b None (Some f) =
+    ap statement_marks (sym (rolls-Try node b None (Some f))) ∙ statement_turn (Stmt-F.Try node b None (Some f))
+marks_try node b (Some h) None =
+    ap statement_marks (sym (rolls-Try node b (Some h) None)) ∙ statement_turn (Stmt-F.Try node b (Some h) None)
+marks_try node b (Some h) (Some f) =
+    ap statement_marks (sym (rolls-Try node b (Some h) (Some f))) ∙ statement_turn (Stmt-F.Try node b (Some h) (Some f))
 
 pub marks_debugger : (node : NodeId)
     → statement_marks (Stmt.Debugger node) ≡ definitions.beginning kinds.Debugger node.0
 marks_debugger node = ap statement_marks (sym (rolls-Debugger node)) ∙ statement_turn (Stmt-F.Debugger node)
 
 pub marks_function_declaration : (node : NodeId) (n : List ℕ) (ps : List (List ℕ)) (body : Stmts)
-    → statement_marks (views.FunctionDeclaration node n ps body) ≡ definitions.in_function node.0 (statements_marks body)
-marks_function_declaration node n ps body = ap statement_marks (sym (rolls-FunctionDeclaration node n ps body)) ∙ statement_turn (Stmt-F.FunctionDeclaration node n ps body)
+    → statement_marks (views.FunctionDeclaration node n ps body) ≡ definitions.in_function node.0
+    (statements_marks body)
+marks_function_declaration node n ps body =
+    ap statement_marks (sym (rolls-FunctionDeclaration node n ps body))
+    ∙ statement_turn (Stmt-F.FunctionDeclaration node n ps body)
 
 -- ---- parts
 
 pub marks_block_body : (b : Block) → block_marks b ≡ statements_marks b.body
-unfolding expression_marks property_marks key_marks statement_marks block_marks catch_marks declarator_marks declarators_marks expressions_marks properties_marks statements_marks
-marks_block_body b = fold_out-Block Marking Marks Marks Marks Marks Marks Marks Marks Marks Marks Marks expression_layer property_layer key_layer statement_layer block_layer catch_layer declarator_layer declarators_layer expressions_layer properties_layer statements_layer b
+unfolding expression_marks property_marks key_marks statement_marks block_marks catch_marks declarator_marks
+    declarators_marks expressions_marks properties_marks statements_marks
+marks_block_body b =
+    fold_out-Block Marking Marks Marks Marks Marks Marks Marks Marks Marks Marks Marks expression_layer property_layer key_layer statement_layer block_layer catch_layer declarator_layer declarators_layer expressions_layer properties_layer statements_layer b
 
 pub marks_catch : (h : Catch) → catch_marks h ≡ block_marks h.block
-unfolding expression_marks property_marks key_marks statement_marks block_marks catch_marks declarator_marks declarators_marks expressions_marks properties_marks statements_marks
-marks_catch h = fold_out-Catch Marking Marks Marks Marks Marks Marks Marks Marks Marks Marks Marks expression_layer property_layer key_layer statement_layer block_layer catch_layer declarator_layer declarators_layer expressions_layer properties_layer statements_layer h
+unfolding expression_marks property_marks key_marks statement_marks block_marks catch_marks declarator_marks
+    declarators_marks expressions_marks properties_marks statements_marks
+marks_catch h =
+    fold_out-Catch Marking Marks Marks Marks Marks Marks Marks Marks Marks Marks Marks expression_layer property_layer key_layer statement_layer block_layer catch_layer declarator_layer declarators_layer expressions_layer properties_layer statements_layer h
 
 pub marks_declarators : (ds : Declarators)
     → declarators_marks ds ≡ definitions.together (map declarator_marks (out-Declarators ds).items.items)
-unfolding expression_marks property_marks key_marks statement_marks block_marks catch_marks declarator_marks declarators_marks expressions_marks properties_marks statements_marks
-marks_declarators ds = fold_out-Declarators Marking Marks Marks Marks Marks Marks Marks Marks Marks Marks Marks expression_layer property_layer key_layer statement_layer block_layer catch_layer declarator_layer declarators_layer expressions_layer properties_layer statements_layer ds
+unfolding expression_marks property_marks key_marks statement_marks block_marks catch_marks declarator_marks
+    declarators_marks expressions_marks properties_marks statements_marks
+marks_declarators ds =
+    fold_out-Declarators Marking Marks Marks Marks Marks Marks Marks Marks Marks Marks Marks expression_layer property_layer key_layer statement_layer block_layer catch_layer declarator_layer declarators_layer expressions_layer properties_layer statements_layer ds
 
 pub marks_expressions : (es : Exprs) → expressions_marks es ≡ definitions.in_all (map expression_marks es.items.items)
-unfolding expression_marks property_marks key_marks statement_marks block_marks catch_marks declarator_marks declarators_marks expressions_marks properties_marks statements_marks
-marks_expressions es = fold_out-Exprs Marking Marks Marks Marks Marks Marks Marks Marks Marks Marks Marks expression_layer property_layer key_layer statement_layer block_layer catch_layer declarator_layer declarators_layer expressions_layer properties_layer statements_layer es
+unfolding expression_marks property_marks key_marks statement_marks block_marks catch_marks declarator_marks
+    declarators_marks expressions_marks properties_marks statements_marks
+marks_expressions es =
+    fold_out-Exprs Marking Marks Marks Marks Marks Marks Marks Marks Marks Marks Marks expression_layer property_layer key_layer statement_layer block_layer catch_layer declarator_layer declarators_layer expressions_layer properties_layer statements_layer es
 
 pub marks_properties : (ps : PropertyDefinitions)
     → properties_marks ps ≡ definitions.together (map property_marks ps.items.items)
-unfolding expression_marks property_marks key_marks statement_marks block_marks catch_marks declarator_marks declarators_marks expressions_marks properties_marks statements_marks
-marks_properties ps = fold_out-PropertyDefinitions Marking Marks Marks Marks Marks Marks Marks Marks Marks Marks Marks expression_layer property_layer key_layer statement_layer block_layer catch_layer declarator_layer declarators_layer expressions_layer properties_layer statements_layer ps
+unfolding expression_marks property_marks key_marks statement_marks block_marks catch_marks declarator_marks
+    declarators_marks expressions_marks properties_marks statements_marks
+marks_properties ps =
+    fold_out-PropertyDefinitions Marking Marks Marks Marks Marks Marks Marks Marks Marks Marks Marks expression_layer property_layer key_layer statement_layer block_layer catch_layer declarator_layer declarators_layer expressions_layer properties_layer statements_layer ps
 
 pub marks_statements : (ss : Stmts) → statements_marks ss ≡ definitions.together (map statement_marks ss.items.items)
-unfolding expression_marks property_marks key_marks statement_marks block_marks catch_marks declarator_marks declarators_marks expressions_marks properties_marks statements_marks
-marks_statements ss = fold_out-Stmts Marking Marks Marks Marks Marks Marks Marks Marks Marks Marks Marks expression_layer property_layer key_layer statement_layer block_layer catch_layer declarator_layer declarators_layer expressions_layer properties_layer statements_layer ss
+unfolding expression_marks property_marks key_marks statement_marks block_marks catch_marks declarator_marks
+    declarators_marks expressions_marks properties_marks statements_marks
+marks_statements ss =
+    fold_out-Stmts Marking Marks Marks Marks Marks Marks Marks Marks Marks Marks Marks expression_layer property_layer key_layer statement_layer block_layer catch_layer declarator_layer declarators_layer expressions_layer properties_layer statements_layer ss
 
 declarator_by : (n : List ℕ) (o : Option Expr)
     → declarator_marks (record { name = n; initializer = o }) ≡ definitions.in_present (option_map expression_marks o)
-unfolding expression_marks property_marks key_marks statement_marks block_marks catch_marks declarator_marks declarators_marks expressions_marks properties_marks statements_marks
-declarator_by n None = fold_out-Declarator Marking Marks Marks Marks Marks Marks Marks Marks Marks Marks Marks expression_layer property_layer key_layer statement_layer block_layer catch_layer declarator_layer declarators_layer expressions_layer properties_layer statements_layer (record { name = n; initializer = None })
-declarator_by n (Some e) = fold_out-Declarator Marking Marks Marks Marks Marks Marks Marks Marks Marks Marks Marks expression_layer property_layer key_layer statement_layer block_layer catch_layer declarator_layer declarators_layer expressions_layer properties_layer statements_layer (record { name = n; initializer = Some e })
+unfolding expression_marks property_marks key_marks statement_marks block_marks catch_marks declarator_marks
+    declarators_marks expressions_marks properties_marks statements_marks
+declarator_by n None =
+    fold_out-Declarator Marking Marks Marks Marks Marks Marks Marks Marks Marks Marks Marks expression_layer property_layer key_layer statement_layer block_layer catch_layer declarator_layer declarators_layer expressions_layer properties_layer statements_layer
+    (record { name = n; initializer = None })
+declarator_by n (Some e) =
+    fold_out-Declarator Marking Marks Marks Marks Marks Marks Marks Marks Marks Marks Marks expression_layer property_layer key_layer statement_layer block_layer catch_layer declarator_layer declarators_layer expressions_layer properties_layer statements_layer
+    (record { name = n; initializer = Some e })
 
 pub marks_declarator : (d : Declarator)
     → declarator_marks d ≡ definitions.in_present (option_map expression_marks d.initializer)
 marks_declarator d = declarator_by d.name d.initializer
 
-pub ruleset expression_laws = (marks_this, marks_name, marks_number, marks_string, marks_boolean, marks_null, marks_array, marks_object, marks_function, marks_arrow, marks_arrow_block, marks_parenthesized, marks_member, marks_index, marks_call, marks_postfix, marks_prefix, marks_unary, marks_binary, marks_conditional, marks_assign, marks_comma)
+pub ruleset expression_laws = (
+  marks_this,
+  marks_name,
+  marks_number,
+  marks_string,
+  marks_boolean,
+  marks_null,
+  marks_array,
+  marks_object,
+  marks_function,
+  marks_arrow,
+  marks_arrow_block,
+  marks_parenthesized,
+  marks_member,
+  marks_index,
+  marks_call,
+  marks_postfix,
+  marks_prefix,
+  marks_unary,
+  marks_binary,
+  marks_conditional,
+  marks_assign,
+  marks_comma,
+)

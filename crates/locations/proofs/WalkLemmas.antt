@@ -19,7 +19,8 @@ pub last : (old mid new xs ys : Marks) (r : Result (Unit {0}) AllocError)
     → mid ≡ old ++ xs
     → OnOk r (new ≡ mid ++ ys)
     → OnOk r (new ≡ old ++ (xs ++ ys))
-last old mid new xs ys r h k = subst (λ (ms : Marks). OnOk r (new ≡ ms)) (ap (λ ms. ms ++ ys) h ∙ append_assoc old xs ys) k
+last old mid new xs ys r h k =
+    subst (λ (ms : Marks). OnOk r (new ≡ ms)) (ap (λ ms. ms ++ ys) h ∙ append_assoc old xs ys) k
 
 -- what a part is
 pub same : {A : Type 0} (f : A → Marks) (a b : A) → a ≡ b → (old new : Marks) → new ≡ old ++ f a → new ≡ old ++ f b
@@ -42,7 +43,8 @@ pub all_over : {A : Type 0} (f : A → Marks) (items : List A) (i : ℕ) (front 
     → length items ≤ i
     → front ++ together (map f (drop i items)) ≡ whole
     → front ≡ whole
-all_over {A} f items i front whole h e = sym (append-nil front) ∙ ap (λ (xs : List A). front ++ together (map f xs)) (sym (drop_all i items h)) ∙ e
+all_over {A} f items i front whole h e =
+    sym (append-nil front) ∙ ap (λ (xs : List A). front ++ together (map f xs)) (sym (drop_all i items h)) ∙ e
 
 pub in_all_together : (es : List Expr)
     → in_all (map expression_marks es) ≡ together (map (λ e. (expression_marks e).marks) es)
@@ -50,9 +52,13 @@ in_all_together [] = refl
 in_all_together (e ∷ es) = ap (λ ms. (expression_marks e).marks ++ ms) (in_all_together es)
 
 pub declarators_together : (ds : List Declarator)
-    → together (map (λ (d : Declarator). in_present (option_map expression_marks d.initializer)) ds) ≡ together (map declarator_marks ds)
+    → together (map (λ (d : Declarator). in_present (option_map expression_marks d.initializer)) ds) ≡ together
+    (map declarator_marks ds)
 declarators_together [] = refl
-declarators_together (d ∷ ds) = ap (λ ms. ms ++ together (map (λ (x : Declarator). in_present (option_map expression_marks x.initializer)) ds)) (sym (marks_declarator d)) ∙ ap (λ ms. declarator_marks d ++ ms) (declarators_together ds)
+declarators_together (d ∷ ds) =
+    ap (λ ms. ms ++ together (map (λ (x : Declarator). in_present (option_map expression_marks x.initializer)) ds))
+    (sym (marks_declarator d))
+    ∙ ap (λ ms. declarator_marks d ++ ms) (declarators_together ds)
 
 -- ---- a tree whose form is known
 

@@ -28,7 +28,8 @@ strongest k (Some l) = Some (stronger k l)
 -- the strongest kind of the marks at an offset, if there is one
 abbrev pub kind_at : List Span → Marks → ℕ → Option SpotKind
 kind_at spans [] x = None
-kind_at spans (m ∷ ms) x = if nat_eq (offset_of spans m.mark) x then strongest m.kind (kind_at spans ms x) else kind_at spans ms x
+kind_at spans (m ∷ ms) x =
+    if nat_eq (offset_of spans m.mark) x then strongest m.kind (kind_at spans ms x) else kind_at spans ms x
 
 -- ---- the kinds at all offsets
 

@@ -74,7 +74,8 @@ member_marking node object len = record { node = node; last_word = Some (before_
 
 -- a call stands at the last word of its callee, else at its `(`
 abbrev pub in_call : Marking → ℕ → Marks → Marks
-in_call callee parentheses arguments = callee.marks ++ at kinds.Call (place_or callee.last_word parentheses) ++ arguments
+in_call callee parentheses arguments =
+    callee.marks ++ at kinds.Call (place_or callee.last_word parentheses) ++ arguments
 
 -- the body of a function with its closing brace
 abbrev pub in_function : ℕ → Marks → Marks
@@ -91,7 +92,8 @@ abbrev pub beginning : SpotKind → ℕ → Marks
 beginning kind node = at kind (start node)
 
 -- what is known of each type of tree
-abbrev pub Layer : (Type 0 → Type 0 → Type 0 → Type 0 → Type 0 → Type 0 → Type 0 → Type 0 → Type 0 → Type 0 → Type 0 → Type 0)
+abbrev pub Layer :
+    (Type 0 → Type 0 → Type 0 → Type 0 → Type 0 → Type 0 → Type 0 → Type 0 → Type 0 → Type 0 → Type 0 → Type 0)
     → Type 0
 Layer F = F Marking Marks Marks Marks Marks Marks Marks Marks Marks Marks Marks
 
@@ -141,11 +143,14 @@ statement_layer (Stmt-F.Block b) = b
 statement_layer (Stmt-F.Lexical node c ds) = beginning kinds.Plain node.0 ++ ds
 statement_layer (Stmt-F.Empty node) = []
 statement_layer (Stmt-F.Expression node e) = beginning kinds.Plain node.0 ++ e.marks
-statement_layer (Stmt-F.If node e s t) = beginning kinds.Plain node.0 ++ e.marks ++ s.value ++ where_present (option_map (λ b. b.value) t)
+statement_layer (Stmt-F.If node e s t) =
+    beginning kinds.Plain node.0 ++ e.marks ++ s.value ++ where_present (option_map (λ b. b.value) t)
 statement_layer (Stmt-F.DoWhile node s e) = beginning kinds.Plain node.0 ++ s.value ++ e.marks
 statement_layer (Stmt-F.While node e s) = beginning kinds.Plain node.0 ++ e.marks ++ s.value
-statement_layer (Stmt-F.For node i t u s) = beginning kinds.Plain node.0 ++ in_present i ++ in_present t ++ in_present u ++ s.value
-statement_layer (Stmt-F.ForLexical node c ds t u s) = beginning kinds.Plain node.0 ++ ds ++ in_present t ++ in_present u ++ s.value
+statement_layer (Stmt-F.For node i t u s) =
+    beginning kinds.Plain node.0 ++ in_present i ++ in_present t ++ in_present u ++ s.value
+statement_layer (Stmt-F.ForLexical node c ds t u s) =
+    beginning kinds.Plain node.0 ++ ds ++ in_present t ++ in_present u ++ s.value
 statement_layer (Stmt-F.ForOf node c n e s) = beginning kinds.Plain node.0 ++ e.marks ++ s.value
 statement_layer (Stmt-F.Continue node) = beginning kinds.Plain node.0
 statement_layer (Stmt-F.Break node) = beginning kinds.Plain node.0
@@ -187,44 +192,55 @@ statements_layer ss = together ss.items.items
 
 -- the marks of an expression, with its node and its last word
 unfoldable pub expression_marks : Expr → Marking
-expression_marks = fold-Expr Marking Marks Marks Marks Marks Marks Marks Marks Marks Marks Marks expression_layer property_layer key_layer statement_layer block_layer catch_layer declarator_layer declarators_layer expressions_layer properties_layer statements_layer
+expression_marks =
+    fold-Expr Marking Marks Marks Marks Marks Marks Marks Marks Marks Marks Marks expression_layer property_layer key_layer statement_layer block_layer catch_layer declarator_layer declarators_layer expressions_layer properties_layer statements_layer
 
 -- the marks of a member of an object literal
 unfoldable pub property_marks : PropertyDefinition → Marks
-property_marks = fold-PropertyDefinition Marking Marks Marks Marks Marks Marks Marks Marks Marks Marks Marks expression_layer property_layer key_layer statement_layer block_layer catch_layer declarator_layer declarators_layer expressions_layer properties_layer statements_layer
+property_marks =
+    fold-PropertyDefinition Marking Marks Marks Marks Marks Marks Marks Marks Marks Marks Marks expression_layer property_layer key_layer statement_layer block_layer catch_layer declarator_layer declarators_layer expressions_layer properties_layer statements_layer
 
 -- the marks of the key of a member
 unfoldable pub key_marks : PropertyName → Marks
-key_marks = fold-PropertyName Marking Marks Marks Marks Marks Marks Marks Marks Marks Marks Marks expression_layer property_layer key_layer statement_layer block_layer catch_layer declarator_layer declarators_layer expressions_layer properties_layer statements_layer
+key_marks =
+    fold-PropertyName Marking Marks Marks Marks Marks Marks Marks Marks Marks Marks Marks expression_layer property_layer key_layer statement_layer block_layer catch_layer declarator_layer declarators_layer expressions_layer properties_layer statements_layer
 
 -- the marks of a statement or declaration
 unfoldable pub statement_marks : Stmt → Marks
-statement_marks = fold-Stmt Marking Marks Marks Marks Marks Marks Marks Marks Marks Marks Marks expression_layer property_layer key_layer statement_layer block_layer catch_layer declarator_layer declarators_layer expressions_layer properties_layer statements_layer
+statement_marks =
+    fold-Stmt Marking Marks Marks Marks Marks Marks Marks Marks Marks Marks Marks expression_layer property_layer key_layer statement_layer block_layer catch_layer declarator_layer declarators_layer expressions_layer properties_layer statements_layer
 
 -- the marks of a block
 unfoldable pub block_marks : Block → Marks
-block_marks = fold-Block Marking Marks Marks Marks Marks Marks Marks Marks Marks Marks Marks expression_layer property_layer key_layer statement_layer block_layer catch_layer declarator_layer declarators_layer expressions_layer properties_layer statements_layer
+block_marks =
+    fold-Block Marking Marks Marks Marks Marks Marks Marks Marks Marks Marks Marks expression_layer property_layer key_layer statement_layer block_layer catch_layer declarator_layer declarators_layer expressions_layer properties_layer statements_layer
 
 -- the marks of a catch
 unfoldable pub catch_marks : Catch → Marks
-catch_marks = fold-Catch Marking Marks Marks Marks Marks Marks Marks Marks Marks Marks Marks expression_layer property_layer key_layer statement_layer block_layer catch_layer declarator_layer declarators_layer expressions_layer properties_layer statements_layer
+catch_marks =
+    fold-Catch Marking Marks Marks Marks Marks Marks Marks Marks Marks Marks Marks expression_layer property_layer key_layer statement_layer block_layer catch_layer declarator_layer declarators_layer expressions_layer properties_layer statements_layer
 
 -- the marks of a declarator
 unfoldable pub declarator_marks : Declarator → Marks
-declarator_marks = fold-Declarator Marking Marks Marks Marks Marks Marks Marks Marks Marks Marks Marks expression_layer property_layer key_layer statement_layer block_layer catch_layer declarator_layer declarators_layer expressions_layer properties_layer statements_layer
+declarator_marks =
+    fold-Declarator Marking Marks Marks Marks Marks Marks Marks Marks Marks Marks Marks expression_layer property_layer key_layer statement_layer block_layer catch_layer declarator_layer declarators_layer expressions_layer properties_layer statements_layer
 
 -- the marks of the declarators of a declaration
 unfoldable pub declarators_marks : Declarators → Marks
-declarators_marks = fold-Declarators Marking Marks Marks Marks Marks Marks Marks Marks Marks Marks Marks expression_layer property_layer key_layer statement_layer block_layer catch_layer declarator_layer declarators_layer expressions_layer properties_layer statements_layer
+declarators_marks =
+    fold-Declarators Marking Marks Marks Marks Marks Marks Marks Marks Marks Marks Marks expression_layer property_layer key_layer statement_layer block_layer catch_layer declarator_layer declarators_layer expressions_layer properties_layer statements_layer
 
 -- the marks of a list of expressions
 unfoldable pub expressions_marks : Exprs → Marks
-expressions_marks = fold-Exprs Marking Marks Marks Marks Marks Marks Marks Marks Marks Marks Marks expression_layer property_layer key_layer statement_layer block_layer catch_layer declarator_layer declarators_layer expressions_layer properties_layer statements_layer
+expressions_marks =
+    fold-Exprs Marking Marks Marks Marks Marks Marks Marks Marks Marks Marks Marks expression_layer property_layer key_layer statement_layer block_layer catch_layer declarator_layer declarators_layer expressions_layer properties_layer statements_layer
 
 -- the marks of the members of an object literal
 unfoldable pub properties_marks : PropertyDefinitions → Marks
-properties_marks = fold-PropertyDefinitions Marking Marks Marks Marks Marks Marks Marks Marks Marks Marks Marks expression_layer property_layer key_layer statement_layer block_layer catch_layer declarator_layer declarators_layer expressions_layer properties_layer statements_layer
+properties_marks =
+    fold-PropertyDefinitions Marking Marks Marks Marks Marks Marks Marks Marks Marks Marks Marks expression_layer property_layer key_layer statement_layer block_layer catch_layer declarator_layer declarators_layer expressions_layer properties_layer statements_layer
 
 -- the marks of a list of statements
 unfoldable pub statements_marks : Stmts → Marks
-statements_marks = fold-Stmts Marking Marks Marks Marks Marks Marks Marks Marks Marks Marks Marks expression_layer property_layer key_layer statement_layer block_layer catch_layer declarator_layer declarators_layer expressions_layer properties_layer statements_layer
+statements_marks =
+    fold-Stmts Marking Marks Marks Marks Marks Marks Marks Marks Marks Marks Marks expression_layer property_layer key_layer statement_layer block_layer catch_layer declarator_layer declarators_layer expressions_layer properties_layer statements_layer

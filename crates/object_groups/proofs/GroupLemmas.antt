@@ -22,7 +22,8 @@ apart : (g q name : List ℕ)
     → is_eq (slice_cmp nat_cmp g name) ≡ true
     → is_eq (slice_cmp nat_cmp q name) ≡ false
 apart g q name n y =
-    is_eq-slice_cmp q name ∙ (nat_list_eq_equiv.symm q name ∙ (sym (nat_list_eq_equiv.congr g name q (sym (is_eq-slice_cmp g name) ∙ y)) ∙ n))
+    is_eq-slice_cmp q name
+    ∙ (nat_list_eq_equiv.symm q name ∙ (sym (nat_list_eq_equiv.congr g name q (sym (is_eq-slice_cmp g name) ∙ y)) ∙ n))
 
 module _ {K X : Type 0} (eq : K → K → Bool) (test : K → Bool) where
   others : (old new : List (K × X))
@@ -37,13 +38,17 @@ module _ {K X : Type 0} (eq : K → K → Bool) (test : K → Bool) where
 -- a map of sets is changed at the name g, and has w there
 module _ (g : List ℕ) (old new : BTreeMap (Vec ℕ) (BTreeSet ℕ)) (w : Option (BTreeSet ℕ)) where
   abbrev pub Changes : Type 0
-  Changes = UpdatesBy (λ (x y : Vec ℕ). slice_cmp nat_cmp x.items y.items) (λ (name : Vec ℕ). slice_cmp nat_cmp g name.items) old new w
+  Changes =
+      UpdatesBy (λ (x y : Vec ℕ). slice_cmp nat_cmp x.items y.items) (λ (name : Vec ℕ). slice_cmp nat_cmp g name.items)
+      old new w
 
   pub set-there : Changes → set_of g new ≡ w
   set-there u = u.1
 
   pub set-elsewhere : Changes → (q : List ℕ) → bytes_eq g q ≡ false → set_of q new ≡ set_of q old
-  set-elsewhere u q n = others _ _ old.entries new.entries u.3 _ (λ x y. (eq_by_cmp_equiv nat_list_cmp_total).congr q x.items y.items) (λ name. apart g q name.items n)
+  set-elsewhere u q n =
+      others _ _ old.entries new.entries u.3 _ (λ x y. (eq_by_cmp_equiv nat_list_cmp_total).congr q x.items y.items)
+      (λ name. apart g q name.items n)
 
   pub numbers-changed : (f : List ℕ → List ℕ)
       → Changes
@@ -52,8 +57,11 @@ module _ (g : List ℕ) (old new : BTreeMap (Vec ℕ) (BTreeSet ℕ)) (w : Optio
       → numbers_of (set_of q new) ≡ (if bytes_eq g q then f (numbers_of (set_of q old)) else numbers_of (set_of q old))
   numbers-changed f u is q =
       ⊎_elim
-      (λ y. subst (λ p. numbers_of (set_of p new) ≡ f (numbers_of (set_of p old))) y.0 (ap numbers_of (set-there u) ∙ is) ∙ sym (ap (λ b. if b then f (numbers_of (set_of q old)) else numbers_of (set_of q old)) y.1))
-      (λ n. ap numbers_of (set-elsewhere u q n) ∙ sym (ap (λ b. if b then f (numbers_of (set_of q old)) else numbers_of (set_of q old)) n))
+      (λ y. subst (λ p. numbers_of (set_of p new) ≡ f (numbers_of (set_of p old))) y.0
+      (ap numbers_of (set-there u) ∙ is)
+      ∙ sym (ap (λ b. if b then f (numbers_of (set_of q old)) else numbers_of (set_of q old)) y.1))
+      (λ n. ap numbers_of (set-elsewhere u q n)
+      ∙ sym (ap (λ b. if b then f (numbers_of (set_of q old)) else numbers_of (set_of q old)) n))
       (same-name g q)
 
   pub numbers-same : Changes
@@ -74,10 +82,13 @@ pub numbers-begun : (g name : List ℕ) (before old new : BTreeMap (Vec ℕ) (BT
     → set.keys ≡ insert_key nat_cmp [] n
     → None ≡ set_of g before
     → (q : List ℕ)
-    → numbers_of (set_of q new) ≡ (if bytes_eq g q then insert_key nat_cmp (numbers_of (set_of q before)) n else numbers_of (set_of q before))
+    → numbers_of (set_of q new) ≡
+    (if bytes_eq g q then insert_key nat_cmp (numbers_of (set_of q before)) n else numbers_of (set_of q before))
 numbers-begun g name before old new set n a b u k none =
-    let here : Changes g before new (Some set) = subst (λ l. Changes l before new (Some set)) a (subst (λ m. Changes name m new (Some set)) b u) in
-    numbers-changed g before new (Some set) (λ ns. insert_key nat_cmp ns n) here (k ∙ ap (λ o. insert_key nat_cmp (numbers_of o) n) none)
+    let here : Changes g before new (Some set) = subst (λ l. Changes l before new (Some set)) a
+    (subst (λ m. Changes name m new (Some set)) b u) in
+    numbers-changed g before new (Some set) (λ ns. insert_key nat_cmp ns n) here
+    (k ∙ ap (λ o. insert_key nat_cmp (numbers_of o) n) none)
 
 pub no-number : (ns : List ℕ) → length ns ≡ 0 → ns ≡ []
 no-number [] e = refl

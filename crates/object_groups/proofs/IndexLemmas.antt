@@ -29,19 +29,25 @@ insert-last : (n : ℕ) (hs : List Handle)
     → insert_key nat_cmp (map number_of hs) n ≡ map number_of hs ++ n ∷ []
 insert-last n [] b = refl
 insert-last n (h ∷ hs) b =
-    ap (λ o. match_ordering o (n ∷ h.number ∷ map number_of hs) (h.number ∷ map number_of hs) (h.number ∷ insert_key nat_cmp (map number_of hs) n)) (sym (nat_cmp_is n h.number Greater b.0))
+    ap (λ o. match_ordering o (n ∷ h.number ∷ map number_of hs) (h.number ∷ map number_of hs)
+    (h.number ∷ insert_key nat_cmp (map number_of hs) n))
+    (sym (nat_cmp_is n h.number Greater b.0))
     ∙ ap (λ ns. h.number ∷ ns) (insert-last n hs b.1)
 
 -- the numbers of a group, with one that is in it or isn't
 with-last : (q : List ℕ) (hs : List Handle) (h : Handle)
     → group_numbers q (hs ++ h ∷ []) ≡ group_numbers q hs ++ map number_of (cond (is_in q h) (h ∷ []) [])
-with-last q hs h = ap (map number_of) (filter-append (is_in q) hs (h ∷ [])) ∙ map-append number_of (filter (is_in q) hs) (filter (is_in q) (h ∷ []))
+with-last q hs h =
+    ap (map number_of) (filter-append (is_in q) hs (h ∷ []))
+    ∙ map-append number_of (filter (is_in q) hs) (filter (is_in q) (h ∷ []))
 
 pub grouped-more : (hs : List Handle) (h : Handle) (g : List ℕ) (old new : Groups)
     → h.group ≡ Some g
     → AllBelow h.number hs
     → AreGroupsOf hs old
-    → ((q : List ℕ) → numbers_in q new ≡ (if bytes_eq g q then insert_key nat_cmp (numbers_in q old) h.number else numbers_in q old))
+    → ((q : List ℕ)
+    → numbers_in q new ≡
+    (if bytes_eq g q then insert_key nat_cmp (numbers_in q old) h.number else numbers_in q old))
     → AreGroupsOf (hs ++ h ∷ []) new
 grouped-more hs h g old new some below are changed q =
     changed q ∙ ap (λ ns. if bytes_eq g q then insert_key nat_cmp ns h.number else ns) (are q)
@@ -49,7 +55,8 @@ grouped-more hs h g old new some below are changed q =
     ∙ sym (with-last q hs h ∙ ap (λ o. group_numbers q hs ++ map number_of (cond (is_named q o) (h ∷ []) [])) some)
   where
     at : (b : Bool)
-        → (if b then insert_key nat_cmp (group_numbers q hs) h.number else group_numbers q hs) ≡ group_numbers q hs ++ map number_of (cond b (h ∷ []) [])
+        → (if b then insert_key nat_cmp (group_numbers q hs) h.number else group_numbers q hs)
+        ≡ group_numbers q hs ++ map number_of (cond b (h ∷ []) [])
     at true = insert-last h.number (filter (is_in q) hs) (below-filter h.number (is_in q) hs below)
     at false = sym (append-nil (group_numbers q hs))
 
@@ -59,7 +66,8 @@ pub added-and-removed : (hs : List Handle) (h : Handle)
     → filter (has_another_number h.number) (hs ++ h ∷ []) ≡ hs
 added-and-removed hs h below =
     filter-append (has_another_number h.number) hs (h ∷ [])
-    ∙ ap (λ xs. xs ++ filter (has_another_number h.number) (h ∷ [])) (without-unused h.number hs (unused-below h.number hs below))
+    ∙ ap (λ xs. xs ++ filter (has_another_number h.number) (h ∷ []))
+    (without-unused h.number hs (unused-below h.number hs below))
     ∙ ap (λ b. hs ++ cond (not b) (h ∷ []) []) same
     ∙ append-nil hs
   where
@@ -73,14 +81,17 @@ remove-number : (n : ℕ) (hs : List Handle)
     → remove_key (is_at (nat_cmp n)) (map number_of hs) ≡ map number_of (filter (has_another_number n) hs)
 remove-number n [] a = refl
 remove-number n (h ∷ hs) a =
-    ap (λ b. cond b (map number_of hs) (h.number ∷ remove_key (is_at (nat_cmp n)) (map number_of hs))) (sym (unsigned_ties n h.number))
+    ap (λ b. cond b (map number_of hs) (h.number ∷ remove_key (is_at (nat_cmp n)) (map number_of hs)))
+    (sym (unsigned_ties n h.number))
     ∙ at (remove-number n hs a.1) (nat_eq n h.number) refl
   where
     at : remove_key (is_at (nat_cmp n)) (map number_of hs) ≡ map number_of (filter (has_another_number n) hs)
         → (b : Bool)
         → nat_eq n h.number ≡ b
-        → cond b (map number_of hs) (h.number ∷ remove_key (is_at (nat_cmp n)) (map number_of hs)) ≡ map number_of (cond (not b) (h ∷ filter (has_another_number n) hs) (filter (has_another_number n) hs))
-    at rest true e = ap (map number_of) (sym (without-unused n hs (unused-above h.number n hs a.0 (grind (arith, nat_tests)))))
+        → cond b (map number_of hs) (h.number ∷ remove_key (is_at (nat_cmp n)) (map number_of hs)) ≡ map number_of
+        (cond (not b) (h ∷ filter (has_another_number n) hs) (filter (has_another_number n) hs))
+    at rest true e =
+        ap (map number_of) (sym (without-unused n hs (unused-above h.number n hs a.0 (grind (arith, nat_tests)))))
     at rest false e = ap (λ ns. h.number ∷ ns) rest
 
 -- two filters in either order
@@ -93,7 +104,10 @@ filters-swap p r (h ∷ hs) = at (filters-swap p r hs) (p h) (r h) refl refl
         → p h ≡ b
         → r h ≡ d
         → filter p (cond d (h ∷ filter r hs) (filter r hs)) ≡ filter r (cond b (h ∷ filter p hs) (filter p hs))
-    at rest true true e f = ap (λ b. cond b (h ∷ filter p (filter r hs)) (filter p (filter r hs))) e ∙ ap (λ xs. h ∷ xs) rest ∙ sym (ap (λ d. cond d (h ∷ filter r (filter p hs)) (filter r (filter p hs))) f)
+    at rest true true e f =
+        ap (λ b. cond b (h ∷ filter p (filter r hs)) (filter p (filter r hs))) e
+        ∙ ap (λ xs. h ∷ xs) rest
+        ∙ sym (ap (λ d. cond d (h ∷ filter r (filter p hs)) (filter r (filter p hs))) f)
     at rest true false e f = rest ∙ sym (ap (λ d. cond d (h ∷ filter r (filter p hs)) (filter r (filter p hs))) f)
     at rest false true e f = ap (λ b. cond b (h ∷ filter p (filter r hs)) (filter p (filter r hs))) e ∙ rest
     at rest false false e f = rest
@@ -111,7 +125,8 @@ not-lost n q (x ∷ hs) h a f out = at (λ e. not-lost n q hs h a.1 e out) (has_
         → (b : Bool)
         → has_number n x ≡ b
         → Some h ≡ cond b (Some x) (find (has_number n) hs)
-        → filter (is_in q) (cond (not b) (x ∷ filter (has_another_number n) hs) (filter (has_another_number n) hs)) ≡ filter (is_in q) (x ∷ hs)
+        → filter (is_in q) (cond (not b) (x ∷ filter (has_another_number n) hs) (filter (has_another_number n) hs))
+        ≡ filter (is_in q) (x ∷ hs)
     at rest true e g =
         let same : h ≡ x = cc in
         ap (filter (is_in q)) (without-unused n hs (unused-above x.number n hs a.0 (grind (arith, nat_tests))))
@@ -124,22 +139,30 @@ pub ungrouped-less : (n : ℕ) (hs : List Handle) (h : Handle) (groups : Groups)
     → h.group ≡ None
     → AreGroupsOf hs groups
     → AreGroupsOf (filter (has_another_number n) hs) groups
-ungrouped-less n hs h groups a f none are q = are q ∙ sym (ap (map number_of) (not-lost n q hs h a f (ap (is_named q) none)))
+ungrouped-less n hs h groups a f none are q =
+    are q ∙ sym (ap (map number_of) (not-lost n q hs h a f (ap (is_named q) none)))
 
 pub grouped-less : (n : ℕ) (hs : List Handle) (h : Handle) (g : List ℕ) (old new : Groups)
     → IsAscending hs
     → Some h ≡ find (has_number n) hs
     → h.group ≡ Some g
     → AreGroupsOf hs old
-    → ((q : List ℕ) → numbers_in q new ≡ (if bytes_eq g q then remove_key (is_at (nat_cmp n)) (numbers_in q old) else numbers_in q old))
+    → ((q : List ℕ)
+    → numbers_in q new ≡
+    (if bytes_eq g q then remove_key (is_at (nat_cmp n)) (numbers_in q old) else numbers_in q old))
     → AreGroupsOf (filter (has_another_number n) hs) new
 grouped-less n hs h g old new a f some are changed q =
-    changed q ∙ ap (λ ns. if bytes_eq g q then remove_key (is_at (nat_cmp n)) ns else ns) (are q) ∙ at (bytes_eq g q) refl
+    changed q
+    ∙ ap (λ ns. if bytes_eq g q then remove_key (is_at (nat_cmp n)) ns else ns) (are q)
+    ∙ at (bytes_eq g q) refl
   where
     at : (b : Bool)
         → bytes_eq g q ≡ b
-        → (if b then remove_key (is_at (nat_cmp n)) (group_numbers q hs) else group_numbers q hs) ≡ group_numbers q (filter (has_another_number n) hs)
-    at true e = remove-number n (filter (is_in q) hs) (ascending-filter (is_in q) hs a) ∙ ap (map number_of) (filters-swap (has_another_number n) (is_in q) hs)
+        → (if b then remove_key (is_at (nat_cmp n)) (group_numbers q hs) else group_numbers q hs) ≡ group_numbers q
+        (filter (has_another_number n) hs)
+    at true e =
+        remove-number n (filter (is_in q) hs) (ascending-filter (is_in q) hs a)
+        ∙ ap (map number_of) (filters-swap (has_another_number n) (is_in q) hs)
     at false e = sym (ap (map number_of) (not-lost n q hs h a f (ap (is_named q) some ∙ e)))
 
 -- ---- a group less
@@ -151,7 +174,9 @@ without-above : (h : Handle) (xs hs : List Handle)
 without-above h [] hs a = refl
 without-above h (x ∷ xs) hs a =
     let other : nat_eq x.number h.number ≡ false = grind (arith, nat_tests, a.0) in
-    ap (λ b. without_all (map number_of xs) (cond (not b) (h ∷ filter (has_another_number x.number) hs) (filter (has_another_number x.number) hs))) other
+    ap (λ b. without_all (map number_of xs)
+    (cond (not b) (h ∷ filter (has_another_number x.number) hs) (filter (has_another_number x.number) hs)))
+    other
     ∙ without-above h xs (filter (has_another_number x.number) hs) a.1
 
 pub without-group : (g : List ℕ) (hs : List Handle)
@@ -162,13 +187,18 @@ without-group g (h ∷ hs) a = at (without-group g hs a.1) (is_in g h)
   where
     at : without_all (group_numbers g hs) hs ≡ filter (is_outside g) hs
         → (b : Bool)
-        → without_all (map number_of (cond b (h ∷ filter (is_in g) hs) (filter (is_in g) hs))) (h ∷ hs) ≡ cond (not b) (h ∷ filter (is_outside g) hs) (filter (is_outside g) hs)
+        → without_all (map number_of (cond b (h ∷ filter (is_in g) hs) (filter (is_in g) hs))) (h ∷ hs) ≡ cond (not b)
+        (h ∷ filter (is_outside g) hs) (filter (is_outside g) hs)
     at rest true =
         let same : nat_eq h.number h.number ≡ true = grind (arith, nat_tests) in
-        ap (λ b. without_all (group_numbers g hs) (cond (not b) (h ∷ filter (has_another_number h.number) hs) (filter (has_another_number h.number) hs))) same
-        ∙ ap (without_all (group_numbers g hs)) (without-unused h.number hs (unused-above h.number h.number hs a.0 (omega arith)))
+        ap (λ b. without_all (group_numbers g hs)
+        (cond (not b) (h ∷ filter (has_another_number h.number) hs) (filter (has_another_number h.number) hs)))
+        same
+        ∙ ap (without_all (group_numbers g hs))
+        (without-unused h.number hs (unused-above h.number h.number hs a.0 (omega arith)))
         ∙ rest
-    at rest false = without-above h (filter (is_in g) hs) hs (above-filter h.number (is_in g) hs a.0) ∙ ap (λ xs. h ∷ xs) rest
+    at rest false =
+        without-above h (filter (is_in g) hs) hs (above-filter h.number (is_in g) hs a.0) ∙ ap (λ xs. h ∷ xs) rest
 
 none-inside : (g : List ℕ) (hs : List Handle) → filter (is_in g) (filter (is_outside g) hs) ≡ []
 none-inside g [] = refl
@@ -179,7 +209,10 @@ none-inside g (h ∷ hs) = at (none-inside g hs) (is_in g h) refl
         → is_in g h ≡ b
         → filter (is_in g) (cond (not b) (h ∷ filter (is_outside g) hs) (filter (is_outside g) hs)) ≡ []
     at rest true e = rest
-    at rest false e = ap (λ b. cond b (h ∷ filter (is_in g) (filter (is_outside g) hs)) (filter (is_in g) (filter (is_outside g) hs))) e ∙ rest
+    at rest false e =
+        ap (λ b. cond b (h ∷ filter (is_in g) (filter (is_outside g) hs)) (filter (is_in g) (filter (is_outside g) hs)))
+        e
+        ∙ rest
 
 -- what is in a group is outside the others
 in-one : (g q : List ℕ) → bytes_eq g q ≡ false → (o : Option (List ℕ)) → is_named q o ≡ true → is_named g o ≡ false
@@ -197,10 +230,14 @@ others-stay g q n (h ∷ hs) = at (others-stay g q n hs) (is_in g h) (is_in q h)
         → (b d : Bool)
         → is_in g h ≡ b
         → is_in q h ≡ d
-        → filter (is_in q) (cond (not b) (h ∷ filter (is_outside g) hs) (filter (is_outside g) hs)) ≡ cond d (h ∷ filter (is_in q) hs) (filter (is_in q) hs)
+        → filter (is_in q) (cond (not b) (h ∷ filter (is_outside g) hs) (filter (is_outside g) hs)) ≡ cond d
+        (h ∷ filter (is_in q) hs) (filter (is_in q) hs)
     at rest true true e f = absurd (true≢false (sym e ∙ in-one g q n h.group f))
     at rest true false e f = rest
-    at rest false d e f = ap (λ b. cond b (h ∷ filter (is_in q) (filter (is_outside g) hs)) (filter (is_in q) (filter (is_outside g) hs))) f ∙ ap (λ xs. cond d (h ∷ xs) xs) rest
+    at rest false d e f =
+        ap (λ b. cond b (h ∷ filter (is_in q) (filter (is_outside g) hs)) (filter (is_in q) (filter (is_outside g) hs)))
+        f
+        ∙ ap (λ xs. cond d (h ∷ xs) xs) rest
 
 pub group-less : (g : List ℕ) (hs : List Handle) (old new : Groups)
     → AreGroupsOf hs old
@@ -212,7 +249,9 @@ group-less g hs old new are changed q =
     at : (b : Bool)
         → bytes_eq g q ≡ b
         → (if b then [] else group_numbers q hs) ≡ group_numbers q (filter (is_outside g) hs)
-    at true e = sym (subst (λ l. group_numbers l (filter (is_outside g) hs) ≡ []) ((bytes_decides g q).0 e) (ap (map number_of) (none-inside g hs)))
+    at true e =
+        sym (subst (λ l. group_numbers l (filter (is_outside g) hs) ≡ []) ((bytes_decides g q).0 e)
+        (ap (map number_of) (none-inside g hs)))
     at false e = sym (ap (map number_of) (others-stay g q e hs))
 
 -- ---- the whole
@@ -241,7 +280,8 @@ pub unreleased : (n : ℕ) (hs : List Handle) (made : ℕ) (groups : Groups)
     → IsIndexed hs made groups
     → None ≡ find (has_number n) hs
     → IsIndexed (filter (has_another_number n) hs) made groups
-unreleased n hs made groups i f = subst (λ xs. IsIndexed xs made groups) (sym (without-unused n hs (nothing-found n hs f))) i
+unreleased n hs made groups i f =
+    subst (λ xs. IsIndexed xs made groups) (sym (without-unused n hs (nothing-found n hs f))) i
 
 pub added-index : (hs : List Handle) (h : Handle) (made : ℕ) (old new : Groups)
     → IsIndexed hs made old
@@ -250,7 +290,9 @@ pub added-index : (hs : List Handle) (h : Handle) (made : ℕ) (old new : Groups
     → AreGroupsOf (hs ++ h ∷ []) new
     → IsIndexed (hs ++ h ∷ []) (made + 1) new
 added-index hs h made old new i e few are = record {
-  below = below-push (made + 1 + 1) hs h (below-weaker (made + 1) (made + 1 + 1) hs (omega arith) i.below) (omega (arith, e));
+  below =
+      below-push (made + 1 + 1) hs h (below-weaker (made + 1) (made + 1 + 1) hs (omega arith) i.below)
+      (omega (arith, e));
   ascending = ascending-push hs h (subst (λ n. AllBelow n hs) (sym e) i.below) i.ascending;
   few = omega (arith, few);
   grouped = are;
@@ -261,7 +303,10 @@ pub length-less : (n : ℕ) (hs new : List Handle) (h : Handle)
     → Some h ≡ find (has_number n) hs
     → new ≡ filter (has_another_number n) hs
     → length new + 1 ≡ length hs
-length-less n hs new h a f e = ap (λ xs. length xs + 1) e ∙ sym (ap (λ b. length (filter (has_another_number n) hs) + cond b 1 0) (something-found n hs h f)) ∙ length-without n hs a
+length-less n hs new h a f e =
+    ap (λ xs. length xs + 1) e
+    ∙ sym (ap (λ b. length (filter (has_another_number n) hs) + cond b 1 0) (something-found n hs h f))
+    ∙ length-without n hs a
 
 -- one more may be made where no fault stands
 pub more-may-be : (s : State) → fault_of s ≡ None → s.made < MOST_MADE
@@ -285,6 +330,7 @@ pub left-state : (g : List ℕ) (s : State) (hs left : List Handle) (made : ℕ)
     → record { held = left; made = made } ≡ without_group g s
 left-state g s hs left made e f = ap (λ xs. state xs made) f ∙ ap (without_group g) e
 
-module _ (g : List ℕ) (hs : List Handle) (made : ℕ) (groups : Groups) (i : IsIndexed hs made groups) (ns : List ℕ) (e : ns ≡ numbers_in g groups) where
+module _ (g : List ℕ) (hs : List Handle) (made : ℕ) (groups : Groups) (i : IsIndexed hs made groups) (ns : List ℕ)
+    (e : ns ≡ numbers_in g groups) where
   pub left-of-group : without_all ns hs ≡ filter (is_outside g) hs
   left-of-group = ap (λ xs. without_all xs hs) (e ∙ i.grouped g) ∙ without-group g hs i.ascending

@@ -43,7 +43,8 @@ pub ascending-filter : (p : Handle → Bool) (hs : List Handle) → IsAscending 
 ascending-filter p [] a = tt
 ascending-filter p (h ∷ hs) a =
     let rest = ascending-filter p hs a.1 in
-    elim (p h) as (λ b. IsAscending (cond b (h ∷ filter p hs) (filter p hs))) [ true ↦ (above-filter h.number p hs a.0, rest) | false ↦ rest ]
+    elim (p h) as (λ b. IsAscending (cond b (h ∷ filter p hs) (filter p hs)))
+    [ true ↦ (above-filter h.number p hs a.0, rest) | false ↦ rest ]
 
 -- ---- numbers that no handle has
 
@@ -76,7 +77,9 @@ without-unused n (h ∷ hs) u = at (λ v. without-unused n hs v) (has_number n h
 pub find-any : (n : ℕ) (hs : List Handle) → is_some (find (has_number n) hs) ≡ list_any (has_number n) hs
 find-any n [] = refl
 find-any n (h ∷ hs) =
-    elim (has_number n h) as (λ b. is_some (cond b (Some h) (find (has_number n) hs)) ≡ (b || list_any (has_number n) hs)) [ true ↦ refl | false ↦ find-any n hs ]
+    elim (has_number n h) as
+    (λ b. is_some (cond b (Some h) (find (has_number n) hs)) ≡ (b || list_any (has_number n) hs))
+    [ true ↦ refl | false ↦ find-any n hs ]
 
 -- at most one handle has a number
 pub length-without : (n : ℕ) (hs : List Handle)
@@ -88,7 +91,8 @@ length-without n (h ∷ hs) a = at (length-without n hs a.1) (has_number n h) re
     at : length (filter (has_another_number n) hs) + cond (list_any (has_number n) hs) 1 0 ≡ length hs
         → (b : Bool)
         → has_number n h ≡ b
-        → length (cond (not b) (h ∷ filter (has_another_number n) hs) (filter (has_another_number n) hs)) + cond (b || list_any (has_number n) hs) 1 0 ≡ length (h ∷ hs)
+        → length (cond (not b) (h ∷ filter (has_another_number n) hs) (filter (has_another_number n) hs)) + cond
+        (b || list_any (has_number n) hs) 1 0 ≡ length (h ∷ hs)
     at less true e =
         let rest = ap length (without-unused n hs (unused-above h.number n hs a.0 (grind (arith, nat_tests)))) in
         omega (arith, rest)

@@ -32,14 +32,17 @@ remove-entries : (n : ℕ) (hs : List Handle)
     → remove_entry (is_at (nat_cmp n)) (map entry_of hs) ≡ map entry_of (filter (has_another_number n) hs)
 remove-entries n [] a = refl
 remove-entries n (h ∷ hs) a =
-    ap (λ b. cond b (map entry_of hs) (entry_of h ∷ remove_entry (is_at (nat_cmp n)) (map entry_of hs))) (sym (unsigned_ties n h.number))
+    ap (λ b. cond b (map entry_of hs) (entry_of h ∷ remove_entry (is_at (nat_cmp n)) (map entry_of hs)))
+    (sym (unsigned_ties n h.number))
     ∙ at (remove-entries n hs a.1) (nat_eq n h.number) refl
   where
     at : remove_entry (is_at (nat_cmp n)) (map entry_of hs) ≡ map entry_of (filter (has_another_number n) hs)
         → (b : Bool)
         → nat_eq n h.number ≡ b
-        → cond b (map entry_of hs) (entry_of h ∷ remove_entry (is_at (nat_cmp n)) (map entry_of hs)) ≡ map entry_of (cond (not b) (h ∷ filter (has_another_number n) hs) (filter (has_another_number n) hs))
-    at rest true e = ap (map entry_of) (sym (without-unused n hs (unused-above h.number n hs a.0 (grind (arith, nat_tests)))))
+        → cond b (map entry_of hs) (entry_of h ∷ remove_entry (is_at (nat_cmp n)) (map entry_of hs)) ≡ map entry_of
+        (cond (not b) (h ∷ filter (has_another_number n) hs) (filter (has_another_number n) hs))
+    at rest true e =
+        ap (map entry_of) (sym (without-unused n hs (unused-above h.number n hs a.0 (grind (arith, nat_tests)))))
     at rest false e = ap (λ es. entry_of h ∷ es) rest
 
 insert-entries : (hs : List Handle) (h : Handle)
@@ -47,7 +50,9 @@ insert-entries : (hs : List Handle) (h : Handle)
     → insert_entry nat_cmp (map entry_of hs) h.number h ≡ map entry_of (hs ++ h ∷ [])
 insert-entries [] h b = refl
 insert-entries (x ∷ hs) h b =
-    ap (λ o. match_ordering o (entry_of h ∷ entry_of x ∷ map entry_of hs) ((x.number, h) ∷ map entry_of hs) (entry_of x ∷ insert_entry nat_cmp (map entry_of hs) h.number h)) (sym (nat_cmp_is h.number x.number Greater b.0))
+    ap (λ o. match_ordering o (entry_of h ∷ entry_of x ∷ map entry_of hs) ((x.number, h) ∷ map entry_of hs)
+    (entry_of x ∷ insert_entry nat_cmp (map entry_of hs) h.number h))
+    (sym (nat_cmp_is h.number x.number Greater b.0))
     ∙ ap (λ es. entry_of x ∷ es) (insert-entries hs h b.1)
 
 bit : (b : Bool) → from_bool b ≡ cond b 1 0
@@ -77,7 +82,9 @@ module _ (old new : List (ℕ × Handle)) (count : ℕ) (h : Handle) where
       → IsTable new (count + more)
   added-table more t b m e =
       let values = added-values t b e in
-      let counts : count + more ≡ scratch_count (values_of old ++ h ∷ []) = ap (λ n. n + more) t.counted ∙ ap (λ n. scratch_count (values_of old) + n) (m ∙ bit (is_on_scratch h)) ∙ sym (sum_by_push (λ x. cond (is_on_scratch x) 1 0) (values_of old) h) in
+      let counts : count + more ≡ scratch_count (values_of old ++ h ∷ []) = ap (λ n. n + more) t.counted
+      ∙ ap (λ n. scratch_count (values_of old) + n) (m ∙ bit (is_on_scratch h))
+      ∙ sym (sum_by_push (λ x. cond (is_on_scratch x) 1 0) (values_of old) h) in
       record {
         keyed = added-entries t b e ∙ ap (map entry_of) (sym values);
         ascending = subst IsAscending (sym values) (ascending-push (values_of old) h b t.ascending);
@@ -86,7 +93,8 @@ module _ (old new : List (ℕ × Handle)) (count : ℕ) (h : Handle) where
 
 -- the count of a table is no more than its length, so one more fits
 pub count-small : (entries : List (ℕ × Handle)) (count : ℕ) → IsTable entries count → count ≤ length (values_of entries)
-count-small entries count t = subst (λ n. n ≤ length (values_of entries)) (sym t.counted) (count_by-le-length is_on_scratch (values_of entries))
+count-small entries count t =
+    subst (λ n. n ≤ length (values_of entries)) (sym t.counted) (count_by-le-length is_on_scratch (values_of entries))
 
 bit-small : (b : Bool) → from_bool b ≤ 1
 bit-small true = omega arith
@@ -127,7 +135,9 @@ module _ (old new : List (ℕ × Handle)) (count n : ℕ) where
       → scratch_count (values_of new) + cond (is_on_scratch h) 1 0 ≡ count
   left-count h t f e =
       ap (λ es. scratch_count (values_of es) + cond (is_on_scratch h) 1 0) e
-      ∙ ap (λ o. scratch_count (values_of (remove_entry (is_at (nat_cmp n)) old)) + unwrap_or (option_map (λ x. cond (is_on_scratch x) 1 0) o) 0) f
+      ∙ ap (λ o. scratch_count (values_of (remove_entry (is_at (nat_cmp n)) old)) + unwrap_or
+      (option_map (λ x. cond (is_on_scratch x) 1 0) o) 0)
+      f
       ∙ sum_by-remove_entry (λ x. cond (is_on_scratch x) 1 0) (is_at (nat_cmp n)) old
       ∙ sym t.counted
 
@@ -137,7 +147,8 @@ module _ (old new : List (ℕ × Handle)) (count n : ℕ) where
       → new ≡ remove_entry (is_at (nat_cmp n)) old
       → less ≡ from_bool (is_on_scratch h)
       → scratch_count (values_of new) + less ≡ count
-  left-and-taken less h t f e m = ap (λ k. scratch_count (values_of new) + k) (m ∙ bit (is_on_scratch h)) ∙ left-count h t f e
+  left-and-taken less h t f e m =
+      ap (λ k. scratch_count (values_of new) + k) (m ∙ bit (is_on_scratch h)) ∙ left-count h t f e
 
   pub taken-counted : (less : ℕ) (h : Handle)
       → IsTable old count
@@ -158,7 +169,8 @@ module _ (old new : List (ℕ × Handle)) (count n : ℕ) where
       let c = left-and-taken less h t f e m in
       record {
         keyed = left-entries t e ∙ ap (map entry_of) (sym values);
-        ascending = subst IsAscending (sym values) (ascending-filter (has_another_number n) (values_of old) t.ascending);
+        ascending =
+            subst IsAscending (sym values) (ascending-filter (has_another_number n) (values_of old) t.ascending);
         counted = omega (arith, c);
       }
 

@@ -21,7 +21,9 @@ none_made = record { held = []; made = 0 }
 
 -- why no handle is made, if none is
 abbrev pub fault_of : State → Option HandleFault
-fault_of s = if nat_le MOST_HELD (length s.held) then Some (Full MOST_HELD) else if nat_le MOST_MADE s.made then Some (Full MOST_MADE) else None
+fault_of s =
+    if nat_le MOST_HELD (length s.held) then Some (Full MOST_HELD) else if nat_le MOST_MADE s.made then Some
+    (Full MOST_MADE) else None
 
 -- what is answered: the fault that stands, or else a number, but for want of memory
 abbrev pub Answers : Option HandleFault → Result ℕ HandleFault → Type 0
@@ -34,7 +36,8 @@ next_number s = s.made + 1
 
 -- one handle more, in a group or in none
 abbrev pub with_handle : Target → Option (List ℕ) → State → State
-with_handle target group s = record { held = s.held ++ record { number = next_number s; target = target; group = group } ∷ []; made = next_number s }
+with_handle target group s =
+    record { held = s.held ++ record { number = next_number s; target = target; group = group } ∷ []; made = next_number s }
 
 -- ---- finding and releasing
 

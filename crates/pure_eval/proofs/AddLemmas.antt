@@ -93,9 +93,13 @@ whole-added t w es plain entry h r s =
     let table : IsTable w = r.keeps.table h.table in
     let closed : AreClosed w 0 = closed-more t w h.closed x r.closed in
     let placed : ArePlaced w 0 = placed-more t w h.placed x r.placed in
-    let f : (ts : List (List ℕ)) (i : ℕ) (e : SourceEntry) → slice_get es.items i ≡ Some e → (n : ℕ) → function_in n (tree ts u e.root) ≡ indexed_code ts u e n = λ ts i e g n.
+    let f : (ts : List (List ℕ)) (i : ℕ) (e : SourceEntry)
+    → slice_get es.items i ≡ Some e
+    → (n : ℕ)
+    → function_in n (tree ts u e.root) ≡ indexed_code ts u e n = λ ts i e g n.
     each_source (Finds u) t.sources.items es.items entry s
-    (λ j d k. finds-stay t u d h.table h.closed h.placed (extends_twice t w u x y) (h.sources j d k) (λ us m. h.functions.finds us j d k m))
+    (λ j d k. finds-stay t u d h.table h.closed h.placed (extends_twice t w u x y) (h.sources j d k)
+    (λ us m. h.functions.finds us j d k m))
     (finds-stay w u entry table closed placed y r.within r.indexed.finds) i e g ts n in
     record {
       table = same_nodes w u refl refl table;
@@ -103,10 +107,14 @@ whole-added t w es plain entry h r s =
       functions = record { finds = f };
       closed = closed-more w u closed y (closed-end u (length w.nodes.items) (omega arith));
       placed = placed-more w u placed y (placed-end u (length w.functions.items) (omega arith));
-      sources = each_source (IsWithin u) t.sources.items es.items entry s (λ i d k. within-more t u d (extends_twice t w u x y) (h.sources i d k)) (within-more w u entry y r.within);
+      sources =
+          each_source (IsWithin u) t.sources.items es.items entry s
+          (λ i d k. within-more t u d (extends_twice t w u x y) (h.sources i d k))
+          (within-more w u entry y r.within);
     }
 
-pub source-added : (names more : List (List ℕ)) (t w : NodeTable) (es : Vec SourceEntry) (at : Addr) (x : Term) (root : ℕ) (plain entry : SourceEntry)
+pub source-added : (names more : List (List ℕ)) (t w : NodeTable) (es : Vec SourceEntry) (at : Addr) (x : Term)
+    (root : ℕ) (plain entry : SourceEntry)
     → IsWhole t
     → GoesOn names more
     → IsReady t w plain entry
@@ -129,15 +137,19 @@ source-added names more t w es at x root plain entry h g r k c d s =
       tree = is;
       program = λ us l.
           ap (source_trees us u) s ∙ sources_push us u t.sources.items entry
-          ∙ ap (λ ps. ps ++ source_tree us u entry ∷ []) (sources-stay us t u t.sources.items h.table h.closed z h.sources)
-          ∙ ap (λ o. let e : SourceTree = record { source = o; tree = tree us u entry.root } in source_trees us t t.sources.items ++ e ∷ []) (r.indexed.source ∙ c)
+          ∙ ap (λ ps. ps ++ source_tree us u entry ∷ [])
+          (sources-stay us t u t.sources.items h.table h.closed z h.sources)
+          ∙ ap (λ o. let e : SourceTree = record { source = o; tree = tree us u entry.root } in
+          source_trees us t t.sources.items ++ e ∷ [])
+          (r.indexed.source ∙ c)
           ∙ ap (λ n. source_trees us t t.sources.items ++ kept_tree_at at (tree us u n) ∷ []) (r.indexed.root ∙ d)
           ∙ ap (λ y. source_trees us t t.sources.items ++ kept_tree_at at y ∷ []) (is us l);
     }
 
 -- ---- as the code has it
 
-pub added : (names more : List (List ℕ)) (t w : NodeTable) (es : Vec SourceEntry) (at : Addr) (x : Term) (root from first : ℕ) (o : Option ℕ) (plain entry : SourceEntry)
+pub added : (names more : List (List ℕ)) (t w : NodeTable) (es : Vec SourceEntry) (at : Addr) (x : Term)
+    (root from first : ℕ) (o : Option ℕ) (plain entry : SourceEntry)
     → IsWhole t
     → Grows names t more w
     → Holds more w x o

@@ -87,7 +87,11 @@ call_whole t cs e is h =
     record {
       table = same_nodes t u refl refl h.table;
       places = same_places t u refl (begins_same t.functions.items) h.places;
-      functions = record { finds = λ ts i s g n. finds-stay t u s h.table h.closed h.placed x (h.sources i s g) (λ us m. h.functions.finds us i s g m) ts n };
+      functions =
+          record {
+            finds = λ ts i s g n. finds-stay t u s h.table h.closed h.placed x (h.sources i s g)
+                (λ us m. h.functions.finds us i s g m) ts n;
+          };
       closed = closed-more t u h.closed x (closed-end u (length t.nodes.items) (omega arith));
       placed = placed-more t u h.placed x (placed-end u (length t.functions.items) (omega arith));
       sources = λ i s g. within-more t u s x (h.sources i s g);
@@ -104,14 +108,20 @@ pub call-added : (t : NodeTable) (cs : Vec CallEntry) (e : CallEntry) (n : ℕ)
     → IsCallAdded t (with_calls t cs) n
 call-added t cs e n is at form = record {
   whole = call_whole t cs e is;
-  program = λ h ts. sources-stay ts t (with_calls t cs) t.sources.items h.table h.closed (call_extends t cs e is) h.sources;
-  there = ap (λ m. call_form (slice_get cs.items m)) at ∙ ap (λ xs. call_form (slice_get xs (length t.calls.items))) is ∙ ap call_form (last_there t.calls.items e) ∙ form;
+  program =
+      λ h ts. sources-stay ts t (with_calls t cs) t.sources.items h.table h.closed (call_extends t cs e is) h.sources;
+  there =
+      ap (λ m. call_form (slice_get cs.items m)) at
+      ∙ ap (λ xs. call_form (slice_get xs (length t.calls.items))) is
+      ∙ ap call_form (last_there t.calls.items e)
+      ∙ form;
 }
 
 -- ---- a step of the callee is one of the call
 
 abbrev call_gap : Value → List Value → Gap
-call_gap receiver args = record { form = call beginning 0; before = receiver ∷ []; after = dones args; later = no_terms }
+call_gap receiver args =
+    record { form = call beginning 0; before = receiver ∷ []; after = dones args; later = no_terms }
 
 abbrev under : Addr → Value → List Value → Move Term → Move Term
 under root receiver args m = risen root (call_gap receiver args) m
@@ -122,7 +132,8 @@ same_if false x = refl
 
 call_waits : (receiver : Value) (t : Term) (args : List Value)
     → settled (call beginning 0) (gap_parts (call_gap receiver args) t) no_terms ≡ call_with_values receiver t args
-call_waits receiver t args = same_if (all_done (gap_parts (call_gap receiver args) t)) (call_with_values receiver t args)
+call_waits receiver t args =
+    same_if (all_done (gap_parts (call_gap receiver args) t)) (call_with_values receiver t args)
 
 call_next : (p : Program) (root : Addr) (receiver : Value) (t : Term) (args : List Value) (s : State)
     → is_done t ≡ false
@@ -132,15 +143,18 @@ call_next p root receiver t args s h = next-within p root (call_gap receiver arg
 goes_on : (root : Addr) (receiver : Value) (args : List Value) (m : Move Term) (t : Term) (s : State) (told : Told)
     → m ≡ goes t s told
     → run_after (under root receiver args m) ≡ run_of (call_with_values receiver t args) s
-goes_on root receiver args m t s told e = ap (λ x. run_after (under root receiver args x)) e ∙ ap (λ x. run_of x s) (call_waits receiver t args)
+goes_on root receiver args m t s told e =
+    ap (λ x. run_after (under root receiver args x)) e ∙ ap (λ x. run_of x s) (call_waits receiver t args)
 
-went_on : (root : Addr) (receiver : Value) (args : List Value) (m : Move Term) (stepped : Stepped) (t : Term) (s : State)
+went_on : (root : Addr) (receiver : Value) (args : List Value) (m : Move Term) (stepped : Stepped) (t : Term)
+    (s : State)
     → Tells m stepped t s
     → end_with stepped ≡ None
     → run_after (under root receiver args m) ≡ run_of (call_with_values receiver t args) s
 went_on root receiver args m steppeds.Went t s h e = goes_on root receiver args m t s went h
 went_on root receiver args m steppeds.Raised t s h e = goes_on root receiver args m t s raised h
-went_on root receiver args m (steppeds.Printed vs) t s h e = goes_on root receiver args m t s (printed_values vs.items) h
+went_on root receiver args m (steppeds.Printed vs) t s h e =
+    goes_on root receiver args m t s (printed_values vs.items) h
 went_on root receiver args m (steppeds.Over f) t s h e = absurd cc
 went_on root receiver args m steppeds.Effect t s h e = absurd cc
 went_on root receiver args m (steppeds.Full what) t s h e = absurd cc
@@ -164,9 +178,11 @@ over_so_far : (left : ℕ) (p : Program) (root : Addr) (r : Run) (f : AnyFinish)
     → steps_in 1 p root r ≡ over f s
     → EndsSoFar (over f s) e s
     → EndsSoFar (steps_in left p root r) e s
-over_so_far left p root r f s e l o h = (over_answers 1 left p root r f s e l o h.0, over_ends 1 left p root r f s e l o h.1)
+over_so_far left p root r f s e l o h =
+    (over_answers 1 left p root r f s e l o h.0, over_ends 1 left p root r f s e l o h.1)
 
-call_ends : (left : ℕ) (p : Program) (root : Addr) (receiver : Value) (args : List Value) (x : Term) (u : State) (m : Move Term) (stepped : Stepped) (t : Term) (s : State) (e : Evaluated)
+call_ends : (left : ℕ) (p : Program) (root : Addr) (receiver : Value) (args : List Value) (x : Term) (u : State)
+    (m : Move Term) (stepped : Stepped) (t : Term) (s : State) (e : Evaluated)
     → 1 ≤ left
     → next p root (call_with_values receiver x args) u ≡ under root receiver args m
     → Tells m stepped t s
@@ -176,17 +192,23 @@ call_ends left p root receiver args x u m (steppeds.Over f) t s e l n h g =
     let q : finished f ≡ e = cc in
     let r : Run = run_of (call_with_values receiver x args) u in
     let P : Evaluated → Type 0 = λ z. EndsSoFar (steps_in left p root r) z s in
-    subst P q (over_so_far left p root r (finish_of f) s (finished f) l (ap run_after n ∙ travels_on root receiver args m f s h) (answer_over f s, finished_ends f s))
+    subst P q
+    (over_so_far left p root r (finish_of f) s (finished f) l
+    (ap run_after n ∙ travels_on root receiver args m f s h) (answer_over f s, finished_ends f s))
 call_ends left p root receiver args x u m steppeds.Effect t s e l n h g =
     let q : ends.Effect ≡ e = cc in
     let r : Run = run_of (call_with_values receiver x args) u in
     let P : Evaluated → Type 0 = λ z. EndsSoFar (steps_in left p root r) z s in
-    subst P q (over_so_far left p root r by_effect s ends.Effect l (ap run_after n ∙ ap (λ z. run_after (under root receiver args z)) h) (refl, refl))
+    subst P q
+    (over_so_far left p root r by_effect s ends.Effect l
+    (ap run_after n ∙ ap (λ z. run_after (under root receiver args z)) h) (refl, refl))
 call_ends left p root receiver args x u m (steppeds.Full what) t s e l n h g =
     let q : ends.Full what ≡ e = cc in
     let r : Run = run_of (call_with_values receiver x args) u in
     let P : Evaluated → Type 0 = λ z. EndsSoFar (steps_in left p root r) z s in
-    subst P q (over_so_far left p root r (by_full what) s (ends.Full what) l (ap run_after n ∙ ap (λ z. run_after (under root receiver args z)) h) (refl, refl))
+    subst P q
+    (over_so_far left p root r (by_full what) s (ends.Full what) l
+    (ap run_after n ∙ ap (λ z. run_after (under root receiver args z)) h) (refl, refl))
 call_ends left p root receiver args x u m steppeds.Memory t s e l n h g =
     let q : ends.Memory ≡ e = cc in
     let r : Run = run_of (call_with_values receiver x args) u in
@@ -196,7 +218,8 @@ call_ends left p root receiver args x u m steppeds.Went t s e l n h g = absurd c
 call_ends left p root receiver args x u m steppeds.Raised t s e l n h g = absurd cc
 call_ends left p root receiver args x u m (steppeds.Printed vs) t s e l n h g = absurd cc
 
-one_left : (left : ℕ) (p : Program) (root : Addr) (receiver : Value) (args : List Value) (x : Term) (u : State) (r : Run)
+one_left : (left : ℕ) (p : Program) (root : Addr) (receiver : Value) (args : List Value) (x : Term) (u : State)
+    (r : Run)
     → 0 < left
     → run_after (next p root (call_with_values receiver x args) u) ≡ r
     → steps_in left p root (run_of (call_with_values receiver x args) u) ≡ steps_in (left - 1) p root r
@@ -207,12 +230,16 @@ one_left left p root receiver args x u r l e =
 -- ---- the loop
 
 -- the steps that are left lead from here where all lead from the beginning
-pub record CalleeOn (ts : List (List ℕ)) (t : NodeTable) (root : Addr) (ws : List Wide) (p : Point) (w : World) (c : Context) (most left : ℕ) (vs : List Wide) (q : Point) (v : World) (d : Context) : Type 0 where
+pub record CalleeOn (ts : List (List ℕ)) (t : NodeTable) (root : Addr) (ws : List Wide) (p : Point) (w : World)
+    (c : Context) (most left : ℕ) (vs : List Wide) (q : Point) (v : World) (d : Context) : Type 0 where
   pub runs : (taken : List (List ℕ)) (receiver : Value) (args : List Value)
-      → steps_in left (program_of ts t) root (run_of (call_with_values receiver (term_at ts t vs q) args) (state_of v d taken)) ≡ steps_in most (program_of ts t) root (run_of (call_with_values receiver (term_at ts t ws p) args) (state_of w c taken))
+      → steps_in left (program_of ts t) root
+      (run_of (call_with_values receiver (term_at ts t vs q) args) (state_of v d taken)) ≡ steps_in most
+      (program_of ts t) root (run_of (call_with_values receiver (term_at ts t ws p) args) (state_of w c taken))
   pub stands : StandsIn t root vs q
 
-pub callee-first : (ts : List (List ℕ)) (t : NodeTable) (root : Addr) (ws : List Wide) (p : Point) (w : World) (c : Context) (most : ℕ)
+pub callee-first : (ts : List (List ℕ)) (t : NodeTable) (root : Addr) (ws : List Wide) (p : Point) (w : World)
+    (c : Context) (most : ℕ)
     → StandsIn t root ws p
     → CalleeOn ts t root ws p w c most most ws p w c
 callee-first ts t root ws p w c most s = record { runs = λ taken receiver args. refl; stands = s }
@@ -226,46 +253,68 @@ stands_on steppeds.Effect P e h = absurd cc
 stands_on (steppeds.Full what) P e h = absurd cc
 stands_on steppeds.Memory P e h = absurd cc
 
-pub callee-next : (ts : List (List ℕ)) (t : NodeTable) (root : Addr) (ws vs us : List Wide) (p q o : Point) (w v x : World) (c d e : Context) (most left : ℕ) (stepped : Stepped)
+pub callee-next : (ts : List (List ℕ)) (t : NodeTable) (root : Addr) (ws vs us : List Wide) (p q o : Point)
+    (w v x : World) (c d e : Context) (most left : ℕ) (stepped : Stepped)
     → CalleeOn ts t root ws p w c most left vs q v d
     → 0 < left
     → IsGoing q
-    → ((taken : List (List ℕ)) → Tells (next (program_of ts t) root (term_at ts t vs q) (state_of v d taken)) stepped (term_at ts t us o) (state_of x e taken))
+    → ((taken : List (List ℕ))
+    → Tells (next (program_of ts t) root (term_at ts t vs q) (state_of v d taken)) stepped (term_at ts t us o)
+    (state_of x e taken))
     → IfGoesOn stepped (StandsIn t root us o)
     → end_with stepped ≡ None
     → CalleeOn ts t root ws p w c most (left - 1) us o x e
 callee-next ts t root ws vs us p q o w v x c d e most left stepped i l g told s n = record {
   runs = λ taken receiver args.
-      sym (one_left left (program_of ts t) root receiver args (term_at ts t vs q) (state_of v d taken) (run_of (call_with_values receiver (term_at ts t us o) args) (state_of x e taken)) l
-      (ap run_after (call_next (program_of ts t) root receiver (term_at ts t vs q) args (state_of v d taken) (at-open ts t vs q i.stands.at g))
-      ∙ went_on root receiver args (next (program_of ts t) root (term_at ts t vs q) (state_of v d taken)) stepped (term_at ts t us o) (state_of x e taken) (told taken) n))
+      sym (one_left left (program_of ts t) root receiver args (term_at ts t vs q) (state_of v d taken)
+      (run_of (call_with_values receiver (term_at ts t us o) args) (state_of x e taken)) l
+      (ap run_after
+      (call_next (program_of ts t) root receiver (term_at ts t vs q) args (state_of v d taken)
+      (at-open ts t vs q i.stands.at g))
+      ∙ went_on root receiver args (next (program_of ts t) root (term_at ts t vs q) (state_of v d taken)) stepped
+      (term_at ts t us o) (state_of x e taken) (told taken) n))
       ∙ i.runs taken receiver args;
   stands = stands_on stepped (StandsIn t root us o) n s;
 }
 
-pub callee-ends : (ts : List (List ℕ)) (t : NodeTable) (root : Addr) (ws vs us : List Wide) (p q o : Point) (w v x : World) (c d e : Context) (most left : ℕ) (stepped : Stepped) (how : Evaluated)
+pub callee-ends : (ts : List (List ℕ)) (t : NodeTable) (root : Addr) (ws vs us : List Wide) (p q o : Point)
+    (w v x : World) (c d e : Context) (most left : ℕ) (stepped : Stepped) (how : Evaluated)
     → CalleeOn ts t root ws p w c most left vs q v d
     → 0 < left
     → IsGoing q
-    → ((taken : List (List ℕ)) → Tells (next (program_of ts t) root (term_at ts t vs q) (state_of v d taken)) stepped (term_at ts t us o) (state_of x e taken))
+    → ((taken : List (List ℕ))
+    → Tells (next (program_of ts t) root (term_at ts t vs q) (state_of v d taken)) stepped (term_at ts t us o)
+    (state_of x e taken))
     → end_with stepped ≡ Some how
     → (taken : List (List ℕ)) (receiver : Value) (args : List Value)
-    → ComesTo (program_of ts t) root most (run_of (call_with_values receiver (term_at ts t ws p) args) (state_of w c taken)) receiver args (callees.Ended how) (state_of x e taken)
+    → ComesTo (program_of ts t) root most
+    (run_of (call_with_values receiver (term_at ts t ws p) args) (state_of w c taken)) receiver args
+    (callees.Ended how) (state_of x e taken)
 callee-ends ts t root ws vs us p q o w v x c d e most left stepped how i l g told n = λ taken receiver args.
     let P : Run → Type 0 = λ r. EndsSoFar r how (state_of x e taken) in
     subst P (i.runs taken receiver args)
-    (call_ends left (program_of ts t) root receiver args (term_at ts t vs q) (state_of v d taken) (next (program_of ts t) root (term_at ts t vs q) (state_of v d taken)) stepped (term_at ts t us o) (state_of x e taken) how (omega (arith, l))
-    (call_next (program_of ts t) root receiver (term_at ts t vs q) args (state_of v d taken) (at-open ts t vs q i.stands.at g)) (told taken) n)
+    (call_ends left (program_of ts t) root receiver args (term_at ts t vs q) (state_of v d taken)
+    (next (program_of ts t) root (term_at ts t vs q) (state_of v d taken)) stepped (term_at ts t us o)
+    (state_of x e taken) how (omega (arith, l))
+    (call_next (program_of ts t) root receiver (term_at ts t vs q) args (state_of v d taken)
+    (at-open ts t vs q i.stands.at g))
+    (told taken) n)
 
-pub callee-spent : (ts : List (List ℕ)) (t : NodeTable) (root : Addr) (ws vs : List Wide) (p q : Point) (w v : World) (c d : Context) (most left : ℕ)
+pub callee-spent : (ts : List (List ℕ)) (t : NodeTable) (root : Addr) (ws vs : List Wide) (p q : Point) (w v : World)
+    (c d : Context) (most left : ℕ)
     → CalleeOn ts t root ws p w c most left vs q v d
     → left ≡ 0
     → (taken : List (List ℕ)) (receiver : Value) (args : List Value)
-    → ComesTo (program_of ts t) root most (run_of (call_with_values receiver (term_at ts t ws p) args) (state_of w c taken)) receiver args (callees.Ended ends.Spent) (state_of v d taken)
+    → ComesTo (program_of ts t) root most
+    (run_of (call_with_values receiver (term_at ts t ws p) args) (state_of w c taken)) receiver args
+    (callees.Ended ends.Spent) (state_of v d taken)
 callee-spent ts t root ws vs p q w v c d most left i z = λ taken receiver args.
     let P : Run → Type 0 = λ r. EndsSoFar r ends.Spent (state_of v d taken) in
-    let e : run_of (call_with_values receiver (term_at ts t vs q) args) (state_of v d taken) ≡ steps_in left (program_of ts t) root (run_of (call_with_values receiver (term_at ts t vs q) args) (state_of v d taken)) =
-    ap (λ n. steps_in n (program_of ts t) root (run_of (call_with_values receiver (term_at ts t vs q) args) (state_of v d taken))) (sym z) in
+    let e : run_of (call_with_values receiver (term_at ts t vs q) args) (state_of v d taken) ≡ steps_in left
+    (program_of ts t) root (run_of (call_with_values receiver (term_at ts t vs q) args) (state_of v d taken)) =
+    ap (λ n. steps_in n (program_of ts t) root
+    (run_of (call_with_values receiver (term_at ts t vs q) args) (state_of v d taken)))
+    (sym z) in
     subst P (e ∙ i.runs taken receiver args) (refl, refl)
 
 done_there : (ts : List (List ℕ)) (t : NodeTable) (vs : List Wide) (q : Point) (value : Value)
@@ -277,14 +326,18 @@ done_there ts t vs q value e h =
     let k : vs ≡ [] = subst P e h in
     ap (term_at ts t vs) e ∙ ap (λ xs. term_at ts t xs (points.Done value)) k ∙ done_at ts t value
 
-pub callee-reduced : (ts : List (List ℕ)) (t : NodeTable) (root : Addr) (ws vs : List Wide) (p q : Point) (w v : World) (c d : Context) (most left : ℕ) (value : Value)
+pub callee-reduced : (ts : List (List ℕ)) (t : NodeTable) (root : Addr) (ws vs : List Wide) (p q : Point) (w v : World)
+    (c d : Context) (most left : ℕ) (value : Value)
     → CalleeOn ts t root ws p w c most left vs q v d
     → q ≡ points.Done value
     → (taken : List (List ℕ)) (receiver : Value) (args : List Value)
-    → ComesTo (program_of ts t) root most (run_of (call_with_values receiver (term_at ts t ws p) args) (state_of w c taken)) receiver args (callees.Reduced value left) (state_of v d taken)
+    → ComesTo (program_of ts t) root most
+    (run_of (call_with_values receiver (term_at ts t ws p) args) (state_of w c taken)) receiver args
+    (callees.Reduced value left) (state_of v d taken)
 callee-reduced ts t root ws vs p q w v c d most left value i e = λ taken receiver args.
     sym (i.runs taken receiver args)
-    ∙ ap (λ x. steps_in left (program_of ts t) root (run_of (call_with_values receiver x args) (state_of v d taken))) (done_there ts t vs q value e i.stands.at)
+    ∙ ap (λ x. steps_in left (program_of ts t) root (run_of (call_with_values receiver x args) (state_of v d taken)))
+    (done_there ts t vs q value e i.stands.at)
 
 -- ---- the call's own step
 
@@ -313,7 +366,10 @@ pub values-next : (vs : List Value) (i : ℕ) (d : Value) (first old new : List 
     → with_values (drop (i + 1) vs) new ≡ with_values vs first
 values-next vs i d first old new h l pushed =
     let x : Value = get_or vs i d in
-    ap (with_values (drop (i + 1) vs)) pushed ∙ sym (one_pushed x (drop (i + 1) vs) old) ∙ ap (λ xs. with_values xs old) (sym (cons-at vs i x l (get_same vs i d x l))) ∙ h
+    ap (with_values (drop (i + 1) vs)) pushed
+    ∙ sym (one_pushed x (drop (i + 1) vs) old)
+    ∙ ap (λ xs. with_values xs old) (sym (cons-at vs i x l (get_same vs i d x l)))
+    ∙ h
 
 pub values-all : (vs : List Value) (i : ℕ) (first old : List Wide)
     → with_values (drop i vs) old ≡ with_values vs first
@@ -346,9 +402,12 @@ begun_call : (n : ℕ) (root : Addr) (receiver v : Value) (args : List Value) (n
     → last ≡ with_values args third
     → last ≡ call_task n root (receiver ∷ v ∷ args) ∷ []
 begun_call n root receiver v args none first second third last e f g h i =
-    i ∙ ap (with_values args) (h ∙ ap (with_value v) (g ∙ ap (with_value receiver) (f ∙ ap (λ ws. begun ops.Call n 0 0 0 root None ∷ ws) e)))
+    i
+    ∙ ap (with_values args)
+    (h ∙ ap (with_value v) (g ∙ ap (with_value receiver) (f ∙ ap (λ ws. begun ops.Call n 0 0 0 root None ∷ ws) e)))
 
-pub begun-term : (t : NodeTable) (n : ℕ) (root : Addr) (receiver v : Value) (args : List Value) (none first second third last : List Wide)
+pub begun-term : (t : NodeTable) (n : ℕ) (root : Addr) (receiver v : Value) (args : List Value)
+    (none first second third last : List Wide)
     → HasCall t n
     → none ≡ []
     → first ≡ begun ops.Call n 0 0 0 root None ∷ none
@@ -358,9 +417,11 @@ pub begun-term : (t : NodeTable) (n : ℕ) (root : Addr) (receiver v : Value) (a
     → (ts : List (List ℕ))
     → term_at ts t last points.Row ≡ call_with_values receiver (done v) args
 begun-term t n root receiver v args none first second third last has e f g h i = λ ts.
-    ap (λ ws. term_at ts t ws points.Row) (begun_call n root receiver v args none first second third last e f g h i) ∙ call_at ts t n root receiver v args has
+    ap (λ ws. term_at ts t ws points.Row) (begun_call n root receiver v args none first second third last e f g h i)
+    ∙ call_at ts t n root receiver v args has
 
-pub begun-stands : (t : NodeTable) (n : ℕ) (root : Addr) (receiver v : Value) (args : List Value) (none first second third last : List Wide)
+pub begun-stands : (t : NodeTable) (n : ℕ) (root : Addr) (receiver v : Value) (args : List Value)
+    (none first second third last : List Wide)
     → HasCall t n
     → none ≡ []
     → first ≡ begun ops.Call n 0 0 0 root None ∷ none
@@ -370,61 +431,83 @@ pub begun-stands : (t : NodeTable) (n : ℕ) (root : Addr) (receiver v : Value) 
     → StandsIn t root last points.Row
 begun-stands t n root receiver v args none first second third last has e f g h i =
     let P : List Wide → Type 0 = λ ws. StandsIn t root ws points.Row in
-    subst P (sym (begun_call n root receiver v args none first second third last e f g h i)) (call_stands t n root (receiver ∷ v ∷ args) has)
+    subst P (sym (begun_call n root receiver v args none first second third last e f g h i))
+    (call_stands t n root (receiver ∷ v ∷ args) has)
 
 -- ---- from a node on
 
-pub reduced-answers : (n left : ℕ) (p : Program) (root : Addr) (first : Run) (receiver v : Value) (args : List Value) (s : State) (e : Evaluated) (w : World)
+pub reduced-answers : (n left : ℕ) (p : Program) (root : Addr) (first : Run) (receiver v : Value) (args : List Value)
+    (s : State) (e : Evaluated) (w : World)
     → ComesTo p root n first receiver args (callees.Reduced v left) s
     → Answers (answer_of (steps_in left p root (run_of (call_with_values receiver (done v) args) s))) e w
     → Answers (answer_of (steps_in n p root first)) e w
-reduced-answers n left p root first receiver v args s e w h k = let P : Run → Type 0 = λ r. Answers (answer_of r) e w in subst P (sym h) k
+reduced-answers n left p root first receiver v args s e w h k =
+    let P : Run → Type 0 = λ r. Answers (answer_of r) e w in subst P (sym h) k
 
-pub reduced-ends : (n left : ℕ) (p : Program) (root : Addr) (first : Run) (receiver v : Value) (args : List Value) (s : State) (e : Evaluated) (w : World)
+pub reduced-ends : (n left : ℕ) (p : Program) (root : Addr) (first : Run) (receiver v : Value) (args : List Value)
+    (s : State) (e : Evaluated) (w : World)
     → ComesTo p root n first receiver args (callees.Reduced v left) s
     → EndsIn (steps_in left p root (run_of (call_with_values receiver (done v) args) s)) e w
     → EndsIn (steps_in n p root first) e w
-reduced-ends n left p root first receiver v args s e w h k = let P : Run → Type 0 = λ r. EndsIn r e w in subst P (sym h) k
+reduced-ends n left p root first receiver v args s e w h k =
+    let P : Run → Type 0 = λ r. EndsIn r e w in subst P (sym h) k
 
 same_term : (ts : List (List ℕ)) (t : NodeTable) (old : List Wide) (x y : Term)
     → old ≡ []
     → resettled (gaps_of ts t old) x ≡ y
     → x ≡ y
-same_term ts t old x y e f = let P : List Wide → Type 0 = λ ws. resettled (gaps_of ts t ws) x ≡ y in let k : P [] = subst P e f in k
+same_term ts t old x y e f =
+    let P : List Wide → Type 0 = λ ws. resettled (gaps_of ts t ws) x ≡ y in let k : P [] = subst P e f in k
 
-pub call-answers : (p : Program) (a : Addr) (ts : List (List ℕ)) (t : NodeTable) (old : List Wide) (x y : Term) (args : List Value) (c : Context) (outer receiver : Value) (w v : World) (r : Evaluated)
+pub call-answers : (p : Program) (a : Addr) (ts : List (List ℕ)) (t : NodeTable) (old : List Wide) (x y : Term)
+    (args : List Value) (c : Context) (outer receiver : Value) (w v : World) (r : Evaluated)
     → old ≡ []
     → resettled (gaps_of ts t old) x ≡ y
     → c ≡ bare_context outer
     → Answers (answer_of (steps_in budget p a (run_of (call_with_values receiver y args) (state_of w c [])))) r v
     → Answers (evaluated p a outer w (call_with_values receiver x args)) r v
 call-answers p a ts t old x y args c outer receiver w v r e f g h =
-    node-answers p a ts t [] (call_with_values receiver x args) (call_with_values receiver y args) c outer w v r refl (ap (λ z. call_with_values receiver z args) (same_term ts t old x y e f)) g h
+    node-answers p a ts t [] (call_with_values receiver x args) (call_with_values receiver y args) c outer w v r refl
+    (ap (λ z. call_with_values receiver z args) (same_term ts t old x y e f)) g h
 
-pub call-world : (p : Program) (a : Addr) (ts : List (List ℕ)) (t : NodeTable) (old : List Wide) (x y : Term) (args : List Value) (c : Context) (outer receiver : Value) (w v : World) (r : Evaluated)
+pub call-world : (p : Program) (a : Addr) (ts : List (List ℕ)) (t : NodeTable) (old : List Wide) (x y : Term)
+    (args : List Value) (c : Context) (outer receiver : Value) (w v : World) (r : Evaluated)
     → old ≡ []
     → resettled (gaps_of ts t old) x ≡ y
     → c ≡ bare_context outer
     → EndsIn (steps_in budget p a (run_of (call_with_values receiver y args) (state_of w c []))) r v
     → EndsIn (steps_in budget p a (run_of (call_with_values receiver x args) (evaluation_state w outer))) r v
 call-world p a ts t old x y args c outer receiver w v r e f g h =
-    node-world p a ts t [] (call_with_values receiver x args) (call_with_values receiver y args) c outer w v r refl (ap (λ z. call_with_values receiver z args) (same_term ts t old x y e f)) g h
+    node-world p a ts t [] (call_with_values receiver x args) (call_with_values receiver y args) c outer w v r refl
+    (ap (λ z. call_with_values receiver z args) (same_term ts t old x y e f)) g h
 
 -- ---- with arguments
 
-pub called-fine : (p : Program) (receiver : Value) (as_given : List Argument) (w v u : World) (callee : Term) (vs : List Value) (e : Evaluated)
+pub called-fine : (p : Program) (receiver : Value) (as_given : List Argument) (w v u : World) (callee : Term)
+    (vs : List Value) (e : Evaluated)
     → make_arguments w as_given ≡ fine vs v
     → Answers (evaluated p script_scope values.Undefined v (call_with_values receiver callee vs)) e u
     → Answers (called p receiver as_given w callee) e u
 called-fine p receiver as_given w v u callee vs e h k =
-    let P : Tried (List Value) → Type 0 = λ t. Answers (answered (after_try t (λ xs z. fine (call_with_values receiver callee xs) z)) (evaluated p script_scope values.Undefined)) e u in
+    let P : Tried (List Value)
+    → Type 0 = λ t. Answers
+    (answered (after_try t (λ xs z. fine (call_with_values receiver callee xs) z))
+    (evaluated p script_scope values.Undefined))
+    e u in
     subst P (sym h) k
 
-pub called-refused : (p : Program) (receiver : Value) (as_given : List Argument) (w u : World) (callee : Term) (r : Refused)
+pub called-refused : (p : Program) (receiver : Value) (as_given : List Argument) (w u : World) (callee : Term)
+    (r : Refused)
     → (let s : Result (List Value) Refused = Err r in Tries (make_arguments w as_given) s u)
     → Answers (called p receiver as_given w callee) (refused_end r) u
-called-refused p receiver as_given w u callee Effect h = ap (λ t. answered (after_try t (λ xs z. fine (call_with_values receiver callee xs) z)) (evaluated p script_scope values.Undefined)) h
-called-refused p receiver as_given w u callee (Full what) h = ap (λ t. answered (after_try t (λ xs z. fine (call_with_values receiver callee xs) z)) (evaluated p script_scope values.Undefined)) h
+called-refused p receiver as_given w u callee Effect h =
+    ap (λ t. answered (after_try t (λ xs z. fine (call_with_values receiver callee xs) z))
+    (evaluated p script_scope values.Undefined))
+    h
+called-refused p receiver as_given w u callee (Full what) h =
+    ap (λ t. answered (after_try t (λ xs z. fine (call_with_values receiver callee xs) z))
+    (evaluated p script_scope values.Undefined))
+    h
 called-refused p receiver as_given w u callee Memory h = tt
 
 -- ---- what stays

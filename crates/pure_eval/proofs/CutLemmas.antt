@@ -28,12 +28,14 @@ cut_extends : (t u v : NodeTable) (m : TableMark) → Extends t u → IsMarkOf t
 cut_extends t u v m x k c = record {
   nodes = begins_cut t.nodes.items u.nodes.items v.nodes.items m.nodes x.nodes k.nodes c.nodes;
   kids = begins_cut t.kids.items u.kids.items v.kids.items m.kids x.kids k.kids c.kids;
-  constants = begins_cut t.constants.items u.constants.items v.constants.items m.constants x.constants k.constants c.constants;
+  constants =
+      begins_cut t.constants.items u.constants.items v.constants.items m.constants x.constants k.constants c.constants;
   blocks = begins_cut t.blocks.items u.blocks.items v.blocks.items m.blocks x.blocks k.blocks c.blocks;
   scripts = begins_cut t.scripts.items u.scripts.items v.scripts.items m.scripts x.scripts k.scripts c.scripts;
   fors = begins_cut t.fors.items u.fors.items v.fors.items m.fors x.fors k.fors c.fors;
   for_ofs = begins_cut t.for_ofs.items u.for_ofs.items v.for_ofs.items m.for_ofs x.for_ofs k.for_ofs c.for_ofs;
-  functions = begins_cut t.functions.items u.functions.items v.functions.items m.functions x.functions k.functions c.functions;
+  functions =
+      begins_cut t.functions.items u.functions.items v.functions.items m.functions x.functions k.functions c.functions;
   objects = begins_cut t.objects.items u.objects.items v.objects.items m.objects x.objects k.objects c.objects;
   calls = begins_cut t.calls.items u.calls.items v.calls.items m.calls x.calls k.calls c.calls;
 }
@@ -47,7 +49,8 @@ node_back : (t v : NodeTable) (n : ℕ) (o : Option Node)
     → IsNodeAt v n o
 node_back t v n None x l i = tt
 node_back t v n (Some node) x l i = record {
-  before = subst (EachBelow n) (sym (kids-stay t v node.first node.end x (omega (arith, i.now, i.later)) i.within)) i.before;
+  before =
+      subst (EachBelow n) (sym (kids-stay t v node.first node.end x (omega (arith, i.now, i.later)) i.within)) i.before;
   now = i.now;
   later = i.later;
   within = omega (arith, i.within, l);
@@ -81,13 +84,30 @@ pub record IsSame (t v : NodeTable) : Type 0 where
 whole_same : (t v : NodeTable) → IsSame t v → IsWhole t → IsWhole v
 whole_same t v s h =
     let x : Extends t v = s.entries in
-    let at : (i : ℕ) (e : SourceEntry) → slice_get v.sources.items i ≡ Some e → slice_get t.sources.items i ≡ Some e = λ i e g. ap (λ xs. slice_get xs i) (sym s.sources) ∙ g in
+    let at : (i : ℕ) (e : SourceEntry)
+    → slice_get v.sources.items i ≡ Some e
+    → slice_get t.sources.items i ≡ Some e = λ i e g. ap (λ xs. slice_get xs i) (sym s.sources)
+    ∙ g in
     record {
-      table = record { nodes = λ n. subst (λ (o : Option Node). IsNodeAt v n o) (ap (λ xs. slice_get xs n) (sym s.nodes)) (node_back t v n (slice_get t.nodes.items n) x (omega (arith, ap length s.kids)) (h.table.nodes n)) };
-      places = record { nodes = λ n. subst (λ (o : Option Node). IsPlacedNode v n o) (ap (λ xs. slice_get xs n) (sym s.nodes)) (node_placed_back t v n (slice_get t.nodes.items n) s.functions (h.places.nodes n)) };
-      functions = record { finds = λ ts i e g n. finds-stay t v e h.table h.closed h.placed x (h.sources i e (at i e g)) (λ us m. h.functions.finds us i e (at i e g) m) ts n };
+      table =
+          record {
+            nodes = λ n. subst (λ (o : Option Node). IsNodeAt v n o) (ap (λ xs. slice_get xs n) (sym s.nodes))
+                (node_back t v n (slice_get t.nodes.items n) x (omega (arith, ap length s.kids)) (h.table.nodes n));
+          };
+      places =
+          record {
+            nodes = λ n. subst (λ (o : Option Node). IsPlacedNode v n o)
+                (ap (λ xs. slice_get xs n) (sym s.nodes))
+                (node_placed_back t v n (slice_get t.nodes.items n) s.functions (h.places.nodes n));
+          };
+      functions =
+          record {
+            finds = λ ts i e g n. finds-stay t v e h.table h.closed h.placed x (h.sources i e (at i e g))
+                (λ us m. h.functions.finds us i e (at i e g) m) ts n;
+          };
       closed = closed-more t v h.closed x (closed-end v (length t.nodes.items) (omega (arith, ap length s.nodes)));
-      placed = placed-more t v h.placed x (placed-end v (length t.functions.items) (omega (arith, ap length s.functions)));
+      placed =
+          placed-more t v h.placed x (placed-end v (length t.functions.items) (omega (arith, ap length s.functions)));
       sources = λ i e g. within-more t v e x (h.sources i e (at i e g));
     }
 
@@ -104,11 +124,14 @@ cut-back u v m c t es h k g =
       entries = cut_extends t u v m g.entries k c;
       nodes = cut_same t.nodes.items u.nodes.items v.nodes.items m.nodes g.entries.nodes k.nodes c.nodes;
       kids = cut_same t.kids.items u.kids.items v.kids.items m.kids g.entries.kids k.kids c.kids;
-      functions = cut_same t.functions.items u.functions.items v.functions.items m.functions g.entries.functions k.functions c.functions;
+      functions =
+          cut_same t.functions.items u.functions.items v.functions.items m.functions g.entries.functions k.functions c.functions;
       sources = cut_same t.sources.items u.sources.items v.sources.items m.sources b k.sources c.sources;
     } in
     record {
       whole = whole_same t v s h;
       table = record { entries = s.entries; sources = s.sources ∙ sym (append-nil t.sources.items) };
-      program = λ ts. ap (source_trees ts v) s.sources ∙ sources-stay ts t v t.sources.items h.table h.closed s.entries h.sources;
+      program =
+          λ ts. ap (source_trees ts v) s.sources
+          ∙ sources-stay ts t v t.sources.items h.table h.closed s.entries h.sources;
     }

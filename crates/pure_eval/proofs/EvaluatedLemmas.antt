@@ -91,7 +91,8 @@ end_answers j k p a r whys.Raised t s e h g i = absurd cc
 end_answers j k p a r (whys.Printed vs) t s e h g i = absurd cc
 
 -- where it ends on the way
-pub end-answers : (j left most : ℕ) (p : Program) (a : Addr) (r first : Run) (why : Why) (t : Term) (s : State) (e : Evaluated)
+pub end-answers : (j left most : ℕ) (p : Program) (a : Addr) (r first : Run) (why : Why) (t : Term) (s : State)
+    (e : Evaluated)
     → steps_in left p a r ≡ steps_in most p a first
     → j ≤ left
     → RunsTo (steps_in j p a r) why t s
@@ -142,7 +143,8 @@ end_ends j k p a r whys.Spent t s e h g i = absurd cc
 end_ends j k p a r whys.Raised t s e h g i = absurd cc
 end_ends j k p a r (whys.Printed vs) t s e h g i = absurd cc
 
-pub end-ends : (j left most : ℕ) (p : Program) (a : Addr) (r first : Run) (why : Why) (t : Term) (s : State) (e : Evaluated)
+pub end-ends : (j left most : ℕ) (p : Program) (a : Addr) (r first : Run) (why : Why) (t : Term) (s : State)
+    (e : Evaluated)
     → steps_in left p a r ≡ steps_in most p a first
     → j ≤ left
     → RunsTo (steps_in j p a r) why t s
@@ -170,7 +172,8 @@ pub goes-on : (j left most : ℕ) (p : Program) (a : Addr) (r first : Run) (why 
     → RunsTo (steps_in j p a r) why t s
     → end_of why ≡ None
     → steps_in (left - j) p a (run_of t s) ≡ steps_in most p a first
-goes-on j left most p a r first why t s inv h g e = sym (then_left j left (left - j) p a r (run_of t s) h refl (goes_to (steps_in j p a r) why t s g e)) ∙ inv
+goes-on j left most p a r first why t s inv h g e =
+    sym (then_left j left (left - j) p a r (run_of t s) h refl (goes_to (steps_in j p a r) why t s g e)) ∙ inv
 
 pub stands-on : (why : Why) (P : Type 0) → end_of why ≡ None → IfGoes why P → P
 stands-on (whys.Over f) P e h = absurd cc
@@ -197,14 +200,18 @@ at_end : (ts : List (List ℕ)) (t : NodeTable) (ws : List Wide) (q : Point) (s 
     → IsAt t ws q
     → Answers (answer_of (run_of (term_at ts t ws q) s)) (end_at q) s.world
 at_end ts t ws points.Row s h = open_spent (term_at ts t ws points.Row) s s.world (at-open ts t ws points.Row h tt)
-at_end ts t ws (points.Leaf n) s h = open_spent (term_at ts t ws (points.Leaf n)) s s.world (at-open ts t ws (points.Leaf n) h tt)
-at_end ts t ws (points.Stands v place) s h = open_spent (term_at ts t ws (points.Stands v place)) s s.world (at-open ts t ws (points.Stands v place) h tt)
+at_end ts t ws (points.Leaf n) s h =
+    open_spent (term_at ts t ws (points.Leaf n)) s s.world (at-open ts t ws (points.Leaf n) h tt)
+at_end ts t ws (points.Stands v place) s h =
+    open_spent (term_at ts t ws (points.Stands v place)) s s.world (at-open ts t ws (points.Stands v place) h tt)
 at_end ts t ws (points.Done v) s h =
     let P : Term → Type 0 = λ x. Answers (answer_of (run_of x s)) (ends.Value v) s.world in
-    let Q : List Wide → Type 0 = λ xs. Answers (answer_of (run_of (term_at ts t xs (points.Done v)) s)) (ends.Value v) s.world in
+    let Q : List Wide
+    → Type 0 = λ xs. Answers (answer_of (run_of (term_at ts t xs (points.Done v)) s)) (ends.Value v) s.world in
     subst Q (sym h) (subst P (sym (done_at ts t v)) refl)
 
-pub spent-answers : (left most : ℕ) (p : Program) (a : Addr) (first : Run) (ts : List (List ℕ)) (t : NodeTable) (ws : List Wide) (q : Point) (s : State) (end : Evaluated)
+pub spent-answers : (left most : ℕ) (p : Program) (a : Addr) (first : Run) (ts : List (List ℕ)) (t : NodeTable)
+    (ws : List Wide) (q : Point) (s : State) (end : Evaluated)
     → steps_in left p a (run_of (term_at ts t ws q) s) ≡ steps_in most p a first
     → left ≡ 0
     → IsAt t ws q
@@ -231,7 +238,8 @@ run_world (part f now later) s (points.Leaf n) = refl
 run_world (part f now later) s (points.Stands u place) = refl
 run_world (part f now later) s (points.Done u) = refl
 
-pub spent-ends : (left most : ℕ) (p : Program) (a : Addr) (first : Run) (t : Term) (q : Point) (s : State) (end : Evaluated)
+pub spent-ends : (left most : ℕ) (p : Program) (a : Addr) (first : Run) (t : Term) (q : Point) (s : State)
+    (end : Evaluated)
     → steps_in left p a (run_of t s) ≡ steps_in most p a first
     → left ≡ 0
     → end ≡ end_at q
@@ -250,27 +258,36 @@ no-end (Some e) h = absurd (h e refl)
 -- ---- the loop
 
 -- the steps that are left lead from here where all lead from the beginning
-pub record RunsOn (ts : List (List ℕ)) (t : NodeTable) (root : Addr) (ws : List Wide) (p : Point) (w : World) (c : Context) (most left : ℕ) (vs : List Wide) (q : Point) (v : World) (d : Context) : Type 0 where
+pub record RunsOn (ts : List (List ℕ)) (t : NodeTable) (root : Addr) (ws : List Wide) (p : Point) (w : World)
+    (c : Context) (most left : ℕ) (vs : List Wide) (q : Point) (v : World) (d : Context) : Type 0 where
   pub runs : (taken : List (List ℕ))
-      → steps_in left (program_of ts t) root (run_of (term_at ts t vs q) (state_of v d taken)) ≡ steps_in most (program_of ts t) root (run_of (term_at ts t ws p) (state_of w c taken))
+      → steps_in left (program_of ts t) root (run_of (term_at ts t vs q) (state_of v d taken)) ≡ steps_in most
+      (program_of ts t) root (run_of (term_at ts t ws p) (state_of w c taken))
   pub stands : StandsIn t root vs q
 
 -- the loop goes on
-pub runs-on : (ts : List (List ℕ)) (t : NodeTable) (root : Addr) (ws vs us : List Wide) (p q o : Point) (w v x : World) (c d e : Context) (most left j : ℕ) (why : Why)
+pub runs-on : (ts : List (List ℕ)) (t : NodeTable) (root : Addr) (ws vs us : List Wide) (p q o : Point) (w v x : World)
+    (c d e : Context) (most left j : ℕ) (why : Why)
     → RunsOn ts t root ws p w c most left vs q v d
     → j ≤ left
-    → ((taken : List (List ℕ)) → RunsTo (steps_in j (program_of ts t) root (run_of (term_at ts t vs q) (state_of v d taken))) why (term_at ts t us o) (state_of x e taken))
+    → ((taken : List (List ℕ))
+    → RunsTo (steps_in j (program_of ts t) root (run_of (term_at ts t vs q) (state_of v d taken))) why
+    (term_at ts t us o) (state_of x e taken))
     → IfGoes why (StandsIn t root us o)
     → end_of why ≡ None
     → RunsOn ts t root ws p w c most (left - j) us o x e
 runs-on ts t root ws vs us p q o w v x c d e most left j why i h told s n = record {
-  runs = λ taken. goes-on j left most (program_of ts t) root (run_of (term_at ts t vs q) (state_of v d taken)) (run_of (term_at ts t ws p) (state_of w c taken)) why (term_at ts t us o) (state_of x e taken) (i.runs taken) h (told taken) n;
+  runs =
+      λ taken. goes-on j left most (program_of ts t) root (run_of (term_at ts t vs q) (state_of v d taken))
+      (run_of (term_at ts t ws p) (state_of w c taken)) why (term_at ts t us o) (state_of x e taken) (i.runs taken)
+      h (told taken) n;
   stands = stands-on why (StandsIn t root us o) n s;
 }
 
 -- ---- from a node on
 
-steps_from : (n : ℕ) (p : Program) (a : Addr) (ts : List (List ℕ)) (t : NodeTable) (old : List Wide) (x y : Term) (c : Context) (receiver : Value) (w v : World) (r : Evaluated)
+steps_from : (n : ℕ) (p : Program) (a : Addr) (ts : List (List ℕ)) (t : NodeTable) (old : List Wide) (x y : Term)
+    (c : Context) (receiver : Value) (w v : World) (r : Evaluated)
     → old ≡ []
     → resettled (gaps_of ts t old) x ≡ y
     → c ≡ bare_context receiver
@@ -284,7 +301,8 @@ steps_from n p a ts t old x y c receiver w v r e f g h =
     let m : R y = subst P g h in
     subst R (sym k) m
 
-pub node-answers : (p : Program) (a : Addr) (ts : List (List ℕ)) (t : NodeTable) (old : List Wide) (x y : Term) (c : Context) (receiver : Value) (w v : World) (r : Evaluated)
+pub node-answers : (p : Program) (a : Addr) (ts : List (List ℕ)) (t : NodeTable) (old : List Wide) (x y : Term)
+    (c : Context) (receiver : Value) (w v : World) (r : Evaluated)
     → old ≡ []
     → resettled (gaps_of ts t old) x ≡ y
     → c ≡ bare_context receiver
@@ -292,7 +310,8 @@ pub node-answers : (p : Program) (a : Addr) (ts : List (List ℕ)) (t : NodeTabl
     → Answers (evaluated p a receiver w x) r v
 node-answers p a ts t old x y c receiver w v r e f g h = steps_from budget p a ts t old x y c receiver w v r e f g h
 
-world_from : (n : ℕ) (p : Program) (a : Addr) (ts : List (List ℕ)) (t : NodeTable) (old : List Wide) (x y : Term) (c : Context) (receiver : Value) (w v : World) (r : Evaluated)
+world_from : (n : ℕ) (p : Program) (a : Addr) (ts : List (List ℕ)) (t : NodeTable) (old : List Wide) (x y : Term)
+    (c : Context) (receiver : Value) (w v : World) (r : Evaluated)
     → old ≡ []
     → resettled (gaps_of ts t old) x ≡ y
     → c ≡ bare_context receiver
@@ -306,7 +325,8 @@ world_from n p a ts t old x y c receiver w v r e f g h =
     let m : R y = subst P g h in
     subst R (sym k) m
 
-pub node-world : (p : Program) (a : Addr) (ts : List (List ℕ)) (t : NodeTable) (old : List Wide) (x y : Term) (c : Context) (receiver : Value) (w v : World) (r : Evaluated)
+pub node-world : (p : Program) (a : Addr) (ts : List (List ℕ)) (t : NodeTable) (old : List Wide) (x y : Term)
+    (c : Context) (receiver : Value) (w v : World) (r : Evaluated)
     → old ≡ []
     → resettled (gaps_of ts t old) x ≡ y
     → c ≡ bare_context receiver

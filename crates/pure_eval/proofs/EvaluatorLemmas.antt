@@ -97,7 +97,8 @@ below_scripts k (semantics.more t ts) = (tt, below_scripts (k + 1) ts)
 -- ---- the code of an evaluator
 
 pub same-program : (p q : Program) → p ≡ q → HasSameFunctions p q
-same-program p q e source node = let P : Program → Type 0 = λ r. HasSameFunctions p r in let k : P q = subst P e (λ s n. refl) in k source node
+same-program p q e source node =
+    let P : Program → Type 0 = λ r. HasSameFunctions p r in let k : P q = subst P e (λ s n. refl) in k source node
 
 same_through : (p q r : Program) → HasSameFunctions p q → HasSameFunctions q r → HasSameFunctions p r
 same_through p q r g h source node = g source node ∙ h source node
@@ -121,10 +122,17 @@ stands-added ts us t u n m root x p s l a =
     let before : (vs : List (List ℕ)) → GoesOn us vs → GoesOn ts vs = λ vs g. goes-then ts us vs a.goes_on g in
     record {
       whole = a.whole;
-      below = λ vs g. let P : Program → Type 0 = λ q. AreBelow (m + 1) q in subst P (sym (a.program vs g)) (below_more n m (program_of vs t) x (s.below vs (before vs g)) l);
+      below =
+          λ vs g. let P : Program → Type 0 = λ q. AreBelow (m + 1) q in
+          subst P (sym (a.program vs g)) (below_more n m (program_of vs t) x (s.below vs (before vs g)) l);
       same = λ vs g.
-          same_through (program_of vs u) (program_of vs t ++ kept_tree_at (Scratch m) x ∷ []) (kept_tree_at (Scratch m) x ∷ p) (same-program (program_of vs u) (program_of vs t ++ kept_tree_at (Scratch m) x ∷ []) (a.program vs g))
-          (same_through (program_of vs t ++ kept_tree_at (Scratch m) x ∷ []) (kept_tree_at (Scratch m) x ∷ program_of vs t) (kept_tree_at (Scratch m) x ∷ p) (behind-others (program_of vs t) (kept_tree_at (Scratch m) x) (below_new n m (program_of vs t) (s.below vs (before vs g)) l))
+          same_through (program_of vs u) (program_of vs t ++ kept_tree_at (Scratch m) x ∷ [])
+          (kept_tree_at (Scratch m) x ∷ p)
+          (same-program (program_of vs u) (program_of vs t ++ kept_tree_at (Scratch m) x ∷ []) (a.program vs g))
+          (same_through (program_of vs t ++ kept_tree_at (Scratch m) x ∷ [])
+          (kept_tree_at (Scratch m) x ∷ program_of vs t) (kept_tree_at (Scratch m) x ∷ p)
+          (behind-others (program_of vs t) (kept_tree_at (Scratch m) x)
+          (below_new n m (program_of vs t) (s.below vs (before vs g)) l))
           (in-front (program_of vs t) p (kept_tree_at (Scratch m) x) (s.same vs (before vs g))));
     }
 
@@ -135,16 +143,22 @@ pub stands-back : (ts us : List (List ℕ)) (t v : NodeTable) (n : ℕ) (p : Pro
     → HoldsProgram us v n p
 stands-back ts us t v n p s g b = record {
   whole = b.whole;
-  below = λ vs h. let P : Program → Type 0 = λ q. AreBelow n q in subst P (sym (b.program vs)) (s.below vs (goes-then ts us vs g h));
-  same = λ vs h. let P : Program → Type 0 = λ q. HasSameFunctions q p in subst P (sym (b.program vs)) (s.same vs (goes-then ts us vs g h));
+  below =
+      λ vs h. let P : Program → Type 0 = λ q. AreBelow n q in
+      subst P (sym (b.program vs)) (s.below vs (goes-then ts us vs g h));
+  same =
+      λ vs h. let P : Program → Type 0 = λ q. HasSameFunctions q p in
+      subst P (sym (b.program vs)) (s.same vs (goes-then ts us vs g h));
 }
 
 -- ---- answers
 
 evaluated_by : (n : ℕ) (p q : Program) (scope : Addr) (receiver : Value) (w : World) (t : Term)
     → HasSameFunctions p q
-    → answer_of (steps_in n p scope (run_of t (evaluation_state w receiver))) ≡ answer_of (steps_in n q scope (run_of t (evaluation_state w receiver)))
-evaluated_by n p q scope receiver w t h = ap answer_of (same-steps n p q scope (run_of t (evaluation_state w receiver)) h)
+    → answer_of (steps_in n p scope (run_of t (evaluation_state w receiver))) ≡ answer_of
+    (steps_in n q scope (run_of t (evaluation_state w receiver)))
+evaluated_by n p q scope receiver w t h =
+    ap answer_of (same-steps n p q scope (run_of t (evaluation_state w receiver)) h)
 
 evaluated_same : (p q : Program) (scope : Addr) (receiver : Value) (w : World) (t : Term)
     → HasSameFunctions p q
@@ -164,20 +178,25 @@ tried_same true a v what k = refl
 tried_same false a v what k = refl
 
 prepared_same : (w : World) (x : ScratchSpace) (us : List ℕ) (order : List (List ℕ)) (e : Made)
-    → prepared w x us order e ≡ ready_in_order w x us order (literals (kept_term (next_kept x) e)) (kept_tree (next_kept x) e)
+    → prepared w x us order e ≡ ready_in_order w x us order (literals (kept_term (next_kept x) e))
+    (kept_tree (next_kept x) e)
 prepared_same w x us order e =
     let c : World = copied_world w x in
     let v : World = record c { scratch = c.scratch ++ cells.Text us ∷ []; room = record { cells = c.room.cells; units = c.room.units - length us } } in
-    tried_same (nat_le (length us) c.room.units) (Scratch (length c.scratch)) v counted.Units (λ at z. after_try (place_literals z order (literals (kept_term at e))) (λ o y. fine (kept_tree at e) y))
+    tried_same (nat_le (length us) c.room.units) (Scratch (length c.scratch)) v counted.Units
+    (λ at z. after_try (place_literals z order (literals (kept_term at e))) (λ o y. fine (kept_tree at e) y))
 
 ready_same : (w : World) (x : ScratchSpace) (us : List ℕ) (order ls : List (List ℕ)) (u : Term) (e : Made)
     → u ≡ kept_tree (next_kept x) e
     → ls ≡ literals (kept_term (next_kept x) e)
     → ready_in_order w x us order ls u ≡ prepared w x us order e
 ready_same w x us order ls u e f g =
-    ap (ready_in_order w x us order ls) f ∙ ap (λ l. ready_in_order w x us order l (kept_tree (next_kept x) e)) g ∙ sym (prepared_same w x us order e)
+    ap (ready_in_order w x us order ls) f
+    ∙ ap (λ l. ready_in_order w x us order l (kept_tree (next_kept x) e)) g
+    ∙ sym (prepared_same w x us order e)
 
-evaluate_by : (w : World) (x z : ScratchSpace) (us : List ℕ) (order ls : List (List ℕ)) (u : Term) (e : Made) (r : Evaluated) (j k : World → Term → Answer)
+evaluate_by : (w : World) (x z : ScratchSpace) (us : List ℕ) (order ls : List (List ℕ)) (u : Term) (e : Made)
+    (r : Evaluated) (j k : World → Term → Answer)
     → ((v : World) (t : Term) → j v t ≡ k v t)
     → u ≡ kept_tree (next_kept x) e
     → ls ≡ literals (kept_term (next_kept x) e)
@@ -185,7 +204,9 @@ evaluate_by : (w : World) (x z : ScratchSpace) (us : List ℕ) (order ls : List 
     → Leaves (answered (prepared w x us order e) k) r x z
 evaluate_by w x z us order ls u e r j k same f g h =
     let P : Answer → Type 0 = λ a. Leaves a r x z in
-    subst P (answered_same (ready_in_order w x us order ls u) j k same ∙ ap (λ o. answered o k) (ready_same w x us order ls u e f g)) h
+    subst P (answered_same (ready_in_order w x us order ls u) j k same
+    ∙ ap (λ o. answered o k) (ready_same w x us order ls u e f g))
+    h
 
 pub next-same : (ts : List (List ℕ)) (h : Heap) → next_kept (space_of ts h) ≡ Scratch (length h.cells)
 next-same ts h = ap (λ n. Scratch n) (cells-length ts h.cells)
@@ -200,7 +221,8 @@ pub behind-is : (at : Addr) (h : Heap) (from n : ℕ)
 behind-is at h from n e b = let P : Addr → Type 0 = λ a. IsBehind a from n in subst P e b
 
 -- the source that was added is the one that the definition has in front
-pub stands-with : (ts us : List (List ℕ)) (t u : NodeTable) (n next root : ℕ) (x : Term) (p : Program) (h : Heap) (at : Addr) (e : Made) (order ls : List (List ℕ))
+pub stands-with : (ts us : List (List ℕ)) (t u : NodeTable) (n next root : ℕ) (x : Term) (p : Program) (h : Heap)
+    (at : Addr) (e : Made) (order ls : List (List ℕ))
     → HoldsProgram ts t n p
     → at ≡ next_of h
     → IsBehind at n next
@@ -212,15 +234,20 @@ stands-with ts us t u n next root x p h at e order ls s i l a m =
     let P : Addr → Type 0 = λ c. IsAdded ts t c x us u root in
     let Q : SourceTree → Type 0 = λ y. HoldsProgram us u (length h.cells + 1) (y ∷ p) in
     let R : ℕ → Type 0 = λ k. HoldsProgram us u k (with_source p (space_of ts h) e) in
-    let k : HoldsProgram us u (length h.cells + 1) (kept_tree_at (Scratch (length h.cells)) x ∷ p) = stands-added ts us t u n (length h.cells) root x p s b.0 (subst P i a) in
-    let o : HoldsProgram us u (length h.cells + 1) (with_source p (space_of ts h) e) = subst Q (source_same (Scratch (length h.cells)) (next_kept (space_of ts h)) x (kept_tree (next_kept (space_of ts h)) e) (sym (next-same ts h)) m.term_is) k in
+    let k : HoldsProgram us u (length h.cells + 1) (kept_tree_at (Scratch (length h.cells)) x ∷ p)
+    = stands-added ts us t u n (length h.cells) root x p s b.0 (subst P i a) in
+    let o : HoldsProgram us u (length h.cells + 1) (with_source p (space_of ts h) e) = subst Q
+    (source_same (Scratch (length h.cells)) (next_kept (space_of ts h)) x (kept_tree (next_kept (space_of ts h)) e)
+    (sym (next-same ts h)) m.term_is)
+    k in
     subst R (sym b.1) o
 
 called_same : (p q : Program) (receiver : Value) (as_given : List Argument) (w : World) (t : Term)
     → HasSameFunctions p q
     → called p receiver as_given w t ≡ called q receiver as_given w t
 called_same p q receiver as_given w t h =
-    answered_same (with_arguments receiver as_given (fine t w)) (evaluated p script_scope values.Undefined) (evaluated q script_scope values.Undefined) (λ v u. evaluated_same p q script_scope values.Undefined v u h)
+    answered_same (with_arguments receiver as_given (fine t w)) (evaluated p script_scope values.Undefined)
+    (evaluated q script_scope values.Undefined) (λ v u. evaluated_same p q script_scope values.Undefined v u h)
 
 worked_same : (p q : Program) (work : Work) (w : World) (t : Term)
     → HasSameFunctions p q
@@ -228,41 +255,61 @@ worked_same : (p q : Program) (work : Work) (w : World) (t : Term)
 worked_same p q (works.Expression scope receiver) w t h = evaluated_same p q scope receiver w t h
 worked_same p q (works.Call receiver arguments) w t h = called_same p q receiver (arguments_of arguments.now) w t h
 
-evaluator_answers : (ts us : List (List ℕ)) (t u : NodeTable) (n root : ℕ) (x : Term) (p : Program) (w : World) (y z : ScratchSpace) (at : Addr) (work : Work) (e : Made) (source : List ℕ) (order ls : List (List ℕ)) (r : Evaluated)
+evaluator_answers : (ts us : List (List ℕ)) (t u : NodeTable) (n root : ℕ) (x : Term) (p : Program) (w : World)
+    (y z : ScratchSpace) (at : Addr) (work : Work) (e : Made) (source : List ℕ) (order ls : List (List ℕ))
+    (r : Evaluated)
     → IsAdded ts t at x us u root
     → HoldsProgram us u n (with_source p y e)
     → IsMadeOf (next_kept y) e order ls x
-    → (AreSameLiterals order ls → Leaves (answered (ready_in_order w y source order ls (settle (tree us u root))) (worked (program_of us u) work)) r y z)
+    → (AreSameLiterals order ls
+    → Leaves (answered (ready_in_order w y source order ls (settle (tree us u root)))
+    (worked (program_of us u) work))
+    r y z)
     → Leaves (work_of p w y source order e work) r y z
 evaluator_answers ts us t u n root x p w y z at work e source order ls r a s m h =
-    let f : settle (tree us u root) ≡ kept_tree (next_kept y) e = ap settle (a.tree us (goes_on_same us)) ∙ m.stays ∙ m.term_is in
-    evaluate_by w y z source order ls (settle (tree us u root)) e r (worked (program_of us u) work) (worked (with_source p y e) work)
-    (λ v o. worked_same (program_of us u) (with_source p y e) work v o (s.same us (goes_on_same us))) f m.literals_are (h m.outcome)
+    let f : settle (tree us u root) ≡ kept_tree (next_kept y) e = ap settle (a.tree us (goes_on_same us))
+    ∙ m.stays
+    ∙ m.term_is in
+    evaluate_by w y z source order ls (settle (tree us u root)) e r (worked (program_of us u) work)
+    (worked (with_source p y e) work)
+    (λ v o. worked_same (program_of us u) (with_source p y e) work v o (s.same us (goes_on_same us))) f m.literals_are
+    (h m.outcome)
 
-pub evaluator-leaves : (ts us ns : List (List ℕ)) (t u : NodeTable) (n next root : ℕ) (x : Term) (p : Program) (w : World) (h k : Heap) (at : Addr) (work : Work) (e : Made) (source : List ℕ) (order ls : List (List ℕ)) (r : Evaluated)
+pub evaluator-leaves : (ts us ns : List (List ℕ)) (t u : NodeTable) (n next root : ℕ) (x : Term) (p : Program)
+    (w : World) (h k : Heap) (at : Addr) (work : Work) (e : Made) (source : List ℕ) (order ls : List (List ℕ))
+    (r : Evaluated)
     → HoldsProgram ts t n p
     → at ≡ next_of h
     → IsBehind at n next
     → IsAdded ts t at x us u root
     → IsMadeOf (next_kept (space_of ts h)) e order ls x
-    → (AreSameLiterals order ls → Leaves (answered (ready_in_order w (space_of ts h) source order ls (settle (tree us u root))) (worked (program_of us u) work)) r (space_of ts h) (space_of us k))
+    → (AreSameLiterals order ls
+    → Leaves (answered (ready_in_order w (space_of ts h) source order ls (settle (tree us u root)))
+    (worked (program_of us u) work))
+    r (space_of ts h) (space_of us k))
     → ns ≡ us
     → Leaves (work_of p w (space_of ts h) source order e work) r (space_of ts h) (space_of ns k)
 evaluator-leaves ts us ns t u n next root x p w h k at work e source order ls r s i l a m f g =
-    let P : List (List ℕ) → Type 0 = λ vs. Leaves (work_of p w (space_of ts h) source order e work) r (space_of ts h) (space_of vs k) in
-    subst P (sym g) (evaluator_answers ts us t u next root x p w (space_of ts h) (space_of us k) at work e source order ls r a (stands-with ts us t u n next root x p h at e order ls s i l a m) m f)
+    let P : List (List ℕ)
+    → Type 0 = λ vs. Leaves (work_of p w (space_of ts h) source order e work) r (space_of ts h) (space_of vs k) in
+    subst P (sym g)
+    (evaluator_answers ts us t u next root x p w (space_of ts h) (space_of us k) at work e source order ls r a
+    (stands-with ts us t u n next root x p h at e order ls s i l a m) m f)
 
 -- ---- names that are known
 
-pub known-leaves : (ts us : List (List ℕ)) (b h k : Heap) (z : ScratchSpace) (source : List ℕ) (order ls : List (List ℕ)) (t : Term) (j : World → Term → Answer) (r : Evaluated)
+pub known-leaves : (ts us : List (List ℕ)) (b h k : Heap) (z : ScratchSpace) (source : List ℕ)
+    (order ls : List (List ℕ)) (t : Term) (j : World → Term → Answer) (r : Evaluated)
     → heap_world us b ≡ heap_world ts b
     → space_of us h ≡ space_of ts h
     → space_of us k ≡ space_of us h
     → Leaves (answered (ready_in_order (heap_world us b) (space_of us k) source order ls t) j) r (space_of us k) z
     → Leaves (answered (ready_in_order (heap_world ts b) (space_of ts h) source order ls t) j) r (space_of ts h) z
 known-leaves ts us b h k z source order ls t j r e f i l =
-    let P : World → Type 0 = λ w. Leaves (answered (ready_in_order w (space_of us k) source order ls t) j) r (space_of us k) z in
-    let Q : ScratchSpace → Type 0 = λ x. Leaves (answered (ready_in_order (heap_world ts b) x source order ls t) j) r x z in
+    let P : World
+    → Type 0 = λ w. Leaves (answered (ready_in_order w (space_of us k) source order ls t) j) r (space_of us k) z in
+    let Q : ScratchSpace
+    → Type 0 = λ x. Leaves (answered (ready_in_order (heap_world ts b) x source order ls t) j) r x z in
     subst Q (i ∙ f) (subst P e l)
 
 pub world-further : (ts us : List (List ℕ)) (b : Heap)
@@ -304,7 +351,8 @@ stands-same ts us t u n m p e f g h =
     let R : ℕ → Type 0 = λ k. HoldsProgram us u k p in
     subst R (sym g) (subst Q (sym f) (subst P (sym e) h))
 
-pub runs-after : (ts us : List (List ℕ)) (t u : NodeTable) (n m root : ℕ) (x : Term) (p q : Program) (at : Addr) (mark : TableMark) (next : ℕ) (end : Evaluated) (f : Evaluator)
+pub runs-after : (ts us : List (List ℕ)) (t u : NodeTable) (n m root : ℕ) (x : Term) (p q : Program) (at : Addr)
+    (mark : TableMark) (next : ℕ) (end : Evaluated) (f : Evaluator)
     → m ≡ n
     → HoldsProgram ts t n p
     → IsAdded ts t at x us u root
@@ -312,11 +360,19 @@ pub runs-after : (ts us : List (List ℕ)) (t u : NodeTable) (n m root : ℕ) (x
     → IsMarkOf t mark
     → f.names ≡ us
     → (is_kept end ≡ true → (f.table ≡ u) × (f.next ≡ next))
-    → (is_kept end ≡ false → (f.next ≡ m) × ((v : NodeTable) (es : List SourceEntry) → IsWhole v → IsMarkOf v mark → GoesOnWith v u es → IsBack v f.table))
+    → (is_kept end ≡ false
+    → (f.next ≡ m)
+    × ((v : NodeTable) (es : List SourceEntry)
+    → IsWhole v
+    → IsMarkOf v mark
+    → GoesOnWith v u es
+    → IsBack v f.table))
     → RunsAfter end f p q
 runs-after ts us t u n m root x p q at mark next end f l s a k d e h i =
     runs_by end f p q (λ o. stands-same us f.names u f.table next f.next q e (h o).0 (h o).1 k)
-    (λ o. let b = i o in stands-same us f.names f.table f.table n f.next p e refl (b.0 ∙ l) (stands-back ts us t f.table n p s a.goes_on (b.1 t (a.entry ∷ []) s.whole d a.table)))
+    (λ o. let b = i o in
+    stands-same us f.names f.table f.table n f.next p e refl (b.0 ∙ l)
+    (stands-back ts us t f.table n p s a.goes_on (b.1 t (a.entry ∷ []) s.whole d a.table)))
 
 -- ---- the code of the scripts
 
@@ -324,13 +380,18 @@ pub compiled : (ts : List (List ℕ)) (xs : Terms) (o : Option ScriptCode) (c : 
     → AreCompiled ts xs o
     → o ≡ Some c
     → IsCompiled ts xs c.table c.root
-compiled ts xs o c h e = let P : Option ScriptCode → Type 0 = λ q. AreCompiled ts xs q in let k : AreCompiled ts xs (Some c) = subst P e h in k
+compiled ts xs o c h e =
+    let P : Option ScriptCode → Type 0 = λ q. AreCompiled ts xs q in
+    let k : AreCompiled ts xs (Some c) = subst P e h in
+    k
 
 -- ---- the terms of expressions
 
 pub made-of : (at : Addr) (e : Expr)
-    → IsMadeOf at (expression_source e) (source_literals e) (literals (kept_term at (expression_source e))) (kept_tree at (expression_source e))
-made-of at e = record { term_is = refl; literals_are = refl; stays = kept-settled at e; outcome = λ w. literals-agree w at e }
+    → IsMadeOf at (expression_source e) (source_literals e) (literals (kept_term at (expression_source e)))
+    (kept_tree at (expression_source e))
+made-of at e =
+    record { term_is = refl; literals_are = refl; stays = kept-settled at e; outcome = λ w. literals-agree w at e }
 
 pub ready-made : (at : Addr) (units : List ℕ) (e : Expr) (p : Prepared) (order ls : List (List ℕ))
     → order ≡ p.order.items
@@ -347,7 +408,8 @@ ready-made at units e p order ls f g i =
       outcome = subst P (sym (f ∙ i.order)) (subst Q (sym (g ∙ i.literals)) (λ w. literals-agree w at e));
     }
 
-pub ready-leaves : (q : Program) (w : World) (x y : ScratchSpace) (work : Work) (at : Addr) (units : List ℕ) (e : Expr) (p : Prepared) (order : List (List ℕ)) (r : Evaluated)
+pub ready-leaves : (q : Program) (w : World) (x y : ScratchSpace) (work : Work) (at : Addr) (units : List ℕ) (e : Expr)
+    (p : Prepared) (order : List (List ℕ)) (r : Evaluated)
     → order ≡ p.order.items
     → IsReady at units e p
     → Leaves (work_of q w x p.source order (expression_source e) work) r x y
@@ -360,19 +422,27 @@ ready-leaves q w x y work at units e p order r f i h =
 -- ---- the definition's calls
 
 calls : (t : Tried Term) (p : Program) (receiver : Value) (as_given : List Argument)
-    → answered (with_arguments receiver as_given t) (evaluated p script_scope values.Undefined) ≡ answered t (called p receiver as_given)
+    → answered (with_arguments receiver as_given t) (evaluated p script_scope values.Undefined) ≡ answered t
+    (called p receiver as_given)
 calls (fine t w) p receiver as_given = refl
 calls effect p receiver as_given = refl
 calls (full what) p receiver as_given = refl
 
-pub call-is : (p : Program) (w : World) (x : ScratchSpace) (f : FunctionCode) (receiver : Value) (as_given : List Argument)
-    → evaluate_function p w x f receiver as_given ≡ answered (prepared w x f.source (source_literals f.tree) (expression_source f.tree)) (called (with_source p x (expression_source f.tree)) receiver as_given)
-call-is p w x f receiver as_given = calls (prepared w x f.source (source_literals f.tree) (expression_source f.tree)) (with_source p x (expression_source f.tree)) receiver as_given
+pub call-is : (p : Program) (w : World) (x : ScratchSpace) (f : FunctionCode) (receiver : Value)
+    (as_given : List Argument)
+    → evaluate_function p w x f receiver as_given ≡ answered
+    (prepared w x f.source (source_literals f.tree) (expression_source f.tree))
+    (called (with_source p x (expression_source f.tree)) receiver as_given)
+call-is p w x f receiver as_given =
+    calls (prepared w x f.source (source_literals f.tree) (expression_source f.tree))
+    (with_source p x (expression_source f.tree)) receiver as_given
 
-pub work-keeps : (p : Program) (w : World) (x : ScratchSpace) (source : List ℕ) (order : List (List ℕ)) (e : Made) (work : Work)
+pub work-keeps : (p : Program) (w : World) (x : ScratchSpace) (source : List ℕ) (order : List (List ℕ)) (e : Made)
+    (work : Work)
     → AnswerKeeps w x (work_of p w x source order e work)
 work-keeps p w x source order e (works.Expression scope receiver) = evaluate-keeps p w x scope receiver source order e
 work-keeps p w x source order e (works.Call receiver arguments) =
     let as_given : List Argument = arguments_of arguments.now in
     let P : Answer → Type 0 = λ a. AnswerKeeps w x a in
-    subst P (calls (prepared w x source order e) (with_source p x e) receiver as_given) (call-keeps p w x source order e receiver as_given)
+    subst P (calls (prepared w x source order e) (with_source p x e) receiver as_given)
+    (call-keeps p w x source order e receiver as_given)

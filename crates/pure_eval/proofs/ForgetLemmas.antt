@@ -22,7 +22,8 @@ cut_cells : (ts : List (List ℕ)) (h : Heap) (y : ScratchSpace)
     → take (length (space_of ts h).cells) y.cells ≡ (space_of ts h).cells
     → space_at y (mark_of h) ≡ space_of ts h
 cut_cells ts h y e =
-    let f : List Cell → ScratchSpace = λ cs. record { cells = cs; room = record { cells = h.cells_left; units = h.units_left } } in
+    let f : List Cell
+    → ScratchSpace = λ cs. record { cells = cs; room = record { cells = h.cells_left; units = h.units_left } } in
     ap f (ap (λ n. take n y.cells) (sym (cells-length ts h.cells)) ∙ e)
 
 cut_same : (ts : List (List ℕ)) (h : Heap) (y : ScratchSpace)
@@ -44,15 +45,19 @@ comes_back : (ts : List (List ℕ)) (h : Heap) (w : World) (y : ScratchSpace) (a
     → AnswerKeeps w (space_of ts h) a
     → Leaves a end (space_of ts h) y
     → ComesBack end y (mark_of h) (space_of ts h)
-comes_back ts h w y a (ends.Value v) k l = let P : Answer → Type 0 = λ b. AnswerKeeps w (space_of ts h) b in cut_world ts h w l.0 y (subst P l.1 k) l.2
-comes_back ts h w y a (ends.Thrown v) k l = let P : Answer → Type 0 = λ b. AnswerKeeps w (space_of ts h) b in cut_world ts h w l.0 y (subst P l.1 k) l.2
+comes_back ts h w y a (ends.Value v) k l =
+    let P : Answer → Type 0 = λ b. AnswerKeeps w (space_of ts h) b in cut_world ts h w l.0 y (subst P l.1 k) l.2
+comes_back ts h w y a (ends.Thrown v) k l =
+    let P : Answer → Type 0 = λ b. AnswerKeeps w (space_of ts h) b in cut_world ts h w l.0 y (subst P l.1 k) l.2
 comes_back ts h w y a ends.Effect k l = cut_same ts h y l.1
 comes_back ts h w y a (ends.Full what) k l = cut_same ts h y l.1
 comes_back ts h w y a ends.Spent k l = cut_same ts h y l.1
 comes_back ts h w y a ends.Memory k l = tt
 
-pub evaluation-forgotten : (p : Program) (w : World) (names : List (List ℕ)) (scratch : Heap) (after : ScratchSpace) (scope : Addr) (receiver : Value) (source : List ℕ) (order : List (List ℕ)) (e : Made) (end : Evaluated)
+pub evaluation-forgotten : (p : Program) (w : World) (names : List (List ℕ)) (scratch : Heap) (after : ScratchSpace)
+    (scope : Addr) (receiver : Value) (source : List ℕ) (order : List (List ℕ)) (e : Made) (end : Evaluated)
     → Leaves (evaluate p w (space_of names scratch) scope receiver source order e) end (space_of names scratch) after
     → ComesBack end after (mark_of scratch) (space_of names scratch)
 evaluation-forgotten p w names scratch after scope receiver source order e end l =
-    comes_back names scratch w after (evaluate p w (space_of names scratch) scope receiver source order e) end (evaluate-keeps p w (space_of names scratch) scope receiver source order e) l
+    comes_back names scratch w after (evaluate p w (space_of names scratch) scope receiver source order e) end
+    (evaluate-keeps p w (space_of names scratch) scope receiver source order e) l

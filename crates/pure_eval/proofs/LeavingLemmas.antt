@@ -22,7 +22,8 @@ pub world_keeps : (n : ℕ) (p : Program) (a : Addr) (t : Term) (s : State) (v :
     → (state_of (steps_in n p a (run_of t s))).world ≡ v
     → Keeps s.world v
 world_keeps n p a t s v e =
-    let k : Keeps (state_of (run_of t s)).world (state_of (steps_in n p a (run_of t s))).world = (steps-follows n p a (run_of t s)).cells in
+    let k : Keeps (state_of (run_of t s)).world
+    (state_of (steps_in n p a (run_of t s))).world = (steps-follows n p a (run_of t s)).cells in
     let P : World → Type 0 = λ u. Keeps s.world u in
     let Q : State → Type 0 = λ u. Keeps u.world (state_of (steps_in n p a (run_of t s))).world in
     subst P e (subst Q (run_of-state t s) k)
@@ -40,14 +41,18 @@ space_same : (cs ds : List Cell) (c d u v : ℕ)
     → cs ≡ ds
     → c ≡ d
     → u ≡ v
-    → let a : ScratchSpace = record { cells = cs; room = record { cells = c; units = u } } in let b : ScratchSpace = record { cells = ds; room = record { cells = d; units = v } } in a ≡ b
+    → let a : ScratchSpace = record { cells = cs; room = record { cells = c; units = u } } in
+    let b : ScratchSpace = record { cells = ds; room = record { cells = d; units = v } } in
+    a ≡ b
 space_same cs ds c d u v e f g = rw (e, f, g) refl
 
 pub cut-space : (w v : World) (x : ScratchSpace) (m : Marked)
     → GoesOnFrom w x m
     → Keeps w v
     → space_at (space_after v) m ≡ x
-cut-space w v x m g k = space_same (take m.count v.scratch) x.cells m.cells_left x.room.cells m.units_left x.room.units (ap (λ n. take n v.scratch) g.count ∙ earlier_cells w v x m g k) g.cells_left g.units_left
+cut-space w v x m g k =
+    space_same (take m.count v.scratch) x.cells m.cells_left x.room.cells m.units_left x.room.units
+    (ap (λ n. take n v.scratch) g.count ∙ earlier_cells w v x m g k) g.cells_left g.units_left
 
 pub leaves : (a : Answer) (w v : World) (x y : ScratchSpace) (m : Marked) (e : Evaluated)
     → GoesOnFrom w x m

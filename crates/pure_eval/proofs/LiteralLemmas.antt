@@ -25,7 +25,8 @@ pub next-made : (xs : List (List ℕ)) (i : ℕ) (x : List ℕ) (a : Addr) (w v 
     → make_cell v (cells.Text x) ≡ fine a u
     → make_literals u (drop (i + 1) xs) ≡ make_literals w xs
 next-made xs i x a w v u h e inv m =
-    let k : make_literals v (x ∷ drop (i + 1) xs) ≡ make_literals u (drop (i + 1) xs) = ap (λ t. after_try t (λ b z. make_literals z (drop (i + 1) xs))) m in
+    let k : make_literals v (x ∷ drop (i + 1) xs) ≡ make_literals u (drop (i + 1) xs) = ap
+    (λ t. after_try t (λ b z. make_literals z (drop (i + 1) xs))) m in
     sym k ∙ ap (make_literals v) (sym (cons_at xs i x h e)) ∙ inv
 
 -- ---- the loop
@@ -47,4 +48,9 @@ pub makes-next : (xs : List (List ℕ)) (i : ℕ) (x : List ℕ) (a : Addr) (w v
     → x ≡ get_or xs i x
     → make_cell v (cells.Text x) ≡ fine a u
     → MakesOn w xs (i + 1) u
-makes-next xs i x a w v u m h e f = record { rest = next-made xs i x a w v u h e m.rest f; keeps = keeps-trans w v u m.keeps (made_keeps v u (cells.Text x) a f) }
+makes-next xs i x a w v u m h e f =
+    record {
+      rest = next-made xs i x a w v u h e m.rest f;
+      keeps = keeps-trans w v u m.keeps
+          (made_keeps v u (cells.Text x) a f);
+    }

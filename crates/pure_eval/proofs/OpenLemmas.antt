@@ -71,7 +71,8 @@ working_on old new n m w g c = record {
   count = w.count;
 }
 
-pub open-on : (end : Evaluated) (old new : Evaluator) (n : ℕ) (start m : EvaluatorMark) (base h : Heap) (o q : Over) (k : Marked) (count : ℕ) (next later : Addr) (p : Program) (s : SourceTree)
+pub open-on : (end : Evaluated) (old new : Evaluator) (n : ℕ) (start m : EvaluatorMark) (base h : Heap) (o q : Over)
+    (k : Marked) (count : ℕ) (next later : Addr) (p : Program) (s : SourceTree)
     → is_given_up end ≡ false
     → IsOpen old n start m base o k count next
     → WentOnAfter end old new
@@ -82,7 +83,8 @@ pub open-on : (end : Evaluated) (old new : Evaluator) (n : ℕ) (start m : Evalu
     → IsOpen new n start m base q k count later
 open-on end old new n start m base h o q k count next later p s f i went code over based next_is =
     let g : WentOn old new = went_on end old new f went in
-    let there : (ts : List (List ℕ)) → space_after (over_world ts q) ≡ space_of ts h = λ ts. space_over ts base h q (over ts) in
+    let there : (ts : List (List ℕ))
+    → space_after (over_world ts q) ≡ space_of ts h = λ ts. space_over ts base h q (over ts) in
     record {
       working = working_on old new n start i.working g (code_on end new p s f code);
       before = i.before;
@@ -108,7 +110,8 @@ cells_stay : (x y : ScratchSpace) (k : Marked)
     → take (length x.cells) y.cells ≡ x.cells
     → space_at y k ≡ space_at x k
 cells_stay x y k h e =
-    let f : List Cell → ScratchSpace = λ cs. record { cells = cs; room = record { cells = k.cells_left; units = k.units_left } } in
+    let f : List Cell
+    → ScratchSpace = λ cs. record { cells = cs; room = record { cells = k.cells_left; units = k.units_left } } in
     ap f (sym (take_first k.count (length x.cells) y.cells h) ∙ ap (take k.count) e)
 
 -- ---- what an evaluation comes to
@@ -121,10 +124,15 @@ open_same : (w v : World) (p r a b : Program) (x y z u : ScratchSpace) (n : ℕ)
     → z ≡ u
     → made_open w p x a z n ≡ made_open v r y b u n
 open_same w v p r a b x y z u n e f g h i =
-    ap (λ s. made_open s p x a z n) e ∙ ap (λ s. made_open v s x a z n) f ∙ ap (λ s. made_open v r s a z n) g ∙ ap (λ s. made_open v r y s z n) h ∙ ap (λ s. made_open v r y b s n) i
+    ap (λ s. made_open s p x a z n) e
+    ∙ ap (λ s. made_open v s x a z n) f
+    ∙ ap (λ s. made_open v r s a z n) g
+    ∙ ap (λ s. made_open v r y s z n) h
+    ∙ ap (λ s. made_open v r y b s n) i
 
 -- behind an evaluation over an opened workspace, which did not give up the evaluator
-record Behind (old new : Evaluator) (n : ℕ) (start m : EvaluatorMark) (base h : Heap) (o q : Over) (k : Marked) (count : ℕ) (next : Addr) : Type 0 where
+record Behind (old new : Evaluator) (n : ℕ) (start m : EvaluatorMark) (base h : Heap) (o q : Over) (k : Marked)
+    (count : ℕ) (next : Addr) : Type 0 where
   pub open_old : IsOpen old n start m base o k count next
   pub went : WentOn old new
   pub code : IsCode new
@@ -133,28 +141,37 @@ record Behind (old new : Evaluator) (n : ℕ) (start m : EvaluatorMark) (base h 
   pub there : k.count ≤ length (space_after (over_world old.names o)).cells
   pub over : (ts : List (List ℕ)) → over_world ts q ≡ copied_world (heap_world ts base) (space_of ts h)
 
-open_behind : (old new : Evaluator) (n : ℕ) (start m : EvaluatorMark) (base h : Heap) (o q : Over) (k : Marked) (count : ℕ) (next : Addr) (p : Program) (y : ScratchSpace)
+open_behind : (old new : Evaluator) (n : ℕ) (start m : EvaluatorMark) (base h : Heap) (o q : Over) (k : Marked)
+    (count : ℕ) (next : Addr) (p : Program) (y : ScratchSpace)
     → Behind old new n start m base h o q k count next
     → program_of new.names new.table ≡ p
     → space_of new.names h ≡ y
     → take (length (space_after (over_world old.names o)).cells) y.cells ≡ (space_after (over_world old.names o)).cells
-    → opened_of new n m base q k ≡ made_open (heap_world old.names base) (take m.table.sources (program_of old.names old.table)) (space_at (space_after (over_world old.names o)) k) p y n
+    → opened_of new n m base q k ≡ made_open (heap_world old.names base)
+    (take m.table.sources (program_of old.names old.table)) (space_at (space_after (over_world old.names o)) k)
+    p y n
 open_behind old new n start m base h o q k count next p y b program space cells =
     let i = b.open_old in
     let x : ScratchSpace = space_after (over_world old.names o) in
     let there : space_after (over_world new.names q) ≡ y = space_over new.names base h q (b.over new.names) ∙ space in
-    let first : take m.table.sources (program_of new.names new.table) ≡ take m.table.sources (program_of old.names old.table) =
-    program-first i.before new m.table.sources i.before_working.code (went-through i.before old new i.goes_on b.went) i.marked.table.sources
+    let first : take m.table.sources (program_of new.names new.table) ≡ take m.table.sources
+    (program_of old.names old.table) =
+    program-first i.before new m.table.sources i.before_working.code (went-through i.before old new i.goes_on b.went)
+    i.marked.table.sources
     ∙ sym (program-first i.before old m.table.sources i.before_working.code i.goes_on i.marked.table.sources) in
-    open_same (heap_world new.names base) (heap_world old.names base) (take m.table.sources (program_of new.names new.table)) (take m.table.sources (program_of old.names old.table)) (program_of new.names new.table) p
+    open_same (heap_world new.names base) (heap_world old.names base)
+    (take m.table.sources (program_of new.names new.table)) (take m.table.sources (program_of old.names old.table))
+    (program_of new.names new.table) p
     (space_at (space_after (over_world new.names q)) k) (space_at x k) (space_after (over_world new.names q)) y n
-    (world-further old.names new.names base b.went.names b.further b.known) first (ap (λ z. space_at z k) there ∙ cells_stay x y k b.there cells) program there
+    (world-further old.names new.names base b.went.names b.further b.known) first
+    (ap (λ z. space_at z k) there ∙ cells_stay x y k b.there cells) program there
 
 source_is : (ts : List (List ℕ)) (g : Heap) (x : ScratchSpace) (t : Term) (e : Made)
     → space_of ts g ≡ x
     → t ≡ kept_tree (next_kept x) e
     → kept_tree_at (next_of g) t ≡ source_kept x e
-source_is ts g x t e f h = source_same (next_of g) (next_kept x) t (kept_tree (next_kept x) e) (sym (next-same ts g) ∙ ap next_kept f) h
+source_is ts g x t e f h =
+    source_same (next_of g) (next_kept x) t (kept_tree (next_kept x) e) (sym (next-same ts g) ∙ ap next_kept f) h
 
 same_cells : (x y : ScratchSpace) → y ≡ x → take (length x.cells) y.cells ≡ x.cells
 same_cells x y e = ap (λ (z : ScratchSpace). take (length x.cells) z.cells) e ∙ take-length x.cells
@@ -162,7 +179,8 @@ same_cells x y e = ap (λ (z : ScratchSpace). take (length x.cells) z.cells) e �
 with_more : (p q : Program) (s t : SourceTree) → q ≡ p ++ s ∷ [] → s ≡ t → q ≡ p ++ t ∷ []
 with_more p q s t e f = e ∙ ap (λ u. p ++ u ∷ []) f
 
-comes_to : (end : Evaluated) (a : Answer) (e : Made) (w : World) (s : SourceTree) (old new : Evaluator) (n : ℕ) (start m : EvaluatorMark) (base h : Heap) (o q : Over) (k : Marked) (count : ℕ) (next : Addr)
+comes_to : (end : Evaluated) (a : Answer) (e : Made) (w : World) (s : SourceTree) (old new : Evaluator) (n : ℕ)
+    (start m : EvaluatorMark) (base h : Heap) (o q : Over) (k : Marked) (count : ℕ) (next : Addr)
     → Behind old new n start m base h o q k count next
     → CodeAfter end new (program_of old.names old.table) s
     → s ≡ source_kept (space_after (over_world old.names o)) e
@@ -172,29 +190,58 @@ comes_to : (end : Evaluated) (a : Answer) (e : Made) (w : World) (s : SourceTree
 comes_to (ends.Value v) a e w s old new n start m base h o q k count next b c f kept l =
     let x : ScratchSpace = space_after (over_world old.names o) in
     let P : Answer → Type 0 = λ z. AnswerKeeps w x z in
-    let u = subst P l.1 kept in
-    (l.0, l.1, open_behind old new n start m base h o q k count next (program_of old.names old.table ++ source_kept x e ∷ []) (space_after l.0) b (with_more (program_of old.names old.table) (program_of new.names new.table) s (source_kept x e) c.program f) l.2 u.earlier)
+    let u = subst P l.1 kept in (
+      l.0,
+      l.1,
+      open_behind old new n start m base h o q k count next (program_of old.names old.table ++ source_kept x e ∷ [])
+          (space_after l.0) b
+          (with_more (program_of old.names old.table) (program_of new.names new.table) s (source_kept x e)
+          c.program f)
+          l.2 u.earlier,
+    )
 comes_to (ends.Thrown v) a e w s old new n start m base h o q k count next b c f kept l =
     let x : ScratchSpace = space_after (over_world old.names o) in
     let P : Answer → Type 0 = λ z. AnswerKeeps w x z in
-    let u = subst P l.1 kept in
-    (l.0, l.1, open_behind old new n start m base h o q k count next (program_of old.names old.table ++ source_kept x e ∷ []) (space_after l.0) b (with_more (program_of old.names old.table) (program_of new.names new.table) s (source_kept x e) c.program f) l.2 u.earlier)
+    let u = subst P l.1 kept in (
+      l.0,
+      l.1,
+      open_behind old new n start m base h o q k count next (program_of old.names old.table ++ source_kept x e ∷ [])
+          (space_after l.0) b
+          (with_more (program_of old.names old.table) (program_of new.names new.table) s (source_kept x e)
+          c.program f)
+          l.2 u.earlier,
+    )
 comes_to ends.Effect a e w s old new n start m base h o q k count next b c f kept l =
-    let x : ScratchSpace = space_after (over_world old.names o) in
-    (l.0, open_behind old new n start m base h o q k count next (program_of old.names old.table) x b c.program l.1 (same_cells x x refl))
+    let x : ScratchSpace = space_after (over_world old.names o) in (
+      l.0,
+      open_behind old new n start m base h o q k count next (program_of old.names old.table) x b c.program l.1
+          (same_cells x x refl),
+    )
 comes_to (ends.Full what) a e w s old new n start m base h o q k count next b c f kept l =
-    let x : ScratchSpace = space_after (over_world old.names o) in
-    (l.0, open_behind old new n start m base h o q k count next (program_of old.names old.table) x b c.program l.1 (same_cells x x refl))
+    let x : ScratchSpace = space_after (over_world old.names o) in (
+      l.0,
+      open_behind old new n start m base h o q k count next (program_of old.names old.table) x b c.program l.1
+          (same_cells x x refl),
+    )
 comes_to ends.Spent a e w s old new n start m base h o q k count next b c f kept l =
-    let x : ScratchSpace = space_after (over_world old.names o) in
-    (l.0, open_behind old new n start m base h o q k count next (program_of old.names old.table) x b c.program l.1 (same_cells x x refl))
+    let x : ScratchSpace = space_after (over_world old.names o) in (
+      l.0,
+      open_behind old new n start m base h o q k count next (program_of old.names old.table) x b c.program l.1
+          (same_cells x x refl),
+    )
 comes_to ends.Memory a e w s old new n start m base h o q k count next b c f kept l = tt
 
 -- what becomes of a source over an opened workspace
 abbrev pub Evaluates : Evaluated → Work → Prepared → Opened → Opened → Type 0
-Evaluates end work x old new = (source : List ℕ) (e : Expr) → IsReady (next_kept old.behind.scratch) source e x → EvaluatesTo (work_of old.behind.program old.world old.behind.scratch source (source_literals e) (expression_source e) work) (expression_source e) end old new
+Evaluates end work x old new =
+    (source : List ℕ) (e : Expr)
+    → IsReady (next_kept old.behind.scratch) source e x
+    → EvaluatesTo
+    (work_of old.behind.program old.world old.behind.scratch source (source_literals e) (expression_source e) work)
+    (expression_source e) end old new
 
-pub evaluates-open : (end : Evaluated) (x : Prepared) (work : Work) (old new : Evaluator) (n : ℕ) (start m : EvaluatorMark) (base g h : Heap) (o q : Over) (k : Marked) (count from : ℕ) (next : Addr)
+pub evaluates-open : (end : Evaluated) (x : Prepared) (work : Work) (old new : Evaluator) (n : ℕ)
+    (start m : EvaluatorMark) (base g h : Heap) (o q : Over) (k : Marked) (count from : ℕ) (next : Addr)
     → is_given_up end ≡ false
     → IsOpen old n start m base o k count next
     → WentOnAfter end old new
@@ -205,9 +252,15 @@ pub evaluates-open : (end : Evaluated) (x : Prepared) (work : Work) (old new : E
     → count ≤ from
     → ((ts : List (List ℕ)) → space_of ts g ≡ space_after (over_world ts o))
     → ((ts : List (List ℕ)) → over_world ts q ≡ copied_world (heap_world ts base) (space_of ts h))
-    → ((p : Program) (source : List ℕ) (e : Expr) → Runs old p → IsReady (next_kept (space_of old.names g)) source e x → Leaves (work_of p (heap_world old.names base) (space_of old.names g) source (source_literals e) (expression_source e) work) end (space_of old.names g) (space_of new.names h))
+    → ((p : Program) (source : List ℕ) (e : Expr)
+    → Runs old p
+    → IsReady (next_kept (space_of old.names g)) source e x
+    → Leaves (work_of p (heap_world old.names base) (space_of old.names g) source (source_literals e)
+    (expression_source e) work)
+    end (space_of old.names g) (space_of new.names h))
     → Evaluates end work x (opened_of old n m base o k) (opened_of new n m base q k)
-evaluates-open end x work old new n start m base g h o q k count from next f i went code further known number long before over answer = λ source e prepared.
+evaluates-open end x work old new n start m base g h o q k count from next f i went code further known number long before over answer =
+    λ source e prepared.
     let y : ScratchSpace = space_after (over_world old.names o) in
     let p : Program = program_of old.names old.table in
     let w : World = heap_world old.names base in
@@ -222,8 +275,11 @@ evaluates-open end x work old new n start m base g h o q k count from next f i w
       there = omega (arith, long, at, counts);
       over = over;
     } in
-    let P : ScratchSpace → Type 0 = λ z. IsReady (next_kept z) source e x → Leaves (work_of p w z source (source_literals e) (expression_source e) work) end z (space_of new.names h) in
+    let P : ScratchSpace
+    → Type 0 = λ z. IsReady (next_kept z) source e x
+    → Leaves (work_of p w z source (source_literals e) (expression_source e) work) end z (space_of new.names h) in
     let l : P y = subst P (before old.names) (answer p source e i.working.code.runs) in
-    comes_to end (work_of p w y source (source_literals e) (expression_source e) work) (expression_source e) w (kept_tree_at (next_of g) (term_view x.term)) old new n start m base h o q k count next b code
+    comes_to end (work_of p w y source (source_literals e) (expression_source e) work) (expression_source e) w
+    (kept_tree_at (next_of g) (term_view x.term)) old new n start m base h o q k count next b code
     (source_is old.names g y (term_view x.term) (expression_source e) (before old.names) prepared.term)
     (work-keeps p w y source (source_literals e) (expression_source e) work) (l prepared)

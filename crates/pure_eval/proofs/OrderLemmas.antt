@@ -31,7 +31,8 @@ Agrees a b (full what) = (a ≡ is_full_of what) × ((other : Counted) × (b ≡
 
 literals_agree : (x y : Tried (Unit {0})) (t : Term) (k : World → Term → Answer)
     → SameOutcome y x
-    → Agrees (answered (after_try (after_try x (λ u v. y)) (λ u z. fine t z)) k) (answered (after_try y (λ u z. fine t z)) k) x
+    → Agrees (answered (after_try (after_try x (λ u v. y)) (λ u z. fine t z)) k)
+    (answered (after_try y (λ u z. fine t z)) k) x
 literals_agree (fine a v) y t k h = refl
 literals_agree effect effect t k h = (refl, refl)
 literals_agree effect (fine b u) t k h = absurd h
@@ -42,8 +43,11 @@ literals_agree (full what) effect t k h = absurd h
 
 source_agrees : (o : Tried Addr) (order literals : List (List ℕ)) (t : Term) (k : World → Term → Answer)
     → AreSameLiterals order literals
-    → Agrees (answered (after_try o (λ at v. after_try (place_literals v order literals) (λ u z. fine t z))) k) (answered (after_try (after_try o (λ at v. make_literals v literals)) (λ u z. fine t z)) k) (after_try o (λ at v. make_literals v order))
-source_agrees (fine a v) order literals t k h = literals_agree (make_literals v order) (make_literals v literals) t k (h v)
+    → Agrees (answered (after_try o (λ at v. after_try (place_literals v order literals) (λ u z. fine t z))) k)
+    (answered (after_try (after_try o (λ at v. make_literals v literals)) (λ u z. fine t z)) k)
+    (after_try o (λ at v. make_literals v order))
+source_agrees (fine a v) order literals t k h =
+    literals_agree (make_literals v order) (make_literals v literals) t k (h v)
 source_agrees effect order literals t k h = (refl, refl)
 source_agrees (full what) order literals t k h = (refl, (what, refl))
 
@@ -86,11 +90,16 @@ full_end : (s : Tried (Unit {0})) (a b : Answer) (what : Counted) (r : Evaluated
     → z ≡ x
     → Leaves a r x z
 full_end s a b what ends.Memory x z g e h i = tt
-full_end s a b what (ends.Value v) x z g e h i = let P : Evaluated → Type 0 = λ q. Leaves a q x z in subst P (sym h) (full_named s a b what x z g e i)
-full_end s a b what (ends.Thrown v) x z g e h i = let P : Evaluated → Type 0 = λ q. Leaves a q x z in subst P (sym h) (full_named s a b what x z g e i)
-full_end s a b what ends.Effect x z g e h i = let P : Evaluated → Type 0 = λ q. Leaves a q x z in subst P (sym h) (full_named s a b what x z g e i)
-full_end s a b what (ends.Full other) x z g e h i = let P : Evaluated → Type 0 = λ q. Leaves a q x z in subst P (sym h) (full_named s a b what x z g e i)
-full_end s a b what ends.Spent x z g e h i = let P : Evaluated → Type 0 = λ q. Leaves a q x z in subst P (sym h) (full_named s a b what x z g e i)
+full_end s a b what (ends.Value v) x z g e h i =
+    let P : Evaluated → Type 0 = λ q. Leaves a q x z in subst P (sym h) (full_named s a b what x z g e i)
+full_end s a b what (ends.Thrown v) x z g e h i =
+    let P : Evaluated → Type 0 = λ q. Leaves a q x z in subst P (sym h) (full_named s a b what x z g e i)
+full_end s a b what ends.Effect x z g e h i =
+    let P : Evaluated → Type 0 = λ q. Leaves a q x z in subst P (sym h) (full_named s a b what x z g e i)
+full_end s a b what (ends.Full other) x z g e h i =
+    let P : Evaluated → Type 0 = λ q. Leaves a q x z in subst P (sym h) (full_named s a b what x z g e i)
+full_end s a b what ends.Spent x z g e h i =
+    let P : Evaluated → Type 0 = λ q. Leaves a q x z in subst P (sym h) (full_named s a b what x z g e i)
 
 full_again : (s : Tried (Unit {0})) (a b : Answer) (e r : Evaluated) (x y z : ScratchSpace)
     → Agrees a b s
@@ -132,7 +141,8 @@ tried_end t (Err Effect) w e h = sym (ap (λ z. ends_as z e) h)
 tried_end t (Err (Full what)) w e h = sym (ap (λ z. ends_as z e) h)
 tried_end t (Err Memory) w e h = tt
 
-pub order-ends : (w o v : World) (ts : List (List ℕ)) (h : Heap) (us ks : List ℕ) (xs : List (List ℕ)) (r : Result (Unit {0}) Refused) (e q : Evaluated)
+pub order-ends : (w o v : World) (ts : List (List ℕ)) (h : Heap) (us ks : List ℕ) (xs : List (List ℕ))
+    (r : Result (Unit {0}) Refused) (e q : Evaluated)
     → ks ≡ us
     → o ≡ copied_world w (space_of ts h)
     → Tries (placed o ks xs) r v
@@ -154,7 +164,8 @@ order-space w o v ts h m y i j k e =
     let Q : World → Type 0 = λ u. Keeps u v in
     e ∙ cut-space v v (space_of ts h) m (goes-from w v ts h m j (subst Q i k)) (keeps-same v)
 
-pub order-other : (w : World) (x y : ScratchSpace) (us ks : List ℕ) (order literals : List (List ℕ)) (t : Term) (k : World → Term → Answer) (e : Evaluated)
+pub order-other : (w : World) (x y : ScratchSpace) (us ks : List ℕ) (order literals : List (List ℕ)) (t : Term)
+    (k : World → Term → Answer) (e : Evaluated)
     → ks ≡ us
     → is_full_end e ≡ false
     → Leaves (answered (made_ready w x ks literals t) k) e x y
@@ -162,9 +173,12 @@ pub order-other : (w : World) (x y : ScratchSpace) (us ks : List ℕ) (order lit
     → Leaves (answered (ready_in_order w x us order literals t) k) e x y
 order-other w x y us ks order literals t k e l f g h =
     let P : List ℕ → Type 0 = λ u. Leaves (answered (made_ready w x u literals t) k) e x y in
-    other_end (placed (copied_world w x) us order) (answered (ready_in_order w x us order literals t) k) (answered (made_ready w x us literals t) k) e x y (source_agrees (keep_source (copied_world w x) us) order literals t k h) f (subst P l g)
+    other_end (placed (copied_world w x) us order) (answered (ready_in_order w x us order literals t) k)
+    (answered (made_ready w x us literals t) k) e x y
+    (source_agrees (keep_source (copied_world w x) us) order literals t k h) f (subst P l g)
 
-pub order-full : (w : World) (x y z : ScratchSpace) (us ks : List ℕ) (order literals : List (List ℕ)) (t : Term) (k : World → Term → Answer) (e r : Evaluated)
+pub order-full : (w : World) (x y z : ScratchSpace) (us ks : List ℕ) (order literals : List (List ℕ)) (t : Term)
+    (k : World → Term → Answer) (e r : Evaluated)
     → ks ≡ us
     → is_full_end e ≡ true
     → Leaves (answered (made_ready w x ks literals t) k) e x y
@@ -175,4 +189,7 @@ pub order-full : (w : World) (x y z : ScratchSpace) (us ks : List ℕ) (order li
 order-full w x y z us ks order literals t k e r l f g i j h =
     let P : List ℕ → Type 0 = λ u. Leaves (answered (made_ready w x u literals t) k) e x y in
     let Q : ScratchSpace → Type 0 = λ u. EndsAs (placed (copied_world w u) us order) e r in
-    full_again (placed (copied_world w x) us order) (answered (ready_in_order w x us order literals t) k) (answered (made_ready w x us literals t) k) e r x y z (source_agrees (keep_source (copied_world w x) us) order literals t k h) f (subst P l g) (subst Q (full_space (answered (made_ready w x us literals t) k) e x y f (subst P l g)) i) j
+    full_again (placed (copied_world w x) us order) (answered (ready_in_order w x us order literals t) k)
+    (answered (made_ready w x us literals t) k) e r x y z
+    (source_agrees (keep_source (copied_world w x) us) order literals t k h) f (subst P l g)
+    (subst Q (full_space (answered (made_ready w x us literals t) k) e x y f (subst P l g)) i) j

@@ -48,7 +48,8 @@ goes-from w v ts h m e k =
 
 -- ---- answers
 
-pub ready-leaves : (says : World → Term → Answer) (w v : World) (x y : ScratchSpace) (us : List ℕ) (xs : List (List ℕ)) (t : Term) (e : Evaluated)
+pub ready-leaves : (says : World → Term → Answer) (w v : World) (x y : ScratchSpace) (us : List ℕ) (xs : List (List ℕ))
+    (t : Term) (e : Evaluated)
     → placed (copied_world w x) us xs ≡ fine tt v
     → Leaves (says v t) e x y
     → Leaves (answered (made_ready w x us xs t) says) e x y
@@ -56,19 +57,23 @@ ready-leaves says w v x y us xs t e f h =
     let P : Tried (Unit {0}) → Type 0 = λ z. Leaves (answered (after_try z (λ u s. fine t s)) says) e x y in
     subst P (sym f) h
 
-pub refused-leaves : (says : World → Term → Answer) (w v : World) (x y : ScratchSpace) (m : Marked) (us : List ℕ) (xs : List (List ℕ)) (t : Term) (r : Refused)
+pub refused-leaves : (says : World → Term → Answer) (w v : World) (x y : ScratchSpace) (m : Marked) (us : List ℕ)
+    (xs : List (List ℕ)) (t : Term) (r : Refused)
     → (let s : Result (Unit {0}) Refused = Err r in Tries (placed (copied_world w x) us xs) s v)
     → Keeps (copied_world w x) v
     → GoesOnFrom v x m
     → y ≡ space_behind (refused_end r) v m
     → Leaves (answered (made_ready w x us xs t) says) (refused_end r) x y
-refused-leaves says w v x y m us xs t Effect h k g s = (ap (λ z. answered (after_try z (λ u s. fine t s)) says) h, s ∙ cut-space v v x m g (keeps-same v))
-refused-leaves says w v x y m us xs t (Full what) h k g s = (ap (λ z. answered (after_try z (λ u s. fine t s)) says) h, s ∙ cut-space v v x m g (keeps-same v))
+refused-leaves says w v x y m us xs t Effect h k g s =
+    (ap (λ z. answered (after_try z (λ u s. fine t s)) says) h, s ∙ cut-space v v x m g (keeps-same v))
+refused-leaves says w v x y m us xs t (Full what) h k g s =
+    (ap (λ z. answered (after_try z (λ u s. fine t s)) says) h, s ∙ cut-space v v x m g (keeps-same v))
 refused-leaves says w v x y m us xs t Memory h k g s = tt
 
 -- ---- as the code has it
 
-pub all-ready : (says : World → Term → Answer) (w o v : World) (ts : List (List ℕ)) (h : Heap) (m : Marked) (y : ScratchSpace) (us : List ℕ) (xs : List (List ℕ)) (t : Term) (e : Evaluated)
+pub all-ready : (says : World → Term → Answer) (w o v : World) (ts : List (List ℕ)) (h : Heap) (m : Marked)
+    (y : ScratchSpace) (us : List ℕ) (xs : List (List ℕ)) (t : Term) (e : Evaluated)
     → o ≡ copied_world w (space_of ts h)
     → m ≡ mark_of h
     → placed o us xs ≡ fine tt v
@@ -78,9 +83,11 @@ pub all-ready : (says : World → Term → Answer) (w o v : World) (ts : List (L
 all-ready says w o v ts h m y us xs t e i j f g k =
     let P : World → Type 0 = λ u. placed u us xs ≡ fine tt v in
     let Q : World → Type 0 = λ u. Keeps u v in
-    ready-leaves says w v (space_of ts h) y us xs t e (subst P i f) (k (space_of ts h) (goes-from w v ts h m j (subst Q i g)))
+    ready-leaves says w v (space_of ts h) y us xs t e (subst P i f)
+    (k (space_of ts h) (goes-from w v ts h m j (subst Q i g)))
 
-pub all-refused : (says : World → Term → Answer) (w o v : World) (ts : List (List ℕ)) (h : Heap) (m : Marked) (y : ScratchSpace) (us : List ℕ) (xs : List (List ℕ)) (t : Term) (r : Refused) (e : Evaluated)
+pub all-refused : (says : World → Term → Answer) (w o v : World) (ts : List (List ℕ)) (h : Heap) (m : Marked)
+    (y : ScratchSpace) (us : List ℕ) (xs : List (List ℕ)) (t : Term) (r : Refused) (e : Evaluated)
     → o ≡ copied_world w (space_of ts h)
     → m ≡ mark_of h
     → (let s : Result (Unit {0}) Refused = Err r in Tries (placed o us xs) s v)
@@ -92,6 +99,9 @@ all-refused says w o v ts h m y us xs t r e i j f g q k =
     let s : Result (Unit {0}) Refused = Err r in
     let P : World → Type 0 = λ u. Tries (placed u us xs) s v in
     let Q : World → Type 0 = λ u. Keeps u v in
-    let R : Evaluated → Type 0 = λ z. Leaves (answered (made_ready w (space_of ts h) us xs t) says) z (space_of ts h) y in
+    let R : Evaluated
+    → Type 0 = λ z. Leaves (answered (made_ready w (space_of ts h) us xs t) says) z (space_of ts h) y in
     let l : Keeps (copied_world w (space_of ts h)) v = subst Q i g in
-    subst R (sym q) (refused-leaves says w v (space_of ts h) y m us xs t r (subst P i f) l (goes-from w v ts h m j l) (k ∙ ap (λ z. space_behind z v m) q))
+    subst R (sym q)
+    (refused-leaves says w v (space_of ts h) y m us xs t r (subst P i f) l (goes-from w v ts h m j l)
+    (k ∙ ap (λ z. space_behind z v m) q))

@@ -30,8 +30,10 @@ same_cell : (p q : Program)
     → (s : State) (a : Addr) (o : Option Cell) (given : Value) (args : List Value)
     → call_cell p s a o given args ≡ call_cell q s a o given args
 same_cell p q h s a (Some (cells.Function (code.BuiltIn f) n l outer made)) given args = refl
-same_cell p q h s a (Some (cells.Function (code.Script number node) n l outer made)) given args = ap (λ c. call_code s c (script_source number) a n outer made given args) (h (script_source number) node)
-same_cell p q h s a (Some (cells.Function (code.Kept at node) n l outer made)) given args = ap (λ c. call_code s c (kept_source at) a n outer made given args) (h (kept_source at) node)
+same_cell p q h s a (Some (cells.Function (code.Script number node) n l outer made)) given args =
+    ap (λ c. call_code s c (script_source number) a n outer made given args) (h (script_source number) node)
+same_cell p q h s a (Some (cells.Function (code.Kept at node) n l outer made)) given args =
+    ap (λ c. call_code s c (kept_source at) a n outer made given args) (h (kept_source at) node)
 same_cell p q h s a _ given args = refl
 
 same_value : (p q : Program)
@@ -76,7 +78,8 @@ mutual
   same_next p q h (done v) scope s = refl
   same_next p q h (standing v place) scope s = refl
   same_next p q h (part f now later) scope s =
-      ap (around p scope f later s) (same_walk p q h now (scope_in f scope) s) ∙ same_around p q h scope f later s (walk q (scope_in f scope) now s)
+      ap (around p scope f later s) (same_walk p q h now (scope_in f scope) s)
+      ∙ same_around p q h scope f later s (walk q (scope_in f scope) now s)
 
   same_walk : (p q : Program)
       → HasSameFunctions p q
@@ -85,7 +88,8 @@ mutual
   same_walk p q h end scope s = refl
   same_walk p q h (more (done v) ts) scope s = ap (with_value v) (same_walk p q h ts scope s)
   same_walk p q h (more (standing v place) ts) scope s = refl
-  same_walk p q h (more (part f now later) ts) scope s = ap (λ m. moved (inside (λ t. more t ts) m)) (same_next p q h (part f now later) scope s)
+  same_walk p q h (more (part f now later) ts) scope s =
+      ap (λ m. moved (inside (λ t. more t ts) m)) (same_next p q h (part f now later) scope s)
 
 same_step : (p q : Program) → HasSameFunctions p q → (scope : Addr) (r : Run) → step_in p scope r ≡ step_in q scope r
 same_step p q h scope (running t s) = ap run_after (same_next p q h t scope s)
@@ -95,7 +99,8 @@ pub same-steps : (k : ℕ) (p q : Program) (scope : Addr) (r : Run)
     → HasSameFunctions p q
     → steps_in k p scope r ≡ steps_in k q scope r
 same-steps zero p q scope r h = refl
-same-steps (suc k) p q scope r h = ap (steps_in k p scope) (same_step p q h scope r) ∙ same-steps k p q scope (step_in q scope r) h
+same-steps (suc k) p q scope r h =
+    ap (steps_in k p scope) (same_step p q h scope r) ∙ same-steps k p q scope (step_in q scope r) h
 
 -- ---- a source behind the others
 
@@ -123,11 +128,13 @@ pub behind-others : (p : Program) (t : SourceTree) → IsNewSource t.source p �
 behind-others [] t n source node = refl
 behind-others (e ∷ p) t n source node =
     ap (λ o. if same_source e.source source then function_in node e.tree else o) (behind-others p t n.1 source node)
-    ∙ swapped (same_source e.source source) (same_source t.source source) (function_in node e.tree) (function_in node t.tree) (function_at p source node) (both_sources e.source t.source source n.0)
+    ∙ swapped (same_source e.source source) (same_source t.source source) (function_in node e.tree)
+    (function_in node t.tree) (function_at p source node) (both_sources e.source t.source source n.0)
 
 -- in front of programs with the same functions
 pub in-front : (p q : Program) (t : SourceTree) → HasSameFunctions p q → HasSameFunctions (t ∷ p) (t ∷ q)
-in-front p q t h source node = ap (λ o. if same_source t.source source then function_in node t.tree else o) (h source node)
+in-front p q t h source node =
+    ap (λ o. if same_source t.source source then function_in node t.tree else o) (h source node)
 
 pub ruleset step_rules = (same-steps)
 

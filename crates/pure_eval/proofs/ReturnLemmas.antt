@@ -52,7 +52,8 @@ pub came-first : (m : EvaluatorMark) (p : Program) (e : Evaluator) → IsMarked 
 came-first m p e k r = record { first = e; runs = r; marked = k; goes_on = went-same e r.whole }
 
 pub came-on : (m : EvaluatorMark) (p : Program) (e f : Evaluator) → CameFrom m p e → WentOn e f → CameFrom m p f
-came-on m p e f c g = record { first = c.first; runs = c.runs; marked = c.marked; goes_on = went-through c.first e f c.goes_on g }
+came-on m p e f c g =
+    record { first = c.first; runs = c.runs; marked = c.marked; goes_on = went-through c.first e f c.goes_on g }
 
 pub came-after : (end : Evaluated) (m : EvaluatorMark) (p : Program) (e f : Evaluator)
     → WentOnAfter end e f
@@ -70,7 +71,11 @@ came-after ends.Memory m p e f g c = tt
 pub again : (first old new : Evaluator) (m : EvaluatorMark)
     → new.names ≡ old.names
     → new.next ≡ m.next
-    → ((t : NodeTable) (es : List SourceEntry) → IsWhole t → IsMarkOf t m.table → GoesOnWith t old.table es → IsBack t new.table)
+    → ((t : NodeTable) (es : List SourceEntry)
+    → IsWhole t
+    → IsMarkOf t m.table
+    → GoesOnWith t old.table es
+    → IsBack t new.table)
     → IsWhole first.table
     → IsMarked first m
     → WentOn first old
@@ -81,7 +86,9 @@ again first old new m n x back w k g =
     record {
       goes_on = record { names = subst P (sym n) g.names; entries = []; table = b.table; whole = b.whole };
       next = x ∙ k.next;
-      runs = λ p r. stands-same old.names new.names new.table new.table first.next new.next p n refl (x ∙ k.next) (stands-back first.names old.names first.table new.table first.next p r g.names b);
+      runs =
+          λ p r. stands-same old.names new.names new.table new.table first.next new.next p n refl (x ∙ k.next)
+          (stands-back first.names old.names first.table new.table first.next p r g.names b);
       program = b.program;
     }
 
@@ -111,15 +118,30 @@ pub went-after : (end : Evaluated) (old mid new : Evaluator) (base scratch : Hea
     → HasAdded old mid base scratch x a
     → new.names ≡ mid.names
     → (is_kept end ≡ true → (new.table ≡ mid.table) × (new.next ≡ a.next))
-    → (is_kept end ≡ false → (new.next ≡ mid.next) × ((t : NodeTable) (es : List SourceEntry) → IsWhole t → IsMarkOf t a.mark → GoesOnWith t mid.table es → IsBack t new.table))
+    → (is_kept end ≡ false
+    → (new.next ≡ mid.next)
+    × ((t : NodeTable) (es : List SourceEntry)
+    → IsWhole t
+    → IsMarkOf t a.mark
+    → GoesOnWith t mid.table es
+    → IsBack t new.table))
     → WentOnAfter end old new
 went-after end old mid new base scratch x a w h n kept cut =
     let P : List (List ℕ) → Type 0 = λ ts. GoesOn old.names ts in
     let Q : NodeTable → Type 0 = λ t. GoesOnWith old.table t (h.source.entry ∷ []) in
     let names : GoesOn old.names new.names = subst P (sym n) h.source.goes_on in
     went_by end old new
-    (λ o. let same = kept o in record { names = names; entries = h.source.entry ∷ []; table = subst Q (sym same.0) h.source.table; whole = subst IsWhole (sym same.0) h.source.whole })
-    (λ o. let back = cut o in let b : IsBack old.table new.table = back.1 old.table (h.source.entry ∷ []) w h.marked h.source.table in record { names = names; entries = []; table = b.table; whole = b.whole })
+    (λ o. let same = kept o in
+    record {
+      names = names;
+      entries = h.source.entry ∷ [];
+      table = subst Q (sym same.0)
+          h.source.table;
+      whole = subst IsWhole (sym same.0) h.source.whole;
+    })
+    (λ o. let back = cut o in
+    let b : IsBack old.table new.table = back.1 old.table (h.source.entry ∷ []) w h.marked h.source.table in
+    record { names = names; entries = []; table = b.table; whole = b.whole })
 
 -- ---- the program of a table
 
@@ -129,10 +151,19 @@ pub code-of : (e : Evaluator) (q p : Program)
     → IsCodeOf e p
 code-of e q p r h =
     let here : program_of e.names e.table ≡ p = h e.names (goes_on_same e.names) in
-    let steady : (us : List (List ℕ)) → GoesOn e.names us → program_of us e.table ≡ program_of e.names e.table = λ us g. h us g ∙ sym here in
+    let steady : (us : List (List ℕ))
+    → GoesOn e.names us
+    → program_of us e.table ≡ program_of e.names e.table = λ us g. h us g
+    ∙ sym here in
     record {
       code = record {
-        runs = record { whole = r.whole; below = r.below; same = λ us g. same-program (program_of us e.table) (program_of e.names e.table) (steady us g) };
+        runs =
+            record {
+              whole = r.whole;
+              below = r.below;
+              same = λ us g. same-program (program_of us e.table)
+                  (program_of e.names e.table) (steady us g);
+            };
         steady = steady;
       };
       program = here;
@@ -165,11 +196,20 @@ code_kept old mid new base scratch x a c h n t y =
     let p : Program = program_of old.names old.table in
     let s : SourceTree = kept_tree_at (next_of scratch) x in
     let b = behind-is (next_of scratch) scratch old.next a.next refl h.behind in
-    let stands : HoldsProgram mid.names mid.table (length scratch.cells + 1) (s ∷ p) = stands-added old.names mid.names old.table mid.table old.next (length scratch.cells) a.node x p c.runs b.0 h.source in
-    let P : List (List ℕ) → Type 0 = λ ts. (us : List (List ℕ)) → GoesOn ts us → program_of us mid.table ≡ p ++ s ∷ [] in
+    let stands : HoldsProgram mid.names mid.table (length scratch.cells + 1) (s ∷ p)
+    = stands-added old.names mid.names old.table mid.table old.next (length scratch.cells)
+    a.node x p c.runs b.0 h.source in
+    let P : List (List ℕ)
+    → Type 0 = λ ts. (us : List (List ℕ))
+    → GoesOn ts us
+    → program_of us mid.table ≡ p ++ s ∷ [] in
     let Q : NodeTable → Type 0 = λ u. (us : List (List ℕ)) → GoesOn new.names us → program_of us u ≡ p ++ s ∷ [] in
-    let program : P mid.names = λ us g. h.source.program us g ∙ ap (λ q. q ++ s ∷ []) (c.steady us (goes-then old.names mid.names us h.source.goes_on g)) in
-    code-of new (s ∷ p) (p ++ s ∷ []) (stands-same mid.names new.names mid.table new.table (length scratch.cells + 1) new.next (s ∷ p) n t (y ∙ b.1) stands) (subst Q (sym t) (subst P (sym n) program))
+    let program : P mid.names = λ us g. h.source.program us g
+    ∙ ap (λ q. q ++ s ∷ []) (c.steady us (goes-then old.names mid.names us h.source.goes_on g)) in
+    code-of new (s ∷ p) (p ++ s ∷ [])
+    (stands-same mid.names new.names mid.table new.table (length scratch.cells + 1) new.next (s ∷ p) n t (y ∙ b.1)
+    stands)
+    (subst Q (sym t) (subst P (sym n) program))
 
 code_cut : (old mid new : Evaluator) (base scratch : Heap) (x : Term) (a : Added)
     → IsCode old
@@ -181,16 +221,29 @@ code_cut : (old mid new : Evaluator) (base scratch : Heap) (x : Term) (a : Added
 code_cut old mid new base scratch x a c h n y b =
     let p : Program = program_of old.names old.table in
     let P : List (List ℕ) → Type 0 = λ ts. (us : List (List ℕ)) → GoesOn ts us → program_of us new.table ≡ p in
-    let program : P mid.names = λ us g. b.program us ∙ c.steady us (goes-then old.names mid.names us h.source.goes_on g) in
-    code-of new p p (stands-same mid.names new.names new.table new.table old.next new.next p n refl (y ∙ h.next) (stands-back old.names mid.names old.table new.table old.next p c.runs h.source.goes_on b)) (subst P (sym n) program)
+    let program : P mid.names = λ us g. b.program us
+    ∙ c.steady us (goes-then old.names mid.names us h.source.goes_on g) in
+    code-of new p p
+    (stands-same mid.names new.names new.table new.table old.next new.next p n refl (y ∙ h.next)
+    (stands-back old.names mid.names old.table new.table old.next p c.runs h.source.goes_on b))
+    (subst P (sym n) program)
 
 pub code-after : (end : Evaluated) (old mid new : Evaluator) (base scratch : Heap) (x : Term) (a : Added)
     → IsCode old
     → HasAdded old mid base scratch x a
     → new.names ≡ mid.names
     → (is_kept end ≡ true → (new.table ≡ mid.table) × (new.next ≡ a.next))
-    → (is_kept end ≡ false → (new.next ≡ mid.next) × ((t : NodeTable) (es : List SourceEntry) → IsWhole t → IsMarkOf t a.mark → GoesOnWith t mid.table es → IsBack t new.table))
+    → (is_kept end ≡ false
+    → (new.next ≡ mid.next)
+    × ((t : NodeTable) (es : List SourceEntry)
+    → IsWhole t
+    → IsMarkOf t a.mark
+    → GoesOnWith t mid.table es
+    → IsBack t new.table))
     → CodeAfter end new (program_of old.names old.table) (kept_tree_at (next_of scratch) x)
 code-after end old mid new base scratch x a c h n kept cut =
-    code_by end new (program_of old.names old.table) (kept_tree_at (next_of scratch) x) (λ o. let same = kept o in code_kept old mid new base scratch x a c h n same.0 same.1)
-    (λ o. let back = cut o in code_cut old mid new base scratch x a c h n back.0 (back.1 old.table (h.source.entry ∷ []) c.runs.whole h.marked h.source.table))
+    code_by end new (program_of old.names old.table) (kept_tree_at (next_of scratch) x)
+    (λ o. let same = kept o in code_kept old mid new base scratch x a c h n same.0 same.1)
+    (λ o. let back = cut o in
+    code_cut old mid new base scratch x a c h n back.0
+    (back.1 old.table (h.source.entry ∷ []) c.runs.whole h.marked h.source.table))

@@ -56,7 +56,8 @@ either_same false x y e = refl
 settle_same : (t : Term) → IsSettled t → settle t ≡ t
 settle_same (done v) h = refl
 settle_same (standing v place) h = refl
-settle_same (part f now later) h = either_same (all_done now) (finished f now later) (part f now later) (finished_same f now later h)
+settle_same (part f now later) h =
+    either_same (all_done now) (finished f now later) (part f now later) (finished_same f now later h)
 
 placed_settled : (at : ℕ → Addr) (n : ℕ) (t : Term) → IsSettled t → IsSettled (with_literals at n t)
 placed_settled at n (done v) h = tt

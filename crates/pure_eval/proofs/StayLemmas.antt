@@ -54,17 +54,31 @@ form_stays : (ts : List (List ℕ)) (t u : NodeTable) (op : Op) (n : ℕ)
     → names_entry t op n ≡ true
     → form_of ts u op n ≡ form_of ts t op n
 unfolding form_of
-form_stays ts t u ops.Script n x k c = ap (script_form ts) (here t.scripts.items u.scripts.items n x.scripts (ltb-true n (length t.scripts.items) c))
-form_stays ts t u ops.EnterFor n x k c = ap (for_form ts) (here t.fors.items u.fors.items n x.fors (ltb-true n (length t.fors.items) c))
-form_stays ts t u ops.EnterForOf n x k c = ap (for_of_form ts) (here t.for_ofs.items u.for_ofs.items n x.for_ofs (ltb-true n (length t.for_ofs.items) c))
-form_stays ts t u ops.Block n x k c = ap (block_form ts) (here t.blocks.items u.blocks.items n x.blocks (ltb-true n (length t.blocks.items) c))
-form_stays ts t u ops.Function n x k c = ap (function_form ts) (here t.functions.items u.functions.items n x.functions (ltb-true n (length t.functions.items) c))
-form_stays ts t u ops.Method n x k c = ap (method_form ts) (here t.functions.items u.functions.items n x.functions (ltb-true n (length t.functions.items) c))
-form_stays ts t u ops.Object n x k c = ap (object_form ts) (here_map (λ ms. ms.items) t.objects.items u.objects.items n x.objects (ltb-true n (length t.objects.items) c))
-form_stays ts t u ops.Call n x k c = ap call_form (here t.calls.items u.calls.items n x.calls (ltb-true n (length t.calls.items) c))
-form_stays ts t u ops.CallOfName n x k c = ap (name_call_form ts) (here t.calls.items u.calls.items n x.calls (ltb-true n (length t.calls.items) c))
-form_stays ts t u ops.CallOfMember n x k c = ap (member_call_form ts) (here t.calls.items u.calls.items n x.calls (ltb-true n (length t.calls.items) c))
-form_stays ts t u ops.CallOfIndex n x k c = ap index_call_form (here t.calls.items u.calls.items n x.calls (ltb-true n (length t.calls.items) c))
+form_stays ts t u ops.Script n x k c =
+    ap (script_form ts) (here t.scripts.items u.scripts.items n x.scripts (ltb-true n (length t.scripts.items) c))
+form_stays ts t u ops.EnterFor n x k c =
+    ap (for_form ts) (here t.fors.items u.fors.items n x.fors (ltb-true n (length t.fors.items) c))
+form_stays ts t u ops.EnterForOf n x k c =
+    ap (for_of_form ts) (here t.for_ofs.items u.for_ofs.items n x.for_ofs (ltb-true n (length t.for_ofs.items) c))
+form_stays ts t u ops.Block n x k c =
+    ap (block_form ts) (here t.blocks.items u.blocks.items n x.blocks (ltb-true n (length t.blocks.items) c))
+form_stays ts t u ops.Function n x k c =
+    ap (function_form ts)
+    (here t.functions.items u.functions.items n x.functions (ltb-true n (length t.functions.items) c))
+form_stays ts t u ops.Method n x k c =
+    ap (method_form ts)
+    (here t.functions.items u.functions.items n x.functions (ltb-true n (length t.functions.items) c))
+form_stays ts t u ops.Object n x k c =
+    ap (object_form ts)
+    (here_map (λ ms. ms.items) t.objects.items u.objects.items n x.objects (ltb-true n (length t.objects.items) c))
+form_stays ts t u ops.Call n x k c =
+    ap call_form (here t.calls.items u.calls.items n x.calls (ltb-true n (length t.calls.items) c))
+form_stays ts t u ops.CallOfName n x k c =
+    ap (name_call_form ts) (here t.calls.items u.calls.items n x.calls (ltb-true n (length t.calls.items) c))
+form_stays ts t u ops.CallOfMember n x k c =
+    ap (member_call_form ts) (here t.calls.items u.calls.items n x.calls (ltb-true n (length t.calls.items) c))
+form_stays ts t u ops.CallOfIndex n x k c =
+    ap index_call_form (here t.calls.items u.calls.items n x.calls (ltb-true n (length t.calls.items) c))
 form_stays ts t u ops.ListOf n x k c = absurd cc
 form_stays ts t u _ n x k c = refl
 
@@ -74,7 +88,9 @@ constant_stays : (t u : NodeTable) (op : Op) (n : ℕ)
     → names_entry t op n ≡ true
     → constant_at u n ≡ constant_at t n
 unfolding constant_at
-constant_stays t u ops.Literal n x l c = ap (λ o. unwrap_or o values.Undefined) (here t.constants.items u.constants.items n x.constants (ltb-true n (length t.constants.items) c))
+constant_stays t u ops.Literal n x l c =
+    ap (λ o. unwrap_or o values.Undefined)
+    (here t.constants.items u.constants.items n x.constants (ltb-true n (length t.constants.items) c))
 constant_stays t u _ n x l c = absurd cc
 
 -- ---- trees
@@ -96,12 +112,16 @@ node_stays : (ts : List (List ℕ)) (t u : NodeTable) (a b : ℕ → Term) (n : 
     → node_term ts u a o ≡ node_term ts t b o
 node_stays ts t u a b n None x same i c = refl
 node_stays ts t u a b n (Some node) x same i c =
-    part_stays (is_literal node.op) (done (constant_at u node.info)) (done (constant_at t node.info)) (form_of ts u node.op node.info) (form_of ts t node.op node.info)
-    (terms a (kids_between u node.first node.mid)) (terms b (kids_between t node.first node.mid)) (terms a (kids_between u node.mid node.end)) (terms b (kids_between t node.mid node.end))
+    part_stays (is_literal node.op) (done (constant_at u node.info)) (done (constant_at t node.info))
+    (form_of ts u node.op node.info) (form_of ts t node.op node.info)
+    (terms a (kids_between u node.first node.mid)) (terms b (kids_between t node.first node.mid))
+    (terms a (kids_between u node.mid node.end)) (terms b (kids_between t node.mid node.end))
     (λ l. ap done (constant_stays t u node.op node.info x l (c node refl)))
     (form_stays ts t u node.op node.info x i.source (c node refl))
-    (ap (terms a) (kids-stay t u node.first node.mid x i.now (omega (arith, i.later, i.within))) ∙ terms_same a b n (kids_between t node.first node.mid) same (now-below t n node i))
-    (ap (terms a) (kids-stay t u node.mid node.end x i.later i.within) ∙ terms_same a b n (kids_between t node.mid node.end) same (later-below t n node i))
+    (ap (terms a) (kids-stay t u node.first node.mid x i.now (omega (arith, i.later, i.within)))
+    ∙ terms_same a b n (kids_between t node.first node.mid) same (now-below t n node i))
+    (ap (terms a) (kids-stay t u node.mid node.end x i.later i.within)
+    ∙ terms_same a b n (kids_between t node.mid node.end) same (later-below t n node i))
 
 tree_stays : (ts : List (List ℕ)) (t u : NodeTable)
     → IsTable t
@@ -113,7 +133,9 @@ tree_stays : (ts : List (List ℕ)) (t u : NodeTable)
 tree_stays ts t u table closed x zero n h = refl
 tree_stays ts t u table closed x (suc fuel) n h =
     ap (node_term ts u (tree_within ts u fuel)) (here t.nodes.items u.nodes.items n x.nodes h)
-    ∙ node_stays ts t u (tree_within ts u fuel) (tree_within ts t fuel) n (slice_get t.nodes.items n) x (λ k l. tree_stays ts t u table closed x fuel k (omega arith)) (table.nodes n) (λ node e. closed n node (omega arith) e)
+    ∙ node_stays ts t u (tree_within ts u fuel) (tree_within ts t fuel) n (slice_get t.nodes.items n) x
+    (λ k l. tree_stays ts t u table closed x fuel k (omega arith)) (table.nodes n)
+    (λ node e. closed n node (omega arith) e)
 
 pub tree-stays : (ts : List (List ℕ)) (t u : NodeTable) (n : ℕ)
     → IsTable t
@@ -136,7 +158,8 @@ code_node_stays : (ts : List (List ℕ)) (t u : NodeTable) (f : FunctionEntry) (
 code_node_stays ts t u f n None table closed x h i = refl
 code_node_stays ts t u f n (Some node) table closed x h i =
     ap (code_of_parts (function_of ts f)) (ap (terms (tree ts u)) (kids-stay t u node.mid node.end x i.later i.within)
-    ∙ terms_same (tree ts u) (tree ts t) n (kids_between t node.mid node.end) (λ k l. tree-stays ts t u k table closed x (omega arith)) (later-below t n node i))
+    ∙ terms_same (tree ts u) (tree ts t) n (kids_between t node.mid node.end)
+    (λ k l. tree-stays ts t u k table closed x (omega arith)) (later-below t n node i))
 
 code_entry_stays : (ts : List (List ℕ)) (t u : NodeTable) (o : Option FunctionEntry)
     → IsTable t
@@ -188,5 +211,6 @@ pub sources-stay : (ts : List (List ℕ)) (t u : NodeTable) (es : List SourceEnt
     → source_trees ts u es ≡ source_trees ts t es
 sources-stay ts t u [] table closed x w = refl
 sources-stay ts t u (e ∷ es) table closed x w =
-    ap (λ y. let s : SourceTree = record { source = e.source; tree = y } in s ∷ source_trees ts u es) (tree-stays ts t u e.root table closed x (w 0 e refl).root)
+    ap (λ y. let s : SourceTree = record { source = e.source; tree = y } in s ∷ source_trees ts u es)
+    (tree-stays ts t u e.root table closed x (w 0 e refl).root)
     ∙ ap (λ ps. source_tree ts t e ∷ ps) (sources-stay ts t u es table closed x (λ i. w (suc i)))

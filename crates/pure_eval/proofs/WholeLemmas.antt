@@ -52,7 +52,8 @@ closed_at : (t u : NodeTable) (n : ℕ) (node : Node)
     → slice_get u.nodes.items n ≡ Some node
     → (n < length t.nodes.items) ⊎ (length t.nodes.items ≤ n)
     → names_entry u node.op node.info ≡ true
-closed_at t u n node c x d e (inl h) = names_more t u node.op node.info x (c n node (omega arith) (sym (here t.nodes.items u.nodes.items n x.nodes h) ∙ e))
+closed_at t u n node c x d e (inl h) =
+    names_more t u node.op node.info x (c n node (omega arith) (sym (here t.nodes.items u.nodes.items n x.nodes h) ∙ e))
 closed_at t u n node c x d e (inr h) = d n node h e
 
 pub closed-more : (t u : NodeTable) → AreClosed t 0 → Extends t u → AreClosed u (length t.nodes.items) → AreClosed u 0
@@ -65,7 +66,12 @@ placed_at : (t u : NodeTable) (i : ℕ) (f : FunctionEntry)
     → slice_get u.functions.items i ≡ Some f
     → (i < length t.functions.items) ⊎ (length t.functions.items ≤ i)
     → f.at < length u.nodes.items
-placed_at t u i f c x d e (inl h) = omega (arith, c i f (omega arith) (sym (here t.functions.items u.functions.items i x.functions h) ∙ e), begins_length t.nodes.items u.nodes.items x.nodes)
+placed_at t u i f c x d e (inl h) =
+    omega (
+      arith,
+      c i f (omega arith) (sym (here t.functions.items u.functions.items i x.functions h) ∙ e),
+      begins_length t.nodes.items u.nodes.items x.nodes,
+    )
 placed_at t u i f c x d e (inr h) = d i f h e
 
 pub placed-more : (t u : NodeTable)

@@ -55,7 +55,8 @@ pub working-first : (e : Evaluator) (n : ℕ) (m : EvaluatorMark)
     → IsMarked e m
     → n ≡ length e.table.sources.items
     → IsWorking e n m
-working-first e n m c k f = record { code = c; first = e; first_code = c; marked = k; goes_on = went-same e c.runs.whole; count = sym f }
+working-first e n m c k f =
+    record { code = c; first = e; first_code = c; marked = k; goes_on = went-same e c.runs.whole; count = sym f }
 
 -- ---- opened
 
@@ -63,7 +64,9 @@ take_program : (e : Evaluator) (m : EvaluatorMark)
     → IsMarked e m
     → take m.table.sources (program_of e.names e.table) ≡ program_of e.names e.table
 take_program e m k =
-    ap (λ n. take n (program_of e.names e.table)) (k.table.sources ∙ sym (program-length e.names e.table e.table.sources.items)) ∙ take-length (program_of e.names e.table)
+    ap (λ n. take n (program_of e.names e.table))
+    (k.table.sources ∙ sym (program-length e.names e.table e.table.sources.items))
+    ∙ take-length (program_of e.names e.table)
 
 pub space_over : (ts : List (List ℕ)) (base h : Heap) (o : Over)
     → over_world ts o ≡ copied_world (heap_world ts base) (space_of ts h)
@@ -72,13 +75,15 @@ space_over ts base h o e = ap space_after e
 
 space_mark : (ts : List (List ℕ)) (h : Heap) → space_at (space_of ts h) (mark_of h) ≡ space_of ts h
 space_mark ts h =
-    let f : List Cell → ScratchSpace = λ cs. record { cells = cs; room = record { cells = h.cells_left; units = h.units_left } } in
+    let f : List Cell
+    → ScratchSpace = λ cs. record { cells = cs; room = record { cells = h.cells_left; units = h.units_left } } in
     ap f (ap (λ n. take n (space_of ts h).cells) (sym (cells-length ts h.cells)) ∙ take-length (space_of ts h).cells)
 
 abbrev pub made_open : World → Program → ScratchSpace → Program → ScratchSpace → ℕ → Opened
 made_open w p x q y n = record { world = w; before = made p n x; behind = made q n y }
 
-pub opened-is : (e : Evaluator) (n : ℕ) (m : EvaluatorMark) (base h : Heap) (o : Over) (k : Marked) (names : List (List ℕ))
+pub opened-is : (e : Evaluator) (n : ℕ) (m : EvaluatorMark) (base h : Heap) (o : Over) (k : Marked)
+    (names : List (List ℕ))
     → IsMarked e m
     → IsKnown base names e.names
     → ((us more : List (List ℕ)) → base.ends ≤ length us → heap_world (us ++ more) base ≡ heap_world us base)
@@ -89,13 +94,20 @@ opened-is e n m base h o k names marked known further over is =
     let p : Program = program_of e.names e.table in
     let x : ScratchSpace = space_of e.names h in
     let there : space_after (over_world e.names o) ≡ x = space_over e.names base h o (over e.names) in
-    let first : space_at (space_after (over_world e.names o)) k ≡ x = ap (λ y. space_at y k) there ∙ ap (space_at x) is ∙ space_mark e.names h in
-    ap (λ w. made_open w (take m.table.sources p) (space_at (space_after (over_world e.names o)) k) p (space_after (over_world e.names o)) n) (world-further names e.names base known.goes_on further known.known)
-    ∙ ap (λ q. made_open (heap_world names base) q (space_at (space_after (over_world e.names o)) k) p (space_after (over_world e.names o)) n) (take_program e m marked)
+    let first : space_at (space_after (over_world e.names o)) k ≡ x = ap (λ y. space_at y k) there
+    ∙ ap (space_at x) is
+    ∙ space_mark e.names h in
+    ap (λ w. made_open w (take m.table.sources p) (space_at (space_after (over_world e.names o)) k) p
+    (space_after (over_world e.names o)) n)
+    (world-further names e.names base known.goes_on further known.known)
+    ∙ ap (λ q. made_open (heap_world names base) q (space_at (space_after (over_world e.names o)) k) p
+    (space_after (over_world e.names o)) n)
+    (take_program e m marked)
     ∙ ap (λ y. made_open (heap_world names base) p y p (space_after (over_world e.names o)) n) first
     ∙ ap (λ y. made_open (heap_world names base) p x p y n) there
 
-pub open-is : (e : Evaluator) (n : ℕ) (start m : EvaluatorMark) (base h : Heap) (o : Over) (k : Marked) (count : ℕ) (next : Addr)
+pub open-is : (e : Evaluator) (n : ℕ) (start m : EvaluatorMark) (base h : Heap) (o : Over) (k : Marked) (count : ℕ)
+    (next : Addr)
     → IsWorking e n start
     → IsMarked e m
     → ((ts : List (List ℕ)) → over_world ts o ≡ copied_world (heap_world ts base) (space_of ts h))
@@ -106,7 +118,8 @@ pub open-is : (e : Evaluator) (n : ℕ) (start m : EvaluatorMark) (base h : Heap
     → IsOpen e n start m base o k count next
 open-is e n start m base h o k count next working marked over based is next_is number =
     let at : count ≡ length h.cells = number (length h.cells) next_is in
-    let there : (ts : List (List ℕ)) → space_after (over_world ts o) ≡ space_of ts h = λ ts. space_over ts base h o (over ts) in
+    let there : (ts : List (List ℕ))
+    → space_after (over_world ts o) ≡ space_of ts h = λ ts. space_over ts base h o (over ts) in
     record {
       working = working;
       before = e;
@@ -135,9 +148,14 @@ program-first b e n c g f =
     let w : IsWhole b.table = c.runs.whole in
     let first : Program = source_trees e.names e.table b.table.sources.items in
     let more : Program = source_trees e.names e.table g.entries in
-    let parts : program_of e.names e.table ≡ first ++ more = ap (source_trees e.names e.table) g.table.sources ∙ trees_append e.names e.table b.table.sources.items g.entries in
-    let stays : first ≡ program_of b.names b.table = sources-stay e.names b.table e.table b.table.sources.items w.table w.closed g.table.entries w.sources ∙ c.steady e.names g.names in
-    ap (take n) parts ∙ ap (λ k. take k (first ++ more)) (f ∙ sym (program-length e.names e.table b.table.sources.items)) ∙ take-append_seam first more ∙ stays
+    let parts : program_of e.names e.table ≡ first ++ more = ap (source_trees e.names e.table) g.table.sources
+    ∙ trees_append e.names e.table b.table.sources.items g.entries in
+    let stays : first ≡ program_of b.names b.table = sources-stay e.names b.table e.table b.table.sources.items w.table w.closed g.table.entries w.sources
+    ∙ c.steady e.names g.names in
+    ap (take n) parts
+    ∙ ap (λ k. take k (first ++ more)) (f ∙ sym (program-length e.names e.table b.table.sources.items))
+    ∙ take-append_seam first more
+    ∙ stays
 
 pub working-again : (first new : Evaluator) (n : ℕ) (m : EvaluatorMark)
     → IsWorking first n m
@@ -159,7 +177,11 @@ pub emptied-is : (old new : Evaluator) (n : ℕ) (m : EvaluatorMark) (h k : Heap
     → workspace_of new n k ≡ emptied_workspace (workspace_of old n h)
 emptied-is old new n m h k w cut f =
     let a : IsAgain w.first new = cut w.first w.first_code.runs.whole w.marked w.goes_on in
-    made_same (program_of new.names new.table) (take n (program_of old.names old.table)) n n (space_of new.names k) first_space ((code-again w.first new w.first_code a).program ∙ sym (program-first w.first old n w.first_code w.goes_on (sym w.count))) refl f
+    made_same (program_of new.names new.table) (take n (program_of old.names old.table)) n n (space_of new.names k)
+    first_space
+    ((code-again w.first new w.first_code a).program
+    ∙ sym (program-first w.first old n w.first_code w.goes_on (sym w.count)))
+    refl f
 
 pub emptied-working : (old new : Evaluator) (n : ℕ) (m : EvaluatorMark)
     → IsWorking old n m
@@ -169,14 +191,17 @@ emptied-working old new n m w cut =
     let a : IsAgain w.first new = cut w.first w.first_code.runs.whole w.marked w.goes_on in
     working-again w.first new n m (working-first w.first n m w.first_code w.marked (sym w.count)) a
 
-pub forgotten-working : (e new : Evaluator) (n : ℕ) (start m : EvaluatorMark) (base : Heap) (o : Over) (k : Marked) (count : ℕ) (next : Addr)
+pub forgotten-working : (e new : Evaluator) (n : ℕ) (start m : EvaluatorMark) (base : Heap) (o : Over) (k : Marked)
+    (count : ℕ) (next : Addr)
     → IsOpen e n start m base o k count next
     → ((b : Evaluator) → IsWhole b.table → IsMarked b m → WentOn b e → IsAgain b new)
     → IsWorking new n start
 forgotten-working e new n start m base o k count next i cut =
-    working-again i.before new n start i.before_working (cut i.before i.before_working.code.runs.whole i.marked i.goes_on)
+    working-again i.before new n start i.before_working
+    (cut i.before i.before_working.code.runs.whole i.marked i.goes_on)
 
-pub forgotten-is : (e new : Evaluator) (n : ℕ) (start m : EvaluatorMark) (base h g : Heap) (o : Over) (k : Marked) (count : ℕ) (next : Addr)
+pub forgotten-is : (e new : Evaluator) (n : ℕ) (start m : EvaluatorMark) (base h g : Heap) (o : Over) (k : Marked)
+    (count : ℕ) (next : Addr)
     → IsOpen e n start m base o k count next
     → ((b : Evaluator) → IsWhole b.table → IsMarked b m → WentOn b e → IsAgain b new)
     → new.names ≡ e.names
@@ -185,8 +210,11 @@ pub forgotten-is : (e new : Evaluator) (n : ℕ) (start m : EvaluatorMark) (base
     → workspace_of new n g ≡ (opened_of e n m base o k).before
 forgotten-is e new n start m base h g o k count next i cut names over was =
     let a : IsAgain i.before new = cut i.before i.before_working.code.runs.whole i.marked i.goes_on in
-    made_same (program_of new.names new.table) (take m.table.sources (program_of e.names e.table)) n n (space_of new.names g) (space_at (space_after (over_world e.names o)) k)
-    ((code-again i.before new i.before_working.code a).program ∙ sym (program-first i.before e m.table.sources i.before_working.code i.goes_on i.marked.table.sources)) refl
+    made_same (program_of new.names new.table) (take m.table.sources (program_of e.names e.table)) n n
+    (space_of new.names g) (space_at (space_after (over_world e.names o)) k)
+    ((code-again i.before new i.before_working.code a).program
+    ∙ sym (program-first i.before e m.table.sources i.before_working.code i.goes_on i.marked.table.sources))
+    refl
     (was new.names ∙ ap (λ x. space_at x k) (over new.names ∙ ap (λ ts. space_after (over_world ts o)) names))
 
 -- ---- names that go on behind others
@@ -216,7 +244,10 @@ pub names-go-on : (ts us : List (List ℕ)) (n : ℕ)
     → GoesOn ts us
 unfolding name_of
 names-go-on ts us n l b h =
-    same_entries ts us l (λ i k. sym (or_there ts i (spare ts i) k) ∙ h i (omega arith) (omega (arith, b, k)) ∙ or_there us i (spare us i) (omega (arith, l, k)))
+    same_entries ts us l
+    (λ i k. sym (or_there ts i (spare ts i) k)
+    ∙ h i (omega arith) (omega (arith, b, k))
+    ∙ or_there us i (spare us i) (omega (arith, l, k)))
 
 pub same-name : (b : Bool) (xs ys us vs : List ℕ) → b ≡ same_units xs ys → xs ≡ us → ys ≡ vs → b ≡ true → us ≡ vs
 same-name b xs ys us vs e f g h = sym f ∙ same-only xs ys (sym e ∙ h) ∙ g

@@ -21,7 +21,8 @@ pub record GoesOnWith (t u : NodeTable) (es : List SourceEntry) : Type 0 where
   pub sources : u.sources.items ≡ t.sources.items ++ es
 
 -- the source of a term is added behind the others, and its node has the term, however the names go on
-pub record IsAdded (names : List (List ℕ)) (t : NodeTable) (at : Addr) (x : Term) (more : List (List ℕ)) (u : NodeTable) (root : ℕ) : Type 0 where
+pub record IsAdded (names : List (List ℕ)) (t : NodeTable) (at : Addr) (x : Term) (more : List (List ℕ)) (u : NodeTable)
+    (root : ℕ) : Type 0 where
   pub goes_on : GoesOn names more
   pub entry : SourceEntry
   pub table : GoesOnWith t u (entry ∷ [])

@@ -35,7 +35,8 @@ use Rattle.pure_eval.specs.Whole.{IsWhole}
 
 -- a callee that is ready in a world is called with a `this` and arguments
 abbrev pub called : Program → Value → List Argument → World → Term → Answer
-called p receiver arguments w callee = answered (with_arguments receiver arguments (fine callee w)) (evaluated p script_scope values.Undefined)
+called p receiver arguments w callee =
+    answered (with_arguments receiver arguments (fine callee w)) (evaluated p script_scope values.Undefined)
 
 -- the answer for a term that is ready in a world
 abbrev pub worked : Program → Work → World → Term → Answer
@@ -75,8 +76,10 @@ end_with stepped = None
 
 -- what the run of a call comes to that begins with its callee: the call of a value, with the steps that are left, or an end
 abbrev pub ComesTo : Program → Addr → ℕ → Run → Value → List Value → Callee → State → Type 0
-ComesTo p root most first receiver arguments (callees.Reduced v left) s = steps_in most p root first ≡ steps_in left p root (run_of (call_with_values receiver (done v) arguments) s)
-ComesTo p root most first receiver arguments (callees.Ended end) s = Answers (answer_of (steps_in most p root first)) end s.world × EndsIn (steps_in most p root first) end s.world
+ComesTo p root most first receiver arguments (callees.Reduced v left) s =
+    steps_in most p root first ≡ steps_in left p root (run_of (call_with_values receiver (done v) arguments) s)
+ComesTo p root most first receiver arguments (callees.Ended end) s =
+    Answers (answer_of (steps_in most p root first)) end s.world × EndsIn (steps_in most p root first) end s.world
 
 -- the innermost task has more values
 abbrev pub with_values : List Value → List Wide → List Wide

@@ -16,7 +16,9 @@ AreSameLiterals order literals = (w : World) → SameOutcome (make_literals w li
 
 -- a term that is ready in the copied world; a full scratch names the count that is passed first in the order of the source
 abbrev pub ready_in_order : World → ScratchSpace → List ℕ → List (List ℕ) → List (List ℕ) → Term → Tried Term
-ready_in_order w x source order literals t = after_try (keep_source (copied_world w x) source) (λ at v. after_try (place_literals v order literals) (λ u z. fine t z))
+ready_in_order w x source order literals t =
+    after_try (keep_source (copied_world w x) source)
+    (λ at v. after_try (place_literals v order literals) (λ u z. fine t z))
 
 -- whether a count would have been passed
 abbrev pub is_full_end : Evaluated → Bool

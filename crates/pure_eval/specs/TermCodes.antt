@@ -82,4 +82,6 @@ word_coded = Prim.hlevel codes
 
 -- a term is kept as its words
 pub term_coded : Coded Term
-term_coded = code_by (List Word) (coded_list word_coded) (λ t. term_words t []) (λ ws. top_term (read_words nothing_read ws)) (λ t. ap top_term (term_is_read t [] nothing_read))
+term_coded =
+    code_by (List Word) (coded_list word_coded) (λ t. term_words t []) (λ ws. top_term (read_words nothing_read ws))
+    (λ t. ap top_term (term_is_read t [] nothing_read))

@@ -28,11 +28,13 @@ names_entry t op n = true
 
 -- the nodes from a number on name entries that are there
 abbrev pub AreClosed : NodeTable → ℕ → Type 0
-AreClosed t from = (n : ℕ) (node : Node) → from ≤ n → slice_get t.nodes.items n ≡ Some node → names_entry t node.op node.info ≡ true
+AreClosed t from =
+    (n : ℕ) (node : Node) → from ≤ n → slice_get t.nodes.items n ≡ Some node → names_entry t node.op node.info ≡ true
 
 -- the functions from a number on have nodes that are there
 abbrev pub ArePlaced : NodeTable → ℕ → Type 0
-ArePlaced t from = (i : ℕ) (e : FunctionEntry) → from ≤ i → slice_get t.functions.items i ≡ Some e → e.at < length t.nodes.items
+ArePlaced t from =
+    (i : ℕ) (e : FunctionEntry) → from ≤ i → slice_get t.functions.items i ≡ Some e → e.at < length t.nodes.items
 
 -- a source's node and the functions of its index are there
 pub record IsWithin (t : NodeTable) (e : SourceEntry) : Type 0 where

@@ -57,14 +57,23 @@ opened w x = record { world = w; before = x; behind = x }
 abbrev pub opened_of : Evaluator → ℕ → EvaluatorMark → Heap → Over → Marked → Opened
 opened_of e n m base world cells = record {
   world = heap_world e.names base;
-  before = record { program = take m.table.sources (program_of e.names e.table); scripts = n; scratch = space_at (space_after (over_world e.names world)) cells };
-  behind = record { program = program_of e.names e.table; scripts = n; scratch = space_after (over_world e.names world) };
+  before =
+      record {
+        program = take m.table.sources (program_of e.names e.table);
+        scripts = n;
+        scratch = space_at
+            (space_after (over_world e.names world)) cells;
+      };
+  behind =
+      record { program = program_of e.names e.table; scripts = n; scratch = space_after (over_world e.names world) };
 }
 
 -- how an evaluation of what is made of a source ends, and what it leaves, by the definition's answer; want of memory says nothing
 abbrev pub EvaluatesTo : Answer → Made → Evaluated → Opened → Opened → Type 0
-EvaluatesTo a e (ends.Value v) old new = (w : World) × (a ≡ a_result v w) × (new ≡ record old { behind = with_evaluated e w old.behind })
-EvaluatesTo a e (ends.Thrown v) old new = (w : World) × (a ≡ a_throw v w) × (new ≡ record old { behind = with_evaluated e w old.behind })
+EvaluatesTo a e (ends.Value v) old new =
+    (w : World) × (a ≡ a_result v w) × (new ≡ record old { behind = with_evaluated e w old.behind })
+EvaluatesTo a e (ends.Thrown v) old new =
+    (w : World) × (a ≡ a_throw v w) × (new ≡ record old { behind = with_evaluated e w old.behind })
 EvaluatesTo a e ends.Effect old new = (a ≡ an_effect) × (new ≡ old)
 EvaluatesTo a e (ends.Full what) old new = (a ≡ is_full_of what) × (new ≡ old)
 EvaluatesTo a e ends.Spent old new = (a ≡ spent) × (new ≡ old)

@@ -12,7 +12,10 @@ use Rattle.remote_objects.specs.Laws.{AreDescriptors, DescribesEach, slot_name, 
 described-each : (s : Sight) (detail : Detail) (group : Option (List ℕ)) (ps : List Slot) (h : State)
     → AreDescriptors ps (made_all (descriptor s detail group) ps h).made
 described-each s detail group [] h = tt
-described-each s detail group (p ∷ ps) h = (((content_made s detail group p.content h).made, refl), described-each s detail group ps (descriptor s detail group p h).handles)
+described-each s detail group (p ∷ ps) h = (
+  ((content_made s detail group p.content h).made, refl),
+  described-each s detail group ps (descriptor s detail group p h).handles,
+)
 
 pub describes-each : DescribesEach
 describes-each s detail group target h = described-each s detail group (slots_of s.world target) h

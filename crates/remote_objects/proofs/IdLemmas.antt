@@ -15,7 +15,8 @@ use Rattle.remote_objects.specs.Ids.{IsObjectId, number_behind, number_in_id}
 
 pub no_point : (text : List ℕ) → ((k : ℕ) → k < length text → get_or text k 0 ≢ 46) → halves 46 text ≡ None
 no_point [] lacks = refl
-no_point (u ∷ us) lacks = rw (ne_eqb u 46 (lacks 0 (omega arith)), no_point us (λ k below. lacks (suc k) (omega arith))) refl
+no_point (u ∷ us) lacks =
+    rw (ne_eqb u 46 (lacks 0 (omega arith)), no_point us (λ k below. lacks (suc k) (omega arith))) refl
 
 -- the first point of a text
 pub halves-at : (text : List ℕ) (i : ℕ)
@@ -24,16 +25,22 @@ pub halves-at : (text : List ℕ) (i : ℕ)
     → get_or text i 0 ≡ 46
     → Some record { front = take i text; back = take (length text - (i + 1)) (drop (i + 1) text) } ≡ halves 46 text
 halves-at text i h lacks e =
-    let back : take (length text - (i + 1)) (drop (i + 1) text) ≡ drop (i + 1) text = take_all (length text - (i + 1)) (drop (i + 1) text) (omega (arith, length-drop (i + 1) text)) in
+    let back : take (length text - (i + 1)) (drop (i + 1) text) ≡ drop (i + 1) text = take_all (length text - (i + 1))
+    (drop (i + 1) text) (omega (arith, length-drop (i + 1) text)) in
     let len : length (take i text) ≡ i = grind (arith, common_steps) in
-    let front : (k : ℕ) → k < length (take i text) → get_or (take i text) k 0 ≢ 46 = λ k below same. lacks k (omega arith) (sym (get_or-take i text k 0 (omega arith)) ∙ same) in
-    let whole : text ≡ take i text ++ 46 ∷ drop (i + 1) text = sym (take-append-drop i text) ∙ ap (λ r. take i text ++ r) (drop_more text i 0 h ∙ ap (λ u. u ∷ drop (i + 1) text) e) in
+    let front : (k : ℕ)
+    → k < length (take i text)
+    → get_or (take i text) k 0 ≢ 46 = λ k below same. lacks k (omega arith)
+    (sym (get_or-take i text k 0 (omega arith)) ∙ same) in
+    let whole : text ≡ take i text ++ 46 ∷ drop (i + 1) text = sym (take-append-drop i text)
+    ∙ ap (λ r. take i text ++ r) (drop_more text i 0 h ∙ ap (λ u. u ∷ drop (i + 1) text) e) in
     rw back (sym (ap (halves 46) whole ∙ halves-append 46 (take i text) (drop (i + 1) text) front))
 
 -- an id has the two numbers around its point
 pub id_halves : (session : ℕ) (text : List ℕ) (number : ℕ) → session < 2 ^ 64 → IsObjectId session text number
     → halves 46 text ≡ Some record { front = decimal session; back = decimal number }
-id_halves session text number small id = rw id.written (halves-decimal session 46 (decimal number) small (λ digit. omega arith))
+id_halves session text number small id =
+    rw id.written (halves-decimal session 46 (decimal number) small (λ digit. omega arith))
 
 id_parts : (session : ℕ) (text : List ℕ) (number : ℕ) (parts : Halves)
     → session < 2 ^ 64
@@ -111,7 +118,8 @@ id_number : (session : ℕ) (text : List ℕ) (number : ℕ)
     → number_in_id session text ≡ Some number
 id_number session text number small id =
     ap (option_and_then (number_behind session)) (id_halves session text number small id)
-    ∙ (ap (λ b. if b then decimal_value (decimal number) else None) ((bytes_eq-Decides (decimal session) (decimal session)).1 refl)
+    ∙ (ap (λ b. if b then decimal_value (decimal number) else None)
+    ((bytes_eq-Decides (decimal session) (decimal session)).1 refl)
     ∙ decimal_value-decimal number id.small)
 
 behind_id : (session : ℕ) (text : List ℕ) (number : ℕ) (parts : Halves) (b : Bool)
@@ -129,14 +137,16 @@ halves_id : (session : ℕ) (text : List ℕ) (number : ℕ) (o : Option Halves)
     → option_and_then (number_behind session) o ≡ Some number
     → IsObjectId session text number
 halves_id session text number None is read = cc
-halves_id session text number (Some parts) is read = behind_id session text number parts (bytes_eq parts.front (decimal session)) is refl read
+halves_id session text number (Some parts) is read =
+    behind_id session text number parts (bytes_eq parts.front (decimal session)) is refl read
 
 none_by : (session : ℕ) (text : List ℕ) (o : Option ℕ)
     → number_in_id session text ≡ o
     → ((number : ℕ) → ¬ (IsObjectId session text number))
     → None ≡ o
 none_by session text None is none = refl
-none_by session text (Some number) is none = absurd (none number (halves_id session text number (halves 46 text) refl is))
+none_by session text (Some number) is none =
+    absurd (none number (halves_id session text number (halves 46 text) refl is))
 
 -- what is read by what it means that a text is an id is the number in it
 pub read-value : (session : ℕ) (text : List ℕ) (r : Option ℕ)

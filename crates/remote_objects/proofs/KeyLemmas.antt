@@ -48,4 +48,5 @@ lists-first-keys w cell = rw (← named-entries cell) (are-previews w (most_list
 
 pub says-whether-more : SaysWhetherMore
 says-whether-more w cell = ap (nat_lt (most_listed cell))
-    (length-map (entries cell) (property_preview w) ∙ (sym (length-map (entries cell) entry_name) ∙ ap length (named-entries cell)))
+    (length-map (entries cell) (property_preview w)
+    ∙ (sym (length-map (entries cell) entry_name) ∙ ap length (named-entries cell)))

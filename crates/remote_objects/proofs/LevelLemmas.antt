@@ -32,7 +32,8 @@ all-same f more n (x ∷ xs) each low =
 chosen-same : (b c : Bool) (key : List ℕ) (g h : Given Json) (n : ℕ)
     → (g.depth ≤ n → h ≡ g)
     → (if b then (if c then left_out else mapped (member_of key) g) else no_parts).depth ≤ n
-    → (if b then (if c then left_out else mapped (member_of key) h) else no_parts) ≡ (if b then (if c then left_out else mapped (member_of key) g) else no_parts)
+    → (if b then (if c then left_out else mapped (member_of key) h) else no_parts) ≡
+    (if b then (if c then left_out else mapped (member_of key) g) else no_parts)
 chosen-same false c key g h n same low = refl
 chosen-same true true key g h n same low = refl
 chosen-same true false key g h n same low = ap (mapped (member_of key)) (same low)
@@ -42,7 +43,8 @@ member-same : (w : World) (way more : Value → Given Json) (n : ℕ)
     → (p : Property)
     → (member_given w way p).depth ≤ n
     → member_given w more p ≡ member_given w way p
-member-same w way more n each p low = chosen-same p.enumerable (is_left_out w p.value) p.key (way p.value) (more p.value) n (each p.value) low
+member-same w way more n each p low =
+    chosen-same p.enumerable (is_left_out w p.value) p.key (way p.value) (more p.value) n (each p.value) low
 
 parts-same : (w : World) (way more : Value → Given Json) (n : ℕ)
     → ((v : Value) → (way v).depth ≤ n → more v ≡ way v)
@@ -50,10 +52,14 @@ parts-same : (w : World) (way more : Value → Given Json) (n : ℕ)
     → (parts_given w way cell).depth ≤ n
     → parts_given w more cell ≡ parts_given w way cell
 parts-same w way more n each None low = refl
-parts-same w way more n each (Some (cells.Object ps)) low = ap (mapped object_of) (all-same (member_given w way) (member_given w more) n ps (member-same w way more n each) low)
-parts-same w way more n each (Some (cells.Error class ps)) low = ap (mapped object_of) (all-same (member_given w way) (member_given w more) n ps (member-same w way more n each) low)
+parts-same w way more n each (Some (cells.Object ps)) low =
+    ap (mapped object_of) (all-same (member_given w way) (member_given w more) n ps (member-same w way more n each) low)
+parts-same w way more n each (Some (cells.Error class ps)) low =
+    ap (mapped object_of) (all-same (member_given w way) (member_given w more) n ps (member-same w way more n each) low)
 parts-same w way more n each (Some (cells.Array vs)) low =
-    ap (mapped list_of) (all-same (element_given w way) (element_given w more) n vs (λ v. λ l. ap (mapped (element_of w v)) (each v l)) low)
+    ap (mapped list_of)
+    (all-same (element_given w way) (element_given w more) n vs (λ v. λ l. ap (mapped (element_of w v)) (each v l))
+    low)
 parts-same w way more n each (Some (cells.Text us)) low = refl
 parts-same w way more n each (Some (cells.Function code name len scope receiver)) low = refl
 parts-same w way more n each (Some (cells.Bindings kind name outer bs)) low = refl
@@ -78,7 +84,9 @@ object-same w zero a low = let never : 1 ≤ 0 = low in absurd (omega (arith, ne
 object-same w (suc n) a low =
     let whole : suc (parts_given w (value_given w n) (read_cell w a)).depth ≤ suc n = low in
     let parts : (parts_given w (value_given w n) (read_cell w a)).depth ≤ n = omega (arith, whole) in
-    ap around (parts-same w (value_given w n) (value_given w (suc n)) n (value-same w n (object-same w n)) (read_cell w a) parts)
+    ap around
+    (parts-same w (value_given w n) (value_given w (suc n)) n (value-same w n (object-same w n)) (read_cell w a)
+    parts)
 
 -- ---- no less deep, where more levels are looked at
 
@@ -87,12 +95,15 @@ all-deeper : {A B : Type 0} (f more : A → Given (List B)) (xs : List A)
     → (all_given f xs).depth ≤ (all_given more xs).depth
 all-deeper f more [] each = le_refl 0
 all-deeper f more (x ∷ xs) each =
-    let first : (f x).depth ≤ max (more x).depth (all_given more xs).depth = omega (arith, each x, le-max_left (more x).depth (all_given more xs).depth) in
-    let others : (all_given f xs).depth ≤ max (more x).depth (all_given more xs).depth = omega (arith, all-deeper f more xs each, le-max_right (more x).depth (all_given more xs).depth) in
+    let first : (f x).depth ≤ max (more x).depth (all_given more xs).depth = omega
+    (arith, each x, le-max_left (more x).depth (all_given more xs).depth) in
+    let others : (all_given f xs).depth ≤ max (more x).depth (all_given more xs).depth = omega
+    (arith, all-deeper f more xs each, le-max_right (more x).depth (all_given more xs).depth) in
     max-le first others
 
 chosen-deeper : (b c : Bool) (key : List ℕ) (g h : Given Json) → g.depth ≤ h.depth
-    → (if b then (if c then left_out else mapped (member_of key) g) else no_parts).depth ≤ (if b then (if c then left_out else mapped (member_of key) h) else no_parts).depth
+    → (if b then (if c then left_out else mapped (member_of key) g) else no_parts).depth ≤
+    (if b then (if c then left_out else mapped (member_of key) h) else no_parts).depth
 chosen-deeper false c key g h deeper = le_refl 0
 chosen-deeper true true key g h deeper = le_refl 0
 chosen-deeper true false key g h deeper = deeper
@@ -101,15 +112,18 @@ member-deeper : (w : World) (way more : Value → Given Json)
     → ((v : Value) → (way v).depth ≤ (more v).depth)
     → (p : Property)
     → (member_given w way p).depth ≤ (member_given w more p).depth
-member-deeper w way more each p = chosen-deeper p.enumerable (is_left_out w p.value) p.key (way p.value) (more p.value) (each p.value)
+member-deeper w way more each p =
+    chosen-deeper p.enumerable (is_left_out w p.value) p.key (way p.value) (more p.value) (each p.value)
 
 parts-deeper : (w : World) (way more : Value → Given Json)
     → ((v : Value) → (way v).depth ≤ (more v).depth)
     → (cell : Option Cell)
     → (parts_given w way cell).depth ≤ (parts_given w more cell).depth
 parts-deeper w way more each None = le_refl 0
-parts-deeper w way more each (Some (cells.Object ps)) = all-deeper (member_given w way) (member_given w more) ps (member-deeper w way more each)
-parts-deeper w way more each (Some (cells.Error class ps)) = all-deeper (member_given w way) (member_given w more) ps (member-deeper w way more each)
+parts-deeper w way more each (Some (cells.Object ps)) =
+    all-deeper (member_given w way) (member_given w more) ps (member-deeper w way more each)
+parts-deeper w way more each (Some (cells.Error class ps)) =
+    all-deeper (member_given w way) (member_given w more) ps (member-deeper w way more each)
 parts-deeper w way more each (Some (cells.Array vs)) = all-deeper (element_given w way) (element_given w more) vs each
 parts-deeper w way more each (Some (cells.Text us)) = le_refl 0
 parts-deeper w way more each (Some (cells.Function code name len scope receiver)) = le_refl 0
@@ -136,7 +150,8 @@ object-deeper : (w : World) (n : ℕ) (a : Addr) → (object_given w n a).depth 
 unfolding object_given
 object-deeper w zero a = suc-more (parts_given w (value_given w zero) (read_cell w a)).depth
 object-deeper w (suc n) a =
-    suc-le (parts-deeper w (value_given w n) (value_given w (suc n)) (value-deeper w n (object-deeper w n)) (read_cell w a))
+    suc-le (parts-deeper w (value_given w n) (value_given w (suc n)) (value-deeper w n (object-deeper w n))
+    (read_cell w a))
 
 -- ---- one level more makes no difference
 
@@ -146,14 +161,17 @@ either-way : (g h : Given Json) (deep met n : ℕ)
     → g.depth ≤ h.depth
     → (n < g.depth) ⊎ (g.depth ≤ n)
     → if_within deep met h ≡ if_within deep met g
-either-way g h deep met n enough same deeper (inl high) = past-one h deep met (inl (omega (arith, enough, deeper, high))) ∙ sym (past-one g deep met (inl (omega (arith, enough, high))))
+either-way g h deep met n enough same deeper (inl high) =
+    past-one h deep met (inl (omega (arith, enough, deeper, high)))
+    ∙ sym (past-one g deep met (inl (omega (arith, enough, high))))
 either-way g h deep met n enough same deeper (inr low) = ap (if_within deep met) (same low)
 
 one-level : (w : World) (deep met n : ℕ) (v : Value)
     → deep ≤ n
     → if_within deep met (value_given w (suc n) v) ≡ if_within deep met (value_given w n v)
 one-level w deep met n v enough =
-    either-way (value_given w n v) (value_given w (suc n) v) deep met n enough (value-same w n (object-same w n) v) (value-deeper w n (object-deeper w n) v) (cases_lt n (value_given w n v).depth)
+    either-way (value_given w n v) (value_given w (suc n) v) deep met n enough (value-same w n (object-same w n) v)
+    (value-deeper w n (object-deeper w n) v) (cases_lt n (value_given w n v).depth)
 
 more-levels : (w : World) (deep met k n : ℕ) (v : Value)
     → n ≡ k + deep
@@ -164,7 +182,8 @@ more-levels w deep met zero n v is =
 more-levels w deep met (suc k) n v is =
     let one : n ≡ suc (k + deep) = omega (arith, is) in
     let enough : deep ≤ k + deep = omega arith in
-    ap (λ m. if_within deep met (value_given w m v)) one ∙ (one-level w deep met (k + deep) v enough ∙ more-levels w deep met k (k + deep) v refl)
+    ap (λ m. if_within deep met (value_given w m v)) one
+    ∙ (one-level w deep met (k + deep) v enough ∙ more-levels w deep met k (k + deep) v refl)
 
 pub ignores-levels : IgnoresLevels
 ignores-levels w n v enough =

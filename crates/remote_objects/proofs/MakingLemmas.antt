@@ -27,14 +27,17 @@ one_more done all j v left a b =
     ∙ ap (λ w. map json_view done ++ w ∷ left) b))
 
 -- one of a list more
-pub goes-on : {Y : Type 0} (f : Y → State → Made json.Json) (ys : List Y) (y : Y) (rest : List Y) (done all : List Json) (j : Json) (h g : State) (whole : Made (List json.Json))
+pub goes-on : {Y : Type 0} (f : Y → State → Made json.Json) (ys : List Y) (y : Y) (rest : List Y) (done all : List Json)
+    (j : Json) (h g : State) (whole : Made (List json.Json))
     → ys ≡ y ∷ rest → all ≡ done ++ j ∷ [] → json_view j ≡ (f y h).made → g ≡ (f y h).handles
     → Goes (map json_view done) (made_all f ys h) whole → Goes (map json_view all) (made_all f rest g) whole
 goes-on {Y} f ys y rest done all j h g whole e a b d inv =
     let P : List Y → Type 0 = λ zs. Goes (map json_view done) (made_all f zs h) whole in
     let here = subst P e inv in
     record {
-      made = one_more done all j (f y h).made (made_all f rest g).made a b ∙ (ap (λ k. map json_view done ++ (f y h).made ∷ (made_all f rest k).made) d ∙ here.made);
+      made =
+          one_more done all j (f y h).made (made_all f rest g).made a b
+          ∙ (ap (λ k. map json_view done ++ (f y h).made ∷ (made_all f rest k).made) d ∙ here.made);
       handles = ap (λ k. (made_all f rest k).handles) d ∙ here.handles;
     }
 

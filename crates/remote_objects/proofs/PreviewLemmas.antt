@@ -22,7 +22,10 @@ listed_as js more = record { first = js; more = more }
 
 enumerable-here : (f : Entry → json.Json) (ps : List Property) (i : ℕ) (p : Property) → Some p ≡ slice_get ps i
     → map f (enumerable (drop i ps)) ≡ map f (entry_if p) ++ map f (enumerable (drop (i + 1) ps))
-enumerable-here f ps i p e = rw add-one (ap (λ xs. map f (enumerable xs)) (got-here ps i p e) ∙ map-append f (entry_if p) (enumerable (drop (suc i) ps)))
+enumerable-here f ps i p e =
+    rw add-one
+    (ap (λ xs. map f (enumerable xs)) (got-here ps i p e)
+    ∙ map-append f (entry_if p) (enumerable (drop (suc i) ps)))
 
 few-more : (b : Bool) (f : Entry → json.Json) (p : Property) (done : List json.Json)
     → p.enumerable ≡ b
@@ -32,13 +35,17 @@ few-more : (b : Bool) (f : Entry → json.Json) (p : Property) (done : List json
 few-more true f p done is test few =
     let other : nat_eq (length done) 5 ≡ false = sym (ap (λ b. b && nat_eq (length done) 5) is) ∙ test in
     let less : length done ≢ 5 = eqb-false (length done) 5 other in
-    let put : map f (entry_if p) ≡ f (entry p.key p.value) ∷ [] = ap (λ b. map f (if b then entry p.key p.value ∷ [] else [])) is in
-    let size : length (done ++ map f (entry_if p)) ≡ length (done ++ f (entry p.key p.value) ∷ []) = ap (λ js. length (done ++ js)) put in
-    let more : length (done ++ f (entry p.key p.value) ∷ []) ≡ length done + 1 = length-append done (f (entry p.key p.value) ∷ []) in
+    let put : map f (entry_if p) ≡ f (entry p.key p.value) ∷ [] = ap
+    (λ b. map f (if b then entry p.key p.value ∷ [] else [])) is in
+    let size : length (done ++ map f (entry_if p)) ≡ length (done ++ f (entry p.key p.value) ∷ []) = ap
+    (λ js. length (done ++ js)) put in
+    let more : length (done ++ f (entry p.key p.value) ∷ []) ≡ length done + 1 = length-append done
+    (f (entry p.key p.value) ∷ []) in
     omega (arith, less, size, more)
 few-more false f p done is test few =
     let put : map f (entry_if p) ≡ [] = ap (λ b. map f (if b then entry p.key p.value ∷ [] else [])) is in
-    let size : length (done ++ map f (entry_if p)) ≡ length done = ap (λ js. length (done ++ js)) put ∙ ap length (append-nil done) in
+    let size : length (done ++ map f (entry_if p)) ≡ length done = ap (λ js. length (done ++ js)) put
+    ∙ ap length (append-nil done) in
     omega (arith, few, size)
 
 -- one property more, listed where it is enumerable
@@ -64,7 +71,8 @@ lists-full f ps i p done all e test inv =
     enumerable-here f ps i p e ∙ ap (λ b. map f (if b then entry p.key p.value ∷ [] else []) ++ rest) facts.0 in
     let whole : done ++ f (entry p.key p.value) ∷ rest ≡ all = ap (λ js. done ++ js) (sym here) ∙ inv.whole in
     let firsts : take 5 all ≡ done = ap (take 5) (sym whole) ∙ take_at done (f (entry p.key p.value) ∷ rest) 5 five in
-    let more : 5 < length all = omega (arith, five, ap length whole, length-append done (f (entry p.key p.value) ∷ rest)) in
+    let more : 5 < length all = omega
+    (arith, five, ap length whole, length-append done (f (entry p.key p.value) ∷ rest)) in
     ap₂ listed_as (sym firsts) (sym (lt-ltb 5 (length all) more))
 
 -- nothing is left
@@ -96,6 +104,7 @@ pub first-values : (n : ℕ) (f : Entry → json.Json) (vs short : List Value) (
     → listed_as done (nat_lt n (length vs)) ≡ first_of n (map f (indexed 0 vs))
 first-values n f vs short done cut made =
     let firsts : done ≡ take n (map f (indexed 0 vs)) =
-    made ∙ (ap (λ xs. map f (indexed 0 xs)) cut ∙ (ap (map f) (take-indexed n 0 vs) ∙ sym (take-map f n (indexed 0 vs)))) in
+    made
+    ∙ (ap (λ xs. map f (indexed 0 xs)) cut ∙ (ap (map f) (take-indexed n 0 vs) ∙ sym (take-map f n (indexed 0 vs)))) in
     let count : length vs ≡ length (map f (indexed 0 vs)) = sym (length-map (indexed 0 vs) f ∙ length-indexed 0 vs) in
     ap₂ listed_as firsts (ap (nat_lt n) count)

@@ -36,11 +36,18 @@ name_pairs (u ∷ us) = (codes "name", text (u ∷ us)) ∷ []
 
 -- a scope with what its names are described as
 abbrev pub scope_of : ShownScope → Json → Json
-scope_of s described = object_of (name_pairs s.name ++ (codes "object", described) ∷ (codes "type", text (kind_text s.kind)) ∷ [])
+scope_of s described =
+    object_of (name_pairs s.name ++ (codes "object", described) ∷ (codes "type", text (kind_text s.kind)) ∷ [])
 
 -- a scope with a handle on its names
 abbrev pub scope_made : Sight → ShownScope → handles.State → Made Json
-scope_made s scope h = record { made = scope_of scope (remote_scope s.session (Some backtrace) scope.bindings h).made; handles = (remote_scope s.session (Some backtrace) scope.bindings h).handles }
+scope_made s scope h =
+    record {
+      made = scope_of scope
+          (remote_scope s.session (Some backtrace) scope.bindings h).made;
+      handles = (remote_scope s.session
+          (Some backtrace) scope.bindings h).handles;
+    }
 
 -- scopes, in order
 abbrev pub scopes_made : Sight → List ShownScope → handles.State → Made (List Json)
@@ -84,7 +91,9 @@ frame_made s stop depth f h = record {
 abbrev pub frames_from : Sight → ℕ → ℕ → List ShownFrame → handles.State → Made (List Json)
 frames_from s stop depth [] h = record { made = []; handles = h }
 frames_from s stop depth (f ∷ fs) h = record {
-  made = (frame_made s stop depth f h).made ∷ (frames_from s stop (depth + 1) fs (frame_made s stop depth f h).handles).made;
+  made =
+      (frame_made s stop depth f h).made ∷
+      (frames_from s stop (depth + 1) fs (frame_made s stop depth f h).handles).made;
   handles = (frames_from s stop (depth + 1) fs (frame_made s stop depth f h).handles).handles;
 }
 

@@ -35,15 +35,25 @@ pub record Slot : Type 0 where
 
 -- a property of an object, with its flags
 abbrev pub property_slot : Property → Slot
-property_slot p = record { name = p.key; content = a_value p.value; writable = p.writable; enumerable = p.enumerable; configurable = p.configurable }
+property_slot p =
+    record { name = p.key; content = a_value p.value; writable = p.writable; enumerable = p.enumerable; configurable = p.configurable }
 
 -- the length of an array, which can be written alone
 abbrev pub array_length : ℕ → Slot
-array_length n = record { name = codes "length"; content = a_value (values.Number (pos n)); writable = true; enumerable = false; configurable = false }
+array_length n =
+    record {
+      name = codes "length";
+      content = a_value
+          (values.Number (pos n));
+      writable = true;
+      enumerable = false;
+      configurable = false;
+    }
 
 -- an element of an array, which can be changed in every way
 abbrev pub element_slot : ℕ → Value → Slot
-element_slot i v = record { name = decimal i; content = a_value v; writable = true; enumerable = true; configurable = true }
+element_slot i v =
+    record { name = decimal i; content = a_value v; writable = true; enumerable = true; configurable = true }
 
 -- the elements of an array from an index on, then its length
 abbrev pub elements_from : ℕ → List Value → List Slot
@@ -52,11 +62,13 @@ elements_from i (v ∷ vs) = element_slot i v ∷ elements_from (i + 1) vs
 
 -- the length and the name of a function, which can be configured alone
 abbrev pub fixed_slot : List ℕ → Content → Slot
-fixed_slot name content = record { name = name; content = content; writable = false; enumerable = false; configurable = true }
+fixed_slot name content =
+    record { name = name; content = content; writable = false; enumerable = false; configurable = true }
 
 -- those of a function of this length and name
 abbrev pub function_slots : ℕ → List ℕ → List Slot
-function_slots len name = fixed_slot (codes "length") (a_value (values.Number (pos len))) ∷ fixed_slot (codes "name") (a_text name) ∷ []
+function_slots len name =
+    fixed_slot (codes "length") (a_value (values.Number (pos len))) ∷ fixed_slot (codes "name") (a_text name) ∷ []
 
 -- what isn't an object has none
 abbrev pub object_slots : Option Cell → List Slot
@@ -71,7 +83,8 @@ object_slots cell = []
 -- a name that has a value; a constant one can't be written
 abbrev pub binding_slots : List ℕ → Bool → Option Value → List Slot
 binding_slots name constant None = []
-binding_slots name constant (Some v) = record { name = name; content = a_value v; writable = not constant; enumerable = true; configurable = true } ∷ []
+binding_slots name constant (Some v) =
+    record { name = name; content = a_value v; writable = not constant; enumerable = true; configurable = true } ∷ []
 
 -- names, in order
 abbrev pub names_slots : List Binding → List Slot
@@ -107,7 +120,12 @@ descriptor_of p value = object_of (
 
 -- a property, described
 abbrev pub descriptor : Sight → Detail → Option (List ℕ) → Slot → handles.State → Made Json
-descriptor s detail group p h = record { made = descriptor_of p (content_made s detail group p.content h).made; handles = (content_made s detail group p.content h).handles }
+descriptor s detail group p h =
+    record {
+      made = descriptor_of p
+          (content_made s detail group p.content h).made;
+      handles = (content_made s detail group p.content h).handles;
+    }
 
 -- the properties of a target, in order, with or without previews of their values; new handles are in this group or in none
 abbrev pub descriptors_with : Sight → Detail → Option (List ℕ) → Target → handles.State → Made (List Json)

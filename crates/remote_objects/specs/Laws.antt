@@ -32,7 +32,9 @@ AreDescriptors (p ∷ ps) (j ∷ js) = ((value : Json) × (j ≡ descriptor_of p
 
 -- each property of a target is described once, in order
 abbrev pub DescribesEach : Type 0
-DescribesEach = (s : Sight) (detail : Detail) (group : Option (List ℕ)) (target : Target) (h : State) → AreDescriptors (slots_of s.world target) (descriptors_with s detail group target h).made
+DescribesEach =
+    (s : Sight) (detail : Detail) (group : Option (List ℕ)) (target : Target) (h : State)
+    → AreDescriptors (slots_of s.world target) (descriptors_with s detail group target h).made
 
 -- those of an object have its own keys, in order
 abbrev pub NamesAreKeys : Type 0
@@ -47,12 +49,15 @@ ArePreviews w (k ∷ ks) (j ∷ js) = ((value : Value) × (j ≡ property_previe
 
 -- a preview lists the first of the keys that `Object.keys` gives (ECMA-262, 20.1.2.18)
 abbrev pub ListsFirstKeys : Type 0
-ListsFirstKeys = (w : World) (cell : Option Cell) → ArePreviews w (take (most_listed cell) (keys_of_cell cell)) (listed w cell).first
+ListsFirstKeys =
+    (w : World) (cell : Option Cell) → ArePreviews w (take (most_listed cell) (keys_of_cell cell)) (listed w cell).first
 
 -- it says that there are more where `Object.keys` gives more
 abbrev pub SaysWhetherMore : Type 0
-SaysWhetherMore = (w : World) (cell : Option Cell) → (listed w cell).more ≡ nat_lt (most_listed cell) (length (keys_of_cell cell))
+SaysWhetherMore =
+    (w : World) (cell : Option Cell) → (listed w cell).more ≡ nat_lt (most_listed cell) (length (keys_of_cell cell))
 
 -- a value by value is the same however many more levels are looked at
 abbrev pub IgnoresLevels : Type 0
-IgnoresLevels = (w : World) (n : ℕ) (v : Value) → most_deep ≤ n → if_within most_deep most_met (value_given w n v) ≡ by_value w v
+IgnoresLevels =
+    (w : World) (n : ℕ) (v : Value) → most_deep ≤ n → if_within most_deep most_met (value_given w n v) ≡ by_value w v

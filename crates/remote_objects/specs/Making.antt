@@ -35,4 +35,9 @@ id_pairs session (Some n) = (codes "objectId", text (object_id session n)) ∷ [
 -- each of a list in turn
 abbrev pub made_all : {A B : Type 0} → (A → handles.State → Made B) → List A → handles.State → Made (List B)
 made_all f [] h = record { made = []; handles = h }
-made_all f (x ∷ xs) h = record { made = (f x h).made ∷ (made_all f xs (f x h).handles).made; handles = (made_all f xs (f x h).handles).handles }
+made_all f (x ∷ xs) h =
+    record {
+      made = (f x h).made ∷
+          (made_all f xs (f x h).handles).made;
+      handles = (made_all f xs (f x h).handles).handles;
+    }

@@ -18,11 +18,17 @@ use Rattle.remote_objects.specs.Making.{Made, handle_on, id_pairs}
 
 -- these members with the id of a handle on a target
 abbrev pub with_handle_on : ℕ → Option (List ℕ) → Target → List Pair → handles.State → Made Json
-with_handle_on session group target pairs h = record { made = object_of (pairs ++ id_pairs session (handle_on target group h).made); handles = (handle_on target group h).handles }
+with_handle_on session group target pairs h =
+    record {
+      made = object_of
+          (pairs ++ id_pairs session (handle_on target group h).made);
+      handles = (handle_on target group h).handles;
+    }
 
 -- a value; its handle, if it is an object, is in this group or in none
 abbrev pub remote : Sight → Option (List ℕ) → Value → handles.State → Made Json
-remote s group (values.Object a) h = with_handle_on s.session group (targets.Object a) (value_pairs s (values.Object a)) h
+remote s group (values.Object a) h =
+    with_handle_on s.session group (targets.Object a) (value_pairs s (values.Object a)) h
 remote s group v h = record { made = object_of (value_pairs s v); handles = h }
 
 -- a scope, as an object of its names
@@ -34,7 +40,10 @@ remote_scope session group a h = with_handle_on session group (targets.Scope a) 
 -- an object with its handle and its preview, which makes none
 abbrev pub previewed_object : Sight → Option (List ℕ) → Addr → handles.State → Made Json
 previewed_object s group a h = record {
-  made = object_of (cell_pairs s (read_cell s.world a) ++ id_pairs s.session (handle_on (targets.Object a) group h).made ++ preview_pairs s.world (read_cell s.world a));
+  made =
+      object_of
+      (cell_pairs s (read_cell s.world a) ++ id_pairs s.session
+      (handle_on (targets.Object a) group h).made ++ preview_pairs s.world (read_cell s.world a));
   handles = (handle_on (targets.Object a) group h).handles;
 }
 

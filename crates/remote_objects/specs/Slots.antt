@@ -9,7 +9,8 @@ use Rattle.remote_objects.specs.Descriptors.{Content, a_value, a_text, Slot, des
 
 -- a property of this name and content with its flags
 abbrev pub slot_with : List ℕ → Content → Flags → Slot
-slot_with name content flags = record { name = name; content = content; writable = flags.writable; enumerable = flags.enumerable; configurable = flags.configurable }
+slot_with name content flags =
+    record { name = name; content = content; writable = flags.writable; enumerable = flags.enumerable; configurable = flags.configurable }
 
 -- what a property is described as, whatever it holds is described as
 abbrev pub described : List ℕ → Flags → Json → Json
@@ -25,7 +26,8 @@ text_slot name units flags = slot_with name (a_text units) flags
 
 -- a name of a scope that has a value
 abbrev pub bound_slot : List ℕ → Bool → Value → Slot
-bound_slot name constant value = record { name = name; content = a_value value; writable = not constant; enumerable = true; configurable = true }
+bound_slot name constant value =
+    record { name = name; content = a_value value; writable = not constant; enumerable = true; configurable = true }
 
 -- those of a name whose text a table has
 abbrev pub slots_at : List (List ℕ) → StoredSlot → List Slot

@@ -41,7 +41,8 @@ array_text n = codes "Array(" ++ (decimal n ++ codes ")")
 
 -- an object: its class, what is shown of it, and a subtype where it has one
 abbrev pub object_pairs : List ℕ → List ℕ → List Pair → List ℕ → List Pair
-object_pairs class shown subtype type = (codes "className", text class) ∷ (codes "description", text shown) ∷ subtype ++ (codes "type", text type) ∷ []
+object_pairs class shown subtype type =
+    (codes "className", text class) ∷ (codes "description", text shown) ∷ subtype ++ (codes "type", text type) ∷ []
 
 -- the member that names a subtype
 abbrev pub subtyped : List ℕ → List Pair
@@ -53,9 +54,13 @@ plain_pairs = object_pairs (codes "Object") (codes "Object") [] (codes "object")
 
 -- a cell as an object
 abbrev pub cell_pairs : Sight → Option Cell → List Pair
-cell_pairs s (Some (cells.Error class ps)) = object_pairs (class_text class) (cell_text s.world (Some (cells.Error class ps))) (subtyped (codes "error")) (codes "object")
-cell_pairs s (Some (cells.Array vs)) = object_pairs (codes "Array") (array_text (length vs)) (subtyped (codes "array")) (codes "object")
-cell_pairs s (Some (cells.Function code name len scope receiver)) = object_pairs (codes "Function") (function_text s code name) [] (codes "function")
+cell_pairs s (Some (cells.Error class ps)) =
+    object_pairs (class_text class) (cell_text s.world (Some (cells.Error class ps))) (subtyped (codes "error"))
+    (codes "object")
+cell_pairs s (Some (cells.Array vs)) =
+    object_pairs (codes "Array") (array_text (length vs)) (subtyped (codes "array")) (codes "object")
+cell_pairs s (Some (cells.Function code name len scope receiver)) =
+    object_pairs (codes "Function") (function_text s code name) [] (codes "function")
 cell_pairs s cell = plain_pairs
 
 -- ---- primitive values
@@ -78,7 +83,9 @@ truth_pairs b = (codes "type", text (codes "boolean")) ∷ (codes "value", boole
 
 -- a number, with its decimal text
 abbrev pub number_pairs : ℤ → List Pair
-number_pairs z = (codes "description", text (signed_decimal z)) ∷ (codes "type", text (codes "number")) ∷ (codes "value", number z) ∷ []
+number_pairs z =
+    (codes "description", text (signed_decimal z)) ∷ (codes "type", text (codes "number")) ∷ (codes "value", number z)
+    ∷ []
 
 -- a value; what is said of an object is behind its address
 abbrev pub value_pairs : Sight → Value → List Pair

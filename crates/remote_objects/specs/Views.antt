@@ -19,11 +19,13 @@ sight_of node_text w scripts session = record { world = w; node_text = node_text
 -- the members that say which frame it is, and where it stands
 abbrev pub frame_front : ℕ → ℕ → ℕ → ShownFrame → List Pair
 frame_front session stop depth f =
-    ((codes "callFrameId", text (frame_id session stop depth)) ∷ function_pairs f.function_place) ++ ((codes "functionName", text f.name) ∷ (codes "location", location f.place) ∷ [])
+    ((codes "callFrameId", text (frame_id session stop depth)) ∷ function_pairs f.function_place) ++
+    ((codes "functionName", text f.name) ∷ (codes "location", location f.place) ∷ [])
 
 -- those of its scopes, its `this` and its URL
 abbrev pub frame_back : List Json → Json → List ℕ → List Pair
-frame_back scopes receiver url = (codes "scopeChain", list_of scopes) ∷ (codes "this", receiver) ∷ (codes "url", text url) ∷ []
+frame_back scopes receiver url =
+    (codes "scopeChain", list_of scopes) ∷ (codes "this", receiver) ∷ (codes "url", text url) ∷ []
 
 -- what a preview lists
 abbrev pub listed_view : Listed → previews.Listed

@@ -21,10 +21,12 @@ line_first : (text front back : List ℕ)
     → text ≡ front ++ 10 ∷ back
     → ((i : ℕ) → i < length front → get_or front i 0 ≢ 10)
     → input_of text ≡ utf16_of front ∷ input_of back
-line_first text front back is h = ap input_of is ∙ ap (λ ls. map utf16_of ls) (lines_of-line front back (one_line front h))
+line_first text front back is h =
+    ap input_of is ∙ ap (λ ls. map utf16_of ls) (lines_of-line front back (one_line front h))
 
 -- a line that is cut off makes the lines so far longer
-pub line_next : (now : List (List ℕ)) (text front back : List ℕ) (new : List (List ℕ)) (u : List ℕ) (all : List (List ℕ))
+pub line_next : (now : List (List ℕ)) (text front back : List ℕ) (new : List (List ℕ)) (u : List ℕ)
+    (all : List (List ℕ))
     → text ≡ front ++ 10 ∷ back
     → ((i : ℕ) → i < length front → get_or front i 0 ≢ 10)
     → new ≡ now ++ u ∷ [] → u ≡ utf16_of front → now ++ input_of text ≡ all → new ++ input_of back ≡ all
@@ -44,10 +46,12 @@ line_last (byte ∷ text) h some = ap (λ ls. map utf16_of ls) (lines_of-last by
 
 is_nothing : (text : List ℕ) → (length text == 0) ≡ true → text ≡ []
 is_nothing [] e = refl
-is_nothing (byte ∷ text) e = let z : length (byte ∷ text) ≡ 0 = eqb-true (length (byte ∷ text)) 0 e in absurd (omega (arith, z))
+is_nothing (byte ∷ text) e =
+    let z : length (byte ∷ text) ≡ 0 = eqb-true (length (byte ∷ text)) 0 e in absurd (omega (arith, z))
 
 -- the line behind the last LF, if there is one
-pub line_behind : (now : List (List ℕ)) (text : List ℕ) (new : List (List ℕ)) (u : List ℕ) (all : List (List ℕ)) (empty : Bool)
+pub line_behind : (now : List (List ℕ)) (text : List ℕ) (new : List (List ℕ)) (u : List ℕ) (all : List (List ℕ))
+    (empty : Bool)
     → ((i : ℕ) → i < length text → get_or text i 0 ≢ 10)
     → empty ≡ (length text == 0)
     → empty ≡ false
@@ -81,7 +85,8 @@ pub told_no_text : (told : Option (List Named)) (bytes : Vec ℕ Global) (name t
     → ¬ (IsUtf8 text)
     → Told told (λ files. HoldsNoText files name refusals.NotUtf8)
 told_no_text None bytes name text h e isnt = tt
-told_no_text (Some files) bytes name text h e isnt = record { bytes = bytes.items; there = h; utf8 = ap is_utf8 (sym e) ∙ no_utf8 text isnt; told = refl }
+told_no_text (Some files) bytes name text h e isnt =
+    record { bytes = bytes.items; there = h; utf8 = ap is_utf8 (sym e) ∙ no_utf8 text isnt; told = refl }
 
 pub told_input : (told : Option (List Named)) (bytes : Vec ℕ Global) (name text given : List ℕ) (lines : List (List ℕ))
     → Told told (λ all. Tells (Ok bytes) name all)
@@ -91,4 +96,12 @@ pub told_input : (told : Option (List Named)) (bytes : Vec ℕ Global) (name tex
     → lines ≡ input_of given
     → Told told (λ files. HoldsInput files name lines)
 told_input None bytes name text given lines h e f u is = tt
-told_input (Some files) bytes name text given lines h e f u is = record { bytes = bytes.items; there = h; utf8 = ap is_utf8 (sym e) ∙ is_utf8-from_IsUtf8 text u; are = is ∙ ap input_of (f ∙ e) }
+told_input (Some files) bytes name text given lines h e f u is =
+    record {
+      bytes = bytes.items;
+      there = h;
+      utf8 = ap is_utf8 (sym e)
+          ∙ is_utf8-from_IsUtf8 text u;
+      are = is
+          ∙ ap input_of (f ∙ e);
+    }

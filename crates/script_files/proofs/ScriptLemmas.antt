@@ -50,7 +50,8 @@ pub stands_within : (declared source : _) (f : ParseFault)
     → StandsWithin source f
 stands_within declared source (parse.TooLong units) h = tt
 stands_within declared source (parse.Token at) h = (omega (arith, bad_within source at h.1.0), omega (arith, h.0))
-stands_within declared source (parse.Syntax at) h = (at_place source at h.1.0.before h.1.0.left h.1.0.parts h.1.0.place, omega (arith, h.0))
+stands_within declared source (parse.Syntax at) h =
+    (at_place source at h.1.0.before h.1.0.left h.1.0.parts h.1.0.place, omega (arith, h.0))
 stands_within declared source (parse.TooMany at) h = tt
 stands_within declared source parse.TooDeep h = tt
 stands_within declared source parse.Memory h = tt
@@ -75,7 +76,9 @@ script_is declared before name bytes text units slice n s t u f e number tree ke
       number = kept.2 ∙ number;
       url = kept.1;
       source = kept.0 ∙ same;
-      tree = subst (λ (us : List ℕ). IsSource (IsScript declared) height_of_statements us (statements_view s.body)) same tree;
+      tree =
+          subst (λ (us : List ℕ). IsSource (IsScript declared) height_of_statements us (statements_view s.body))
+          same tree;
       spans = subst (λ (us : List ℕ). AreSpansIn us s.spans (statements_places s.body)) same spans;
       numbered = numbered;
     }
@@ -85,7 +88,8 @@ pub within_other : (declared : List (List ℕ)) (units slice other : List ℕ) (
     → other ≡ units
     → Caused (IsScript declared) height_of_statements slice f
     → StandsWithin other f
-within_other declared units slice other f e g h = subst (λ (us : List ℕ). StandsWithin us f) (e ∙ sym g) (stands_within declared slice f h)
+within_other declared units slice other f e g h =
+    subst (λ (us : List ℕ). StandsWithin us f) (e ∙ sym g) (stands_within declared slice f h)
 
 told_as_fault : (declared : List (List ℕ)) (bytes : List ℕ) (f : ParseFault) (o : Option Refusal)
     → is_utf8 bytes ≡ true
@@ -110,7 +114,8 @@ fault_is declared bytes text units slice other f fault t u form e g caused first
     let there : other ≡ utf16_of bytes = g ∙ form ∙ ap utf16_of t in
     let h : IsFaultOf declared slice f = record { caused = caused; first = first } in
     let here : IsFaultOf declared (utf16_of bytes) f = subst (λ (us : List ℕ). IsFaultOf declared us f) same h in
-    let now : FailsAs (fault_told (refusal_of other f)) declared bytes = told_as_fault declared bytes f (refusal_of other f) (is_utf8-from_IsUtf8 bytes u) here (ap (λ us. refusal_of us f) (sym there)) in
+    let now : FailsAs (fault_told (refusal_of other f)) declared bytes = told_as_fault declared bytes f
+    (refusal_of other f) (is_utf8-from_IsUtf8 bytes u) here (ap (λ us. refusal_of us f) (sym there)) in
     subst (λ (x : FileFault). FailsAs x declared bytes) (sym is) now
 
 pub not_text : (declared : List (List ℕ)) (bytes : List ℕ)
@@ -123,17 +128,24 @@ not_text declared bytes h = inl (no_utf8 bytes h, refl)
 pub declared_more : (ss : List Script) (s : Script)
     → declared_in (ss ++ s ∷ []) ≡ declared_in ss ++ declared_by_script s
 declared_more [] s = append-nil (declared_by_script s)
-declared_more (x ∷ ss) s = ap (λ ns. declared_by_script x ++ ns) (declared_more ss s) ∙ sym (append_assoc (declared_by_script x) (declared_in ss) (declared_by_script s))
+declared_more (x ∷ ss) s =
+    ap (λ ns. declared_by_script x ++ ns) (declared_more ss s)
+    ∙ sym (append_assoc (declared_by_script x) (declared_in ss) (declared_by_script s))
 
-are_more : (files : List Named) (earlier : List Script) (names : List (List ℕ)) (ss : List Script) (name : List ℕ) (s : Script)
+are_more : (files : List Named) (earlier : List Script) (names : List (List ℕ)) (ss : List Script) (name : List ℕ)
+    (s : Script)
     → AreScriptsBehind files earlier names ss
     → HoldsScript files (earlier ++ ss) name s
     → AreScriptsBehind files earlier (names ++ name ∷ []) (ss ++ s ∷ [])
-are_more files earlier [] [] name s h n = (subst (λ (e : List Script). HoldsScript files e name s) (append-nil earlier) n, tt)
+are_more files earlier [] [] name s h n =
+    (subst (λ (e : List Script). HoldsScript files e name s) (append-nil earlier) n, tt)
 are_more files earlier [] (x ∷ ss) name s h n = absurd h
 are_more files earlier (m ∷ names) [] name s h n = absurd h
-are_more files earlier (m ∷ names) (x ∷ ss) name s h n =
-    (h.0, are_more files (earlier ++ x ∷ []) names ss name s h.1 (subst (λ (e : List Script). HoldsScript files e name s) (sym (append_assoc earlier (x ∷ []) ss)) n))
+are_more files earlier (m ∷ names) (x ∷ ss) name s h n = (
+  h.0,
+  are_more files (earlier ++ x ∷ []) names ss name s h.1
+      (subst (λ (e : List Script). HoldsScript files e name s) (sym (append_assoc earlier (x ∷ []) ss)) n),
+)
 
 -- ---- none is refused
 
@@ -142,10 +154,14 @@ not_told : (d : List (List ℕ)) (source : List ℕ) (body : Statements) (f : Pa
     → Caused (IsScript d) height_of_statements source f
     → refusal_of source f ≡ Some r
     → ⊥
-not_told d source body (parse.TooLong units) r h c t = no_tree (IsScript d) height_of_statements source (parse.TooLong units) tt c body h.0
-not_told d source body (parse.Token at) r h c t = no_tree (IsScript d) height_of_statements source (parse.Token at) tt c body h.0
-not_told d source body (parse.Syntax at) r h c t = no_tree (IsScript d) height_of_statements source (parse.Syntax at) tt c body h.0
-not_told d source body (parse.TooMany at) r h c t = no_tree (IsScript d) height_of_statements source (parse.TooMany at) tt c body h.0
+not_told d source body (parse.TooLong units) r h c t =
+    no_tree (IsScript d) height_of_statements source (parse.TooLong units) tt c body h.0
+not_told d source body (parse.Token at) r h c t =
+    no_tree (IsScript d) height_of_statements source (parse.Token at) tt c body h.0
+not_told d source body (parse.Syntax at) r h c t =
+    no_tree (IsScript d) height_of_statements source (parse.Syntax at) tt c body h.0
+not_told d source body (parse.TooMany at) r h c t =
+    no_tree (IsScript d) height_of_statements source (parse.TooMany at) tt c body h.0
 not_told d source body parse.TooDeep r h (inl deep) t =
     let e : body ≡ deep.0 = one_script d (tokens_of source) body deep.0 h.0.is deep.1.0.is in
     omega (arith, h.1, deep.1.1, ap height_of_statements e)
@@ -160,8 +176,10 @@ script_stands : (d : List (List ℕ)) (before : ℕ) (name bytes : List ℕ) (s 
     → IsScriptOf d before name bytes s
     → IsRefused d bytes r
     → ⊥
-script_stands d before name bytes s r h (inl i) = let t : is_utf8 bytes ≡ true = h.utf8 in let f : is_utf8 bytes ≡ false = i.0 in absurd cc
-script_stands d before name bytes s r h (inr i) = not_told d (utf16_of bytes) (statements_view s.body) i.1.0 r h.tree i.1.1.fault.caused i.1.1.told
+script_stands d before name bytes s r h (inl i) =
+    let t : is_utf8 bytes ≡ true = h.utf8 in let f : is_utf8 bytes ≡ false = i.0 in absurd cc
+script_stands d before name bytes s r h (inr i) =
+    not_told d (utf16_of bytes) (statements_view s.body) i.1.0 r h.tree i.1.1.fault.caused i.1.1.told
 
 -- two readings of one file give one tree
 same_tree : (d e : List (List ℕ)) (a b : ℕ) (name bytes others : List ℕ) (s t : Script)
@@ -171,8 +189,10 @@ same_tree : (d e : List (List ℕ)) (a b : ℕ) (name bytes others : List ℕ) (
     → IsScriptOf e b name others t
     → statements_view s.body ≡ statements_view t.body
 same_tree d e a b name bytes others s t p q h i =
-    let here : IsScript e (tokens_of (utf16_of bytes)) (statements_view t.body) = subst (λ (bs : List ℕ). IsScript e (tokens_of (utf16_of bs)) (statements_view t.body)) (sym q) i.tree.0.is in
-    let now : IsScript d (tokens_of (utf16_of bytes)) (statements_view t.body) = subst (λ (ns : List (List ℕ)). IsScript ns (tokens_of (utf16_of bytes)) (statements_view t.body)) (sym p) here in
+    let here : IsScript e (tokens_of (utf16_of bytes)) (statements_view t.body) = subst
+    (λ (bs : List ℕ). IsScript e (tokens_of (utf16_of bs)) (statements_view t.body)) (sym q) i.tree.0.is in
+    let now : IsScript d (tokens_of (utf16_of bytes)) (statements_view t.body) = subst
+    (λ (ns : List (List ℕ)). IsScript ns (tokens_of (utf16_of bytes)) (statements_view t.body)) (sym p) here in
     one_script d (tokens_of (utf16_of bytes)) (statements_view s.body) (statements_view t.body) h.tree.0.is now
 
 declared_after : (a b : List Script) (s t : Script)
@@ -180,12 +200,16 @@ declared_after : (a b : List Script) (s t : Script)
     → statements_view s.body ≡ statements_view t.body
     → declared_in (a ++ s ∷ []) ≡ declared_in (b ++ t ∷ [])
 declared_after a b s t p q =
-    declared_more a s ∙ ap (λ ns. ns ++ declared_names (statements_view s.body)) p ∙ ap (λ v. declared_in b ++ declared_names v) q ∙ sym (declared_more b t)
+    declared_more a s
+    ∙ ap (λ ns. ns ++ declared_names (statements_view s.body)) p
+    ∙ ap (λ v. declared_in b ++ declared_names v) q
+    ∙ sym (declared_more b t)
 
 pub some_same : (o : Option (List ℕ)) (x y : List ℕ) → o ≡ Some x → o ≡ Some y → x ≡ y
 some_same o x y p q = cc
 
-excluded : (files : List Named) (a b : List Script) (before : List (List ℕ)) (name : List ℕ) (behind : List (List ℕ)) (ss us : List Script) (r : Refusal)
+excluded : (files : List Named) (a b : List Script) (before : List (List ℕ)) (name : List ℕ) (behind : List (List ℕ))
+    (ss us : List Script) (r : Refusal)
     → declared_in a ≡ declared_in b
     → AreScriptsBehind files a (before ++ name ∷ behind) ss
     → AreScriptsBehind files b before us
@@ -195,14 +219,17 @@ excluded files a b [] name behind [] us r p h j next = absurd h
 excluded files a b [] name behind (s ∷ ss) (u ∷ us) r p h j next = absurd j
 excluded files a b [] name behind (s ∷ ss) [] r p h j next =
     let same : h.0.bytes ≡ next.bytes = some_same (content_of name files) h.0.bytes next.bytes h.0.there next.there in
-    let here : IsRefused (declared_in (b ++ [])) h.0.bytes r = subst (λ (bs : List ℕ). IsRefused (declared_in (b ++ [])) bs r) (sym same) next.refused in
-    let now : IsRefused (declared_in a) h.0.bytes r = subst (λ (ns : List (List ℕ)). IsRefused ns h.0.bytes r) (ap declared_in (append-nil b) ∙ sym p) here in
+    let here : IsRefused (declared_in (b ++ [])) h.0.bytes r = subst
+    (λ (bs : List ℕ). IsRefused (declared_in (b ++ [])) bs r) (sym same) next.refused in
+    let now : IsRefused (declared_in a) h.0.bytes r = subst (λ (ns : List (List ℕ)). IsRefused ns h.0.bytes r)
+    (ap declared_in (append-nil b) ∙ sym p) here in
     script_stands (declared_in a) (length a) name h.0.bytes s r h.0.script now
 excluded files a b (n ∷ before) name behind [] us r p h j next = absurd h
 excluded files a b (n ∷ before) name behind (s ∷ ss) [] r p h j next = absurd j
 excluded files a b (n ∷ before) name behind (s ∷ ss) (u ∷ us) r p h j next =
     let same : h.0.bytes ≡ j.0.bytes = some_same (content_of n files) h.0.bytes j.0.bytes h.0.there j.0.there in
-    let tree = same_tree (declared_in a) (declared_in b) (length a) (length b) n h.0.bytes j.0.bytes s u p same h.0.script j.0.script in
+    let tree = same_tree (declared_in a) (declared_in b) (length a) (length b)
+    n h.0.bytes j.0.bytes s u p same h.0.script j.0.script in
     excluded files (a ++ s ∷ []) (b ++ u ∷ []) before name behind ss us r (declared_after a b s u p tree) h.1 j.1
     (subst (λ (e : List Script). IsRefusedNext files e name r) (sym (append_assoc b (u ∷ []) us)) next)
 
@@ -217,7 +244,8 @@ none_refused files names ss name r h i =
 
 -- ---- what a shelf tells
 
-pub told_script : (told : Option (List Named)) (bytes : Vec ℕ Global) (name text : List ℕ) (declared : List (List ℕ)) (earlier : List Script) (s : Script)
+pub told_script : (told : Option (List Named)) (bytes : Vec ℕ Global) (name text : List ℕ) (declared : List (List ℕ))
+    (earlier : List Script) (s : Script)
     → Told told (λ all. Tells (Ok bytes) name all)
     → text ≡ bytes.items
     → declared ≡ declared_in earlier
@@ -228,11 +256,13 @@ told_script (Some files) bytes name text declared earlier s h e d i = record {
   bytes = bytes.items;
   there = h;
   script =
-      let here : IsScriptOf declared (length earlier) name bytes.items s = subst (λ (bs : List ℕ). IsScriptOf declared (length earlier) name bs s) e i in
+      let here : IsScriptOf declared (length earlier) name bytes.items s = subst
+      (λ (bs : List ℕ). IsScriptOf declared (length earlier) name bs s) e i in
       subst (λ (ns : List (List ℕ)). IsScriptOf ns (length earlier) name bytes.items s) d here;
 }
 
-told_refused : (told : Option (List Named)) (bytes : Vec ℕ Global) (name text : List ℕ) (declared : List (List ℕ)) (earlier : List Script) (r : Refusal)
+told_refused : (told : Option (List Named)) (bytes : Vec ℕ Global) (name text : List ℕ) (declared : List (List ℕ))
+    (earlier : List Script) (r : Refusal)
     → Told told (λ all. Tells (Ok bytes) name all)
     → text ≡ bytes.items
     → declared ≡ declared_in earlier
@@ -247,28 +277,33 @@ told_refused (Some files) bytes name text declared earlier r h e d i = record {
       subst (λ (ns : List (List ℕ)). IsRefused ns bytes.items r) d here;
 }
 
-pub fails_next : (fault : FileFault) (told : Option (List Named)) (bytes : Vec ℕ Global) (name text : List ℕ) (declared : List (List ℕ)) (earlier : List Script) (before after : Faults)
+pub fails_next : (fault : FileFault) (told : Option (List Named)) (bytes : Vec ℕ Global) (name text : List ℕ)
+    (declared : List (List ℕ)) (earlier : List Script) (before after : Faults)
     → Told told (λ all. Tells (Ok bytes) name all)
     → text ≡ bytes.items
     → declared ≡ declared_in earlier
     → after ≡ before
     → FailsAs fault declared text
     → FailsNext fault told earlier name before after
-fails_next (faults.Refused r) told bytes name text declared earlier before after h e d same i = (same, told_refused told bytes name text declared earlier r h e d i)
+fails_next (faults.Refused r) told bytes name text declared earlier before after h e d same i =
+    (same, told_refused told bytes name text declared earlier r h e d i)
 fails_next faults.CannotRead told bytes name text declared earlier before after h e d same i = absurd i
 fails_next faults.Memory told bytes name text declared earlier before after h e d same i = same
 
-pub read_ok : (r : Result Script FileFault) (told : Option (List Named)) (bytes : Vec ℕ Global) (name text : List ℕ) (declared : List (List ℕ)) (earlier : List Script) (n : ℕ)
+pub read_ok : (r : Result Script FileFault) (told : Option (List Named)) (bytes : Vec ℕ Global) (name text : List ℕ)
+    (declared : List (List ℕ)) (earlier : List Script) (n : ℕ)
     → n ≡ length earlier
     → Told told (λ all. Tells (Ok bytes) name all)
     → text ≡ bytes.items
     → declared ≡ declared_in earlier
     → IfOk r (λ s. IsScriptOf declared n name text s)
     → IfOk r (λ s. Told told (λ files. HoldsScript files earlier name s))
-read_ok (Ok s) told bytes name text declared earlier n l h e d i = told_script told bytes name text declared earlier s h e d (subst (λ (m : ℕ). IsScriptOf declared m name text s) l i)
+read_ok (Ok s) told bytes name text declared earlier n l h e d i =
+    told_script told bytes name text declared earlier s h e d (subst (λ (m : ℕ). IsScriptOf declared m name text s) l i)
 read_ok (Err f) told bytes name text declared earlier n l h e d i = tt
 
-pub read_fault : (r : Result Script FileFault) (told : Option (List Named)) (bytes : Vec ℕ Global) (name text : List ℕ) (declared : List (List ℕ)) (earlier : List Script) (before after : Faults)
+pub read_fault : (r : Result Script FileFault) (told : Option (List Named)) (bytes : Vec ℕ Global) (name text : List ℕ)
+    (declared : List (List ℕ)) (earlier : List Script) (before after : Faults)
     → Told told (λ all. Tells (Ok bytes) name all)
     → text ≡ bytes.items
     → declared ≡ declared_in earlier
@@ -276,7 +311,8 @@ pub read_fault : (r : Result Script FileFault) (told : Option (List Named)) (byt
     → IfErr r (λ f. FailsAs f declared text)
     → IfErr r (λ f. FailsNext f told earlier name before after)
 read_fault (Ok s) told bytes name text declared earlier before after h e d same i = tt
-read_fault (Err f) told bytes name text declared earlier before after h e d same i = fails_next f told bytes name text declared earlier before after h e d same i
+read_fault (Err f) told bytes name text declared earlier before after h e d same i =
+    fails_next f told bytes name text declared earlier before after h e d same i
 
 pub told_one_more : (told : Option (List Named)) (lent old new : List Script) (s : Script) (name : List ℕ)
     → lent ≡ old
@@ -284,20 +320,24 @@ pub told_one_more : (told : Option (List Named)) (lent old new : List Script) (s
     → new ≡ old ++ s ∷ []
     → Told told (λ files. IsOneMore files old new name)
 told_one_more None lent old new s name l h e = tt
-told_one_more (Some files) lent old new s name l h e = record { script = s; added = e; holds = subst (λ (ss : List Script). HoldsScript files ss name s) l h }
+told_one_more (Some files) lent old new s name l h e =
+    record { script = s; added = e; holds = subst (λ (ss : List Script). HoldsScript files ss name s) l h }
 
-pub fails_lent : (fault : FileFault) (told : Option (List Named)) (lent old : List Script) (name : List ℕ) (before after : Faults)
+pub fails_lent : (fault : FileFault) (told : Option (List Named)) (lent old : List Script) (name : List ℕ)
+    (before after : Faults)
     → lent ≡ old
     → FailsNext fault told lent name before after
     → FailsNext fault told old name before after
-fails_lent fault told lent old name before after l h = subst (λ (ss : List Script). FailsNext fault told ss name before after) l h
+fails_lent fault told lent old name before after l h =
+    subst (λ (ss : List Script). FailsNext fault told ss name before after) l h
 
 pub kept_names : (old new : List (List ℕ)) (ss us : List Script) (s : Script)
     → old ≡ declared_in ss
     → new ≡ old ++ declared_by_script s
     → us ≡ ss ++ s ∷ []
     → new ≡ declared_in us
-kept_names old new ss us s e f g = f ∙ ap (λ ns. ns ++ declared_by_script s) e ∙ sym (declared_more ss s) ∙ ap declared_in (sym g)
+kept_names old new ss us s e f g =
+    f ∙ ap (λ ns. ns ++ declared_by_script s) e ∙ sym (declared_more ss s) ∙ ap declared_in (sym g)
 
 -- ---- the names one after another
 
@@ -305,9 +345,13 @@ one_name_more : (names : List (String Global)) (i : ℕ) (x : String Global)
     → i < length names
     → x ≡ get_or names i x
     → map string_bytes (take (i + 1) names) ≡ map string_bytes (take i names) ++ string_bytes x ∷ []
-one_name_more names i x h is = ap (λ ns. map string_bytes ns) (take_more names i x h) ∙ map-append string_bytes (take i names) (get_or names i x ∷ []) ∙ ap (λ y. map string_bytes (take i names) ++ string_bytes y ∷ []) (sym is)
+one_name_more names i x h is =
+    ap (λ ns. map string_bytes ns) (take_more names i x h)
+    ∙ map-append string_bytes (take i names) (get_or names i x ∷ [])
+    ∙ ap (λ y. map string_bytes (take i names) ++ string_bytes y ∷ []) (sym is)
 
-pub told_are_more : (told : Option (List Named)) (names : List (String Global)) (i : ℕ) (x : String Global) (ss new : List Script) (name : List ℕ)
+pub told_are_more : (told : Option (List Named)) (names : List (String Global)) (i : ℕ) (x : String Global)
+    (ss new : List Script) (name : List ℕ)
     → i < length names
     → x ≡ get_or names i x
     → name ≡ string_bytes x
@@ -317,9 +361,12 @@ pub told_are_more : (told : Option (List Named)) (names : List (String Global)) 
 told_are_more None names i x ss new name lt is e h more = tt
 told_are_more (Some files) names i x ss new name lt is e h more =
     let front = map string_bytes (take i names) in
-    let there : AreScripts files (front ++ name ∷ []) (ss ++ more.script ∷ []) = are_more files [] front ss name more.script h more.holds in
-    let parts : front ++ name ∷ [] ≡ map string_bytes (take (i + 1) names) = ap (λ n. front ++ n ∷ []) e ∙ sym (one_name_more names i x lt is) in
-    let now : AreScripts files (map string_bytes (take (i + 1) names)) (ss ++ more.script ∷ []) = subst (λ (ns : List (List ℕ)). AreScripts files ns (ss ++ more.script ∷ [])) parts there in
+    let there : AreScripts files (front ++ name ∷ []) (ss ++ more.script ∷ [])
+    = are_more files [] front ss name more.script h more.holds in
+    let parts : front ++ name ∷ [] ≡ map string_bytes (take (i + 1) names) = ap (λ n. front ++ n ∷ []) e
+    ∙ sym (one_name_more names i x lt is) in
+    let now : AreScripts files (map string_bytes (take (i + 1) names)) (ss ++ more.script ∷ []) = subst
+    (λ (ns : List (List ℕ)). AreScripts files ns (ss ++ more.script ∷ [])) parts there in
     subst (λ (us : List Script). AreScripts files (map string_bytes (take (i + 1) names)) us) (sym more.added) now
 
 pub stands_behind : (names : List (String Global)) (i : ℕ) (x : String Global) (name : List ℕ)
@@ -358,16 +405,20 @@ told_at : (told : Option (List Named)) (names front : List (List ℕ)) (name : L
 told_at None names front name ss r s h n = tt
 told_at (Some files) names front name ss r s h n = record { reached = reached files names front name ss s h; next = n }
 
-fails_here : (fault : FileFault) (told : Option (List Named)) (names front : List (List ℕ)) (name : List ℕ) (ss : List Script) (before after : Faults)
+fails_here : (fault : FileFault) (told : Option (List Named)) (names front : List (List ℕ)) (name : List ℕ)
+    (ss : List Script) (before after : Faults)
     → StandsBehind names front name
     → Told told (λ files. AreScripts files front ss)
     → FailsNext fault told ss name before after → Fails fault told names name before after
-fails_here (faults.Refused r) told names front name ss before after s h n = (n.0, told_at told names front name ss r s h n.1)
-fails_here faults.CannotRead told names front name ss before after s h n = (n, (front, s), told_reached told names front name ss s h)
+fails_here (faults.Refused r) told names front name ss before after s h n =
+    (n.0, told_at told names front name ss r s h n.1)
+fails_here faults.CannotRead told names front name ss before after s h n =
+    (n, (front, s), told_reached told names front name ss s h)
 fails_here faults.Memory told names front name ss before after s h n = n
 
 -- the fault of the shelf as it is now is one of the shelf as it was, where nothing failed so far
-pub fails_at : (fault : FileFault) (told later : Option (List Named)) (names front : List (List ℕ)) (name : List ℕ) (ss : List Script) (before now after : Faults)
+pub fails_at : (fault : FileFault) (told later : Option (List Named)) (names front : List (List ℕ)) (name : List ℕ)
+    (ss : List Script) (before now after : Faults)
     → later ≡ told
     → now ≡ before
     → StandsBehind names front name
@@ -375,5 +426,7 @@ pub fails_at : (fault : FileFault) (told later : Option (List Named)) (names fro
     → FailsNext fault later ss name now after
     → Fails fault told names name before after
 fails_at fault told later names front name ss before now after t b s h n =
-    let here : FailsNext fault told ss name now after = subst (λ (o : Option (List Named)). FailsNext fault o ss name now after) t n in
-    fails_here fault told names front name ss before after s h (subst (λ (x : Faults). FailsNext fault told ss name x after) b here)
+    let here : FailsNext fault told ss name now after = subst
+    (λ (o : Option (List Named)). FailsNext fault o ss name now after) t n in
+    fails_here fault told names front name ss before after s h
+    (subst (λ (x : Faults). FailsNext fault told ss name x after) b here)

@@ -27,7 +27,8 @@ pub statement_next : (items : List Stmt) (i : ℕ) (x : Stmt)
     → x ≡ get_or items i x
     → (front now : List (List ℕ))
     → now ≡ front ++ declared_by (statement_view x)
-    → now ++ declared_names (statements (map statement_view (drop (i + 1) items))) ≡ front ++ declared_names (statements (map statement_view (drop i items)))
+    → now ++ declared_names (statements (map statement_view (drop (i + 1) items))) ≡ front ++ declared_names
+    (statements (map statement_view (drop i items)))
 statement_next items i x h is front now e =
     let D : List Stmt → List (List ℕ) = λ ss. declared_names (statements (map statement_view ss)) in
     ap (λ ns. ns ++ D (drop (i + 1) items)) e
@@ -44,7 +45,8 @@ pub declarator_next : (items : List Declarator) (i : ℕ) (x : Declarator)
     → x ≡ get_or items i x
     → (front now : List (List ℕ))
     → now ≡ front ++ x.name ∷ []
-    → now ++ names_of_declarators (declarators (map declarator_view (drop (i + 1) items))) ≡ front ++ names_of_declarators (declarators (map declarator_view (drop i items)))
+    → now ++ names_of_declarators (declarators (map declarator_view (drop (i + 1) items)))
+    ≡ front ++ names_of_declarators (declarators (map declarator_view (drop i items)))
 declarator_next items i x h is front now e =
     let D : List Declarator → List (List ℕ) = λ ds. names_of_declarators (declarators (map declarator_view ds)) in
     ap (λ ns. ns ++ D (drop (i + 1) items)) e
@@ -62,10 +64,13 @@ pub no_names : (names : List (List ℕ)) (s : Stmt) (t : Statement)
     → names ≡ names ++ declared_by (statement_view s)
 no_names names s t e none = sym (ap (λ u. names ++ declared_by u) e ∙ ap (λ ns. names ++ ns) none ∙ append-nil names)
 
-pub if_declares_none : (names : List (List ℕ)) (node : NodeId) (test : Expr) (consequent : Box Stmt) (alternate : Option (Box Stmt)) (s : Stmt)
+pub if_declares_none : (names : List (List ℕ)) (node : NodeId) (test : Expr) (consequent : Box Stmt)
+    (alternate : Option (Box Stmt)) (s : Stmt)
     → s ≡ views.If node test consequent alternate
     → names ≡ names ++ declared_by (statement_view s)
-if_declares_none names node test consequent None s e = no_names names s _ (ap statement_view e ∙ view_if_then node test consequent) refl
-if_declares_none names node test consequent (Some alternate) s e = no_names names s _ (ap statement_view e ∙ view_if_else node test consequent alternate) refl
+if_declares_none names node test consequent None s e =
+    no_names names s _ (ap statement_view e ∙ view_if_then node test consequent) refl
+if_declares_none names node test consequent (Some alternate) s e =
+    no_names names s _ (ap statement_view e ∙ view_if_else node test consequent alternate) refl
 
 pub ruleset statement_laws = (view_lexical_declaration, view_function_declaration)

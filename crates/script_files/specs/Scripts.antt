@@ -85,14 +85,17 @@ FailsAs faults.Memory declared bytes = Unit {0}
 
 -- why the file of this name isn't taken as the one behind these scripts
 abbrev pub FailsNext : FileFault → Option (List Named) → List Script → List ℕ → Faults → Faults → Type 0
-FailsNext (faults.Refused r) told earlier name before after = (after ≡ before) × Told told (λ files. IsRefusedNext files earlier name r)
+FailsNext (faults.Refused r) told earlier name before after =
+    (after ≡ before) × Told told (λ files. IsRefusedNext files earlier name r)
 FailsNext faults.CannotRead told earlier name before after = Blames (Read name) before after
 FailsNext faults.Memory told earlier name before after = after ≡ before
 
 -- why the file of this name isn't taken as the next of these
 abbrev pub Fails : FileFault → Option (List Named) → List (List ℕ) → List ℕ → Faults → Faults → Type 0
-Fails (faults.Refused r) told names name before after = (after ≡ before) × Told told (λ files. IsRefusedAt files names name r)
-Fails faults.CannotRead told names name before after = Blames (Read name) before after × IsAmong names name × Told told (λ files. IsReachedAt files names name)
+Fails (faults.Refused r) told names name before after =
+    (after ≡ before) × Told told (λ files. IsRefusedAt files names name r)
+Fails faults.CannotRead told names name before after =
+    Blames (Read name) before after × IsAmong names name × Told told (λ files. IsReachedAt files names name)
 Fails faults.Memory told names name before after = after ≡ before
 
 -- one script more, which the file of this name holds

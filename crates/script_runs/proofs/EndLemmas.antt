@@ -29,24 +29,29 @@ from_start : (ts : Terms) (input : List (List ℕ)) (s : Started) (k : ℕ)
     → IsStarted ts input s
     → run_from s.machine (heap_world s.machine.names s.heap) [] k ≡ plain k ts input
 from_start ts input s k h =
-    ap (λ (p : Program). steps_in k p script_scope (run_at s.machine (heap_world s.machine.names s.heap) [])) h.program ∙ ap (steps_in k (runs.program_of ts) script_scope) h.run
+    ap (λ (p : Program). steps_in k p script_scope (run_at s.machine (heap_world s.machine.names s.heap) [])) h.program
+    ∙ ap (steps_in k (runs.program_of ts) script_scope) h.run
 
 -- ---- the end
 
 -- where a machine is that is over, the run is over
-pub run_over : (ts : Terms) (input : List (List ℕ)) (s : Started) (n : Machine) (w : World) (before now : Option (List ℕ)) (f : Finish)
+pub run_over : (ts : Terms) (input : List (List ℕ)) (s : Started) (n : Machine) (w : World)
+    (before now : Option (List ℕ)) (f : Finish)
     → IsStarted ts input s
     → (h : HasCome s.machine (heap_world s.machine.names s.heap) n w before now)
     → IsOverBy f n w
     → plain h.turned.steps ts input ≡ over (finish_of f) (state_of n w h.texts)
-run_over ts input s n w before now f i h o = sym (from_start ts input s h.turned.steps i) ∙ sym (h.turned.run []) ∙ o h.texts
+run_over ts input s n w before now f i h o =
+    sym (from_start ts input s h.turned.steps i) ∙ sym (h.turned.run []) ∙ o h.texts
 
 -- and all that it printed is written
 pub all_written : (m n : Machine) (v w : World) (before now : Option (List ℕ))
     → (h : HasCome m v n w before now)
     → now ≡ gains before (printed_lines (h.texts ++ n.context.printed))
 all_written m n v w before now h =
-    h.written ∙ ap (λ (ts : List (List ℕ)). gains before (printed_lines ts)) (sym (ap (λ (ps : List (List ℕ)). h.texts ++ ps) h.turned.rest ∙ append-nil h.texts))
+    h.written
+    ∙ ap (λ (ts : List (List ℕ)). gains before (printed_lines ts))
+    (sym (ap (λ (ps : List (List ℕ)). h.texts ++ ps) h.turned.rest ∙ append-nil h.texts))
 
 cut_at : (ts : Terms) (input : List (List ℕ)) (k : ℕ) (r : runs.Finish) (st : State) (before now : Option (List ℕ))
     → plain k ts input ≡ over r st
@@ -54,10 +59,13 @@ cut_at : (ts : Terms) (input : List (List ℕ)) (k : ℕ) (r : runs.Finish) (st 
     → IsCut ts input before now
 cut_at ts input k r st before now is g = record {
   steps = k;
-  part = whole-part before now (output_after k ts input) (g ∙ ap (λ (q : Run). gains before (printed_lines (printed_of q))) (sym is));
+  part =
+      whole-part before now (output_after k ts input)
+      (g ∙ ap (λ (q : Run). gains before (printed_lines (printed_of q))) (sym is));
 }
 
-pub comes_over : (e : RunEnd) (ts : Terms) (input : List (List ℕ)) (s : Started) (n : Machine) (w : World) (before now : Option (List ℕ)) (f : Finish)
+pub comes_over : (e : RunEnd) (ts : Terms) (input : List (List ℕ)) (s : Started) (n : Machine) (w : World)
+    (before now : Option (List ℕ)) (f : Finish)
     → IsStarted ts input s
     → HasCome s.machine (heap_world s.machine.names s.heap) n w before now
     → IsOverBy f n w
@@ -83,7 +91,9 @@ comes_over (ends.Threw text) ts input s n w before now (finishes.Threw v place) 
 }
 comes_over ends.CannotWrite ts input s n w before now f i h o b = absurd b
 comes_over ends.Memory ts input s n w before now f i h o b =
-    cut_at ts input h.turned.steps (finish_of f) (state_of n w h.texts) before now (run_over ts input s n w before now f i h o) (all_written s.machine n (heap_world s.machine.names s.heap) w before now h)
+    cut_at ts input h.turned.steps (finish_of f) (state_of n w h.texts) before now
+    (run_over ts input s n w before now f i h o)
+    (all_written s.machine n (heap_world s.machine.names s.heap) w before now h)
 
 prints_out : (ts : Terms) (input : List (List ℕ)) (s : Started) (k : ℕ) (texts : List (List ℕ))
     → IsStarted ts input s
@@ -97,7 +107,9 @@ pub comes_cut : (ts : Terms) (input : List (List ℕ)) (s : Started) (before now
     → IsCut ts input before now
 comes_cut ts input s before now i h = record {
   steps = h.prints.steps;
-  part = subst (λ (b : List ℕ). GainsPrefix before now b) (prints_out ts input s h.prints.steps h.texts i (h.prints.are [])) h.part;
+  part =
+      subst (λ (b : List ℕ). GainsPrefix before now b)
+      (prints_out ts input s h.prints.steps h.texts i (h.prints.are [])) h.part;
 }
 
 pub comes_short : (ts : Terms) (input : List (List ℕ)) (s : Started) (before now : Option (List ℕ))
@@ -106,7 +118,9 @@ pub comes_short : (ts : Terms) (input : List (List ℕ)) (s : Started) (before n
     → IsCutShort ts input before now
 comes_short ts input s before now i h = record {
   steps = h.prints.steps;
-  less = subst (λ (b : List ℕ). GainsLess before now b) (prints_out ts input s h.prints.steps h.texts i (h.prints.are [])) h.less;
+  less =
+      subst (λ (b : List ℕ). GainsLess before now b) (prints_out ts input s h.prints.steps h.texts i (h.prints.are []))
+      h.less;
 }
 
 -- ---- a first part of the output
@@ -115,8 +129,10 @@ cut_of : (e : RunEnd) (ts : Terms) (input : List (List ℕ)) (before now : Optio
     → ComesTo e ts input before now
     → IsCut ts input before now
 cut_of ends.Ended ts input before now h = cut_at ts input h.steps (runs.ended h.value) h.state before now h.is h.whole
-cut_of (ends.Threw text) ts input before now h = cut_at ts input h.steps (runs.threw h.value h.place) h.state before now h.is h.whole
-cut_of ends.CannotWrite ts input before now h = record { steps = h.steps; part = less-part before now (output_after h.steps ts input) h.less }
+cut_of (ends.Threw text) ts input before now h =
+    cut_at ts input h.steps (runs.threw h.value h.place) h.state before now h.is h.whole
+cut_of ends.CannotWrite ts input before now h =
+    record { steps = h.steps; part = less-part before now (output_after h.steps ts input) h.less }
 cut_of ends.Memory ts input before now h = h
 
 -- what more steps print begins with what some print
@@ -126,7 +142,8 @@ output_goes_on ts input k more =
     let r : Run = plain k ts input in
     let grown = (steps-follows more (runs.program_of ts) script_scope r).output in (
       printed_lines grown.0,
-      ap (λ (q : Run). printed_lines (printed_of q)) (steps-more k more (runs.program_of ts) script_scope (start ts input))
+      ap (λ (q : Run). printed_lines (printed_of q))
+          (steps-more k more (runs.program_of ts) script_scope (start ts input))
           ∙ ap printed_lines grown.1 ∙ lines-append (printed_of r) grown.0,
     )
 
@@ -139,5 +156,6 @@ first_part e ts input before now h =
       steps = c.steps;
       part = λ more.
           let on = output_goes_on ts input c.steps more in
-          part-longer before now (output_after c.steps ts input) on.0 (output_after (c.steps + more) ts input) on.1 c.part;
+          part-longer before now (output_after c.steps ts input) on.0 (output_after (c.steps + more) ts input)
+          on.1 c.part;
     }

@@ -6,7 +6,9 @@ use Rattle.script_runs.specs.Printing.{printed_line, printed_lines}
 
 pub lines-append : (xs ys : List (List ℕ)) → printed_lines (xs ++ ys) ≡ printed_lines xs ++ printed_lines ys
 lines-append [] ys = refl
-lines-append (x ∷ xs) ys = ap (λ rest. printed_line x ++ rest) (lines-append xs ys) ∙ sym (append_assoc (printed_line x) (printed_lines xs) (printed_lines ys))
+lines-append (x ∷ xs) ys =
+    ap (λ rest. printed_line x ++ rest) (lines-append xs ys)
+    ∙ sym (append_assoc (printed_line x) (printed_lines xs) (printed_lines ys))
 
 -- one text more
 pub lines-more : (xs : List (List ℕ)) (i : ℕ) (x : List ℕ)
@@ -40,7 +42,8 @@ pub part-longer : (old new : Option (List ℕ)) (bytes more all : List ℕ)
     → all ≡ bytes ++ more
     → GainsPrefix old new bytes
     → GainsPrefix old new all
-part-longer old new bytes more all is (part, rest, e, g) = (part, rest ++ more, is ∙ ap (λ b. b ++ more) e ∙ append_assoc part rest more, g)
+part-longer old new bytes more all is (part, rest, e, g) =
+    (part, rest ++ more, is ∙ ap (λ b. b ++ more) e ∙ append_assoc part rest more, g)
 
 -- all of them are a first part
 pub whole-part : (old new : Option (List ℕ)) (bytes : List ℕ) → new ≡ gains old bytes → GainsPrefix old new bytes

@@ -22,9 +22,12 @@ use Rattle.script_runs.proofs.PrintingLemmas.{lines-append}
 
 -- the texts that are taken are behind those taken before
 taken_run : (n : Machine) (w : World) (taken : List (List ℕ))
-    → run_at (record n { context = record n.context { printed = [] } }) w (taken ++ n.context.printed) ≡ run_at n w taken
+    → run_at (record n { context = record n.context { printed = [] } }) w (taken ++ n.context.printed)
+    ≡ run_at n w taken
 taken_run n w taken =
-    ap (λ (ps : List (List ℕ)). run_by n.ended (term_of n) (record { world = w; frames = n.context.frames; outer_this = n.context.outer_this; input = n.context.input; printed = ps })) (append-nil (taken ++ n.context.printed))
+    ap (λ (ps : List (List ℕ)). run_by n.ended (term_of n)
+    (record { world = w; frames = n.context.frames; outer_this = n.context.outer_this; input = n.context.input; printed = ps }))
+    (append-nil (taken ++ n.context.printed))
 
 turned_there : (m n : Machine) (v w : World) (k : ℕ) (texts : List (List ℕ))
     → HasSameCode m n
@@ -35,14 +38,20 @@ turned_there m n v w k texts code run e = record {
   steps = k;
   code = record { table = code.table; names = code.names };
   rest = refl;
-  run = λ taken. ap (λ (ts : List (List ℕ)). run_at (record n { context = record n.context { printed = [] } }) w (taken ++ ts)) e ∙ taken_run n w taken ∙ run taken;
+  run =
+      λ taken. ap
+      (λ (ts : List (List ℕ)). run_at (record n { context = record n.context { printed = [] } }) w (taken ++ ts)) e
+      ∙ taken_run n w taken
+      ∙ run taken;
 }
 
 pub has_turned : (m n o : Machine) (v : World) (h : Heap) (k : ℕ) (why : Why) (texts : List (List ℕ))
     → HasSameCode m n
     → n.ended ≡ end_of_run why
     → (why ≡ whys.Memory → ⊥)
-    → (IsKept n.ended → (taken : List (List ℕ)) → run_at n (heap_world n.names h) taken ≡ steps_in k (program_of m) script_scope (run_at m v taken))
+    → (IsKept n.ended
+    → (taken : List (List ℕ))
+    → run_at n (heap_world n.names h) taken ≡ steps_in k (program_of m) script_scope (run_at m v taken))
     → texts ≡ n.context.printed
     → o ≡ record n { context = record n.context { printed = [] } }
     → HasTurned m v o (heap_world o.names h) texts
@@ -62,7 +71,8 @@ come_nowhere m v before none = record {
 }
 
 -- steps behind a turn
-steps_behind : (m n : Machine) (v w : World) (texts : List (List ℕ)) (h : HasTurned m v n w texts) (taken : List (List ℕ)) (k : ℕ)
+steps_behind : (m n : Machine) (v w : World) (texts : List (List ℕ)) (h : HasTurned m v n w texts)
+    (taken : List (List ℕ)) (k : ℕ)
     → run_from n w (taken ++ texts) k ≡ run_from m v taken (h.steps + k)
 steps_behind m n v w texts h taken k =
     ap (λ (p : Program). steps_in k p script_scope (run_at n w (taken ++ texts))) (same_program m n h.code)
@@ -77,13 +87,18 @@ come_on m n o v w x before now after h i = record {
   texts = h.texts ++ i.texts;
   turned = record {
     steps = h.turned.steps + i.turned.steps;
-    code = record { table = i.turned.code.table ∙ h.turned.code.table; names = i.turned.code.names ∙ h.turned.code.names };
+    code =
+        record { table = i.turned.code.table ∙ h.turned.code.table; names = i.turned.code.names ∙ h.turned.code.names };
     rest = i.turned.rest;
     run = λ taken.
-        ap (run_at o x) (sym (append_assoc taken h.texts i.texts)) ∙ i.turned.run (taken ++ h.texts) ∙ steps_behind m n v w h.texts h.turned taken i.turned.steps;
+        ap (run_at o x) (sym (append_assoc taken h.texts i.texts))
+        ∙ i.turned.run (taken ++ h.texts)
+        ∙ steps_behind m n v w h.texts h.turned taken i.turned.steps;
   };
   written =
-      i.written ∙ ap (λ c. gains c (printed_lines i.texts)) h.written ∙ gains-append before (printed_lines h.texts) (printed_lines i.texts)
+      i.written
+      ∙ ap (λ c. gains c (printed_lines i.texts)) h.written
+      ∙ gains-append before (printed_lines h.texts) (printed_lines i.texts)
       ∙ ap (λ b. gains before b) (sym (lines-append h.texts i.texts));
 }
 
@@ -93,7 +108,10 @@ prints_behind : (m n : Machine) (v w : World) (texts more : List (List ℕ))
     → Prints m v (texts ++ more)
 prints_behind m n v w texts more h i = record {
   steps = h.steps + i.steps;
-  are = λ taken. ap printed_of (sym (steps_behind m n v w texts h taken i.steps)) ∙ i.are (taken ++ texts) ∙ append_assoc taken texts more;
+  are =
+      λ taken. ap printed_of (sym (steps_behind m n v w texts h taken i.steps))
+      ∙ i.are (taken ++ texts)
+      ∙ append_assoc taken texts more;
 }
 
 parts_behind : (texts more : List (List ℕ))
@@ -107,7 +125,9 @@ pub cut_on : (m n : Machine) (v w : World) (before now after : Option (List ℕ)
 cut_on m n v w before now after h i = record {
   texts = h.texts ++ i.texts;
   prints = prints_behind m n v w h.texts i.texts h.turned i.prints;
-  part = GainsPrefix-behind before now after (printed_lines h.texts) (printed_lines i.texts) [] (printed_lines (h.texts ++ i.texts)) h.written (parts_behind h.texts i.texts) i.part;
+  part =
+      GainsPrefix-behind before now after (printed_lines h.texts) (printed_lines i.texts) []
+      (printed_lines (h.texts ++ i.texts)) h.written (parts_behind h.texts i.texts) i.part;
 }
 
 pub less_on : (m n : Machine) (v w : World) (before now after : Option (List ℕ))
@@ -117,7 +137,9 @@ pub less_on : (m n : Machine) (v w : World) (before now after : Option (List ℕ
 less_on m n v w before now after h i = record {
   texts = h.texts ++ i.texts;
   prints = prints_behind m n v w h.texts i.texts h.turned i.prints;
-  less = GainsLess-behind before now after (printed_lines h.texts) (printed_lines i.texts) [] (printed_lines (h.texts ++ i.texts)) h.written (parts_behind h.texts i.texts) i.less;
+  less =
+      GainsLess-behind before now after (printed_lines h.texts) (printed_lines i.texts) []
+      (printed_lines (h.texts ++ i.texts)) h.written (parts_behind h.texts i.texts) i.less;
 }
 
 -- ---- faults

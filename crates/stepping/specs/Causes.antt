@@ -92,7 +92,8 @@ step_ends (Some step) depth = ends_at step.kind step.depth depth
 -- the place that was asked for, if one was, is this one
 abbrev pub is_place : Option Place → Place → Bool
 is_place None place = false
-is_place (Some asked) place = nat_eq asked.script place.script && nat_eq asked.pos.line place.pos.line && nat_eq asked.pos.col place.pos.col
+is_place (Some asked) place =
+    nat_eq asked.script place.script && nat_eq asked.pos.line place.pos.line && nat_eq asked.pos.col place.pos.col
 
 -- the first rule of an arrival at a place, if one holds
 abbrev pub cause_there : Rules → Arrival → Bool → Place → Option Cause

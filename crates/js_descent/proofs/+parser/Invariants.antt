@@ -133,19 +133,34 @@ abbrev pub decreases-primaries::function_at : goal.decreases-primaries::function
 decreases-primaries::function_at l = 1024 * l.room + 770
 
 abbrev pub invariant-lists::elements_before-elements : goal.invariant-lists::elements_before-elements
-invariant-lists::elements_before-elements l = record { read : ReadsElements l.room l.closer (tokens_view l.tokens) l.items.items l.height (tokens_view l.rest); placed : Placed false l.fn.nodes l.nodes (before_commas (map expression_places l.items.items)) (tokens_view l.tokens) (tokens_view l.rest) }
+invariant-lists::elements_before-elements l = record {
+  read : ReadsElements l.room l.closer (tokens_view l.tokens)
+      l.items.items l.height (tokens_view l.rest);
+  placed : Placed false l.fn.nodes l.nodes
+      (before_commas (map expression_places l.items.items)) (tokens_view l.tokens) (tokens_view l.rest);
+}
 
 abbrev pub decreases-lists::elements_before-elements : goal.decreases-lists::elements_before-elements
 decreases-lists::elements_before-elements l = length l.rest
 
 abbrev pub invariant-lists::more_assignments-others : goal.invariant-lists::more_assignments-others
-invariant-lists::more_assignments-others l = record { read : ReadsOthers l.room (tokens_view l.tokens) l.items.items l.height (tokens_view l.rest); placed : Placed false l.fn.nodes l.nodes (behind_commas (map expression_places l.items.items)) (tokens_view l.tokens) (tokens_view l.rest) }
+invariant-lists::more_assignments-others l = record {
+  read : ReadsOthers l.room (tokens_view l.tokens)
+      l.items.items l.height (tokens_view l.rest);
+  placed : Placed false l.fn.nodes l.nodes
+      (behind_commas (map expression_places l.items.items)) (tokens_view l.tokens) (tokens_view l.rest);
+}
 
 abbrev pub decreases-lists::more_assignments-others : goal.decreases-lists::more_assignments-others
 decreases-lists::more_assignments-others l = length l.rest
 
 abbrev pub invariant-objects::members_before-members : goal.invariant-objects::members_before-members
-invariant-objects::members_before-members l = record { read : ReadsMembers l.room (tokens_view l.tokens) l.members.items l.height (tokens_view l.rest); placed : Placed false l.fn.nodes l.nodes (before_commas (map property_places l.members.items)) (tokens_view l.tokens) (tokens_view l.rest) }
+invariant-objects::members_before-members l = record {
+  read : ReadsMembers l.room (tokens_view l.tokens)
+      l.members.items l.height (tokens_view l.rest);
+  placed : Placed false l.fn.nodes l.nodes
+      (before_commas (map property_places l.members.items)) (tokens_view l.tokens) (tokens_view l.rest);
+}
 
 abbrev pub decreases-objects::members_before-members : goal.decreases-objects::members_before-members
 decreases-objects::members_before-members l = length l.rest
@@ -241,13 +256,25 @@ abbrev pub decreases-statements::ended_expression : goal.decreases-statements::e
 decreases-statements::ended_expression l = 1024 * l.room + 140
 
 abbrev pub invariant-blocks::items_at-items : goal.invariant-blocks::items_at-items
-invariant-blocks::items_at-items l = record { read : ReadsStatements l.room (context_view l.context) l.fn.names (tokens_view l.tokens) (map statement_view l.items.items) l.read.0 l.names (tokens_view l.read.1.now); placed : Placed false l.fn.nodes l.nodes (in_turn (map statement_places l.items.items)) (tokens_view l.tokens) (tokens_view l.read.1.now) }
+invariant-blocks::items_at-items l = record {
+  read : ReadsStatements l.room (context_view l.context) l.fn.names
+      (tokens_view l.tokens) (map statement_view l.items.items) l.read.0 l.names
+      (tokens_view l.read.1.now);
+  placed : Placed false l.fn.nodes l.nodes (in_turn (map statement_places l.items.items))
+      (tokens_view l.tokens) (tokens_view l.read.1.now);
+}
 
 abbrev pub decreases-blocks::items_at-items : goal.decreases-blocks::items_at-items
 decreases-blocks::items_at-items l = length l.read.1.now
 
 abbrev pub invariant-declarations::declarators_at-others : goal.invariant-declarations::declarators_at-others
-invariant-declarations::declarators_at-others l = record { read : ReadsDeclarators l.room l.constant l.fn.names (tokens_view l.tokens) (map declarator_view l.items.items) l.read.0 l.names (tokens_view l.read.1.now); placed : Placed true l.fn.nodes l.nodes (with_commas (map declarator_places l.items.items)) (tokens_view l.tokens) (tokens_view l.read.1.now) }
+invariant-declarations::declarators_at-others l = record {
+  read : ReadsDeclarators l.room l.constant l.fn.names
+      (tokens_view l.tokens) (map declarator_view l.items.items) l.read.0 l.names
+      (tokens_view l.read.1.now);
+  placed : Placed true l.fn.nodes l.nodes
+      (with_commas (map declarator_places l.items.items)) (tokens_view l.tokens) (tokens_view l.read.1.now);
+}
 
 abbrev pub decreases-declarations::declarators_at-others : goal.decreases-declarations::declarators_at-others
 decreases-declarations::declarators_at-others l = length l.read.1.now

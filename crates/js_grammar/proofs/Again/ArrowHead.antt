@@ -117,7 +117,8 @@ stuck_before k ts us r p m c a = goes_on ts us r p (inl (past_false_other k us m
 mutual
   passes : (e : Expression) → Well e → (ts r : List Token) → Matches (flat e) ts r → Passes ts r
   passes trees.this w ts r m = inl (past_true_other kinds.This ts m.0 refl refl)
-  passes (trees.name a) w ts r m = inr (past_name ts (kind_of_identifier a (head_of ts) m.0) ∙ ap (λ (l : List Token). past_names false l) m.1)
+  passes (trees.name a) w ts r m =
+      inr (past_name ts (kind_of_identifier a (head_of ts) m.0) ∙ ap (λ (l : List Token). past_names false l) m.1)
   passes (trees.number v) w ts r m = inl (past_true_other kinds.Number ts (kind_of_number v (head_of ts) m.0) refl refl)
   passes (trees.string v) w ts r m = inl (past_true_other kinds.String ts (kind_of_string v (head_of ts) m.0) refl refl)
   passes (trees.boolean true) w ts r m = inl (past_true_other kinds.True ts m.0 refl refl)
@@ -126,19 +127,28 @@ mutual
   passes (trees.array es) w ts r m = inl (past_true_other kinds.LeftBracket ts m.0 refl refl)
   passes (trees.object ps) w ts r m = inl (past_true_other kinds.LeftBrace ts m.0 refl refl)
   passes (trees.function o ps body) w ts r m = inl (past_true_other kinds.Function ts m.0 refl refl)
-  passes (trees.arrow (trees.one_name a) e) w ts r m = inl (past_name ts (kind_of_identifier a (head_of ts) m.0) ∙ past_false_other kinds.Arrow (tail_of ts) m.1.0 refl refl)
+  passes (trees.arrow (trees.one_name a) e) w ts r m =
+      inl (past_name ts (kind_of_identifier a (head_of ts) m.0)
+      ∙ past_false_other kinds.Arrow (tail_of ts) m.1.0 refl refl)
   passes (trees.arrow (trees.name_list ps) e) w ts r m = inl (past_true_other kinds.LeftParenthesis ts m.0 refl refl)
-  passes (trees.arrow_block (trees.one_name a) body) w ts r m = inl (past_name ts (kind_of_identifier a (head_of ts) m.0) ∙ past_false_other kinds.Arrow (tail_of ts) m.1.0 refl refl)
-  passes (trees.arrow_block (trees.name_list ps) body) w ts r m = inl (past_true_other kinds.LeftParenthesis ts m.0 refl refl)
+  passes (trees.arrow_block (trees.one_name a) body) w ts r m =
+      inl (past_name ts (kind_of_identifier a (head_of ts) m.0)
+      ∙ past_false_other kinds.Arrow (tail_of ts) m.1.0 refl refl)
+  passes (trees.arrow_block (trees.name_list ps) body) w ts r m =
+      inl (past_true_other kinds.LeftParenthesis ts m.0 refl refl)
   passes (trees.parenthesized e) w ts r m = inl (past_true_other kinds.LeftParenthesis ts m.0 refl refl)
   passes (trees.member e a) w ts r m =
       let p = parts (flat e) (token (fixed kinds.Dot) ∷ token (identifier_name a) ∷ []) ts r m in
       stuck_before kinds.Dot ts p.0 r (passes e w.0 ts p.0 p.1) p.2.0 refl refl
   passes (trees.index e i) w ts r m =
-      let p = parts (flat e) (token (fixed kinds.LeftBracket) ∷ (flat i ++ (token (fixed kinds.RightBracket) ∷ []))) ts r m in
+      let p = parts (flat e) (token (fixed kinds.LeftBracket) ∷ (flat i ++ (token (fixed kinds.RightBracket) ∷ [])))
+      ts r m in
       stuck_before kinds.LeftBracket ts p.0 r (passes e w.0 ts p.0 p.1) p.2.0 refl refl
   passes (trees.call f es) w ts r m =
-      let p = parts (flat f) (token (fixed kinds.LeftParenthesis) ∷ (flat_expressions es ++ (trailing es ++ (token (fixed kinds.RightParenthesis) ∷ [])))) ts r m in
+      let p = parts (flat f)
+      (token (fixed kinds.LeftParenthesis) ∷
+      (flat_expressions es ++ (trailing es ++ (token (fixed kinds.RightParenthesis) ∷ []))))
+      ts r m in
       stuck_before kinds.LeftParenthesis ts p.0 r (passes f w.0 ts p.0 p.1) p.2.0 refl refl
   passes (trees.postfix o e) w ts r m =
       let p = parts (flat e) (beside (fixed (update_kind o)) ∷ []) ts r m in
@@ -152,7 +162,8 @@ mutual
       let a = apart_operator (binary_kind o) o is.operator in
       stuck_before (binary_kind o) ts p.0 r (passes x w.0 ts p.0 p.1) p.2.0 a.0 a.1
   passes (trees.conditional t c a) w ts r m =
-      let p = parts (flat t) (token (fixed kinds.Question) ∷ (flat c ++ (token (fixed kinds.Colon) ∷ (flat a ++ [])))) ts r m in
+      let p = parts (flat t) (token (fixed kinds.Question) ∷ (flat c ++ (token (fixed kinds.Colon) ∷ (flat a ++ []))))
+      ts r m in
       stuck_before kinds.Question ts p.0 r (passes t w.0 ts p.0 p.1) p.2.0 refl refl
   passes (trees.assign o t v) w ts r m =
       let p = parts (flat t) (token (fixed (assign_kind o)) ∷ (flat v ++ [])) ts r m in
@@ -235,7 +246,8 @@ parenthesized_no_head : (e : Expression)
 parenthesized_no_head e w ts r m n =
     let p = parts (flat e) (token (fixed kinds.RightParenthesis) ∷ []) (tail_of ts) r m.1 in
     let close : past_names false p.0 ≡ Some (false, tail_of p.0) = past_close false p.0 p.2.0 in
-    rw (start_fixed kinds.LeftParenthesis classes.parenthesis (head_of ts) m.0 (λ s v. refl)) (either p.0 p.2.1 close (passes e w (tail_of ts) p.0 p.1))
+    rw (start_fixed kinds.LeftParenthesis classes.parenthesis (head_of ts) m.0 (λ s v. refl))
+    (either p.0 p.2.1 close (passes e w (tail_of ts) p.0 p.1))
   where
     either : (us : List Token)
         → tail_of us ≡ r
@@ -254,8 +266,10 @@ pub no_head : (e : Expression)
     → arrow_head ts ≡ no_arrow
 no_head trees.this w l ts r m n = no_head_of_kind kinds.This ts m.0 (λ s v us. refl)
 no_head (trees.name a) w l ts r m n = name_no_head a ts r m.0 m.1 (n refl)
-no_head (trees.number v) w l ts r m n = no_head_of_kind kinds.Number ts (kind_of_number v (head_of ts) m.0) (λ s v us. refl)
-no_head (trees.string v) w l ts r m n = no_head_of_kind kinds.String ts (kind_of_string v (head_of ts) m.0) (λ s v us. refl)
+no_head (trees.number v) w l ts r m n =
+    no_head_of_kind kinds.Number ts (kind_of_number v (head_of ts) m.0) (λ s v us. refl)
+no_head (trees.string v) w l ts r m n =
+    no_head_of_kind kinds.String ts (kind_of_string v (head_of ts) m.0) (λ s v us. refl)
 no_head (trees.boolean true) w l ts r m n = no_head_of_kind kinds.True ts m.0 (λ s v us. refl)
 no_head (trees.boolean false) w l ts r m n = no_head_of_kind kinds.False ts m.0 (λ s v us. refl)
 no_head trees.null w l ts r m n = no_head_of_kind kinds.Null ts m.0 (λ s v us. refl)
@@ -269,28 +283,39 @@ no_head (trees.member e a) w l ts r m n =
     let p = parts (flat e) (token (fixed kinds.Dot) ∷ token (identifier_name a) ∷ []) ts r m in
     no_head e w.0 (level_low e (omega (arith, w.1))) ts p.0 p.1 (λ d. no_arrow_fixed kinds.Dot (head_of p.0) p.2.0 refl)
 no_head (trees.index e i) w l ts r m n =
-    let p = parts (flat e) (token (fixed kinds.LeftBracket) ∷ (flat i ++ (token (fixed kinds.RightBracket) ∷ []))) ts r m in
-    no_head e w.0 (level_low e (omega (arith, w.1))) ts p.0 p.1 (λ d. no_arrow_fixed kinds.LeftBracket (head_of p.0) p.2.0 refl)
+    let p = parts (flat e) (token (fixed kinds.LeftBracket) ∷ (flat i ++ (token (fixed kinds.RightBracket) ∷ [])))
+    ts r m in
+    no_head e w.0 (level_low e (omega (arith, w.1))) ts p.0 p.1
+    (λ d. no_arrow_fixed kinds.LeftBracket (head_of p.0) p.2.0 refl)
 no_head (trees.call f es) w l ts r m n =
-    let p = parts (flat f) (token (fixed kinds.LeftParenthesis) ∷ (flat_expressions es ++ (trailing es ++ (token (fixed kinds.RightParenthesis) ∷ [])))) ts r m in
-    no_head f w.0 (level_low f (omega (arith, w.1))) ts p.0 p.1 (λ d. no_arrow_fixed kinds.LeftParenthesis (head_of p.0) p.2.0 refl)
+    let p = parts (flat f)
+    (token (fixed kinds.LeftParenthesis) ∷
+    (flat_expressions es ++ (trailing es ++ (token (fixed kinds.RightParenthesis) ∷ []))))
+    ts r m in
+    no_head f w.0 (level_low f (omega (arith, w.1))) ts p.0 p.1
+    (λ d. no_arrow_fixed kinds.LeftParenthesis (head_of p.0) p.2.0 refl)
 no_head (trees.postfix o e) w l ts r m n =
     let p = parts (flat e) (beside (fixed (update_kind o)) ∷ []) ts r m in
     let a = apart_update o in
-    no_head e w.0 (level_low e (omega (arith, target_level e w.1))) ts p.0 p.1 (λ d. no_arrow_fixed (update_kind o) (head_of p.0) p.2.0 a.3)
+    no_head e w.0 (level_low e (omega (arith, target_level e w.1))) ts p.0 p.1
+    (λ d. no_arrow_fixed (update_kind o) (head_of p.0) p.2.0 a.3)
 no_head (trees.prefix o e) w l ts r m n = no_head_of_kind (update_kind o) ts m.0 (update_no_head o)
 no_head (trees.unary o e) w l ts r m n = no_head_of_kind (unary_kind o) ts m.0 (unary_no_head o)
 no_head (trees.binary o x y) w l ts r m n =
     let p = parts (flat x) (token (fixed (binary_kind o)) ∷ (flat y ++ [])) ts r m in
     let is : IsOperator (binary_kind o) o = operator_again o in
-    no_head x w.0 (level_low x (omega (arith, w.1, strength_high o))) ts p.0 p.1 (λ d. no_arrow_fixed (binary_kind o) (head_of p.0) p.2.0 is.arrow)
+    no_head x w.0 (level_low x (omega (arith, w.1, strength_high o))) ts p.0 p.1
+    (λ d. no_arrow_fixed (binary_kind o) (head_of p.0) p.2.0 is.arrow)
 no_head (trees.conditional t c a) w l ts r m n =
-    let p = parts (flat t) (token (fixed kinds.Question) ∷ (flat c ++ (token (fixed kinds.Colon) ∷ (flat a ++ [])))) ts r m in
-    no_head t w.0 (level_low t (omega (arith, w.1))) ts p.0 p.1 (λ d. no_arrow_fixed kinds.Question (head_of p.0) p.2.0 refl)
+    let p = parts (flat t) (token (fixed kinds.Question) ∷ (flat c ++ (token (fixed kinds.Colon) ∷ (flat a ++ []))))
+    ts r m in
+    no_head t w.0 (level_low t (omega (arith, w.1))) ts p.0 p.1
+    (λ d. no_arrow_fixed kinds.Question (head_of p.0) p.2.0 refl)
 no_head (trees.assign o t v) w l ts r m n =
     let p = parts (flat t) (token (fixed (assign_kind o)) ∷ (flat v ++ [])) ts r m in
     let is : IsAssignment (assign_kind o) o = assignment_again o in
-    no_head t w.0 (level_low t (omega (arith, target_level t w.1))) ts p.0 p.1 (λ d. no_arrow_fixed (assign_kind o) (head_of p.0) p.2.0 is.arrow)
+    no_head t w.0 (level_low t (omega (arith, target_level t w.1))) ts p.0 p.1
+    (λ d. no_arrow_fixed (assign_kind o) (head_of p.0) p.2.0 is.arrow)
 no_head (trees.comma es) w l ts r m n = absurd cc
 
 -- ---- what an arrow function begins with
@@ -298,7 +323,8 @@ no_head (trees.comma es) w l ts r m n = absurd cc
 names_end : (ns : List Identifier) (ts r : List Token)
     → Matches ((more_names ns ++ (trailing_comma ∷ [])) ++ (token (fixed kinds.RightParenthesis) ∷ [])) ts r
     → (only : Bool) × (past_names false ts ≡ Some (only, r))
-names_end [] ts r (inl m) = (true, past_comma ts m.0 ∙ past_close true (tail_of ts) m.1.0 ∙ ap (λ (l : List Token). Some (true, l)) m.1.1)
+names_end [] ts r (inl m) =
+    (true, past_comma ts m.0 ∙ past_close true (tail_of ts) m.1.0 ∙ ap (λ (l : List Token). Some (true, l)) m.1.1)
 names_end [] ts r (inr m) = (false, past_close false ts m.0 ∙ ap (λ (l : List Token). Some (false, l)) m.1)
 names_end (a ∷ ns) ts r m =
     let p = names_end ns (tail_of (tail_of ts)) r m.1.1 in

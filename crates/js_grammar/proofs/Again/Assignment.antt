@@ -34,7 +34,11 @@ use Rattle.js_grammar.proofs.Again.ArrowHead.{no_head, level_low, list_head, nam
 
 -- the arrow and the body with these marks are read again
 abbrev RestAgain : Below → Parameters → Expression → List Mark → Type 0
-RestAgain b ps x ms = (ts r : List Token) → Matches (beside (fixed kinds.Arrow) ∷ ms) ts r → Stops (edge x) r → arrow_rest b ps (names_of_parameters ps) ts ≡ Ok (x, r)
+RestAgain b ps x ms =
+    (ts r : List Token)
+    → Matches (beside (fixed kinds.Arrow) ∷ ms) ts r
+    → Stops (edge x) r
+    → arrow_rest b ps (names_of_parameters ps) ts ≡ Ok (x, r)
 
 value_rest : (q : SeqAgain) (n : ℕ) (b : Below)
     → AgainBelow n b
@@ -47,7 +51,12 @@ value_rest : (q : SeqAgain) (n : ℕ) (b : Below)
 unfolding arrow_rest
 value_rest q n b h ps e w v no_brace l ts r m s =
     let inner : Matches (flat e) (tail_of ts) r = and_nothing (flat e) (tail_of ts) r m.2 in
-    rw (expect_near_again kinds.Arrow ts (tail_of ts) (m.0, m.1, refl), front_no_brace (flat e) (expression_front e w) no_brace (tail_of ts) r inner, q n b h (an_assignment ∷ []) (e, tt) (tail_of ts) r ((w, v), tt) (omega arith) refl s m.2) refl
+    rw (
+      expect_near_again kinds.Arrow ts (tail_of ts) (m.0, m.1, refl),
+      front_no_brace (flat e) (expression_front e w) no_brace (tail_of ts) r inner,
+      q n b h (an_assignment ∷ []) (e, tt) (tail_of ts) r ((w, v), tt) (omega arith) refl s m.2,
+    )
+    refl
 
 block_rest : (q : SeqAgain) (n : ℕ) (b : Below)
     → AgainBelow n b
@@ -59,7 +68,13 @@ block_rest : (q : SeqAgain) (n : ℕ) (b : Below)
 unfolding arrow_rest
 block_rest q n b h ps body d w l ts r m s =
     let names : List Identifier = names_of_parameters ps in
-    rw (expect_near_again kinds.Arrow ts (tail_of ts) (m.0, m.1, refl), next_again kinds.LeftBrace (head_of (tail_of ts)) m.2.0, q n b h (in_braces function_body (with_names [] names) ∷ []) (body, tt) (tail_of ts) r ((fresh_behind names (declared_names body) d.1, w), tt) (omega arith) refl tt m.2) refl
+    rw (
+      expect_near_again kinds.Arrow ts (tail_of ts) (m.0, m.1, refl),
+      next_again kinds.LeftBrace (head_of (tail_of ts)) m.2.0,
+      q n b h (in_braces function_body (with_names [] names) ∷ []) (body, tt) (tail_of ts) r
+          ((fresh_behind names (declared_names body) d.1, w), tt) (omega arith) refl tt m.2,
+    )
+    refl
 
 one_again : (b : Below) (a : Identifier) (x : Expression) (ms : List Mark)
     → RestAgain b (trees.one_name a) x ms
@@ -84,7 +99,12 @@ list_again : (b : Below) (ns : List Identifier) (x : Expression) (ms : List Mark
 unfolding arrow_of_list
 list_again b ns x ms f rest only ts r m s =
     let p = parts (flat_parameters ns) (beside (fixed kinds.Arrow) ∷ ms) ts r m in
-    rw (expect_again kinds.LeftParenthesis ts (tail_of ts) (p.1.0, refl), names_again ns (tail_of ts) p.0 p.1.1, fresh_test [] ns f) (rest p.0 r p.2 s)
+    rw (
+      expect_again kinds.LeftParenthesis ts (tail_of ts) (p.1.0, refl),
+      names_again ns (tail_of ts) p.0 p.1.1,
+      fresh_test [] ns f,
+    )
+    (rest p.0 r p.2 s)
 
 arrow_again : (n : ℕ) (b : Below) (ps : Parameters) (x : Expression) (ms : List Mark)
     → AreFresh [] (names_of_parameters ps)
@@ -126,7 +146,12 @@ operation_assignment : (q : SeqAgain) (n : ℕ) (b : Below)
     → assignment b n ts ≡ Ok (e, r)
 unfolding assignment joined
 operation_assignment q n b h os e w v l ts r m s =
-    rw (no_head e w (level_low e (omega (arith, v))) ts r m (stops_arrow (edge e) r s), operation_again q n b h os 3 e w v v l ts r m (assignment_stops 3 (edge e) r s), stops_joint (edge e) r (operation_edge e w v) s) refl
+    rw (
+      no_head e w (level_low e (omega (arith, v))) ts r m (stops_arrow (edge e) r s),
+      operation_again q n b h os 3 e w v v l ts r m (assignment_stops 3 (edge e) r s),
+      stops_joint (edge e) r (operation_edge e w v) s,
+    )
+    refl
 
 -- a token of a kind that goes on with no operation
 other_stops : (k : TokenKind)
@@ -136,7 +161,12 @@ other_stops : (k : TokenKind)
     → (m : ℕ) (d : Edge) (r : List Token)
     → IsNext (fixed k) (head_of r)
     → StopsOperation m d r
-other_stops k l u o m plain r next = (link_fixed k (head_of r) next ∙ l, no_update_fixed k (head_of r) next u, rw (operator_fixed k (head_of r) next, o) refl)
+other_stops k l u o m plain r next = (
+  link_fixed k (head_of r) next
+      ∙ l,
+  no_update_fixed k (head_of r) next u,
+  rw (operator_fixed k (head_of r) next, o) refl,
+)
 other_stops k l u o m update r next = rw (operator_fixed k (head_of r) next, o) refl
 other_stops k l u o m braces r next = tt
 
@@ -152,11 +182,22 @@ conditional_again : (q : SeqAgain) (n : ℕ) (b : Below)
     → assignment b n ts ≡ Ok (trees.conditional t c a, r)
 unfolding assignment joined
 conditional_again q n b h os t c a w l ts r m s =
-    let p = parts (flat t) (token (fixed kinds.Question) ∷ (flat c ++ (token (fixed kinds.Colon) ∷ (flat a ++ [])))) ts r m in
+    let p = parts (flat t) (token (fixed kinds.Question) ∷ (flat c ++ (token (fixed kinds.Colon) ∷ (flat a ++ []))))
+    ts r m in
     let low : nat_le (height t) n ≡ true = le-leb (height t) n (omega arith) in
     let found : joint (head_of p.0) ≡ question = joint_fixed kinds.Question (head_of p.0) p.2.0 in
-    let test : operation b n 3 ts ≡ Ok (t, p.0) = operation_again q n b h os 3 t w.0 w.1 w.1 (omega arith) ts p.0 p.1 (other_stops kinds.Question refl refl refl 3 (edge t) p.0 p.2.0) in
-    rw (no_head t w.0 (level_low t (omega (arith, w.1))) ts p.0 p.1 (λ d. no_arrow_fixed kinds.Question (head_of p.0) p.2.0 refl), test, found, low, q n b h (tok kinds.Question ∷ an_assignment ∷ tok kinds.Colon ∷ an_assignment ∷ []) (tt, (c, (tt, (a, tt)))) p.0 r (tt, ((w.2, w.3), (tt, ((w.4, w.5), tt)))) (omega arith) refl s p.2) refl
+    let test : operation b n 3 ts ≡ Ok (t, p.0) = operation_again q n b h os 3 t w.0 w.1 w.1 (omega arith) ts p.0 p.1
+    (other_stops kinds.Question refl refl refl 3 (edge t) p.0 p.2.0) in
+    rw (
+      no_head t w.0 (level_low t (omega (arith, w.1))) ts p.0 p.1
+          (λ d. no_arrow_fixed kinds.Question (head_of p.0) p.2.0 refl),
+      test,
+      found,
+      low,
+      q n b h (tok kinds.Question ∷ an_assignment ∷ tok kinds.Colon ∷ an_assignment ∷ []) (tt, (c, (tt, (a, tt))))
+          p.0 r (tt, ((w.2, w.3), (tt, ((w.4, w.5), tt)))) (omega arith) refl s p.2,
+    )
+    refl
 
 assign_again : (q : SeqAgain) (n : ℕ) (b : Below)
     → AgainBelow n b
@@ -175,11 +216,23 @@ assign_again q n b h os o t v w l ts r m s =
     let high : level t ≡ 15 = target_level t w.1 in
     let low : nat_le (height t) n ≡ true = le-leb (height t) n (omega arith) in
     let found : joint (head_of p.0) ≡ assigns_by o = joint_fixed (assign_kind o) (head_of p.0) p.2.0 ∙ is.joint in
-    let target : operation b n 3 ts ≡ Ok (t, p.0) = operation_again q n b h os 3 t w.0 (omega arith) (omega arith) (omega arith) ts p.0 p.1 (other_stops (assign_kind o) is.link is.update is.operator 3 (edge t) p.0 p.2.0) in
-    rw (no_head t w.0 (level_low t (omega arith)) ts p.0 p.1 (λ d. no_arrow_fixed (assign_kind o) (head_of p.0) p.2.0 is.arrow), target, found, w.1, low, q n b h (tok (assign_kind o) ∷ an_assignment ∷ []) (tt, (v, tt)) p.0 r (tt, ((w.2, w.3), tt)) (omega arith) refl s p.2) refl
+    let target : operation b n 3 ts ≡ Ok (t, p.0) = operation_again q n b h os 3 t w.0 (omega arith) (omega arith)
+    (omega arith) ts p.0 p.1 (other_stops (assign_kind o) is.link is.update is.operator 3 (edge t) p.0 p.2.0) in
+    rw (
+      no_head t w.0 (level_low t (omega arith)) ts p.0 p.1
+          (λ d. no_arrow_fixed (assign_kind o) (head_of p.0) p.2.0 is.arrow),
+      target,
+      found,
+      w.1,
+      low,
+      q n b h (tok (assign_kind o) ∷ an_assignment ∷ []) (tt, (v, tt)) p.0 r (tt, ((w.2, w.3), tt)) (omega arith)
+          refl s p.2,
+    )
+    refl
 
 abbrev AssignmentAgain : ℕ → Below → Expression → Type 0
-AssignmentAgain n b e = height e ≤ suc n → (ts r : List Token) → Matches (flat e) ts r → Stops (edge e) r → assignment b n ts ≡ Ok (e, r)
+AssignmentAgain n b e =
+    height e ≤ suc n → (ts r : List Token) → Matches (flat e) ts r → Stops (edge e) r → assignment b n ts ≡ Ok (e, r)
 
 assignment_reads : (q : SeqAgain) (n : ℕ) (b : Below)
     → AgainBelow n b
@@ -188,28 +241,49 @@ assignment_reads : (q : SeqAgain) (n : ℕ) (b : Below)
     → 1 ≤ level e
     → Well e
     → AssignmentAgain n b e
-assignment_reads q n b h os (trees.arrow ps e) v w l ts r m s = arrow_again n b ps (trees.arrow ps e) (flat e ++ []) w.0 (value_rest q n b h ps e w.1 w.2 w.3 (omega arith)) ts r m s
-assignment_reads q n b h os (trees.arrow_block ps body) v w l ts r m s = arrow_again n b ps (trees.arrow_block ps body) (flats.in_braces (flat_statements body) ++ []) w.0.0 (block_rest q n b h ps body w.0 w.1 (omega arith)) ts r m s
+assignment_reads q n b h os (trees.arrow ps e) v w l ts r m s =
+    arrow_again n b ps (trees.arrow ps e) (flat e ++ []) w.0 (value_rest q n b h ps e w.1 w.2 w.3 (omega arith))
+    ts r m s
+assignment_reads q n b h os (trees.arrow_block ps body) v w l ts r m s =
+    arrow_again n b ps (trees.arrow_block ps body) (flats.in_braces (flat_statements body) ++ []) w.0.0
+    (block_rest q n b h ps body w.0 w.1 (omega arith)) ts r m s
 assignment_reads q n b h os (trees.conditional t c a) v w l ts r m s = conditional_again q n b h os t c a w l ts r m s
 assignment_reads q n b h os (trees.assign o t a) v w l ts r m s = assign_again q n b h os o t a w l ts r m s
 assignment_reads q n b h os (trees.comma es) v w l ts r m s = absurd (omega arith)
-assignment_reads q n b h os (trees.binary o x y) v w l ts r m s = operation_assignment q n b h os (trees.binary o x y) w (strength_high o) l ts r m s
-assignment_reads q n b h os (trees.unary o e) v w l ts r m s = operation_assignment q n b h os (trees.unary o e) w (omega arith) l ts r m s
-assignment_reads q n b h os (trees.prefix o e) v w l ts r m s = operation_assignment q n b h os (trees.prefix o e) w (omega arith) l ts r m s
-assignment_reads q n b h os (trees.postfix o e) v w l ts r m s = operation_assignment q n b h os (trees.postfix o e) w (omega arith) l ts r m s
-assignment_reads q n b h os (trees.member e a) v w l ts r m s = operation_assignment q n b h os (trees.member e a) w (omega arith) l ts r m s
-assignment_reads q n b h os (trees.index e i) v w l ts r m s = operation_assignment q n b h os (trees.index e i) w (omega arith) l ts r m s
-assignment_reads q n b h os (trees.call f es) v w l ts r m s = operation_assignment q n b h os (trees.call f es) w (omega arith) l ts r m s
-assignment_reads q n b h os trees.this v w l ts r m s = operation_assignment q n b h os trees.this w (omega arith) l ts r m s
-assignment_reads q n b h os (trees.name a) v w l ts r m s = operation_assignment q n b h os (trees.name a) w (omega arith) l ts r m s
-assignment_reads q n b h os (trees.number a) v w l ts r m s = operation_assignment q n b h os (trees.number a) w (omega arith) l ts r m s
-assignment_reads q n b h os (trees.string a) v w l ts r m s = operation_assignment q n b h os (trees.string a) w (omega arith) l ts r m s
-assignment_reads q n b h os (trees.boolean a) v w l ts r m s = operation_assignment q n b h os (trees.boolean a) w (omega arith) l ts r m s
-assignment_reads q n b h os trees.null v w l ts r m s = operation_assignment q n b h os trees.null w (omega arith) l ts r m s
-assignment_reads q n b h os (trees.array es) v w l ts r m s = operation_assignment q n b h os (trees.array es) w (omega arith) l ts r m s
-assignment_reads q n b h os (trees.object ps) v w l ts r m s = operation_assignment q n b h os (trees.object ps) w (omega arith) l ts r m s
-assignment_reads q n b h os (trees.function o ps body) v w l ts r m s = operation_assignment q n b h os (trees.function o ps body) w (omega arith) l ts r m s
-assignment_reads q n b h os (trees.parenthesized e) v w l ts r m s = operation_assignment q n b h os (trees.parenthesized e) w (omega arith) l ts r m s
+assignment_reads q n b h os (trees.binary o x y) v w l ts r m s =
+    operation_assignment q n b h os (trees.binary o x y) w (strength_high o) l ts r m s
+assignment_reads q n b h os (trees.unary o e) v w l ts r m s =
+    operation_assignment q n b h os (trees.unary o e) w (omega arith) l ts r m s
+assignment_reads q n b h os (trees.prefix o e) v w l ts r m s =
+    operation_assignment q n b h os (trees.prefix o e) w (omega arith) l ts r m s
+assignment_reads q n b h os (trees.postfix o e) v w l ts r m s =
+    operation_assignment q n b h os (trees.postfix o e) w (omega arith) l ts r m s
+assignment_reads q n b h os (trees.member e a) v w l ts r m s =
+    operation_assignment q n b h os (trees.member e a) w (omega arith) l ts r m s
+assignment_reads q n b h os (trees.index e i) v w l ts r m s =
+    operation_assignment q n b h os (trees.index e i) w (omega arith) l ts r m s
+assignment_reads q n b h os (trees.call f es) v w l ts r m s =
+    operation_assignment q n b h os (trees.call f es) w (omega arith) l ts r m s
+assignment_reads q n b h os trees.this v w l ts r m s =
+    operation_assignment q n b h os trees.this w (omega arith) l ts r m s
+assignment_reads q n b h os (trees.name a) v w l ts r m s =
+    operation_assignment q n b h os (trees.name a) w (omega arith) l ts r m s
+assignment_reads q n b h os (trees.number a) v w l ts r m s =
+    operation_assignment q n b h os (trees.number a) w (omega arith) l ts r m s
+assignment_reads q n b h os (trees.string a) v w l ts r m s =
+    operation_assignment q n b h os (trees.string a) w (omega arith) l ts r m s
+assignment_reads q n b h os (trees.boolean a) v w l ts r m s =
+    operation_assignment q n b h os (trees.boolean a) w (omega arith) l ts r m s
+assignment_reads q n b h os trees.null v w l ts r m s =
+    operation_assignment q n b h os trees.null w (omega arith) l ts r m s
+assignment_reads q n b h os (trees.array es) v w l ts r m s =
+    operation_assignment q n b h os (trees.array es) w (omega arith) l ts r m s
+assignment_reads q n b h os (trees.object ps) v w l ts r m s =
+    operation_assignment q n b h os (trees.object ps) w (omega arith) l ts r m s
+assignment_reads q n b h os (trees.function o ps body) v w l ts r m s =
+    operation_assignment q n b h os (trees.function o ps body) w (omega arith) l ts r m s
+assignment_reads q n b h os (trees.parenthesized e) v w l ts r m s =
+    operation_assignment q n b h os (trees.parenthesized e) w (omega arith) l ts r m s
 
 pub assignment_is_read : (q : SeqAgain) (n : ℕ) (b : Below)
     → AgainBelow n b
@@ -258,7 +332,13 @@ comma_expression q n b h os e f es w l ts r m s c =
     let p = parts (flat e) (more_expressions rest) ts r m in
     let comma : is_kind kinds.Comma (head_of p.0) ≡ true = next_again kinds.Comma (head_of p.0) p.2.0 in
     let low : nat_le (height e) n ≡ true = le-leb (height e) n (omega arith) in
-    rw (assignment_is_read q n b h os e w.1.0 w.1.1 (omega arith) ts p.0 p.1 (comma_stops p.0 comma (edge e)), comma, low, more_again n b h e rest w.1.2 (omega arith) p.0 r p.2 s c) refl
+    rw (
+      assignment_is_read q n b h os e w.1.0 w.1.1 (omega arith) ts p.0 p.1 (comma_stops p.0 comma (edge e)),
+      comma,
+      low,
+      more_again n b h e rest w.1.2 (omega arith) p.0 r p.2 s c,
+    )
+    refl
 
 pub expression_is_read : (q : SeqAgain) (n : ℕ) (b : Below)
     → AgainBelow n b
@@ -273,8 +353,10 @@ pub expression_is_read : (q : SeqAgain) (n : ℕ) (b : Below)
     → expression b n ts ≡ Ok (e, r)
 expression_is_read q n b h os (trees.comma trees.no_expressions) w l ts r m s c = absurd cc
 expression_is_read q n b h os (trees.comma (trees.an_expression e trees.no_expressions)) w l ts r m s c = absurd cc
-expression_is_read q n b h os (trees.comma (trees.an_expression e (trees.an_expression f es))) w l ts r m s c = comma_expression q n b h os e f es w l ts r m s c
-expression_is_read q n b h os (trees.binary o x y) w l ts r m s c = one_expression q n b h os (trees.binary o x y) w (omega (arith, strength_high o)) l ts r m s c
+expression_is_read q n b h os (trees.comma (trees.an_expression e (trees.an_expression f es))) w l ts r m s c =
+    comma_expression q n b h os e f es w l ts r m s c
+expression_is_read q n b h os (trees.binary o x y) w l ts r m s c =
+    one_expression q n b h os (trees.binary o x y) w (omega (arith, strength_high o)) l ts r m s c
 expression_is_read q n b h os e w l ts r m s c = one_expression q n b h os e w (omega arith) l ts r m s c
 
 -- ---- the code of a function
@@ -295,7 +377,11 @@ arrow_code b (trees.one_name a) x ms f rest ts m =
     rw (start_name a (head_of ts) m.0) (one_again b a x ms rest ts [] m (stops_at_end (edge x)))
 arrow_code b (trees.name_list ns) x ms f rest ts m =
     let p = parts (flat_parameters ns) (beside (fixed kinds.Arrow) ∷ ms) ts [] m in
-    rw (start_fixed kinds.LeftParenthesis classes.parenthesis (head_of ts) p.1.0 (λ s v. refl), parameters_again ns f ts p.0 p.1) (rest p.0 [] p.2 (stops_at_end (edge x)))
+    rw (
+      start_fixed kinds.LeftParenthesis classes.parenthesis (head_of ts) p.1.0 (λ s v. refl),
+      parameters_again ns f ts p.0 p.1,
+    )
+    (rest p.0 [] p.2 (stops_at_end (edge x)))
 
 pub function_code_again : (q : SeqAgain) (n : ℕ) (b : Below)
     → AgainBelow n b
@@ -306,7 +392,12 @@ pub function_code_again : (q : SeqAgain) (n : ℕ) (b : Below)
     → (ts : List Token)
     → Matches (flat e) ts []
     → function_code_by b (start (head_of ts)) ts ≡ Ok (e, [])
-function_code_again q n b h (trees.function o ps body) i w l ts m = rw (start_fixed kinds.Function classes.function_word (head_of ts) m.0 (λ s v. refl)) (function_again q n b h o ps body w l ts [] m)
-function_code_again q n b h (trees.arrow ps e) i w l ts m = arrow_code b ps (trees.arrow ps e) (flat e ++ []) w.0 (value_rest q n b h ps e w.1 w.2 w.3 (omega arith)) ts m
-function_code_again q n b h (trees.arrow_block ps body) i w l ts m = arrow_code b ps (trees.arrow_block ps body) (flats.in_braces (flat_statements body) ++ []) w.0.0 (block_rest q n b h ps body w.0 w.1 (omega arith)) ts m
+function_code_again q n b h (trees.function o ps body) i w l ts m =
+    rw (start_fixed kinds.Function classes.function_word (head_of ts) m.0 (λ s v. refl))
+    (function_again q n b h o ps body w l ts [] m)
+function_code_again q n b h (trees.arrow ps e) i w l ts m =
+    arrow_code b ps (trees.arrow ps e) (flat e ++ []) w.0 (value_rest q n b h ps e w.1 w.2 w.3 (omega arith)) ts m
+function_code_again q n b h (trees.arrow_block ps body) i w l ts m =
+    arrow_code b ps (trees.arrow_block ps body) (flats.in_braces (flat_statements body) ++ []) w.0.0
+    (block_rest q n b h ps body w.0 w.1 (omega arith)) ts m
 function_code_again q n b h _ i w l ts m = absurd cc

@@ -25,7 +25,8 @@ pub assignment_again : SeqAgain
     → Matches (flat e) ts r
     → Stops (edge e) r
     → assignment b n ts ≡ Ok (e, r)
-assignment_again q n b h e w v l ts r m s = assignments.assignment_is_read q n b h (objects_again q n b h) e w v l ts r m s
+assignment_again q n b h e w v l ts r m s =
+    assignments.assignment_is_read q n b h (objects_again q n b h) e w v l ts r m s
 
 pub expression_again : SeqAgain
     → (n : ℕ) (b : Below)
@@ -38,7 +39,8 @@ pub expression_again : SeqAgain
     → Stops (edge e) r
     → NoComma r
     → expression b n ts ≡ Ok (e, r)
-expression_again q n b h e w l ts r m s c = assignments.expression_is_read q n b h (objects_again q n b h) e w l ts r m s c
+expression_again q n b h e w l ts r m s c =
+    assignments.expression_is_read q n b h (objects_again q n b h) e w l ts r m s c
 
 pub operation_again : SeqAgain
     → (n : ℕ) (b : Below)
@@ -52,7 +54,8 @@ pub operation_again : SeqAgain
     → Matches (flat e) ts r
     → StopsOperation m (edge e) r
     → operation b n m ts ≡ Ok (e, r)
-operation_again q n b h m e w v low l ts r marks s = operations.operation_again q n b h (objects_again q n b h) m e w v low l ts r marks s
+operation_again q n b h m e w v low l ts r marks s =
+    operations.operation_again q n b h (objects_again q n b h) m e w v low l ts r marks s
 
 pub unary_again : SeqAgain
     → (n : ℕ) (b : Below)

@@ -56,30 +56,45 @@ for_of_values context constant n e s = (tt, (tt, (tt, (n, (tt, (e, (tt, (s, tt))
 
 -- behind the first part of a head
 abbrev test_marks : OptionalExpression → OptionalExpression → Statement → List Mark
-test_marks t u s = flat_optional t ++ (token (fixed kinds.Semicolon) ∷ (flat_optional u ++ (token (fixed kinds.RightParenthesis) ∷ (flat_statement s ++ []))))
+test_marks t u s =
+    flat_optional t ++
+    (token (fixed kinds.Semicolon) ∷
+    (flat_optional u ++ (token (fixed kinds.RightParenthesis) ∷ (flat_statement s ++ []))))
 
 abbrev test_pieces : OptionalExpression → OptionalExpression → Statement → List Mark
-test_pieces t u s = (flat_optional t ++ (token (fixed kinds.Semicolon) ∷ [])) ++ ((flat_optional u ++ (token (fixed kinds.RightParenthesis) ∷ [])) ++ (flat_statement s ++ []))
+test_pieces t u s =
+    (flat_optional t ++ (token (fixed kinds.Semicolon) ∷ [])) ++
+    ((flat_optional u ++ (token (fixed kinds.RightParenthesis) ∷ [])) ++ (flat_statement s ++ []))
 
 tests_same : (t u : OptionalExpression) (s : Statement) → test_marks t u s ≡ test_pieces t u s
 tests_same t u s =
-    ended_marks (flat_optional t) (token (fixed kinds.Semicolon)) (flat_optional u ++ (token (fixed kinds.RightParenthesis) ∷ (flat_statement s ++ []))) ((flat_optional u ++ (token (fixed kinds.RightParenthesis) ∷ [])) ++ (flat_statement s ++ []))
-    (ended_marks (flat_optional u) (token (fixed kinds.RightParenthesis)) (flat_statement s ++ []) (flat_statement s ++ []) refl)
+    ended_marks (flat_optional t) (token (fixed kinds.Semicolon))
+    (flat_optional u ++ (token (fixed kinds.RightParenthesis) ∷ (flat_statement s ++ [])))
+    ((flat_optional u ++ (token (fixed kinds.RightParenthesis) ∷ [])) ++ (flat_statement s ++ []))
+    (ended_marks (flat_optional u) (token (fixed kinds.RightParenthesis)) (flat_statement s ++ [])
+    (flat_statement s ++ []) refl)
 
 for_marks : (context : Context) (i t u : OptionalExpression) (s : Statement)
     → flat_statement (trees.for i t u s) ≡ marks (for_items context) (for_values context i t u s)
 for_marks context i t u s =
     ap (λ (l : List Mark). token (fixed kinds.For) ∷ token (fixed kinds.LeftParenthesis) ∷ l)
-    (ended_marks (flat_optional i) (token (fixed kinds.Semicolon)) (test_marks t u s) (test_pieces t u s) (tests_same t u s))
+    (ended_marks (flat_optional i) (token (fixed kinds.Semicolon)) (test_marks t u s) (test_pieces t u s)
+    (tests_same t u s))
 
 for_lexical_marks : (context : Context) (constant : Bool) (ds : Declarators) (t u : OptionalExpression) (s : Statement)
-    → flat_statement (trees.for_lexical constant ds t u s) ≡ marks (for_lexical_items context constant) (for_lexical_values context constant ds t u s)
+    → flat_statement (trees.for_lexical constant ds t u s) ≡ marks (for_lexical_items context constant)
+    (for_lexical_values context constant ds t u s)
 for_lexical_marks context constant ds t u s =
-    ap (λ (l : List Mark). token (fixed kinds.For) ∷ token (fixed kinds.LeftParenthesis) ∷ (l ++ (flat_declarators ds ++ (token (fixed kinds.Semicolon) ∷ test_marks t u s)))) (let_marks constant)
-    ∙ ap (λ (l : List Mark). token (fixed kinds.For) ∷ token (fixed kinds.LeftParenthesis) ∷ token (fixed (let_kind constant)) ∷ (flat_declarators ds ++ (token (fixed kinds.Semicolon) ∷ l))) (tests_same t u s)
+    ap (λ (l : List Mark). token (fixed kinds.For) ∷ token (fixed kinds.LeftParenthesis) ∷
+    (l ++ (flat_declarators ds ++ (token (fixed kinds.Semicolon) ∷ test_marks t u s))))
+    (let_marks constant)
+    ∙ ap (λ (l : List Mark). token (fixed kinds.For) ∷ token (fixed kinds.LeftParenthesis) ∷ token
+    (fixed (let_kind constant)) ∷ (flat_declarators ds ++ (token (fixed kinds.Semicolon) ∷ l)))
+    (tests_same t u s)
 
 for_of_marks : (context : Context) (constant : Bool) (n : Identifier) (e : Expression) (s : Statement)
-    → flat_statement (trees.for_of constant n e s) ≡ marks (for_of_items context constant) (for_of_values context constant n e s)
+    → flat_statement (trees.for_of constant n e s) ≡ marks (for_of_items context constant)
+    (for_of_values context constant n e s)
 for_of_marks context true n e s = refl
 for_of_marks context false n e s = refl
 
@@ -119,7 +134,8 @@ no_second_name : (ds : Declarators)
     → is_kind kinds.Name (head_of (tail_of ts)) ≡ false
 no_second_name trees.no_declarators some ms ts r m = absurd cc
 no_second_name (trees.a_declarator (trees.declarator n trees.omitted) trees.no_declarators) some ms ts r m =
-    kind_not kinds.Semicolon kinds.Name (head_of (tail_of ts)) (next_again kinds.Semicolon (head_of (tail_of ts)) m.1.0) refl
+    kind_not kinds.Semicolon kinds.Name (head_of (tail_of ts)) (next_again kinds.Semicolon (head_of (tail_of ts)) m.1.0)
+    refl
 no_second_name (trees.a_declarator (trees.declarator n trees.omitted) (trees.a_declarator d ds)) some ms ts r m =
     kind_not kinds.Comma kinds.Name (head_of (tail_of ts)) (next_again kinds.Comma (head_of (tail_of ts)) m.1.0) refl
 no_second_name (trees.a_declarator (trees.declarator n (trees.present e)) ds) some ms ts r m =
@@ -129,10 +145,12 @@ head_declares : (constant : Bool) (ts : List Token)
     → IsNext (fixed (let_kind constant)) (head_of ts)
     → is_kind kinds.Name (head_of (tail_of (tail_of ts))) ≡ false
     → for_head ts ≡ declares constant
-head_declares constant ts m n = rw (let_first constant (head_of ts) m) (by_test (is_kind kinds.Name (head_of (tail_of ts))))
+head_declares constant ts m n =
+    rw (let_first constant (head_of ts) m) (by_test (is_kind kinds.Name (head_of (tail_of ts))))
   where
     by_test : (x : Bool)
-        → cond (x && is_name (codes "of") (head_of (tail_of (tail_of ts)))) (each constant) (declares constant) ≡ declares constant
+        → cond (x && is_name (codes "of") (head_of (tail_of (tail_of ts)))) (each constant) (declares constant)
+        ≡ declares constant
     by_test true = rw n refl
     by_test false = refl
 
@@ -141,7 +159,13 @@ head_each : (constant : Bool) (n : Identifier) (ts : List Token)
     → IsNext (identifier n) (head_of (tail_of ts))
     → IsNext (identifier (codes "of")) (head_of (tail_of (tail_of ts)))
     → for_head ts ≡ each constant
-head_each constant n ts m x y = rw (let_first constant (head_of ts) m, (text_is n (head_of (tail_of ts)) x).0, name_is (codes "of") (head_of (tail_of (tail_of ts))) y) refl
+head_each constant n ts m x y =
+    rw (
+      let_first constant (head_of ts) m,
+      (text_is n (head_of (tail_of ts)) x).0,
+      name_is (codes "of") (head_of (tail_of (tail_of ts))) y,
+    )
+    refl
 
 -- ---- statements
 
@@ -156,9 +180,11 @@ pub for_statement : (n : ℕ) (b : Below)
     → for_at b context ts ≡ Ok (trees.for i t u s, r)
 unfolding for_at
 for_statement n b a context i t u s w h ts r m f =
-    let head : for_head (tail_of (tail_of ts)) ≡ plain_head = optional_plain i w.0 (test_marks t u s) (tail_of (tail_of ts)) r m.1.1 in
+    let head : for_head (tail_of (tail_of ts)) ≡ plain_head = optional_plain i w.0 (test_marks t u s)
+    (tail_of (tail_of ts)) r m.1.1 in
     let read : for_by b context plain_head ts ≡ Ok (trees.for i t u s, r) =
-    made_again n b a (for_items context) (λ v. trees.for v.1.1.0 v.1.1.1.0 v.1.1.1.1.0 v.1.1.1.1.1.0) (for_values context i t u s) ts r
+    made_again n b a (for_items context) (λ v. trees.for v.1.1.0 v.1.1.1.0 v.1.1.1.1.0 v.1.1.1.1.1.0)
+    (for_values context i t u s) ts r
     (tt, (tt, (w.0, (w.1, (w.2, ((w.3, w.4), tt)))))) (omega (arith, h)) refl f
     (subst (λ (l : List Mark). Matches l ts r) (for_marks context i t u s) m) in
     rw (head, read) refl
@@ -174,11 +200,15 @@ pub for_lexical_statement : (n : ℕ) (b : Below)
     → for_at b context ts ≡ Ok (trees.for_lexical constant ds t u s, r)
 unfolding for_at
 for_lexical_statement n b a context constant ds t u s w h ts r m f =
-    let pieces : Matches (marks (for_lexical_items context constant) (for_lexical_values context constant ds t u s)) ts r = subst (λ (l : List Mark). Matches l ts r) (for_lexical_marks context constant ds t u s) m in
+    let pieces : Matches (marks (for_lexical_items context constant) (for_lexical_values context constant ds t u s))
+    ts r = subst (λ (l : List Mark). Matches l ts r) (for_lexical_marks context constant ds t u s) m in
     let us : List Token = tail_of (tail_of ts) in
-    let head : for_head us ≡ declares constant = head_declares constant us pieces.1.1.0 (no_second_name ds w.0 (test_pieces t u s) (tail_of us) r pieces.1.1.1) in
+    let head : for_head us ≡ declares constant = head_declares constant us pieces.1.1.0
+    (no_second_name ds w.0 (test_pieces t u s) (tail_of us) r pieces.1.1.1) in
     let read : for_by b context (declares constant) ts ≡ Ok (trees.for_lexical constant ds t u s, r) =
-    made_again n b a (for_lexical_items context constant) (λ v. trees.for_lexical constant v.1.1.1.0 v.1.1.1.1.1.0 v.1.1.1.1.1.1.0 v.1.1.1.1.1.1.1.0) (for_lexical_values context constant ds t u s) ts r
+    made_again n b a (for_lexical_items context constant)
+    (λ v. trees.for_lexical constant v.1.1.1.0 v.1.1.1.1.1.0 v.1.1.1.1.1.1.0 v.1.1.1.1.1.1.1.0)
+    (for_lexical_values context constant ds t u s) ts r
     (tt, (tt, (tt, ((w.0, w.1, w.2, w.3), (tt, (w.4, (w.5, ((w.6, w.7), tt)))))))) (omega (arith, h)) refl f pieces in
     rw (head, read) refl
 
@@ -193,9 +223,13 @@ pub for_of_statement : (n : ℕ) (b : Below)
     → for_at b context ts ≡ Ok (trees.for_of constant x e s, r)
 unfolding for_at
 for_of_statement n b a context constant x e s w h ts r m f =
-    let pieces : Matches (marks (for_of_items context constant) (for_of_values context constant x e s)) ts r = subst (λ (l : List Mark). Matches l ts r) (for_of_marks context constant x e s) m in
-    let head : for_head (tail_of (tail_of ts)) ≡ each constant = head_each constant x (tail_of (tail_of ts)) pieces.1.1.0 pieces.1.1.1.0 pieces.1.1.1.1.0 in
+    let pieces : Matches (marks (for_of_items context constant) (for_of_values context constant x e s)) ts r = subst
+    (λ (l : List Mark). Matches l ts r) (for_of_marks context constant x e s) m in
+    let head : for_head (tail_of (tail_of ts)) ≡ each constant = head_each constant x (tail_of (tail_of ts))
+    pieces.1.1.0 pieces.1.1.1.0 pieces.1.1.1.1.0 in
     let read : for_by b context (each constant) ts ≡ Ok (trees.for_of constant x e s, r) =
-    made_again n b a (for_of_items context constant) (λ v. trees.for_of constant v.1.1.1.0 v.1.1.1.1.1.0 v.1.1.1.1.1.1.1.0) (for_of_values context constant x e s) ts r
+    made_again n b a (for_of_items context constant)
+    (λ v. trees.for_of constant v.1.1.1.0 v.1.1.1.1.1.0 v.1.1.1.1.1.1.1.0) (for_of_values context constant x e s)
+    ts r
     (tt, (tt, (tt, (tt, (tt, ((w.0, w.1), (tt, ((w.2, w.3), tt)))))))) (omega (arith, h)) refl f pieces in
     rw (head, read) refl

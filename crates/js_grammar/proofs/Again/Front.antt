@@ -74,7 +74,14 @@ pub record Front (ms : List Mark) : Type 0 where
 
 -- so do these with others behind them
 pub front_of_more : (ms ns : List Mark) → Front ms → Front (ms ++ ns)
-front_of_more ms ns f = record { symbol = f.symbol; left = f.left ++ ns; begins = f.begins; marks = ap (λ (l : List Mark). l ++ ns) f.marks }
+front_of_more ms ns f =
+    record {
+      symbol = f.symbol;
+      left = f.left ++ ns;
+      begins = f.begins;
+      marks = ap (λ (l : List Mark). l ++ ns)
+          f.marks;
+    }
 
 front_is : (s : Symbol) (ms : List Mark) → opens_symbol s ≡ true → Front (token s ∷ ms)
 front_is s ms b = record { symbol = s; left = ms; begins = b; marks = refl }
@@ -203,10 +210,13 @@ symbol_of_kind : (k : TokenKind) (s : Symbol) (o : Option Token)
     → IsNext s o → is_kind k o ≡ true → s ≡ fixed k
 symbol_of_kind k s None b x y z m e = absurd m
 symbol_of_kind k (fixed j) (Some t) b x y z m e = ap (λ (i : TokenKind). fixed i) (sym m ∙ kind_is k t e)
-symbol_of_kind k (identifier n) (Some t) b x y z m e = let same : is_same_kind t.kind k ≡ false = ap (λ (i : TokenKind). is_same_kind i k) m.0 ∙ x in absurd cc
+symbol_of_kind k (identifier n) (Some t) b x y z m e =
+    let same : is_same_kind t.kind k ≡ false = ap (λ (i : TokenKind). is_same_kind i k) m.0 ∙ x in absurd cc
 symbol_of_kind k (identifier_name n) (Some t) b x y z m e = absurd cc
-symbol_of_kind k (numeric_literal n) (Some t) b x y z m e = let same : is_same_kind t.kind k ≡ false = ap (λ (i : TokenKind). is_same_kind i k) m.0 ∙ y in absurd cc
-symbol_of_kind k (string_literal n) (Some t) b x y z m e = let same : is_same_kind t.kind k ≡ false = ap (λ (i : TokenKind). is_same_kind i k) m.0 ∙ z in absurd cc
+symbol_of_kind k (numeric_literal n) (Some t) b x y z m e =
+    let same : is_same_kind t.kind k ≡ false = ap (λ (i : TokenKind). is_same_kind i k) m.0 ∙ y in absurd cc
+symbol_of_kind k (string_literal n) (Some t) b x y z m e =
+    let same : is_same_kind t.kind k ≡ false = ap (λ (i : TokenKind). is_same_kind i k) m.0 ∙ z in absurd cc
 
 pub front_no_brace : (ms : List Mark)
     → Front ms
@@ -218,8 +228,10 @@ front_no_brace ms f n ts r m = by_test (is_kind kinds.LeftBrace (head_of ts)) re
   where
     by_test : (x : Bool) → is_kind kinds.LeftBrace (head_of ts) ≡ x → x ≡ false
     by_test true e =
-        let s : f.symbol ≡ fixed kinds.LeftBrace = symbol_of_kind kinds.LeftBrace f.symbol (head_of ts) f.begins refl refl refl (front_next ms f ts r m) e in
-        let same : begins_with_brace ms ≡ true = ap begins_with_brace (f.marks ∙ ap (λ (s : Symbol). token s ∷ f.left) s) in
+        let s : f.symbol ≡ fixed kinds.LeftBrace = symbol_of_kind kinds.LeftBrace f.symbol (head_of ts)
+        f.begins refl refl refl (front_next ms f ts r m) e in
+        let same : begins_with_brace ms ≡ true = ap begins_with_brace
+        (f.marks ∙ ap (λ (s : Symbol). token s ∷ f.left) s) in
         absurd cc
     by_test false e = refl
 
@@ -233,8 +245,10 @@ front_no_function ms f n ts r m = by_test (is_kind kinds.Function (head_of ts)) 
   where
     by_test : (x : Bool) → is_kind kinds.Function (head_of ts) ≡ x → x ≡ false
     by_test true e =
-        let s : f.symbol ≡ fixed kinds.Function = symbol_of_kind kinds.Function f.symbol (head_of ts) f.begins refl refl refl (front_next ms f ts r m) e in
-        let same : begins_with_function ms ≡ true = ap begins_with_function (f.marks ∙ ap (λ (s : Symbol). token s ∷ f.left) s) in
+        let s : f.symbol ≡ fixed kinds.Function = symbol_of_kind kinds.Function f.symbol (head_of ts)
+        f.begins refl refl refl (front_next ms f ts r m) e in
+        let same : begins_with_function ms ≡ true = ap begins_with_function
+        (f.marks ∙ ap (λ (s : Symbol). token s ∷ f.left) s) in
         absurd cc
     by_test false e = refl
 
@@ -290,8 +304,13 @@ and_false false b e = refl
 
 token_stops : (t : Token) (r : List Token) → stops_by t.kind ≡ true → Stops plain (t ∷ r)
 token_stops t r s =
-    let k = kind_stops t.kind s in
-    (k.0, line_update t.newline_before t.kind k.1, k.2, k.3, and_false (is_on_line (Some t)) (is_same_kind t.kind kinds.Arrow) k.4)
+    let k = kind_stops t.kind s in (
+      k.0,
+      line_update t.newline_before t.kind k.1,
+      k.2,
+      k.3,
+      and_false (is_on_line (Some t)) (is_same_kind t.kind kinds.Arrow) k.4,
+    )
 
 pub next_stops : (k : TokenKind)
     → stops_by k ≡ true
@@ -446,7 +465,13 @@ absent_stops g (t ∷ r) f a = elim (goes_on_by g t.kind t.newline_before f a) [
 ]
   where
     by_edge : (g : Edge) → t.newline_before ≡ true → continues g t.kind ≡ false → Stops g (t ∷ r)
-    by_edge plain l c = (no_link_by t.kind f c, rw l refl, no_operator_by t.kind f (plain_update t.kind c), no_joint_by t.kind f, and_false (is_on_line (Some t)) (is_same_kind t.kind kinds.Arrow) (no_arrow_by t.kind f))
+    by_edge plain l c = (
+      no_link_by t.kind f c,
+      rw l refl,
+      no_operator_by t.kind f (plain_update t.kind c),
+      no_joint_by t.kind f,
+      and_false (is_on_line (Some t)) (is_same_kind t.kind kinds.Arrow) (no_arrow_by t.kind f),
+    )
     by_edge braces l c = tt
     by_edge update l c = (no_operator_by t.kind f c, no_joint_by t.kind f)
 
@@ -457,7 +482,8 @@ pub semicolon_stops : (g : Edge) (ts r : List Token)
     → Stops g ts × NoComma ts
 semicolon_stops g ts r f (inl m) = closes_stops kinds.Semicolon refl ts (next_again kinds.Semicolon (head_of ts) m.0) g
 semicolon_stops g ts r f (inr m) =
-    let here : follows_statement (head_of ts) ≡ true = subst (λ (l : List Token). follows_statement (head_of l) ≡ true) (sym m.1) f in
+    let here : follows_statement (head_of ts) ≡ true = subst (λ (l : List Token). follows_statement (head_of l) ≡ true)
+    (sym m.1) f in
     (absent_stops g ts here m.0, follows_no_comma ts here)
 
 -- a declared name ends before the semicolon of its statement, also where that is absent
@@ -466,10 +492,13 @@ pub word_stops : (end : End) (ts r : List Token)
     → Matches (semicolon end ∷ []) ts r
     → (is_kind kinds.Assign (head_of ts) ≡ false) × NoComma ts
 word_stops end ts r f (inl m) =
-    let s : is_kind kinds.Semicolon (head_of ts) ≡ true = next_again kinds.Semicolon (head_of ts) m.0 in
-    (kind_not kinds.Semicolon kinds.Assign (head_of ts) s refl, kind_not kinds.Semicolon kinds.Comma (head_of ts) s refl)
+    let s : is_kind kinds.Semicolon (head_of ts) ≡ true = next_again kinds.Semicolon (head_of ts) m.0 in (
+      kind_not kinds.Semicolon kinds.Assign (head_of ts) s refl,
+      kind_not kinds.Semicolon kinds.Comma (head_of ts) s refl,
+    )
 word_stops end ts r f (inr m) =
-    let here : follows_statement (head_of ts) ≡ true = subst (λ (l : List Token). follows_statement (head_of l) ≡ true) (sym m.1) f in
+    let here : follows_statement (head_of ts) ≡ true = subst (λ (l : List Token). follows_statement (head_of l) ≡ true)
+    (sym m.1) f in
     (follows_no_assign ts here, follows_no_comma ts here)
 
 -- ---- the first token of a statement
@@ -600,14 +629,23 @@ starts_with : (k : TokenKind) (ms : List Mark) → starts k ≡ true → Stateme
 starts_with k ms s = record { symbol = fixed k; left = ms; begins = λ o n. kind_starts k o s n; marks = refl }
 
 starts_so : (ms : List Mark) → Front ms → StatementFront ms
-starts_so ms f = record { symbol = f.symbol; left = f.left; begins = λ o n. opens_starts o (symbol_opens f.symbol o f.begins n); marks = f.marks }
+starts_so ms f =
+    record {
+      symbol = f.symbol;
+      left = f.left;
+      begins = λ o n. opens_starts o
+          (symbol_opens f.symbol o f.begins n);
+      marks = f.marks;
+    }
 
 statement_front : (c : Context) (s : Statement) → WellStatement c s → StatementFront (flat_statement s)
 statement_front c (trees.block ss) w = starts_with kinds.LeftBrace _ refl
 statement_front c (trees.lexical true ds) w = starts_with kinds.Const _ refl
 statement_front c (trees.lexical false ds) w = starts_with kinds.Let _ refl
 statement_front c trees.empty w = starts_with kinds.Semicolon _ refl
-statement_front c (trees.expression e) w = starts_so (flat_statement (trees.expression e)) (front_of_more (flat e) (semicolon (after_expression (edge e)) ∷ []) (expression_front e w.0))
+statement_front c (trees.expression e) w =
+    starts_so (flat_statement (trees.expression e))
+    (front_of_more (flat e) (semicolon (after_expression (edge e)) ∷ []) (expression_front e w.0))
 statement_front c (trees.if_then e s) w = starts_with kinds.If _ refl
 statement_front c (trees.if_else e s t) w = starts_with kinds.If _ refl
 statement_front c (trees.do_while s e) w = starts_with kinds.Do _ refl

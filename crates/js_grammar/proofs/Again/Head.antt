@@ -171,7 +171,8 @@ assignment_again assigns.Divide = record { joint = refl; link = refl; update = r
 assignment_again assigns.Remainder = record { joint = refl; link = refl; update = refl; operator = refl; arrow = refl }
 assignment_again assigns.LeftShift = record { joint = refl; link = refl; update = refl; operator = refl; arrow = refl }
 assignment_again assigns.RightShift = record { joint = refl; link = refl; update = refl; operator = refl; arrow = refl }
-assignment_again assigns.UnsignedRightShift = record { joint = refl; link = refl; update = refl; operator = refl; arrow = refl }
+assignment_again assigns.UnsignedRightShift =
+    record { joint = refl; link = refl; update = refl; operator = refl; arrow = refl }
 assignment_again assigns.BitwiseAnd = record { joint = refl; link = refl; update = refl; operator = refl; arrow = refl }
 assignment_again assigns.BitwiseOr = record { joint = refl; link = refl; update = refl; operator = refl; arrow = refl }
 assignment_again assigns.BitwiseXor = record { joint = refl; link = refl; update = refl; operator = refl; arrow = refl }

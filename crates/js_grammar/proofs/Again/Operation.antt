@@ -21,7 +21,15 @@ use Rattle.js_grammar.proofs.Again.Unary.{unary_again}
 
 -- the expression is read, and then operators to the right of it
 abbrev ChainAgain : ℕ → Below → Expression → Type 0
-ChainAgain n b e = (m k : ℕ) → m ≤ level e → height e ≤ suc n → k + spine e ≡ suc n → (ts r : List Token) → Matches (flat e) ts r → StopsOperation (suc (level e)) (edge e) r → operation b n m ts ≡ chain b n m k e r
+ChainAgain n b e =
+    (m k : ℕ)
+    → m ≤ level e
+    → height e ≤ suc n
+    → k + spine e ≡ suc n
+    → (ts r : List Token)
+    → Matches (flat e) ts r
+    → StopsOperation (suc (level e)) (edge e) r
+    → operation b n m ts ≡ chain b n m k e r
 
 unary_chain : (q : SeqAgain) (n : ℕ) (b : Below)
     → AgainBelow n b
@@ -34,7 +42,8 @@ unary_chain : (q : SeqAgain) (n : ℕ) (b : Below)
 unfolding operation
 unary_chain q n b h os e v z w m k low l s ts r ms stops =
     let same : suc n ≡ k = omega arith in
-    rw (unary_again q n b h os e w v l ts r ms (operation_unary (suc (level e)) (edge e) r stops)) (ap (λ (k : ℕ). chain b n m k e r) same)
+    rw (unary_again q n b h os e w v l ts r ms (operation_unary (suc (level e)) (edge e) r stops))
+    (ap (λ (k : ℕ). chain b n m k e r) same)
 
 -- what an operator ends
 operator_stops : (o : BinaryOperator) (m : ℕ) (d : Edge) (r : List Token)
@@ -46,7 +55,8 @@ operator_stops o m d r l next =
     let weak : nat_le m (strength o) ≡ false = lt-leb m (strength o) l in
     let found : operator (head_of r) ≡ Some o = operator_fixed (binary_kind o) (head_of r) next ∙ is.operator in
     let none : operator_from m (operator (head_of r)) ≡ None = rw (found, weak) refl in
-    by_edge d (link_fixed (binary_kind o) (head_of r) next ∙ is.link) (no_update_fixed (binary_kind o) (head_of r) next is.update) none
+    by_edge d (link_fixed (binary_kind o) (head_of r) next ∙ is.link)
+    (no_update_fixed (binary_kind o) (head_of r) next is.update) none
   where
     by_edge : (d : Edge)
         → link (head_of r) ≡ no_link
@@ -72,8 +82,10 @@ binary_chain n b h o x y w left m k low l s ts r ms stops =
     let lower : nat_le (height x) n ≡ true = le-leb (height x) n (omega arith) in
     let from : nat_le m (strength o) ≡ true = le-leb m (strength o) low in
     let found : operator (head_of p.0) ≡ Some o = operator_fixed (binary_kind o) (head_of p.0) p.2.0 ∙ is.operator in
-    let operand : b.operation (suc (strength o)) (tail_of p.0) ≡ Ok (y, r) = h.operation (suc (strength o)) y w.2 (omega (arith, w.3)) w.3 (omega arith) (tail_of p.0) r (and_nothing (flat y) (tail_of p.0) r p.2.1) stops in
-    left m (suc k) (omega (arith, w.1)) (omega arith) (omega arith) ts p.0 p.1 (operator_stops o (suc (level x)) (edge x) p.0 (omega (arith, w.1)) p.2.0)
+    let operand : b.operation (suc (strength o)) (tail_of p.0) ≡ Ok (y, r) = h.operation (suc (strength o)) y w.2
+    (omega (arith, w.3)) w.3 (omega arith) (tail_of p.0) r (and_nothing (flat y) (tail_of p.0) r p.2.1) stops in
+    left m (suc k) (omega (arith, w.1)) (omega arith) (omega arith) ts p.0 p.1
+    (operator_stops o (suc (level x)) (edge x) p.0 (omega (arith, w.1)) p.2.0)
     ∙ rw (found, from, lower, operand) refl
 
 chain_again : (q : SeqAgain) (n : ℕ) (b : Below)
@@ -83,7 +95,8 @@ chain_again : (q : SeqAgain) (n : ℕ) (b : Below)
     → 3 ≤ level e
     → Well e
     → ChainAgain n b e
-chain_again q n b h os (trees.binary o x y) v w = binary_chain n b h o x y w (chain_again q n b h os x (omega (arith, w.1, strength_high o)) w.0)
+chain_again q n b h os (trees.binary o x y) v w =
+    binary_chain n b h o x y w (chain_again q n b h os x (omega (arith, w.1, strength_high o)) w.0)
 chain_again q n b h os (trees.arrow ps e) v w = absurd (omega arith)
 chain_again q n b h os (trees.arrow_block ps body) v w = absurd (omega arith)
 chain_again q n b h os (trees.conditional t c a) v w = absurd (omega arith)
@@ -103,7 +116,8 @@ chain_again q n b h os (trees.boolean a) v w = unary_chain q n b h os (trees.boo
 chain_again q n b h os trees.null v w = unary_chain q n b h os trees.null (omega arith) refl w
 chain_again q n b h os (trees.array es) v w = unary_chain q n b h os (trees.array es) (omega arith) refl w
 chain_again q n b h os (trees.object ps) v w = unary_chain q n b h os (trees.object ps) (omega arith) refl w
-chain_again q n b h os (trees.function o ps body) v w = unary_chain q n b h os (trees.function o ps body) (omega arith) refl w
+chain_again q n b h os (trees.function o ps body) v w =
+    unary_chain q n b h os (trees.function o ps body) (omega arith) refl w
 chain_again q n b h os (trees.parenthesized e) v w = unary_chain q n b h os (trees.parenthesized e) (omega arith) refl w
 
 chain_end : (b : Below) (n m k : ℕ) (e : Expression) (r : List Token)
@@ -127,5 +141,6 @@ pub operation_again : (q : SeqAgain) (n : ℕ) (b : Below)
 operation_again q n b h os m e w v v' l ts r ms stops =
     let low : spine e < height e = spine_low e in
     let k : ℕ = n - spine e in
-    chain_again q n b h os e v w m (suc k) v' l (omega arith) ts r ms (operation_more m (suc (level e)) (edge e) r (omega arith) stops)
+    chain_again q n b h os e v w m (suc k) v' l (omega arith) ts r ms
+    (operation_more m (suc (level e)) (edge e) r (omega arith) stops)
     ∙ chain_end b n m k e r (operation_stops m (edge e) r (operation_edge e w v) stops)

@@ -39,7 +39,8 @@ list_is (trees.an_expression e es) = ap (λ (l : Expressions). trees.an_expressi
 
 more_marks : (es : Expressions) → more_expressions es ≡ behind_commas flat (list_of es)
 more_marks trees.no_expressions = refl
-more_marks (trees.an_expression e es) = ap (λ (l : List Mark). token (fixed kinds.Comma) ∷ (flat e ++ l)) (append-nil (more_expressions es) ∙ more_marks es)
+more_marks (trees.an_expression e es) =
+    ap (λ (l : List Mark). token (fixed kinds.Comma) ∷ (flat e ++ l)) (append-nil (more_expressions es) ∙ more_marks es)
 
 list_marks : (es : Expressions) → flat_expressions es ≡ with_commas flat (list_of es)
 list_marks trees.no_expressions = refl
@@ -54,7 +55,8 @@ good_assignments : (n : ℕ) (es : Expressions)
     → height_of_expressions es ≤ n
     → AllGood no_state (GoodAssignment n) tt (list_of es)
 good_assignments n trees.no_expressions w h = tt
-good_assignments n (trees.an_expression e es) w h = ((w.0, w.1, omega (arith, h)), good_assignments n es w.2 (omega (arith, h)))
+good_assignments n (trees.an_expression e es) w h =
+    ((w.0, w.1, omega (arith, h)), good_assignments n es w.2 (omega (arith, h)))
 
 pub arguments_again : (n : ℕ) (b : Below)
     → AgainBelow n b
@@ -68,11 +70,13 @@ pub arguments_again : (n : ℕ) (b : Below)
     → arguments_before b k ts ≡ Ok (es, r)
 unfolding arguments_before
 arguments_again n b a k c es w h ts r m =
-    let n_marks : flat_expressions es ++ (trailing es ++ (token (fixed k) ∷ [])) ≡ with_commas flat (list_of es) ++ (behind_last (list_of es) ++ (token (fixed k) ∷ [])) = rw (list_marks es, trailing_marks es) refl in
+    let n_marks : flat_expressions es ++ (trailing es ++ (token (fixed k) ∷ [])) ≡ with_commas flat (list_of es) ++
+    (behind_last (list_of es) ++ (token (fixed k) ∷ [])) = rw (list_marks es, trailing_marks es) refl in
     let read : elements (one_of b.assignment) no_state k (suc (length ts)) tt ts ≡ Ok (list_of es, r) =
     elements_again (one_of b.assignment) no_state flat (GoodAssignment n) k (comma_closes k c)
     (λ s e g us v q. opens_not k (head_of us) (expression_opens e g.0 us v q) (closes_opens k c))
-    (λ s e g us v q x. a.assignment e g.0 g.1 g.2 us v q (elim x [ inl y ↦ (closes_stops k c v y (edge e)).0 | inr y ↦ comma_stops v y (edge e) ]))
+    (λ s e g us v q x. a.assignment e g.0 g.1 g.2 us v q
+    (elim x [ inl y ↦ (closes_stops k c v y (edge e)).0 | inr y ↦ comma_stops v y (edge e) ]))
     (list_of es) (suc (length ts)) tt ts r (good_assignments n es w h) (omega arith)
     (subst (λ (l : List Mark). Matches l ts r) n_marks m) in
     rw (read, list_is es) refl
@@ -109,15 +113,21 @@ more_again n b a e es w h ts r m s no_comma =
 
 -- names up to the parenthesis behind them
 names_marks : (ns : List Identifier)
-    → flat_names ns ++ (token (fixed kinds.RightParenthesis) ∷ []) ≡ with_commas an_identifier ns ++ (behind_last ns ++ (token (fixed kinds.RightParenthesis) ∷ []))
+    → flat_names ns ++ (token (fixed kinds.RightParenthesis) ∷ []) ≡ with_commas an_identifier ns ++
+    (behind_last ns ++ (token (fixed kinds.RightParenthesis) ∷ []))
 names_marks [] = refl
-names_marks (n ∷ ns) = ap (λ (l : List Mark). token (identifier n) ∷ l) (append_assoc (more_names ns) (trailing_comma ∷ []) (token (fixed kinds.RightParenthesis) ∷ []) ∙ ap (λ (l : List Mark). l ++ (trailing_comma ∷ token (fixed kinds.RightParenthesis) ∷ [])) (more_names_is ns))
+names_marks (n ∷ ns) =
+    ap (λ (l : List Mark). token (identifier n) ∷ l)
+    (append_assoc (more_names ns) (trailing_comma ∷ []) (token (fixed kinds.RightParenthesis) ∷ [])
+    ∙ ap (λ (l : List Mark). l ++ (trailing_comma ∷ token (fixed kinds.RightParenthesis) ∷ []))
+    (more_names_is ns))
 
 name_no_closer : (n : Identifier) (o : Option Token)
     → IsNext (identifier n) o
     → is_kind kinds.RightParenthesis o ≡ false
 name_no_closer n None m = refl
-name_no_closer n (Some t) m = kind_not kinds.Name kinds.RightParenthesis (Some t) (next_again kinds.Name (Some t) m.0) refl
+name_no_closer n (Some t) m =
+    kind_not kinds.Name kinds.RightParenthesis (Some t) (next_again kinds.Name (Some t) m.0) refl
 
 any_names : (ns : List Identifier) → AllGood no_state (λ (s : Unit {0}) (n : Identifier). Unit {0}) tt ns
 any_names [] = tt
@@ -128,7 +138,8 @@ pub names_again : (ns : List Identifier) (ts r : List Token)
     → names_before ts ≡ Ok (ns, r)
 unfolding names_before
 names_again ns ts r m =
-    elements_again (one_of name_at) no_state an_identifier (λ (s : Unit {0}) (n : Identifier). Unit {0}) kinds.RightParenthesis refl
+    elements_again (one_of name_at) no_state an_identifier (λ (s : Unit {0}) (n : Identifier). Unit {0})
+    kinds.RightParenthesis refl
     (λ s x g us v q. name_no_closer x (head_of us) q.0)
     (λ s x g us v q y. name_again x us v q)
     ns (suc (length ts)) tt ts r (any_names ns) (omega arith)
@@ -145,8 +156,10 @@ pub parameters_again : (ns : List Identifier)
     → parameters_at ts ≡ Ok (ns, r)
 unfolding parameters_at
 parameters_again ns f ts r m =
-    let start : expect kinds.LeftParenthesis ts ≡ Ok (tt, tail_of ts) = expect_again kinds.LeftParenthesis ts (tail_of ts) (m.0, refl) in
-    let read : elements fresh_name with_name kinds.RightParenthesis (suc (length (tail_of ts))) [] (tail_of ts) ≡ Ok (ns, r) =
+    let start : expect kinds.LeftParenthesis ts ≡ Ok (tt, tail_of ts) = expect_again kinds.LeftParenthesis ts
+    (tail_of ts) (m.0, refl) in
+    let read : elements fresh_name with_name kinds.RightParenthesis (suc (length (tail_of ts))) [] (tail_of ts) ≡ Ok
+    (ns, r) =
     elements_again fresh_name with_name an_identifier Differs kinds.RightParenthesis refl
     (λ s x g us v q. name_no_closer x (head_of us) q.0)
     (λ s x g us v q y. fresh_again s x us v q g)
@@ -230,11 +243,14 @@ pub statements_again : (n : ℕ) (b : Below)
     → items_at b context taken ts ≡ Ok (ss, r)
 unfolding items_at
 statements_again n b a context taken ss w f h ts r m e =
-    let read : items (λ names r. b.item context names r) with_declared (suc (length ts)) taken ts ≡ Ok (statements_of ss, r) =
-    items_again (λ names r. b.item context names r) with_declared flat_statement (GoodItem n context) (λ s r. Follows s r)
+    let read : items (λ names r. b.item context names r) with_declared (suc (length ts)) taken ts ≡ Ok
+    (statements_of ss, r) =
+    items_again (λ names r. b.item context names r) with_declared flat_statement (GoodItem n context)
+    (λ s r. Follows s r)
     (λ names s g us v q. let p = statement_starts context s g.0 us v q in ((starts_follows (head_of us) p.0).1, p.1))
     (λ s u d. let p = ends_follows (head_of u) d in (p.0, λ i. p.1))
-    (λ s names x g us v q. let p = starts_follows (head_of us) (statement_starts context x g.0 us v q).0 in (p.0, λ i. p.2))
+    (λ s names x g us v q. let p = starts_follows (head_of us) (statement_starts context x g.0 us v q).0 in
+    (p.0, λ i. p.2))
     (λ names s g us v q x. a.item context names s g.0 g.1 g.2 us v q x)
     (statements_of ss) (suc (length ts)) taken ts r (good_items n context taken ss w f h) (omega arith) e
     (subst (λ (l : List Mark). Matches l ts r) (statements_marks ss) m) in
@@ -253,10 +269,17 @@ pub braces_again : (n : ℕ) (b : Below)
     → (ts r : List Token) → Matches (flats.in_braces (flat_statements ss)) ts r → braces b context taken ts ≡ Ok (ss, r)
 unfolding braces
 braces_again n b a context taken ss w f h ts r m =
-    let start : expect kinds.LeftBrace ts ≡ Ok (tt, tail_of ts) = expect_again kinds.LeftBrace ts (tail_of ts) (m.0, refl) in
+    let start : expect kinds.LeftBrace ts ≡ Ok (tt, tail_of ts) = expect_again kinds.LeftBrace ts (tail_of ts)
+    (m.0, refl) in
     let p = parts (flat_statements ss) (token (fixed kinds.RightBrace) ∷ []) (tail_of ts) r m.1 in
-    let end : ends_list (head_of p.0) ≡ true = brace_ends (head_of p.0) (next_again kinds.RightBrace (head_of p.0) p.2.0) in
-    rw (start, statements_again n b a context taken ss w f h (tail_of ts) p.0 p.1 end, expect_again kinds.RightBrace p.0 r p.2) refl
+    let end : ends_list (head_of p.0) ≡ true = brace_ends (head_of p.0)
+    (next_again kinds.RightBrace (head_of p.0) p.2.0) in
+    rw (
+      start,
+      statements_again n b a context taken ss w f h (tail_of ts) p.0 p.1 end,
+      expect_again kinds.RightBrace p.0 r p.2,
+    )
+    refl
 
 pub code_again : (n : ℕ) (b : Below)
     → AgainBelow n b
@@ -270,7 +293,12 @@ pub code_again : (n : ℕ) (b : Below)
 unfolding code_at
 code_again n b a f d w h ts r m =
     let p = parts (flat_parameters f.parameters) (flats.in_braces (flat_statements f.body)) ts r m in
-    rw (parameters_again f.parameters d.0 ts p.0 p.1, braces_again n b a function_body (with_names [] f.parameters) f.body w (fresh_behind f.parameters (declared_names f.body) d.1) h p.0 r p.2) refl
+    rw (
+      parameters_again f.parameters d.0 ts p.0 p.1,
+      braces_again n b a function_body (with_names [] f.parameters) f.body w
+          (fresh_behind f.parameters (declared_names f.body) d.1) h p.0 r p.2,
+    )
+    refl
 
 -- ---- declared names
 
@@ -281,7 +309,11 @@ DeclaratorEnds (trees.declarator n (trees.present e)) r = Stops (edge e) r
 
 -- a declared name, that a constant's initializer follows
 abbrev pub GoodDeclarator : ℕ → Bool → List Identifier → Declarator → Type 0
-GoodDeclarator n constant taken d = WellDeclarator d × (constant ≡ true → has_initializer d ≡ true) × (is_among taken (name_of d) ≡ false) × (height_of_declarator d ≤ n)
+GoodDeclarator n constant taken d =
+    WellDeclarator d
+    × (constant ≡ true → has_initializer d ≡ true)
+    × (is_among taken (name_of d) ≡ false)
+    × (height_of_declarator d ≤ n)
 
 pub declarator_again : (n : ℕ) (b : Below)
     → AgainBelow n b
@@ -292,13 +324,20 @@ pub declarator_again : (n : ℕ) (b : Below)
     → DeclaratorEnds d r
     → declarator_at b constant taken ts ≡ Ok (d, r)
 unfolding declarator_at
-declarator_again n b a true taken (trees.declarator x trees.omitted) g ts r m e = let no : false ≡ true = g.1 refl in absurd cc
+declarator_again n b a true taken (trees.declarator x trees.omitted) g ts r m e =
+    let no : false ≡ true = g.1 refl in absurd cc
 declarator_again n b a false taken (trees.declarator x trees.omitted) g ts r m e =
     rw (fresh_again taken x ts r m g.2, e) refl
 declarator_again n b a constant taken (trees.declarator x (trees.present v)) g ts r m e =
     let q = parts (flat v) [] (tail_of (tail_of ts)) r m.1.1 in
-    let marks : Matches (flat v) (tail_of (tail_of ts)) r = subst (λ (l : List Token). Matches (flat v) (tail_of (tail_of ts)) l) q.2 q.1 in
-    rw (fresh_again taken x ts (tail_of ts) (m.0, refl) g.2, next_again kinds.Assign (head_of (tail_of ts)) m.1.0, a.assignment v g.0.0 g.0.1 g.3 (tail_of (tail_of ts)) r marks e) refl
+    let marks : Matches (flat v) (tail_of (tail_of ts)) r = subst
+    (λ (l : List Token). Matches (flat v) (tail_of (tail_of ts)) l) q.2 q.1 in
+    rw (
+      fresh_again taken x ts (tail_of ts) (m.0, refl) g.2,
+      next_again kinds.Assign (head_of (tail_of ts)) m.1.0,
+      a.assignment v g.0.0 g.0.1 g.3 (tail_of (tail_of ts)) r marks e,
+    )
+    refl
 
 abbrev pub declarators_of : Declarators → List Declarator
 declarators_of trees.no_declarators = []
@@ -310,7 +349,9 @@ declarators_are (trees.a_declarator d ds) = ap (λ (l : Declarators). trees.a_de
 
 more_declarators_marks : (ds : Declarators) → more_declarators ds ≡ behind_commas flat_declarator (declarators_of ds)
 more_declarators_marks trees.no_declarators = refl
-more_declarators_marks (trees.a_declarator d ds) = ap (λ (l : List Mark). token (fixed kinds.Comma) ∷ (flat_declarator d ++ l)) (append-nil (more_declarators ds) ∙ more_declarators_marks ds)
+more_declarators_marks (trees.a_declarator d ds) =
+    ap (λ (l : List Mark). token (fixed kinds.Comma) ∷ (flat_declarator d ++ l))
+    (append-nil (more_declarators ds) ∙ more_declarators_marks ds)
 
 first_initialized : (constant : Bool) (d : Declarator) (ds : Declarators)
     → IsInitialized constant (trees.a_declarator d ds)
@@ -354,9 +395,12 @@ declarators_again n b a constant taken trees.no_declarators some w i f h ts r m 
 declarators_again n b a constant taken (trees.a_declarator d ds) some w i f h ts r m e =
     let g = good_declarators n constant taken (trees.a_declarator d ds) w i f h in
     let p = parts (flat_declarator d) (more_declarators ds) ts r m in
-    let first : declarator_at b constant taken ts ≡ Ok (d, p.0) = declarator_again n b a constant taken d g.0 ts p.0 p.1 (first_ends ds p.0 p.2 e) in
-    let rest : others (λ names r. declarator_at b constant names r) with_declarator (suc (length p.0)) (with_declarator taken d) p.0 ≡ Ok (declarators_of ds, r) =
-    others_again (λ names r. declarator_at b constant names r) with_declarator flat_declarator (GoodDeclarator n constant) DeclaratorEnds
+    let first : declarator_at b constant taken ts ≡ Ok (d, p.0) = declarator_again n b a constant taken d g.0 ts p.0 p.1
+    (first_ends ds p.0 p.2 e) in
+    let rest : others (λ names r. declarator_at b constant names r) with_declarator (suc (length p.0))
+    (with_declarator taken d) p.0 ≡ Ok (declarators_of ds, r) =
+    others_again (λ names r. declarator_at b constant names r) with_declarator flat_declarator
+    (GoodDeclarator n constant) DeclaratorEnds
     declarator_comma
     (λ s x y us v q z. declarator_again n b a constant s x y us v q z)
     (declarators_of ds) (suc (length p.0)) (with_declarator taken d) p.0 r g.1 (omega arith) (rest_end ds e.0) e.1
@@ -397,9 +441,12 @@ pub declarators_end : (ds : Declarators) (ts r : List Token)
     → Matches (semicolon (end_of_declarators ds) ∷ []) ts r
     → DeclaratorsEnd ds ts
 declarators_end trees.no_declarators ts r f m = (tt, (word_stops after_word ts r f m).1)
-declarators_end (trees.a_declarator (trees.declarator n trees.omitted) trees.no_declarators) ts r f m = word_stops after_word ts r f m
-declarators_end (trees.a_declarator (trees.declarator n (trees.present e)) trees.no_declarators) ts r f m = semicolon_stops (edge e) ts r f m
-declarators_end (trees.a_declarator d (trees.a_declarator c ds)) ts r f m = declarators_end (trees.a_declarator c ds) ts r f m
+declarators_end (trees.a_declarator (trees.declarator n trees.omitted) trees.no_declarators) ts r f m =
+    word_stops after_word ts r f m
+declarators_end (trees.a_declarator (trees.declarator n (trees.present e)) trees.no_declarators) ts r f m =
+    semicolon_stops (edge e) ts r f m
+declarators_end (trees.a_declarator d (trees.a_declarator c ds)) ts r f m =
+    declarators_end (trees.a_declarator c ds) ts r f m
 
 -- ---- expressions with what ends them
 
@@ -414,11 +461,17 @@ pub optional_again : (n : ℕ) (b : Below)
     → Matches (flat_optional e ++ (token (fixed k) ∷ [])) ts r
     → optional_before b k ts ≡ Ok (e, r)
 unfolding optional_before
-optional_again n b a k c trees.omitted w h ts r m = rw (next_again k (head_of ts) m.0) (ap (λ (l : List Token). Ok (trees.omitted, l)) m.1)
+optional_again n b a k c trees.omitted w h ts r m =
+    rw (next_again k (head_of ts) m.0) (ap (λ (l : List Token). Ok (trees.omitted, l)) m.1)
 optional_again n b a k c (trees.present e) w h ts r m =
     let p = parts (flat e) (token (fixed k) ∷ []) ts r m in
     let s = closes_stops k c p.0 (next_again k (head_of p.0) p.2.0) (edge e) in
-    rw (opens_not k (head_of ts) (expression_opens e w ts p.0 p.1) (closes_opens k c), a.expression e w h ts p.0 p.1 s.0 s.1, expect_again k p.0 r p.2) refl
+    rw (
+      opens_not k (head_of ts) (expression_opens e w ts p.0 p.1) (closes_opens k c),
+      a.expression e w h ts p.0 p.1 s.0 s.1,
+      expect_again k p.0 r p.2,
+    )
+    refl
 
 pub ended_again : (n : ℕ) (b : Below) → AgainBelow n b → (e : Expression) → Well e → height e ≤ n
     → (ts r : List Token)

@@ -42,14 +42,24 @@ while_follows (t ∷ r) m = (rw m refl, kind_not kinds.While kinds.Else (Some t)
 
 -- what a production's item is read before
 abbrev ReadBefore : ℕ → Below → (i : Item) → Value i → (is : List Item) → Values is → Type 0
-ReadBefore n b i v is vs = (ts mid r : List Token) → Sane i v → height_at i v ≤ n → fits i is ≡ true → EndsLast (i ∷ is) (v, vs) r → Matches (marks_of i v) ts mid → Matches (marks is vs) mid r → item b i ts ≡ Ok (v, mid)
+ReadBefore n b i v is vs =
+    (ts mid r : List Token)
+    → Sane i v
+    → height_at i v ≤ n
+    → fits i is ≡ true
+    → EndsLast (i ∷ is) (v, vs) r
+    → Matches (marks_of i v) ts mid
+    → Matches (marks is vs) mid r
+    → item b i ts ≡ Ok (v, mid)
 
 assignment_before : (n : ℕ) (b : Below)
     → AgainBelow n b
     → (v : Value an_assignment) (is : List Item) (vs : Values is)
     → ReadBefore n b an_assignment v is vs
-assignment_before n b a v [] vs ts mid r s h f e m q = a.assignment v s.0 s.1 h ts mid m (subst (λ (l : List Token). Stops (edge v) l) (sym q) e)
-assignment_before n b a v (tok k ∷ is) vs ts mid r s h f e m q = a.assignment v s.0 s.1 h ts mid m (closes_stops k f mid (next_again k (head_of mid) q.0) (edge v)).0
+assignment_before n b a v [] vs ts mid r s h f e m q =
+    a.assignment v s.0 s.1 h ts mid m (subst (λ (l : List Token). Stops (edge v) l) (sym q) e)
+assignment_before n b a v (tok k ∷ is) vs ts mid r s h f e m q =
+    a.assignment v s.0 s.1 h ts mid m (closes_stops k f mid (next_again k (head_of mid) q.0) (edge v)).0
 assignment_before n b a v (_ ∷ is) vs ts mid r s h f e m q = absurd cc
 
 expression_before : (n : ℕ) (b : Below)
@@ -68,15 +78,18 @@ ended_before : (n : ℕ) (b : Below)
     → AgainBelow n b
     → (v : Value ended) (is : List Item) (vs : Values is)
     → ReadBefore n b ended v is vs
-ended_before n b a v [] vs ts mid r s h f e m q = ended_again n b a v s h ts mid m (subst (λ (l : List Token). follows_statement (head_of l) ≡ true) (sym q) e)
+ended_before n b a v [] vs ts mid r s h f e m q =
+    ended_again n b a v s h ts mid m (subst (λ (l : List Token). follows_statement (head_of l) ≡ true) (sym q) e)
 ended_before n b a v (_ ∷ is) vs ts mid r s h f e m q = absurd cc
 
 statement_before : (n : ℕ) (b : Below)
     → AgainBelow n b
     → (context : _) (v : Value (a_statement context)) (is : List Item) (vs : Values is)
     → ReadBefore n b (a_statement context) v is vs
-statement_before n b a context v [] vs ts mid r s h f e m q = a.statement context v s.0 s.1 h ts mid m (subst (λ (l : List Token). Follows v l) (sym q) e)
-statement_before n b a context v (tok kinds.While ∷ is) vs ts mid r s h f e m q = let w = while_follows mid q.0 in a.statement context v s.0 s.1 h ts mid m (w.0, λ i. w.1)
+statement_before n b a context v [] vs ts mid r s h f e m q =
+    a.statement context v s.0 s.1 h ts mid m (subst (λ (l : List Token). Follows v l) (sym q) e)
+statement_before n b a context v (tok kinds.While ∷ is) vs ts mid r s h f e m q =
+    let w = while_follows mid q.0 in a.statement context v s.0 s.1 h ts mid m (w.0, λ i. w.1)
 statement_before n b a context v (_ ∷ is) vs ts mid r s h f e m q = absurd cc
 
 declared_before : (n : ℕ) (b : Below)
@@ -84,7 +97,8 @@ declared_before : (n : ℕ) (b : Below)
     → (constant : Bool) (taken : _) (v : Value (declared constant taken)) (is : List Item) (vs : Values is)
     → ReadBefore n b (declared constant taken) v is vs
 declared_before n b a constant taken v (tok kinds.Semicolon ∷ is) vs ts mid r s h f e m q =
-    declarators_again n b a constant taken v s.0 s.1 s.2 s.3 h ts mid m (declarators_close v mid (next_again kinds.Semicolon (head_of mid) q.0))
+    declarators_again n b a constant taken v s.0 s.1 s.2 s.3 h ts mid m
+    (declarators_close v mid (next_again kinds.Semicolon (head_of mid) q.0))
 declared_before n b a constant taken v [] vs ts mid r s h f e m q = absurd cc
 declared_before n b a constant taken v (_ ∷ is) vs ts mid r s h f e m q = absurd cc
 
@@ -102,10 +116,13 @@ item_again n b a (optional k) v is vs ts mid r s h f e m q = optional_again n b 
 item_again n b a (arguments k) v is vs ts mid r s h f e m q = arguments_again n b a k f v s h ts mid m
 item_again n b a ended v is vs ts mid r s h f e m q = ended_before n b a v is vs ts mid r s h f e m q
 item_again n b a (an_end end) v is vs ts mid r s h f e m q = semicolon_again end ts mid m
-item_again n b a (declared constant taken) v is vs ts mid r s h f e m q = declared_before n b a constant taken v is vs ts mid r s h f e m q
-item_again n b a (a_statement context) v is vs ts mid r s h f e m q = statement_before n b a context v is vs ts mid r s h f e m q
+item_again n b a (declared constant taken) v is vs ts mid r s h f e m q =
+    declared_before n b a constant taken v is vs ts mid r s h f e m q
+item_again n b a (a_statement context) v is vs ts mid r s h f e m q =
+    statement_before n b a context v is vs ts mid r s h f e m q
 item_again n b a (a_block context taken) v is vs ts mid r s h f e m q = a.block context taken v s.1 s.0 h ts mid m
-item_again n b a (in_braces context taken) v is vs ts mid r s h f e m q = braces_again n b a context taken v s.1 s.0 h ts mid m
+item_again n b a (in_braces context taken) v is vs ts mid r s h f e m q =
+    braces_again n b a context taken v s.1 s.0 h ts mid m
 item_again n b a code v is vs ts mid r s h f e m q = code_again n b a v s.0 s.1 h ts mid m
 
 -- ---- productions
@@ -121,8 +138,10 @@ seq_again n b a [] vs ts r s h f e m = ap (λ (l : List Token). Ok (tt, l)) m
 seq_again n b a (i ∷ is) vs ts r s h f e m =
     let p = parts (marks_of i vs.0) (marks is vs.1) ts r m in
     let g = and_parts (fits i is) (all_fit is) f in
-    let first : item b i ts ≡ Ok (vs.0, p.0) = item_again n b a i vs.0 is vs.1 ts p.0 r s.0 (omega (arith, h)) g.0 e p.1 p.2 in
-    let rest : seq b is p.0 ≡ Ok (vs.1, r) = seq_again n b a is vs.1 p.0 r s.1 (omega (arith, h)) g.1 (last_ends i is vs.0 vs.1 r e) p.2 in
+    let first : item b i ts ≡ Ok (vs.0, p.0) = item_again n b a i vs.0 is vs.1 ts p.0 r s.0 (omega (arith, h))
+    g.0 e p.1 p.2 in
+    let rest : seq b is p.0 ≡ Ok (vs.1, r) = seq_again n b a is vs.1 p.0 r s.1 (omega (arith, h)) g.1
+    (last_ends i is vs.0 vs.1 r e) p.2 in
     rw (first, rest) refl
 
 -- a form made of a production is read again

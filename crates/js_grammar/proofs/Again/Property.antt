@@ -65,11 +65,19 @@ key_again : (q : SeqAgain) (n : ℕ) (b : Below)
     → Matches (flat_key k) ts r
     → key_at b ts ≡ Ok (k, r)
 unfolding key_at
-key_again q n b h (trees.word_key a) w l ts r m = rw (word_start a (head_of ts) m.0) (ap (λ (l : List Token). Ok (trees.word_key a, l)) m.1)
-key_again q n b h (trees.string_key v) w l ts r m = rw (string_start v (head_of ts) m.0) (ap (λ (l : List Token). Ok (trees.string_key v, l)) m.1)
-key_again q n b h (trees.number_key v) w l ts r m = rw (number_start v (head_of ts) m.0) (ap (λ (l : List Token). Ok (trees.number_key v, l)) m.1)
+key_again q n b h (trees.word_key a) w l ts r m =
+    rw (word_start a (head_of ts) m.0) (ap (λ (l : List Token). Ok (trees.word_key a, l)) m.1)
+key_again q n b h (trees.string_key v) w l ts r m =
+    rw (string_start v (head_of ts) m.0) (ap (λ (l : List Token). Ok (trees.string_key v, l)) m.1)
+key_again q n b h (trees.number_key v) w l ts r m =
+    rw (number_start v (head_of ts) m.0) (ap (λ (l : List Token). Ok (trees.number_key v, l)) m.1)
 key_again q n b h (trees.computed_key e) w l ts r m =
-    rw (computed_start (head_of ts) m.0, q n b h (tok kinds.LeftBracket ∷ an_assignment ∷ tok kinds.RightBracket ∷ []) (tt, (e, (tt, tt))) ts r (tt, ((w.0, w.1), (tt, tt))) (omega arith) refl tt m) refl
+    rw (
+      computed_start (head_of ts) m.0,
+      q n b h (tok kinds.LeftBracket ∷ an_assignment ∷ tok kinds.RightBracket ∷ []) (tt, (e, (tt, tt))) ts r
+          (tt, ((w.0, w.1), (tt, tt))) (omega arith) refl tt m,
+    )
+    refl
 
 -- ---- a key alone and a key with something behind it
 
@@ -89,9 +97,14 @@ long_key : (k : Key) (c : AfterKey)
     → after_key (head_of r) ≡ c
     → is_shorthand ts ≡ false
 long_key (trees.word_key a) c long ts r m e = rw (m.1, e) (long (is_kind kinds.Name (head_of ts)))
-long_key (trees.string_key v) c long ts r m e = rw (other_kind kinds.String kinds.Name (head_of ts) (kind_of_string v (head_of ts) m.0) refl) (no_shorthand (after_key (head_of (tail_of ts))))
-long_key (trees.number_key v) c long ts r m e = rw (other_kind kinds.Number kinds.Name (head_of ts) (kind_of_number v (head_of ts) m.0) refl) (no_shorthand (after_key (head_of (tail_of ts))))
-long_key (trees.computed_key x) c long ts r m e = rw (other_kind kinds.LeftBracket kinds.Name (head_of ts) m.0 refl) (no_shorthand (after_key (head_of (tail_of ts))))
+long_key (trees.string_key v) c long ts r m e =
+    rw (other_kind kinds.String kinds.Name (head_of ts) (kind_of_string v (head_of ts) m.0) refl)
+    (no_shorthand (after_key (head_of (tail_of ts))))
+long_key (trees.number_key v) c long ts r m e =
+    rw (other_kind kinds.Number kinds.Name (head_of ts) (kind_of_number v (head_of ts) m.0) refl)
+    (no_shorthand (after_key (head_of (tail_of ts))))
+long_key (trees.computed_key x) c long ts r m e =
+    rw (other_kind kinds.LeftBracket kinds.Name (head_of ts) m.0 refl) (no_shorthand (after_key (head_of (tail_of ts))))
 
 colon_long : (x : Bool) → is_shorthand_by x classes.colon ≡ false
 colon_long true = refl
@@ -144,7 +157,14 @@ unfolding property_at
 value_again q n b h k e w l ts r m s =
     let p = parts (flat_key k) (token (fixed kinds.Colon) ∷ (flat e ++ [])) ts r m in
     let colon : after_key (head_of p.0) ≡ classes.colon = after_fixed kinds.Colon (head_of p.0) p.2.0 in
-    rw (long_key k classes.colon colon_long ts p.0 p.1 colon, key_again q n b h k w.0 (omega arith) ts p.0 p.1, colon, q n b h (tok kinds.Colon ∷ an_assignment ∷ []) (tt, (e, tt)) p.0 r (tt, ((w.1, w.2), tt)) (omega arith) refl (member_stops (edge e) r s) p.2) refl
+    rw (
+      long_key k classes.colon colon_long ts p.0 p.1 colon,
+      key_again q n b h k w.0 (omega arith) ts p.0 p.1,
+      colon,
+      q n b h (tok kinds.Colon ∷ an_assignment ∷ []) (tt, (e, tt)) p.0 r (tt, ((w.1, w.2), tt)) (omega arith) refl
+          (member_stops (edge e) r s) p.2,
+    )
+    refl
 
 method_again : (q : SeqAgain) (n : ℕ) (b : Below)
     → AgainBelow n b
@@ -157,10 +177,20 @@ method_again : (q : SeqAgain) (n : ℕ) (b : Below)
 unfolding property_at
 method_again q n b h k ps body w l ts r m =
     let p = parts (flat_key k) (flat_parameters ps ++ (flats.in_braces (flat_statements body) ++ [])) ts r m in
-    let parameters : after_key (head_of p.0) ≡ classes.parameters = after_fixed kinds.LeftParenthesis (head_of p.0) p.2.0 in
+    let parameters : after_key (head_of p.0) ≡ classes.parameters = after_fixed kinds.LeftParenthesis (head_of p.0)
+    p.2.0 in
     let low : nat_le (suc (height_of_key k)) n ≡ true = le-leb (suc (height_of_key k)) n (omega arith) in
-    let inner : Matches (flat_parameters ps ++ flats.in_braces (flat_statements body)) p.0 r = subst (λ (l : List Mark). Matches (flat_parameters ps ++ l) p.0 r) (append-nil (flats.in_braces (flat_statements body))) p.2 in
-    rw (long_key k classes.parameters parameters_long ts p.0 p.1 parameters, key_again q n b h k w.0 (omega arith) ts p.0 p.1, parameters, low, h.function (record { parameters = ps; body = body }) w.1 w.2 (omega arith) p.0 r inner) refl
+    let inner : Matches (flat_parameters ps ++ flats.in_braces (flat_statements body)) p.0 r = subst
+    (λ (l : List Mark). Matches (flat_parameters ps ++ l) p.0 r)
+    (append-nil (flats.in_braces (flat_statements body))) p.2 in
+    rw (
+      long_key k classes.parameters parameters_long ts p.0 p.1 parameters,
+      key_again q n b h k w.0 (omega arith) ts p.0 p.1,
+      parameters,
+      low,
+      h.function (record { parameters = ps; body = body }) w.1 w.2 (omega arith) p.0 r inner,
+    )
+    refl
 
 property_again : (q : SeqAgain) (n : ℕ) (b : Below)
     → AgainBelow n b
@@ -189,16 +219,20 @@ key_no_brace : (k : Key) (ms : List Mark) (ts r : List Token)
     → Matches (flat_key k ++ ms) ts r
     → is_kind kinds.RightBrace (head_of ts) ≡ false
 key_no_brace (trees.word_key a) ms ts r m = name_no_brace a (head_of ts) m.0
-key_no_brace (trees.string_key v) ms ts r m = other_kind kinds.String kinds.RightBrace (head_of ts) (kind_of_string v (head_of ts) m.0) refl
-key_no_brace (trees.number_key v) ms ts r m = other_kind kinds.Number kinds.RightBrace (head_of ts) (kind_of_number v (head_of ts) m.0) refl
+key_no_brace (trees.string_key v) ms ts r m =
+    other_kind kinds.String kinds.RightBrace (head_of ts) (kind_of_string v (head_of ts) m.0) refl
+key_no_brace (trees.number_key v) ms ts r m =
+    other_kind kinds.Number kinds.RightBrace (head_of ts) (kind_of_number v (head_of ts) m.0) refl
 key_no_brace (trees.computed_key e) ms ts r m = other_kind kinds.LeftBracket kinds.RightBrace (head_of ts) m.0 refl
 
 property_no_brace : (x : Property) (ts r : List Token)
     → Matches (flat_property x) ts r
     → is_kind kinds.RightBrace (head_of ts) ≡ false
-property_no_brace (trees.shorthand a) ts r m = other_kind kinds.Name kinds.RightBrace (head_of ts) (kind_of_identifier a (head_of ts) m.0) refl
+property_no_brace (trees.shorthand a) ts r m =
+    other_kind kinds.Name kinds.RightBrace (head_of ts) (kind_of_identifier a (head_of ts) m.0) refl
 property_no_brace (trees.value k e) ts r m = key_no_brace k (token (fixed kinds.Colon) ∷ (flat e ++ [])) ts r m
-property_no_brace (trees.method k ps body) ts r m = key_no_brace k (flat_parameters ps ++ (flats.in_braces (flat_statements body) ++ [])) ts r m
+property_no_brace (trees.method k ps body) ts r m =
+    key_no_brace k (flat_parameters ps ++ (flats.in_braces (flat_statements body) ++ [])) ts r m
 
 -- ---- lists of members
 
@@ -212,7 +246,9 @@ members_are (trees.a_property x xs) = ap (λ (l : Properties). trees.a_property 
 
 more_marks : (xs : Properties) → more_properties xs ≡ behind_commas flat_property (members_of xs)
 more_marks trees.no_properties = refl
-more_marks (trees.a_property x xs) = ap (λ (l : List Mark). token (fixed kinds.Comma) ∷ (flat_property x ++ l)) (append-nil (more_properties xs) ∙ more_marks xs)
+more_marks (trees.a_property x xs) =
+    ap (λ (l : List Mark). token (fixed kinds.Comma) ∷ (flat_property x ++ l))
+    (append-nil (more_properties xs) ∙ more_marks xs)
 
 members_marks : (xs : Properties) → flat_properties xs ≡ with_commas flat_property (members_of xs)
 members_marks trees.no_properties = refl
@@ -233,8 +269,10 @@ pub objects_again : (q : SeqAgain) (n : ℕ) (b : Below) → AgainBelow n b → 
 unfolding properties_at
 objects_again q n b h xs w l ts r m =
     let behind : List Mark = token (fixed kinds.RightBrace) ∷ [] in
-    let same : flat_properties xs ++ (trailing_property xs ++ behind) ≡ with_commas flat_property (members_of xs) ++ (behind_last (members_of xs) ++ behind) = rw (members_marks xs, trailing_marks xs) refl in
-    let read : elements (one_of (λ r. property_at b n r)) no_state kinds.RightBrace (suc (length (tail_of ts))) tt (tail_of ts) ≡ Ok (members_of xs, r) =
+    let same : flat_properties xs ++ (trailing_property xs ++ behind) ≡ with_commas flat_property (members_of xs) ++
+    (behind_last (members_of xs) ++ behind) = rw (members_marks xs, trailing_marks xs) refl in
+    let read : elements (one_of (λ r. property_at b n r)) no_state kinds.RightBrace (suc (length (tail_of ts))) tt
+    (tail_of ts) ≡ Ok (members_of xs, r) =
     elements_again (one_of (λ r. property_at b n r)) no_state flat_property (GoodProperty n) kinds.RightBrace refl
     (λ s x g us v p. property_no_brace x us v p)
     (λ s x g us v p e. property_again q n b h x g.0 g.1 us v p e)

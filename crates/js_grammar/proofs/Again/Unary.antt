@@ -27,7 +27,13 @@ use Rattle.js_grammar.proofs.Again.Primary.{ObjectsAgain, is_primary, primary_ag
 
 -- the expression is read, and then what goes on with it
 abbrev LinksAgain : ℕ → Below → Expression → Type 0
-LinksAgain n b e = (k : ℕ) → height e ≤ suc n → k + arms e ≡ suc n → (ts r : List Token) → Matches (flat e) ts r → call b n ts ≡ links b n k e r
+LinksAgain n b e =
+    (k : ℕ)
+    → height e ≤ suc n
+    → k + arms e ≡ suc n
+    → (ts r : List Token)
+    → Matches (flat e) ts r
+    → call b n ts ≡ links b n k e r
 
 member_links : (n : ℕ) (b : Below) (e : Expression) (a : List ℕ) → LinksAgain n b e → LinksAgain n b (trees.member e a)
 unfolding links
@@ -45,10 +51,17 @@ index_links : (q : SeqAgain) (n : ℕ) (b : Below)
     → LinksAgain n b (trees.index e i)
 unfolding links
 index_links q n b h e i w x k l s ts r m =
-    let p = parts (flat e) (token (fixed kinds.LeftBracket) ∷ (flat i ++ (token (fixed kinds.RightBracket) ∷ []))) ts r m in
+    let p = parts (flat e) (token (fixed kinds.LeftBracket) ∷ (flat i ++ (token (fixed kinds.RightBracket) ∷ [])))
+    ts r m in
     let low : nat_le (height e) n ≡ true = le-leb (height e) n (omega arith) in
     x (suc k) (omega arith) (omega arith) ts p.0 p.1
-    ∙ rw (link_fixed kinds.LeftBracket (head_of p.0) p.2.0, low, q n b h (tok kinds.LeftBracket ∷ an_expression ∷ tok kinds.RightBracket ∷ []) (tt, (i, (tt, tt))) p.0 r (tt, (w, (tt, tt))) (omega arith) refl tt p.2) refl
+    ∙ rw (
+      link_fixed kinds.LeftBracket (head_of p.0) p.2.0,
+      low,
+      q n b h (tok kinds.LeftBracket ∷ an_expression ∷ tok kinds.RightBracket ∷ []) (tt, (i, (tt, tt))) p.0 r
+          (tt, (w, (tt, tt))) (omega arith) refl tt p.2,
+    )
+    refl
 
 call_links : (q : SeqAgain) (n : ℕ) (b : Below)
     → AgainBelow n b
@@ -62,7 +75,13 @@ call_links q n b h f es w x k l s ts r m =
     let p = parts (flat f) (token (fixed kinds.LeftParenthesis) ∷ inside) ts r m in
     let low : nat_le (height f) n ≡ true = le-leb (height f) n (omega arith) in
     x (suc k) (omega arith) (omega arith) ts p.0 p.1
-    ∙ rw (link_fixed kinds.LeftParenthesis (head_of p.0) p.2.0, low, q n b h (tok kinds.LeftParenthesis ∷ arguments kinds.RightParenthesis ∷ []) (tt, (es, tt)) p.0 r (tt, (w.2, tt)) (omega arith) refl tt (p.2.0, before_nothing inside (tail_of p.0) r p.2.1)) refl
+    ∙ rw (
+      link_fixed kinds.LeftParenthesis (head_of p.0) p.2.0,
+      low,
+      q n b h (tok kinds.LeftParenthesis ∷ arguments kinds.RightParenthesis ∷ []) (tt, (es, tt)) p.0 r (tt, (w.2, tt))
+          (omega arith) refl tt (p.2.0, before_nothing inside (tail_of p.0) r p.2.1),
+    )
+    refl
 
 primary_links : (q : SeqAgain) (n : ℕ) (b : Below)
     → AgainBelow n b
@@ -132,7 +151,8 @@ call_again q n b h os e w v l ts r m s =
 -- ---- updates
 
 abbrev PostfixAgain : ℕ → Below → Expression → Type 0
-PostfixAgain n b e = height e ≤ suc n → (ts r : List Token) → Matches (flat e) ts r → StopsUnary (edge e) r → postfix b n ts ≡ Ok (e, r)
+PostfixAgain n b e =
+    height e ≤ suc n → (ts r : List Token) → Matches (flat e) ts r → StopsUnary (edge e) r → postfix b n ts ≡ Ok (e, r)
 
 call_postfix : (q : SeqAgain) (n : ℕ) (b : Below)
     → AgainBelow n b
@@ -157,9 +177,11 @@ update_postfix q n b h os o e w l ts r m s =
     let p = parts (flat e) (beside (fixed (update_kind o)) ∷ []) ts r m in
     let high : level e ≡ 15 = target_level e w.1 in
     let ends : link (head_of p.0) ≡ no_link = link_fixed (update_kind o) (head_of p.0) p.2.0 ∙ update_no_link o in
-    let found : update_near (head_of p.0) ≡ Some o = update_fixed (update_kind o) (head_of p.0) p.2.0 p.2.1 ∙ update_again o in
+    let found : update_near (head_of p.0) ≡ Some o = update_fixed (update_kind o) (head_of p.0) p.2.0 p.2.1
+    ∙ update_again o in
     let low : nat_le (height e) n ≡ true = le-leb (height e) n (omega arith) in
-    rw (call_again q n b h os e w.0 (omega arith) (omega arith) ts p.0 p.1 ends, found, w.1, low) (ap (λ (l : List Token). Ok (trees.postfix o e, l)) p.2.2)
+    rw (call_again q n b h os e w.0 (omega arith) (omega arith) ts p.0 p.1 ends, found, w.1, low)
+    (ap (λ (l : List Token). Ok (trees.postfix o e, l)) p.2.2)
 
 postfix_again : (q : SeqAgain) (n : ℕ) (b : Below)
     → AgainBelow n b
@@ -188,7 +210,8 @@ postfix_again q n b h os (trees.boolean a) v w = call_postfix q n b h os (trees.
 postfix_again q n b h os trees.null v w = call_postfix q n b h os trees.null (omega arith) w
 postfix_again q n b h os (trees.array es) v w = call_postfix q n b h os (trees.array es) (omega arith) w
 postfix_again q n b h os (trees.object ps) v w = call_postfix q n b h os (trees.object ps) (omega arith) w
-postfix_again q n b h os (trees.function o ps body) v w = call_postfix q n b h os (trees.function o ps body) (omega arith) w
+postfix_again q n b h os (trees.function o ps body) v w =
+    call_postfix q n b h os (trees.function o ps body) (omega arith) w
 postfix_again q n b h os (trees.parenthesized e) v w = call_postfix q n b h os (trees.parenthesized e) (omega arith) w
 
 -- ---- unary expressions
@@ -200,10 +223,22 @@ no_prefix_before : (e : Expression)
     → (ts r : List Token)
     → Matches (flat e) ts r
     → prefix (head_of ts) ≡ no_prefix
-no_prefix_before (trees.postfix o e) w v ts r m = let p = parts (flat e) (beside (fixed (update_kind o)) ∷ []) ts r m in no_prefix_before e w.0 (omega (arith, target_level e w.1)) ts p.0 p.1
-no_prefix_before (trees.member e a) w v ts r m = let p = parts (flat e) (token (fixed kinds.Dot) ∷ token (identifier_name a) ∷ []) ts r m in no_prefix_before e w.0 (omega (arith, w.1)) ts p.0 p.1
-no_prefix_before (trees.index e i) w v ts r m = let p = parts (flat e) (token (fixed kinds.LeftBracket) ∷ (flat i ++ (token (fixed kinds.RightBracket) ∷ []))) ts r m in no_prefix_before e w.0 (omega (arith, w.1)) ts p.0 p.1
-no_prefix_before (trees.call f es) w v ts r m = let p = parts (flat f) (token (fixed kinds.LeftParenthesis) ∷ (flat_expressions es ++ (trailing es ++ (token (fixed kinds.RightParenthesis) ∷ [])))) ts r m in no_prefix_before f w.0 (omega (arith, w.1)) ts p.0 p.1
+no_prefix_before (trees.postfix o e) w v ts r m =
+    let p = parts (flat e) (beside (fixed (update_kind o)) ∷ []) ts r m in
+    no_prefix_before e w.0 (omega (arith, target_level e w.1)) ts p.0 p.1
+no_prefix_before (trees.member e a) w v ts r m =
+    let p = parts (flat e) (token (fixed kinds.Dot) ∷ token (identifier_name a) ∷ []) ts r m in
+    no_prefix_before e w.0 (omega (arith, w.1)) ts p.0 p.1
+no_prefix_before (trees.index e i) w v ts r m =
+    let p = parts (flat e) (token (fixed kinds.LeftBracket) ∷ (flat i ++ (token (fixed kinds.RightBracket) ∷ [])))
+    ts r m in
+    no_prefix_before e w.0 (omega (arith, w.1)) ts p.0 p.1
+no_prefix_before (trees.call f es) w v ts r m =
+    let p = parts (flat f)
+    (token (fixed kinds.LeftParenthesis) ∷
+    (flat_expressions es ++ (trailing es ++ (token (fixed kinds.RightParenthesis) ∷ []))))
+    ts r m in
+    no_prefix_before f w.0 (omega (arith, w.1)) ts p.0 p.1
 no_prefix_before (trees.arrow ps e) w v ts r m = absurd (omega arith)
 no_prefix_before (trees.arrow_block ps body) w v ts r m = absurd (omega arith)
 no_prefix_before (trees.prefix o e) w v ts r m = absurd (omega arith)
@@ -213,9 +248,12 @@ no_prefix_before (trees.conditional t c a) w v ts r m = absurd (omega arith)
 no_prefix_before (trees.assign o t a) w v ts r m = absurd (omega arith)
 no_prefix_before (trees.comma es) w v ts r m = absurd (omega arith)
 no_prefix_before trees.this w v ts r m = prefix_fixed kinds.This (head_of ts) m.0
-no_prefix_before (trees.name a) w v ts r m = prefix_fixed kinds.Name (head_of ts) (kind_of_identifier a (head_of ts) m.0)
-no_prefix_before (trees.number a) w v ts r m = prefix_fixed kinds.Number (head_of ts) (kind_of_number a (head_of ts) m.0)
-no_prefix_before (trees.string a) w v ts r m = prefix_fixed kinds.String (head_of ts) (kind_of_string a (head_of ts) m.0)
+no_prefix_before (trees.name a) w v ts r m =
+    prefix_fixed kinds.Name (head_of ts) (kind_of_identifier a (head_of ts) m.0)
+no_prefix_before (trees.number a) w v ts r m =
+    prefix_fixed kinds.Number (head_of ts) (kind_of_number a (head_of ts) m.0)
+no_prefix_before (trees.string a) w v ts r m =
+    prefix_fixed kinds.String (head_of ts) (kind_of_string a (head_of ts) m.0)
 no_prefix_before (trees.boolean true) w v ts r m = prefix_fixed kinds.True (head_of ts) m.0
 no_prefix_before (trees.boolean false) w v ts r m = prefix_fixed kinds.False (head_of ts) m.0
 no_prefix_before trees.null w v ts r m = prefix_fixed kinds.Null (head_of ts) m.0
@@ -225,7 +263,8 @@ no_prefix_before (trees.function o ps body) w v ts r m = prefix_fixed kinds.Func
 no_prefix_before (trees.parenthesized e) w v ts r m = prefix_fixed kinds.LeftParenthesis (head_of ts) m.0
 
 abbrev UnaryAgain : ℕ → Below → Expression → Type 0
-UnaryAgain n b e = height e ≤ suc n → (ts r : List Token) → Matches (flat e) ts r → StopsUnary (edge e) r → unary b n ts ≡ Ok (e, r)
+UnaryAgain n b e =
+    height e ≤ suc n → (ts r : List Token) → Matches (flat e) ts r → StopsUnary (edge e) r → unary b n ts ≡ Ok (e, r)
 
 postfix_unary : (q : SeqAgain) (n : ℕ) (b : Below)
     → AgainBelow n b
@@ -235,7 +274,8 @@ postfix_unary : (q : SeqAgain) (n : ℕ) (b : Below)
     → Well e
     → UnaryAgain n b e
 unfolding unary
-postfix_unary q n b h os e v w l ts r m s = rw (no_prefix_before e w v ts r m) (postfix_again q n b h os e v w l ts r m s)
+postfix_unary q n b h os e v w l ts r m s =
+    rw (no_prefix_before e w v ts r m) (postfix_again q n b h os e v w l ts r m s)
 
 prefix_unary : (n : ℕ) (b : Below)
     → AgainBelow n b
@@ -245,7 +285,8 @@ prefix_unary : (n : ℕ) (b : Below)
 unfolding unary
 prefix_unary n b h o e w l ts r m s =
     let high : level e ≡ 15 = target_level e w.1 in
-    let is : prefix (head_of ts) ≡ classes.an_update o = prefix_fixed (update_kind o) (head_of ts) m.0 ∙ update_prefix o in
+    let is : prefix (head_of ts) ≡ classes.an_update o = prefix_fixed (update_kind o) (head_of ts) m.0
+    ∙ update_prefix o in
     let inner : Matches (flat e) (tail_of ts) r = and_nothing (flat e) (tail_of ts) r m.1 in
     rw (is, h.call e w.0 (omega arith) (omega arith) (tail_of ts) r inner s.0, w.1) refl
 
@@ -271,7 +312,12 @@ delete_unary n b h e w l ts r m s =
     let high : level e ≡ 15 = property_level e w.2 in
     let stops : StopsUnary plain r = subst (λ (d : Edge). StopsUnary d r) (call_edge e (omega arith)) s in
     let inner : Matches (flat e) (tail_of ts) r = and_nothing (flat e) (tail_of ts) r m.1 in
-    rw (prefix_fixed kinds.Delete (head_of ts) m.0, h.call e w.0 (omega arith) (omega arith) (tail_of ts) r inner stops.0, w.2) refl
+    rw (
+      prefix_fixed kinds.Delete (head_of ts) m.0,
+      h.call e w.0 (omega arith) (omega arith) (tail_of ts) r inner stops.0,
+      w.2,
+    )
+    refl
 
 any_unary : (n : ℕ) (b : Below)
     → AgainBelow n b
@@ -313,7 +359,8 @@ unary_reads q n b h os (trees.boolean a) v w = postfix_unary q n b h os (trees.b
 unary_reads q n b h os trees.null v w = postfix_unary q n b h os trees.null (omega arith) w
 unary_reads q n b h os (trees.array es) v w = postfix_unary q n b h os (trees.array es) (omega arith) w
 unary_reads q n b h os (trees.object ps) v w = postfix_unary q n b h os (trees.object ps) (omega arith) w
-unary_reads q n b h os (trees.function o ps body) v w = postfix_unary q n b h os (trees.function o ps body) (omega arith) w
+unary_reads q n b h os (trees.function o ps body) v w =
+    postfix_unary q n b h os (trees.function o ps body) (omega arith) w
 unary_reads q n b h os (trees.parenthesized e) v w = postfix_unary q n b h os (trees.parenthesized e) (omega arith) w
 
 pub unary_again : (q : SeqAgain) (n : ℕ) (b : Below)

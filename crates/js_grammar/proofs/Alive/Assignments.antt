@@ -46,10 +46,13 @@ other_kind k ts us z f (inl same) = ap (λ (o : Option Token). is_kind k o) same
 other_kind k ts us z f (inr is) = ap (λ (o : Option Token). is_kind k o) is ∙ z
 
 -- what lives behind no brace begins with none
-pub alive_no_brace : {flat_of : Expression → List Mark} {Good : Expression → Type 0} {ts : List Token} {e : Fault} (l : Lives IsZero flat_of Good ts e)
+pub alive_no_brace : {flat_of : Expression → List Mark} {Good : Expression → Type 0} {ts : List Token} {e : Fault}
+    (l : Lives IsZero flat_of Good ts e)
     → is_kind kinds.LeftBrace (head_of ts) ≡ false
     → begins_with_brace (flat_of l.tree) ≡ false
-alive_no_brace {flat_of} {Good} {ts} l f = no_brace (flat_of l.tree) (l.before ++ (added l.rest ++ [])) [] (other_kind kinds.LeftBrace ts (l.before ++ (added l.rest ++ [])) refl f (l.starts [])) (l.spelled [])
+alive_no_brace {flat_of} {Good} {ts} l f =
+    no_brace (flat_of l.tree) (l.before ++ (added l.rest ++ [])) []
+    (other_kind kinds.LeftBrace ts (l.before ++ (added l.rest ++ [])) refl f (l.starts [])) (l.spelled [])
 
 -- ---- arrow functions
 
@@ -73,18 +76,31 @@ arrow_body_lives : (n : ℕ) (b : Below)
 arrow_body_lives n b snd a s ps ts m fresh us next true f e p =
     let front = flat_arrow_parameters ps in
     let is = in_braces function_body (with_names [] (names_of_parameters ps)) ∷ [] in
-    let l = anything (seq_lives n b snd a is refl us e (made_err {A = Expression} b is (λ v. trees.arrow_block ps v.0) us e p)) in
-    around l (front ++ (beside (fixed kinds.Arrow) ∷ [])) (firm_append front (beside (fixed kinds.Arrow) ∷ []) refl) s (joins front (beside (fixed kinds.Arrow) ∷ []) s ts us m next)
-    (trees.arrow_block ps l.tree.0) ((((fresh, fresh_behind (names_of_parameters ps) (declared_names l.tree.0) l.good.0.0), l.good.0.1), omega arith), refl) [] [] (λ r. refl)
-    (append_assoc front (beside (fixed kinds.Arrow) ∷ []) ((flat_block l.tree.0 ++ []) ++ []) ∙ ap (λ (ms : List Mark). front ++ (beside (fixed kinds.Arrow) ∷ ms)) (append-nil (flat_block l.tree.0 ++ [])))
+    let l = anything
+    (seq_lives n b snd a is refl us e (made_err {A = Expression} b is (λ v. trees.arrow_block ps v.0) us e p)) in
+    around l (front ++ (beside (fixed kinds.Arrow) ∷ [])) (firm_append front (beside (fixed kinds.Arrow) ∷ []) refl) s
+    (joins front (beside (fixed kinds.Arrow) ∷ []) s ts us m next)
+    (trees.arrow_block ps l.tree.0) (
+      (
+        ((fresh, fresh_behind (names_of_parameters ps) (declared_names l.tree.0) l.good.0.0), l.good.0.1),
+        omega arith,
+      ),
+      refl,
+    )
+    [] [] (λ r. refl)
+    (append_assoc front (beside (fixed kinds.Arrow) ∷ []) ((flat_block l.tree.0 ++ []) ++ [])
+    ∙ ap (λ (ms : List Mark). front ++ (beside (fixed kinds.Arrow) ∷ ms)) (append-nil (flat_block l.tree.0 ++ [])))
 arrow_body_lives n b snd a s ps ts m fresh us next false f e p =
     let front = flat_arrow_parameters ps in
     elim (bind_err (seq b (an_assignment ∷ []) us) (λ v. Ok (trees.arrow ps v.0.0, v.1)) e p) [
       | inl q ↦ elim (bind_err (b.assignment us) (λ x. Ok ((x.0, tt), x.1)) e q) [
         | inl k ↦
             let l = a.assignment us e k in
-            around l (front ++ (beside (fixed kinds.Arrow) ∷ [])) (firm_append front (beside (fixed kinds.Arrow) ∷ []) refl) s (joins front (beside (fixed kinds.Arrow) ∷ []) s ts us m next)
-            (trees.arrow ps l.tree) (((fresh, l.good.0, l.good.1, alive_no_brace l f), omega arith), refl) [] [] (λ r. refl)
+            around l (front ++ (beside (fixed kinds.Arrow) ∷ []))
+            (firm_append front (beside (fixed kinds.Arrow) ∷ []) refl) s
+            (joins front (beside (fixed kinds.Arrow) ∷ []) s ts us m next)
+            (trees.arrow ps l.tree) (((fresh, l.good.0, l.good.1, alive_no_brace l f), omega arith), refl) [] []
+            (λ r. refl)
             (append_assoc front (beside (fixed kinds.Arrow) ∷ []) (flat l.tree ++ []))
         | inr k ↦ absurd cc
       ]
@@ -110,10 +126,15 @@ arrow_rest_lives : (n : ℕ) (b : Below)
     → arrow_rest b ps (names_of_parameters ps) ts ≡ Err e
     → Lives Nothing flat (IsFunctionOf 1) s e
 unfolding arrow_rest
-arrow_rest_lives n b snd a s ps ts e m fresh p = elim (bind_err (expect_near kinds.Arrow ts) (λ a. arrow_body_by b ps (names_of_parameters ps) (is_kind kinds.LeftBrace (head_of a.1)) a.1) e p) [
-  | inl q ↦ stopped (flat_arrow_parameters ps) (firm_arrow_parameters ps) s ts m e (expect_near_err kinds.Arrow ts e q) (trees.arrow ps (trees.number 0)) (((fresh, tt, omega arith, refl), omega arith), refl) zero_arrow zero_arrow_tokens zero_arrow_spelled refl
-  | inr q ↦ arrow_body_lives n b snd a s ps ts m fresh q.0.1 (expect_near_sound kinds.Arrow ts q.0 q.1) (is_kind kinds.LeftBrace (head_of q.0.1)) refl e q.2
-]
+arrow_rest_lives n b snd a s ps ts e m fresh p =
+    elim (bind_err (expect_near kinds.Arrow ts)
+    (λ a. arrow_body_by b ps (names_of_parameters ps) (is_kind kinds.LeftBrace (head_of a.1)) a.1) e p) [
+      | inl q ↦ stopped (flat_arrow_parameters ps) (firm_arrow_parameters ps) s ts m e (expect_near_err kinds.Arrow ts e q)
+          (trees.arrow ps (trees.number 0)) (((fresh, tt, omega arith, refl), omega arith), refl)
+          zero_arrow zero_arrow_tokens zero_arrow_spelled refl
+      | inr q ↦ arrow_body_lives n b snd a s ps ts m fresh q.0.1 (expect_near_sound kinds.Arrow ts q.0 q.1)
+          (is_kind kinds.LeftBrace (head_of q.0.1)) refl e q.2
+    ]
 
 pub arrow_of_one_lives : (n : ℕ) (b : Below)
     → SoundBelow n b
@@ -123,10 +144,11 @@ pub arrow_of_one_lives : (n : ℕ) (b : Below)
     → arrow_of_one b ts ≡ Err e
     → Lives Nothing flat (IsFunctionOf 1) ts e
 unfolding arrow_of_one
-arrow_of_one_lives n b s a w ts e f p = elim (bind_err (name_at ts) (λ n. arrow_rest b (trees.one_name n.0) (n.0 ∷ []) n.1) e p) [
-  | inl q ↦ let again = name_again w ts (tail_of ts) (f, refl) in absurd cc
-  | inr q ↦ arrow_rest_lives n b s a ts (trees.one_name q.0.0) q.0.1 e (name_sound ts q.0 q.1) (refl, tt) q.2
-]
+arrow_of_one_lives n b s a w ts e f p =
+    elim (bind_err (name_at ts) (λ n. arrow_rest b (trees.one_name n.0) (n.0 ∷ []) n.1) e p) [
+      | inl q ↦ let again = name_again w ts (tail_of ts) (f, refl) in absurd cc
+      | inr q ↦ arrow_rest_lives n b s a ts (trees.one_name q.0.0) q.0.1 e (name_sound ts q.0 q.1) (refl, tt) q.2
+    ]
 
 -- ---- names in parentheses
 
@@ -141,8 +163,15 @@ with_zero (n ∷ ns) = trees.an_expression (trees.name n) (with_zero ns)
 
 -- What names that end so are, as they are read: of true they begin expressions that 0 ends, of false they are expressions with the parenthesis.
 abbrev Shaped : Bool → List Identifier → List Token → List Token → Type 0
-Shaped true names us r = (before : List Token) × (last : Token) × (us ≡ before ++ (last ∷ r)) × ((x : List Token) → Matches (flat_expressions (with_zero names)) (before ++ (as_token (a_token kinds.Number) ∷ x)) x)
-Shaped false names us r = Matches (flat_expressions (as_expressions names) ++ (token (fixed kinds.RightParenthesis) ∷ [])) us r × ((n : Identifier) × (ns : List Identifier) × (names ≡ n ∷ ns))
+Shaped true names us r =
+    (before : List Token)
+    × (last : Token)
+    × (us ≡ before ++ (last ∷ r))
+    × ((x : List Token)
+    → Matches (flat_expressions (with_zero names)) (before ++ (as_token (a_token kinds.Number) ∷ x)) x)
+Shaped false names us r =
+    Matches (flat_expressions (as_expressions names) ++ (token (fixed kinds.RightParenthesis) ∷ [])) us r
+    × ((n : Identifier) × (ns : List Identifier) × (names ≡ n ∷ ns))
 
 abbrev got_names : List Identifier → List Token → Read (List Identifier)
 got_names ns r = Ok (ns, r)
@@ -194,10 +223,37 @@ more_shaped : (only : Bool) (t u : Token) (us : List Token) (ns : List Identifie
     → u.kind ≡ kinds.Comma
     → Shaped only ns us r
     → Shaped only (t.string_value ∷ ns) (t ∷ u ∷ us) r
-more_shaped true t u us [] r f c s = (t ∷ u ∷ s.0, s.1, ap (λ (us : List Token). t ∷ u ∷ us) s.2, λ x. ((f, refl), (c, s.3 x)))
-more_shaped true t u us (n ∷ ns) r f c s = (t ∷ u ∷ s.0, s.1, ap (λ (us : List Token). t ∷ u ∷ us) s.2, λ x. ((f, refl), (c, subst (λ (ms : List Mark). Matches (token (identifier n) ∷ ms) (s.0 ++ (as_token (a_token kinds.Number) ∷ x)) x) (sym (append-nil (more_expressions (with_zero ns)))) (s.3 x))))
+more_shaped true t u us [] r f c s =
+    (t ∷ u ∷ s.0, s.1, ap (λ (us : List Token). t ∷ u ∷ us) s.2, λ x. ((f, refl), (c, s.3 x)))
+more_shaped true t u us (n ∷ ns) r f c s = (
+  t ∷ u ∷ s.0,
+  s.1,
+  ap (λ (us : List Token). t ∷ u ∷ us) s.2,
+  λ x. (
+    (f, refl),
+    (
+      c,
+      subst
+          (λ (ms : List Mark). Matches (token (identifier n) ∷ ms) (s.0 ++ (as_token (a_token kinds.Number) ∷ x))
+          x)
+          (sym (append-nil (more_expressions (with_zero ns)))) (s.3 x),
+    ),
+  ),
+)
 more_shaped false t u us [] r f c s = absurd (no_names s.1.0 s.1.1 s.1.2)
-more_shaped false t u us (n ∷ ns) r f c s = (((f, refl), (c, subst (λ (ms : List Mark). Matches (token (identifier n) ∷ (ms ++ (token (fixed kinds.RightParenthesis) ∷ []))) us r) (sym (append-nil (more_expressions (as_expressions ns)))) s.0)), (t.string_value, (n ∷ ns), refl))
+more_shaped false t u us (n ∷ ns) r f c s = (
+  (
+    (f, refl),
+    (
+      c,
+      subst
+          (λ (ms : List Mark). Matches (token (identifier n) ∷ (ms ++ (token (fixed kinds.RightParenthesis) ∷ [])))
+          us r)
+          (sym (append-nil (more_expressions (as_expressions ns)))) s.0,
+    ),
+  ),
+  (t.string_value, (n ∷ ns), refl),
+)
 
 abbrev some_past : Bool → List Token → Option (Bool × List Token)
 some_past only r = Some (only, r)
@@ -240,7 +296,8 @@ last_are k only t u us r f g h e =
     subst (λ (only : Bool). NamesAre only (suc k) (t ∷ u ∷ us) r) p.0 (record {
       names = t.string_value ∷ [];
       read = read_last k t u us f g h ∙ ap (λ (r : List Token). got_names (t.string_value ∷ []) r) p.1;
-      shaped = (((kind_is kinds.Name t g, refl), (kind_is kinds.RightParenthesis u h, p.1)), (t.string_value, [], refl));
+      shaped =
+          (((kind_is kinds.Name t g, refl), (kind_is kinds.RightParenthesis u h, p.1)), (t.string_value, [], refl));
     })
 
 -- a name, a comma and the names behind it
@@ -265,7 +322,8 @@ behind_name : (k : ℕ) (only : Bool) (t : Token) (us r : List Token)
     → past_names false us ≡ Some (only, r)
     → NamesAre only (suc k) (t ∷ us) r
 behind_name k only t [] r f g go e = absurd (no_past only r e)
-behind_name k only t (u ∷ us) r f g go e = by_tests (is_kind kinds.RightParenthesis (Some u)) (is_kind kinds.Comma (Some u)) refl refl e
+behind_name k only t (u ∷ us) r f g go e =
+    by_tests (is_kind kinds.RightParenthesis (Some u)) (is_kind kinds.Comma (Some u)) refl refl e
   where
     by_tests : (a b : Bool)
         → is_kind kinds.RightParenthesis (Some u) ≡ a
@@ -293,7 +351,9 @@ names_are : (k : ℕ) (only : Bool) (us r : List Token)
     → NamesAre only k us r
 names_are zero only us r h e = absurd (omega (arith, h))
 names_are (suc k) only [] r h e = absurd (no_past only r e)
-names_are (suc k) only (t ∷ us) r h e = names_by k only t us r (λ vs less f. names_are k only vs r (omega (arith, h, less)) f) (is_kind kinds.RightParenthesis (Some t)) (is_kind kinds.Name (Some t)) refl refl e
+names_are (suc k) only (t ∷ us) r h e =
+    names_by k only t us r (λ vs less f. names_are k only vs r (omega (arith, h, less)) f)
+    (is_kind kinds.RightParenthesis (Some t)) (is_kind kinds.Name (Some t)) refl refl e
 
 -- names that don't differ are two at least
 two_names : (ns : List Identifier) → are_fresh [] ns ≡ false → is_two_expressions (as_expressions ns) ≡ true
@@ -330,7 +390,14 @@ refused_names (t ∷ s) us ts e names m f shape c = record {
   tree = trees.parenthesized (trees.comma (with_zero names));
   good = ((two_with_zero names f, zero_assignments names), omega arith);
   rest = a_token kinds.Number ∷ a_token kinds.RightParenthesis ∷ [];
-  spelled = λ r. (m.0, joins (flat_expressions (with_zero names)) (token (fixed kinds.RightParenthesis) ∷ []) (shape.0 ++ (as_token (a_token kinds.Number) ∷ as_token (a_token kinds.RightParenthesis) ∷ r)) (as_token (a_token kinds.RightParenthesis) ∷ r) r (shape.3 (as_token (a_token kinds.RightParenthesis) ∷ r)) (refl, refl));
+  spelled =
+      λ r. (
+        m.0,
+        joins (flat_expressions (with_zero names)) (token (fixed kinds.RightParenthesis) ∷ [])
+            (shape.0 ++ (as_token (a_token kinds.Number) ∷ as_token (a_token kinds.RightParenthesis) ∷ r))
+            (as_token (a_token kinds.RightParenthesis) ∷ r) r
+            (shape.3 (as_token (a_token kinds.RightParenthesis) ∷ r)) (refl, refl),
+      );
   starts = λ r. inl refl;
 }
 
@@ -344,17 +411,24 @@ kept_names : (s us ts : List Token) (e : Fault) (names : List Identifier)
 kept_names s us ts e names m f shape c =
     let tree = trees.parenthesized (trees.comma (as_expressions names)) in
     let well : Well tree = (two_names names f, names_assignments names) in
-    stopped (flat tree) (expression_firm tree well) s ts (joins (token (fixed kinds.LeftParenthesis) ∷ []) (flat_expressions (as_expressions names) ++ (token (fixed kinds.RightParenthesis) ∷ [])) s us ts m shape.0) e c
+    stopped (flat tree) (expression_firm tree well) s ts
+    (joins (token (fixed kinds.LeftParenthesis) ∷ [])
+    (flat_expressions (as_expressions names) ++ (token (fixed kinds.RightParenthesis) ∷ [])) s us ts m shape.0)
+    e c
     tree (well, omega arith) [] [] (λ r. refl) (append-nil (flat tree))
 
 same_names_lives : (s us ts : List Token) (e : Fault) (only : Bool) (names : List Identifier)
     → Matches (token (fixed kinds.LeftParenthesis) ∷ []) s us
     → are_fresh [] names ≡ false
     → Shaped only names us ts
-    → (if only then faulty {A = Expression} (stuck (suc (length ts))) else faulty {A = Expression} (stuck (length ts))) ≡ Err e
+    → (if only then faulty {A = Expression} (stuck (suc (length ts))) else faulty {A = Expression} (stuck (length ts)))
+    ≡ Err e
     → Lives Nothing flat (Fits 1) s e
-same_names_lives s us ts e true names m f shape p = refused_names s us ts e names m f shape (λ left h. stuck_counts {A = Expression} left e (ap (λ (k : ℕ). faulty {A = Expression} (stuck k)) h ∙ p))
-same_names_lives s us ts e false names m f shape p = kept_names s us ts e names m f shape (stuck_counts {A = Expression} ts e p)
+same_names_lives s us ts e true names m f shape p =
+    refused_names s us ts e names m f shape
+    (λ left h. stuck_counts {A = Expression} left e (ap (λ (k : ℕ). faulty {A = Expression} (stuck k)) h ∙ p))
+same_names_lives s us ts e false names m f shape p =
+    kept_names s us ts e names m f shape (stuck_counts {A = Expression} ts e p)
 
 arrow_of_names_lives : (n : ℕ) (b : Below)
     → SoundBelow n b
@@ -366,7 +440,8 @@ arrow_of_names_lives : (n : ℕ) (b : Below)
     → arrow_of_names b only names ts ≡ Err e
     → Lives Nothing flat (Fits 1) s e
 arrow_of_names_lives n b snd a s us ts e only names o m shape p =
-    elim (cond_err (are_fresh [] names) (arrow_rest b (trees.name_list names) names ts) (if only then Err (stuck (suc (length ts))) else Err (stuck (length ts))) e p) [
+    elim (cond_err (are_fresh [] names) (arrow_rest b (trees.name_list names) names ts)
+    (if only then Err (stuck (suc (length ts))) else Err (stuck (length ts))) e p) [
       | inl q ↦
           let l = arrow_rest_lives n b snd a s (trees.name_list names) ts e m (fresh_is [] names q.0) q.1 in
           renamed l l.tree l.good.0 refl
@@ -382,20 +457,26 @@ pub arrow_of_list_lives : (n : ℕ) (b : Below)
     → arrow_of_list b only ts ≡ Err e
     → Lives Nothing flat (Fits 1) ts e
 unfolding arrow_of_list names_before
-arrow_of_list_lives n b snd a only ts r e f past p = elim (bind_err (expect kinds.LeftParenthesis ts) (λ o. names_before o.1 >>= λ ns. arrow_of_names b only ns.0 ns.1) e p) [
-  | inl q ↦ let again = expect_again kinds.LeftParenthesis ts (tail_of ts) (f, refl) in absurd cc
-  | inr q ↦
-      let us = q.0.1 in
-      let o = expect_sound kinds.LeftParenthesis ts q.0 q.1 in
-      let ns = names_are (suc (length us)) only us r (omega arith) (subst (λ (us : List Token). past_names true us ≡ Some (only, r)) o.1 past) in
-      elim (bind_err (names_before us) (λ ns. arrow_of_names b only ns.0 ns.1) e q.2) [
-        | inl k ↦ let read = ns.read in absurd cc
-        | inr k ↦
-            let same : (ns.names, r) ≡ k.0 = ok_is (ns.names, r) k.0 (sym ns.read ∙ k.1) in
-            let m = joins (token (fixed kinds.LeftParenthesis) ∷ []) (flats.flat_names ns.names ++ (token (fixed kinds.RightParenthesis) ∷ [])) ts us r o (names_before_sound us (ns.names, r) ns.read) in
-            arrow_of_names_lives n b snd a ts us r e only ns.names o m ns.shaped (subst (λ (x : List Identifier × List Token). arrow_of_names b only x.0 x.1 ≡ Err e) (sym same) k.2)
-      ]
-]
+arrow_of_list_lives n b snd a only ts r e f past p =
+    elim (bind_err (expect kinds.LeftParenthesis ts) (λ o. names_before o.1 >>= λ ns. arrow_of_names b only ns.0 ns.1)
+    e p) [
+      | inl q ↦ let again = expect_again kinds.LeftParenthesis ts (tail_of ts) (f, refl) in absurd cc
+      | inr q ↦
+          let us = q.0.1 in
+          let o = expect_sound kinds.LeftParenthesis ts q.0 q.1 in
+          let ns = names_are (suc (length us)) only us r (omega arith)
+          (subst (λ (us : List Token). past_names true us ≡ Some (only, r)) o.1 past) in
+          elim (bind_err (names_before us) (λ ns. arrow_of_names b only ns.0 ns.1) e q.2) [
+            | inl k ↦ let read = ns.read in absurd cc
+            | inr k ↦
+                let same : (ns.names, r) ≡ k.0 = ok_is (ns.names, r) k.0 (sym ns.read ∙ k.1) in
+                let m = joins (token (fixed kinds.LeftParenthesis) ∷ [])
+                (flats.flat_names ns.names ++ (token (fixed kinds.RightParenthesis) ∷ [])) ts us r o
+                (names_before_sound us (ns.names, r) ns.read) in
+                arrow_of_names_lives n b snd a ts us r e only ns.names o m ns.shaped
+                (subst (λ (x : List Identifier × List Token). arrow_of_names b only x.0 x.1 ≡ Err e) (sym same) k.2)
+          ]
+    ]
 
 -- ---- what an arrow function begins with
 
@@ -476,19 +557,33 @@ joined_by_lives n b snd a s t question ts e f l p =
     let is = tok kinds.Question ∷ an_assignment ∷ tok kinds.Colon ∷ an_assignment ∷ [] in
     elim (low_err (height t) n ts (made b is (λ v. trees.conditional t v.1.0 v.1.1.1.0) ts) e p) [
       | inl q ↦
-          let m = anything (seq_lives n b snd a is refl ts e (made_err {A = Expression} b is (λ v. trees.conditional t v.1.0 v.1.1.1.0) ts e q.1)) in
-          behind m (flat t) (expression_firm t l.well) s l.marks (trees.conditional t m.tree.1.0 m.tree.1.1.1.0) ((l.well, l.level, m.good.1.0.0, m.good.1.0.1, m.good.1.1.1.0.0, m.good.1.1.1.0.1), omega arith) refl
-      | inr c ↦ token_lives 3 (suc n) s t ts e l kinds.Question (joint_question (head_of ts) f) c (trees.conditional t (trees.number 0) (trees.number 0)) ((l.well, l.level, tt, omega arith, tt, omega arith), omega arith)
-          zero_branches (a_token kinds.Number ∷ a_token kinds.Colon ∷ a_token kinds.Number ∷ []) (λ r. ((refl, refl), (refl, ((refl, refl), refl)))) refl
+          let m = anything
+          (seq_lives n b snd a is refl ts e
+          (made_err {A = Expression} b is (λ v. trees.conditional t v.1.0 v.1.1.1.0) ts e q.1))
+          in
+          behind m (flat t) (expression_firm t l.well) s l.marks (trees.conditional t m.tree.1.0 m.tree.1.1.1.0)
+          ((l.well, l.level, m.good.1.0.0, m.good.1.0.1, m.good.1.1.1.0.0, m.good.1.1.1.0.1), omega arith) refl
+      | inr c ↦ token_lives 3 (suc n) s t ts e l kinds.Question (joint_question (head_of ts) f) c
+          (trees.conditional t (trees.number 0) (trees.number 0))
+          ((l.well, l.level, tt, omega arith, tt, omega arith), omega arith)
+          zero_branches (a_token kinds.Number ∷ a_token kinds.Colon ∷ a_token kinds.Number ∷ [])
+          (λ r. ((refl, refl), (refl, ((refl, refl), refl)))) refl
     ]
 joined_by_lives n b snd a s t (assigns_by o) ts e f l p =
     let is = tok (assign_kind o) ∷ an_assignment ∷ [] in
-    elim (cond_err (is_target t) (if_low (height t) n ts (made b is (λ v. trees.assign o t v.1.0) ts)) (Err (stuck (length ts))) e p) [
+    elim (cond_err (is_target t) (if_low (height t) n ts (made b is (λ v. trees.assign o t v.1.0) ts))
+    (Err (stuck (length ts))) e p) [
       | inl w ↦ elim (low_err (height t) n ts (made b is (λ v. trees.assign o t v.1.0) ts) e w.1) [
         | inl q ↦
-            let m = anything (seq_lives n b snd a is refl ts e (made_err {A = Expression} b is (λ v. trees.assign o t v.1.0) ts e q.1)) in
-            behind m (flat t) (expression_firm t l.well) s l.marks (trees.assign o t m.tree.1.0) ((l.well, w.0, m.good.1.0.0, m.good.1.0.1), omega arith) refl
-        | inr c ↦ token_lives 3 (suc n) s t ts e l (assign_kind o) (joint_assigns o (head_of ts) f) c (trees.assign o t (trees.number 0)) ((l.well, w.0, tt, omega arith), omega arith) zero_marks zero_token (λ r. ((refl, refl), refl)) refl
+            let m = anything
+            (seq_lives n b snd a is refl ts e
+            (made_err {A = Expression} b is (λ v. trees.assign o t v.1.0) ts e q.1))
+            in
+            behind m (flat t) (expression_firm t l.well) s l.marks (trees.assign o t m.tree.1.0)
+            ((l.well, w.0, m.good.1.0.0, m.good.1.0.1), omega arith) refl
+        | inr c ↦ token_lives 3 (suc n) s t ts e l (assign_kind o) (joint_assigns o (head_of ts) f) c
+            (trees.assign o t (trees.number 0)) ((l.well, w.0, tt, omega arith), omega arith) zero_marks zero_token
+            (λ r. ((refl, refl), refl)) refl
       ]
       | inr w ↦ looser 3 1 (omega arith) (whole_lives 3 (suc n) s t ts e l (stuck_counts {A = Expression} ts e w.1))
     ]
@@ -520,7 +615,9 @@ assignment_by_lives n b s a (listed only) ts e f p =
     from_nothing (arrow_of_list_lives n b s a only ts w.1.0 e (start_paren (head_of ts) w.0) w.1.1 p)
 assignment_by_lives n b s a no_arrow ts e f p = elim (bind_err (operation b n 3 ts) (λ x. joined b n x.0 x.1) e p) [
   | inl q ↦ looser 3 1 (omega arith) (operation_lives n b s a 3 (omega arith) ts e q)
-  | inr q ↦ from_nothing (joined_lives n b s a ts q.0.0 q.0.1 e (operation_sound n b s (call_sound seq_sound n b s) 3 (omega arith) ts q.0 q.1).0 q.2)
+  | inr q ↦ from_nothing
+      (joined_lives n b s a ts q.0.0 q.0.1 e
+      (operation_sound n b s (call_sound seq_sound n b s) 3 (omega arith) ts q.0 q.1).0 q.2)
 ]
 
 pub assignment_lives : (n : ℕ) (b : Below)
@@ -546,12 +643,17 @@ further_lives : (n : ℕ) (s : List Token) (t : Expression) (ts : List Token) (e
     → l.tree ≡ es
     → Lives Nothing flat (Fits 0) s e
 further_lives n s t ts e k l trees.no_expressions is =
-    let all : l.before ++ (added l.rest ++ []) ≡ [] = subst (λ (es : Expressions). Matches (more_expressions es) (l.before ++ (added l.rest ++ [])) []) is (l.spelled []) in
+    let all : l.before ++ (added l.rest ++ []) ≡ [] = subst
+    (λ (es : Expressions). Matches (more_expressions es) (l.before ++ (added l.rest ++ [])) []) is (l.spelled [])
+    in
     let none : l.before ≡ [] = append_none l.before (added l.rest ++ []) all in
     let same : ts ≡ l.left = l.parts ∙ ap (λ (us : List Token). us ++ l.left) none in
-    looser 1 0 (omega arith) (whole_lives 1 (suc n) s t ts e k (subst (λ (us : List Token). Counts e us) (sym same) l.counted))
+    looser 1 0 (omega arith)
+    (whole_lives 1 (suc n) s t ts e k (subst (λ (us : List Token). Counts e us) (sym same) l.counted))
 further_lives n s t ts e k l (trees.an_expression f fs) is =
-    behind l (flat t) (expression_firm t k.well) s k.marks (trees.comma (trees.an_expression t (trees.an_expression f fs))) ((refl, (k.well, k.level, subst (λ (es : Expressions). AreAssignments es) is l.good)), omega arith)
+    behind l (flat t) (expression_firm t k.well) s k.marks
+    (trees.comma (trees.an_expression t (trees.an_expression f fs)))
+    ((refl, (k.well, k.level, subst (λ (es : Expressions). AreAssignments es) is l.good)), omega arith)
     (ap (λ (es : Expressions). flat t ++ more_expressions es) is)
 
 pub comma_by_lives : (n : ℕ) (b : Below)
@@ -563,15 +665,20 @@ pub comma_by_lives : (n : ℕ) (b : Below)
     → comma_by b n t c ts ≡ Err e
     → Lives Nothing flat (Fits 0) s e
 comma_by_lives n b snd a s t false ts e f k p = absurd cc
-comma_by_lives n b snd a s t true ts e f k p = elim (low_err (height t) n ts (more_assignments b ts >>= λ x. Ok (trees.comma (trees.an_expression t x.0), x.1)) e p) [
-  | inl q ↦ elim (bind_err (more_assignments b ts) (λ x. Ok (trees.comma (trees.an_expression t x.0), x.1)) e q.1) [
-    | inl w ↦
-        let l = more_lives n b snd a ts e w in
-        further_lives n s t ts e k l l.tree refl
-    | inr w ↦ absurd cc
-  ]
-  | inr c ↦ token_lives 1 (suc n) s t ts e k kinds.Comma (next_is kinds.Comma (head_of ts) f) c (trees.comma (trees.an_expression t (trees.an_expression (trees.number 0) trees.no_expressions))) ((refl, (k.well, k.level, (tt, omega arith, tt))), omega arith) zero_marks zero_token (λ r. ((refl, refl), refl)) refl
-]
+comma_by_lives n b snd a s t true ts e f k p =
+    elim (low_err (height t) n ts (more_assignments b ts >>= λ x. Ok (trees.comma (trees.an_expression t x.0), x.1))
+    e p) [
+      | inl q ↦ elim (bind_err (more_assignments b ts) (λ x. Ok (trees.comma (trees.an_expression t x.0), x.1)) e q.1) [
+        | inl w ↦
+            let l = more_lives n b snd a ts e w in
+            further_lives n s t ts e k l l.tree refl
+        | inr w ↦ absurd cc
+      ]
+      | inr c ↦ token_lives 1 (suc n) s t ts e k kinds.Comma (next_is kinds.Comma (head_of ts) f) c
+          (trees.comma (trees.an_expression t (trees.an_expression (trees.number 0) trees.no_expressions)))
+          ((refl, (k.well, k.level, (tt, omega arith, tt))), omega arith) zero_marks zero_token (λ r. ((refl, refl), refl))
+          refl
+    ]
 
 pub expression_lives : (n : ℕ) (b : Below)
     → SoundBelow n b
@@ -580,16 +687,22 @@ pub expression_lives : (n : ℕ) (b : Below)
     → expression b n ts ≡ Err e
     → Lives IsZero flat (Fits 0) ts e
 unfolding expression
-expression_lives n b s a ts e p = elim (bind_err (assignment b n ts) (λ x. comma_by b n x.0 (is_kind kinds.Comma (head_of x.1)) x.1) e p) [
-  | inl q ↦ looser 1 0 (omega arith) (assignment_lives n b s a ts e q)
-  | inr q ↦ from_nothing (comma_by_lives n b s a ts q.0.0 (is_kind kinds.Comma (head_of q.0.1)) q.0.1 e refl (assignment_sound seq_sound n b s ts q.0 q.1) q.2)
-]
+expression_lives n b s a ts e p =
+    elim (bind_err (assignment b n ts) (λ x. comma_by b n x.0 (is_kind kinds.Comma (head_of x.1)) x.1) e p) [
+      | inl q ↦ looser 1 0 (omega arith) (assignment_lives n b s a ts e q)
+      | inr q ↦ from_nothing
+          (comma_by_lives n b s a ts q.0.0 (is_kind kinds.Comma (head_of q.0.1)) q.0.1 e refl
+          (assignment_sound seq_sound n b s ts q.0 q.1) q.2)
+    ]
 
 -- ---- functions alone
 
 -- nothing of a function was read
 pub no_function_lives : (ts : List Token) (e : Fault) → Counts e ts → Lives Anything flat (IsFunctionOf 1) ts e
-no_function_lives ts e c = fills ts e c (trees.arrow (trees.name_list []) (trees.number 0)) (((tt, tt, omega arith, refl), omega arith), refl) (a_token kinds.LeftParenthesis ∷ a_token kinds.RightParenthesis ∷ zero_arrow_tokens) (λ r. (refl, (refl, zero_arrow_spelled r))) (λ r. tt)
+no_function_lives ts e c =
+    fills ts e c (trees.arrow (trees.name_list []) (trees.number 0)) (((tt, tt, omega arith, refl), omega arith), refl)
+    (a_token kinds.LeftParenthesis ∷ a_token kinds.RightParenthesis ∷ zero_arrow_tokens)
+    (λ r. (refl, (refl, zero_arrow_spelled r))) (λ r. tt)
 
 pub function_code_lives : (n : ℕ) (b : Below)
     → SoundBelow n b
@@ -601,19 +714,25 @@ pub function_code_lives : (n : ℕ) (b : Below)
 function_code_lives n b s a classes.function_word ts e f p =
     let l = function_lives n b s a ts e (start_function (head_of ts) f) p in
     from_nothing (renamed l l.tree ((l.good.0.0, omega (arith, l.good.0.1)), l.good.1) refl)
-function_code_lives n b s a (classes.a_name w) ts e f p = from_nothing (arrow_of_one_lives n b s a w ts e (start_name w (head_of ts) f) p)
-function_code_lives n b s a classes.parenthesis ts e f p = elim (bind_err (parameters_at ts) (λ ps. arrow_rest b (trees.name_list ps.0) ps.0 ps.1) e p) [
-  | inl q ↦
-      let l = anything (parameters_lives ts e q) in
-      ends_in l (trees.arrow (trees.name_list l.tree) (trees.number 0)) (((l.good, tt, omega arith, refl), omega arith), refl) zero_arrow zero_arrow_tokens zero_arrow_spelled refl
-  | inr q ↦
-      let t = parameters_sound ts q.0 q.1 in
-      from_nothing (arrow_rest_lives n b s a ts (trees.name_list q.0.0) q.0.1 e t.0 t.1 q.2)
-]
+function_code_lives n b s a (classes.a_name w) ts e f p =
+    from_nothing (arrow_of_one_lives n b s a w ts e (start_name w (head_of ts) f) p)
+function_code_lives n b s a classes.parenthesis ts e f p =
+    elim (bind_err (parameters_at ts) (λ ps. arrow_rest b (trees.name_list ps.0) ps.0 ps.1) e p) [
+      | inl q ↦
+          let l = anything (parameters_lives ts e q) in
+          ends_in l (trees.arrow (trees.name_list l.tree) (trees.number 0))
+          (((l.good, tt, omega arith, refl), omega arith), refl) zero_arrow zero_arrow_tokens zero_arrow_spelled refl
+      | inr q ↦
+          let t = parameters_sound ts q.0 q.1 in
+          from_nothing (arrow_rest_lives n b s a ts (trees.name_list q.0.0) q.0.1 e t.0 t.1 q.2)
+    ]
 function_code_lives n b s a classes.this_word ts e f p = no_function_lives ts e (stuck_counts {A = Expression} ts e p)
-function_code_lives n b s a (classes.a_number w) ts e f p = no_function_lives ts e (stuck_counts {A = Expression} ts e p)
-function_code_lives n b s a (classes.a_string w) ts e f p = no_function_lives ts e (stuck_counts {A = Expression} ts e p)
-function_code_lives n b s a (classes.a_boolean w) ts e f p = no_function_lives ts e (stuck_counts {A = Expression} ts e p)
+function_code_lives n b s a (classes.a_number w) ts e f p =
+    no_function_lives ts e (stuck_counts {A = Expression} ts e p)
+function_code_lives n b s a (classes.a_string w) ts e f p =
+    no_function_lives ts e (stuck_counts {A = Expression} ts e p)
+function_code_lives n b s a (classes.a_boolean w) ts e f p =
+    no_function_lives ts e (stuck_counts {A = Expression} ts e p)
 function_code_lives n b s a classes.null_word ts e f p = no_function_lives ts e (stuck_counts {A = Expression} ts e p)
 function_code_lives n b s a classes.bracket ts e f p = no_function_lives ts e (stuck_counts {A = Expression} ts e p)
 function_code_lives n b s a classes.brace ts e f p = no_function_lives ts e (stuck_counts {A = Expression} ts e p)

@@ -18,7 +18,8 @@ abbrev pub LivesOne : {S A : Type 0}
     → (A → List Mark)
     → (S → A → Type 0)
     → Type 0
-LivesOne {S} First one flat_of Good = (s : S) (ts : List Token) (e : Fault) → one s ts ≡ Err e → Lives First flat_of (Good s) ts e
+LivesOne {S} First one flat_of Good =
+    (s : S) (ts : List Token) (e : Fault) → one s ts ≡ Err e → Lives First flat_of (Good s) ts e
 
 -- good elements end in a token
 abbrev pub AreFirm : {S A : Type 0} → (A → List Mark) → (S → A → Type 0) → Type 0
@@ -29,7 +30,8 @@ AreFirm {S} {A} flat_of Good = (s : S) (x : A) → Good s x → is_firm (flat_of
 -- the token that ends a list, behind its last element
 closed : {A : Type 0} (flat_of : A → List Mark) (closer : TokenKind) (x : A)
     → flat_of x ++ (trailing_comma ∷ token (fixed closer) ∷ []) ≡ up_to flat_of closer (x ∷ [])
-closed flat_of closer x = ap (λ (ms : List Mark). ms ++ (trailing_comma ∷ token (fixed closer) ∷ [])) (sym (append-nil (flat_of x)))
+closed flat_of closer x =
+    ap (λ (ms : List Mark). ms ++ (trailing_comma ∷ token (fixed closer) ∷ [])) (sym (append-nil (flat_of x)))
 
 -- a comma with what is read behind it
 behind_one : {A : Type 0} (flat_of : A → List Mark) (closer : TokenKind) (xs : List A) (t : Token) (us r : List Token)
@@ -40,7 +42,8 @@ behind_one flat_of closer [] t us r c m = inl (c, m)
 behind_one flat_of closer (x ∷ xs) t us r c m = (c, m)
 
 -- an element, a comma, and what lives behind it
-comma_lives : {A : Type 0} {Good : List A → Type 0} {Fine : List A → Type 0} (flat_of : A → List Mark) (closer : TokenKind) (x : A)
+comma_lives : {A : Type 0} {Good : List A → Type 0} {Fine : List A → Type 0} (flat_of : A → List Mark)
+    (closer : TokenKind) (x : A)
     → is_firm (flat_of x) ≡ true
     → (ts mid : List Token) (e : Fault)
     → Matches (flat_of x) ts mid
@@ -52,13 +55,18 @@ comma_lives flat_of closer x firm ts [] e m c l fine = absurd c
 comma_lives {A} {Good} {Fine} flat_of closer x firm ts (t ∷ mid) e m c l fine =
     let f = firmly (flat_of x) firm ts (t ∷ mid) m in
     let ms = behind_commas flat_of l.tree ++ (trailing_comma ∷ token (fixed closer) ∷ []) in
-    grows l ts ((f.next ∷ f.before) ++ (t ∷ [])) (f.parts ∙ sym (append_assoc (f.next ∷ f.before) (t ∷ []) mid)) (x ∷ l.tree) fine []
-    (λ us r s k. subst (λ (us : List Token). Matches (up_to flat_of closer (x ∷ l.tree)) us r) (sym (append_assoc (f.next ∷ f.before) (t ∷ []) us))
-    (subst (λ (ms : List Mark). Matches ms ((f.next ∷ f.before) ++ (t ∷ us)) r) (sym (append_assoc (flat_of x) (behind_commas flat_of l.tree) (trailing_comma ∷ token (fixed closer) ∷ [])))
-    (joins (flat_of x) ms ((f.next ∷ f.before) ++ (t ∷ us)) (t ∷ us) r (f.other (t ∷ us)) (behind_one flat_of closer l.tree t us r c k))))
+    grows l ts ((f.next ∷ f.before) ++ (t ∷ [])) (f.parts ∙ sym (append_assoc (f.next ∷ f.before) (t ∷ []) mid))
+    (x ∷ l.tree) fine []
+    (λ us r s k. subst (λ (us : List Token). Matches (up_to flat_of closer (x ∷ l.tree)) us r)
+    (sym (append_assoc (f.next ∷ f.before) (t ∷ []) us))
+    (subst (λ (ms : List Mark). Matches ms ((f.next ∷ f.before) ++ (t ∷ us)) r)
+    (sym (append_assoc (flat_of x) (behind_commas flat_of l.tree) (trailing_comma ∷ token (fixed closer) ∷ [])))
+    (joins (flat_of x) ms ((f.next ∷ f.before) ++ (t ∷ us)) (t ∷ us) r (f.other (t ∷ us))
+    (behind_one flat_of closer l.tree t us r c k))))
     (λ us s. inr tt)
 
-go_after_lives : {A : Type 0} {Good : List A → Type 0} {Fine : List A → Type 0} (flat_of : A → List Mark) (closer : TokenKind) (x : A)
+go_after_lives : {A : Type 0} {Good : List A → Type 0} {Fine : List A → Type 0} (flat_of : A → List Mark)
+    (closer : TokenKind) (x : A)
     → is_firm (flat_of x) ≡ true
     → ((xs : List A) → Good xs → Fine (x ∷ xs))
     → Good []
@@ -75,33 +83,47 @@ go_after_lives flat_of closer x firm fine none go h goes_on ts mid f m e p =
     comma_lives flat_of closer x firm ts mid e m (after_goes closer (head_of mid) f) l (fine l.tree l.good)
 go_after_lives flat_of closer x firm fine none go h ends ts mid f m e p = absurd cc
 go_after_lives {A} flat_of closer x firm fine none go h neither ts mid f m e p =
-    from_nothing (stopped (flat_of x) firm ts mid m e (stuck_counts {A = List A} mid e p) (x ∷ []) (fine [] none) (trailing_comma ∷ token (fixed closer) ∷ []) (a_token closer ∷ []) (λ r. inr (refl, refl)) (closed flat_of closer x))
+    from_nothing
+    (stopped (flat_of x) firm ts mid m e (stuck_counts {A = List A} mid e p) (x ∷ []) (fine [] none)
+    (trailing_comma ∷ token (fixed closer) ∷ []) (a_token closer ∷ []) (λ r. inr (refl, refl))
+    (closed flat_of closer x))
 
-elements_by_lives : {S A : Type 0} (First : Option Token → Type 0) (one : S → Reader A) (next : S → A → S) (flat_of : A → List Mark) (Good : S → A → Type 0)
+elements_by_lives : {S A : Type 0} (First : Option Token → Type 0) (one : S → Reader A) (next : S → A → S)
+    (flat_of : A → List Mark) (Good : S → A → Type 0)
     → Reads one flat_of Good
     → AreFirm flat_of Good
     → LivesOne First one flat_of Good
     → (closer : TokenKind) (go : S → Reader (List A))
-    → ((s : S) (ts : List Token) (e : Fault) → go s ts ≡ Err e → Lives Anything (up_to flat_of closer) (AllGood next Good s) ts e)
+    → ((s : S) (ts : List Token) (e : Fault)
+    → go s ts ≡ Err e
+    → Lives Anything (up_to flat_of closer) (AllGood next Good s) ts e)
     → (c : Bool) (s : S) (ts : List Token) (e : Fault)
     → elements_by one next go closer s c ts ≡ Err e
     → Lives Anything (up_to flat_of closer) (AllGood next Good s) ts e
 elements_by_lives First one next flat_of Good reads firm lives closer go h true s ts e p = absurd cc
 elements_by_lives {S} {A} First one next flat_of Good reads firm lives closer go h false s ts e p =
-    elim (bind_err (one s ts) (λ x. go_after (go (next s x.0)) (after closer (head_of x.1)) x.1 >>= λ z. Ok (x.0 ∷ z.0, z.1)) e p) [
+    elim (bind_err (one s ts)
+    (λ x. go_after (go (next s x.0)) (after closer (head_of x.1)) x.1 >>= λ z. Ok (x.0 ∷ z.0, z.1)) e p) [
       | inl q ↦
           let l = lives s ts e q in
-          let m : Lives First (up_to flat_of closer) (AllGood next Good s) ts e = ends_in l (l.tree ∷ []) (l.good, tt) (trailing_comma ∷ token (fixed closer) ∷ []) (a_token closer ∷ []) (λ r. inr (refl, refl)) (closed flat_of closer l.tree) in
+          let m : Lives First (up_to flat_of closer) (AllGood next Good s) ts e = ends_in l (l.tree ∷ []) (l.good, tt)
+          (trailing_comma ∷ token (fixed closer) ∷ []) (a_token closer ∷ []) (λ r. inr (refl, refl))
+          (closed flat_of closer l.tree) in
           anything m
-      | inr q ↦ elim (bind_err (go_after (go (next s q.0.0)) (after closer (head_of q.0.1)) q.0.1) (λ z. Ok (q.0.0 ∷ z.0, z.1)) e q.2) [
-        | inl k ↦
-            let t = reads s ts q.0 q.1 in
-            go_after_lives {Good = AllGood next Good (next s q.0.0)} {Fine = AllGood next Good s} flat_of closer q.0.0 (firm s q.0.0 t.1) (λ xs g. (t.1, g)) tt (go (next s q.0.0)) (h (next s q.0.0)) (after closer (head_of q.0.1)) ts q.0.1 refl t.0 e k
-        | inr k ↦ absurd cc
-      ]
+      | inr q ↦ elim
+          (bind_err (go_after (go (next s q.0.0)) (after closer (head_of q.0.1)) q.0.1) (λ z. Ok (q.0.0 ∷ z.0, z.1))
+          e q.2) [
+            | inl k ↦
+                let t = reads s ts q.0 q.1 in
+                go_after_lives {Good = AllGood next Good (next s q.0.0)} {Fine = AllGood next Good s} flat_of closer q.0.0
+                (firm s q.0.0 t.1) (λ xs g. (t.1, g)) tt (go (next s q.0.0)) (h (next s q.0.0))
+                (after closer (head_of q.0.1)) ts q.0.1 refl t.0 e k
+            | inr k ↦ absurd cc
+          ]
     ]
 
-pub elements_lives : {S A : Type 0} (First : Option Token → Type 0) (one : S → Reader A) (next : S → A → S) (flat_of : A → List Mark) (Good : S → A → Type 0)
+pub elements_lives : {S A : Type 0} (First : Option Token → Type 0) (one : S → Reader A) (next : S → A → S)
+    (flat_of : A → List Mark) (Good : S → A → Type 0)
     → Reads one flat_of Good
     → AreFirm flat_of Good
     → LivesOne First one flat_of Good
@@ -109,18 +131,24 @@ pub elements_lives : {S A : Type 0} (First : Option Token → Type 0) (one : S �
     → elements one next closer k s ts ≡ Err e
     → Lives Anything (up_to flat_of closer) (AllGood next Good s) ts e
 unfolding elements
-elements_lives {S} {A} First one next flat_of Good reads firm lives closer zero s ts e p = fills ts e (deep_counts {A = List A} ts e p) [] tt (a_token closer ∷ []) (λ r. (refl, refl)) (λ r. tt)
+elements_lives {S} {A} First one next flat_of Good reads firm lives closer zero s ts e p =
+    fills ts e (deep_counts {A = List A} ts e p) [] tt (a_token closer ∷ []) (λ r. (refl, refl)) (λ r. tt)
 elements_lives First one next flat_of Good reads firm lives closer (suc k) s ts e p =
-    elements_by_lives First one next flat_of Good reads firm lives closer (λ s r. elements one next closer k s r) (λ s r d. elements_lives First one next flat_of Good reads firm lives closer k s r d) (is_kind closer (head_of ts)) s ts e p
+    elements_by_lives First one next flat_of Good reads firm lives closer (λ s r. elements one next closer k s r)
+    (λ s r d. elements_lives First one next flat_of Good reads firm lives closer k s r d)
+    (is_kind closer (head_of ts)) s ts e p
 
 -- ---- further elements
 
-others_by_lives : {S A : Type 0} (First : Option Token → Type 0) (one : S → Reader A) (next : S → A → S) (flat_of : A → List Mark) (Good : S → A → Type 0)
+others_by_lives : {S A : Type 0} (First : Option Token → Type 0) (one : S → Reader A) (next : S → A → S)
+    (flat_of : A → List Mark) (Good : S → A → Type 0)
     → Reads one flat_of Good
     → AreFirm flat_of Good
     → LivesOne First one flat_of Good
     → (go : S → Reader (List A))
-    → ((s : S) (ts : List Token) (e : Fault) → go s ts ≡ Err e → Lives Anything (behind_commas flat_of) (AllGood next Good s) ts e)
+    → ((s : S) (ts : List Token) (e : Fault)
+    → go s ts ≡ Err e
+    → Lives Anything (behind_commas flat_of) (AllGood next Good s) ts e)
     → (c : Bool) (s : S) (ts : List Token)
     → is_kind kinds.Comma (head_of ts) ≡ c
     → (e : Fault)
@@ -132,17 +160,25 @@ others_by_lives {S} {A} First one next flat_of Good reads firm lives go h true s
     elim (bind_err (one s (tail_of ts)) (λ x. go (next s x.0) x.1 >>= λ z. Ok (x.0 ∷ z.0, z.1)) e p) [
       | inl q ↦
           let l = lives s (tail_of ts) e q in
-          from_nothing (around l (token (fixed kinds.Comma) ∷ []) refl ts (c, refl) (l.tree ∷ []) (l.good, tt) [] [] (λ r. refl) refl)
+          from_nothing
+          (around l (token (fixed kinds.Comma) ∷ []) refl ts (c, refl) (l.tree ∷ []) (l.good, tt) [] [] (λ r. refl)
+          refl)
       | inr q ↦ elim (bind_err (go (next s q.0.0) q.0.1) (λ z. Ok (q.0.0 ∷ z.0, z.1)) e q.2) [
         | inl k ↦
             let t = reads s (tail_of ts) q.0 q.1 in
             let l = h (next s q.0.0) q.0.1 e k in
-            from_nothing (around l (token (fixed kinds.Comma) ∷ flat_of q.0.0) (firm_behind (token (fixed kinds.Comma)) (flat_of q.0.0) (firm s q.0.0 t.1)) ts (c, t.0) (q.0.0 ∷ l.tree) (t.1, l.good) [] [] (λ r. refl) (ap (λ (ms : List Mark). token (fixed kinds.Comma) ∷ (flat_of q.0.0 ++ ms)) (append-nil (behind_commas flat_of l.tree))))
+            from_nothing
+            (around l (token (fixed kinds.Comma) ∷ flat_of q.0.0)
+            (firm_behind (token (fixed kinds.Comma)) (flat_of q.0.0) (firm s q.0.0 t.1)) ts (c, t.0)
+            (q.0.0 ∷ l.tree) (t.1, l.good) [] [] (λ r. refl)
+            (ap (λ (ms : List Mark). token (fixed kinds.Comma) ∷ (flat_of q.0.0 ++ ms))
+            (append-nil (behind_commas flat_of l.tree))))
         | inr k ↦ absurd cc
       ]
     ]
 
-pub others_lives : {S A : Type 0} (First : Option Token → Type 0) (one : S → Reader A) (next : S → A → S) (flat_of : A → List Mark) (Good : S → A → Type 0)
+pub others_lives : {S A : Type 0} (First : Option Token → Type 0) (one : S → Reader A) (next : S → A → S)
+    (flat_of : A → List Mark) (Good : S → A → Type 0)
     → Reads one flat_of Good
     → AreFirm flat_of Good
     → LivesOne First one flat_of Good
@@ -150,9 +186,12 @@ pub others_lives : {S A : Type 0} (First : Option Token → Type 0) (one : S →
     → others one next k s ts ≡ Err e
     → Lives Anything (behind_commas flat_of) (AllGood next Good s) ts e
 unfolding others
-others_lives {S} {A} First one next flat_of Good reads firm lives zero s ts e p = fills ts e (deep_counts {A = List A} ts e p) [] tt [] (λ r. refl) (λ r. tt)
+others_lives {S} {A} First one next flat_of Good reads firm lives zero s ts e p =
+    fills ts e (deep_counts {A = List A} ts e p) [] tt [] (λ r. refl) (λ r. tt)
 others_lives First one next flat_of Good reads firm lives (suc k) s ts e p =
-    others_by_lives First one next flat_of Good reads firm lives (λ s r. others one next k s r) (λ s r d. others_lives First one next flat_of Good reads firm lives k s r d) (is_kind kinds.Comma (head_of ts)) s ts refl e p
+    others_by_lives First one next flat_of Good reads firm lives (λ s r. others one next k s r)
+    (λ s r d. others_lives First one next flat_of Good reads firm lives k s r d) (is_kind kinds.Comma (head_of ts))
+    s ts refl e p
 
 -- ---- elements up to what ends a list of statements
 
@@ -162,7 +201,9 @@ items_by_lives : {S A : Type 0} (First : Option Token → Type 0)
     → Reads one flat_of Good
     → LivesOne First one flat_of Good
     → (go : S → Reader (List A))
-    → ((s : S) (ts : List Token) (e : Fault) → go s ts ≡ Err e → Lives First (in_a_row flat_of) (AllGood next Good s) ts e)
+    → ((s : S) (ts : List Token) (e : Fault)
+    → go s ts ≡ Err e
+    → Lives First (in_a_row flat_of) (AllGood next Good s) ts e)
     → (c : Bool) (s : S) (ts : List Token) (e : Fault)
     → items_by one next go s c ts ≡ Err e
     → Lives First (in_a_row flat_of) (AllGood next Good s) ts e
@@ -176,7 +217,8 @@ items_by_lives {S} {A} First soft one next flat_of Good reads lives go h false s
         | inl k ↦
             let t = reads s ts q.0 q.1 in
             let l = h (next s q.0.0) q.0.1 e k in
-            around_softly l (soft q.0.1) (flat_of q.0.0) ts t.0 (q.0.0 ∷ l.tree) (t.1, l.good) [] [] (λ r. refl) (ap (λ (ms : List Mark). flat_of q.0.0 ++ ms) (append-nil (in_a_row flat_of l.tree)))
+            around_softly l (soft q.0.1) (flat_of q.0.0) ts t.0 (q.0.0 ∷ l.tree) (t.1, l.good) [] [] (λ r. refl)
+            (ap (λ (ms : List Mark). flat_of q.0.0 ++ ms) (append-nil (in_a_row flat_of l.tree)))
         | inr k ↦ absurd cc
       ]
     ]
@@ -195,4 +237,6 @@ items_lives {S} {A} First soft one next flat_of Good reads lives fill zero s ts 
     let l = fill s ts e (deep_counts {A = List A} ts e p) in
     ends_in l (l.tree ∷ []) (l.good, tt) [] [] (λ r. refl) refl
 items_lives First soft one next flat_of Good reads lives fill (suc k) s ts e p =
-    items_by_lives First soft one next flat_of Good reads lives (λ s r. items one next k s r) (λ s r d. items_lives First soft one next flat_of Good reads lives fill k s r d) (ends_list (head_of ts)) s ts e p
+    items_by_lives First soft one next flat_of Good reads lives (λ s r. items one next k s r)
+    (λ s r d. items_lives First soft one next flat_of Good reads lives fill k s r d) (ends_list (head_of ts))
+    s ts e p

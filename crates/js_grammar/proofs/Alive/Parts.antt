@@ -86,7 +86,8 @@ pub zero_expression : (low : ℕ)
     → (ts : List Token) (e : Fault)
     → Counts e ts
     → Lives IsZero flat (Fits low) ts e
-zero_expression low h ts e c = fills ts e c (trees.number 0) (tt, h) (a_token kinds.Number ∷ []) (λ r. ((refl, refl), refl)) (λ r. refl)
+zero_expression low h ts e c =
+    fills ts e c (trees.number 0) (tt, h) (a_token kinds.Number ∷ []) (λ r. ((refl, refl), refl)) (λ r. refl)
 
 abbrev pub zero_marks : List Mark
 zero_marks = token (numeric_literal 0) ∷ []
@@ -102,22 +103,29 @@ zero_spells r = ((refl, refl), inl (refl, refl))
 pub zero_statement : (context : Context) (ts : List Token) (e : Fault)
     → Counts e ts
     → Lives IsZero flat_statement (IsStatement context) ts e
-zero_statement context ts e c = fills ts e c (trees.expression (trees.number 0)) ((tt, refl, refl), refl) zero_spelled zero_spells (λ r. refl)
+zero_statement context ts e c =
+    fills ts e c (trees.expression (trees.number 0)) ((tt, refl, refl), refl) zero_spelled zero_spells (λ r. refl)
 
 pub zero_item : (context : Context) (taken : List Identifier) (ts : List Token) (e : Fault)
     → Counts e ts
     → Lives IsZero flat_statement (IsItem context taken) ts e
-zero_item context taken ts e c = fills ts e c (trees.expression (trees.number 0)) ((tt, refl, refl), tt) zero_spelled zero_spells (λ r. refl)
+zero_item context taken ts e c =
+    fills ts e c (trees.expression (trees.number 0)) ((tt, refl, refl), tt) zero_spelled zero_spells (λ r. refl)
 
 pub empty_block : (context : Context) (taken : List Identifier) (ts : List Token) (e : Fault)
     → Counts e ts
     → Lives (IsAdded kinds.LeftBrace) flat_block (IsBlock context taken) ts e
-empty_block context taken ts e c = fills ts e c trees.no_statements (tt, tt) (a_token kinds.LeftBrace ∷ a_token kinds.RightBrace ∷ []) (λ r. (refl, (refl, refl))) (λ r. refl)
+empty_block context taken ts e c =
+    fills ts e c trees.no_statements (tt, tt) (a_token kinds.LeftBrace ∷ a_token kinds.RightBrace ∷ [])
+    (λ r. (refl, (refl, refl))) (λ r. refl)
 
 pub empty_code : (ts : List Token) (e : Fault)
     → Counts e ts
     → Lives (IsAdded kinds.LeftParenthesis) flat_code IsCode ts e
-empty_code ts e c = fills ts e c (record { parameters = []; body = trees.no_statements }) ((tt, tt), tt) (a_token kinds.LeftParenthesis ∷ a_token kinds.RightParenthesis ∷ a_token kinds.LeftBrace ∷ a_token kinds.RightBrace ∷ []) (λ r. (refl, (refl, (refl, (refl, refl))))) (λ r. refl)
+empty_code ts e c =
+    fills ts e c (record { parameters = []; body = trees.no_statements }) ((tt, tt), tt)
+    (a_token kinds.LeftParenthesis ∷ a_token kinds.RightParenthesis ∷ a_token kinds.LeftBrace ∷ a_token kinds.RightBrace ∷ [])
+    (λ r. (refl, (refl, (refl, (refl, refl))))) (λ r. refl)
 
 -- x, one time more than this
 abbrev pub xs : ℕ → Identifier
@@ -146,7 +154,9 @@ apart_test m n c false differ same h = h
 
 apart : (ms : List Identifier) (n : Identifier) → total ms < length n → is_among ms n ≡ false
 apart [] n h = refl
-apart (m ∷ ms) n h = apart_test m n (is_among ms n) (pointwise nat_eq m n) (λ same. omega (arith, h, ap (λ (n : Identifier). length n) same)) refl (apart ms n (omega (arith, h)))
+apart (m ∷ ms) n h =
+    apart_test m n (is_among ms n) (pointwise nat_eq m n)
+    (λ same. omega (arith, h, ap (λ (n : Identifier). length n) same)) refl (apart ms n (omega (arith, h)))
 
 -- a name that differs from these: it is longer than all of them
 abbrev pub some_name : List Identifier → Identifier
@@ -162,25 +172,33 @@ some_name_fresh taken = apart taken (some_name taken) (omega (arith, xs_length (
 
 pub name_lives : (ts : List Token) (e : Fault) → name_at ts ≡ Err e → Lives Anything an_identifier (λ n. Unit {0}) ts e
 unfolding name_at
-name_lives ts e p = elim (cond_err (is_kind kinds.Name (head_of ts)) (Ok (text_of (head_of ts), tail_of ts)) (Err (stuck (length ts))) e p) [
-  | inl q ↦ absurd cc
-  | inr q ↦ fills ts e (stuck_counts {A = Identifier} ts e q.1) (some_name []) tt (fresh_token [] ∷ []) (λ r. ((refl, refl), refl)) (λ r. tt)
-]
+name_lives ts e p =
+    elim (cond_err (is_kind kinds.Name (head_of ts)) (Ok (text_of (head_of ts), tail_of ts)) (Err (stuck (length ts)))
+    e p) [
+      | inl q ↦ absurd cc
+      | inr q ↦ fills ts e (stuck_counts {A = Identifier} ts e q.1) (some_name []) tt (fresh_token [] ∷ [])
+          (λ r. ((refl, refl), refl)) (λ r. tt)
+    ]
 
 pub fresh_lives : (taken : List Identifier) (ts : List Token) (e : Fault)
     → fresh_name taken ts ≡ Err e
     → Lives Anything an_identifier (Differs taken) ts e
 unfolding fresh_name name_at
-fresh_lives taken ts e p = elim (cond_err (is_among taken (text_of (head_of ts))) (Err (stuck (length ts))) (name_at ts) e p) [
-  | inl q ↦ another (stuck_counts {A = Identifier} ts e q.1)
-  | inr q ↦ elim (cond_err (is_kind kinds.Name (head_of ts)) (Ok (text_of (head_of ts), tail_of ts)) (Err (stuck (length ts))) e q.1) [
-    | inl k ↦ absurd cc
-    | inr k ↦ another (stuck_counts {A = Identifier} ts e k.1)
-  ]
-]
+fresh_lives taken ts e p =
+    elim (cond_err (is_among taken (text_of (head_of ts))) (Err (stuck (length ts))) (name_at ts) e p) [
+      | inl q ↦ another (stuck_counts {A = Identifier} ts e q.1)
+      | inr q ↦ elim
+          (cond_err (is_kind kinds.Name (head_of ts)) (Ok (text_of (head_of ts), tail_of ts)) (Err (stuck (length ts)))
+          e q.1) [
+            | inl k ↦ absurd cc
+            | inr k ↦ another (stuck_counts {A = Identifier} ts e k.1)
+          ]
+    ]
   where
     another : Counts e ts → Lives Anything an_identifier (Differs taken) ts e
-    another c = fills ts e c (some_name taken) (some_name_fresh taken) (fresh_token taken ∷ []) (λ r. ((refl, refl), refl)) (λ r. tt)
+    another c =
+        fills ts e c (some_name taken) (some_name_fresh taken) (fresh_token taken ∷ []) (λ r. ((refl, refl), refl))
+        (λ r. tt)
 
 pub expect_err : (k : TokenKind) (ts : List Token) (e : Fault) → expect k ts ≡ Err e → Counts e ts
 unfolding expect
@@ -237,12 +255,16 @@ pub arguments_lives : (n : ℕ) (b : Below)
     → arguments_before b closer ts ≡ Err e
     → Lives Anything (flat_arguments closer) AreAssignments ts e
 unfolding arguments_before
-arguments_lives n b s a closer ts e p = elim (bind_err (elements (one_of b.assignment) no_state closer (suc (length ts)) tt ts) (λ x. Ok (expressions x.0, x.1)) e p) [
-  | inl q ↦
-      let l = elements_lives IsZero (one_of b.assignment) no_state flat IsAssignment (one_reads n b s) (λ u e g. expression_firm e g.0) (λ u ts e p. a.assignment ts e p) closer (suc (length ts)) tt ts e q in
-      ends_in l (expressions l.tree) (all_assignments tt l.tree l.good) [] [] (λ r. refl) (append-nil (up_to flat closer l.tree) ∙ sym (arguments_marks closer l.tree))
-  | inr q ↦ absurd cc
-]
+arguments_lives n b s a closer ts e p =
+    elim (bind_err (elements (one_of b.assignment) no_state closer (suc (length ts)) tt ts)
+    (λ x. Ok (expressions x.0, x.1)) e p) [
+      | inl q ↦
+          let l = elements_lives IsZero (one_of b.assignment) no_state flat IsAssignment (one_reads n b s)
+          (λ u e g. expression_firm e g.0) (λ u ts e p. a.assignment ts e p) closer (suc (length ts)) tt ts e q in
+          ends_in l (expressions l.tree) (all_assignments tt l.tree l.good) [] [] (λ r. refl)
+          (append-nil (up_to flat closer l.tree) ∙ sym (arguments_marks closer l.tree))
+      | inr q ↦ absurd cc
+    ]
 
 -- further expressions, each behind a comma
 pub more_lives : (n : ℕ) (b : Below)
@@ -252,12 +274,15 @@ pub more_lives : (n : ℕ) (b : Below)
     → more_assignments b ts ≡ Err e
     → Lives Anything more_expressions AreAssignments ts e
 unfolding more_assignments
-more_lives n b s a ts e p = elim (bind_err (others (one_of b.assignment) no_state (suc (length ts)) tt ts) (λ x. Ok (expressions x.0, x.1)) e p) [
-  | inl q ↦
-      let l = others_lives IsZero (one_of b.assignment) no_state flat IsAssignment (one_reads n b s) (λ u e g. expression_firm e g.0) (λ u ts e p. a.assignment ts e p) (suc (length ts)) tt ts e q in
-      ends_in l (expressions l.tree) (all_assignments tt l.tree l.good) [] [] (λ r. refl) (append-nil (behind_commas flat l.tree) ∙ sym (more_is l.tree))
-  | inr q ↦ absurd cc
-]
+more_lives n b s a ts e p =
+    elim (bind_err (others (one_of b.assignment) no_state (suc (length ts)) tt ts) (λ x. Ok (expressions x.0, x.1)) e p) [
+      | inl q ↦
+          let l = others_lives IsZero (one_of b.assignment) no_state flat IsAssignment (one_reads n b s)
+          (λ u e g. expression_firm e g.0) (λ u ts e p. a.assignment ts e p) (suc (length ts)) tt ts e q in
+          ends_in l (expressions l.tree) (all_assignments tt l.tree l.good) [] [] (λ r. refl)
+          (append-nil (behind_commas flat l.tree) ∙ sym (more_is l.tree))
+      | inr q ↦ absurd cc
+    ]
 
 -- ---- parameters
 
@@ -265,13 +290,20 @@ pub parameters_lives : (ts : List Token) (e : Fault)
     → parameters_at ts ≡ Err e
     → Lives (IsAdded kinds.LeftParenthesis) flat_parameters (AreFresh []) ts e
 unfolding parameters_at
-parameters_lives ts e p = elim (bind_err (expect kinds.LeftParenthesis ts) (λ o. elements fresh_name with_name kinds.RightParenthesis (suc (length o.1)) [] o.1) e p) [
-  | inl q ↦ fills ts e (expect_err kinds.LeftParenthesis ts e q) [] tt (a_token kinds.LeftParenthesis ∷ a_token kinds.RightParenthesis ∷ []) (λ r. (refl, (refl, refl))) (λ r. refl)
-  | inr q ↦
-      let l = elements_lives Anything fresh_name with_name an_identifier Differs fresh_sound (λ s x g. refl) fresh_lives kinds.RightParenthesis (suc (length q.0.1)) [] q.0.1 e q.2 in
-      from_nothing (around l (token (fixed kinds.LeftParenthesis) ∷ []) refl ts (expect_sound kinds.LeftParenthesis ts q.0 q.1) l.tree (all_fresh [] l.tree l.good) [] [] (λ r. refl)
-      (ap (λ (ms : List Mark). token (fixed kinds.LeftParenthesis) ∷ ms) (append-nil (up_to an_identifier kinds.RightParenthesis l.tree) ∙ sym (names_marks l.tree))))
-]
+parameters_lives ts e p =
+    elim (bind_err (expect kinds.LeftParenthesis ts)
+    (λ o. elements fresh_name with_name kinds.RightParenthesis (suc (length o.1)) [] o.1) e p) [
+      | inl q ↦ fills ts e (expect_err kinds.LeftParenthesis ts e q) [] tt
+          (a_token kinds.LeftParenthesis ∷ a_token kinds.RightParenthesis ∷ []) (λ r. (refl, (refl, refl))) (λ r. refl)
+      | inr q ↦
+          let l = elements_lives Anything fresh_name with_name an_identifier Differs fresh_sound (λ s x g. refl)
+          fresh_lives kinds.RightParenthesis (suc (length q.0.1)) [] q.0.1 e q.2 in
+          from_nothing
+          (around l (token (fixed kinds.LeftParenthesis) ∷ []) refl ts (expect_sound kinds.LeftParenthesis ts q.0 q.1)
+          l.tree (all_fresh [] l.tree l.good) [] [] (λ r. refl)
+          (ap (λ (ms : List Mark). token (fixed kinds.LeftParenthesis) ∷ ms)
+          (append-nil (up_to an_identifier kinds.RightParenthesis l.tree) ∙ sym (names_marks l.tree))))
+    ]
 
 -- ---- statements in braces
 
@@ -290,13 +322,20 @@ pub items_at_lives : (n : ℕ) (b : Below)
     → items_at b context taken ts ≡ Err e
     → Lives IsZero flat_statements (IsBlock context taken) ts e
 unfolding items_at
-items_at_lives n b s a context taken ts e p = elim (bind_err (items (λ names r. b.item context names r) with_declared (suc (length ts)) taken ts) (λ x. Ok (statements x.0, x.1)) e p) [
-  | inl q ↦
-      let reads : Reads (λ names r. b.item context names r) flat_statement (IsItem context) = λ names ts x e. let t = s.item context names ts x e in (t.marks, (t.well, t.fresh)) in
-      let l = items_lives IsZero zero_softer (λ names r. b.item context names r) with_declared flat_statement (IsItem context) reads (λ names ts e p. a.item context names ts e p) (zero_item context) (suc (length ts)) taken ts e q in
-      ends_in l (statements l.tree) (all_items context taken l.tree l.good) [] [] (λ r. refl) (append-nil (in_a_row flat_statement l.tree) ∙ sym (row_is l.tree))
-  | inr q ↦ absurd cc
-]
+items_at_lives n b s a context taken ts e p =
+    elim (bind_err (items (λ names r. b.item context names r) with_declared (suc (length ts)) taken ts)
+    (λ x. Ok (statements x.0, x.1)) e p) [
+      | inl q ↦
+          let reads : Reads (λ names r. b.item context names r) flat_statement (IsItem context)
+          = λ names ts x e. let t = s.item context names ts x e in
+          (t.marks, (t.well, t.fresh)) in
+          let l = items_lives IsZero zero_softer (λ names r. b.item context names r) with_declared flat_statement
+          (IsItem context) reads (λ names ts e p. a.item context names ts e p) (zero_item context) (suc (length ts))
+          taken ts e q in
+          ends_in l (statements l.tree) (all_items context taken l.tree l.good) [] [] (λ r. refl)
+          (append-nil (in_a_row flat_statement l.tree) ∙ sym (row_is l.tree))
+      | inr q ↦ absurd cc
+    ]
 
 -- statements that were read, and the brace that ends them
 abbrev flat_closed : Statements → List Mark
@@ -319,7 +358,10 @@ closed_lives Good ss good ts mid m e c =
       tree = ss;
       good = good;
       rest = a_token kinds.RightBrace ∷ [];
-      spelled = λ r. joins (flat_statements ss) (token (fixed kinds.RightBrace) ∷ []) (f.before ++ (as_token (a_token kinds.RightBrace) ∷ r)) (as_token (a_token kinds.RightBrace) ∷ r) r (f.other (as_token (a_token kinds.RightBrace) ∷ r) (brace_softer mid r)) (refl, refl);
+      spelled =
+          λ r. joins (flat_statements ss) (token (fixed kinds.RightBrace) ∷ [])
+          (f.before ++ (as_token (a_token kinds.RightBrace) ∷ r)) (as_token (a_token kinds.RightBrace) ∷ r) r
+          (f.other (as_token (a_token kinds.RightBrace) ∷ r) (brace_softer mid r)) (refl, refl);
       starts = λ r. inr tt;
     }
 
@@ -331,18 +373,22 @@ inside_lives : (n : ℕ) (b : Below)
     → Matches (token (fixed kinds.LeftBrace) ∷ []) ts us
     → (items_at b context taken us >>= λ x. expect kinds.RightBrace x.1 >>= λ c. Ok (x.0, c.1)) ≡ Err e
     → Lives Nothing flat_block (IsBlock context taken) ts e
-inside_lives n b s a context taken ts us e m p = elim (bind_err (items_at b context taken us) (λ x. expect kinds.RightBrace x.1 >>= λ c. Ok (x.0, c.1)) e p) [
-  | inl q ↦
-      let l = items_at_lives n b s a context taken us e q in
-      around l (token (fixed kinds.LeftBrace) ∷ []) refl ts m l.tree l.good (token (fixed kinds.RightBrace) ∷ []) (a_token kinds.RightBrace ∷ []) (λ r. (refl, refl)) refl
-  | inr q ↦ elim (bind_err (expect kinds.RightBrace q.0.1) (λ c. Ok (q.0.0, c.1)) e q.2) [
-    | inl k ↦
-        let t = items_at_sound n b s context taken us q.0 q.1 in
-        let l = closed_lives (IsBlock context taken) q.0.0 (t.fresh, t.well) us q.0.1 t.marks e (expect_err kinds.RightBrace q.0.1 e k) in
-        around l (token (fixed kinds.LeftBrace) ∷ []) refl ts m l.tree l.good [] [] (λ r. refl) (ap (λ (ms : List Mark). token (fixed kinds.LeftBrace) ∷ ms) (append-nil (flat_closed l.tree)))
-    | inr k ↦ absurd cc
-  ]
-]
+inside_lives n b s a context taken ts us e m p =
+    elim (bind_err (items_at b context taken us) (λ x. expect kinds.RightBrace x.1 >>= λ c. Ok (x.0, c.1)) e p) [
+      | inl q ↦
+          let l = items_at_lives n b s a context taken us e q in
+          around l (token (fixed kinds.LeftBrace) ∷ []) refl ts m l.tree l.good (token (fixed kinds.RightBrace) ∷ [])
+          (a_token kinds.RightBrace ∷ []) (λ r. (refl, refl)) refl
+      | inr q ↦ elim (bind_err (expect kinds.RightBrace q.0.1) (λ c. Ok (q.0.0, c.1)) e q.2) [
+        | inl k ↦
+            let t = items_at_sound n b s context taken us q.0 q.1 in
+            let l = closed_lives (IsBlock context taken) q.0.0 (t.fresh, t.well) us q.0.1 t.marks e
+            (expect_err kinds.RightBrace q.0.1 e k) in
+            around l (token (fixed kinds.LeftBrace) ∷ []) refl ts m l.tree l.good [] [] (λ r. refl)
+            (ap (λ (ms : List Mark). token (fixed kinds.LeftBrace) ∷ ms) (append-nil (flat_closed l.tree)))
+        | inr k ↦ absurd cc
+      ]
+    ]
 
 pub braces_lives : (n : ℕ) (b : Below)
     → SoundBelow n b
@@ -351,10 +397,12 @@ pub braces_lives : (n : ℕ) (b : Below)
     → braces b context taken ts ≡ Err e
     → Lives (IsAdded kinds.LeftBrace) flat_block (IsBlock context taken) ts e
 unfolding braces
-braces_lives n b s a context taken ts e p = elim (bind_err (expect kinds.LeftBrace ts) (λ o. items_at b context taken o.1 >>= λ x. expect kinds.RightBrace x.1 >>= λ c. Ok (x.0, c.1)) e p) [
-  | inl q ↦ empty_block context taken ts e (expect_err kinds.LeftBrace ts e q)
-  | inr q ↦ from_nothing (inside_lives n b s a context taken ts q.0.1 e (expect_sound kinds.LeftBrace ts q.0 q.1) q.2)
-]
+braces_lives n b s a context taken ts e p =
+    elim (bind_err (expect kinds.LeftBrace ts)
+    (λ o. items_at b context taken o.1 >>= λ x. expect kinds.RightBrace x.1 >>= λ c. Ok (x.0, c.1)) e p) [
+      | inl q ↦ empty_block context taken ts e (expect_err kinds.LeftBrace ts e q)
+      | inr q ↦ from_nothing (inside_lives n b s a context taken ts q.0.1 e (expect_sound kinds.LeftBrace ts q.0 q.1) q.2)
+    ]
 
 -- where the first brace is there
 pub opened_lives : (n : ℕ) (b : Below)
@@ -365,10 +413,12 @@ pub opened_lives : (n : ℕ) (b : Below)
     → braces b context taken ts ≡ Err e
     → Lives Nothing flat_block (IsBlock context taken) ts e
 unfolding braces
-opened_lives n b s a context taken ts e f p = elim (bind_err (expect kinds.LeftBrace ts) (λ o. items_at b context taken o.1 >>= λ x. expect kinds.RightBrace x.1 >>= λ c. Ok (x.0, c.1)) e p) [
-  | inl q ↦ let again = expect_again kinds.LeftBrace ts (tail_of ts) (f, refl) in absurd cc
-  | inr q ↦ inside_lives n b s a context taken ts q.0.1 e (expect_sound kinds.LeftBrace ts q.0 q.1) q.2
-]
+opened_lives n b s a context taken ts e f p =
+    elim (bind_err (expect kinds.LeftBrace ts)
+    (λ o. items_at b context taken o.1 >>= λ x. expect kinds.RightBrace x.1 >>= λ c. Ok (x.0, c.1)) e p) [
+      | inl q ↦ let again = expect_again kinds.LeftBrace ts (tail_of ts) (f, refl) in absurd cc
+      | inr q ↦ inside_lives n b s a context taken ts q.0.1 e (expect_sound kinds.LeftBrace ts q.0 q.1) q.2
+    ]
 
 pub code_lives : (n : ℕ) (b : Below)
     → SoundBelow n b
@@ -377,19 +427,30 @@ pub code_lives : (n : ℕ) (b : Below)
     → code_at b ts ≡ Err e
     → Lives (IsAdded kinds.LeftParenthesis) flat_code IsCode ts e
 unfolding code_at
-code_lives n b s a ts e p = elim (bind_err (parameters_at ts) (λ ps. braces b function_body (with_names [] ps.0) ps.1 >>= λ body. Ok (record { parameters = ps.0; body = body.0 }, body.1)) e p) [
-  | inl q ↦
-      let l = parameters_lives ts e q in
-      ends_in l (record { parameters = l.tree; body = trees.no_statements }) ((l.good, tt), tt) (token (fixed kinds.LeftBrace) ∷ token (fixed kinds.RightBrace) ∷ []) (a_token kinds.LeftBrace ∷ a_token kinds.RightBrace ∷ []) (λ r. (refl, (refl, refl))) refl
-  | inr q ↦ elim (bind_err (braces b function_body (with_names [] q.0.0) q.0.1) (λ body. Ok (record { parameters = q.0.0; body = body.0 }, body.1)) e q.2) [
-    | inl k ↦
-        let t = parameters_sound ts q.0 q.1 in
-        let l = braces_lives n b s a function_body (with_names [] q.0.0) q.0.1 e k in
-        from_nothing (around l (flat_parameters q.0.0) (firm_parameters q.0.0) ts t.0 (record { parameters = q.0.0; body = l.tree }) ((t.1, fresh_behind q.0.0 (declared_names l.tree) l.good.0), l.good.1) [] [] (λ r. refl)
-        (ap (λ (ms : List Mark). flat_parameters q.0.0 ++ ms) (append-nil (flat_block l.tree))))
-    | inr k ↦ absurd cc
-  ]
-]
+code_lives n b s a ts e p =
+    elim (bind_err (parameters_at ts)
+    (λ ps. braces b function_body (with_names [] ps.0) ps.1 >>= λ body. Ok
+    (record { parameters = ps.0; body = body.0 }, body.1))
+    e p) [
+      | inl q ↦
+          let l = parameters_lives ts e q in
+          ends_in l (record { parameters = l.tree; body = trees.no_statements }) ((l.good, tt), tt)
+          (token (fixed kinds.LeftBrace) ∷ token (fixed kinds.RightBrace) ∷ [])
+          (a_token kinds.LeftBrace ∷ a_token kinds.RightBrace ∷ []) (λ r. (refl, (refl, refl))) refl
+      | inr q ↦ elim
+          (bind_err (braces b function_body (with_names [] q.0.0) q.0.1)
+          (λ body. Ok (record { parameters = q.0.0; body = body.0 }, body.1)) e q.2) [
+            | inl k ↦
+                let t = parameters_sound ts q.0 q.1 in
+                let l = braces_lives n b s a function_body (with_names [] q.0.0) q.0.1 e k in
+                from_nothing
+                (around l (flat_parameters q.0.0) (firm_parameters q.0.0) ts t.0
+                (record { parameters = q.0.0; body = l.tree })
+                ((t.1, fresh_behind q.0.0 (declared_names l.tree) l.good.0), l.good.1) [] [] (λ r. refl)
+                (ap (λ (ms : List Mark). flat_parameters q.0.0 ++ ms) (append-nil (flat_block l.tree))))
+            | inr k ↦ absurd cc
+          ]
+    ]
 
 -- ---- declared names
 
@@ -420,15 +481,20 @@ initializer_lives : (b : Below)
     → (e : Fault)
     → initializer_by b constant m c r ≡ Err e
     → Lives Nothing flat_declarator (IsDeclarator constant taken) ts e
-initializer_lives b a constant taken ts m r t f true h e p = elim (bind_err (b.assignment (tail_of r)) (λ e. Ok (trees.declarator m (trees.present e.0), e.1)) e p) [
-  | inl q ↦
-      let l = a.assignment (tail_of r) e q in
-      around l (token (identifier m) ∷ token (fixed kinds.Assign) ∷ []) refl ts (joins (token (identifier m) ∷ []) (token (fixed kinds.Assign) ∷ []) ts r (tail_of r) t (next_is kinds.Assign (head_of r) h, refl))
-      (trees.declarator m (trees.present l.tree)) (l.good, initialized_present constant m l.tree, f) [] [] (λ r. refl) refl
-  | inr q ↦ absurd cc
-]
+initializer_lives b a constant taken ts m r t f true h e p =
+    elim (bind_err (b.assignment (tail_of r)) (λ e. Ok (trees.declarator m (trees.present e.0), e.1)) e p) [
+      | inl q ↦
+          let l = a.assignment (tail_of r) e q in
+          around l (token (identifier m) ∷ token (fixed kinds.Assign) ∷ []) refl ts
+          (joins (token (identifier m) ∷ []) (token (fixed kinds.Assign) ∷ []) ts r (tail_of r) t
+          (next_is kinds.Assign (head_of r) h, refl))
+          (trees.declarator m (trees.present l.tree)) (l.good, initialized_present constant m l.tree, f) [] [] (λ r. refl)
+          refl
+      | inr q ↦ absurd cc
+    ]
 initializer_lives b a true taken ts m r t f false h e p =
-    stopped (token (identifier m) ∷ []) refl ts r t e (stuck_counts {A = Declarator} r e p) (zero_declarator m) ((tt, omega arith), refl, f) zero_initializer zero_initialized zero_initializes refl
+    stopped (token (identifier m) ∷ []) refl ts r t e (stuck_counts {A = Declarator} r e p) (zero_declarator m)
+    ((tt, omega arith), refl, f) zero_initializer zero_initialized zero_initializes refl
 initializer_lives b a false taken ts m r t f false h e p = absurd cc
 
 pub declarator_lives : (b : Below)
@@ -437,18 +503,28 @@ pub declarator_lives : (b : Below)
     → declarator_at b constant taken ts ≡ Err e
     → Lives Anything flat_declarator (IsDeclarator constant taken) ts e
 unfolding declarator_at
-declarator_lives b a constant taken ts e p = elim (bind_err (fresh_name taken ts) (λ n. initializer_by b constant n.0 (is_kind kinds.Assign (head_of n.1)) n.1) e p) [
-  | inl q ↦
-      let l = fresh_lives taken ts e q in
-      ends_in l (zero_declarator l.tree) ((tt, omega arith), initialized_present constant l.tree (trees.number 0), l.good) zero_initializer zero_initialized zero_initializes refl
-  | inr q ↦
-      let t = fresh_sound taken ts q.0 q.1 in
-      from_nothing (initializer_lives b a constant taken ts q.0.0 q.0.1 t.0 t.1 (is_kind kinds.Assign (head_of q.0.1)) refl e q.2)
-]
+declarator_lives b a constant taken ts e p =
+    elim (bind_err (fresh_name taken ts) (λ n. initializer_by b constant n.0 (is_kind kinds.Assign (head_of n.1)) n.1)
+    e p) [
+      | inl q ↦
+          let l = fresh_lives taken ts e q in
+          ends_in l (zero_declarator l.tree)
+          ((tt, omega arith), initialized_present constant l.tree (trees.number 0), l.good)
+          zero_initializer zero_initialized zero_initializes refl
+      | inr q ↦
+          let t = fresh_sound taken ts q.0 q.1 in
+          from_nothing
+          (initializer_lives b a constant taken ts q.0.0 q.0.1 t.0 t.1 (is_kind kinds.Assign (head_of q.0.1))
+          refl e q.2)
+    ]
 
 -- declared names that differ from these, one at least
 abbrev pub AreDeclared : Bool → List Identifier → Declarators → Type 0
-AreDeclared constant taken ds = (is_some_declarator ds ≡ true) × WellDeclarators ds × IsInitialized constant ds × AreFresh taken (names_of_declarators ds)
+AreDeclared constant taken ds =
+    (is_some_declarator ds ≡ true)
+    × WellDeclarators ds
+    × IsInitialized constant ds
+    × AreFresh taken (names_of_declarators ds)
 
 all_declarators : (constant : Bool) (taken : List Identifier) (ds : List Declarator)
     → AllGood with_declarator (IsDeclarator constant) taken ds
@@ -457,16 +533,23 @@ all_declarators : (constant : Bool) (taken : List Identifier) (ds : List Declara
     × AreFresh taken (names_of_declarators (declarators ds))
 all_declarators constant taken [] g = (tt, no_more_initialized constant, tt)
 all_declarators constant taken (d ∷ ds) g =
-    let r = all_declarators constant (with_declarator taken d) ds g.1 in
-    ((g.0.0, r.0), initialized_more constant d (declarators ds) g.0.1 r.1, fresh_more taken d (declarators ds) g.0.2 r.2)
+    let r = all_declarators constant (with_declarator taken d) ds g.1 in (
+      (g.0.0, r.0),
+      initialized_more constant d (declarators ds) g.0.1 r.1,
+      fresh_more taken d (declarators ds) g.0.2 r.2,
+    )
 
 pub declared_more : (constant : Bool) (taken : List Identifier) (d : Declarator) (ds : List Declarator)
     → IsDeclarator constant taken d
     → AllGood with_declarator (IsDeclarator constant) (with_declarator taken d) ds
     → AreDeclared constant taken (trees.a_declarator d (declarators ds))
 declared_more constant taken d ds g h =
-    let r = all_declarators constant (with_declarator taken d) ds h in
-    (refl, (g.0, r.0), initialized_more constant d (declarators ds) g.1 r.1, fresh_more taken d (declarators ds) g.2 r.2)
+    let r = all_declarators constant (with_declarator taken d) ds h in (
+      refl,
+      (g.0, r.0),
+      initialized_more constant d (declarators ds) g.1 r.1,
+      fresh_more taken d (declarators ds) g.2 r.2,
+    )
 
 pub declarators_lives : (n : ℕ) (b : Below)
     → SoundBelow n b
@@ -475,20 +558,38 @@ pub declarators_lives : (n : ℕ) (b : Below)
     → declarators_at b constant taken ts ≡ Err e
     → Lives Anything flat_declarators (AreDeclared constant taken) ts e
 unfolding declarators_at
-declarators_lives n b s a constant taken ts e p = elim (bind_err (declarator_at b constant taken ts) (λ d. others (λ names r. declarator_at b constant names r) with_declarator (suc (length d.1)) (with_declarator taken d.0) d.1 >>= λ ds. Ok (trees.a_declarator d.0 (declarators ds.0), ds.1)) e p) [
-  | inl q ↦
-      let l = declarator_lives b a constant taken ts e q in
-      ends_in l (trees.a_declarator l.tree trees.no_declarators) (declared_more constant taken l.tree [] l.good tt) [] [] (λ r. refl) refl
-  | inr q ↦ elim (bind_err (others (λ names r. declarator_at b constant names r) with_declarator (suc (length q.0.1)) (with_declarator taken q.0.0) q.0.1) (λ ds. Ok (trees.a_declarator q.0.0 (declarators ds.0), ds.1)) e q.2) [
-    | inl k ↦
-        let t = declarator_sound n b s constant taken ts q.0 q.1 in
-        let reads : Reads (λ names r. declarator_at b constant names r) flat_declarator (IsDeclarator constant) = λ names ts x e. let t = declarator_sound n b s constant names ts x e in (t.marks, (t.well, t.initialized, t.fresh)) in
-        let l = others_lives Anything (λ names r. declarator_at b constant names r) with_declarator flat_declarator (IsDeclarator constant) reads (λ names d g. declarator_firm d (g.0, tt)) (λ names ts e p. declarator_lives b a constant names ts e p) (suc (length q.0.1)) (with_declarator taken q.0.0) q.0.1 e k in
-        from_nothing (around l (flat_declarator q.0.0) (declarator_firm q.0.0 (t.well, tt)) ts t.marks (trees.a_declarator q.0.0 (declarators l.tree)) (declared_more constant taken q.0.0 l.tree (t.well, t.initialized, t.fresh) l.good) [] [] (λ r. refl)
-        (ap (λ (ms : List Mark). flat_declarator q.0.0 ++ ms) (append-nil (behind_commas flat_declarator l.tree) ∙ sym (more_declarators_is l.tree))))
-    | inr k ↦ absurd cc
-  ]
-]
+declarators_lives n b s a constant taken ts e p =
+    elim (bind_err (declarator_at b constant taken ts)
+    (λ d. others (λ names r. declarator_at b constant names r) with_declarator (suc (length d.1))
+    (with_declarator taken d.0) d.1 >>= λ ds. Ok (trees.a_declarator d.0 (declarators ds.0), ds.1))
+    e p) [
+      | inl q ↦
+          let l = declarator_lives b a constant taken ts e q in
+          ends_in l (trees.a_declarator l.tree trees.no_declarators) (declared_more constant taken l.tree [] l.good tt)
+          [] [] (λ r. refl) refl
+      | inr q ↦ elim
+          (bind_err
+          (others (λ names r. declarator_at b constant names r) with_declarator (suc (length q.0.1))
+          (with_declarator taken q.0.0) q.0.1)
+          (λ ds. Ok (trees.a_declarator q.0.0 (declarators ds.0), ds.1)) e q.2) [
+            | inl k ↦
+                let t = declarator_sound n b s constant taken ts q.0 q.1 in
+                let reads : Reads (λ names r. declarator_at b constant names r) flat_declarator (IsDeclarator constant)
+                = λ names ts x e. let t = declarator_sound n b s constant names ts x e in
+                (t.marks, (t.well, t.initialized, t.fresh)) in
+                let l = others_lives Anything (λ names r. declarator_at b constant names r) with_declarator flat_declarator
+                (IsDeclarator constant) reads (λ names d g. declarator_firm d (g.0, tt))
+                (λ names ts e p. declarator_lives b a constant names ts e p) (suc (length q.0.1))
+                (with_declarator taken q.0.0) q.0.1 e k in
+                from_nothing
+                (around l (flat_declarator q.0.0) (declarator_firm q.0.0 (t.well, tt)) ts t.marks
+                (trees.a_declarator q.0.0 (declarators l.tree))
+                (declared_more constant taken q.0.0 l.tree (t.well, t.initialized, t.fresh) l.good) [] [] (λ r. refl)
+                (ap (λ (ms : List Mark). flat_declarator q.0.0 ++ ms)
+                (append-nil (behind_commas flat_declarator l.tree) ∙ sym (more_declarators_is l.tree))))
+            | inr k ↦ absurd cc
+          ]
+    ]
 
 -- ---- expressions with what ends them
 
@@ -499,17 +600,22 @@ optional_by_lives : (n : ℕ) (b : Below)
     → optional_by b closer c ts ≡ Err e
     → Lives Anything (marks_of (optional closer)) (Sane (optional closer)) ts e
 optional_by_lives n b s a closer true ts e p = absurd cc
-optional_by_lives n b s a closer false ts e p = elim (bind_err (b.expression ts) (λ e. expect closer e.1 >>= λ c. Ok (trees.present e.0, c.1)) e p) [
-  | inl q ↦
-      let l = anything (a.expression ts e q) in
-      ends_in l (trees.present l.tree) l.good.0 (token (fixed closer) ∷ []) (a_token closer ∷ []) (λ r. (refl, refl)) refl
-  | inr q ↦ elim (bind_err (expect closer q.0.1) (λ c. Ok (trees.present q.0.0, c.1)) e q.2) [
-    | inl k ↦
-        let t = s.expression ts q.0 q.1 in
-        from_nothing (stopped (flat q.0.0) (expression_firm q.0.0 t.well) ts q.0.1 t.marks e (expect_err closer q.0.1 e k) (trees.present q.0.0) t.well (token (fixed closer) ∷ []) (a_token closer ∷ []) (λ r. (refl, refl)) refl)
-    | inr k ↦ absurd cc
-  ]
-]
+optional_by_lives n b s a closer false ts e p =
+    elim (bind_err (b.expression ts) (λ e. expect closer e.1 >>= λ c. Ok (trees.present e.0, c.1)) e p) [
+      | inl q ↦
+          let l = anything (a.expression ts e q) in
+          ends_in l (trees.present l.tree) l.good.0 (token (fixed closer) ∷ []) (a_token closer ∷ []) (λ r. (refl, refl))
+          refl
+      | inr q ↦ elim (bind_err (expect closer q.0.1) (λ c. Ok (trees.present q.0.0, c.1)) e q.2) [
+        | inl k ↦
+            let t = s.expression ts q.0 q.1 in
+            from_nothing
+            (stopped (flat q.0.0) (expression_firm q.0.0 t.well) ts q.0.1 t.marks e (expect_err closer q.0.1 e k)
+            (trees.present q.0.0) t.well (token (fixed closer) ∷ []) (a_token closer ∷ []) (λ r. (refl, refl))
+            refl)
+        | inr k ↦ absurd cc
+      ]
+    ]
 
 pub optional_lives : (n : ℕ) (b : Below)
     → SoundBelow n b
@@ -530,17 +636,23 @@ pub ended_lives : (n : ℕ) (b : Below)
     → ended_expression b ts ≡ Err e
     → Lives IsZero flat_ended Well ts e
 unfolding ended_expression
-ended_lives n b s a ts e p = elim (bind_err (b.expression ts) (λ e. semicolon_at (after_expression (edge e.0)) e.1 >>= λ s. Ok (e.0, s.1)) e p) [
-  | inl q ↦
-      let l = a.expression ts e q in
-      ends_in l l.tree l.good.0 (semicolon (after_expression (edge l.tree)) ∷ []) (a_token kinds.Semicolon ∷ []) (λ r. inl (refl, refl)) refl
-  | inr q ↦ elim (bind_err (semicolon_at (after_expression (edge q.0.0)) q.0.1) (λ s. Ok (q.0.0, s.1)) e q.2) [
-    | inl k ↦
-        let t = s.expression ts q.0 q.1 in
-        from_nothing (stopped (flat q.0.0) (expression_firm q.0.0 t.well) ts q.0.1 t.marks e (semicolon_err (after_expression (edge q.0.0)) q.0.1 e k) q.0.0 t.well (semicolon (after_expression (edge q.0.0)) ∷ []) (a_token kinds.Semicolon ∷ []) (λ r. inl (refl, refl)) refl)
-    | inr k ↦ absurd cc
-  ]
-]
+ended_lives n b s a ts e p =
+    elim (bind_err (b.expression ts) (λ e. semicolon_at (after_expression (edge e.0)) e.1 >>= λ s. Ok (e.0, s.1)) e p) [
+      | inl q ↦
+          let l = a.expression ts e q in
+          ends_in l l.tree l.good.0 (semicolon (after_expression (edge l.tree)) ∷ []) (a_token kinds.Semicolon ∷ [])
+          (λ r. inl (refl, refl)) refl
+      | inr q ↦ elim (bind_err (semicolon_at (after_expression (edge q.0.0)) q.0.1) (λ s. Ok (q.0.0, s.1)) e q.2) [
+        | inl k ↦
+            let t = s.expression ts q.0 q.1 in
+            from_nothing
+            (stopped (flat q.0.0) (expression_firm q.0.0 t.well) ts q.0.1 t.marks e
+            (semicolon_err (after_expression (edge q.0.0)) q.0.1 e k) q.0.0 t.well
+            (semicolon (after_expression (edge q.0.0)) ∷ []) (a_token kinds.Semicolon ∷ []) (λ r. inl (refl, refl))
+            refl)
+        | inr k ↦ absurd cc
+      ]
+    ]
 
 -- ---- a value for each item, and its tokens
 
@@ -590,7 +702,8 @@ spell (declared constant taken) = fresh_token taken ∷ zero_initialized
 spell (a_statement context) = zero_spelled
 spell (a_block context taken) = a_token kinds.LeftBrace ∷ a_token kinds.RightBrace ∷ []
 spell (in_braces context taken) = a_token kinds.LeftBrace ∷ a_token kinds.RightBrace ∷ []
-spell code = a_token kinds.LeftParenthesis ∷ a_token kinds.RightParenthesis ∷ a_token kinds.LeftBrace ∷ a_token kinds.RightBrace ∷ []
+spell code =
+    a_token kinds.LeftParenthesis ∷ a_token kinds.RightParenthesis ∷ a_token kinds.LeftBrace ∷ a_token kinds.RightBrace ∷ []
 
 spelled : (i : Item) → is_writable i ≡ true → (r : List Token) → Matches (marks_of i (fill i)) (added (spell i) ++ r) r
 spelled (tok k) w r = (refl, refl)
@@ -620,7 +733,9 @@ fill_sane (optional k) = tt
 fill_sane (arguments k) = tt
 fill_sane ended = tt
 fill_sane (an_end end) = tt
-fill_sane (declared constant taken) = declared_more constant taken (zero_declarator (some_name taken)) [] ((tt, omega arith), initialized_present constant (some_name taken) (trees.number 0), some_name_fresh taken) tt
+fill_sane (declared constant taken) =
+    declared_more constant taken (zero_declarator (some_name taken)) []
+    ((tt, omega arith), initialized_present constant (some_name taken) (trees.number 0), some_name_fresh taken) tt
 fill_sane (a_statement context) = ((tt, refl, refl), refl)
 fill_sane (a_block context taken) = (tt, tt)
 fill_sane (in_braces context taken) = (tt, tt)
@@ -645,8 +760,11 @@ all_spelled : (is : List Item)
 all_spelled [] w r = refl
 all_spelled (i ∷ is) w r =
     let h = and_parts (is_writable i) (are_writable is) w in
-    subst (λ (us : List Token). Matches (marks (i ∷ is) (fill_all (i ∷ is))) us r) (sym (ap (λ (us : List Token). us ++ r) (added_append (spell i) (spell_all is)) ∙ append_assoc (added (spell i)) (added (spell_all is)) r))
-    (joins (marks_of i (fill i)) (marks is (fill_all is)) (added (spell i) ++ (added (spell_all is) ++ r)) (added (spell_all is) ++ r) r (spelled i h.0 (added (spell_all is) ++ r)) (all_spelled is h.1 r))
+    subst (λ (us : List Token). Matches (marks (i ∷ is) (fill_all (i ∷ is))) us r)
+    (sym (ap (λ (us : List Token). us ++ r) (added_append (spell i) (spell_all is))
+    ∙ append_assoc (added (spell i)) (added (spell_all is)) r))
+    (joins (marks_of i (fill i)) (marks is (fill_all is)) (added (spell i) ++ (added (spell_all is) ++ r))
+    (added (spell_all is) ++ r) r (spelled i h.0 (added (spell_all is) ++ r)) (all_spelled is h.1 r))
 
 all_sane : (is : List Item) → AllSane is (fill_all is)
 all_sane [] = tt
@@ -670,10 +788,14 @@ item_lives : (n : ℕ) (b : Below)
     → (ts : List Token) (e : Fault)
     → item b i ts ≡ Err e
     → Lives (FirstOf i) (marks_of i) (Sane i) ts e
-item_lives n b s a (tok k) w ts e p = fills ts e (expect_err k ts e p) tt tt (a_token k ∷ []) (λ r. (refl, refl)) (λ r. refl)
-item_lives n b s a (near k) w ts e p = fills ts e (expect_near_err k ts e p) tt tt (a_near_token k ∷ []) (λ r. (refl, refl, refl)) (λ r. tt)
+item_lives n b s a (tok k) w ts e p =
+    fills ts e (expect_err k ts e p) tt tt (a_token k ∷ []) (λ r. (refl, refl)) (λ r. refl)
+item_lives n b s a (near k) w ts e p =
+    fills ts e (expect_near_err k ts e p) tt tt (a_near_token k ∷ []) (λ r. (refl, refl, refl)) (λ r. tt)
 item_lives n b s a a_name w ts e p = name_lives ts e p
-item_lives n b s a (the_name m) w ts e p = fills ts e (name_err m ts e p) tt tt (given m (is_free m) refl ∷ []) (λ r. (given_is m (is_free m) refl w, refl)) (λ r. tt)
+item_lives n b s a (the_name m) w ts e p =
+    fills ts e (name_err m ts e p) tt tt (given m (is_free m) refl ∷ []) (λ r. (given_is m (is_free m) refl w, refl))
+    (λ r. tt)
 item_lives n b s a an_assignment w ts e p = a.assignment ts e p
 item_lives n b s a an_expression w ts e p =
     let l = a.expression ts e p in
@@ -681,7 +803,8 @@ item_lives n b s a an_expression w ts e p =
 item_lives n b s a (optional k) w ts e p = optional_lives n b s a k ts e p
 item_lives n b s a (arguments k) w ts e p = arguments_lives n b s a k ts e p
 item_lives n b s a ended w ts e p = ended_lives n b s a ts e p
-item_lives n b s a (an_end end) w ts e p = fills ts e (semicolon_err end ts e p) tt tt (a_token kinds.Semicolon ∷ []) (λ r. inl (refl, refl)) (λ r. tt)
+item_lives n b s a (an_end end) w ts e p =
+    fills ts e (semicolon_err end ts e p) tt tt (a_token kinds.Semicolon ∷ []) (λ r. inl (refl, refl)) (λ r. tt)
 item_lives n b s a (declared constant taken) w ts e p = declarators_lives n b s a constant taken ts e p
 item_lives n b s a (a_statement context) w ts e p = anything (a.statement context ts e p)
 item_lives n b s a (a_block context taken) w ts e p = anything (a.block context taken ts e p)
@@ -705,14 +828,17 @@ firm_item (the_name n) v f s = refl
 firm_item an_assignment v f s = expression_firm v s.0
 firm_item an_expression v f s = expression_firm v s
 firm_item (optional k) v f s = firm_last (flats.flat_optional v) k
-firm_item (arguments k) v f s = firm_append (flat_expressions v) (trailing v ++ (token (fixed k) ∷ [])) (firm_last (trailing v) k)
+firm_item (arguments k) v f s =
+    firm_append (flat_expressions v) (trailing v ++ (token (fixed k) ∷ [])) (firm_last (trailing v) k)
 firm_item ended v f s = absurd cc
 firm_item (an_end end) v f s = absurd cc
 firm_item (declared constant taken) v f s = declarators_firm v s.0 s.1
 firm_item (a_statement context) v f s = absurd cc
 firm_item (a_block context taken) v f s = firm_braces (flat_statements v)
 firm_item (in_braces context taken) v f s = firm_braces (flat_statements v)
-firm_item code v f s = firm_append (flat_parameters v.parameters) (flats.in_braces (flat_statements v.body)) (firm_braces (flat_statements v.body))
+firm_item code v f s =
+    firm_append (flat_parameters v.parameters) (flats.in_braces (flat_statements v.body))
+    (firm_braces (flat_statements v.body))
 
 -- an item that may end in an absent semicolon stands last, or before while
 abbrev stands : Item → List Item → Bool
@@ -748,9 +874,15 @@ behind_item : (i : Item) (is : List Item)
     → Lives (FirstOf i) (marks (i ∷ is)) (AllSane (i ∷ is)) ts e
 behind_item i [] h v s ts mid m e some l = absurd (some refl)
 behind_item (a_statement context) (tok k ∷ is) h v s ts mid m e some l =
-    anything (around_softly l (λ us t. while_softer mid us (subst (λ (k : TokenKind). Starts (IsAdded k) mid us) (same_kind k kinds.While h) t)) (flat_statement v) ts m (v, l.tree) (s, l.good) [] [] (λ r. refl) (ap (λ (ms : List Mark). flat_statement v ++ ms) (append-nil (marks (tok k ∷ is) l.tree))))
+    anything (around_softly l
+    (λ us t. while_softer mid us
+    (subst (λ (k : TokenKind). Starts (IsAdded k) mid us) (same_kind k kinds.While h) t))
+    (flat_statement v) ts m (v, l.tree) (s, l.good) [] [] (λ r. refl)
+    (ap (λ (ms : List Mark). flat_statement v ++ ms) (append-nil (marks (tok k ∷ is) l.tree))))
 behind_item i (j ∷ is) h v s ts mid m e some l =
-    from_nothing (around l (marks_of i v) (firm_item i v h s) ts m (v, l.tree) (s, l.good) [] [] (λ r. refl) (ap (λ (ms : List Mark). marks_of i v ++ ms) (append-nil (marks (j ∷ is) l.tree))))
+    from_nothing
+    (around l (marks_of i v) (firm_item i v h s) ts m (v, l.tree) (s, l.good) [] [] (λ r. refl)
+    (ap (λ (ms : List Mark). marks_of i v ++ ms) (append-nil (marks (j ∷ is) l.tree))))
 
 some_items : (b : Below) (is : List Item) (ts : List Token) (e : Fault) → seq b is ts ≡ Err e → (is ≡ []) → ⊥
 some_items b [] ts e p is = absurd cc
@@ -766,21 +898,24 @@ pub seq_lives : (n : ℕ) (b : Below)
     → seq b is ts ≡ Err e
     → Lives (FirstOfAll is) (marks is) (AllSane is) ts e
 seq_lives n b s a [] y ts e p = absurd cc
-seq_lives n b s a (i ∷ is) y ts e p = elim (bind_err (item b i ts) (λ x. seq b is x.1 >>= λ y. Ok ((x.0, y.0), y.1)) e p) [
-  | inl q ↦
-      let h = and_parts (is_writable i && stands i is) (lively is) y in
-      let w = and_parts (is_writable i) (stands i is) h.0 in
-      let l = item_lives n b s a i w.0 ts e q in
-      ends_in l (l.tree, fill_all is) (l.good, all_sane is) (marks is (fill_all is)) (spell_all is) (all_spelled is (lively_writable is h.1)) refl
-  | inr q ↦ elim (bind_err (seq b is q.0.1) (λ y. Ok ((q.0.0, y.0), y.1)) e q.2) [
-    | inl k ↦
-        let t = item_sound n b s i ts q.0 q.1 in
-        let h = and_parts (is_writable i && stands i is) (lively is) y in
-        let w = and_parts (is_writable i) (stands i is) h.0 in
-        behind_item i is w.1 q.0.0 t.sane ts q.0.1 t.marks e (some_items b is q.0.1 e k) (seq_lives n b s a is h.1 q.0.1 e k)
-    | inr k ↦ absurd cc
-  ]
-]
+seq_lives n b s a (i ∷ is) y ts e p =
+    elim (bind_err (item b i ts) (λ x. seq b is x.1 >>= λ y. Ok ((x.0, y.0), y.1)) e p) [
+      | inl q ↦
+          let h = and_parts (is_writable i && stands i is) (lively is) y in
+          let w = and_parts (is_writable i) (stands i is) h.0 in
+          let l = item_lives n b s a i w.0 ts e q in
+          ends_in l (l.tree, fill_all is) (l.good, all_sane is) (marks is (fill_all is)) (spell_all is)
+          (all_spelled is (lively_writable is h.1)) refl
+      | inr q ↦ elim (bind_err (seq b is q.0.1) (λ y. Ok ((q.0.0, y.0), y.1)) e q.2) [
+        | inl k ↦
+            let t = item_sound n b s i ts q.0 q.1 in
+            let h = and_parts (is_writable i && stands i is) (lively is) y in
+            let w = and_parts (is_writable i) (stands i is) h.0 in
+            behind_item i is w.1 q.0.0 t.sane ts q.0.1 t.marks e (some_items b is q.0.1 e k)
+            (seq_lives n b s a is h.1 q.0.1 e k)
+        | inr k ↦ absurd cc
+      ]
+    ]
 
 -- where its first token is there
 pub known_lives : (n : ℕ) (b : Below)
@@ -792,15 +927,17 @@ pub known_lives : (n : ℕ) (b : Below)
     → IsNext (fixed k) (head_of ts)
     → seq b (tok k ∷ is) ts ≡ Err e
     → Lives Nothing (marks (tok k ∷ is)) (AllSane (tok k ∷ is)) ts e
-known_lives n b s a k is y ts e f p = elim (bind_err (expect k ts) (λ x. seq b is x.1 >>= λ y. Ok ((x.0, y.0), y.1)) e p) [
-  | inl q ↦ let again = expect_again k ts (tail_of ts) (f, refl) in absurd cc
-  | inr q ↦ elim (bind_err (seq b is q.0.1) (λ y. Ok ((q.0.0, y.0), y.1)) e q.2) [
-    | inl j ↦
-        let l = seq_lives n b s a is y q.0.1 e j in
-        around l (token (fixed k) ∷ []) refl ts (expect_sound k ts q.0 q.1) (tt, l.tree) (tt, l.good) [] [] (λ r. refl) (ap (λ (ms : List Mark). token (fixed k) ∷ ms) (append-nil (marks is l.tree)))
-    | inr j ↦ absurd cc
-  ]
-]
+known_lives n b s a k is y ts e f p =
+    elim (bind_err (expect k ts) (λ x. seq b is x.1 >>= λ y. Ok ((x.0, y.0), y.1)) e p) [
+      | inl q ↦ let again = expect_again k ts (tail_of ts) (f, refl) in absurd cc
+      | inr q ↦ elim (bind_err (seq b is q.0.1) (λ y. Ok ((q.0.0, y.0), y.1)) e q.2) [
+        | inl j ↦
+            let l = seq_lives n b s a is y q.0.1 e j in
+            around l (token (fixed k) ∷ []) refl ts (expect_sound k ts q.0 q.1) (tt, l.tree) (tt, l.good) [] [] (λ r. refl)
+            (ap (λ (ms : List Mark). token (fixed k) ∷ ms) (append-nil (marks is l.tree)))
+        | inr j ↦ absurd cc
+      ]
+    ]
 
 -- what is made of a production's values stops where the production does
 pub made_err : {A : Type 0} (b : Below) (is : List Item) (make : Values is → A) (ts : List Token) (e : Fault)

@@ -102,7 +102,8 @@ if_then_lives : (n : ℕ) (b : Below)
 if_then_lives n b s a context ts e f p =
     let is = tok kinds.LeftParenthesis ∷ an_expression ∷ tok kinds.RightParenthesis ∷ a_statement context ∷ [] in
     let l = known_lives n b s a kinds.If is refl ts e f p in
-    renamed l (trees.if_then l.tree.1.1.0 l.tree.1.1.1.1.0) ((l.good.1.1.0, l.good.1.1.1.1.0.0, l.good.1.1.1.1.0.1), refl) refl
+    renamed l (trees.if_then l.tree.1.1.0 l.tree.1.1.1.1.0)
+    ((l.good.1.1.0, l.good.1.1.1.1.0.0, l.good.1.1.1.1.0.1), refl) refl
 
 else_lives : (n : ℕ) (b : Below)
     → SoundBelow n b
@@ -115,11 +116,27 @@ else_lives : (n : ℕ) (b : Below)
     → Lives Nothing flat_statement (IsStatement context) ts e
 else_lives n b s a context ts vs r e t true h p =
     let is = a_statement context ∷ [] in
-    let l = known_lives n b s a kinds.Else is refl r e (next_is kinds.Else (head_of r) h) (made_err {A = Statement} b (tok kinds.Else ∷ is) (λ v. trees.if_else vs.1.1.0 vs.1.1.1.1.0 v.1.0) r e p) in
-    around_softly l (nothing_softer r) (marks (if_items context) vs) ts t.marks (trees.if_else vs.1.1.0 vs.1.1.1.1.0 l.tree.1.0)
-    ((t.sane.1.1.0, t.sane.1.1.1.1.0.0, t.sane.1.1.1.1.0.1, no_open_if vs.1.1.1.1.0 r t.last h, l.good.1.0.0, l.good.1.0.1), refl) [] [] (λ r. refl)
-    (ap (λ (ms : List Mark). token (fixed kinds.If) ∷ token (fixed kinds.LeftParenthesis) ∷ ms) (behind_if (flat vs.1.1.0) (flat_statement vs.1.1.1.1.0) ((token (fixed kinds.Else) ∷ (flat_statement l.tree.1.0 ++ [])) ++ []) kinds.RightParenthesis
-    ∙ ap (λ (ms : List Mark). flat vs.1.1.0 ++ (token (fixed kinds.RightParenthesis) ∷ (flat_statement vs.1.1.1.1.0 ++ ms))) (append-nil (token (fixed kinds.Else) ∷ (flat_statement l.tree.1.0 ++ [])))))
+    let l = known_lives n b s a kinds.Else is refl r e (next_is kinds.Else (head_of r) h)
+    (made_err {A = Statement} b (tok kinds.Else ∷ is) (λ v. trees.if_else vs.1.1.0 vs.1.1.1.1.0 v.1.0) r e p) in
+    around_softly l (nothing_softer r) (marks (if_items context) vs) ts t.marks
+    (trees.if_else vs.1.1.0 vs.1.1.1.1.0 l.tree.1.0) (
+      (
+        t.sane.1.1.0,
+        t.sane.1.1.1.1.0.0,
+        t.sane.1.1.1.1.0.1,
+        no_open_if vs.1.1.1.1.0 r t.last h,
+        l.good.1.0.0,
+        l.good.1.0.1,
+      ),
+      refl,
+    )
+    [] [] (λ r. refl)
+    (ap (λ (ms : List Mark). token (fixed kinds.If) ∷ token (fixed kinds.LeftParenthesis) ∷ ms)
+    (behind_if (flat vs.1.1.0) (flat_statement vs.1.1.1.1.0)
+    ((token (fixed kinds.Else) ∷ (flat_statement l.tree.1.0 ++ [])) ++ []) kinds.RightParenthesis
+    ∙ ap (λ (ms : List Mark). flat vs.1.1.0 ++
+    (token (fixed kinds.RightParenthesis) ∷ (flat_statement vs.1.1.1.1.0 ++ ms)))
+    (append-nil (token (fixed kinds.Else) ∷ (flat_statement l.tree.1.0 ++ [])))))
 else_lives n b s a context ts vs r e t false h p = absurd cc
 
 if_lives : (n : ℕ) (b : Below)
@@ -130,10 +147,13 @@ if_lives : (n : ℕ) (b : Below)
     → if_at b context ts ≡ Err e
     → Lives Nothing flat_statement (IsStatement context) ts e
 unfolding if_at
-if_lives n b s a context ts e f p = elim (bind_err (seq b (if_items context) ts) (λ x. else_by b context x.0.1.1.0 x.0.1.1.1.1.0 (is_kind kinds.Else (head_of x.1)) x.1) e p) [
-  | inl q ↦ if_then_lives n b s a context ts e f q
-  | inr q ↦ else_lives n b s a context ts q.0.0 q.0.1 e (seq_sound n b s (if_items context) ts q.0 q.1) (is_kind kinds.Else (head_of q.0.1)) refl q.2
-]
+if_lives n b s a context ts e f p =
+    elim (bind_err (seq b (if_items context) ts)
+    (λ x. else_by b context x.0.1.1.0 x.0.1.1.1.1.0 (is_kind kinds.Else (head_of x.1)) x.1) e p) [
+      | inl q ↦ if_then_lives n b s a context ts e f q
+      | inr q ↦ else_lives n b s a context ts q.0.0 q.0.1 e (seq_sound n b s (if_items context) ts q.0 q.1)
+          (is_kind kinds.Else (head_of q.0.1)) refl q.2
+    ]
 
 do_lives : (n : ℕ) (b : Below)
     → SoundBelow n b
@@ -142,7 +162,9 @@ do_lives : (n : ℕ) (b : Below)
     → IsNext (fixed kinds.Do) (head_of ts)
     → made b (do_items context) (λ v. trees.do_while v.1.0 v.1.1.1.1.0) ts ≡ Err e
     → Lives Nothing flat_statement (IsStatement context) ts e
-do_lives n b s a context ts e f p = made_lives n b s a context kinds.Do (behind_first (do_items context)) ts e refl f (λ v. trees.do_while v.1.0 v.1.1.1.1.0) (λ v g. ((g.1.0.0, g.1.0.1, g.1.1.1.1.0), refl)) (λ v. refl) p
+do_lives n b s a context ts e f p =
+    made_lives n b s a context kinds.Do (behind_first (do_items context)) ts e refl f
+    (λ v. trees.do_while v.1.0 v.1.1.1.1.0) (λ v g. ((g.1.0.0, g.1.0.1, g.1.1.1.1.0), refl)) (λ v. refl) p
 
 while_lives : (n : ℕ) (b : Below)
     → SoundBelow n b
@@ -151,7 +173,9 @@ while_lives : (n : ℕ) (b : Below)
     → IsNext (fixed kinds.While) (head_of ts)
     → made b (while_items context) (λ v. trees.while v.1.1.0 v.1.1.1.1.0) ts ≡ Err e
     → Lives Nothing flat_statement (IsStatement context) ts e
-while_lives n b s a context ts e f p = made_lives n b s a context kinds.While (behind_first (while_items context)) ts e refl f (λ v. trees.while v.1.1.0 v.1.1.1.1.0) (λ v g. ((g.1.1.0, g.1.1.1.1.0.0, g.1.1.1.1.0.1), refl)) (λ v. refl) p
+while_lives n b s a context ts e f p =
+    made_lives n b s a context kinds.While (behind_first (while_items context)) ts e refl f
+    (λ v. trees.while v.1.1.0 v.1.1.1.1.0) (λ v g. ((g.1.1.0, g.1.1.1.1.0.0, g.1.1.1.1.0.1), refl)) (λ v. refl) p
 
 for_by_lives : (n : ℕ) (b : Below)
     → SoundBelow n b
@@ -160,20 +184,51 @@ for_by_lives : (n : ℕ) (b : Below)
     → IsNext (fixed kinds.For) (head_of ts)
     → for_by b context h ts ≡ Err e
     → Lives Nothing flat_statement (IsStatement context) ts e
-for_by_lives n b s a context plain_head ts e f p = made_lives n b s a context kinds.For (behind_first (for_items context)) ts e refl f (λ v. trees.for v.1.1.0 v.1.1.1.0 v.1.1.1.1.0 v.1.1.1.1.1.0) (λ v g. ((g.1.1.0, g.1.1.1.0, g.1.1.1.1.0, g.1.1.1.1.1.0.0, g.1.1.1.1.1.0.1), refl)) (λ v.
+for_by_lives n b s a context plain_head ts e f p =
+    made_lives n b s a context kinds.For (behind_first (for_items context)) ts e refl f
+    (λ v. trees.for v.1.1.0 v.1.1.1.0 v.1.1.1.1.0 v.1.1.1.1.1.0)
+    (λ v g. ((g.1.1.0, g.1.1.1.0, g.1.1.1.1.0, g.1.1.1.1.1.0.0, g.1.1.1.1.1.0.1), refl)) (λ v.
     let body = flat_statement v.1.1.1.1.1.0 ++ [] in
-    let after_first = (flat_optional v.1.1.1.0 ++ (token (fixed kinds.Semicolon) ∷ [])) ++ ((flat_optional v.1.1.1.1.0 ++ (token (fixed kinds.RightParenthesis) ∷ [])) ++ body) in
-    ap (λ (l : List Mark). token (fixed kinds.For) ∷ token (fixed kinds.LeftParenthesis) ∷ l) (next_optional (flat_optional v.1.1.0) after_first kinds.Semicolon ∙ ap (λ (l : List Mark). flat_optional v.1.1.0 ++ (token (fixed kinds.Semicolon) ∷ l)) (tails_are (flat_optional v.1.1.1.0) (flat_optional v.1.1.1.1.0) body))) p
-for_by_lives n b s a context (declares constant) ts e f p = made_lives n b s a context kinds.For (behind_first (for_lexical_items context constant)) ts e refl f (λ v. trees.for_lexical constant v.1.1.1.0 v.1.1.1.1.1.0 v.1.1.1.1.1.1.0 v.1.1.1.1.1.1.1.0)
-    (λ v g. ((g.1.1.1.0.0, g.1.1.1.0.1, g.1.1.1.0.2, g.1.1.1.0.3, g.1.1.1.1.1.0, g.1.1.1.1.1.1.0, g.1.1.1.1.1.1.1.0.0, g.1.1.1.1.1.1.1.0.1), refl)) (λ v.
+    let after_first = (flat_optional v.1.1.1.0 ++ (token (fixed kinds.Semicolon) ∷ [])) ++
+    ((flat_optional v.1.1.1.1.0 ++ (token (fixed kinds.RightParenthesis) ∷ [])) ++ body) in
+    ap (λ (l : List Mark). token (fixed kinds.For) ∷ token (fixed kinds.LeftParenthesis) ∷ l)
+    (next_optional (flat_optional v.1.1.0) after_first kinds.Semicolon
+    ∙ ap (λ (l : List Mark). flat_optional v.1.1.0 ++ (token (fixed kinds.Semicolon) ∷ l))
+    (tails_are (flat_optional v.1.1.1.0) (flat_optional v.1.1.1.1.0) body))) p
+for_by_lives n b s a context (declares constant) ts e f p =
+    made_lives n b s a context kinds.For (behind_first (for_lexical_items context constant)) ts e refl f
+    (λ v. trees.for_lexical constant v.1.1.1.0 v.1.1.1.1.1.0 v.1.1.1.1.1.1.0 v.1.1.1.1.1.1.1.0)
+    (λ v g. (
+      (
+        g.1.1.1.0.0,
+        g.1.1.1.0.1,
+        g.1.1.1.0.2,
+        g.1.1.1.0.3,
+        g.1.1.1.1.1.0,
+        g.1.1.1.1.1.1.0,
+        g.1.1.1.1.1.1.1.0.0,
+        g.1.1.1.1.1.1.1.0.1,
+      ),
+      refl,
+    ))
+    (λ v.
     let body = flat_statement v.1.1.1.1.1.1.1.0 ++ [] in
-    let tails = (flat_optional v.1.1.1.1.1.0 ++ (token (fixed kinds.Semicolon) ∷ [])) ++ ((flat_optional v.1.1.1.1.1.1.0 ++ (token (fixed kinds.RightParenthesis) ∷ [])) ++ body) in
-    ap (λ (l : List Mark). token (fixed kinds.For) ∷ token (fixed kinds.LeftParenthesis) ∷ (l ++ (flat_declarators v.1.1.1.0 ++ (token (fixed kinds.Semicolon) ∷ tails)))) (let_is constant)
-    ∙ ap (λ (l : List Mark). token (fixed kinds.For) ∷ token (fixed kinds.LeftParenthesis) ∷ (let_or_const constant ++ (flat_declarators v.1.1.1.0 ++ (token (fixed kinds.Semicolon) ∷ l)))) (tails_are (flat_optional v.1.1.1.1.1.0) (flat_optional v.1.1.1.1.1.1.0) body)) p
-for_by_lives n b s a context (each constant) ts e f p = made_lives n b s a context kinds.For (behind_first (for_of_items context constant)) ts e refl f (λ v. trees.for_of constant v.1.1.1.0 v.1.1.1.1.1.0 v.1.1.1.1.1.1.1.0)
+    let tails = (flat_optional v.1.1.1.1.1.0 ++ (token (fixed kinds.Semicolon) ∷ [])) ++
+    ((flat_optional v.1.1.1.1.1.1.0 ++ (token (fixed kinds.RightParenthesis) ∷ [])) ++ body) in
+    ap (λ (l : List Mark). token (fixed kinds.For) ∷ token (fixed kinds.LeftParenthesis) ∷
+    (l ++ (flat_declarators v.1.1.1.0 ++ (token (fixed kinds.Semicolon) ∷ tails))))
+    (let_is constant)
+    ∙ ap (λ (l : List Mark). token (fixed kinds.For) ∷ token (fixed kinds.LeftParenthesis) ∷
+    (let_or_const constant ++ (flat_declarators v.1.1.1.0 ++ (token (fixed kinds.Semicolon) ∷ l))))
+    (tails_are (flat_optional v.1.1.1.1.1.0) (flat_optional v.1.1.1.1.1.1.0) body)) p
+for_by_lives n b s a context (each constant) ts e f p =
+    made_lives n b s a context kinds.For (behind_first (for_of_items context constant)) ts e refl f
+    (λ v. trees.for_of constant v.1.1.1.0 v.1.1.1.1.1.0 v.1.1.1.1.1.1.1.0)
     (λ v g. ((g.1.1.1.1.1.0.0, g.1.1.1.1.1.0.1, g.1.1.1.1.1.1.1.0.0, g.1.1.1.1.1.1.1.0.1), refl)) (λ v.
-    let rest = token (identifier v.1.1.1.0) ∷ token (identifier (codes "of")) ∷ (flat v.1.1.1.1.1.0 ++ (token (fixed kinds.RightParenthesis) ∷ (flat_statement v.1.1.1.1.1.1.1.0 ++ []))) in
-    ap (λ (l : List Mark). token (fixed kinds.For) ∷ token (fixed kinds.LeftParenthesis) ∷ (l ++ rest)) (let_is constant)) p
+    let rest = token (identifier v.1.1.1.0) ∷ token (identifier (codes "of")) ∷
+    (flat v.1.1.1.1.1.0 ++ (token (fixed kinds.RightParenthesis) ∷ (flat_statement v.1.1.1.1.1.1.1.0 ++ []))) in
+    ap (λ (l : List Mark). token (fixed kinds.For) ∷ token (fixed kinds.LeftParenthesis) ∷ (l ++ rest))
+    (let_is constant)) p
 
 for_lives : (n : ℕ) (b : Below)
     → SoundBelow n b
@@ -196,7 +251,9 @@ continue_lives : (n : ℕ) (b : Below)
     → IsNext (fixed kinds.Continue) (head_of ts)
     → made b (tok kinds.Continue ∷ an_end after_word ∷ []) (λ v. trees.continue) ts ≡ Err e
     → Lives Nothing flat_statement (IsStatement context) ts e
-continue_lives n b s a context loop ts e f p = made_lives n b s a context kinds.Continue (an_end after_word ∷ []) ts e refl f (λ v. trees.continue) (λ v g. (loop, refl)) (λ v. refl) p
+continue_lives n b s a context loop ts e f p =
+    made_lives n b s a context kinds.Continue (an_end after_word ∷ []) ts e refl f (λ v. trees.continue)
+    (λ v g. (loop, refl)) (λ v. refl) p
 
 break_lives : (n : ℕ) (b : Below)
     → SoundBelow n b
@@ -207,7 +264,9 @@ break_lives : (n : ℕ) (b : Below)
     → IsNext (fixed kinds.Break) (head_of ts)
     → made b (tok kinds.Break ∷ an_end after_word ∷ []) (λ v. trees.break) ts ≡ Err e
     → Lives Nothing flat_statement (IsStatement context) ts e
-break_lives n b s a context loop ts e f p = made_lives n b s a context kinds.Break (an_end after_word ∷ []) ts e refl f (λ v. trees.break) (λ v g. (loop, refl)) (λ v. refl) p
+break_lives n b s a context loop ts e f p =
+    made_lives n b s a context kinds.Break (an_end after_word ∷ []) ts e refl f (λ v. trees.break) (λ v g. (loop, refl))
+    (λ v. refl) p
 
 debugger_lives : (n : ℕ) (b : Below)
     → SoundBelow n b
@@ -216,27 +275,32 @@ debugger_lives : (n : ℕ) (b : Below)
     → IsNext (fixed kinds.Debugger) (head_of ts)
     → made b (tok kinds.Debugger ∷ an_end after_word ∷ []) (λ v. trees.debugger) ts ≡ Err e
     → Lives Nothing flat_statement (IsStatement context) ts e
-debugger_lives n b s a context ts e f p = made_lives n b s a context kinds.Debugger (an_end after_word ∷ []) ts e refl f (λ v. trees.debugger) (λ v g. (tt, refl)) (λ v. refl) p
+debugger_lives n b s a context ts e f p =
+    made_lives n b s a context kinds.Debugger (an_end after_word ∷ []) ts e refl f (λ v. trees.debugger)
+    (λ v g. (tt, refl)) (λ v. refl) p
 
 -- an expression with its semicolon, behind a word
 ended_behind : (b : Below) (k : TokenKind) (ts : List Token) (e : Fault)
     → IsNext (fixed k) (head_of ts)
     → seq b (tok k ∷ ended ∷ []) ts ≡ Err e
     → ended_expression b (tail_of ts) ≡ Err e
-ended_behind b k ts e f p = elim (bind_err (expect k ts) (λ x. seq b (ended ∷ []) x.1 >>= λ y. Ok ((x.0, y.0), y.1)) e p) [
-  | inl q ↦ let again = expect_again k ts (tail_of ts) (f, refl) in absurd cc
-  | inr q ↦ elim (bind_err (seq b (ended ∷ []) q.0.1) (λ y. Ok ((q.0.0, y.0), y.1)) e q.2) [
-    | inl w ↦ elim (bind_err (ended_expression b q.0.1) (λ y. Ok ((y.0, tt), y.1)) e w) [
-      | inl v ↦ subst (λ (us : List Token). ended_expression b us ≡ Err e) (sym (expect_sound k ts q.0 q.1).1) v
-      | inr v ↦ absurd cc
+ended_behind b k ts e f p =
+    elim (bind_err (expect k ts) (λ x. seq b (ended ∷ []) x.1 >>= λ y. Ok ((x.0, y.0), y.1)) e p) [
+      | inl q ↦ let again = expect_again k ts (tail_of ts) (f, refl) in absurd cc
+      | inr q ↦ elim (bind_err (seq b (ended ∷ []) q.0.1) (λ y. Ok ((q.0.0, y.0), y.1)) e q.2) [
+        | inl w ↦ elim (bind_err (ended_expression b q.0.1) (λ y. Ok ((y.0, tt), y.1)) e w) [
+          | inl v ↦ subst (λ (us : List Token). ended_expression b us ≡ Err e) (sym (expect_sound k ts q.0 q.1).1) v
+          | inr v ↦ absurd cc
+        ]
+        | inr w ↦ absurd cc
+      ]
     ]
-    | inr w ↦ absurd cc
-  ]
-]
 
 -- what begins on the line
 line_lives : (k : TokenKind) (make : Expression → Statement)
-    → ((f : Expression) → flat_statement (make f) ≡ token (fixed k) ∷ (on_line (flat f) ++ (semicolon (after_expression (edge f)) ∷ [])))
+    → ((f : Expression)
+    → flat_statement (make f) ≡ token (fixed k) ∷
+    (on_line (flat f) ++ (semicolon (after_expression (edge f)) ∷ [])))
     → (context : Context)
     → ((f : Expression) → Well f → IsStatement context (make f))
     → (ts : List Token) (e : Fault)
@@ -248,7 +312,8 @@ line_lives k make same context sane [] e f line l = absurd f
 line_lives k make same context sane (t ∷ ts) e f line l =
     let end = semicolon (after_expression (edge l.tree)) ∷ [] in
     grows l (t ∷ ts) (t ∷ []) refl (make l.tree) (sane l.tree l.good) []
-    (λ us r st m. subst (λ (ms : List Mark). Matches ms (t ∷ us) r) (sym (same l.tree)) (f, on_line_is (flat l.tree) end us r (still_on_line us st) m))
+    (λ us r st m. subst (λ (ms : List Mark). Matches ms (t ∷ us) r) (sym (same l.tree))
+    (f, on_line_is (flat l.tree) end us r (still_on_line us st) m))
     (λ us st. inl refl)
   where
     still_on_line : (us : List Token) → Starts Nothing ts us → is_on_line (head_of us) ≡ true
@@ -262,7 +327,9 @@ bare_return_lives : (context : Context)
     → IsNext (fixed kinds.Return) (head_of ts)
     → Counts e (tail_of ts)
     → Lives Nothing flat_statement (IsStatement context) ts e
-bare_return_lives context inside ts e f c = stopped (token (fixed kinds.Return) ∷ []) refl ts (tail_of ts) (f, refl) e c (trees.return trees.omitted) ((inside, tt), refl) (semicolon after_word ∷ []) (a_token kinds.Semicolon ∷ []) (λ r. inl (refl, refl)) refl
+bare_return_lives context inside ts e f c =
+    stopped (token (fixed kinds.Return) ∷ []) refl ts (tail_of ts) (f, refl) e c (trees.return trees.omitted)
+    ((inside, tt), refl) (semicolon after_word ∷ []) (a_token kinds.Semicolon ∷ []) (λ r. inl (refl, refl)) refl
 
 return_lives : (n : ℕ) (b : Below)
     → SoundBelow n b
@@ -274,12 +341,17 @@ return_lives : (n : ℕ) (b : Below)
     → ends_return (head_of (tail_of ts)) ≡ c
     → return_by b c ts ≡ Err e
     → Lives Nothing flat_statement (IsStatement context) ts e
-return_lives n b s a context inside true ts e f h p = made_lives n b s a context kinds.Return (an_end after_word ∷ []) ts e refl f (λ v. trees.return trees.omitted) (λ v g. ((inside, tt), refl)) (λ v. refl) p
+return_lives n b s a context inside true ts e f h p =
+    made_lives n b s a context kinds.Return (an_end after_word ∷ []) ts e refl f (λ v. trees.return trees.omitted)
+    (λ v g. ((inside, tt), refl)) (λ v. refl) p
 return_lives n b s a context inside false ts e f h p =
-    let q = ended_behind b kinds.Return ts e f (made_err {A = Statement} b (tok kinds.Return ∷ ended ∷ []) (λ v. trees.return (trees.present v.1.0)) ts e p) in
+    let q = ended_behind b kinds.Return ts e f
+    (made_err {A = Statement} b (tok kinds.Return ∷ ended ∷ []) (λ v. trees.return (trees.present v.1.0)) ts e p)
+    in
     elim (begun (ended_lives n b s a (tail_of ts) e q)) [
       | inl c ↦ bare_return_lives context inside ts e f c
-      | inr l ↦ line_lives kinds.Return (λ f. trees.return (trees.present f)) (λ f. refl) context (λ f w. ((inside, w), refl)) ts e f (given_on_line (head_of (tail_of ts)) h) l
+      | inr l ↦ line_lives kinds.Return (λ f. trees.return (trees.present f)) (λ f. refl) context
+          (λ f w. ((inside, w), refl)) ts e f (given_on_line (head_of (tail_of ts)) h) l
     ]
 
 -- throw 0; on one line
@@ -287,7 +359,10 @@ zero_throw_lives : (context : Context) (ts : List Token) (e : Fault)
     → IsNext (fixed kinds.Throw) (head_of ts)
     → Counts e (tail_of ts)
     → Lives Nothing flat_statement (IsStatement context) ts e
-zero_throw_lives context ts e f c = stopped (token (fixed kinds.Throw) ∷ []) refl ts (tail_of ts) (f, refl) e c (trees.throw (trees.number 0)) (tt, refl) (beside (numeric_literal 0) ∷ semicolon (after_expression plain) ∷ []) (a_near_token kinds.Number ∷ a_token kinds.Semicolon ∷ []) (λ r. ((refl, refl), refl, inl (refl, refl))) refl
+zero_throw_lives context ts e f c =
+    stopped (token (fixed kinds.Throw) ∷ []) refl ts (tail_of ts) (f, refl) e c (trees.throw (trees.number 0))
+    (tt, refl) (beside (numeric_literal 0) ∷ semicolon (after_expression plain) ∷ [])
+    (a_near_token kinds.Number ∷ a_token kinds.Semicolon ∷ []) (λ r. ((refl, refl), refl, inl (refl, refl))) refl
 
 throw_lives : (n : ℕ) (b : Below)
     → SoundBelow n b
@@ -298,12 +373,14 @@ throw_lives : (n : ℕ) (b : Below)
     → throw_by b c ts ≡ Err e
     → Lives Nothing flat_statement (IsStatement context) ts e
 throw_lives n b s a context true ts e f h p =
-    let q = ended_behind b kinds.Throw ts e f (made_err {A = Statement} b (tok kinds.Throw ∷ ended ∷ []) (λ v. trees.throw v.1.0) ts e p) in
+    let q = ended_behind b kinds.Throw ts e f
+    (made_err {A = Statement} b (tok kinds.Throw ∷ ended ∷ []) (λ v. trees.throw v.1.0) ts e p) in
     elim (begun (ended_lives n b s a (tail_of ts) e q)) [
       | inl c ↦ zero_throw_lives context ts e f c
       | inr l ↦ line_lives kinds.Throw (λ f. trees.throw f) (λ f. refl) context (λ f w. (w, refl)) ts e f h l
     ]
-throw_lives n b s a context false ts e f h p = zero_throw_lives context ts e f (stuck_counts {A = Statement} (tail_of ts) e p)
+throw_lives n b s a context false ts e f h p =
+    zero_throw_lives context ts e f (stuck_counts {A = Statement} (tail_of ts) e p)
 
 -- ---- try
 
@@ -324,25 +401,33 @@ catch_lives : (n : ℕ) (b : Below)
     → IsNext (fixed kinds.Catch) (head_of ts)
     → catch_by b context c (tail_of ts) ≡ Err e
     → Lives Nothing flat_handler (IsHandler context) ts e
-catch_lives n b s a context true ts e f p = elim (bind_err (seq b catch_items (tail_of ts)) (λ n. b.block context (n.0.1.0 ∷ []) n.1 >>= λ x. Ok (trees.catch (Some n.0.1.0) x.0, x.1)) e p) [
-  | inl q ↦
-      let l = anything (seq_lives n b s a catch_items refl (tail_of ts) e q) in
-      around l (token (fixed kinds.Catch) ∷ []) refl ts (f, refl) (trees.catch (Some l.tree.1.0) trees.no_statements) ((tt, tt), refl) empty_braces empty_brace_tokens (λ r. (refl, (refl, refl))) refl
-  | inr q ↦ elim (bind_err (b.block context (q.0.0.1.0 ∷ []) q.0.1) (λ x. Ok (trees.catch (Some q.0.0.1.0) x.0, x.1)) e q.2) [
-    | inl w ↦
-        let t = seq_sound n b s catch_items (tail_of ts) q.0 q.1 in
-        let l = a.block context (q.0.0.1.0 ∷ []) q.0.1 e w in
-        let front = token (fixed kinds.Catch) ∷ token (fixed kinds.LeftParenthesis) ∷ token (identifier q.0.0.1.0) ∷ token (fixed kinds.RightParenthesis) ∷ [] in
-        behind l front refl ts (f, t.marks) (trees.catch (Some q.0.0.1.0) l.tree) (l.good, refl) (ap (λ (ms : List Mark). front ++ ms) (sym (append-nil (flat_block l.tree))))
-    | inr w ↦ absurd cc
-  ]
-]
-catch_lives n b s a context false ts e f p = elim (bind_err (b.block context [] (tail_of ts)) (λ x. Ok (trees.catch None x.0, x.1)) e p) [
-  | inl q ↦
-      let l = a.block context [] (tail_of ts) e q in
-      behind l (token (fixed kinds.Catch) ∷ []) refl ts (f, refl) (trees.catch None l.tree) (l.good, refl) (ap (λ (ms : List Mark). token (fixed kinds.Catch) ∷ ms) (sym (append-nil (flat_block l.tree))))
-  | inr q ↦ absurd cc
-]
+catch_lives n b s a context true ts e f p =
+    elim (bind_err (seq b catch_items (tail_of ts))
+    (λ n. b.block context (n.0.1.0 ∷ []) n.1 >>= λ x. Ok (trees.catch (Some n.0.1.0) x.0, x.1)) e p) [
+      | inl q ↦
+          let l = anything (seq_lives n b s a catch_items refl (tail_of ts) e q) in
+          around l (token (fixed kinds.Catch) ∷ []) refl ts (f, refl) (trees.catch (Some l.tree.1.0) trees.no_statements)
+          ((tt, tt), refl) empty_braces empty_brace_tokens (λ r. (refl, (refl, refl))) refl
+      | inr q ↦ elim
+          (bind_err (b.block context (q.0.0.1.0 ∷ []) q.0.1) (λ x. Ok (trees.catch (Some q.0.0.1.0) x.0, x.1)) e q.2) [
+            | inl w ↦
+                let t = seq_sound n b s catch_items (tail_of ts) q.0 q.1 in
+                let l = a.block context (q.0.0.1.0 ∷ []) q.0.1 e w in
+                let front = token (fixed kinds.Catch) ∷ token (fixed kinds.LeftParenthesis) ∷ token (identifier q.0.0.1.0)
+                ∷ token (fixed kinds.RightParenthesis) ∷ [] in
+                behind l front refl ts (f, t.marks) (trees.catch (Some q.0.0.1.0) l.tree) (l.good, refl)
+                (ap (λ (ms : List Mark). front ++ ms) (sym (append-nil (flat_block l.tree))))
+            | inr w ↦ absurd cc
+          ]
+    ]
+catch_lives n b s a context false ts e f p =
+    elim (bind_err (b.block context [] (tail_of ts)) (λ x. Ok (trees.catch None x.0, x.1)) e p) [
+      | inl q ↦
+          let l = a.block context [] (tail_of ts) e q in
+          behind l (token (fixed kinds.Catch) ∷ []) refl ts (f, refl) (trees.catch None l.tree) (l.good, refl)
+          (ap (λ (ms : List Mark). token (fixed kinds.Catch) ∷ ms) (sym (append-nil (flat_block l.tree))))
+      | inr q ↦ absurd cc
+    ]
 
 handler_by_lives : (n : ℕ) (b : Below)
     → SoundBelow n b
@@ -351,7 +436,9 @@ handler_by_lives : (n : ℕ) (b : Below)
     → is_kind kinds.Catch (head_of ts) ≡ c
     → handler_by b context c ts ≡ Err e
     → Lives Nothing flat_handler (IsHandler context) ts e
-handler_by_lives n b s a context true ts e h p = catch_lives n b s a context (is_kind kinds.LeftParenthesis (head_of (tail_of ts))) ts e (next_is kinds.Catch (head_of ts) h) p
+handler_by_lives n b s a context true ts e h p =
+    catch_lives n b s a context (is_kind kinds.LeftParenthesis (head_of (tail_of ts))) ts e
+    (next_is kinds.Catch (head_of ts) h) p
 handler_by_lives n b s a context false ts e h p = absurd cc
 
 handler_lives : (n : ℕ) (b : Below)
@@ -375,9 +462,12 @@ finalizer_by_lives : (n : ℕ) (b : Below)
     → Lives Anything flat_finalizer (IsFinalizer context h) ts e
 finalizer_by_lives n b s a context h true ts e p =
     let is = tok kinds.Finally ∷ a_block context [] ∷ [] in
-    let l = anything (seq_lives n b s a is refl ts e (made_err {A = Finalizer} b is (λ v. trees.finally v.1.0) ts e p)) in
+    let l = anything (seq_lives n b s a is refl ts e (made_err {A = Finalizer} b is (λ v. trees.finally v.1.0) ts e p))
+    in
     renamed l (trees.finally l.tree.1.0) (l.good.1.0, finally_handled h l.tree.1.0) refl
-finalizer_by_lives n b s a context trees.no_catch false ts e p = fills ts e (stuck_counts {A = Finalizer} ts e p) (trees.finally trees.no_statements) ((tt, tt), refl) (a_token kinds.Finally ∷ empty_brace_tokens) (λ r. (refl, (refl, (refl, refl)))) (λ r. tt)
+finalizer_by_lives n b s a context trees.no_catch false ts e p =
+    fills ts e (stuck_counts {A = Finalizer} ts e p) (trees.finally trees.no_statements) ((tt, tt), refl)
+    (a_token kinds.Finally ∷ empty_brace_tokens) (λ r. (refl, (refl, (refl, refl)))) (λ r. tt)
 finalizer_by_lives n b s a context (trees.catch m ss) false ts e p = absurd cc
 
 finalizer_lives : (n : ℕ) (b : Below)
@@ -387,7 +477,8 @@ finalizer_lives : (n : ℕ) (b : Below)
     → finalizer_at b context h ts ≡ Err e
     → Lives Anything flat_finalizer (IsFinalizer context h) ts e
 unfolding finalizer_at
-finalizer_lives n b s a context h ts e p = finalizer_by_lives n b s a context h (is_kind kinds.Finally (head_of ts)) ts e p
+finalizer_lives n b s a context h ts e p =
+    finalizer_by_lives n b s a context h (is_kind kinds.Finally (head_of ts)) ts e p
 
 -- the block of a try that was read
 abbrev try_front : Statements → List Mark
@@ -398,10 +489,15 @@ try_front_firm ss = firm_behind (token (fixed kinds.Try)) (flat_block ss) (firm_
 
 handler_firm : (ss : Statements) (h : Handler) → is_firm (try_front ss ++ flat_handler h) ≡ true
 handler_firm ss trees.no_catch = firm_nil (try_front ss) (try_front_firm ss)
-handler_firm ss (trees.catch None body) = firm_append (try_front ss) (token (fixed kinds.Catch) ∷ (flat_block body ++ [])) (firm_behind (token (fixed kinds.Catch)) (flat_block body ++ []) (firm_nil (flat_block body) (firm_braces (flat_statements body))))
+handler_firm ss (trees.catch None body) =
+    firm_append (try_front ss) (token (fixed kinds.Catch) ∷ (flat_block body ++ []))
+    (firm_behind (token (fixed kinds.Catch)) (flat_block body ++ [])
+    (firm_nil (flat_block body) (firm_braces (flat_statements body))))
 handler_firm ss (trees.catch (Some m) body) =
-    let front = token (fixed kinds.Catch) ∷ token (fixed kinds.LeftParenthesis) ∷ token (identifier m) ∷ token (fixed kinds.RightParenthesis) ∷ [] in
-    firm_append (try_front ss) (front ++ (flat_block body ++ [])) (firm_append front (flat_block body ++ []) (firm_nil (flat_block body) (firm_braces (flat_statements body))))
+    let front = token (fixed kinds.Catch) ∷ token (fixed kinds.LeftParenthesis) ∷ token (identifier m) ∷ token
+    (fixed kinds.RightParenthesis) ∷ [] in
+    firm_append (try_front ss) (front ++ (flat_block body ++ []))
+    (firm_append front (flat_block body ++ []) (firm_nil (flat_block body) (firm_braces (flat_statements body))))
 
 try_block_lives : (n : ℕ) (b : Below)
     → SoundBelow n b
@@ -413,8 +509,11 @@ try_block_lives : (n : ℕ) (b : Below)
 try_block_lives n b s a context ts e f p =
     let is = a_block context [] ∷ [] in
     let l = known_lives n b s a kinds.Try is refl ts e f p in
-    ends_in l (trees.try l.tree.1.0 trees.no_catch (trees.finally trees.no_statements)) ((l.good.1.0.0, l.good.1.0.1, tt, (tt, tt), refl), refl) (token (fixed kinds.Finally) ∷ empty_braces) (a_token kinds.Finally ∷ empty_brace_tokens) (λ r. (refl, (refl, (refl, refl))))
-    (ap (λ (ms : List Mark). token (fixed kinds.Try) ∷ (ms ++ (token (fixed kinds.Finally) ∷ empty_braces))) (append-nil (flat_block l.tree.1.0)))
+    ends_in l (trees.try l.tree.1.0 trees.no_catch (trees.finally trees.no_statements))
+    ((l.good.1.0.0, l.good.1.0.1, tt, (tt, tt), refl), refl) (token (fixed kinds.Finally) ∷ empty_braces)
+    (a_token kinds.Finally ∷ empty_brace_tokens) (λ r. (refl, (refl, (refl, refl))))
+    (ap (λ (ms : List Mark). token (fixed kinds.Try) ∷ (ms ++ (token (fixed kinds.Finally) ∷ empty_braces)))
+    (append-nil (flat_block l.tree.1.0)))
 
 try_lives : (n : ℕ) (b : Below)
     → SoundBelow n b
@@ -424,27 +523,38 @@ try_lives : (n : ℕ) (b : Below)
     → try_at b context ts ≡ Err e
     → Lives Nothing flat_statement (IsStatement context) ts e
 unfolding try_at
-try_lives n b s a context ts e f p = elim (bind_err (seq b (try_items context) ts) (λ x. handler_at b context x.1 >>= λ h. finalizer_at b context h.0 h.1 >>= λ f. Ok (trees.try x.0.1.0 h.0 f.0, f.1)) e p) [
-  | inl q ↦ try_block_lives n b s a context ts e f q
-  | inr q ↦
-      let t = seq_sound n b s (try_items context) ts q.0 q.1 in
-      let ss = q.0.0.1.0 in
-      let m = and_nothing (try_front ss) ts q.0.1 t.marks in
-      elim (bind_err (handler_at b context q.0.1) (λ h. finalizer_at b context h.0 h.1 >>= λ f. Ok (trees.try ss h.0 f.0, f.1)) e q.2) [
-        | inl w ↦
-            let l = handler_lives n b s a context q.0.1 e w in
-            behind l (try_front ss) (try_front_firm ss) ts m (trees.try ss l.tree trees.no_finally) ((t.sane.1.0.0, t.sane.1.0.1, l.good.0, tt, l.good.1), refl) (ap (λ (ms : List Mark). try_front ss ++ ms) (sym (append-nil (flat_handler l.tree))))
-        | inr w ↦ elim (bind_err (finalizer_at b context w.0.0 w.0.1) (λ f. Ok (trees.try ss w.0.0 f.0, f.1)) e w.2) [
-          | inl v ↦
-              let u = handler_sound n b s context q.0.1 w.0 w.1 in
-              let h = w.0.0 in
-              let l = finalizer_lives n b s a context h w.0.1 e v in
-              behind l (try_front ss ++ flat_handler h) (handler_firm ss h) ts (joins (try_front ss) (flat_handler h) ts q.0.1 w.0.1 m u.marks) (trees.try ss h l.tree) ((t.sane.1.0.0, t.sane.1.0.1, u.well, l.good.0, l.good.1), refl)
-              (append_assoc (try_front ss) (flat_handler h) (flat_finalizer l.tree) ∙ ap (λ (ms : List Mark). try_front ss ++ (flat_handler h ++ ms)) (sym (append-nil (flat_finalizer l.tree))))
-          | inr v ↦ absurd cc
-        ]
-      ]
-]
+try_lives n b s a context ts e f p =
+    elim (bind_err (seq b (try_items context) ts)
+    (λ x. handler_at b context x.1 >>= λ h. finalizer_at b context h.0 h.1 >>= λ f. Ok
+    (trees.try x.0.1.0 h.0 f.0, f.1))
+    e p) [
+      | inl q ↦ try_block_lives n b s a context ts e f q
+      | inr q ↦
+          let t = seq_sound n b s (try_items context) ts q.0 q.1 in
+          let ss = q.0.0.1.0 in
+          let m = and_nothing (try_front ss) ts q.0.1 t.marks in
+          elim (bind_err (handler_at b context q.0.1)
+          (λ h. finalizer_at b context h.0 h.1 >>= λ f. Ok (trees.try ss h.0 f.0, f.1)) e q.2) [
+            | inl w ↦
+                let l = handler_lives n b s a context q.0.1 e w in
+                behind l (try_front ss) (try_front_firm ss) ts m (trees.try ss l.tree trees.no_finally)
+                ((t.sane.1.0.0, t.sane.1.0.1, l.good.0, tt, l.good.1), refl)
+                (ap (λ (ms : List Mark). try_front ss ++ ms) (sym (append-nil (flat_handler l.tree))))
+            | inr w ↦ elim (bind_err (finalizer_at b context w.0.0 w.0.1) (λ f. Ok (trees.try ss w.0.0 f.0, f.1)) e w.2) [
+              | inl v ↦
+                  let u = handler_sound n b s context q.0.1 w.0 w.1 in
+                  let h = w.0.0 in
+                  let l = finalizer_lives n b s a context h w.0.1 e v in
+                  behind l (try_front ss ++ flat_handler h) (handler_firm ss h) ts
+                  (joins (try_front ss) (flat_handler h) ts q.0.1 w.0.1 m u.marks) (trees.try ss h l.tree)
+                  ((t.sane.1.0.0, t.sane.1.0.1, u.well, l.good.0, l.good.1), refl)
+                  (append_assoc (try_front ss) (flat_handler h) (flat_finalizer l.tree)
+                  ∙ ap (λ (ms : List Mark). try_front ss ++ (flat_handler h ++ ms))
+                  (sym (append-nil (flat_finalizer l.tree))))
+              | inr v ↦ absurd cc
+            ]
+          ]
+    ]
 
 -- ---- any statement
 
@@ -455,12 +565,14 @@ block_lives : (n : ℕ) (b : Below)
     → IsNext (fixed kinds.LeftBrace) (head_of ts)
     → made b (in_braces context [] ∷ []) (λ v. trees.block v.0) ts ≡ Err e
     → Lives Nothing flat_statement (IsStatement context) ts e
-block_lives n b s a context ts e f p = elim (bind_err (braces b context [] ts) (λ y. Ok ((y.0, tt), y.1)) e (made_err {A = Statement} b (in_braces context [] ∷ []) (λ v. trees.block v.0) ts e p)) [
-  | inl q ↦
-      let l = opened_lives n b s a context [] ts e f q in
-      renamed l (trees.block l.tree) (l.good, refl) refl
-  | inr q ↦ absurd cc
-]
+block_lives n b s a context ts e f p =
+    elim (bind_err (braces b context [] ts) (λ y. Ok ((y.0, tt), y.1)) e
+    (made_err {A = Statement} b (in_braces context [] ∷ []) (λ v. trees.block v.0) ts e p)) [
+      | inl q ↦
+          let l = opened_lives n b s a context [] ts e f q in
+          renamed l (trees.block l.tree) (l.good, refl) refl
+      | inr q ↦ absurd cc
+    ]
 
 -- an expression that is no block and no function
 expression_statement_lives : (context : Context) (ts : List Token) (e : Fault)
@@ -473,15 +585,18 @@ expression_statement_lives context ts e f g l =
     let m = parts (flat l.tree) (semicolon (after_expression (edge l.tree)) ∷ []) us [] (l.spelled []) in
     let brace = other_kind kinds.LeftBrace ts us refl f (l.starts []) in
     let word = other_kind kinds.Function ts us refl g (l.starts []) in
-    renamed l (trees.expression l.tree) ((l.good, no_brace (flat l.tree) us m.0 brace m.1, no_function (flat l.tree) us m.0 word m.1), refl) refl
+    renamed l (trees.expression l.tree)
+    ((l.good, no_brace (flat l.tree) us m.0 brace m.1, no_function (flat l.tree) us m.0 word m.1), refl) refl
 
 ended_alone : (b : Below) (ts : List Token) (e : Fault)
     → made b (ended ∷ []) (λ v. trees.expression v.0) ts ≡ Err e
     → ended_expression b ts ≡ Err e
-ended_alone b ts e p = elim (bind_err (ended_expression b ts) (λ y. Ok ((y.0, tt), y.1)) e (made_err {A = Statement} b (ended ∷ []) (λ v. trees.expression v.0) ts e p)) [
-  | inl q ↦ q
-  | inr q ↦ absurd cc
-]
+ended_alone b ts e p =
+    elim (bind_err (ended_expression b ts) (λ y. Ok ((y.0, tt), y.1)) e
+    (made_err {A = Statement} b (ended ∷ []) (λ v. trees.expression v.0) ts e p)) [
+      | inl q ↦ q
+      | inr q ↦ absurd cc
+    ]
 
 -- a word that may not stand here
 refused_word : (context : Context) (ts : List Token) (e : Fault) (c : Bool) (read : Read Statement)
@@ -501,20 +616,31 @@ statement_by_lives : (n : ℕ) (b : Below)
     → statement_by b context c ts ≡ Err e
     → Lives IsZero flat_statement (IsStatement context) ts e
 statement_by_lives n b s a context classes.a_block ts e f p = from_nothing (block_lives n b s a context ts e f p)
-statement_by_lives n b s a context (classes.a_lexical constant) ts e f p = zero_statement context ts e (stuck_counts {A = Statement} ts e p)
+statement_by_lives n b s a context (classes.a_lexical constant) ts e f p =
+    zero_statement context ts e (stuck_counts {A = Statement} ts e p)
 statement_by_lives n b s a context classes.a_semicolon ts e f p = absurd cc
 statement_by_lives n b s a context classes.an_if ts e f p = from_nothing (if_lives n b s a context ts e f p)
 statement_by_lives n b s a context classes.a_do ts e f p = from_nothing (do_lives n b s a context ts e f p)
 statement_by_lives n b s a context classes.a_while ts e f p = from_nothing (while_lives n b s a context ts e f p)
 statement_by_lives n b s a context classes.a_for ts e f p = from_nothing (for_lives n b s a context ts e f p)
-statement_by_lives n b s a context classes.a_continue ts e f p = refused_word context ts e context.in_loop (made b (tok kinds.Continue ∷ an_end after_word ∷ []) (λ v. trees.continue) ts) (λ h q. continue_lives n b s a context h ts e f q) p
-statement_by_lives n b s a context classes.a_break ts e f p = refused_word context ts e context.in_loop (made b (tok kinds.Break ∷ an_end after_word ∷ []) (λ v. trees.break) ts) (λ h q. break_lives n b s a context h ts e f q) p
-statement_by_lives n b s a context classes.a_return ts e f p = refused_word context ts e context.in_function (return_by b (ends_return (head_of (tail_of ts))) ts) (λ h q. return_lives n b s a context h (ends_return (head_of (tail_of ts))) ts e f refl q) p
-statement_by_lives n b s a context classes.a_throw ts e f p = from_nothing (throw_lives n b s a context (is_on_line (head_of (tail_of ts))) ts e f refl p)
+statement_by_lives n b s a context classes.a_continue ts e f p =
+    refused_word context ts e context.in_loop
+    (made b (tok kinds.Continue ∷ an_end after_word ∷ []) (λ v. trees.continue) ts)
+    (λ h q. continue_lives n b s a context h ts e f q) p
+statement_by_lives n b s a context classes.a_break ts e f p =
+    refused_word context ts e context.in_loop (made b (tok kinds.Break ∷ an_end after_word ∷ []) (λ v. trees.break) ts)
+    (λ h q. break_lives n b s a context h ts e f q) p
+statement_by_lives n b s a context classes.a_return ts e f p =
+    refused_word context ts e context.in_function (return_by b (ends_return (head_of (tail_of ts))) ts)
+    (λ h q. return_lives n b s a context h (ends_return (head_of (tail_of ts))) ts e f refl q) p
+statement_by_lives n b s a context classes.a_throw ts e f p =
+    from_nothing (throw_lives n b s a context (is_on_line (head_of (tail_of ts))) ts e f refl p)
 statement_by_lives n b s a context classes.a_try ts e f p = from_nothing (try_lives n b s a context ts e f p)
 statement_by_lives n b s a context classes.a_debugger ts e f p = from_nothing (debugger_lives n b s a context ts e f p)
-statement_by_lives n b s a context classes.a_function ts e f p = zero_statement context ts e (stuck_counts {A = Statement} ts e p)
-statement_by_lives n b s a context classes.an_expression ts e f p = expression_statement_lives context ts e f.0 f.1 (ended_lives n b s a ts e (ended_alone b ts e p))
+statement_by_lives n b s a context classes.a_function ts e f p =
+    zero_statement context ts e (stuck_counts {A = Statement} ts e p)
+statement_by_lives n b s a context classes.an_expression ts e f p =
+    expression_statement_lives context ts e f.0 f.1 (ended_lives n b s a ts e (ended_alone b ts e p))
 
 pub statement_lives : (n : ℕ) (b : Below)
     → SoundBelow n b
@@ -523,7 +649,8 @@ pub statement_lives : (n : ℕ) (b : Below)
     → statement b context ts ≡ Err e
     → Lives IsZero flat_statement (IsStatement context) ts e
 unfolding statement
-statement_lives n b s a context ts e p = statement_by_lives n b s a context (first (head_of ts)) ts e (first_next (head_of ts)) p
+statement_lives n b s a context ts e p =
+    statement_by_lives n b s a context (first (head_of ts)) ts e (first_next (head_of ts)) p
 
 -- ---- declarations
 
@@ -539,22 +666,30 @@ lexical_lives : (n : ℕ) (b : Below)
     → lexical_at b constant taken ts ≡ Err e
     → Lives Nothing flat_statement (IsItem context taken) ts e
 unfolding lexical_at
-lexical_lives n b s a context constant taken ts e f p = elim (bind_err (declarators_at b constant taken (tail_of ts)) (λ ds. semicolon_at (end_of_declarators ds.0) ds.1 >>= λ s. Ok (trees.lexical constant ds.0, s.1)) e p) [
-  | inl q ↦
-      let l = declarators_lives n b s a constant taken (tail_of ts) e q in
-      let end = semicolon (end_of_declarators l.tree) ∷ [] in
-      around l (token (fixed (let_kind constant)) ∷ []) refl ts (f, refl) (trees.lexical constant l.tree) ((l.good.0, l.good.1, l.good.2), l.good.3) end (a_token kinds.Semicolon ∷ []) (λ r. inl (refl, refl)) (let_marks constant (flat_declarators l.tree ++ end))
-  | inr q ↦ elim (bind_err (semicolon_at (end_of_declarators q.0.0) q.0.1) (λ s. Ok (trees.lexical constant q.0.0, s.1)) e q.2) [
-    | inl w ↦
-        let t = declarators_sound n b s constant taken (tail_of ts) q.0 q.1 in
-        let ds = q.0.0 in
-        let end = semicolon (end_of_declarators ds) ∷ [] in
-        let front = token (fixed (let_kind constant)) ∷ flat_declarators ds in
-        stopped front (firm_behind (token (fixed (let_kind constant))) (flat_declarators ds) (declarators_firm ds t.some t.well)) ts q.0.1 (f, t.marks) e (semicolon_err (end_of_declarators ds) q.0.1 e w)
-        (trees.lexical constant ds) ((t.some, t.well, t.initialized), t.fresh) end (a_token kinds.Semicolon ∷ []) (λ r. inl (refl, refl)) (let_marks constant (flat_declarators ds ++ end))
-    | inr w ↦ absurd cc
-  ]
-]
+lexical_lives n b s a context constant taken ts e f p =
+    elim (bind_err (declarators_at b constant taken (tail_of ts))
+    (λ ds. semicolon_at (end_of_declarators ds.0) ds.1 >>= λ s. Ok (trees.lexical constant ds.0, s.1)) e p) [
+      | inl q ↦
+          let l = declarators_lives n b s a constant taken (tail_of ts) e q in
+          let end = semicolon (end_of_declarators l.tree) ∷ [] in
+          around l (token (fixed (let_kind constant)) ∷ []) refl ts (f, refl) (trees.lexical constant l.tree)
+          ((l.good.0, l.good.1, l.good.2), l.good.3) end (a_token kinds.Semicolon ∷ []) (λ r. inl (refl, refl))
+          (let_marks constant (flat_declarators l.tree ++ end))
+      | inr q ↦ elim
+          (bind_err (semicolon_at (end_of_declarators q.0.0) q.0.1) (λ s. Ok (trees.lexical constant q.0.0, s.1)) e q.2) [
+            | inl w ↦
+                let t = declarators_sound n b s constant taken (tail_of ts) q.0 q.1 in
+                let ds = q.0.0 in
+                let end = semicolon (end_of_declarators ds) ∷ [] in
+                let front = token (fixed (let_kind constant)) ∷ flat_declarators ds in
+                stopped front
+                (firm_behind (token (fixed (let_kind constant))) (flat_declarators ds) (declarators_firm ds t.some t.well))
+                ts q.0.1 (f, t.marks) e (semicolon_err (end_of_declarators ds) q.0.1 e w)
+                (trees.lexical constant ds) ((t.some, t.well, t.initialized), t.fresh) end (a_token kinds.Semicolon ∷ [])
+                (λ r. inl (refl, refl)) (let_marks constant (flat_declarators ds ++ end))
+            | inr w ↦ absurd cc
+          ]
+    ]
 
 declaration_lives : (n : ℕ) (b : Below)
     → SoundBelow n b
@@ -564,20 +699,29 @@ declaration_lives : (n : ℕ) (b : Below)
     → declaration_at b taken ts ≡ Err e
     → Lives Nothing flat_statement (IsItem context taken) ts e
 unfolding declaration_at
-declaration_lives n b s a context taken ts e f p = elim (bind_err (fresh_name taken (tail_of ts)) (λ n. code_at b n.1 >>= λ f. Ok (trees.declared_function n.0 f.0.parameters f.0.body, f.1)) e p) [
-  | inl q ↦
-      let l = fresh_lives taken (tail_of ts) e q in
-      around l (token (fixed kinds.Function) ∷ []) refl ts (f, refl) (trees.declared_function l.tree [] trees.no_statements) (((tt, tt), tt), (l.good, tt))
-      (token (fixed kinds.LeftParenthesis) ∷ token (fixed kinds.RightParenthesis) ∷ empty_braces) (a_token kinds.LeftParenthesis ∷ a_token kinds.RightParenthesis ∷ empty_brace_tokens) (λ r. (refl, (refl, (refl, (refl, refl))))) refl
-  | inr q ↦ elim (bind_err (code_at b q.0.1) (λ f. Ok (trees.declared_function q.0.0 f.0.parameters f.0.body, f.1)) e q.2) [
-    | inl w ↦
-        let t = fresh_sound taken (tail_of ts) q.0 q.1 in
-        let l = code_lives n b s a q.0.1 e w in
-        let front = token (fixed kinds.Function) ∷ token (identifier q.0.0) ∷ [] in
-        behind l front refl ts (f, t.0) (trees.declared_function q.0.0 l.tree.parameters l.tree.body) (l.good, (t.1, tt)) (ap (λ (ms : List Mark). front ++ (flat_parameters l.tree.parameters ++ ms)) (sym (append-nil (flat_block l.tree.body))))
-    | inr w ↦ absurd cc
-  ]
-]
+declaration_lives n b s a context taken ts e f p =
+    elim (bind_err (fresh_name taken (tail_of ts))
+    (λ n. code_at b n.1 >>= λ f. Ok (trees.declared_function n.0 f.0.parameters f.0.body, f.1)) e p) [
+      | inl q ↦
+          let l = fresh_lives taken (tail_of ts) e q in
+          around l (token (fixed kinds.Function) ∷ []) refl ts (f, refl)
+          (trees.declared_function l.tree [] trees.no_statements) (((tt, tt), tt), (l.good, tt))
+          (token (fixed kinds.LeftParenthesis) ∷ token (fixed kinds.RightParenthesis) ∷ empty_braces)
+          (a_token kinds.LeftParenthesis ∷ a_token kinds.RightParenthesis ∷ empty_brace_tokens)
+          (λ r. (refl, (refl, (refl, (refl, refl))))) refl
+      | inr q ↦ elim
+          (bind_err (code_at b q.0.1) (λ f. Ok (trees.declared_function q.0.0 f.0.parameters f.0.body, f.1)) e q.2) [
+            | inl w ↦
+                let t = fresh_sound taken (tail_of ts) q.0 q.1 in
+                let l = code_lives n b s a q.0.1 e w in
+                let front = token (fixed kinds.Function) ∷ token (identifier q.0.0) ∷ [] in
+                behind l front refl ts (f, t.0) (trees.declared_function q.0.0 l.tree.parameters l.tree.body)
+                (l.good, (t.1, tt))
+                (ap (λ (ms : List Mark). front ++ (flat_parameters l.tree.parameters ++ ms))
+                (sym (append-nil (flat_block l.tree.body))))
+            | inr w ↦ absurd cc
+          ]
+    ]
 
 -- a statement declares no name in its list
 pub as_item : (context : Context) (taken : List Identifier) (ts : List Token) (e : Fault)
@@ -592,8 +736,10 @@ item_by_lives : (n : ℕ) (b : Below)
     → FirstNext c (head_of ts)
     → item_by b context taken c ts ≡ Err e
     → Lives IsZero flat_statement (IsItem context taken) ts e
-item_by_lives n b s a context taken (classes.a_lexical constant) ts e f p = from_nothing (lexical_lives n b s a context constant taken ts e f p)
-item_by_lives n b s a context taken classes.a_function ts e f p = from_nothing (declaration_lives n b s a context taken ts e f p)
+item_by_lives n b s a context taken (classes.a_lexical constant) ts e f p =
+    from_nothing (lexical_lives n b s a context constant taken ts e f p)
+item_by_lives n b s a context taken classes.a_function ts e f p =
+    from_nothing (declaration_lives n b s a context taken ts e f p)
 item_by_lives n b s a context taken _ ts e f p = as_item context taken ts e (statement_lives n b s a context ts e p)
 
 pub list_item_lives : (n : ℕ) (b : Below)
@@ -603,4 +749,5 @@ pub list_item_lives : (n : ℕ) (b : Below)
     → item b context taken ts ≡ Err e
     → Lives IsZero flat_statement (IsItem context taken) ts e
 unfolding item
-list_item_lives n b s a context taken ts e p = item_by_lives n b s a context taken (first (head_of ts)) ts e (first_next (head_of ts)) p
+list_item_lives n b s a context taken ts e p =
+    item_by_lives n b s a context taken (first (head_of ts)) ts e (first_next (head_of ts)) p

@@ -123,7 +123,8 @@ pub zero_softer : (ts us : List Token) → Starts IsZero ts us → Softer ts us
 zero_softer ts us s = softer_by IsZero (λ o is end. ap (λ (o : Option Token). absent end o) is ∙ zero_soft end) ts us s
 
 pub while_softer : (ts us : List Token) → Starts (IsAdded kinds.While) ts us → Softer ts us
-while_softer ts us s = softer_by (IsAdded kinds.While) (λ o is end. ap (λ (o : Option Token). absent end o) is ∙ while_soft end) ts us s
+while_softer ts us s =
+    softer_by (IsAdded kinds.While) (λ o is end. ap (λ (o : Option Token). absent end o) is ∙ while_soft end) ts us s
 
 pub nothing_softer : (ts us : List Token) → Starts Nothing ts us → Softer ts us
 nothing_softer ts us s = softer_by Nothing (λ o is. absurd is) ts us s
@@ -148,22 +149,49 @@ softens [] ts left m = record { before = []; parts = m; other = λ us s. refl }
 softens (token k ∷ ms) [] left m = absurd m.0
 softens (token k ∷ ms) (t ∷ ts) left m =
     let l = softens ms ts left m.1 in
-    record { before = t ∷ l.before; parts = ap (λ (ts : List Token). t ∷ ts) l.parts; other = λ us s. (m.0, l.other us s) }
+    record {
+      before = t ∷ l.before;
+      parts = ap (λ (ts : List Token). t ∷ ts) l.parts;
+      other = λ us s.
+          (m.0, l.other us s);
+    }
 softens (beside k ∷ ms) [] left m = absurd m.0
 softens (beside k ∷ ms) (t ∷ ts) left m =
     let l = softens ms ts left m.2 in
-    record { before = t ∷ l.before; parts = ap (λ (ts : List Token). t ∷ ts) l.parts; other = λ us s. (m.0, m.1, l.other us s) }
+    record {
+      before = t ∷ l.before;
+      parts = ap (λ (ts : List Token). t ∷ ts) l.parts;
+      other = λ us s.
+          (m.0, m.1, l.other us s);
+    }
 softens (semicolon end ∷ ms) [] left (inl m) = absurd m.0
 softens (semicolon end ∷ ms) (t ∷ ts) left (inl m) =
     let l = softens ms ts left m.1 in
-    record { before = t ∷ l.before; parts = ap (λ (ts : List Token). t ∷ ts) l.parts; other = λ us s. inl (m.0, l.other us s) }
+    record {
+      before = t ∷ l.before;
+      parts = ap (λ (ts : List Token). t ∷ ts) l.parts;
+      other = λ us s. inl
+          (m.0, l.other us s);
+    }
 softens (semicolon end ∷ ms) ts left (inr m) =
     let l = softens ms ts left m.1 in
-    record { before = l.before; parts = l.parts; other = λ us s. inr (still l.before left us s end (ap (λ (ts : List Token). absent end (head_of ts)) (sym l.parts) ∙ m.0), l.other us s) }
+    record {
+      before = l.before;
+      parts = l.parts;
+      other = λ us s. inr (
+        still l.before left us s end (ap (λ (ts : List Token). absent end (head_of ts)) (sym l.parts) ∙ m.0),
+        l.other us s,
+      );
+    }
 softens (trailing_comma ∷ ms) [] left (inl m) = absurd m.0
 softens (trailing_comma ∷ ms) (t ∷ ts) left (inl m) =
     let l = softens ms ts left m.1 in
-    record { before = t ∷ l.before; parts = ap (λ (ts : List Token). t ∷ ts) l.parts; other = λ us s. inl (m.0, l.other us s) }
+    record {
+      before = t ∷ l.before;
+      parts = ap (λ (ts : List Token). t ∷ ts) l.parts;
+      other = λ us s. inl
+          (m.0, l.other us s);
+    }
 softens (trailing_comma ∷ ms) ts left (inr m) =
     let l = softens ms ts left m in
     record { before = l.before; parts = l.parts; other = λ us s. inr (l.other us s) }
@@ -204,9 +232,11 @@ ends_firm : (s : Mark)
     → Matches (s ∷ []) ts left
     → Firmly (s ∷ []) ts left
 ends_firm (token s) f [] left m = absurd m.0
-ends_firm (token s) f (t ∷ ts) left m = record { next = t; before = []; parts = ap (λ (ts : List Token). t ∷ ts) m.1; other = λ us. (m.0, refl) }
+ends_firm (token s) f (t ∷ ts) left m =
+    record { next = t; before = []; parts = ap (λ (ts : List Token). t ∷ ts) m.1; other = λ us. (m.0, refl) }
 ends_firm (beside s) f [] left m = absurd m.0
-ends_firm (beside s) f (t ∷ ts) left m = record { next = t; before = []; parts = ap (λ (ts : List Token). t ∷ ts) m.2; other = λ us. (m.0, m.1, refl) }
+ends_firm (beside s) f (t ∷ ts) left m =
+    record { next = t; before = []; parts = ap (λ (ts : List Token). t ∷ ts) m.2; other = λ us. (m.0, m.1, refl) }
 ends_firm (semicolon end) f ts left m = absurd cc
 ends_firm trailing_comma f ts left m = absurd cc
 
@@ -224,22 +254,52 @@ more_firm : (m : Mark) (ms : List Mark) (ts left : List Token)
 more_firm (token s) ms [] left go m = absurd m.0
 more_firm (token s) ms (t ∷ ts) left go m =
     let l = go ts m.1 in
-    record { next = t; before = l.next ∷ l.before; parts = ap (λ (ts : List Token). t ∷ ts) l.parts; other = λ us. (m.0, l.other us) }
+    record {
+      next = t;
+      before = l.next ∷ l.before;
+      parts = ap (λ (ts : List Token). t ∷ ts) l.parts;
+      other = λ us.
+          (m.0, l.other us);
+    }
 more_firm (beside s) ms [] left go m = absurd m.0
 more_firm (beside s) ms (t ∷ ts) left go m =
     let l = go ts m.2 in
-    record { next = t; before = l.next ∷ l.before; parts = ap (λ (ts : List Token). t ∷ ts) l.parts; other = λ us. (m.0, m.1, l.other us) }
+    record {
+      next = t;
+      before = l.next ∷ l.before;
+      parts = ap (λ (ts : List Token). t ∷ ts) l.parts;
+      other = λ us.
+          (m.0, m.1, l.other us);
+    }
 more_firm (semicolon end) ms [] left go (inl m) = absurd m.0
 more_firm (semicolon end) ms (t ∷ ts) left go (inl m) =
     let l = go ts m.1 in
-    record { next = t; before = l.next ∷ l.before; parts = ap (λ (ts : List Token). t ∷ ts) l.parts; other = λ us. inl (m.0, l.other us) }
+    record {
+      next = t;
+      before = l.next ∷ l.before;
+      parts = ap (λ (ts : List Token). t ∷ ts) l.parts;
+      other = λ us. inl
+          (m.0, l.other us);
+    }
 more_firm (semicolon end) ms ts left go (inr m) =
     let l = go ts m.1 in
-    record { next = l.next; before = l.before; parts = l.parts; other = λ us. inr (ap (λ (ts : List Token). absent end (head_of ts)) (sym l.parts) ∙ m.0, l.other us) }
+    record {
+      next = l.next;
+      before = l.before;
+      parts = l.parts;
+      other = λ us. inr
+          (ap (λ (ts : List Token). absent end (head_of ts)) (sym l.parts) ∙ m.0, l.other us);
+    }
 more_firm trailing_comma ms [] left go (inl m) = absurd m.0
 more_firm trailing_comma ms (t ∷ ts) left go (inl m) =
     let l = go ts m.1 in
-    record { next = t; before = l.next ∷ l.before; parts = ap (λ (ts : List Token). t ∷ ts) l.parts; other = λ us. inl (m.0, l.other us) }
+    record {
+      next = t;
+      before = l.next ∷ l.before;
+      parts = ap (λ (ts : List Token). t ∷ ts) l.parts;
+      other = λ us. inl
+          (m.0, l.other us);
+    }
 more_firm trailing_comma ms ts left go (inr m) =
     let l = go ts m in
     record { next = l.next; before = l.before; parts = l.parts; other = λ us. inr (l.other us) }
@@ -247,12 +307,14 @@ more_firm trailing_comma ms ts left go (inr m) =
 pub firmly : (ms : List Mark) → is_firm ms ≡ true → (ts left : List Token) → Matches ms ts left → Firmly ms ts left
 firmly [] f ts left m = absurd cc
 firmly (m ∷ []) f ts left h = ends_firm m f ts left h
-firmly (m ∷ n ∷ ms) f ts left h = more_firm m (n ∷ ms) ts left (λ us k. firmly (n ∷ ms) (firm_tail m n ms f) us left k) h
+firmly (m ∷ n ∷ ms) f ts left h =
+    more_firm m (n ∷ ms) ts left (λ us k. firmly (n ∷ ms) (firm_tail m n ms f) us left k) h
 
 -- ---- what lives
 
 -- The tokens before the fault, with others, are those of a good tree. Where none were read, the others begin so.
-pub record Lives {A : Type 0} (First : Option Token → Type 0) (flat_of : A → List Mark) (Good : A → Type 0) (ts : List Token) (e : Fault) : Type 0 where
+pub record Lives {A : Type 0} (First : Option Token → Type 0) (flat_of : A → List Mark) (Good : A → Type 0)
+    (ts : List Token) (e : Fault) : Type 0 where
   pub before : List Token
   pub left : List Token
   pub parts : ts ≡ before ++ left
@@ -278,7 +340,8 @@ start_behind First [] ts left us parts s = subst (λ (ts : List Token). Starts F
 start_behind First (t ∷ before) ts left us parts s = same_start First t ts before left us parts
 
 -- nothing was read
-pub fills : {A : Type 0} {First : Option Token → Type 0} {flat_of : A → List Mark} {Good : A → Type 0} (ts : List Token) (e : Fault)
+pub fills : {A : Type 0} {First : Option Token → Type 0} {flat_of : A → List Mark} {Good : A → Type 0} (ts : List Token)
+    (e : Fault)
     → Counts e ts
     → (tree : A)
     → Good tree
@@ -286,21 +349,45 @@ pub fills : {A : Type 0} {First : Option Token → Type 0} {flat_of : A → List
     → ((r : List Token) → Matches (flat_of tree) (added rest ++ r) r)
     → ((r : List Token) → First (head_of (added rest ++ r)))
     → Lives First flat_of Good ts e
-fills ts e c tree good rest spelled first = record { before = []; left = ts; parts = refl; counted = c; tree = tree; good = good; rest = rest; spelled = spelled; starts = λ r. inr (first r) }
+fills ts e c tree good rest spelled first =
+    record {
+      before = [];
+      left = ts;
+      parts = refl;
+      counted = c;
+      tree = tree;
+      good = good;
+      rest = rest;
+      spelled = spelled;
+      starts = λ r. inr
+          (first r);
+    }
 
 -- The tree of a part, in a tree with tokens before the part and tokens behind it.
-pub grows : {A B : Type 0} {First Other : Option Token → Type 0} {flat_of : A → List Mark} {Good : A → Type 0} {flat_as : B → List Mark} {Fine : B → Type 0} {mid : List Token} {e : Fault}
+pub grows : {A B : Type 0} {First Other : Option Token
+    → Type 0} {flat_of : A
+    → List Mark} {Good : A
+    → Type 0} {flat_as : B
+    → List Mark} {Fine : B
+    → Type 0} {mid : List Token} {e : Fault}
     → (l : Lives First flat_of Good mid e)
     → (ts front : List Token)
     → ts ≡ front ++ mid
     → (tree : B)
     → Fine tree
     → (more : List Added)
-    → ((us r : List Token) → Starts First mid us → Matches (flat_of l.tree) us (added more ++ r) → Matches (flat_as tree) (front ++ us) r)
+    → ((us r : List Token)
+    → Starts First mid us
+    → Matches (flat_of l.tree) us (added more ++ r)
+    → Matches (flat_as tree) (front ++ us) r)
     → ((us : List Token) → Starts First mid us → Starts Other ts (front ++ us))
     → Lives Other flat_as Fine ts e
 grows {A} {B} {First} {Other} {flat_of} {Good} {flat_as} {Fine} {mid} {e} l ts front parts tree fine more spelled starts =
-    let whole : (r : List Token) → (front ++ l.before) ++ (added (l.rest ++ more) ++ r) ≡ front ++ (l.before ++ (added l.rest ++ (added more ++ r))) = λ r. append_assoc front l.before (added (l.rest ++ more) ++ r) ∙ ap (λ (us : List Token). front ++ (l.before ++ us)) (ap (λ (us : List Token). us ++ r) (added_append l.rest more) ∙ append_assoc (added l.rest) (added more) r) in
+    let whole : (r : List Token)
+    → (front ++ l.before) ++ (added (l.rest ++ more) ++ r) ≡ front ++ (l.before ++ (added l.rest ++ (added more ++ r)))
+    = λ r. append_assoc front l.before (added (l.rest ++ more) ++ r)
+    ∙ ap (λ (us : List Token). front ++ (l.before ++ us))
+    (ap (λ (us : List Token). us ++ r) (added_append l.rest more) ∙ append_assoc (added l.rest) (added more) r) in
     record {
       before = front ++ l.before;
       left = l.left;
@@ -309,12 +396,20 @@ grows {A} {B} {First} {Other} {flat_of} {Good} {flat_as} {Fine} {mid} {e} l ts f
       tree = tree;
       good = fine;
       rest = l.rest ++ more;
-      spelled = λ r. subst (λ (us : List Token). Matches (flat_as tree) us r) (sym (whole r)) (spelled (l.before ++ (added l.rest ++ (added more ++ r))) r (l.starts (added more ++ r)) (l.spelled (added more ++ r)));
-      starts = λ r. subst (λ (us : List Token). Starts Other ts us) (sym (whole r)) (starts (l.before ++ (added l.rest ++ (added more ++ r))) (l.starts (added more ++ r)));
+      spelled =
+          λ r. subst (λ (us : List Token). Matches (flat_as tree) us r) (sym (whole r))
+          (spelled (l.before ++ (added l.rest ++ (added more ++ r))) r (l.starts (added more ++ r))
+          (l.spelled (added more ++ r)));
+      starts =
+          λ r. subst (λ (us : List Token). Starts Other ts us) (sym (whole r))
+          (starts (l.before ++ (added l.rest ++ (added more ++ r))) (l.starts (added more ++ r)));
     }
 
 -- what may come first may also be more
-pub widens : {A : Type 0} {First Other : Option Token → Type 0} {flat_of : A → List Mark} {Good : A → Type 0} {ts : List Token} {e : Fault}
+pub widens : {A : Type 0} {First Other : Option Token
+    → Type 0} {flat_of : A
+    → List Mark} {Good : A
+    → Type 0} {ts : List Token} {e : Fault}
     → ((o : Option Token) → First o → Other o)
     → Lives First flat_of Good ts e
     → Lives Other flat_of Good ts e
@@ -334,13 +429,21 @@ widens {A} {First} {Other} {flat_of} {Good} {ts} {e} more l = record {
     wider o (inl s) = inl s
     wider o (inr s) = inr (more o s)
 
-pub from_nothing : {A : Type 0} {Other : Option Token → Type 0} {flat_of : A → List Mark} {Good : A → Type 0} {ts : List Token} {e : Fault}
+pub from_nothing : {A : Type 0} {Other : Option Token
+    → Type 0} {flat_of : A
+    → List Mark} {Good : A
+    → Type 0} {ts : List Token} {e : Fault}
     → Lives Nothing flat_of Good ts e
     → Lives Other flat_of Good ts e
 from_nothing l = widens (λ o n. absurd n) l
 
 -- the tree of a part at the front, with marks behind it
-pub ends_in : {A B : Type 0} {First : Option Token → Type 0} {flat_of : A → List Mark} {Good : A → Type 0} {flat_as : B → List Mark} {Fine : B → Type 0} {ts : List Token} {e : Fault}
+pub ends_in : {A B : Type 0} {First : Option Token
+    → Type 0} {flat_of : A
+    → List Mark} {Good : A
+    → Type 0} {flat_as : B
+    → List Mark} {Fine : B
+    → Type 0} {ts : List Token} {e : Fault}
     → (l : Lives First flat_of Good ts e)
     → (tree : B)
     → Fine tree
@@ -349,10 +452,18 @@ pub ends_in : {A B : Type 0} {First : Option Token → Type 0} {flat_of : A → 
     → flat_of l.tree ++ ns ≡ flat_as tree
     → Lives First flat_as Fine ts e
 ends_in {A} {B} {First} {flat_of} {Good} {flat_as} {Fine} {ts} {e} l tree fine ns more spelled same =
-    grows l ts [] refl tree fine more (λ us r s k. subst (λ (ms : List Mark). Matches ms us r) same (joins (flat_of l.tree) ns us (added more ++ r) r k (spelled r))) (λ us s. s)
+    grows l ts [] refl tree fine more
+    (λ us r s k. subst (λ (ms : List Mark). Matches ms us r) same
+    (joins (flat_of l.tree) ns us (added more ++ r) r k (spelled r)))
+    (λ us s. s)
 
 -- the tree of a part behind marks that end in a token, with marks behind it
-pub around : {A B : Type 0} {First : Option Token → Type 0} {flat_of : A → List Mark} {Good : A → Type 0} {flat_as : B → List Mark} {Fine : B → Type 0} {mid : List Token} {e : Fault}
+pub around : {A B : Type 0} {First : Option Token
+    → Type 0} {flat_of : A
+    → List Mark} {Good : A
+    → Type 0} {flat_as : B
+    → List Mark} {Fine : B
+    → Type 0} {mid : List Token} {e : Fault}
     → (l : Lives First flat_of Good mid e)
     → (ms : List Mark)
     → is_firm ms ≡ true
@@ -366,11 +477,18 @@ pub around : {A B : Type 0} {First : Option Token → Type 0} {flat_of : A → L
 around {A} {B} {First} {flat_of} {Good} {flat_as} {Fine} {mid} {e} l ms firm ts m tree fine ns more spelled same =
     let f = firmly ms firm ts mid m in
     grows l ts (f.next ∷ f.before) f.parts tree fine more
-    (λ us r s k. subst (λ (ms : List Mark). Matches ms ((f.next ∷ f.before) ++ us) r) same (joins ms (flat_of l.tree ++ ns) ((f.next ∷ f.before) ++ us) us r (f.other us) (joins (flat_of l.tree) ns us (added more ++ r) r k (spelled r))))
+    (λ us r s k. subst (λ (ms : List Mark). Matches ms ((f.next ∷ f.before) ++ us) r) same
+    (joins ms (flat_of l.tree ++ ns) ((f.next ∷ f.before) ++ us) us r (f.other us)
+    (joins (flat_of l.tree) ns us (added more ++ r) r k (spelled r))))
     (λ us s. same_start Nothing f.next ts f.before mid us f.parts)
 
 -- the tree of a part behind marks that may end in an absent semicolon, with marks behind it
-pub around_softly : {A B : Type 0} {First : Option Token → Type 0} {flat_of : A → List Mark} {Good : A → Type 0} {flat_as : B → List Mark} {Fine : B → Type 0} {mid : List Token} {e : Fault}
+pub around_softly : {A B : Type 0} {First : Option Token
+    → Type 0} {flat_of : A
+    → List Mark} {Good : A
+    → Type 0} {flat_as : B
+    → List Mark} {Fine : B
+    → Type 0} {mid : List Token} {e : Fault}
     → (l : Lives First flat_of Good mid e)
     → ((us : List Token) → Starts First mid us → Softer mid us)
     → (ms : List Mark)
@@ -384,7 +502,9 @@ pub around_softly : {A B : Type 0} {First : Option Token → Type 0} {flat_of : 
 around_softly {A} {B} {First} {flat_of} {Good} {flat_as} {Fine} {mid} {e} l soft ms ts m tree fine ns more spelled same =
     let f = softens ms ts mid m in
     grows l ts f.before f.parts tree fine more
-    (λ us r s k. subst (λ (ms : List Mark). Matches ms (f.before ++ us) r) same (joins ms (flat_of l.tree ++ ns) (f.before ++ us) us r (f.other us (soft us s)) (joins (flat_of l.tree) ns us (added more ++ r) r k (spelled r))))
+    (λ us r s k. subst (λ (ms : List Mark). Matches ms (f.before ++ us) r) same
+    (joins ms (flat_of l.tree ++ ns) (f.before ++ us) us r (f.other us (soft us s))
+    (joins (flat_of l.tree) ns us (added more ++ r) r k (spelled r))))
     (λ us s. start_behind First f.before ts mid us f.parts s)
 
 -- marks that end in a token were read, and the others are added
@@ -409,27 +529,44 @@ stopped {B} {flat_as} {Fine} ms firm ts mid m e c tree fine ns more spelled same
       tree = tree;
       good = fine;
       rest = more;
-      spelled = λ r. subst (λ (ms : List Mark). Matches ms ((f.next ∷ f.before) ++ (added more ++ r)) r) same (joins ms ns ((f.next ∷ f.before) ++ (added more ++ r)) (added more ++ r) r (f.other (added more ++ r)) (spelled r));
+      spelled =
+          λ r. subst (λ (ms : List Mark). Matches ms ((f.next ∷ f.before) ++ (added more ++ r)) r) same
+          (joins ms ns ((f.next ∷ f.before) ++ (added more ++ r)) (added more ++ r) r (f.other (added more ++ r))
+          (spelled r));
       starts = λ r. same_start Nothing f.next ts f.before mid (added more ++ r) f.parts;
     }
 
 -- what comes first may be anything
-pub anything : {A : Type 0} {First : Option Token → Type 0} {flat_of : A → List Mark} {Good : A → Type 0} {ts : List Token} {e : Fault}
+pub anything : {A : Type 0} {First : Option Token
+    → Type 0} {flat_of : A
+    → List Mark} {Good : A
+    → Type 0} {ts : List Token} {e : Fault}
     → Lives First flat_of Good ts e
     → Lives Anything flat_of Good ts e
 anything l = widens (λ o n. tt) l
 
 -- the same tokens as those of another tree
-pub renamed : {A B : Type 0} {First : Option Token → Type 0} {flat_of : A → List Mark} {Good : A → Type 0} {flat_as : B → List Mark} {Fine : B → Type 0} {ts : List Token} {e : Fault}
+pub renamed : {A B : Type 0} {First : Option Token
+    → Type 0} {flat_of : A
+    → List Mark} {Good : A
+    → Type 0} {flat_as : B
+    → List Mark} {Fine : B
+    → Type 0} {ts : List Token} {e : Fault}
     → (l : Lives First flat_of Good ts e)
     → (tree : B)
     → Fine tree
     → flat_of l.tree ≡ flat_as tree
     → Lives First flat_as Fine ts e
-renamed {A} {B} {First} {flat_of} l tree fine same = ends_in l tree fine [] [] (λ r. refl) (append-nil (flat_of l.tree) ∙ same)
+renamed {A} {B} {First} {flat_of} l tree fine same =
+    ends_in l tree fine [] [] (λ r. refl) (append-nil (flat_of l.tree) ∙ same)
 
 -- the tree of a part behind marks that end in a token
-pub behind : {A B : Type 0} {First : Option Token → Type 0} {flat_of : A → List Mark} {Good : A → Type 0} {flat_as : B → List Mark} {Fine : B → Type 0} {mid : List Token} {e : Fault}
+pub behind : {A B : Type 0} {First : Option Token
+    → Type 0} {flat_of : A
+    → List Mark} {Good : A
+    → Type 0} {flat_as : B
+    → List Mark} {Fine : B
+    → Type 0} {mid : List Token} {e : Fault}
     → (l : Lives First flat_of Good mid e)
     → (ms : List Mark)
     → is_firm ms ≡ true
@@ -439,16 +576,23 @@ pub behind : {A B : Type 0} {First : Option Token → Type 0} {flat_of : A → L
     → Fine tree
     → ms ++ flat_of l.tree ≡ flat_as tree
     → Lives Nothing flat_as Fine ts e
-behind {A} {B} {First} {flat_of} l ms firm ts m tree fine same = around l ms firm ts m tree fine [] [] (λ r. refl) (ap (λ (ns : List Mark). ms ++ ns) (append-nil (flat_of l.tree)) ∙ same)
+behind {A} {B} {First} {flat_of} l ms firm ts m tree fine same =
+    around l ms firm ts m tree fine [] [] (λ r. refl)
+    (ap (λ (ns : List Mark). ms ++ ns) (append-nil (flat_of l.tree)) ∙ same)
 
 -- either nothing was read, or what lives begins as the tokens do
-pub begun : {A : Type 0} {First : Option Token → Type 0} {flat_of : A → List Mark} {Good : A → Type 0} {ts : List Token} {e : Fault}
+pub begun : {A : Type 0} {First : Option Token
+    → Type 0} {flat_of : A
+    → List Mark} {Good : A
+    → Type 0} {ts : List Token} {e : Fault}
     → Lives First flat_of Good ts e
     → Counts e ts ⊎ Lives Nothing flat_of Good ts e
 begun {A} {First} {flat_of} {Good} {ts} {e} l = by_before l.before refl
   where
     by_before : (before : List Token) → l.before ≡ before → Counts e ts ⊎ Lives Nothing flat_of Good ts e
-    by_before [] is = inl (subst (λ (us : List Token). Counts e us) (sym (l.parts ∙ ap (λ (us : List Token). us ++ l.left) is)) l.counted)
+    by_before [] is =
+        inl (subst (λ (us : List Token). Counts e us) (sym (l.parts ∙ ap (λ (us : List Token). us ++ l.left) is))
+        l.counted)
     by_before (t ∷ before) is =
         let parts : ts ≡ (t ∷ before) ++ l.left = l.parts ∙ ap (λ (us : List Token). us ++ l.left) is in
         inr (record {
@@ -459,6 +603,7 @@ begun {A} {First} {flat_of} {Good} {ts} {e} l = by_before l.before refl
           tree = l.tree;
           good = l.good;
           rest = l.rest;
-          spelled = λ r. subst (λ (us : List Token). Matches (flat_of l.tree) (us ++ (added l.rest ++ r)) r) is (l.spelled r);
+          spelled =
+              λ r. subst (λ (us : List Token). Matches (flat_of l.tree) (us ++ (added l.rest ++ r)) r) is (l.spelled r);
           starts = λ r. same_start Nothing t ts before l.left (added l.rest ++ r) parts;
         })

@@ -47,7 +47,12 @@ added_tokens [] = tt
 added_tokens (a ∷ rest) = (added_token a, added_tokens rest)
 
 -- what lives begins a source
-pub begins_so : {Tree : Type 0} {Is : List Token → Tree → Type 0} {First : Option Token → Type 0} {flat_of : Tree → List Mark} {Good : Tree → Type 0} {ts : List Token} {e : Fault}
+pub begins_so : {Tree : Type 0} {Is : List Token
+    → Tree
+    → Type 0} {First : Option Token
+    → Type 0} {flat_of : Tree
+    → List Mark} {Good : Tree
+    → Type 0} {ts : List Token} {e : Fault}
     → ((us : List Token) (t : Tree) → Good t → Matches (flat_of t) us [] → Is us t)
     → Lives First flat_of Good ts e
     → LivesIn Is ts e
@@ -60,12 +65,18 @@ begins_so {Tree} {Is} is l = record {
   written = record {
     rest = map as_written l.rest;
     tokens = added_tokens l.rest;
-    language = (l.tree, subst (λ (us : List Token). Is (l.before ++ us) l.tree) (append-nil (added l.rest) ∙ sym (written_as l.rest)) (is (l.before ++ (added l.rest ++ [])) l.tree l.good (l.spelled [])));
+    language = (
+      l.tree,
+      subst (λ (us : List Token). Is (l.before ++ us) l.tree)
+          (append-nil (added l.rest) ∙ sym (written_as l.rest))
+          (is (l.before ++ (added l.rest ++ [])) l.tree l.good (l.spelled [])),
+    );
   };
 }
 
 -- what was read in whole, where further tokens are left
-read_so : {Tree : Type 0} {Is : List Token → Tree → Type 0} (flat_of : Tree → List Mark) (Good : Tree → Type 0) (ts : List Token) (e : Fault)
+read_so : {Tree : Type 0} {Is : List Token → Tree → Type 0} (flat_of : Tree → List Mark) (Good : Tree → Type 0)
+    (ts : List Token) (e : Fault)
     → ((us : List Token) (t : Tree) → Good t → Matches (flat_of t) us [] → Is us t)
     → (t : Tree) (left : List Token) → Good t → Matches (flat_of t) ts left → Counts e left → LivesIn Is ts e
 read_so {Tree} {Is} flat_of Good ts e is t left good m c =
@@ -76,7 +87,8 @@ read_so {Tree} {Is} flat_of Good ts e is t left good m c =
       parts = f.parts;
       counted = c;
       begins = ([], (t, is (f.before ++ []) t good (f.other [] (λ end h. refl))));
-      written = record { rest = []; tokens = tt; language = (t, is (f.before ++ []) t good (f.other [] (λ end h. refl))) };
+      written =
+          record { rest = []; tokens = tt; language = (t, is (f.before ++ []) t good (f.other [] (λ end h. refl))) };
     }
 
 -- a whole source isn't read: its reader stops, or tokens are left
@@ -88,7 +100,8 @@ whole_err {A} (Ok x) e p = inr (x, refl, left_err x.0 x.1 p)
   where
     left_err : (t : A) (left : List Token) → ended_by t left ≡ Err e → Counts e left
     left_err t [] p = absurd cc
-    left_err t (u ∷ us) p = stuck_counts {A = A} (u ∷ us) e (let same : stuck (suc (length us)) ≡ e = cc in ap (λ d. Err d) same)
+    left_err t (u ∷ us) p =
+        stuck_counts {A = A} (u ∷ us) e (let same : stuck (suc (length us)) ≡ e = cc in ap (λ d. Err d) same)
 
 pub alive : (n : ℕ) → AliveBelow (below n)
 alive n = alive_below sound_below n
@@ -97,7 +110,10 @@ alive n = alive_below sound_below n
 pub expression_alive : (n : ℕ) (ts : List Token) (e : Fault) → parse_expression n ts ≡ Err e → LivesIn IsExpression ts e
 unfolding parse_expression
 expression_alive n ts e p =
-    let is : (us : List Token) (t : Expression) → Well t → Matches (flat t) us [] → IsExpression us t = λ us t w m. record { well = w; spelled = m } in
+    let is : (us : List Token) (t : Expression)
+    → Well t
+    → Matches (flat t) us []
+    → IsExpression us t = λ us t w m. record { well = w; spelled = m } in
     elim (whole_err ((below n).expression ts) e p) [
       | inl q ↦ begins_so (λ us t g m. is us t g.0 m) ((alive n).expression ts e q)
       | inr q ↦
@@ -111,7 +127,10 @@ pub script_alive : (n : ℕ) (earlier : List Identifier) (ts : List Token) (e : 
     → LivesIn (IsScript earlier) ts e
 unfolding parse_script
 script_alive n earlier ts e p =
-    let is : (us : List Token) (t : Statements) → IsBlock top earlier t → Matches (flat_statements t) us [] → IsScript earlier us t = λ us t w m. record { well = w; spelled = m } in
+    let is : (us : List Token) (t : Statements)
+    → IsBlock top earlier t
+    → Matches (flat_statements t) us []
+    → IsScript earlier us t = λ us t w m. record { well = w; spelled = m } in
     elim (whole_err (items_at (below n) top earlier ts) e p) [
       | inl q ↦ begins_so is (items_at_lives n (below n) (sound_below n) (alive n) top earlier ts e q)
       | inr q ↦
@@ -122,11 +141,18 @@ script_alive n earlier ts e p =
 -- Where a function isn't read, the tokens before the fault begin one.
 pub function_alive : (n : ℕ) (ts : List Token) (e : Fault) → parse_function n ts ≡ Err e → LivesIn IsFunction ts e
 unfolding parse_function
-function_alive zero ts e p = begins_so (λ us t g m. record { form = g.1; well = g.0.0; spelled = m }) (no_function_lives ts e (deep_counts {A = Expression} ts e (let same : deep (length ts) ≡ e = cc in ap (λ d. Err d) same)))
+function_alive zero ts e p =
+    begins_so (λ us t g m. record { form = g.1; well = g.0.0; spelled = m })
+    (no_function_lives ts e
+    (deep_counts {A = Expression} ts e (let same : deep (length ts) ≡ e = cc in ap (λ d. Err d) same)))
 function_alive (suc n) ts e p =
-    let is : (us : List Token) (t : Expression) → IsFunctionOf 1 t → Matches (flat t) us [] → IsFunction us t = λ us t g m. record { form = g.1; well = g.0.0; spelled = m } in
+    let is : (us : List Token) (t : Expression)
+    → IsFunctionOf 1 t
+    → Matches (flat t) us []
+    → IsFunction us t = λ us t g m. record { form = g.1; well = g.0.0; spelled = m } in
     elim (whole_err (function_code_by (below n) (start (head_of ts)) ts) e p) [
-      | inl q ↦ begins_so is (function_code_lives n (below n) (sound_below n) (alive n) (start (head_of ts)) ts e refl q)
+      | inl q ↦ begins_so is
+          (function_code_lives n (below n) (sound_below n) (alive n) (start (head_of ts)) ts e refl q)
       | inr q ↦
           let t = function_code_sound seq_sound n (below n) (sound_below n) (start (head_of ts)) ts q.0 refl q.1 in
           read_so flat (IsFunctionOf 1) ts e is q.0.0 q.0.1 ((t.0.well, t.0.level), t.1) t.0.marks q.2

@@ -52,12 +52,20 @@ pub sound_from : (n : ℕ) (b c : Below) → FollowsBelow b c → SoundBelow n c
 sound_from n b c f s = record {
   assignment = λ ts x e. s.assignment ts x (answers_so b.assignment c.assignment f.assignment ts x e);
   expression = λ ts x e. s.expression ts x (answers_so b.expression c.expression f.expression ts x e);
-  operation = λ m le ts x e. s.operation m le ts x (answers_so (λ ts. b.operation m ts) (λ ts. c.operation m ts) (f.operation m) ts x e);
+  operation =
+      λ m le ts x e. s.operation m le ts x
+      (answers_so (λ ts. b.operation m ts) (λ ts. c.operation m ts) (f.operation m) ts x e);
   unary = λ ts x e. s.unary ts x (answers_so b.unary c.unary f.unary ts x e);
   call = λ ts x e. s.call ts x (answers_so b.call c.call f.call ts x e);
-  statement = λ context ts x e. s.statement context ts x (answers_so (λ ts. b.statement context ts) (λ ts. c.statement context ts) (f.statement context) ts x e);
-  item = λ context taken ts x e. s.item context taken ts x (answers_so (λ ts. b.item context taken ts) (λ ts. c.item context taken ts) (f.item context taken) ts x e);
-  block = λ context taken ts x e. s.block context taken ts x (answers_so (λ ts. b.block context taken ts) (λ ts. c.block context taken ts) (f.block context taken) ts x e);
+  statement =
+      λ context ts x e. s.statement context ts x
+      (answers_so (λ ts. b.statement context ts) (λ ts. c.statement context ts) (f.statement context) ts x e);
+  item =
+      λ context taken ts x e. s.item context taken ts x
+      (answers_so (λ ts. b.item context taken ts) (λ ts. c.item context taken ts) (f.item context taken) ts x e);
+  block =
+      λ context taken ts x e. s.block context taken ts x
+      (answers_so (λ ts. b.block context taken ts) (λ ts. c.block context taken ts) (f.block context taken) ts x e);
   function = λ ts x e. s.function ts x (answers_so b.function c.function f.function ts x e);
 }
 
@@ -70,8 +78,12 @@ arrow_lives : (s : Identifier) (ts : List Token) (e : Fault)
     → Lives IsZero flat (Fits 1) ts e
 arrow_lives s ts e f a p =
     let both = and_parts (is_on_line (head_of (tail_of ts))) (is_kind kinds.Arrow (head_of (tail_of ts))) a in
-    from_nothing (stopped (token (identifier s) ∷ beside (fixed kinds.Arrow) ∷ []) refl ts (tail_of (tail_of ts)) (start_name s (head_of ts) f, (next_is kinds.Arrow (head_of (tail_of ts)) both.1, both.0, refl)) e (deep_counts {A = Expression} (tail_of (tail_of ts)) e p)
-    (trees.arrow (trees.one_name s) (trees.number 0)) (((refl, tt), tt, omega arith, refl), omega arith) zero_marks zero_token (λ r. ((refl, refl), refl)) refl)
+    from_nothing
+    (stopped (token (identifier s) ∷ beside (fixed kinds.Arrow) ∷ []) refl ts (tail_of (tail_of ts))
+    (start_name s (head_of ts) f, (next_is kinds.Arrow (head_of (tail_of ts)) both.1, both.0, refl)) e
+    (deep_counts {A = Expression} (tail_of (tail_of ts)) e p)
+    (trees.arrow (trees.one_name s) (trees.number 0)) (((refl, tt), tt, omega arith, refl), omega arith)
+    zero_marks zero_token (λ r. ((refl, refl), refl)) refl)
 
 named_lives : (s : Identifier) (ts : List Token) (e : Fault)
     → start (head_of ts) ≡ classes.a_name s
@@ -79,7 +91,9 @@ named_lives : (s : Identifier) (ts : List Token) (e : Fault)
     → behind bare 0 (trees.name s) (tail_of ts) ≡ Err e
     → Lives IsZero flat (Fits 1) ts e
 named_lives s ts e f a p =
-    let is : assignment bare 0 ts ≡ behind bare 0 (trees.name s) (tail_of ts) = assignment_is bare 0 ts ∙ ap (λ (v : Start). assignment_form bare 0 v ts) f ∙ ap (λ (v : Bool). named_form bare 0 s v (tail_of ts)) a in
+    let is : assignment bare 0 ts ≡ behind bare 0 (trees.name s) (tail_of ts) = assignment_is bare 0 ts
+    ∙ ap (λ (v : Start). assignment_form bare 0 v ts) f
+    ∙ ap (λ (v : Bool). named_form bare 0 s v (tail_of ts)) a in
     assignment_lives 0 bare (bare_sound 0) bare_alive ts e (is ∙ p)
 
 by_arrow_lives : (s : Identifier) (ts : List Token) (e : Fault)
@@ -97,7 +111,8 @@ lone_by_lives : (v : Start) (ts : List Token) (e : Fault)
     → Lives IsZero flat (Fits 1) ts e
 lone_by_lives (classes.a_name s) ts e f p = by_arrow_lives s ts e f (is_arrow (head_of (tail_of ts))) refl p
 lone_by_lives classes.parenthesis ts e f p =
-    subst (λ (e : Fault). Lives IsZero flat (Fits 1) ts e) (fault_is {A = Expression} (deep (length (tail_of ts))) e p) (from_nothing (looser 15 1 (omega arith) (start_lives classes.parenthesis ts f refl)))
+    subst (λ (e : Fault). Lives IsZero flat (Fits 1) ts e) (fault_is {A = Expression} (deep (length (tail_of ts))) e p)
+    (from_nothing (looser 15 1 (omega arith) (start_lives classes.parenthesis ts f refl)))
 lone_by_lives _ ts e f p = operand_lives 1 (omega arith) ts e p
 
 lone_lives : (ts : List Token) (e : Fault) → lone ts ≡ Err e → Lives IsZero flat (Fits 1) ts e
@@ -147,15 +162,21 @@ names_only_own = binds lone lone comma_next comma_next lone_own (comma_follows n
 
 names_only_up : Follows names_only (below 3).expression
 unfolding below expression
-names_only_up = binds lone (λ ts. assignment (below 2) 2 ts) comma_next (λ e ts. comma_by (below 2) 2 e (is_kind kinds.Comma (head_of ts)) ts) (lone_follows 2) (comma_follows named (below 2) 2 2 (omega arith) named_pair)
+names_only_up =
+    binds lone (λ ts. assignment (below 2) 2 ts) comma_next
+    (λ e ts. comma_by (below 2) 2 e (is_kind kinds.Comma (head_of ts)) ts) (lone_follows 2)
+    (comma_follows named (below 2) 2 2 (omega arith) named_pair)
 
 names_only_deepens : (n : ℕ) → Deepens n names_only
-names_only_deepens n = deep_then n lone comma_next lone_own (lone_deepens n) (comma_deepens named 2 named_own named_deepens n)
+names_only_deepens n =
+    deep_then n lone comma_next lone_own (lone_deepens n) (comma_deepens named 2 named_own named_deepens n)
 
 names_only_lives : (ts : List Token) (e : Fault) → names_only ts ≡ Err e → Lives IsZero flat (Fits 0) ts e
 names_only_lives ts e p = elim (bind_err (lone ts) (λ x. comma_next x.0 x.1) e p) [
   | inl q ↦ looser 1 0 (omega arith) (lone_lives ts e q)
-  | inr q ↦ from_nothing (comma_by_lives 2 named named_sound named_alive ts q.0.0 (is_kind kinds.Comma (head_of q.0.1)) q.0.1 e refl ((sound_below 3).assignment ts q.0 (answers_so lone (below 3).assignment (lone_up 2) ts q.0 q.1)) q.2)
+  | inr q ↦ from_nothing
+      (comma_by_lives 2 named named_sound named_alive ts q.0.0 (is_kind kinds.Comma (head_of q.0.1)) q.0.1 e refl
+      ((sound_below 3).assignment ts q.0 (answers_so lone (below 3).assignment (lone_up 2) ts q.0 q.1)) q.2)
 ]
 
 names_only_closes : (ts : List Token)
@@ -172,8 +193,10 @@ names_only_hides : (ts : List Token)
     → names_only ts ≡ Err (deep i)
     → DeepTo names_only ts i (length (scan_end true ts))
 names_only_hides ts q i e =
-    names_deep Low lone lone_sure (at_comma named 2) (comma_follows named named 2 2 (omega arith) named_own) (λ n f. comma_deepens named 2 named_own named_deepens n f) ts q
-    (λ f r low l c j z. comma_deep named 2 lone_sure (omega arith) f low r c (is_kind kinds.Comma (head_of r)) refl j z) i e
+    names_deep Low lone lone_sure (at_comma named 2) (comma_follows named named 2 2 (omega arith) named_own)
+    (λ n f. comma_deepens named 2 named_own named_deepens n f) ts q
+    (λ f r low l c j z. comma_deep named 2 lone_sure (omega arith) f low r c (is_kind kinds.Comma (head_of r)) refl j z)
+    i e
 
 -- ---- the bottom
 

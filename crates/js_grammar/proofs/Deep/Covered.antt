@@ -32,7 +32,8 @@ paren_source e (Err (deep k)) i q = ap (λ (j : ℕ). Err (deep j)) (deep_is {A 
 enclosed_source : (x : Read Expression) (i : ℕ)
     → as_enclosed (x >>= λ y. with_paren y.0 (paren_value (expect kinds.RightParenthesis y.1))) ≡ Err (deep i)
     → x ≡ Err (deep i)
-enclosed_source (Ok y) i q = absurd (expect_quiet kinds.RightParenthesis y.1 i (paren_source y.0 (expect kinds.RightParenthesis y.1) i q))
+enclosed_source (Ok y) i q =
+    absurd (expect_quiet kinds.RightParenthesis y.1 i (paren_source y.0 (expect kinds.RightParenthesis y.1) i q))
 enclosed_source (Err (stuck k)) i q = absurd cc
 enclosed_source (Err (deep k)) i q = ap (λ (j : ℕ). Err (deep j)) (deep_is {A = Expression} k i q)
 
@@ -40,7 +41,9 @@ abbrev two_items : Below → Reader (Values (an_expression ∷ paren_items))
 two_items b ts = seq b (an_expression ∷ paren_items) ts
 
 enclosed_deep : (b : Below) (ts : List Token) (i k : ℕ) → DeepTo b.expression ts i k → DeepTo (enclosed b) ts i k
-enclosed_deep b ts i k d = lift_first (two_items b) (λ v r. Ok (trees.parenthesized v.0, r)) ts i k (lift_first b.expression (λ e r. with_paren e (seq b paren_items r)) ts i k d)
+enclosed_deep b ts i k d =
+    lift_first (two_items b) (λ v r. Ok (trees.parenthesized v.0, r)) ts i k
+    (lift_first b.expression (λ e r. with_paren e (seq b paren_items r)) ts i k d)
 
 covered_deep : (b : Below) (n : ℕ)
     → Pair b b
@@ -58,18 +61,27 @@ covered_deep b n p s d ts q i h e =
     let one : Reader Expression = λ ts. enclosed b ts >>= λ x. links b n (suc n) x.0 x.1 in
     let two : Reader Expression = λ ts. one ts >>= λ x. updated_by n x.0 (update_near (head_of x.1)) x.1 in
     let three : Reader Expression = λ ts. two ts >>= λ x. chain b n 3 (suc n) x.0 x.1 in
-    let f0 : Follows (enclosed b) (enclosed b) = made_follows b b p (an_expression ∷ paren_items) (λ v. trees.parenthesized v.0) in
-    let f1 : Follows one one = binds (enclosed b) (enclosed b) (λ f ts. links b n (suc n) f ts) (λ f ts. links b n (suc n) f ts) f0 (λ f. links_follows b b n n same p (suc n) (suc n) (omega arith) f) in
-    let f2 : Follows two two = binds one one (λ f ts. updated_by n f (update_near (head_of ts)) ts) (λ f ts. updated_by n f (update_near (head_of ts)) ts) f1 (updated_follows n n same) in
-    let f3 : Follows three three = binds two two (λ f ts. chain b n 3 (suc n) f ts) (λ f ts. chain b n 3 (suc n) f ts) f2 (λ f. chain_follows b b n n same p 3 (suc n) (suc n) (omega arith) f) in
+    let f0 : Follows (enclosed b) (enclosed b) = made_follows b b p (an_expression ∷ paren_items)
+    (λ v. trees.parenthesized v.0) in
+    let f1 : Follows one one = binds (enclosed b) (enclosed b) (λ f ts. links b n (suc n) f ts)
+    (λ f ts. links b n (suc n) f ts) f0 (λ f. links_follows b b n n same p (suc n) (suc n) (omega arith) f) in
+    let f2 : Follows two two = binds one one (λ f ts. updated_by n f (update_near (head_of ts)) ts)
+    (λ f ts. updated_by n f (update_near (head_of ts)) ts) f1 (updated_follows n n same) in
+    let f3 : Follows three three = binds two two (λ f ts. chain b n 3 (suc n) f ts) (λ f ts. chain b n 3 (suc n) f ts)
+    f2 (λ f. chain_follows b b n n same p 3 (suc n) (suc n) (omega arith) f) in
     let w0 : Within (enclosed b ts) k = enclosed_by (b.expression ts) k (s.closes ts q) in
-    let w1 : Within (one ts) k = within_then (enclosed b ts) (λ f r. links b n (suc n) f r) (λ f r. links b n (suc n) f r) k w0 (λ f. links_follows b b n n same p (suc n) (suc n) (omega arith) f) in
-    let w2 : Within (two ts) k = within_then (one ts) (λ f r. updated_by n f (update_near (head_of r)) r) (λ f r. updated_by n f (update_near (head_of r)) r) k w1 (updated_follows n n same) in
-    let w3 : Within (three ts) k = within_then (two ts) (λ f r. chain b n 3 (suc n) f r) (λ f r. chain b n 3 (suc n) f r) k w2 (λ f. chain_follows b b n n same p 3 (suc n) (suc n) (omega arith) f) in
+    let w1 : Within (one ts) k = within_then (enclosed b ts) (λ f r. links b n (suc n) f r)
+    (λ f r. links b n (suc n) f r) k w0 (λ f. links_follows b b n n same p (suc n) (suc n) (omega arith) f) in
+    let w2 : Within (two ts) k = within_then (one ts) (λ f r. updated_by n f (update_near (head_of r)) r)
+    (λ f r. updated_by n f (update_near (head_of r)) r) k w1 (updated_follows n n same) in
+    let w3 : Within (three ts) k = within_then (two ts) (λ f r. chain b n 3 (suc n) f r)
+    (λ f r. chain b n 3 (suc n) f r) k w2 (λ f. chain_follows b b n n same p 3 (suc n) (suc n) (omega arith) f) in
     to_then three (λ f ts. joined b n f ts) f3 (λ j f. joined_deepens b n p d j f) ts i k w3
-    (to_then two (λ f ts. chain b n 3 (suc n) f ts) f2 (λ j f. chain_deepens b n 3 p d j n f (omega (arith, height_positive f))) ts i k w2
+    (to_then two (λ f ts. chain b n 3 (suc n) f ts) f2
+    (λ j f. chain_deepens b n 3 p d j n f (omega (arith, height_positive f))) ts i k w2
     (to_then one (λ f ts. updated_by n f (update_near (head_of ts)) ts) f1 (λ j f. updated_deepens n j f) ts i k w1
-    (to_then (enclosed b) (λ f ts. links b n (suc n) f ts) f0 (λ j f. links_deepens b n p d j n f (omega (arith, height_positive f))) ts i k w0
+    (to_then (enclosed b) (λ f ts. links b n (suc n) f ts) f0
+    (λ j f. links_deepens b n p d j n f (omega (arith, height_positive f))) ts i k w0
     (λ z. enclosed_deep b ts i k (h (enclosed_source (b.expression ts) i z)))))) e
 
 -- no arrow stands behind the parentheses, whatever follows what is too deep
@@ -87,8 +99,12 @@ open_deep b n ts q i c =
       parts = d.parts;
       counted = d.counted;
       never = λ r x o.
-          let near : suc (length d.left) ≤ length (scan_end true (d.before ++ (d.here ∷ d.left))) = subst (λ (l : List Token). suc (length d.left) ≤ length (scan_end true l)) d.parts c.near in
-          let h : listed_by (past_names true (d.before ++ (d.here ∷ r))) ≡ no_arrow = stable true d.before (d.here ∷ d.left) (d.here ∷ r) near refl ∙ ap (λ (l : List Token). listed_by (past_names true l)) (sym d.parts) ∙ q in
+          let near : suc (length d.left) ≤ length (scan_end true (d.before ++ (d.here ∷ d.left))) = subst
+          (λ (l : List Token). suc (length d.left) ≤ length (scan_end true l)) d.parts c.near in
+          let h : listed_by (past_names true (d.before ++ (d.here ∷ r))) ≡ no_arrow = stable true d.before
+          (d.here ∷ d.left) (d.here ∷ r) near refl
+          ∙ ap (λ (l : List Token). listed_by (past_names true l)) (sym d.parts)
+          ∙ q in
           d.never r x (ap (λ (v : Head). paren_form b n v (d.before ++ (d.here ∷ r))) (sym h) ∙ o);
     }
 
@@ -102,7 +118,8 @@ listed_deep : (b : Below) (n : ℕ)
     → listed_by (Some (w, rest)) ≡ listed w
     → (i : ℕ) (v : Bool)
     → are_fresh [] c.names ≡ v
-    → cond v (arrow_rest b (trees.name_list c.names) c.names rest) (cond w (Err (stuck (suc (length rest)))) (Err (stuck (length rest)))) ≡ Err (deep i)
+    → cond v (arrow_rest b (trees.name_list c.names) c.names rest)
+    (cond w (Err (stuck (suc (length rest)))) (Err (stuck (length rest)))) ≡ Err (deep i)
     → DeepAt (paren_at b n) ts i
 listed_deep b n p d ts true rest c h i false f e = absurd cc
 listed_deep b n p d ts false rest c h i false f e = absurd cc
@@ -112,14 +129,24 @@ listed_deep b n p d ts w rest c h i true f e =
       before = c.front ++ (c.last ∷ a.before);
       here = a.here;
       left = a.left;
-      parts = c.parts ∙ ap (λ (l : List Token). c.front ++ (c.last ∷ l)) a.parts ∙ sym (append_assoc c.front (c.last ∷ a.before) (a.here ∷ a.left));
+      parts =
+          c.parts
+          ∙ ap (λ (l : List Token). c.front ++ (c.last ∷ l)) a.parts
+          ∙ sym (append_assoc c.front (c.last ∷ a.before) (a.here ∷ a.left));
       counted = a.counted;
       never = λ r x o.
           let us : List Token = a.before ++ (a.here ∷ r) in
-          let same : head_of us ≡ head_of rest = head_past a.before (a.here ∷ r) (a.here ∷ a.left) refl ∙ ap (λ (l : List Token). head_of l) (sym a.parts) in
+          let same : head_of us ≡ head_of rest = head_past a.before (a.here ∷ r) (a.here ∷ a.left) refl
+          ∙ ap (λ (l : List Token). head_of l) (sym a.parts) in
           let is : paren_at b n ((c.front ++ (c.last ∷ a.before)) ++ (a.here ∷ r)) ≡ arrow_of_names b w c.names us =
-          ap (λ (l : List Token). paren_at b n l) (append_assoc c.front (c.last ∷ a.before) (a.here ∷ r)) ∙ listed_is b n ts w rest us c (listed_alike w us rest same h) in
-          a.never r x (sym (is ∙ ap (λ (v : Bool). cond v (arrow_rest b (trees.name_list c.names) c.names us) (cond w (Err (stuck (suc (length us)))) (Err (stuck (length us))))) f) ∙ o);
+          ap (λ (l : List Token). paren_at b n l) (append_assoc c.front (c.last ∷ a.before) (a.here ∷ r))
+          ∙ listed_is b n ts w rest us c (listed_alike w us rest same h) in
+          a.never r x
+          (sym (is
+          ∙ ap (λ (v : Bool). cond v (arrow_rest b (trees.name_list c.names) c.names us)
+          (cond w (Err (stuck (suc (length us)))) (Err (stuck (length us)))))
+          f)
+          ∙ o);
     }
 
 listed_at : (b : Below) (n : ℕ)
@@ -133,7 +160,8 @@ listed_at : (b : Below) (n : ℕ)
     → DeepAt (paren_at b n) ts i
 listed_at b n p d ts w rest q h i e =
     let c : Closed true ts w rest = closed true ts w rest q in
-    let is : paren_at b n ts ≡ arrow_of_names b w c.names rest = ap (λ (l : List Token). paren_at b n l) c.parts ∙ listed_is b n ts w rest rest c h in
+    let is : paren_at b n ts ≡ arrow_of_names b w c.names rest = ap (λ (l : List Token). paren_at b n l) c.parts
+    ∙ listed_is b n ts w rest rest c h in
     listed_deep b n p d ts w rest c h i (are_fresh [] c.names) refl (sym is ∙ e)
 
 open_at : (b : Below) (n : ℕ)
@@ -145,26 +173,32 @@ open_at : (b : Below) (n : ℕ)
     → listed_by (past_names true ts) ≡ no_arrow
     → paren_at b n ts ≡ Err (deep i)
     → DeepAt (paren_at b n) ts i
-open_at b n p s d ts i h q e = open_deep b n ts q i (covered_deep b n p s d ts q i h (sym (ap (λ (v : Head). paren_form b n v ts) q) ∙ e))
+open_at b n p s d ts i h q e =
+    open_deep b n ts q i (covered_deep b n p s d ts q i h (sym (ap (λ (v : Head). paren_form b n v ts) q) ∙ e))
 
 paren_by : (b : Below) (n : ℕ)
     → Pair b b
     → Spans b
     → DeepBelow b
     → (ts : List Token) (i : ℕ)
-    → (listed_by (past_names true ts) ≡ no_arrow → b.expression ts ≡ Err (deep i) → DeepTo b.expression ts i (length (scan_end true ts)))
+    → (listed_by (past_names true ts) ≡ no_arrow
+    → b.expression ts ≡ Err (deep i)
+    → DeepTo b.expression ts i (length (scan_end true ts)))
     → (o : Option (Bool × List Token))
     → past_names true ts ≡ o
     → paren_at b n ts ≡ Err (deep i)
     → DeepAt (paren_at b n) ts i
-paren_by b n p s d ts i h None q e = let c : listed_by (past_names true ts) ≡ no_arrow = ap (λ (o : Option (Bool × List Token)). listed_by o) q in open_at b n p s d ts i (h c) c e
+paren_by b n p s d ts i h None q e =
+    let c : listed_by (past_names true ts) ≡ no_arrow = ap (λ (o : Option (Bool × List Token)). listed_by o) q in
+    open_at b n p s d ts i (h c) c e
 paren_by b n p s d ts i h (Some (true, rest)) q e = listed_at b n p d ts true rest q refl i e
 paren_by b n p s d ts i h (Some (false, rest)) q e = by_arrow (is_arrow (head_of rest)) refl
   where
     by_arrow : (v : Bool) → is_arrow (head_of rest) ≡ v → DeepAt (paren_at b n) ts i
     by_arrow true a = listed_at b n p d ts false rest q (ap (λ (v : Bool). cond v (listed false) no_arrow) a) i e
     by_arrow false a =
-        let c : listed_by (past_names true ts) ≡ no_arrow = ap (λ (o : Option (Bool × List Token)). listed_by o) q ∙ ap (λ (v : Bool). cond v (listed false) no_arrow) a in
+        let c : listed_by (past_names true ts) ≡ no_arrow = ap (λ (o : Option (Bool × List Token)). listed_by o) q
+        ∙ ap (λ (v : Bool). cond v (listed false) no_arrow) a in
         open_at b n p s d ts i (h c) c e
 
 -- What stands behind a parenthesis keeps it, where an expression there is too deep behind the names only.
@@ -172,7 +206,12 @@ pub paren_deepens : (b : Below) (n : ℕ)
     → Pair b b
     → Spans b
     → DeepBelow b
-    → ((ts : List Token) → listed_by (past_names true ts) ≡ no_arrow → (i : ℕ) → b.expression ts ≡ Err (deep i) → DeepTo b.expression ts i (length (scan_end true ts)))
+    → ((ts : List Token)
+    → listed_by (past_names true ts) ≡ no_arrow
+    → (i : ℕ)
+    → b.expression ts ≡ Err (deep i)
+    → DeepTo b.expression ts i (length (scan_end true ts)))
     → (k : ℕ)
     → Deepens k (paren_at b n)
-paren_deepens b n p s d h k = record { at = λ ts l i e. paren_by b n p s d ts i (λ c z. h ts c i z) (past_names true ts) refl e }
+paren_deepens b n p s d h k =
+    record { at = λ ts l i e. paren_by b n p s d ts i (λ c z. h ts c i z) (past_names true ts) refl e }

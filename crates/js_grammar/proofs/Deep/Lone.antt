@@ -50,10 +50,14 @@ pub bare_deepens : DeepBelow bare
 bare_deepens = shallow_deepens operand operand (class_deepens begins_operand refl) (class_deepens begins_operand refl)
 
 pub bare_sound : (n : ℕ) → SoundBelow n bare
-bare_sound n = shallow_sound n operand operand (λ ts x p. absurd (class_none {A = Expression} begins_operand ts x p)) (λ ts x p. absurd (class_none {A = Expression} begins_operand ts x p))
+bare_sound n =
+    shallow_sound n operand operand (λ ts x p. absurd (class_none {A = Expression} begins_operand ts x p))
+    (λ ts x p. absurd (class_none {A = Expression} begins_operand ts x p))
 
 pub bare_alive : AliveBelow bare
-bare_alive = shallow_alive operand operand (λ ts e p. operand_lives 1 (omega arith) ts e p) (λ ts e p. operand_lives 0 (omega arith) ts e p)
+bare_alive =
+    shallow_alive operand operand (λ ts e p. operand_lives 1 (omega arith) ts e p)
+    (λ ts e p. operand_lives 0 (omega arith) ts e p)
 
 -- ---- where no height is allowed, what reads below doesn't count
 
@@ -71,7 +75,8 @@ links_same : (b c : Below) (e : Expression) (ts : List Token) → links b 0 (suc
 unfolding links
 links_same b c e ts = links_same_by b c (λ f r. links b 0 zero f r) (λ f r. links c 0 zero f r) e (link (head_of ts)) ts
 
-chain_same_by : (b c : Below) (go go' : Expression → Reader Expression) (e : Expression) (o : Option BinaryOperator) (ts : List Token)
+chain_same_by : (b c : Below) (go go' : Expression → Reader Expression) (e : Expression) (o : Option BinaryOperator)
+    (ts : List Token)
     → chain_by b 0 go e o ts ≡ chain_by c 0 go' e o ts
 chain_same_by b c go go' e None ts = refl
 chain_same_by b c go go' e (Some o) ts = rw (not_low e) refl
@@ -79,7 +84,9 @@ chain_same_by b c go go' e (Some o) ts = rw (not_low e) refl
 chain_same : (b c : Below) (e : Expression) (ts : List Token)
     → chain b 0 3 (suc zero) e ts ≡ chain c 0 3 (suc zero) e ts
 unfolding chain
-chain_same b c e ts = chain_same_by b c (λ f r. chain b 0 3 zero f r) (λ f r. chain c 0 3 zero f r) e (operator_from 3 (operator (head_of ts))) ts
+chain_same b c e ts =
+    chain_same_by b c (λ f r. chain b 0 3 zero f r) (λ f r. chain c 0 3 zero f r) e
+    (operator_from 3 (operator (head_of ts))) ts
 
 joined_same_by : (b c : Below) (e : Expression) (j : Joint) (ts : List Token)
     → joined_by b 0 e j ts ≡ joined_by c 0 e j ts
@@ -103,11 +110,16 @@ behind_same b c e ts =
     let two : Below → Read Expression = λ d. links d 0 (suc zero) e ts >>= λ x. update x.0 x.1 in
     let three : Below → Read Expression = λ d. two d >>= λ x. chain d 0 3 (suc zero) x.0 x.1 in
     let p : two b ≡ two c = ap (λ (x : Read Expression). x >>= λ x. update x.0 x.1) (links_same b c e ts) in
-    let q : three b ≡ three c = ap (λ (x : Read Expression). x >>= λ x. chain b 0 3 (suc zero) x.0 x.1) p ∙ then_same (two c) (λ f r. chain b 0 3 (suc zero) f r) (λ f r. chain c 0 3 (suc zero) f r) (chain_same b c) in
-    ap (λ (x : Read Expression). x >>= λ x. joined b 0 x.0 x.1) q ∙ then_same (three c) (λ f r. joined b 0 f r) (λ f r. joined c 0 f r) (joined_same b c)
+    let q : three b ≡ three c = ap (λ (x : Read Expression). x >>= λ x. chain b 0 3 (suc zero) x.0 x.1) p
+    ∙ then_same (two c) (λ f r. chain b 0 3 (suc zero) f r) (λ f r. chain c 0 3 (suc zero) f r) (chain_same b c) in
+    ap (λ (x : Read Expression). x >>= λ x. joined b 0 x.0 x.1) q
+    ∙ then_same (three c) (λ f r. joined b 0 f r) (λ f r. joined c 0 f r) (joined_same b c)
 
 pub bare_behind : (n : ℕ) (e : Expression) → Follows (λ ts. behind bare 0 e ts) (λ ts. behind (below n) n e ts)
-bare_behind n e = from (λ ts. behind (below zero) 0 e ts) (λ ts. behind bare 0 e ts) (λ ts. behind (below n) n e ts) (behind_same bare (below zero) e) (behind_follows (below zero) (below n) 0 n (omega arith) (pair_below zero n (omega arith)) e)
+bare_behind n e =
+    from (λ ts. behind (below zero) 0 e ts) (λ ts. behind bare 0 e ts) (λ ts. behind (below n) n e ts)
+    (behind_same bare (below zero) e)
+    (behind_follows (below zero) (below n) 0 n (omega arith) (pair_below zero n (omega arith)) e)
 
 -- ---- a name alone
 
@@ -136,7 +148,8 @@ lone_name_own s = peeks is_arrow (λ v ts. lone_name s v ts) (λ v ts. lone_name
 ])
 
 lone_by_own : (v : Start) → Follows (λ ts. lone_by v ts) (λ ts. lone_by v ts)
-lone_by_own (classes.a_name s) = past (λ ts. lone_name s (is_arrow (head_of ts)) ts) (λ ts. lone_name s (is_arrow (head_of ts)) ts) (lone_name_own s)
+lone_by_own (classes.a_name s) =
+    past (λ ts. lone_name s (is_arrow (head_of ts)) ts) (λ ts. lone_name s (is_arrow (head_of ts)) ts) (lone_name_own s)
 lone_by_own classes.parenthesis = lost (λ ts. lone_by classes.parenthesis ts)
 lone_by_own _ = operand_follows
 
@@ -156,29 +169,51 @@ plain_elsewhere : (b : Below) (n : ℕ) (ts : List Token)
 plain_elsewhere b n ts h = rw (operation_elsewhere b n 3 ts h) refl
 
 lone_by_follows : (n : ℕ) (v : Start) → Follows (λ ts. lone_by v ts) (λ ts. assignment_form (below n) n v ts)
-lone_by_follows n (classes.a_name s) = past (λ ts. lone_name s (is_arrow (head_of ts)) ts) (λ ts. named_form (below n) n s (is_arrow (head_of ts)) ts) (lone_name_follows n s)
+lone_by_follows n (classes.a_name s) =
+    past (λ ts. lone_name s (is_arrow (head_of ts)) ts) (λ ts. named_form (below n) n s (is_arrow (head_of ts)) ts)
+    (lone_name_follows n s)
 lone_by_follows n classes.parenthesis = lost (λ ts. assignment_form (below n) n classes.parenthesis ts)
 lone_by_follows n _ = class_follows begins_operand (λ ts. plain_form (below n) n ts) (plain_elsewhere (below n) n)
 
 -- what it answers, readers of all heights answer
 pub lone_follows : (n : ℕ) → Follows lone (λ ts. assignment (below n) n ts)
-lone_follows n = onto lone (λ ts. assignment_form (below n) n (start (head_of ts)) ts) (λ ts. assignment (below n) n ts) (assignment_is (below n) n) (peeks start (λ v ts. lone_by v ts) (λ v ts. assignment_form (below n) n v ts) (lone_by_follows n))
+lone_follows n =
+    onto lone (λ ts. assignment_form (below n) n (start (head_of ts)) ts) (λ ts. assignment (below n) n ts)
+    (assignment_is (below n) n)
+    (peeks start (λ v ts. lone_by v ts) (λ v ts. assignment_form (below n) n v ts) (lone_by_follows n))
 
 lost_deepens : {A : Type 0} (n : ℕ) → DeepensOn {A = A} n (λ ts. Err (deep (length (tail_of ts))))
-lost_deepens {A} n = record { at = λ t ts l j e. record { before = []; here = t; left = ts; parts = refl; counted = deep_is {A = A} (length ts) j e; never = λ r x q. absurd cc } }
+lost_deepens {A} n =
+    record {
+      at = λ t ts l j e. record {
+        before = [];
+        here = t;
+        left = ts;
+        parts = refl;
+        counted = deep_is {A = A}
+            (length ts) j e;
+        never = λ r x q. absurd cc;
+      };
+    }
 
 behind_nothing : (s : Identifier) → behind bare 0 (trees.name s) [] ≡ Ok (trees.name s, [])
 unfolding links chain joined
 behind_nothing s = refl
 
 lone_name_deepens : (n : ℕ) (s : Identifier) → Deepens n (λ ts. lone_name s (is_arrow (head_of ts)) ts)
-lone_name_deepens n s = deep_peeks n is_arrow (λ v ts. lone_name s v ts) (λ j e. let q : Ok (trees.name s, []) ≡ faulty {A = Expression} (deep j) = sym (behind_nothing s) ∙ e in absurd cc) (elim [
-  | true ↦ lost_deepens n
-  | false ↦ on n (λ ts. behind bare 0 (trees.name s) ts) (behind_deepens bare 0 bare_own bare_deepens n (trees.name s))
-])
+lone_name_deepens n s =
+    deep_peeks n is_arrow (λ v ts. lone_name s v ts)
+    (λ j e. let q : Ok (trees.name s, []) ≡ faulty {A = Expression} (deep j) = sym (behind_nothing s)
+    ∙ e in absurd cc)
+    (elim [
+      | true ↦ lost_deepens n
+      | false ↦ on n (λ ts. behind bare 0 (trees.name s) ts) (behind_deepens bare 0 bare_own bare_deepens n (trees.name s))
+    ])
 
 lone_by_deepens : (n : ℕ) (v : Start) → DeepensOn n (λ ts. lone_by v ts)
-lone_by_deepens n (classes.a_name s) = on n (λ ts. lone_by (classes.a_name s) ts) (deep_past n (λ ts. lone_name s (is_arrow (head_of ts)) ts) (lone_name_deepens n s))
+lone_by_deepens n (classes.a_name s) =
+    on n (λ ts. lone_by (classes.a_name s) ts)
+    (deep_past n (λ ts. lone_name s (is_arrow (head_of ts)) ts) (lone_name_deepens n s))
 lone_by_deepens n classes.parenthesis = lost_deepens n
 lone_by_deepens n _ = on n operand (class_deepens begins_operand refl n)
 
@@ -201,7 +236,9 @@ lone_alone : (t : Token) (ts : List Token)
 lone_alone t [] e h = absurd cc
 lone_alone t (u ∷ ts) e h =
     let d : Ended (Some u) = ended_at u h in
-    lone_at_name t (u ∷ ts) e ∙ ap (λ (v : Bool). lone_name t.string_value v (u ∷ ts)) d.not_arrow ∙ behind_alone bare 0 (trees.name t.string_value) u ts h
+    lone_at_name t (u ∷ ts) e
+    ∙ ap (λ (v : Bool). lone_name t.string_value v (u ∷ ts)) d.not_arrow
+    ∙ behind_alone bare 0 (trees.name t.string_value) u ts h
 
 pub lone_names : Names lone
 lone_names = record {
@@ -209,7 +246,8 @@ lone_names = record {
   alone = λ t ts e h. inr (trees.name t.string_value, lone_alone t ts e h);
   past = λ t ts e.
       let form : Reader Expression = λ r. lone_name t.string_value (is_arrow (head_of r)) r in
-      subst (λ (x : Read Expression). Within x (length ts)) (sym (lone_at_name t ts e)) (not_longer form form (lone_name_own t.string_value) ts);
+      subst (λ (x : Read Expression). Within x (length ts)) (sym (lone_at_name t ts e))
+      (not_longer form form (lone_name_own t.string_value) ts);
 }
 
 behind_lone : (t : Token) (ts : List Token)
@@ -219,7 +257,8 @@ behind_lone : (t : Token) (ts : List Token)
     → DeepTo lone (t ∷ ts) i (length ts)
 behind_lone t ts n i e =
     let form : Reader Expression = λ r. lone_name t.string_value (is_arrow (head_of r)) r in
-    let c = deep_to_all form ts i ((lone_name_deepens (length ts) t.string_value).at ts (omega arith) i (sym (lone_at_name t ts n) ∙ e)) in
+    let c = deep_to_all form ts i
+    ((lone_name_deepens (length ts) t.string_value).at ts (omega arith) i (sym (lone_at_name t ts n) ∙ e)) in
     record {
       deep_at = record {
         before = t ∷ c.deep_at.before;

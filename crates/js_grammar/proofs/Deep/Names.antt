@@ -20,7 +20,12 @@ pub record DeepTo {A : Type 0} (f : Reader A) (ts : List Token) (i k : ℕ) : Ty
   pub near : suc (length deep_at.left) ≤ k
 
 pub deep_to_all : {A : Type 0} (f : Reader A) (ts : List Token) (i : ℕ) → DeepAt f ts i → DeepTo f ts i (length ts)
-deep_to_all f ts i d = record { deep_at = d; near = omega (arith, ap (λ (l : List Token). length l) d.parts, length-append d.before (d.here ∷ d.left)) }
+deep_to_all f ts i d =
+    record {
+      deep_at = d;
+      near = omega
+          (arith, ap (λ (l : List Token). length l) d.parts, length-append d.before (d.here ∷ d.left));
+    }
 
 pub deep_to_more : {A : Type 0} (f : Reader A) (ts : List Token) (i k j : ℕ) → k ≤ j → DeepTo f ts i k → DeepTo f ts i j
 deep_to_more f ts i k j le d = record { deep_at = d.deep_at; near = omega (arith, d.near) }
@@ -36,7 +41,9 @@ lift_first f g ts i k d = record {
     left = d.deep_at.left;
     parts = d.deep_at.parts;
     counted = d.deep_at.counted;
-    never = λ r x o. let b = bind_ok (f (d.deep_at.before ++ (d.deep_at.here ∷ r))) (λ x. g x.0 x.1) x o in d.deep_at.never r b.0 b.1;
+    never =
+        λ r x o. let b = bind_ok (f (d.deep_at.before ++ (d.deep_at.here ∷ r))) (λ x. g x.0 x.1) x o in
+        d.deep_at.never r b.0 b.1;
   };
   near = d.near;
 }
@@ -59,8 +66,12 @@ lift_second {A} {B} f g h ts a u i k q dt =
         parts = p.1 ∙ ap (λ (l : List Token). p.0 ++ l) d.parts ∙ sym (append_assoc p.0 d.before (d.here ∷ d.left));
         counted = d.counted;
         never = λ r x o.
-            let head : head_of (d.before ++ (d.here ∷ r)) ≡ head_of u = head_past d.before (d.here ∷ r) (d.here ∷ d.left) refl ∙ ap (λ (l : List Token). head_of l) (sym d.parts) in
-            let is : f ((p.0 ++ d.before) ++ (d.here ∷ r)) ≡ Ok (a, d.before ++ (d.here ∷ r)) = ap (λ (l : List Token). f l) (append_assoc p.0 d.before (d.here ∷ r)) ∙ p.2 (d.before ++ (d.here ∷ r)) head in
+            let head : head_of (d.before ++ (d.here ∷ r)) ≡ head_of u = head_past d.before (d.here ∷ r)
+            (d.here ∷ d.left) refl
+            ∙ ap (λ (l : List Token). head_of l) (sym d.parts) in
+            let is : f ((p.0 ++ d.before) ++ (d.here ∷ r)) ≡ Ok (a, d.before ++ (d.here ∷ r)) = ap
+            (λ (l : List Token). f l) (append_assoc p.0 d.before (d.here ∷ r))
+            ∙ p.2 (d.before ++ (d.here ∷ r)) head in
             d.never r x (ap (λ (x : Read A). x >>= λ x. g x.0 x.1) (sym is) ∙ o);
       };
       near = dt.near;
@@ -82,9 +93,12 @@ to_then {A} {B} f g h d ts i k w first e = by_answer (f ts) refl w e
         → Within x k
         → (x >>= λ x. g x.0 x.1) ≡ Err (deep i)
         → DeepTo (λ ts. f ts >>= λ x. g x.0 x.1) ts i k
-    by_answer (Ok (a, u)) q w e = lift_second f g h ts a u i k q (deep_to_more (g a) u i (length u) k w (deep_to_all (g a) u i ((d (length u) a).at u (omega arith) i e)))
+    by_answer (Ok (a, u)) q w e =
+        lift_second f g h ts a u i k q
+        (deep_to_more (g a) u i (length u) k w (deep_to_all (g a) u i ((d (length u) a).at u (omega arith) i e)))
     by_answer (Err (stuck j)) q w e = absurd cc
-    by_answer (Err (deep j)) q w e = lift_first f g ts i k (first (q ∙ ap (λ (j : ℕ). Err (deep j)) (deep_is {A = B} j i e)))
+    by_answer (Err (deep j)) q w e =
+        lift_first f g ts i k (first (q ∙ ap (λ (j : ℕ). Err (deep j)) (deep_is {A = B} j i e)))
 
 -- a reader that reads names alone
 pub record Sure {A : Type 0} (P : A → Type 0) (one : Reader A) : Type 0 where
@@ -108,12 +122,21 @@ pub names_deep : {A B : Type 0} (P : A → Type 0) (one : Reader A)
     → ((n : ℕ) (a : A) → Deepens n (go a))
     → (ts : List Token)
     → listed_by (past_names true ts) ≡ no_arrow
-    → ((a : A) (r : List Token) → P a → suc (length r) ≤ length ts → listed_by (past_names false r) ≡ no_arrow → (i : ℕ) → go a r ≡ Err (deep i) → DeepTo (go a) r i (length (scan_end false r)))
+    → ((a : A) (r : List Token)
+    → P a
+    → suc (length r) ≤ length ts
+    → listed_by (past_names false r) ≡ no_arrow
+    → (i : ℕ)
+    → go a r ≡ Err (deep i)
+    → DeepTo (go a) r i (length (scan_end false r)))
     → (i : ℕ)
     → (one ts >>= λ x. go x.0 x.1) ≡ Err (deep i)
     → DeepTo (λ ts. one ts >>= λ x. go x.0 x.1) ts i (length (scan_end true ts))
-names_deep {A} {B} P one s go f d [] e h j q = deep_to_all (λ ts. one ts >>= λ x. go x.0 x.1) [] j ((deep_then 0 one go s.names.follows (s.keeps 0) (λ a. d 0 a)).at [] (omega arith) j q)
-names_deep {A} {B} P one s go f d (t ∷ ts) e h j q = by_kind (is_kind kinds.RightParenthesis (Some t)) (is_kind kinds.Name (Some t)) refl e
+names_deep {A} {B} P one s go f d [] e h j q =
+    deep_to_all (λ ts. one ts >>= λ x. go x.0 x.1) [] j
+    ((deep_then 0 one go s.names.follows (s.keeps 0) (λ a. d 0 a)).at [] (omega arith) j q)
+names_deep {A} {B} P one s go f d (t ∷ ts) e h j q =
+    by_kind (is_kind kinds.RightParenthesis (Some t)) (is_kind kinds.Name (Some t)) refl e
   where
     whole : Reader B
     whole ts = one ts >>= λ x. go x.0 x.1
@@ -123,10 +146,13 @@ names_deep {A} {B} P one s go f d (t ∷ ts) e h j q = by_kind (is_kind kinds.Ri
         → is_kind kinds.Name (Some t) ≡ true
         → listed_by (past_names false ts) ≡ no_arrow
         → DeepTo whole (t ∷ ts) j (length (scan_end false ts))
-    by_end false v n c = subst (λ (l : List Token). DeepTo whole (t ∷ ts) j (length l)) (sym (not_ended ts v)) (to_then one go s.names.follows d (t ∷ ts) j (length ts) (s.names.past t ts n) (s.behind t ts n j) q)
+    by_end false v n c =
+        subst (λ (l : List Token). DeepTo whole (t ∷ ts) j (length l)) (sym (not_ended ts v))
+        (to_then one go s.names.follows d (t ∷ ts) j (length ts) (s.names.past t ts n) (s.behind t ts n j) q)
     by_end true v n c =
         let o = s.sure t ts n v in
-        lift_second one go s.names.follows (t ∷ ts) o.0 ts j (length (scan_end false ts)) o.1 (h o.0 ts o.2 (omega arith) c j (ap (λ (x : Read A). x >>= λ x. go x.0 x.1) (sym o.1) ∙ q))
+        lift_second one go s.names.follows (t ∷ ts) o.0 ts j (length (scan_end false ts)) o.1
+        (h o.0 ts o.2 (omega arith) c j (ap (λ (x : Read A). x >>= λ x. go x.0 x.1) (sym o.1) ∙ q))
 
     by_kind : (p n : Bool)
         → is_kind kinds.Name (Some t) ≡ n
@@ -134,7 +160,11 @@ names_deep {A} {B} P one s go f d (t ∷ ts) e h j q = by_kind (is_kind kinds.Ri
         → DeepTo whole (t ∷ ts) j (length (cond p ts (cond n (scan_end false ts) (t ∷ ts))))
     by_kind true n i c = absurd cc
     by_kind false true i c = by_end (ends_name (head_of ts)) refl i c
-    by_kind false false i c = deep_to_all whole (t ∷ ts) j ((deep_then (suc (length ts)) one go s.names.follows (s.keeps (suc (length ts))) (λ a. d (suc (length ts)) a)).at (t ∷ ts) (omega arith) j q)
+    by_kind false false i c =
+        deep_to_all whole (t ∷ ts) j
+        ((deep_then (suc (length ts)) one go s.names.follows (s.keeps (suc (length ts)))
+        (λ a. d (suc (length ts)) a)).at
+        (t ∷ ts) (omega arith) j q)
 
 -- ---- further names
 
@@ -163,22 +193,30 @@ others_is : {A : Type 0} (one : Reader A)
     → (ts : List Token)
     → others_of one ts ≡ others_form one (is_kind kinds.Comma (head_of ts)) ts
 others_is {A} one f ts =
-    one_turn (others_body (one_of one) no_state) (λ k s ts. others (one_of one) no_state k s ts) (others_turns (one_of one) no_state) (others_local (one_of one) no_state (λ s. shortens one one f)) tt ts ∙ by_comma (is_kind kinds.Comma (head_of ts))
+    one_turn (others_body (one_of one) no_state) (λ k s ts. others (one_of one) no_state k s ts)
+    (others_turns (one_of one) no_state) (others_local (one_of one) no_state (λ s. shortens one one f)) tt ts
+    ∙ by_comma (is_kind kinds.Comma (head_of ts))
   where
     by_comma : (v : Bool)
-        → others_by (one_of one) no_state (λ u r. others (one_of one) no_state (suc (length r)) u r) tt v ts ≡ others_form one v ts
+        → others_by (one_of one) no_state (λ u r. others (one_of one) no_state (suc (length r)) u r)
+        tt v ts ≡ others_form one v ts
     by_comma true = refl
     by_comma false = refl
 
 rest_follows : {A : Type 0} (one : Reader A) → Follows one one → (a : A) → Follows (rest_of one a) (rest_of one a)
-rest_follows one f a = makes (others_of one) (others_of one) (λ ys. a ∷ ys) (others_follows (one_of one) (one_of one) no_state (λ s. f) (λ s. shortens one one f) tt)
+rest_follows one f a =
+    makes (others_of one) (others_of one) (λ ys. a ∷ ys)
+    (others_follows (one_of one) (one_of one) no_state (λ s. f) (λ s. shortens one one f) tt)
 
 rest_deepens : {A : Type 0} (one : Reader A)
     → Follows one one
     → ((n : ℕ) → Deepens n one)
     → (n : ℕ) (a : A)
     → Deepens n (rest_of one a)
-rest_deepens one f d n a = deep_makes n (others_of one) (λ ys. a ∷ ys) (others_follows (one_of one) (one_of one) no_state (λ s. f) (λ s. shortens one one f) tt) (others_deepens (one_of one) no_state (λ s. f) (λ n s. d n) n tt)
+rest_deepens one f d n a =
+    deep_makes n (others_of one) (λ ys. a ∷ ys)
+    (others_follows (one_of one) (one_of one) no_state (λ s. f) (λ s. shortens one one f) tt)
+    (others_deepens (one_of one) no_state (λ s. f) (λ n s. d n) n tt)
 
 -- seen from the comma on
 from_comma : {A : Type 0} (one : Reader A)
@@ -206,29 +244,47 @@ comma_step : {A : Type 0} (P : A → Type 0) (one : Reader A)
     → (t : Token) (us : List Token)
     → is_kind kinds.Comma (Some t) ≡ true
     → listed_by (past_names true us) ≡ no_arrow
-    → ((r : List Token) → suc (length r) ≤ length us → listed_by (past_names false r) ≡ no_arrow → (i : ℕ) → others_of one r ≡ Err (deep i) → DeepTo (others_of one) r i (length (scan_end false r)))
+    → ((r : List Token)
+    → suc (length r) ≤ length us
+    → listed_by (past_names false r) ≡ no_arrow
+    → (i : ℕ)
+    → others_of one r ≡ Err (deep i)
+    → DeepTo (others_of one) r i (length (scan_end false r)))
     → (i : ℕ) → others_of one (t ∷ us) ≡ Err (deep i) → DeepTo (others_of one) (t ∷ us) i (length (scan_end true us))
 comma_step {A} P one s t us c q h i e =
     let f : Follows one one = s.names.follows in
-    let e' : behind_comma one us ≡ Err (deep i) = sym (others_is one f (t ∷ us) ∙ ap (λ (v : Bool). others_form one v (t ∷ us)) c) ∙ e in
+    let e' : behind_comma one us ≡ Err (deep i) = sym
+    (others_is one f (t ∷ us) ∙ ap (λ (v : Bool). others_form one v (t ∷ us)) c)
+    ∙ e in
     from_comma one f t us i (length (scan_end true us)) c
     (names_deep P one s (rest_of one) (rest_follows one f) (rest_deepens one f s.keeps) us q
-    (λ a r p l q' j z. lift_first (others_of one) (λ ys ts. Ok (a ∷ ys, ts)) r j (length (scan_end false r)) (h r l q' j (made_deep (others_of one r) (λ ys. a ∷ ys) j z))) i e')
+    (λ a r p l q' j z. lift_first (others_of one) (λ ys ts. Ok (a ∷ ys, ts)) r j (length (scan_end false r))
+    (h r l q' j (made_deep (others_of one r) (λ ys. a ∷ ys) j z)))
+    i e')
 
 others_by_comma : {A : Type 0} (P : A → Type 0) (one : Reader A)
     → Sure P one
     → (v : Bool) (ts : List Token)
     → is_kind kinds.Comma (head_of ts) ≡ v
-    → ((r : List Token) → suc (length r) ≤ length ts → listed_by (past_names false r) ≡ no_arrow → (i : ℕ) → others_of one r ≡ Err (deep i) → DeepTo (others_of one) r i (length (scan_end false r)))
+    → ((r : List Token)
+    → suc (length r) ≤ length ts
+    → listed_by (past_names false r) ≡ no_arrow
+    → (i : ℕ)
+    → others_of one r ≡ Err (deep i)
+    → DeepTo (others_of one) r i (length (scan_end false r)))
     → listed_by (past_names false ts) ≡ no_arrow
     → (i : ℕ)
     → others_of one ts ≡ Err (deep i)
     → DeepTo (others_of one) ts i (length (scan_end false ts))
 others_by_comma {A} P one s false ts c h q i e =
-    let z : others_form one false ts ≡ Err (deep i) = sym (others_is one s.names.follows ts ∙ ap (λ (v : Bool). others_form one v ts) c) ∙ e in
+    let z : others_form one false ts ≡ Err (deep i) = sym
+    (others_is one s.names.follows ts ∙ ap (λ (v : Bool). others_form one v ts) c)
+    ∙ e in
     absurd cc
 others_by_comma P one s true [] c h q i e = absurd cc
-others_by_comma P one s true (t ∷ us) c h q i e = rw (paren_of_comma t c, c) (comma_step P one s t us c (rw (paren_of_comma t c, c) at q) (λ r l. h r (omega arith)) i e)
+others_by_comma P one s true (t ∷ us) c h q i e =
+    rw (paren_of_comma t c, c)
+    (comma_step P one s t us c (rw (paren_of_comma t c, c) at q) (λ r l. h r (omega arith)) i e)
 
 pub others_deep : {A : Type 0} (P : A → Type 0) (one : Reader A)
     → Sure P one
@@ -238,5 +294,8 @@ pub others_deep : {A : Type 0} (P : A → Type 0) (one : Reader A)
     → (i : ℕ)
     → others_of one ts ≡ Err (deep i)
     → DeepTo (others_of one) ts i (length (scan_end false ts))
-others_deep P one s zero ts l q i e = others_by_comma P one s (is_kind kinds.Comma (head_of ts)) ts refl (λ r m c j z. absurd (omega arith)) q i e
-others_deep P one s (suc k) ts l q i e = others_by_comma P one s (is_kind kinds.Comma (head_of ts)) ts refl (λ r m c j z. others_deep P one s k r (omega arith) c j z) q i e
+others_deep P one s zero ts l q i e =
+    others_by_comma P one s (is_kind kinds.Comma (head_of ts)) ts refl (λ r m c j z. absurd (omega arith)) q i e
+others_deep P one s (suc k) ts l q i e =
+    others_by_comma P one s (is_kind kinds.Comma (head_of ts)) ts refl
+    (λ r m c j z. others_deep P one s k r (omega arith) c j z) q i e

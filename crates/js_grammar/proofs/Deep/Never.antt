@@ -33,11 +33,15 @@ behind_deepens b m p d n e =
     let two : Reader Expression = λ ts. one ts >>= λ x. updated_by m x.0 (update_near (head_of x.1)) x.1 in
     let three : Reader Expression = λ ts. two ts >>= λ x. chain b m 3 (suc m) x.0 x.1 in
     let first : Follows one one = links_follows b b m m same p (suc m) (suc m) (omega arith) e in
-    let second : Follows two two = binds one one (λ f ts. updated_by m f (update_near (head_of ts)) ts) (λ f ts. updated_by m f (update_near (head_of ts)) ts) first (updated_follows m m same) in
-    let third : Follows three three = binds two two (λ f ts. chain b m 3 (suc m) f ts) (λ f ts. chain b m 3 (suc m) f ts) second (λ f. chain_follows b b m m same p 3 (suc m) (suc m) (omega arith) f) in
+    let second : Follows two two = binds one one (λ f ts. updated_by m f (update_near (head_of ts)) ts)
+    (λ f ts. updated_by m f (update_near (head_of ts)) ts) first (updated_follows m m same) in
+    let third : Follows three three = binds two two (λ f ts. chain b m 3 (suc m) f ts)
+    (λ f ts. chain b m 3 (suc m) f ts) second (λ f. chain_follows b b m m same p 3 (suc m) (suc m) (omega arith) f)
+    in
     deep_then n three (λ f ts. joined b m f ts) third
     (deep_then n two (λ f ts. chain b m 3 (suc m) f ts) second
-    (deep_then n one (λ f ts. updated_by m f (update_near (head_of ts)) ts) first (links_deepens b m p d n m e (omega (arith, height_positive e))) (λ f. updated_deepens m n f))
+    (deep_then n one (λ f ts. updated_by m f (update_near (head_of ts)) ts) first
+    (links_deepens b m p d n m e (omega (arith, height_positive e))) (λ f. updated_deepens m n f))
     (λ f. chain_deepens b m 3 p d n m f (omega (arith, height_positive f))))
     (λ f. joined_deepens b m p d n f)
 
@@ -52,7 +56,9 @@ named_deepens b m p d n s = deep_peeks_all n is_arrow (λ v ts. named_form b m s
 ])
 
 plain_deepens : (b : Below) (m : ℕ) → Pair b b → DeepBelow b → (n : ℕ) → Deepens n (λ ts. plain_form b m ts)
-plain_deepens b m p d n = deep_then n (λ ts. operation b m 3 ts) (λ e ts. joined b m e ts) (operation_follows b b m m (omega arith) p 3) (operation_deepens b m p d n 3) (joined_deepens b m p d n)
+plain_deepens b m p d n =
+    deep_then n (λ ts. operation b m 3 ts) (λ e ts. joined b m e ts) (operation_follows b b m m (omega arith) p 3)
+    (operation_deepens b m p d n 3) (joined_deepens b m p d n)
 
 form_deepens : (b : Below) (m : ℕ)
     → Pair b b
@@ -61,7 +67,8 @@ form_deepens : (b : Below) (m : ℕ)
     → Deepens n (paren_at b m)
     → (v : Start)
     → Deepens n (λ ts. assignment_form b m v ts)
-form_deepens b m p d n h (classes.a_name s) = deep_past n (λ ts. named_form b m s (is_arrow (head_of ts)) ts) (named_deepens b m p d n s)
+form_deepens b m p d n h (classes.a_name s) =
+    deep_past n (λ ts. named_form b m s (is_arrow (head_of ts)) ts) (named_deepens b m p d n s)
 form_deepens b m p d n h classes.parenthesis = deep_past n (paren_at b m) h
 form_deepens b m p d n h _ = plain_deepens b m p d n
 
@@ -72,7 +79,8 @@ pub assignment_deepens : (b : Below) (m : ℕ)
     → (n : ℕ)
     → Deepens n (paren_at b m)
     → Deepens n (λ ts. assignment b m ts)
-assignment_deepens b m p d n h = deep_as n (λ ts. assignment_form b m (start (head_of ts)) ts) (λ ts. assignment b m ts) (assignment_is b m)
+assignment_deepens b m p d n h =
+    deep_as n (λ ts. assignment_form b m (start (head_of ts)) ts) (λ ts. assignment b m ts) (assignment_is b m)
     (deep_peeks_all n start (λ v ts. assignment_form b m v ts) (form_deepens b m p d n h))
 
 -- ---- one step up

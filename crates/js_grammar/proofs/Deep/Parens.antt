@@ -37,7 +37,10 @@ behind_name : (b : Below) (m : ℕ)
     → DeepTo (λ r. assignment b m r) (t ∷ ts) i (length ts)
 behind_name b m p d t ts n i e =
     let form : Reader Expression = λ r. named_form b m t.string_value (is_arrow (head_of r)) r in
-    let c = deep_to_all form ts i ((named_deepens b m p d (length ts) t.string_value).at ts (omega arith) i (sym (named_assignment b m t ts n) ∙ e)) in
+    let c = deep_to_all form ts i
+    ((named_deepens b m p d (length ts) t.string_value).at ts (omega arith) i
+    (sym (named_assignment b m t ts n) ∙ e))
+    in
     record {
       deep_at = record {
         before = t ∷ c.deep_at.before;
@@ -45,7 +48,9 @@ behind_name b m p d t ts n i e =
         left = c.deep_at.left;
         parts = ap (λ (l : List Token). t ∷ l) c.deep_at.parts;
         counted = c.deep_at.counted;
-        never = λ r x o. c.deep_at.never r x (sym (named_assignment b m t (c.deep_at.before ++ (c.deep_at.here ∷ r)) n) ∙ o);
+        never =
+            λ r x o. c.deep_at.never r x
+            (sym (named_assignment b m t (c.deep_at.before ++ (c.deep_at.here ∷ r)) n) ∙ o);
       };
       near = c.near;
     }
@@ -71,7 +76,10 @@ more_deep : (b : Below)
     → more_assignments b ts ≡ Err (deep i)
     → DeepTo (λ r. more_assignments b r) ts i (length (scan_end false ts))
 unfolding more_assignments
-more_deep b s ts q i e = lift_first (others_of b.assignment) (λ xs r. Ok (expressions xs, r)) ts i (length (scan_end false ts)) (others_deep Low b.assignment s (length ts) ts (omega arith) q i (made_deep (others_of b.assignment ts) expressions i e))
+more_deep b s ts q i e =
+    lift_first (others_of b.assignment) (λ xs r. Ok (expressions xs, r)) ts i (length (scan_end false ts))
+    (others_deep Low b.assignment s (length ts) ts (omega arith) q i
+    (made_deep (others_of b.assignment ts) expressions i e))
 
 -- what stands at a comma
 abbrev pub at_comma : Below → ℕ → Expression → Reader Expression
@@ -105,7 +113,10 @@ comma_deep b m s le e low ts q false c i z =
 comma_deep b m s le e low ts q true c i z =
     let fits : nat_le (height e) m ≡ true = le-leb (height e) m (omega (arith, low, le)) in
     let y : comma_of b e ts ≡ Err (deep i) = sym (comma_is b m e fits ts c) ∙ z in
-    let d = lift_first (λ r. more_assignments b r) (λ es r. Ok (trees.comma (trees.an_expression e es), r)) ts i (length (scan_end false ts)) (more_deep b s ts q i (made_deep (more_assignments b ts) (λ es. trees.comma (trees.an_expression e es)) i y)) in
+    let d = lift_first (λ r. more_assignments b r) (λ es r. Ok (trees.comma (trees.an_expression e es), r)) ts i
+    (length (scan_end false ts))
+    (more_deep b s ts q i (made_deep (more_assignments b ts) (λ es. trees.comma (trees.an_expression e es)) i y))
+    in
     record {
       deep_at = record {
         before = d.deep_at.before;
@@ -115,8 +126,11 @@ comma_deep b m s le e low ts q true c i z =
         counted = d.deep_at.counted;
         never = λ r x o.
             let us : List Token = d.deep_at.before ++ (d.deep_at.here ∷ r) in
-            let same : head_of us ≡ head_of ts = head_past d.deep_at.before (d.deep_at.here ∷ r) (d.deep_at.here ∷ d.deep_at.left) refl ∙ ap (λ (l : List Token). head_of l) (sym d.deep_at.parts) in
-            d.deep_at.never r x (sym (comma_is b m e fits us (ap (λ (o : Option Token). is_kind kinds.Comma o) same ∙ c)) ∙ o);
+            let same : head_of us ≡ head_of ts = head_past d.deep_at.before (d.deep_at.here ∷ r)
+            (d.deep_at.here ∷ d.deep_at.left) refl
+            ∙ ap (λ (l : List Token). head_of l) (sym d.deep_at.parts) in
+            d.deep_at.never r x
+            (sym (comma_is b m e fits us (ap (λ (o : Option Token). is_kind kinds.Comma o) same ∙ c)) ∙ o);
       };
       near = d.near;
     }
@@ -135,5 +149,6 @@ pub expression_deep : (b : Below) (m : ℕ)
     → DeepTo (λ r. expression b m r) ts i (length (scan_end true ts))
 unfolding expression
 expression_deep b m p d le one two ts q i e =
-    names_deep Low (λ r. assignment b m r) one (at_comma b m) (comma_follows b b m m (omega arith) p) (λ n f. comma_deepens b m p d n f) ts q
+    names_deep Low (λ r. assignment b m r) one (at_comma b m) (comma_follows b b m m (omega arith) p)
+    (λ n f. comma_deepens b m p d n f) ts q
     (λ f r low l c j z. comma_deep b m two le f low r c (is_kind kinds.Comma (head_of r)) refl j z) i e

@@ -63,12 +63,16 @@ of_two = arrow_block (name_list ([] ∷ (1 ∷ []) ∷ [])) no_statements
 
 -- (a, b) is too deep behind its comma,
 names_deep : p.parse_expression 2 two_names ≡ Err (r.deep 2)
-unfolding p.parse_expression p.below p.expression p.assignment p.joined p.arrow_of_list p.arrow_of_one p.arrow_rest p.operation p.chain p.unary p.postfix p.call p.links p.primary q.more_assignments q.names_before q.items_at q.braces r.expect r.expect_near r.name_at r.elements r.others r.items
+unfolding p.parse_expression p.below p.expression p.assignment p.joined p.arrow_of_list p.arrow_of_one p.arrow_rest
+    p.operation p.chain p.unary p.postfix p.call p.links p.primary q.more_assignments q.names_before q.items_at q.braces
+    r.expect r.expect_near r.name_at r.elements r.others r.items
 names_deep = refl
 
 -- (a, b) => {} is read.
 arrow_read : p.parse_expression 1 (two_names ++ an_arrow) ≡ Ok of_two
-unfolding p.parse_expression p.below p.expression p.assignment p.joined p.arrow_of_list p.arrow_of_one p.arrow_rest p.operation p.chain p.unary p.postfix p.call p.links p.primary q.more_assignments q.names_before q.items_at q.braces r.expect r.expect_near r.name_at r.elements r.others r.items
+unfolding p.parse_expression p.below p.expression p.assignment p.joined p.arrow_of_list p.arrow_of_one p.arrow_rest
+    p.operation p.chain p.unary p.postfix p.call p.links p.primary q.more_assignments q.names_before q.items_at q.braces
+    r.expect r.expect_near r.name_at r.elements r.others r.items
 arrow_read = refl
 
 -- All first tokens of it begin an arrow function, which is no deeper than 1.
@@ -85,7 +89,8 @@ names_not_too_deep = (
         (
           shallow 1 (a k.LeftParenthesis ∷ a_name [] ∷ a k.Comma ∷ []) (second ++ an_arrow) of_two arrow_read,
           (
-            shallow 1 (a k.LeftParenthesis ∷ a_name [] ∷ a k.Comma ∷ a_name (1 ∷ []) ∷ []) (a k.RightParenthesis ∷ an_arrow) of_two arrow_read,
+            shallow 1 (a k.LeftParenthesis ∷ a_name [] ∷ a k.Comma ∷ a_name (1 ∷ []) ∷ [])
+                (a k.RightParenthesis ∷ an_arrow) of_two arrow_read,
             shallow 1 two_names an_arrow of_two arrow_read,
           ),
         ),

@@ -52,13 +52,21 @@ takes_from : (n : ℕ)
     → FollowsBelow (room n) (below (raised n))
     → (context : Context) (taken : List Identifier)
     → Takes (λ ts. (room n).item context taken ts)
-takes_from n f context taken ts x e = item_takes (raised n) context taken ts x (answers_so (λ ts. (room n).item context taken ts) (λ ts. (below (raised n)).item context taken ts) (f.item context taken) ts x e)
+takes_from n f context taken ts x e =
+    item_takes (raised n) context taken ts x
+    (answers_so (λ ts. (room n).item context taken ts) (λ ts. (below (raised n)).item context taken ts)
+    (f.item context taken) ts x e)
 
 pub pair_own : (n : ℕ) → Kept n → Pair (room n) (room n)
 pair_own n k = record { both = k.own; right = k.own; takes = takes_from n k.up }
 
 pub pair_up : (n : ℕ) → Kept n → Pair (room n) (below (raised n))
-pair_up n k = record { both = k.up; right = (pair_below (raised n) (raised n) (omega arith)).right; takes = item_takes (raised n) }
+pair_up n k =
+    record {
+      both = k.up;
+      right = (pair_below (raised n) (raised n) (omega arith)).right;
+      takes = item_takes (raised n);
+    }
 
 pub pair_down : (n : ℕ) → Kept n → Pair (below n) (room n)
 pair_down n k = record { both = k.down; right = k.own; takes = takes_from n k.up }
@@ -81,19 +89,25 @@ kept_zero = record {
 
 up_suc : (n : ℕ) → Kept n → FollowsBelow (step (room n) (raised n)) (below (suc (raised n)))
 unfolding below
-up_suc n k = step_follows (room n) (below (raised n)) (raised n) (raised n) (omega arith) (pair_up n k) (pair_own n k) k.spans
+up_suc n k =
+    step_follows (room n) (below (raised n)) (raised n) (raised n) (omega arith) (pair_up n k) (pair_own n k) k.spans
 
 down_suc : (n : ℕ) → Kept n → FollowsBelow (below (suc n)) (step (room n) (raised n))
 unfolding below
-down_suc n k = step_follows (below n) (room n) n (raised n) (omega arith) (pair_down n k) (pair_below n n (omega arith)) (spans_below n)
+down_suc n k =
+    step_follows (below n) (room n) n (raised n) (omega arith) (pair_down n k) (pair_below n n (omega arith))
+    (spans_below n)
 
 kept_suc : (n : ℕ) → Kept n → Kept (suc n)
 unfolding room
 kept_suc n k =
     let p : Pair (room n) (room n) = pair_own n k in
-    let own : FollowsBelow (step (room n) (raised n)) (step (room n) (raised n)) = step_follows (room n) (room n) (raised n) (raised n) (omega arith) p p k.spans in
-    let paren : (j : ℕ) → Deepens j (paren_at (room n) (raised n)) = paren_deepens (room n) (raised n) p k.spans k.deepens k.hides in
-    let sure : Sure Low (step (room n) (raised n)).assignment = assignment_sure (room n) (raised n) p k.spans k.deepens (λ j. assignment_deepens (room n) (raised n) p k.deepens j (paren j)) in
+    let own : FollowsBelow (step (room n) (raised n)) (step (room n) (raised n)) = step_follows (room n) (room n)
+    (raised n) (raised n) (omega arith) p p k.spans in
+    let paren : (j : ℕ)
+    → Deepens j (paren_at (room n) (raised n)) = paren_deepens (room n) (raised n) p k.spans k.deepens k.hides in
+    let sure : Sure Low (step (room n) (raised n)).assignment = assignment_sure (room n) (raised n) p k.spans k.deepens
+    (λ j. assignment_deepens (room n) (raised n) p k.deepens j (paren j)) in
     record {
       own = own;
       spans = step_spans (room n) (raised n) p k.spans;

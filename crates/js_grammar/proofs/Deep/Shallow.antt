@@ -62,7 +62,16 @@ class_deepens {A} test none n = record {
         → test (Some t) ≡ v
         → cond v (Err (deep (length ts))) (Err (stuck (suc (length ts)))) ≡ faulty {A = A} (deep k)
         → DeepAt {A = A} (λ us. at_class test us) (t ∷ ts) k
-    by_test t ts k true h e = record { before = []; here = t; left = ts; parts = refl; counted = deep_is {A = A} (length ts) k e; never = λ r x q. class_none {A = A} test (t ∷ r) x q }
+    by_test t ts k true h e =
+        record {
+          before = [];
+          here = t;
+          left = ts;
+          parts = refl;
+          counted = deep_is {A = A} (length ts)
+              k e;
+          never = λ r x q. class_none {A = A} test (t ∷ r) x q;
+        }
     by_test t ts k false h e = absurd cc
 
 -- what is stuck elsewhere too answers alike
@@ -75,14 +84,23 @@ class_follows {A} test g h = record { at = λ ts. by_test ts (test (head_of ts))
         → test (head_of ts) ≡ v
         → FollowsAt (cond v (Err (deep (length (tail_of ts)))) (Err (stuck (length ts)))) g ts
     by_test ts true e = λ c. absurd c
-    by_test ts false e = λ c. record { pre = []; left = ts; parts = refl; same = refl; again = λ r q. h r (ap (λ (o : Option Token). test o) q ∙ e) }
+    by_test ts false e =
+        λ c. record {
+          pre = [];
+          left = ts;
+          parts = refl;
+          same = refl;
+          again = λ r q. h r
+              (ap (λ (o : Option Token). test o) q ∙ e);
+        }
 
 pub class_stuck : {A : Type 0} (test : Option Token → Bool) (ts : List Token)
     → test (head_of ts) ≡ false
     → at_class {A = A} test ts ≡ Err (stuck (length ts))
 class_stuck test ts e = rw e refl
 
-pub class_lives : {A : Type 0} {First : Option Token → Type 0} {flat_of : A → List Mark} {Good : A → Type 0} (test : Option Token → Bool) (ts : List Token)
+pub class_lives : {A : Type 0} {First : Option Token → Type 0} {flat_of : A → List Mark} {Good : A → Type 0}
+    (test : Option Token → Bool) (ts : List Token)
     → (test (head_of ts) ≡ true → Lives First flat_of Good ts (deep (length (tail_of ts))))
     → ((e : Fault) → Counts e ts → Lives First flat_of Good ts e)
     → (e : Fault)
@@ -94,7 +112,9 @@ class_lives {A} {First} {flat_of} {Good} test ts here none e p = by_test (test (
         → test (head_of ts) ≡ v
         → cond v (Err (deep (length (tail_of ts)))) (Err (stuck (length ts))) ≡ faulty {A = A} e
         → Lives First flat_of Good ts e
-    by_test true h q = subst (λ (e : Fault). Lives First flat_of Good ts e) (fault_is {A = A} (deep (length (tail_of ts))) e q) (here h)
+    by_test true h q =
+        subst (λ (e : Fault). Lives First flat_of Good ts e) (fault_is {A = A} (deep (length (tail_of ts))) e q)
+        (here h)
     by_test false h q = none e (stuck_counts {A = A} ts e q)
 
 -- ---- readers that read nothing but some expressions
@@ -151,8 +171,11 @@ below_elsewhere n = record {
   operation = λ low ts h. operation_elsewhere (below (suc n)) (suc n) low ts h;
   unary = λ ts h. unary_elsewhere (below (suc n)) (suc n) ts h;
   call = λ ts h. call_stuck (below (suc n)) (suc n) ts h;
-  statement = λ context ts h. statement_elsewhere (below (suc n)) context ts (λ k. expression_elsewhere (below n) n ts k) h;
-  item = λ context taken ts h. item_elsewhere (below (suc n)) context taken ts (λ k. expression_elsewhere (below n) n ts k) h;
+  statement =
+      λ context ts h. statement_elsewhere (below (suc n)) context ts (λ k. expression_elsewhere (below n) n ts k) h;
+  item =
+      λ context taken ts h. item_elsewhere (below (suc n)) context taken ts (λ k. expression_elsewhere (below n) n ts k)
+      h;
   block = λ context taken ts h. block_elsewhere (below (suc n)) context taken ts h;
   function = λ ts h. function_elsewhere (below (suc n)) ts h;
 }
@@ -170,7 +193,9 @@ shallow_follows a e c s h k = record {
   call = class_follows begins_call c.call s.call;
   statement = λ context. class_follows (begins_statement context) (λ ts. c.statement context ts) (s.statement context);
   item = λ context taken. class_follows (begins_item context) (λ ts. c.item context taken ts) (s.item context taken);
-  block = λ context taken. class_follows (λ o. is_kind kinds.LeftBrace o) (λ ts. c.block context taken ts) (s.block context taken);
+  block =
+      λ context taken. class_follows (λ o. is_kind kinds.LeftBrace o) (λ ts. c.block context taken ts)
+      (s.block context taken);
   function = class_follows (λ o. is_kind kinds.LeftParenthesis o) c.function s.function;
 }
 
@@ -234,7 +259,9 @@ pub operand_lives : (low : ℕ)
     → (ts : List Token) (e : Fault)
     → at_class {A = Expression} begins_operand ts ≡ Err e
     → Lives IsZero flat (Fits low) ts e
-operand_lives low le ts e p = class_lives begins_operand ts (λ h. looser 13 low le (from_nothing (first_operand ts h))) (λ e c. zero_expression low (omega (arith, le)) ts e c) e p
+operand_lives low le ts e p =
+    class_lives begins_operand ts (λ h. looser 13 low le (from_nothing (first_operand ts h)))
+    (λ e c. zero_expression low (omega (arith, le)) ts e c) e p
 
 statement_by_lives : (context : Context) (c : First) (ts : List Token)
     → FirstNext c (head_of ts)
@@ -242,27 +269,37 @@ statement_by_lives : (context : Context) (c : First) (ts : List Token)
     → Lives Nothing flat_statement (IsStatement context) ts (deep (length (tail_of ts)))
 statement_by_lives context (classes.a_lexical constant) ts f h = absurd cc
 statement_by_lives context classes.a_function ts f h = absurd cc
-statement_by_lives context classes.an_expression ts f h = expression_first_lives context ts f (looser 13 0 (omega arith) (first_operand ts h))
+statement_by_lives context classes.an_expression ts f h =
+    expression_first_lives context ts f (looser 13 0 (omega arith) (first_operand ts h))
 statement_by_lives context c ts f h = first_lives context c ts f h
 
 item_by_lives : (context : Context) (taken : List Identifier) (c : First) (ts : List Token)
     → FirstNext c (head_of ts)
     → begins_item_by context c (head_of ts) ≡ true
     → Lives IsZero flat_statement (IsItem context taken) ts (deep (length (tail_of ts)))
-item_by_lives context taken (classes.a_lexical constant) ts f h = from_nothing (lexical_first_lives context taken constant ts f)
+item_by_lives context taken (classes.a_lexical constant) ts f h =
+    from_nothing (lexical_first_lives context taken constant ts f)
 item_by_lives context taken classes.a_function ts f h = from_nothing (function_first_lives context taken ts f)
-item_by_lives context taken c ts f h = as_item context taken ts (deep (length (tail_of ts))) (from_nothing (statement_by_lives context c ts f h))
+item_by_lives context taken c ts f h =
+    as_item context taken ts (deep (length (tail_of ts))) (from_nothing (statement_by_lives context c ts f h))
 
 brace_lives : (context : Context) (taken : List Identifier) (ts : List Token)
     → is_kind kinds.LeftBrace (head_of ts) ≡ true
     → Lives (IsAdded kinds.LeftBrace) flat_block (IsBlock context taken) ts (deep (length (tail_of ts)))
-brace_lives context taken ts h = from_nothing (first_token kinds.LeftBrace ts (next_is kinds.LeftBrace (head_of ts) h) trees.no_statements (tt, tt) (token (fixed kinds.RightBrace) ∷ []) (a_token kinds.RightBrace ∷ []) (λ r. (refl, refl)) refl)
+brace_lives context taken ts h =
+    from_nothing
+    (first_token kinds.LeftBrace ts (next_is kinds.LeftBrace (head_of ts) h) trees.no_statements (tt, tt)
+    (token (fixed kinds.RightBrace) ∷ []) (a_token kinds.RightBrace ∷ []) (λ r. (refl, refl)) refl)
 
 parameters_live : (ts : List Token)
     → is_kind kinds.LeftParenthesis (head_of ts) ≡ true
     → Lives (IsAdded kinds.LeftParenthesis) flat_code IsCode ts (deep (length (tail_of ts)))
 parameters_live ts h =
-    from_nothing (first_token kinds.LeftParenthesis ts (next_is kinds.LeftParenthesis (head_of ts) h) (record { parameters = []; body = trees.no_statements }) ((tt, tt), tt) (token (fixed kinds.RightParenthesis) ∷ empty_braces) (a_token kinds.RightParenthesis ∷ empty_brace_tokens) (λ r. (refl, (refl, (refl, refl)))) refl)
+    from_nothing
+    (first_token kinds.LeftParenthesis ts (next_is kinds.LeftParenthesis (head_of ts) h)
+    (record { parameters = []; body = trees.no_statements }) ((tt, tt), tt)
+    (token (fixed kinds.RightParenthesis) ∷ empty_braces) (a_token kinds.RightParenthesis ∷ empty_brace_tokens)
+    (λ r. (refl, (refl, (refl, refl)))) refl)
 
 pub shallow_alive : (a e : Reader Expression)
     → ((ts : List Token) (d : Fault) → a ts ≡ Err d → Lives IsZero flat (Fits 1) ts d)
@@ -273,9 +310,21 @@ shallow_alive a e h k = record {
   expression = k;
   operation = λ low le ts d p. operand_lives low le ts d p;
   unary = λ ts d p. operand_lives 13 (omega arith) ts d p;
-  call = λ ts d p. class_lives begins_call ts (λ h. from_nothing (start_lives (start (head_of ts)) ts refl h)) (λ d c. zero_expression 15 (omega arith) ts d c) d p;
-  statement = λ context ts d p. class_lives (begins_statement context) ts (λ h. from_nothing (statement_by_lives context (first (head_of ts)) ts (first_next (head_of ts)) h)) (λ d c. zero_statement context ts d c) d p;
-  item = λ context taken ts d p. class_lives (begins_item context) ts (λ h. item_by_lives context taken (first (head_of ts)) ts (first_next (head_of ts)) h) (λ d c. zero_item context taken ts d c) d p;
-  block = λ context taken ts d p. class_lives (λ o. is_kind kinds.LeftBrace o) ts (λ h. brace_lives context taken ts h) (λ d c. empty_block context taken ts d c) d p;
-  function = λ ts d p. class_lives (λ o. is_kind kinds.LeftParenthesis o) ts (λ h. parameters_live ts h) (λ d c. empty_code ts d c) d p;
+  call =
+      λ ts d p. class_lives begins_call ts (λ h. from_nothing (start_lives (start (head_of ts)) ts refl h))
+      (λ d c. zero_expression 15 (omega arith) ts d c) d p;
+  statement =
+      λ context ts d p. class_lives (begins_statement context) ts
+      (λ h. from_nothing (statement_by_lives context (first (head_of ts)) ts (first_next (head_of ts)) h))
+      (λ d c. zero_statement context ts d c) d p;
+  item =
+      λ context taken ts d p. class_lives (begins_item context) ts
+      (λ h. item_by_lives context taken (first (head_of ts)) ts (first_next (head_of ts)) h)
+      (λ d c. zero_item context taken ts d c) d p;
+  block =
+      λ context taken ts d p. class_lives (λ o. is_kind kinds.LeftBrace o) ts (λ h. brace_lives context taken ts h)
+      (λ d c. empty_block context taken ts d c) d p;
+  function =
+      λ ts d p. class_lives (λ o. is_kind kinds.LeftParenthesis o) ts (λ h. parameters_live ts h)
+      (λ d c. empty_code ts d c) d p;
 }

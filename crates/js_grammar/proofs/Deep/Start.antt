@@ -101,17 +101,23 @@ no_prefix_is _ e = absurd cc
 pub unary_elsewhere : (b : Below) (m : ℕ) (ts : List Token)
     → begins_operand (head_of ts) ≡ false
     → unary b m ts ≡ Err (stuck (length ts))
-unary_elsewhere b m ts e = let p = or_parts (begins_call (head_of ts)) (is_prefix (prefix (head_of ts))) e in unary_stuck b m ts p.0 (no_prefix_is (prefix (head_of ts)) p.1)
+unary_elsewhere b m ts e =
+    let p = or_parts (begins_call (head_of ts)) (is_prefix (prefix (head_of ts))) e in
+    unary_stuck b m ts p.0 (no_prefix_is (prefix (head_of ts)) p.1)
 
 pub operation_elsewhere : (b : Below) (m low : ℕ) (ts : List Token)
     → begins_operand (head_of ts) ≡ false
     → operation b m low ts ≡ Err (stuck (length ts))
-operation_elsewhere b m low ts e = let p = or_parts (begins_call (head_of ts)) (is_prefix (prefix (head_of ts))) e in operation_stuck b m low ts p.0 (no_prefix_is (prefix (head_of ts)) p.1)
+operation_elsewhere b m low ts e =
+    let p = or_parts (begins_call (head_of ts)) (is_prefix (prefix (head_of ts))) e in
+    operation_stuck b m low ts p.0 (no_prefix_is (prefix (head_of ts)) p.1)
 
 pub expression_elsewhere : (b : Below) (m : ℕ) (ts : List Token)
     → begins_operand (head_of ts) ≡ false
     → expression b m ts ≡ Err (stuck (length ts))
-expression_elsewhere b m ts e = let p = or_parts (begins_call (head_of ts)) (is_prefix (prefix (head_of ts))) e in expression_stuck b m ts p.0 (no_prefix_is (prefix (head_of ts)) p.1)
+expression_elsewhere b m ts e =
+    let p = or_parts (begins_call (head_of ts)) (is_prefix (prefix (head_of ts))) e in
+    expression_stuck b m ts p.0 (no_prefix_is (prefix (head_of ts)) p.1)
 
 -- ---- statements
 

@@ -50,7 +50,16 @@ deep_sticks n = quiet n (λ ts. Err (stuck (length ts))) (λ ts k e. absurd cc)
 pub one_before : {A : Type 0} (f : Reader A) (t : Token) (ts : List Token) (k : ℕ)
     → DeepAt f ts k
     → DeepAt (λ us. f (tail_of us)) (t ∷ ts) k
-one_before f t ts k d = record { before = t ∷ d.before; here = d.here; left = d.left; parts = ap (λ (l : List Token). t ∷ l) d.parts; counted = d.counted; never = d.never }
+one_before f t ts k d =
+    record {
+      before = t ∷ d.before;
+      here = d.here;
+      left = d.left;
+      parts = ap (λ (l : List Token). t ∷ l)
+          d.parts;
+      counted = d.counted;
+      never = d.never;
+    }
 
 no_parts : (before left : List Token) (here : Token) → [] ≡ before ++ (here ∷ left) → ⊥
 no_parts [] left here e = absurd cc
@@ -92,7 +101,9 @@ deep_peeks {A} n k f none h = record {
       parts = d.parts;
       counted = d.counted;
       never = λ r x e.
-          let head : head_of (d.before ++ (d.here ∷ r)) ≡ Some t = head_past d.before (d.here ∷ r) (d.here ∷ d.left) refl ∙ ap (λ (l : List Token). head_of l) (sym d.parts) in
+          let head : head_of (d.before ++ (d.here ∷ r)) ≡ Some t = head_past d.before (d.here ∷ r) (d.here ∷ d.left)
+          refl
+          ∙ ap (λ (l : List Token). head_of l) (sym d.parts) in
           d.never r x (ap (λ (o : Option Token). f (k o) (d.before ++ (d.here ∷ r))) (sym head) ∙ e);
     }
 
@@ -121,8 +132,12 @@ deep_binds {A} {B} n m f g h less k j = record { at = λ ts l i e. by_answer ts 
           parts = p.1 ∙ ap (λ (l : List Token). p.0 ++ l) d.parts ∙ sym (append_assoc p.0 d.before (d.here ∷ d.left));
           counted = d.counted;
           never = λ r x o.
-              let head : head_of (d.before ++ (d.here ∷ r)) ≡ head_of u = head_past d.before (d.here ∷ r) (d.here ∷ d.left) refl ∙ ap (λ (l : List Token). head_of l) (sym d.parts) in
-              let is : f ((p.0 ++ d.before) ++ (d.here ∷ r)) ≡ Ok (a, d.before ++ (d.here ∷ r)) = ap (λ (l : List Token). f l) (append_assoc p.0 d.before (d.here ∷ r)) ∙ p.2 (d.before ++ (d.here ∷ r)) head in
+              let head : head_of (d.before ++ (d.here ∷ r)) ≡ head_of u = head_past d.before (d.here ∷ r)
+              (d.here ∷ d.left) refl
+              ∙ ap (λ (l : List Token). head_of l) (sym d.parts) in
+              let is : f ((p.0 ++ d.before) ++ (d.here ∷ r)) ≡ Ok (a, d.before ++ (d.here ∷ r)) = ap
+              (λ (l : List Token). f l) (append_assoc p.0 d.before (d.here ∷ r))
+              ∙ p.2 (d.before ++ (d.here ∷ r)) head in
               d.never r x (ap (λ (x : Read A). x >>= λ x. g x.0 x.1) (sym is) ∙ o);
         }
     by_answer ts l i (Err (stuck j)) q e = absurd cc
@@ -173,14 +188,33 @@ deep_limit {A} n h k f d = by_test (nat_le h k)
   where
     by_test : (v : Bool) → DeepensOn n (λ ts. cond v (f ts) (Err (deep (length (tail_of ts)))))
     by_test true = d
-    by_test false = record { at = λ t ts l j e. record { before = []; here = t; left = ts; parts = refl; counted = deep_is {A = A} (length ts) j e; never = λ r x q. absurd cc } }
+    by_test false =
+        record {
+          at = λ t ts l j e. record {
+            before = [];
+            here = t;
+            left = ts;
+            parts = refl;
+            counted = deep_is {A = A}
+                (length ts) j e;
+            never = λ r x q. absurd cc;
+          };
+        }
 
 -- the same answers
 pub deep_as : {A : Type 0} (n : ℕ) (f g : Reader A) → ((ts : List Token) → g ts ≡ f ts) → Deepens n f → Deepens n g
 deep_as n f g is h = record {
   at = λ ts l k e.
       let d = h.at ts l k (sym (is ts) ∙ e) in
-      record { before = d.before; here = d.here; left = d.left; parts = d.parts; counted = d.counted; never = λ r x q. d.never r x (sym (is (d.before ++ (d.here ∷ r))) ∙ q) };
+      record {
+        before = d.before;
+        here = d.here;
+        left = d.left;
+        parts = d.parts;
+        counted = d.counted;
+        never = λ r x q. d.never r x
+            (sym (is (d.before ++ (d.here ∷ r))) ∙ q);
+      };
 }
 
 -- ---- loops
@@ -189,19 +223,26 @@ deep_as n f g is h = record {
 pub deep_loops : {S B : Type 0} (body : (S → Reader B) → S → Reader B) (go : ℕ → S → Reader B)
     → Turns body go
     → Local body
-    → ((n : ℕ) → ((m : ℕ) → suc m ≤ n → (s : S) → Deepens m (enough_of go s)) → (s : S) → Deepens n (body (enough_of go) s))
+    → ((n : ℕ)
+    → ((m : ℕ) → suc m ≤ n → (s : S) → Deepens m (enough_of go s))
+    → (s : S)
+    → Deepens n (body (enough_of go) s))
     → (n : ℕ) (s : S) → Deepens n (enough_of go s)
 deep_loops {S} {B} body go t l c n s = up_to (suc n) n (omega arith) s
   where
     up_to : (k n : ℕ) → suc n ≤ k → (s : S) → Deepens n (enough_of go s)
     up_to zero n e s = absurd (omega arith)
-    up_to (suc k) n e s = deep_as n (body (enough_of go) s) (enough_of go s) (one_turn body go t l s) (c n (λ m q u. up_to k m (omega arith) u) s)
+    up_to (suc k) n e s =
+        deep_as n (body (enough_of go) s) (enough_of go s) (one_turn body go t l s)
+        (c n (λ m q u. up_to k m (omega arith) u) s)
 
 -- by a class of the next token, or of none
 pub deep_peeks_all : {A V : Type 0} (n : ℕ) (k : Option Token → V) (f : V → Reader A)
     → ((v : V) → Deepens n (f v))
     → Deepens n (λ ts. f (k (head_of ts)) ts)
-deep_peeks_all n k f h = deep_peeks n k f (λ j e. let d = (h (k None)).at [] (omega arith) j e in no_parts d.before d.left d.here d.parts) (λ v. on n (f v) (h v))
+deep_peeks_all n k f h =
+    deep_peeks n k f (λ j e. let d = (h (k None)).at [] (omega arith) j e in no_parts d.before d.left d.here d.parts)
+    (λ v. on n (f v) (h v))
 
 -- a value behind the next token
 pub deep_token : {A : Type 0} (n : ℕ) (a : A) → Deepens n (λ ts. Ok (a, tail_of ts))

@@ -34,8 +34,11 @@ not_longer {A} f g h ts = by_answer (f ts) (h.at ts)
     left_is x s = omega (arith, ap (λ (l : List Token). length l) s.parts, length-append s.pre s.left)
 
     by_answer : (x : Read A) → (Clear x → Seen g ts x) → Within x (length ts)
-    by_answer (Ok (a, r)) s = let q = s tt in omega (arith, left_is (Ok (a, r)) q, ap (λ (l : List Token). length l) (same_left a q.left r q.same))
-    by_answer (Err (stuck n)) s = let q = s tt in omega (arith, left_is (Err (stuck n)) q, same_count {A = A} (length q.left) n q.same)
+    by_answer (Ok (a, r)) s =
+        let q = s tt in
+        omega (arith, left_is (Ok (a, r)) q, ap (λ (l : List Token). length l) (same_left a q.left r q.same))
+    by_answer (Err (stuck n)) s =
+        let q = s tt in omega (arith, left_is (Err (stuck n)) q, same_count {A = A} (length q.left) n q.same)
     by_answer (Err (deep n)) s = tt
 
 -- what is left is within a bound
@@ -44,7 +47,8 @@ pub left_within : {A : Type 0} (g : Reader A) (ts : List Token) (x : Read A) (k 
     → Within x k
     → (s : Seen g ts x)
     → length s.left ≤ k
-left_within {A} g ts (Ok (a, r)) k c w s = omega (arith, ap (λ (l : List Token). length l) (same_left a s.left r s.same))
+left_within {A} g ts (Ok (a, r)) k c w s =
+    omega (arith, ap (λ (l : List Token). length l) (same_left a s.left r s.same))
 left_within {A} g ts (Err (stuck n)) k c w s = omega (arith, same_count {A = A} (length s.left) n s.same)
 left_within g ts (Err (deep n)) k c w s = absurd c
 
@@ -62,8 +66,10 @@ within_then (Err (deep n)) f g k w h = tt
 -- the tokens behind the names and commas, and behind the parenthesis after them
 abbrev pub scan_end : Bool → List Token → List Token
 scan_end at_name [] = []
-scan_end true (t ∷ ts) = cond (is_kind kinds.RightParenthesis (Some t)) ts (cond (is_kind kinds.Name (Some t)) (scan_end false ts) (t ∷ ts))
-scan_end false (t ∷ ts) = cond (is_kind kinds.RightParenthesis (Some t)) ts (cond (is_kind kinds.Comma (Some t)) (scan_end true ts) (t ∷ ts))
+scan_end true (t ∷ ts) =
+    cond (is_kind kinds.RightParenthesis (Some t)) ts (cond (is_kind kinds.Name (Some t)) (scan_end false ts) (t ∷ ts))
+scan_end false (t ∷ ts) =
+    cond (is_kind kinds.RightParenthesis (Some t)) ts (cond (is_kind kinds.Comma (Some t)) (scan_end true ts) (t ∷ ts))
 
 shorter_by : (p n : Bool) (t : Token) (ts u : List Token)
     → length u ≤ length ts
@@ -75,8 +81,12 @@ shorter_by false false t ts u le = omega arith
 pub scan_shorter : (at_name : Bool) (ts : List Token) → length (scan_end at_name ts) ≤ length ts
 scan_shorter true [] = omega arith
 scan_shorter false [] = omega arith
-scan_shorter true (t ∷ ts) = shorter_by (is_kind kinds.RightParenthesis (Some t)) (is_kind kinds.Name (Some t)) t ts (scan_end false ts) (scan_shorter false ts)
-scan_shorter false (t ∷ ts) = shorter_by (is_kind kinds.RightParenthesis (Some t)) (is_kind kinds.Comma (Some t)) t ts (scan_end true ts) (scan_shorter true ts)
+scan_shorter true (t ∷ ts) =
+    shorter_by (is_kind kinds.RightParenthesis (Some t)) (is_kind kinds.Name (Some t)) t ts (scan_end false ts)
+    (scan_shorter false ts)
+scan_shorter false (t ∷ ts) =
+    shorter_by (is_kind kinds.RightParenthesis (Some t)) (is_kind kinds.Comma (Some t)) t ts (scan_end true ts)
+    (scan_shorter true ts)
 
 -- ---- the tokens that were looked at are enough to tell
 
@@ -114,21 +124,29 @@ stable at_name [] [] (x ∷ r) le h = absurd cc
 stable at_name [] (t ∷ l) [] le h = absurd cc
 stable true [] (t ∷ l) (x ∷ r) le h =
     ap (λ (x : Token). listed_by (past_names true (x ∷ r))) (heads_same x t r l h)
-    ∙ here_by true (is_kind kinds.RightParenthesis (Some t)) (is_kind kinds.Name (Some t)) t l r (scan_end false l) (past_names false r) (past_names false l) le (scan_shorter false l)
+    ∙ here_by true (is_kind kinds.RightParenthesis (Some t)) (is_kind kinds.Name (Some t)) t l r (scan_end false l)
+    (past_names false r) (past_names false l) le (scan_shorter false l)
 stable false [] (t ∷ l) (x ∷ r) le h =
     ap (λ (x : Token). listed_by (past_names false (x ∷ r))) (heads_same x t r l h)
-    ∙ here_by false (is_kind kinds.RightParenthesis (Some t)) (is_kind kinds.Comma (Some t)) t l r (scan_end true l) (past_names true r) (past_names true l) le (scan_shorter true l)
+    ∙ here_by false (is_kind kinds.RightParenthesis (Some t)) (is_kind kinds.Comma (Some t)) t l r (scan_end true l)
+    (past_names true r) (past_names true l) le (scan_shorter true l)
 stable true (t ∷ p) left r le h =
-    there_by true (is_kind kinds.RightParenthesis (Some t)) (is_kind kinds.Name (Some t)) t (length left) (p ++ r) (p ++ left) (scan_end false (p ++ left)) (past_names false (p ++ r)) (past_names false (p ++ left)) (head_past p r left h) le (λ q. stable false p left r q h)
+    there_by true (is_kind kinds.RightParenthesis (Some t)) (is_kind kinds.Name (Some t)) t (length left) (p ++ r)
+    (p ++ left) (scan_end false (p ++ left)) (past_names false (p ++ r)) (past_names false (p ++ left))
+    (head_past p r left h) le (λ q. stable false p left r q h)
 stable false (t ∷ p) left r le h =
-    there_by false (is_kind kinds.RightParenthesis (Some t)) (is_kind kinds.Comma (Some t)) t (length left) (p ++ r) (p ++ left) (scan_end true (p ++ left)) (past_names true (p ++ r)) (past_names true (p ++ left)) (head_past p r left h) le (λ q. stable true p left r q h)
+    there_by false (is_kind kinds.RightParenthesis (Some t)) (is_kind kinds.Comma (Some t)) t (length left) (p ++ r)
+    (p ++ left) (scan_end true (p ++ left)) (past_names true (p ++ r)) (past_names true (p ++ left))
+    (head_past p r left h) le (λ q. stable true p left r q h)
 
 -- ---- names up to the parenthesis behind them
 
 -- what reads names, before one or behind one
 abbrev pub names_from : Bool → ℕ → Reader (List Identifier)
 names_from true k ts = elements (one_of (λ r. name_at r)) no_state kinds.RightParenthesis k tt ts
-names_from false k ts = go_after (λ r. elements (one_of (λ r. name_at r)) no_state kinds.RightParenthesis k tt r) (after kinds.RightParenthesis (head_of ts)) ts
+names_from false k ts =
+    go_after (λ r. elements (one_of (λ r. name_at r)) no_state kinds.RightParenthesis k tt r)
+    (after kinds.RightParenthesis (head_of ts)) ts
 
 -- Names and the parenthesis behind them are read, whatever follows.
 pub record Closed (at_name : Bool) (ts : List Token) (w : Bool) (rest : List Token) : Type 0 where
@@ -177,7 +195,8 @@ closed_at_name t ts e = record {
 closed_behind : (t : Token) (ts : List Token)
     → is_kind kinds.RightParenthesis (Some t) ≡ true
     → Closed false (t ∷ ts) false ts
-closed_behind t ts e = record { front = []; last = t; names = []; parts = refl; looked = λ r. rw e refl; read = λ k r l. rw e refl }
+closed_behind t ts e =
+    record { front = []; last = t; names = []; parts = refl; looked = λ r. rw e refl; read = λ k r l. rw e refl }
 
 closed_name : (t : Token) (ts : List Token) (w : Bool) (rest : List Token)
     → is_kind kinds.Name (Some t) ≡ true
@@ -214,7 +233,10 @@ closed_by_name : (p n : Bool) (t : Token) (ts : List Token) (w : Bool) (rest : L
     → is_kind kinds.Name (Some t) ≡ n
     → (past_names false ts ≡ Some (w, rest) → Closed false ts w rest)
     → cond p (Some (true, ts)) (cond n (past_names false ts) None) ≡ Some (w, rest) → Closed true (t ∷ ts) w rest
-closed_by_name true n t ts w rest e f h q = let s = some_is true w ts rest q in subst (λ (v : Bool). Closed true (t ∷ ts) v rest) s.0 (subst (λ (l : List Token). Closed true (t ∷ ts) true l) s.1 (closed_at_name t ts e))
+closed_by_name true n t ts w rest e f h q =
+    let s = some_is true w ts rest q in
+    subst (λ (v : Bool). Closed true (t ∷ ts) v rest) s.0
+    (subst (λ (l : List Token). Closed true (t ∷ ts) true l) s.1 (closed_at_name t ts e))
 closed_by_name false true t ts w rest e f h q = closed_name t ts w rest f (h q)
 closed_by_name false false t ts w rest e f h q = absurd cc
 
@@ -223,7 +245,10 @@ closed_by_comma : (p n : Bool) (t : Token) (ts : List Token) (w : Bool) (rest : 
     → is_kind kinds.Comma (Some t) ≡ n
     → (past_names true ts ≡ Some (w, rest) → Closed true ts w rest)
     → cond p (Some (false, ts)) (cond n (past_names true ts) None) ≡ Some (w, rest) → Closed false (t ∷ ts) w rest
-closed_by_comma true n t ts w rest e f h q = let s = some_is false w ts rest q in subst (λ (v : Bool). Closed false (t ∷ ts) v rest) s.0 (subst (λ (l : List Token). Closed false (t ∷ ts) false l) s.1 (closed_behind t ts e))
+closed_by_comma true n t ts w rest e f h q =
+    let s = some_is false w ts rest q in
+    subst (λ (v : Bool). Closed false (t ∷ ts) v rest) s.0
+    (subst (λ (l : List Token). Closed false (t ∷ ts) false l) s.1 (closed_behind t ts e))
 closed_by_comma false true t ts w rest e f h q = closed_comma t ts w rest f (h q)
 closed_by_comma false false t ts w rest e f h q = absurd cc
 
@@ -232,8 +257,12 @@ pub closed : (at_name : Bool) (ts : List Token) (w : Bool) (rest : List Token)
     → Closed at_name ts w rest
 closed true [] w rest e = absurd cc
 closed false [] w rest e = absurd cc
-closed true (t ∷ ts) w rest e = closed_by_name (is_kind kinds.RightParenthesis (Some t)) (is_kind kinds.Name (Some t)) t ts w rest refl refl (λ q. closed false ts w rest q) e
-closed false (t ∷ ts) w rest e = closed_by_comma (is_kind kinds.RightParenthesis (Some t)) (is_kind kinds.Comma (Some t)) t ts w rest refl refl (λ q. closed true ts w rest q) e
+closed true (t ∷ ts) w rest e =
+    closed_by_name (is_kind kinds.RightParenthesis (Some t)) (is_kind kinds.Name (Some t)) t ts w rest refl refl
+    (λ q. closed false ts w rest q) e
+closed false (t ∷ ts) w rest e =
+    closed_by_comma (is_kind kinds.RightParenthesis (Some t)) (is_kind kinds.Comma (Some t)) t ts w rest refl refl
+    (λ q. closed true ts w rest q) e
 
 -- ---- names that are read as an expression
 
@@ -263,7 +292,9 @@ closing_makes (Ok x) make k w = w
 closing_makes (Err e) make k w = w
 
 pub closing_within : {A : Type 0} (x : Read A) (k : ℕ) → Within x k → Within (closing x) k
-closing_within x k w = within_then x (λ a ts. expect kinds.RightParenthesis ts) (λ a ts. expect kinds.RightParenthesis ts) k w (λ a. expect_follows kinds.RightParenthesis)
+closing_within x k w =
+    within_then x (λ a ts. expect kinds.RightParenthesis ts) (λ a ts. expect kinds.RightParenthesis ts) k w
+    (λ a. expect_follows kinds.RightParenthesis)
 
 -- behind a name, where no comma follows
 pub end_within : (ts : List Token)
@@ -275,7 +306,8 @@ end_within (t ∷ ts) e = by_kind (is_kind kinds.RightParenthesis (Some t)) (is_
   where
     by_kind : (p n : Bool)
         → n ≡ false
-        → Within {A = Unit {0}} (cond p (Ok (tt, ts)) (Err (stuck (suc (length ts))))) (length (cond p ts (cond n (scan_end true ts) (t ∷ ts))))
+        → Within {A = Unit {0}} (cond p (Ok (tt, ts)) (Err (stuck (suc (length ts)))))
+        (length (cond p ts (cond n (scan_end true ts) (t ∷ ts))))
     by_kind true n e = omega arith
     by_kind false true e = absurd cc
     by_kind false false e = omega arith
@@ -298,10 +330,15 @@ pub names_within : {A B : Type 0} (one : Reader A)
     → ((a : A) → Follows (go a) (go' a))
     → (ts : List Token)
     → listed_by (past_names true ts) ≡ no_arrow
-    → ((a : A) (r : List Token) → suc (length r) ≤ length ts → listed_by (past_names false r) ≡ no_arrow → Within (closing (go a r)) (length (scan_end false r)))
+    → ((a : A) (r : List Token)
+    → suc (length r) ≤ length ts
+    → listed_by (past_names false r) ≡ no_arrow
+    → Within (closing (go a r)) (length (scan_end false r)))
     → Within (closing (one ts >>= λ x. go x.0 x.1)) (length (scan_end true ts))
-names_within {A} {B} one s go go' f [] e h = closing_within (one [] >>= λ x. go x.0 x.1) 0 (within_then (one []) go go' 0 (not_longer one one s.follows []) f)
-names_within {A} {B} one s go go' f (t ∷ ts) e h = by_kind (is_kind kinds.RightParenthesis (Some t)) (is_kind kinds.Name (Some t)) refl e
+names_within {A} {B} one s go go' f [] e h =
+    closing_within (one [] >>= λ x. go x.0 x.1) 0 (within_then (one []) go go' 0 (not_longer one one s.follows []) f)
+names_within {A} {B} one s go go' f (t ∷ ts) e h =
+    by_kind (is_kind kinds.RightParenthesis (Some t)) (is_kind kinds.Name (Some t)) refl e
   where
     all_within : (k : ℕ) → Within (one (t ∷ ts)) k → Within (closing (one (t ∷ ts) >>= λ x. go x.0 x.1)) k
     all_within k w = closing_within (one (t ∷ ts) >>= λ x. go x.0 x.1) k (within_then (one (t ∷ ts)) go go' k w f)
@@ -311,7 +348,9 @@ names_within {A} {B} one s go go' f (t ∷ ts) e h = by_kind (is_kind kinds.Righ
         → is_kind kinds.Name (Some t) ≡ true
         → listed_by (past_names false ts) ≡ no_arrow
         → Within (closing (one (t ∷ ts) >>= λ x. go x.0 x.1)) (length (scan_end false ts))
-    by_end false v n q = subst (λ (l : List Token). Within (closing (one (t ∷ ts) >>= λ x. go x.0 x.1)) (length l)) (sym (not_ended ts v)) (all_within (length ts) (s.past t ts n))
+    by_end false v n q =
+        subst (λ (l : List Token). Within (closing (one (t ∷ ts) >>= λ x. go x.0 x.1)) (length l))
+        (sym (not_ended ts v)) (all_within (length ts) (s.past t ts n))
     by_end true v n q = elim (s.alone t ts n v) [
       | inl d ↦ rw d.1 tt
       | inr o ↦ rw o.1 (h o.0 ts (omega arith) q)
@@ -333,24 +372,38 @@ pub others_within : {A : Type 0} (one : Reader A)
     → Within (closing (others (one_of one) no_state k tt ts)) (length (scan_end false ts))
 unfolding others
 others_within {A} one s zero ts e = tt
-others_within {A} one s (suc k) ts e = by_comma (is_kind kinds.Comma (head_of ts)) ts refl e (λ r q. others_within one s k r q)
+others_within {A} one s (suc k) ts e =
+    by_comma (is_kind kinds.Comma (head_of ts)) ts refl e (λ r q. others_within one s k r q)
   where
     behind : (t : Token) (us : List Token)
         → is_kind kinds.Comma (Some t) ≡ true
         → listed_by (past_names true us) ≡ no_arrow
-        → ((r : List Token) → listed_by (past_names false r) ≡ no_arrow → Within (closing (others (one_of one) no_state k tt r)) (length (scan_end false r)))
-        → Within (closing (one us >>= λ x. others (one_of one) no_state k tt x.1 >>= λ y. Ok (x.0 ∷ y.0, y.1))) (length (scan_end true us))
+        → ((r : List Token)
+        → listed_by (past_names false r) ≡ no_arrow
+        → Within (closing (others (one_of one) no_state k tt r)) (length (scan_end false r)))
+        → Within (closing (one us >>= λ x. others (one_of one) no_state k tt x.1 >>= λ y. Ok (x.0 ∷ y.0, y.1)))
+        (length (scan_end true us))
     behind t us c q h =
         let go : A → Reader (List A) = λ a r. others (one_of one) no_state k tt r >>= λ y. Ok (a ∷ y.0, y.1) in
-        let go' : A → Reader (List A) = λ a r. others (one_of one) no_state (suc (length r)) tt r >>= λ y. Ok (a ∷ y.0, y.1) in
-        names_within one s go go' (λ a. makes (λ r. others (one_of one) no_state k tt r) (λ r. others (one_of one) no_state (suc (length r)) tt r) (λ ys. a ∷ ys) (others_from (one_of one) (one_of one) no_state (λ u. s.follows) (λ u. shortens one one s.follows) k tt)) us q
-        (λ a r l q. closing_makes (others (one_of one) no_state k tt r) (λ ys. a ∷ ys) (length (scan_end false r)) (h r q))
+        let go' : A
+        → Reader (List A) = λ a r. others (one_of one) no_state (suc (length r)) tt r >>= λ y. Ok (a ∷ y.0, y.1) in
+        names_within one s go go'
+        (λ a. makes (λ r. others (one_of one) no_state k tt r)
+        (λ r. others (one_of one) no_state (suc (length r)) tt r) (λ ys. a ∷ ys)
+        (others_from (one_of one) (one_of one) no_state (λ u. s.follows) (λ u. shortens one one s.follows)
+        k tt))
+        us q
+        (λ a r l q. closing_makes (others (one_of one) no_state k tt r) (λ ys. a ∷ ys) (length (scan_end false r))
+        (h r q))
 
     by_comma : (v : Bool) (ts : List Token)
         → is_kind kinds.Comma (head_of ts) ≡ v
         → listed_by (past_names false ts) ≡ no_arrow
-        → ((r : List Token) → listed_by (past_names false r) ≡ no_arrow → Within (closing (others (one_of one) no_state k tt r)) (length (scan_end false r)))
-        → Within (closing (others_by (one_of one) no_state (λ u r. others (one_of one) no_state k u r) tt v ts)) (length (scan_end false ts))
+        → ((r : List Token)
+        → listed_by (past_names false r) ≡ no_arrow
+        → Within (closing (others (one_of one) no_state k tt r)) (length (scan_end false r)))
+        → Within (closing (others_by (one_of one) no_state (λ u r. others (one_of one) no_state k u r) tt v ts))
+        (length (scan_end false ts))
     by_comma false ts c q h = end_within ts c
     by_comma true [] c q h = absurd cc
     by_comma true (t ∷ us) c q h = rw (paren_of_comma t c, c) (behind t us c (rw (paren_of_comma t c, c) at q) h)

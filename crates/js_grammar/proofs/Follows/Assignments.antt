@@ -35,7 +35,9 @@ pub record Spans (b : Below) : Type 0 where
 
 abbrev pub behind : Below → ℕ → Expression → Reader Expression
 behind b n e ts =
-    ((links b n (suc n) e ts >>= λ x. updated_by n x.0 (update_near (head_of x.1)) x.1) >>= λ x. chain b n 3 (suc n) x.0 x.1) >>= λ x. joined b n x.0 x.1
+    ((links b n (suc n) e ts >>= λ x. updated_by n x.0 (update_near (head_of x.1)) x.1) >>= λ x. chain b n 3 (suc n)
+    x.0 x.1)
+    >>= λ x. joined b n x.0 x.1
 
 pub behind_follows : (b c : Below) (n m : ℕ)
     → n ≤ m
@@ -51,7 +53,8 @@ behind_follows b c n m le p e =
     let three' : Reader Expression = λ ts. two' ts >>= λ x. chain c m 3 (suc m) x.0 x.1 in
     binds three three' (λ f ts. joined b n f ts) (λ f ts. joined c m f ts)
     (binds two two' (λ f ts. chain b n 3 (suc n) f ts) (λ f ts. chain c m 3 (suc m) f ts)
-    (binds one one' (λ f ts. updated_by n f (update_near (head_of ts)) ts) (λ f ts. updated_by m f (update_near (head_of ts)) ts)
+    (binds one one' (λ f ts. updated_by n f (update_near (head_of ts)) ts)
+    (λ f ts. updated_by m f (update_near (head_of ts)) ts)
     (links_follows b c n m le p (suc n) (suc m) (omega arith) e) (updated_follows n m le))
     (λ f. chain_follows b c n m le p 3 (suc n) (suc m) (omega arith) f))
     (joined_follows b c n m le p)
@@ -81,7 +84,9 @@ enclosed b ts = made b (an_expression ∷ tok kinds.RightParenthesis ∷ []) (λ
 
 abbrev pub covered : Below → ℕ → Reader Expression
 covered b n ts =
-    (((enclosed b ts >>= λ x. links b n (suc n) x.0 x.1) >>= λ x. updated_by n x.0 (update_near (head_of x.1)) x.1) >>= λ x. chain b n 3 (suc n) x.0 x.1) >>= λ x. joined b n x.0 x.1
+    (((enclosed b ts >>= λ x. links b n (suc n) x.0 x.1) >>= λ x. updated_by n x.0 (update_near (head_of x.1)) x.1)
+    >>= λ x. chain b n 3 (suc n) x.0 x.1)
+    >>= λ x. joined b n x.0 x.1
 
 covered_follows : (b c : Below) (n m : ℕ) → n ≤ m → Pair b c → Follows (λ ts. covered b n ts) (λ ts. covered c m ts)
 covered_follows b c n m le p =
@@ -93,9 +98,11 @@ covered_follows b c n m le p =
     let three' : Reader Expression = λ ts. two' ts >>= λ x. chain c m 3 (suc m) x.0 x.1 in
     binds three three' (λ f ts. joined b n f ts) (λ f ts. joined c m f ts)
     (binds two two' (λ f ts. chain b n 3 (suc n) f ts) (λ f ts. chain c m 3 (suc m) f ts)
-    (binds one one' (λ f ts. updated_by n f (update_near (head_of ts)) ts) (λ f ts. updated_by m f (update_near (head_of ts)) ts)
+    (binds one one' (λ f ts. updated_by n f (update_near (head_of ts)) ts)
+    (λ f ts. updated_by m f (update_near (head_of ts)) ts)
     (binds (λ ts. enclosed b ts) (λ ts. enclosed c ts) (λ f ts. links b n (suc n) f ts) (λ f ts. links c m (suc m) f ts)
-    (made_follows b c p (an_expression ∷ tok kinds.RightParenthesis ∷ []) (λ v. trees.parenthesized v.0)) (λ f. links_follows b c n m le p (suc n) (suc m) (omega arith) f))
+    (made_follows b c p (an_expression ∷ tok kinds.RightParenthesis ∷ []) (λ v. trees.parenthesized v.0))
+    (λ f. links_follows b c n m le p (suc n) (suc m) (omega arith) f))
     (updated_follows n m le))
     (λ f. chain_follows b c n m le p 3 (suc n) (suc m) (omega arith) f))
     (joined_follows b c n m le p)
@@ -136,11 +143,14 @@ covered_within b n p s ts e =
     let same : n ≤ n = omega arith in
     let zero : Within (enclosed b ts) k = enclosed_by (b.expression ts) k (s.closes ts e) in
     let one : Read Expression = enclosed b ts >>= λ x. links b n (suc n) x.0 x.1 in
-    let first : Within one k = within_then (enclosed b ts) (λ f r. links b n (suc n) f r) (λ f r. links b n (suc n) f r) k zero (λ f. links_follows b b n n same p (suc n) (suc n) (omega arith) f) in
+    let first : Within one k = within_then (enclosed b ts) (λ f r. links b n (suc n) f r) (λ f r. links b n (suc n) f r)
+    k zero (λ f. links_follows b b n n same p (suc n) (suc n) (omega arith) f) in
     let two : Read Expression = one >>= λ x. updated_by n x.0 (update_near (head_of x.1)) x.1 in
-    let second : Within two k = within_then one (λ f r. updated_by n f (update_near (head_of r)) r) (λ f r. updated_by n f (update_near (head_of r)) r) k first (updated_follows n n same) in
+    let second : Within two k = within_then one (λ f r. updated_by n f (update_near (head_of r)) r)
+    (λ f r. updated_by n f (update_near (head_of r)) r) k first (updated_follows n n same) in
     let three : Read Expression = two >>= λ x. chain b n 3 (suc n) x.0 x.1 in
-    let third : Within three k = within_then two (λ f r. chain b n 3 (suc n) f r) (λ f r. chain b n 3 (suc n) f r) k second (λ f. chain_follows b b n n same p 3 (suc n) (suc n) (omega arith) f) in
+    let third : Within three k = within_then two (λ f r. chain b n 3 (suc n) f r) (λ f r. chain b n 3 (suc n) f r)
+    k second (λ f. chain_follows b b n n same p 3 (suc n) (suc n) (omega arith) f) in
     within_then three (λ f r. joined b n f r) (λ f r. joined b n f r) k third (joined_follows b b n n same p)
 
 -- behind a parenthesis: parameters, or an expression
@@ -163,7 +173,8 @@ open_at : (b c : Below) (n m : ℕ)
     → FollowsAt (covered b n ts) (paren_at c m) ts
 open_at b c n m le p own s ts e = λ clear.
     let seen = (covered_follows b c n m le p).at ts clear in
-    let w : length seen.left ≤ length (scan_end true ts) = left_within (covered c m) ts (covered b n ts) (length (scan_end true ts)) clear (covered_within b n own s ts e) seen in
+    let w : length seen.left ≤ length (scan_end true ts) = left_within (covered c m) ts (covered b n ts)
+    (length (scan_end true ts)) clear (covered_within b n own s ts e) seen in
     record {
       pre = seen.pre;
       left = seen.left;
@@ -171,7 +182,10 @@ open_at b c n m le p own s ts e = λ clear.
       same = seen.same;
       again = λ r q.
           let h : listed_by (past_names true (seen.pre ++ r)) ≡ no_arrow =
-          stable true seen.pre seen.left r (subst (λ (l : List Token). length seen.left ≤ length (scan_end true l)) seen.parts w) q ∙ ap (λ (l : List Token). listed_by (past_names true l)) (sym seen.parts) ∙ e in
+          stable true seen.pre seen.left r
+          (subst (λ (l : List Token). length seen.left ≤ length (scan_end true l)) seen.parts w) q
+          ∙ ap (λ (l : List Token). listed_by (past_names true l)) (sym seen.parts)
+          ∙ e in
           ap (λ (v : Head). paren_form c m v (seen.pre ++ r)) h ∙ seen.again r q;
     }
 
@@ -186,7 +200,9 @@ pub listed_is : (b : Below) (n : ℕ) (ts : List Token) (w : Bool) (rest r : Lis
     → listed_by (Some (w, r)) ≡ listed w
     → paren_at b n (c.front ++ (c.last ∷ r)) ≡ arrow_of_names b w c.names r
 listed_is b n ts w rest r c h =
-    ap (λ (v : Head). paren_form b n v (c.front ++ (c.last ∷ r))) (ap (λ (o : Option (Bool × List Token)). listed_by o) (c.looked r) ∙ h) ∙ ap (λ (x : Read (List Identifier)). x >>= λ ns. arrow_of_names b w ns.0 ns.1) (names_read ts w rest r c)
+    ap (λ (v : Head). paren_form b n v (c.front ++ (c.last ∷ r)))
+    (ap (λ (o : Option (Bool × List Token)). listed_by o) (c.looked r) ∙ h)
+    ∙ ap (λ (x : Read (List Identifier)). x >>= λ ns. arrow_of_names b w ns.0 ns.1) (names_read ts w rest r c)
 
 pub listed_alike : (w : Bool) (r rest : List Token)
     → head_of r ≡ head_of rest
@@ -204,11 +220,16 @@ listed_seen : (c : Below) (m : ℕ) (ts : List Token) (w : Bool) (rest : List To
 listed_seen c m ts w rest d h x s = record {
   pre = d.front ++ (d.last ∷ s.pre);
   left = s.left;
-  parts = d.parts ∙ ap (λ (l : List Token). d.front ++ (d.last ∷ l)) s.parts ∙ sym (append_assoc d.front (d.last ∷ s.pre) s.left);
+  parts =
+      d.parts
+      ∙ ap (λ (l : List Token). d.front ++ (d.last ∷ l)) s.parts
+      ∙ sym (append_assoc d.front (d.last ∷ s.pre) s.left);
   same = s.same;
   again = λ r q.
       ap (λ (l : List Token). paren_at c m l) (append_assoc d.front (d.last ∷ s.pre) r)
-      ∙ listed_is c m ts w rest (s.pre ++ r) d (listed_alike w (s.pre ++ r) rest (head_past s.pre r s.left q ∙ ap (λ (l : List Token). head_of l) (sym s.parts)) h)
+      ∙ listed_is c m ts w rest (s.pre ++ r) d
+      (listed_alike w (s.pre ++ r) rest
+      (head_past s.pre r s.left q ∙ ap (λ (l : List Token). head_of l) (sym s.parts)) h)
       ∙ s.again r q;
 }
 
@@ -228,7 +249,9 @@ twice_seen c m ts rest d f = record {
   again = λ r q.
       let is : r ≡ d.last ∷ tail_of r = heads_are r d.last q in
       ap (λ (l : List Token). paren_at c m (d.front ++ l)) is ∙ listed_is c m ts true rest (tail_of r) d refl
-      ∙ ap (λ (v : Bool). cond v (arrow_rest c (trees.name_list d.names) d.names (tail_of r)) (Err (stuck (suc (length (tail_of r)))))) f
+      ∙ ap (λ (v : Bool). cond v (arrow_rest c (trees.name_list d.names) d.names (tail_of r))
+      (Err (stuck (suc (length (tail_of r))))))
+      f
       ∙ ap (λ (l : List Token). Err (stuck (length l))) (sym is);
 }
 
@@ -239,7 +262,10 @@ names_at : (b c : Below) (m : ℕ)
     → listed_by (Some (w, rest)) ≡ listed w
     → (v : Bool)
     → are_fresh [] d.names ≡ v
-    → FollowsAt (cond v (arrow_rest b (trees.name_list d.names) d.names rest) (cond w (Err (stuck (suc (length rest)))) (Err (stuck (length rest))))) (paren_at c m) ts
+    → FollowsAt
+    (cond v (arrow_rest b (trees.name_list d.names) d.names rest)
+    (cond w (Err (stuck (suc (length rest)))) (Err (stuck (length rest)))))
+    (paren_at c m) ts
 names_at b c m p ts w rest d h true f = λ clear.
     let s = (arrow_rest_follows b c p (trees.name_list d.names) d.names).at rest clear in
     listed_seen c m ts w rest d h (arrow_rest b (trees.name_list d.names) d.names rest) (record {
@@ -247,7 +273,12 @@ names_at b c m p ts w rest d h true f = λ clear.
       left = s.left;
       parts = s.parts;
       same = s.same;
-      again = λ r q. ap (λ (v : Bool). cond v (arrow_rest c (trees.name_list d.names) d.names (s.pre ++ r)) (cond w (Err (stuck (suc (length (s.pre ++ r))))) (Err (stuck (length (s.pre ++ r)))))) f ∙ s.again r q;
+      again =
+          λ r q. ap
+          (λ (v : Bool). cond v (arrow_rest c (trees.name_list d.names) d.names (s.pre ++ r))
+          (cond w (Err (stuck (suc (length (s.pre ++ r))))) (Err (stuck (length (s.pre ++ r))))))
+          f
+          ∙ s.again r q;
     })
 names_at b c m p ts true rest d h false f = λ clear. twice_seen c m ts rest d f
 names_at b c m p ts false rest d h false f = λ clear.
@@ -256,7 +287,9 @@ names_at b c m p ts false rest d h false f = λ clear.
       left = rest;
       parts = refl;
       same = refl;
-      again = λ r q. ap (λ (v : Bool). cond v (arrow_rest c (trees.name_list d.names) d.names r) (Err (stuck (length r)))) f;
+      again =
+          λ r q. ap (λ (v : Bool). cond v (arrow_rest c (trees.name_list d.names) d.names r) (Err (stuck (length r))))
+          f;
     })
 
 listed_at : (b c : Below) (n m : ℕ)
@@ -267,7 +300,9 @@ listed_at : (b c : Below) (n m : ℕ)
     → FollowsAt (paren_at b n ts) (paren_at c m) ts
 listed_at b c n m p ts w rest e h =
     let d : Closed true ts w rest = closed true ts w rest e in
-    subst (λ (x : Read Expression). FollowsAt x (paren_at c m) ts) (sym (ap (λ (l : List Token). paren_at b n l) d.parts ∙ listed_is b n ts w rest rest d h)) (names_at b c m p ts w rest d h (are_fresh [] d.names) refl)
+    subst (λ (x : Read Expression). FollowsAt x (paren_at c m) ts)
+    (sym (ap (λ (l : List Token). paren_at b n l) d.parts ∙ listed_is b n ts w rest rest d h))
+    (names_at b c m p ts w rest d h (are_fresh [] d.names) refl)
 
 paren_by : (b c : Below) (n m : ℕ)
     → n ≤ m
@@ -280,16 +315,22 @@ paren_by : (b c : Below) (n m : ℕ)
 paren_by b c n m le p own s ts None e = plain (ap (λ (o : Option (Bool × List Token)). listed_by o) e)
   where
     plain : listed_by (past_names true ts) ≡ no_arrow → FollowsAt (paren_at b n ts) (paren_at c m) ts
-    plain h = subst (λ (x : Read Expression). FollowsAt x (paren_at c m) ts) (ap (λ (v : Head). paren_form b n v ts) (sym h)) (open_at b c n m le p own s ts h)
+    plain h =
+        subst (λ (x : Read Expression). FollowsAt x (paren_at c m) ts) (ap (λ (v : Head). paren_form b n v ts) (sym h))
+        (open_at b c n m le p own s ts h)
 paren_by b c n m le p own s ts (Some (true, rest)) e = listed_at b c n m p ts true rest e refl
 paren_by b c n m le p own s ts (Some (false, rest)) e = by_arrow (is_arrow (head_of rest)) refl
   where
     plain : listed_by (past_names true ts) ≡ no_arrow → FollowsAt (paren_at b n ts) (paren_at c m) ts
-    plain h = subst (λ (x : Read Expression). FollowsAt x (paren_at c m) ts) (ap (λ (v : Head). paren_form b n v ts) (sym h)) (open_at b c n m le p own s ts h)
+    plain h =
+        subst (λ (x : Read Expression). FollowsAt x (paren_at c m) ts) (ap (λ (v : Head). paren_form b n v ts) (sym h))
+        (open_at b c n m le p own s ts h)
 
     by_arrow : (v : Bool) → is_arrow (head_of rest) ≡ v → FollowsAt (paren_at b n ts) (paren_at c m) ts
     by_arrow true a = listed_at b c n m p ts false rest e (ap (λ (v : Bool). cond v (listed false) no_arrow) a)
-    by_arrow false a = plain (ap (λ (o : Option (Bool × List Token)). listed_by o) e ∙ ap (λ (v : Bool). cond v (listed false) no_arrow) a)
+    by_arrow false a =
+        plain (ap (λ (o : Option (Bool × List Token)). listed_by o) e
+        ∙ ap (λ (v : Bool). cond v (listed false) no_arrow) a)
 
 paren_follows : (b c : Below) (n m : ℕ) → n ≤ m → Pair b c → Pair b b → Spans b → Follows (paren_at b n) (paren_at c m)
 paren_follows b c n m le p own s = record { at = λ ts. paren_by b c n m le p own s ts (past_names true ts) refl }
@@ -355,7 +396,9 @@ primary_of_paren : (b : Below) (n : ℕ) (ts : List Token)
     → start (head_of ts) ≡ classes.parenthesis
     → primary b n ts ≡ enclosed b (tail_of ts)
 unfolding primary
-primary_of_paren b n ts e = rw (e, expect_again kinds.LeftParenthesis ts (tail_of ts) (start_paren (head_of ts) e, refl)) (whole_is (seq b (an_expression ∷ paren_items) (tail_of ts)))
+primary_of_paren b n ts e =
+    rw (e, expect_again kinds.LeftParenthesis ts (tail_of ts) (start_paren (head_of ts) e, refl))
+    (whole_is (seq b (an_expression ∷ paren_items) (tail_of ts)))
 
 plain_of_paren : (b : Below) (n : ℕ) (ts : List Token)
     → start (head_of ts) ≡ classes.parenthesis
@@ -367,7 +410,8 @@ list_of_paren : (b : Below) (n : ℕ) (only : Bool) (ts : List Token)
     → start (head_of ts) ≡ classes.parenthesis
     → arrow_of_list b only ts ≡ paren_form b n (listed only) (tail_of ts)
 unfolding arrow_of_list
-list_of_paren b n only ts e = rw (expect_again kinds.LeftParenthesis ts (tail_of ts) (start_paren (head_of ts) e, refl)) refl
+list_of_paren b n only ts e =
+    rw (expect_again kinds.LeftParenthesis ts (tail_of ts) (start_paren (head_of ts) e, refl)) refl
 
 -- where names stand in parentheses, no single name does
 pub no_one : (o : Option (Bool × List Token)) → listed_by o ≡ one_parameter → ⊥
@@ -401,7 +445,9 @@ unfolding assignment
 assignment_is b n ts = assignment_is_by b n ts (start (head_of ts)) refl
 
 plain_follows : (b c : Below) (n m : ℕ) → n ≤ m → Pair b c → Follows (λ ts. plain_form b n ts) (λ ts. plain_form c m ts)
-plain_follows b c n m le p = binds (λ ts. operation b n 3 ts) (λ ts. operation c m 3 ts) (λ e ts. joined b n e ts) (λ e ts. joined c m e ts) (operation_follows b c n m le p 3) (joined_follows b c n m le p)
+plain_follows b c n m le p =
+    binds (λ ts. operation b n 3 ts) (λ ts. operation c m 3 ts) (λ e ts. joined b n e ts) (λ e ts. joined c m e ts)
+    (operation_follows b c n m le p 3) (joined_follows b c n m le p)
 
 form_follows : (b c : Below) (n m : ℕ)
     → n ≤ m
@@ -410,8 +456,11 @@ form_follows : (b c : Below) (n m : ℕ)
     → Spans b
     → (v : Start)
     → Follows (λ ts. assignment_form b n v ts) (λ ts. assignment_form c m v ts)
-form_follows b c n m le p own s (classes.a_name x) = past (λ ts. named_form b n x (is_arrow (head_of ts)) ts) (λ ts. named_form c m x (is_arrow (head_of ts)) ts) (named_follows b c n m le p x)
-form_follows b c n m le p own s classes.parenthesis = past (paren_at b n) (paren_at c m) (paren_follows b c n m le p own s)
+form_follows b c n m le p own s (classes.a_name x) =
+    past (λ ts. named_form b n x (is_arrow (head_of ts)) ts) (λ ts. named_form c m x (is_arrow (head_of ts)) ts)
+    (named_follows b c n m le p x)
+form_follows b c n m le p own s classes.parenthesis =
+    past (paren_at b n) (paren_at c m) (paren_follows b c n m le p own s)
 form_follows b c n m le p own s _ = plain_follows b c n m le p
 
 pub assignment_follows : (b c : Below) (n m : ℕ)
@@ -420,8 +469,12 @@ pub assignment_follows : (b c : Below) (n m : ℕ)
     → Pair b b
     → Spans b
     → Follows (λ ts. assignment b n ts) (λ ts. assignment c m ts)
-assignment_follows b c n m le p own s = alike (λ ts. assignment_form b n (start (head_of ts)) ts) (λ ts. assignment b n ts) (λ ts. assignment_form c m (start (head_of ts)) ts) (λ ts. assignment c m ts) (assignment_is b n) (assignment_is c m)
-    (peeks start (λ v ts. assignment_form b n v ts) (λ v ts. assignment_form c m v ts) (form_follows b c n m le p own s))
+assignment_follows b c n m le p own s =
+    alike (λ ts. assignment_form b n (start (head_of ts)) ts) (λ ts. assignment b n ts)
+    (λ ts. assignment_form c m (start (head_of ts)) ts) (λ ts. assignment c m ts) (assignment_is b n)
+    (assignment_is c m)
+    (peeks start (λ v ts. assignment_form b n v ts) (λ v ts. assignment_form c m v ts)
+    (form_follows b c n m le p own s))
 
 -- ---- expressions
 
@@ -432,15 +485,20 @@ comma_by_follows : (b c : Below) (n m : ℕ)
     → Follows (λ ts. comma_by b n e v ts) (λ ts. comma_by c m e v ts)
 comma_by_follows b c n m le p e false = gives e
 comma_by_follows b c n m le p e true =
-    low_enough (height e) n m (λ ts. more_assignments b ts >>= λ x. Ok (trees.comma (trees.an_expression e x.0), x.1)) (λ ts. more_assignments c ts >>= λ x. Ok (trees.comma (trees.an_expression e x.0), x.1)) le
-    (makes (λ ts. more_assignments b ts) (λ ts. more_assignments c ts) (λ es. trees.comma (trees.an_expression e es)) (more_assignments_follows b c p))
+    low_enough (height e) n m (λ ts. more_assignments b ts >>= λ x. Ok (trees.comma (trees.an_expression e x.0), x.1))
+    (λ ts. more_assignments c ts >>= λ x. Ok (trees.comma (trees.an_expression e x.0), x.1)) le
+    (makes (λ ts. more_assignments b ts) (λ ts. more_assignments c ts) (λ es. trees.comma (trees.an_expression e es))
+    (more_assignments_follows b c p))
 
 pub comma_follows : (b c : Below) (n m : ℕ)
     → n ≤ m
     → Pair b c
     → (e : Expression)
-    → Follows (λ ts. comma_by b n e (is_kind kinds.Comma (head_of ts)) ts) (λ ts. comma_by c m e (is_kind kinds.Comma (head_of ts)) ts)
-comma_follows b c n m le p e = peeks (λ o. is_kind kinds.Comma o) (λ v ts. comma_by b n e v ts) (λ v ts. comma_by c m e v ts) (comma_by_follows b c n m le p e)
+    → Follows (λ ts. comma_by b n e (is_kind kinds.Comma (head_of ts)) ts)
+    (λ ts. comma_by c m e (is_kind kinds.Comma (head_of ts)) ts)
+comma_follows b c n m le p e =
+    peeks (λ o. is_kind kinds.Comma o) (λ v ts. comma_by b n e v ts) (λ v ts. comma_by c m e v ts)
+    (comma_by_follows b c n m le p e)
 
 pub expression_follows : (b c : Below) (n m : ℕ)
     → n ≤ m
@@ -449,7 +507,11 @@ pub expression_follows : (b c : Below) (n m : ℕ)
     → Spans b
     → Follows (λ ts. expression b n ts) (λ ts. expression c m ts)
 unfolding expression
-expression_follows b c n m le p own s = binds (λ ts. assignment b n ts) (λ ts. assignment c m ts) (λ e ts. comma_by b n e (is_kind kinds.Comma (head_of ts)) ts) (λ e ts. comma_by c m e (is_kind kinds.Comma (head_of ts)) ts) (assignment_follows b c n m le p own s) (comma_follows b c n m le p)
+expression_follows b c n m le p own s =
+    binds (λ ts. assignment b n ts) (λ ts. assignment c m ts)
+    (λ e ts. comma_by b n e (is_kind kinds.Comma (head_of ts)) ts)
+    (λ e ts. comma_by c m e (is_kind kinds.Comma (head_of ts)) ts) (assignment_follows b c n m le p own s)
+    (comma_follows b c n m le p)
 
 -- ---- how names are gone over
 
@@ -520,7 +582,9 @@ pub name_alone : (b : Below) (n : ℕ) (t : Token) (ts : List Token)
 name_alone b n t [] e h = absurd cc
 name_alone b n t (u ∷ ts) e h =
     let d = ended_at u h in
-    named_assignment b n t (u ∷ ts) e ∙ ap (λ (v : Bool). named_form b n t.string_value v (u ∷ ts)) d.not_arrow ∙ behind_alone b n (trees.name t.string_value) u ts h
+    named_assignment b n t (u ∷ ts) e
+    ∙ ap (λ (v : Bool). named_form b n t.string_value v (u ∷ ts)) d.not_arrow
+    ∙ behind_alone b n (trees.name t.string_value) u ts h
 
 pub assignment_names : (b : Below) (n : ℕ) → Pair b b → Spans b → Names (λ ts. assignment b n ts)
 assignment_names b n p s =
@@ -530,7 +594,8 @@ assignment_names b n p s =
       alone = λ t ts e h. inr (trees.name t.string_value, name_alone b n t ts e h);
       past = λ t ts e.
           let form : Reader Expression = λ r. named_form b n t.string_value (is_arrow (head_of r)) r in
-          subst (λ (x : Read Expression). Within x (length ts)) (sym (named_assignment b n t ts e)) (not_longer form form (named_follows b b n n same p t.string_value) ts);
+          subst (λ (x : Read Expression). Within x (length ts)) (sym (named_assignment b n t ts e))
+          (not_longer form form (named_follows b b n n same p t.string_value) ts);
     }
 
 pub comma_within : (b : Below) (n : ℕ)
@@ -548,11 +613,17 @@ comma_within b n s e ts q true c = by_depth (nat_le (height e) n)
     more = others (one_of b.assignment) no_state (suc (length ts)) tt ts >>= λ x. Ok (expressions x.0, x.1)
 
     more_within : Within (closing more) (length (scan_end false ts))
-    more_within = closing_makes (others (one_of b.assignment) no_state (suc (length ts)) tt ts) expressions (length (scan_end false ts)) (others_within b.assignment s (suc (length ts)) ts q)
+    more_within =
+        closing_makes (others (one_of b.assignment) no_state (suc (length ts)) tt ts) expressions
+        (length (scan_end false ts)) (others_within b.assignment s (suc (length ts)) ts q)
 
     by_depth : (v : Bool)
-        → Within (closing (cond v (more >>= λ x. Ok (trees.comma (trees.an_expression e x.0), x.1)) (Err (deep (length (tail_of ts)))))) (length (scan_end false ts))
-    by_depth true = closing_makes more (λ es. trees.comma (trees.an_expression e es)) (length (scan_end false ts)) more_within
+        → Within (closing
+        (cond v (more >>= λ x. Ok (trees.comma (trees.an_expression e x.0), x.1))
+        (Err (deep (length (tail_of ts))))))
+        (length (scan_end false ts))
+    by_depth true =
+        closing_makes more (λ es. trees.comma (trees.an_expression e es)) (length (scan_end false ts)) more_within
     by_depth false = tt
 
 pub expression_closes : (b : Below) (n : ℕ)

@@ -27,10 +27,14 @@ use Rattle.js_grammar.proofs.Follows.Parts.{Pair, on_right, expect_near_follows,
 pub key_follows : (b c : Below) → Pair b c → Follows (λ ts. key_at b ts) (λ ts. key_at c ts)
 unfolding key_at
 key_follows b c p = peeks key_start (λ v ts. key_by b v ts) (λ v ts. key_by c v ts) (elim [
-  | classes.a_word_key w ↦ past (λ ts. Ok (trees.word_key w, ts)) (λ ts. Ok (trees.word_key w, ts)) (gives (trees.word_key w))
-  | classes.a_string_key s ↦ past (λ ts. Ok (trees.string_key s, ts)) (λ ts. Ok (trees.string_key s, ts)) (gives (trees.string_key s))
-  | classes.a_number_key v ↦ past (λ ts. Ok (trees.number_key v, ts)) (λ ts. Ok (trees.number_key v, ts)) (gives (trees.number_key v))
-  | classes.a_computed_key ↦ made_follows b c p (tok kinds.LeftBracket ∷ an_assignment ∷ tok kinds.RightBracket ∷ []) (λ v. trees.computed_key v.1.0)
+  | classes.a_word_key w ↦ past (λ ts. Ok (trees.word_key w, ts)) (λ ts. Ok (trees.word_key w, ts))
+      (gives (trees.word_key w))
+  | classes.a_string_key s ↦ past (λ ts. Ok (trees.string_key s, ts)) (λ ts. Ok (trees.string_key s, ts))
+      (gives (trees.string_key s))
+  | classes.a_number_key v ↦ past (λ ts. Ok (trees.number_key v, ts)) (λ ts. Ok (trees.number_key v, ts))
+      (gives (trees.number_key v))
+  | classes.a_computed_key ↦ made_follows b c p (tok kinds.LeftBracket ∷ an_assignment ∷ tok kinds.RightBracket ∷ [])
+      (λ v. trees.computed_key v.1.0)
   | classes.no_key ↦ sticks
 ])
 
@@ -40,7 +44,9 @@ method_follows : (b c : Below) (n m : ℕ)
     → (k : Key)
     → Follows (λ ts. member_by b n k classes.parameters ts) (λ ts. member_by c m k classes.parameters ts)
 method_follows b c n m le p k =
-    low_enough (suc (height_of_key k)) n m (λ ts. b.function ts >>= λ f. Ok (trees.method k f.0.parameters f.0.body, f.1)) (λ ts. c.function ts >>= λ f. Ok (trees.method k f.0.parameters f.0.body, f.1)) le
+    low_enough (suc (height_of_key k)) n m
+    (λ ts. b.function ts >>= λ f. Ok (trees.method k f.0.parameters f.0.body, f.1))
+    (λ ts. c.function ts >>= λ f. Ok (trees.method k f.0.parameters f.0.body, f.1)) le
     (makes b.function c.function (λ f. trees.method k f.parameters f.body) p.both.function)
 
 member_form : (b c : Below) (n m : ℕ)
@@ -48,7 +54,8 @@ member_form : (b c : Below) (n m : ℕ)
     → Pair b c
     → (k : Key) (v : AfterKey)
     → Follows (λ ts. member_by b n k v ts) (λ ts. member_by c m k v ts)
-member_form b c n m le p k classes.colon = made_follows b c p (tok kinds.Colon ∷ an_assignment ∷ []) (λ v. trees.value k v.1.0)
+member_form b c n m le p k classes.colon =
+    made_follows b c p (tok kinds.Colon ∷ an_assignment ∷ []) (λ v. trees.value k v.1.0)
 member_form b c n m le p k classes.parameters = method_follows b c n m le p k
 member_form b c n m le p k classes.no_member = sticks
 
@@ -84,7 +91,8 @@ named_property b n ts e classes.parameters a = rw (key_of_name b ts e, a) refl
 
 property_is_by : (b : Below) (n : ℕ) (ts : List Token) (v : Bool)
     → is_kind kinds.Name (head_of ts) ≡ v
-    → property_by b n (is_shorthand_by v (after_key (head_of (tail_of ts)))) ts ≡ property_form b n (cond v (Some (text_of (head_of ts))) None) ts
+    → property_by b n (is_shorthand_by v (after_key (head_of (tail_of ts)))) ts ≡ property_form b n
+    (cond v (Some (text_of (head_of ts))) None) ts
 property_is_by b n ts true e = named_property b n ts e (after_key (head_of (tail_of ts))) refl
 property_is_by b n ts false e = refl
 
@@ -106,12 +114,19 @@ pub property_follows : (b c : Below) (n m : ℕ)
     → n ≤ m
     → Pair b c
     → Follows (λ ts. property_at b n ts) (λ ts. property_at c m ts)
-property_follows b c n m le p = alike (λ ts. property_form b n (name_next (head_of ts)) ts) (λ ts. property_at b n ts) (λ ts. property_form c m (name_next (head_of ts)) ts) (λ ts. property_at c m ts) (property_is b n) (property_is c m)
+property_follows b c n m le p =
+    alike (λ ts. property_form b n (name_next (head_of ts)) ts) (λ ts. property_at b n ts)
+    (λ ts. property_form c m (name_next (head_of ts)) ts) (λ ts. property_at c m ts) (property_is b n)
+    (property_is c m)
     (peeks name_next (λ v ts. property_form b n v ts) (λ v ts. property_form c m v ts) (elim [
-      | Some s ↦ past (λ ts. named_member b n s (after_key (head_of ts)) ts) (λ ts. named_member c m s (after_key (head_of ts)) ts)
-          (peeks after_key (λ v ts. named_member b n s v ts) (λ v ts. named_member c m s v ts) (named_form b c n m le p s))
-      | None ↦ binds (λ ts. key_at b ts) (λ ts. key_at c ts) (λ k ts. member_by b n k (after_key (head_of ts)) ts) (λ k ts. member_by c m k (after_key (head_of ts)) ts) (key_follows b c p)
-          (λ k. peeks after_key (λ v ts. member_by b n k v ts) (λ v ts. member_by c m k v ts) (member_form b c n m le p k))
+      | Some s ↦ past (λ ts. named_member b n s (after_key (head_of ts)) ts)
+          (λ ts. named_member c m s (after_key (head_of ts)) ts)
+          (peeks after_key (λ v ts. named_member b n s v ts) (λ v ts. named_member c m s v ts)
+          (named_form b c n m le p s))
+      | None ↦ binds (λ ts. key_at b ts) (λ ts. key_at c ts) (λ k ts. member_by b n k (after_key (head_of ts)) ts)
+          (λ k ts. member_by c m k (after_key (head_of ts)) ts) (key_follows b c p)
+          (λ k. peeks after_key (λ v ts. member_by b n k v ts) (λ v ts. member_by c m k v ts)
+          (member_form b c n m le p k))
     ]))
 
 pub properties_follows : (b c : Below) (n m : ℕ)
@@ -120,9 +135,13 @@ pub properties_follows : (b c : Below) (n m : ℕ)
     → Follows (λ ts. properties_at b n ts) (λ ts. properties_at c m ts)
 unfolding properties_at
 properties_follows b c n m le p =
-    makes (λ ts. elements (one_of (λ r. property_at b n r)) no_state kinds.RightBrace (suc (length ts)) tt ts) (λ ts. elements (one_of (λ r. property_at c m r)) no_state kinds.RightBrace (suc (length ts)) tt ts) properties
-    (elements_follows (one_of (λ r. property_at b n r)) (one_of (λ r. property_at c m r)) no_state kinds.RightBrace (λ s. property_follows b c n m le p)
-    (λ s. shortens (λ r. property_at c m r) (λ r. property_at c m r) (property_follows c c m m (omega arith) (on_right b c p))) tt)
+    makes (λ ts. elements (one_of (λ r. property_at b n r)) no_state kinds.RightBrace (suc (length ts)) tt ts)
+    (λ ts. elements (one_of (λ r. property_at c m r)) no_state kinds.RightBrace (suc (length ts)) tt ts) properties
+    (elements_follows (one_of (λ r. property_at b n r)) (one_of (λ r. property_at c m r)) no_state kinds.RightBrace
+    (λ s. property_follows b c n m le p)
+    (λ s. shortens (λ r. property_at c m r) (λ r. property_at c m r)
+    (property_follows c c m m (omega arith) (on_right b c p)))
+    tt)
 
 -- ---- primaries
 
@@ -146,9 +165,13 @@ primary_follows b c n m le p = peeks start (λ v ts. primary_by b n v ts) (λ v 
   | classes.a_string s ↦ one_token (trees.string s)
   | classes.a_boolean v ↦ one_token (trees.boolean v)
   | classes.null_word ↦ one_token trees.null
-  | classes.bracket ↦ made_follows b c p (tok kinds.LeftBracket ∷ arguments kinds.RightBracket ∷ []) (λ v. trees.array v.1.0)
-  | classes.brace ↦ makes (λ ts. properties_at b n (tail_of ts)) (λ ts. properties_at c m (tail_of ts)) (λ ps. trees.object ps) (past (λ ts. properties_at b n ts) (λ ts. properties_at c m ts) (properties_follows b c n m le p))
-  | classes.parenthesis ↦ made_follows b c p (tok kinds.LeftParenthesis ∷ an_expression ∷ tok kinds.RightParenthesis ∷ []) (λ v. trees.parenthesized v.1.0)
+  | classes.bracket ↦ made_follows b c p (tok kinds.LeftBracket ∷ arguments kinds.RightBracket ∷ [])
+      (λ v. trees.array v.1.0)
+  | classes.brace ↦ makes (λ ts. properties_at b n (tail_of ts)) (λ ts. properties_at c m (tail_of ts))
+      (λ ps. trees.object ps)
+      (past (λ ts. properties_at b n ts) (λ ts. properties_at c m ts) (properties_follows b c n m le p))
+  | classes.parenthesis ↦ made_follows b c p
+      (tok kinds.LeftParenthesis ∷ an_expression ∷ tok kinds.RightParenthesis ∷ []) (λ v. trees.parenthesized v.1.0)
   | classes.function_word ↦ past (λ ts. function_at b ts) (λ ts. function_at c ts) (function_follows b c p)
   | classes.no_start ↦ sticks
 ])
@@ -159,9 +182,13 @@ pub linked_follows : (b c : Below)
     → Pair b c
     → (e : Expression) (l : Link)
     → Follows (λ ts. linked_by b e l ts) (λ ts. linked_by c e l ts)
-linked_follows b c p e dot = makes (λ ts. word_at (tail_of ts)) (λ ts. word_at (tail_of ts)) (λ x. trees.member e x) (past (λ ts. word_at ts) (λ ts. word_at ts) word_follows)
-linked_follows b c p e key = made_follows b c p (tok kinds.LeftBracket ∷ an_expression ∷ tok kinds.RightBracket ∷ []) (λ v. trees.index e v.1.0)
-linked_follows b c p e classes.arguments = made_follows b c p (tok kinds.LeftParenthesis ∷ arguments kinds.RightParenthesis ∷ []) (λ v. trees.call e v.1.0)
+linked_follows b c p e dot =
+    makes (λ ts. word_at (tail_of ts)) (λ ts. word_at (tail_of ts)) (λ x. trees.member e x)
+    (past (λ ts. word_at ts) (λ ts. word_at ts) word_follows)
+linked_follows b c p e key =
+    made_follows b c p (tok kinds.LeftBracket ∷ an_expression ∷ tok kinds.RightBracket ∷ []) (λ v. trees.index e v.1.0)
+linked_follows b c p e classes.arguments =
+    made_follows b c p (tok kinds.LeftParenthesis ∷ arguments kinds.RightParenthesis ∷ []) (λ v. trees.call e v.1.0)
 linked_follows b c p e no_link = sticks
 
 link_turn : (b c : Below) (n m : ℕ)
@@ -170,9 +197,12 @@ link_turn : (b c : Below) (n m : ℕ)
     → (go go' : Expression → Reader Expression)
     → ((e : Expression) → Follows (go e) (go' e))
     → (e : Expression) (l : Link)
-    → Follows (λ ts. cond (nat_le (height e) n) (linked_by b e l ts >>= λ x. go x.0 x.1) (Err (deep (length (tail_of ts))))) (λ ts. cond (nat_le (height e) m) (linked_by c e l ts >>= λ x. go' x.0 x.1) (Err (deep (length (tail_of ts)))))
+    → Follows
+    (λ ts. cond (nat_le (height e) n) (linked_by b e l ts >>= λ x. go x.0 x.1) (Err (deep (length (tail_of ts)))))
+    (λ ts. cond (nat_le (height e) m) (linked_by c e l ts >>= λ x. go' x.0 x.1) (Err (deep (length (tail_of ts)))))
 link_turn b c n m le p go go' h e l =
-    low_enough (height e) n m (λ ts. linked_by b e l ts >>= λ x. go x.0 x.1) (λ ts. linked_by c e l ts >>= λ x. go' x.0 x.1) le
+    low_enough (height e) n m (λ ts. linked_by b e l ts >>= λ x. go x.0 x.1)
+    (λ ts. linked_by c e l ts >>= λ x. go' x.0 x.1) le
     (binds (λ ts. linked_by b e l ts) (λ ts. linked_by c e l ts) go go' (linked_follows b c p e l) h)
 
 link_by_turn : (b c : Below) (n m : ℕ)
@@ -198,12 +228,17 @@ unfolding links
 links_follows b c n m le p zero j l e = deepens (λ ts. links c m j e ts)
 links_follows b c n m le p (suc k) zero l e = absurd (omega arith)
 links_follows b c n m le p (suc k) (suc j) l e =
-    peeks link (λ v ts. links_by b n (λ f r. links b n k f r) e v ts) (λ v ts. links_by c m (λ f r. links c m j f r) e v ts)
-    (link_by_turn b c n m le p (λ f r. links b n k f r) (λ f r. links c m j f r) (λ f. links_follows b c n m le p k j (omega arith) f) e)
+    peeks link (λ v ts. links_by b n (λ f r. links b n k f r) e v ts)
+    (λ v ts. links_by c m (λ f r. links c m j f r) e v ts)
+    (link_by_turn b c n m le p (λ f r. links b n k f r) (λ f r. links c m j f r)
+    (λ f. links_follows b c n m le p k j (omega arith) f) e)
 
 pub call_follows : (b c : Below) (n m : ℕ) → n ≤ m → Pair b c → Follows (λ ts. call b n ts) (λ ts. call c m ts)
 unfolding call
-call_follows b c n m le p = binds (λ ts. primary b n ts) (λ ts. primary c m ts) (λ e ts. links b n (suc n) e ts) (λ e ts. links c m (suc m) e ts) (primary_follows b c n m le p) (λ e. links_follows b c n m le p (suc n) (suc m) (omega arith) e)
+call_follows b c n m le p =
+    binds (λ ts. primary b n ts) (λ ts. primary c m ts) (λ e ts. links b n (suc n) e ts)
+    (λ e ts. links c m (suc m) e ts) (primary_follows b c n m le p)
+    (λ e. links_follows b c n m le p (suc n) (suc m) (omega arith) e)
 
 -- ---- operators
 
@@ -213,18 +248,26 @@ updated_by_follows : (n m : ℕ)
     → Follows (λ ts. updated_by n e v ts) (λ ts. updated_by m e v ts)
 updated_by_follows n m le e None = gives e
 updated_by_follows n m le e (Some o) =
-    tests (is_target e) (λ ts. cond (nat_le (height e) n) (Ok (trees.postfix o e, tail_of ts)) (Err (deep (length (tail_of ts))))) (λ ts. cond (nat_le (height e) m) (Ok (trees.postfix o e, tail_of ts)) (Err (deep (length (tail_of ts))))) (λ ts. Err (stuck (length ts))) (λ ts. Err (stuck (length ts)))
-    (low_enough (height e) n m (λ ts. Ok (trees.postfix o e, tail_of ts)) (λ ts. Ok (trees.postfix o e, tail_of ts)) le (one_token (trees.postfix o e))) sticks
+    tests (is_target e)
+    (λ ts. cond (nat_le (height e) n) (Ok (trees.postfix o e, tail_of ts)) (Err (deep (length (tail_of ts)))))
+    (λ ts. cond (nat_le (height e) m) (Ok (trees.postfix o e, tail_of ts)) (Err (deep (length (tail_of ts)))))
+    (λ ts. Err (stuck (length ts))) (λ ts. Err (stuck (length ts)))
+    (low_enough (height e) n m (λ ts. Ok (trees.postfix o e, tail_of ts)) (λ ts. Ok (trees.postfix o e, tail_of ts)) le
+    (one_token (trees.postfix o e)))
+    sticks
 
 pub updated_follows : (n m : ℕ)
     → n ≤ m
     → (e : Expression)
     → Follows (λ ts. updated_by n e (update_near (head_of ts)) ts) (λ ts. updated_by m e (update_near (head_of ts)) ts)
-updated_follows n m le e = peeks update_near (λ v ts. updated_by n e v ts) (λ v ts. updated_by m e v ts) (updated_by_follows n m le e)
+updated_follows n m le e =
+    peeks update_near (λ v ts. updated_by n e v ts) (λ v ts. updated_by m e v ts) (updated_by_follows n m le e)
 
 pub postfix_follows : (b c : Below) (n m : ℕ) → n ≤ m → Pair b c → Follows (λ ts. postfix b n ts) (λ ts. postfix c m ts)
 unfolding postfix
-postfix_follows b c n m le p = binds (λ ts. call b n ts) (λ ts. call c m ts) (λ e ts. updated_by n e (update_near (head_of ts)) ts) (λ e ts. updated_by m e (update_near (head_of ts)) ts) (call_follows b c n m le p) (updated_follows n m le)
+postfix_follows b c n m le p =
+    binds (λ ts. call b n ts) (λ ts. call c m ts) (λ e ts. updated_by n e (update_near (head_of ts)) ts)
+    (λ e ts. updated_by m e (update_near (head_of ts)) ts) (call_follows b c n m le p) (updated_follows n m le)
 
 -- an operand that is tested
 abbrev pub tested : Bool → Expression → Reader Expression
@@ -237,9 +280,15 @@ tested_follows false e = sticks
 pub unary_follows : (b c : Below) (n m : ℕ) → n ≤ m → Pair b c → Follows (λ ts. unary b n ts) (λ ts. unary c m ts)
 unfolding unary
 unary_follows b c n m le p = peeks prefix (λ v ts. unary_by b n v ts) (λ v ts. unary_by c m v ts) (elim [
-  | deletes ↦ binds (λ ts. b.call (tail_of ts)) (λ ts. c.call (tail_of ts)) (λ e ts. tested (is_property e) (trees.unary unaries.Delete e) ts) (λ e ts. tested (is_property e) (trees.unary unaries.Delete e) ts) (past b.call c.call p.both.call) (λ e. tested_follows (is_property e) (trees.unary unaries.Delete e))
-  | a_unary o ↦ makes (λ ts. b.unary (tail_of ts)) (λ ts. c.unary (tail_of ts)) (λ e. trees.unary o e) (past b.unary c.unary p.both.unary)
-  | an_update o ↦ binds (λ ts. b.call (tail_of ts)) (λ ts. c.call (tail_of ts)) (λ e ts. tested (is_target e) (trees.prefix o e) ts) (λ e ts. tested (is_target e) (trees.prefix o e) ts) (past b.call c.call p.both.call) (λ e. tested_follows (is_target e) (trees.prefix o e))
+  | deletes ↦ binds (λ ts. b.call (tail_of ts)) (λ ts. c.call (tail_of ts))
+      (λ e ts. tested (is_property e) (trees.unary unaries.Delete e) ts)
+      (λ e ts. tested (is_property e) (trees.unary unaries.Delete e) ts) (past b.call c.call p.both.call)
+      (λ e. tested_follows (is_property e) (trees.unary unaries.Delete e))
+  | a_unary o ↦ makes (λ ts. b.unary (tail_of ts)) (λ ts. c.unary (tail_of ts)) (λ e. trees.unary o e)
+      (past b.unary c.unary p.both.unary)
+  | an_update o ↦ binds (λ ts. b.call (tail_of ts)) (λ ts. c.call (tail_of ts))
+      (λ e ts. tested (is_target e) (trees.prefix o e) ts) (λ e ts. tested (is_target e) (trees.prefix o e) ts)
+      (past b.call c.call p.both.call) (λ e. tested_follows (is_target e) (trees.prefix o e))
   | no_prefix ↦ postfix_follows b c n m le p
 ])
 
@@ -252,9 +301,13 @@ chain_turn : (b c : Below) (n m : ℕ)
     → Follows (λ ts. chain_by b n go l v ts) (λ ts. chain_by c m go' l v ts)
 chain_turn b c n m le p go go' h l None = gives l
 chain_turn b c n m le p go go' h l (Some o) =
-    low_enough (height l) n m (λ ts. b.operation (suc (strength o)) (tail_of ts) >>= λ x. go (trees.binary o l x.0) x.1) (λ ts. c.operation (suc (strength o)) (tail_of ts) >>= λ x. go' (trees.binary o l x.0) x.1) le
-    (binds (λ ts. b.operation (suc (strength o)) (tail_of ts)) (λ ts. c.operation (suc (strength o)) (tail_of ts)) (λ r ts. go (trees.binary o l r) ts) (λ r ts. go' (trees.binary o l r) ts)
-    (past (λ ts. b.operation (suc (strength o)) ts) (λ ts. c.operation (suc (strength o)) ts) (p.both.operation (suc (strength o)))) (λ r. h (trees.binary o l r)))
+    low_enough (height l) n m (λ ts. b.operation (suc (strength o)) (tail_of ts) >>= λ x. go (trees.binary o l x.0) x.1)
+    (λ ts. c.operation (suc (strength o)) (tail_of ts) >>= λ x. go' (trees.binary o l x.0) x.1) le
+    (binds (λ ts. b.operation (suc (strength o)) (tail_of ts)) (λ ts. c.operation (suc (strength o)) (tail_of ts))
+    (λ r ts. go (trees.binary o l r) ts) (λ r ts. go' (trees.binary o l r) ts)
+    (past (λ ts. b.operation (suc (strength o)) ts) (λ ts. c.operation (suc (strength o)) ts)
+    (p.both.operation (suc (strength o))))
+    (λ r. h (trees.binary o l r)))
 
 pub chain_follows : (b c : Below) (n m : ℕ)
     → n ≤ m
@@ -267,8 +320,10 @@ unfolding chain
 chain_follows b c n m le p low zero j q l = deepens (λ ts. chain c m low j l ts)
 chain_follows b c n m le p low (suc k) zero q l = absurd (omega arith)
 chain_follows b c n m le p low (suc k) (suc j) q l =
-    peeks (λ o. operator_from low (operator o)) (λ v ts. chain_by b n (λ e r. chain b n low k e r) l v ts) (λ v ts. chain_by c m (λ e r. chain c m low j e r) l v ts)
-    (chain_turn b c n m le p (λ e r. chain b n low k e r) (λ e r. chain c m low j e r) (λ e. chain_follows b c n m le p low k j (omega arith) e) l)
+    peeks (λ o. operator_from low (operator o)) (λ v ts. chain_by b n (λ e r. chain b n low k e r) l v ts)
+    (λ v ts. chain_by c m (λ e r. chain c m low j e r) l v ts)
+    (chain_turn b c n m le p (λ e r. chain b n low k e r) (λ e r. chain c m low j e r)
+    (λ e. chain_follows b c n m le p low k j (omega arith) e) l)
 
 pub operation_follows : (b c : Below) (n m : ℕ)
     → n ≤ m
@@ -276,7 +331,10 @@ pub operation_follows : (b c : Below) (n m : ℕ)
     → (low : ℕ)
     → Follows (λ ts. operation b n low ts) (λ ts. operation c m low ts)
 unfolding operation
-operation_follows b c n m le p low = binds (λ ts. unary b n ts) (λ ts. unary c m ts) (λ e ts. chain b n low (suc n) e ts) (λ e ts. chain c m low (suc m) e ts) (unary_follows b c n m le p) (λ e. chain_follows b c n m le p low (suc n) (suc m) (omega arith) e)
+operation_follows b c n m le p low =
+    binds (λ ts. unary b n ts) (λ ts. unary c m ts) (λ e ts. chain b n low (suc n) e ts)
+    (λ e ts. chain c m low (suc m) e ts) (unary_follows b c n m le p)
+    (λ e. chain_follows b c n m le p low (suc n) (suc m) (omega arith) e)
 
 -- ---- what goes on behind an operation
 
@@ -286,13 +344,25 @@ joined_by_follows : (b c : Below) (n m : ℕ)
     → (t : Expression) (v : Joint)
     → Follows (λ ts. joined_by b n t v ts) (λ ts. joined_by c m t v ts)
 joined_by_follows b c n m le p t question =
-    low_enough (height t) n m (λ ts. made b (tok kinds.Question ∷ an_assignment ∷ tok kinds.Colon ∷ an_assignment ∷ []) (λ v. trees.conditional t v.1.0 v.1.1.1.0) ts) (λ ts. made c (tok kinds.Question ∷ an_assignment ∷ tok kinds.Colon ∷ an_assignment ∷ []) (λ v. trees.conditional t v.1.0 v.1.1.1.0) ts) le
-    (made_follows b c p (tok kinds.Question ∷ an_assignment ∷ tok kinds.Colon ∷ an_assignment ∷ []) (λ v. trees.conditional t v.1.0 v.1.1.1.0))
+    low_enough (height t) n m
+    (λ ts. made b (tok kinds.Question ∷ an_assignment ∷ tok kinds.Colon ∷ an_assignment ∷ [])
+    (λ v. trees.conditional t v.1.0 v.1.1.1.0) ts)
+    (λ ts. made c (tok kinds.Question ∷ an_assignment ∷ tok kinds.Colon ∷ an_assignment ∷ [])
+    (λ v. trees.conditional t v.1.0 v.1.1.1.0) ts)
+    le
+    (made_follows b c p (tok kinds.Question ∷ an_assignment ∷ tok kinds.Colon ∷ an_assignment ∷ [])
+    (λ v. trees.conditional t v.1.0 v.1.1.1.0))
 joined_by_follows b c n m le p t (assigns_by o) =
-    let left : Reader Expression = λ ts. made b (tok (assign_kind o) ∷ an_assignment ∷ []) (λ v. trees.assign o t v.1.0) ts in
-    let right : Reader Expression = λ ts. made c (tok (assign_kind o) ∷ an_assignment ∷ []) (λ v. trees.assign o t v.1.0) ts in
-    tests (is_target t) (λ ts. cond (nat_le (height t) n) (left ts) (Err (deep (length (tail_of ts))))) (λ ts. cond (nat_le (height t) m) (right ts) (Err (deep (length (tail_of ts))))) (λ ts. Err (stuck (length ts))) (λ ts. Err (stuck (length ts)))
-    (low_enough (height t) n m left right le (made_follows b c p (tok (assign_kind o) ∷ an_assignment ∷ []) (λ v. trees.assign o t v.1.0))) sticks
+    let left : Reader Expression = λ ts. made b (tok (assign_kind o) ∷ an_assignment ∷ []) (λ v. trees.assign o t v.1.0)
+    ts in
+    let right : Reader Expression = λ ts. made c (tok (assign_kind o) ∷ an_assignment ∷ [])
+    (λ v. trees.assign o t v.1.0) ts in
+    tests (is_target t) (λ ts. cond (nat_le (height t) n) (left ts) (Err (deep (length (tail_of ts)))))
+    (λ ts. cond (nat_le (height t) m) (right ts) (Err (deep (length (tail_of ts)))))
+    (λ ts. Err (stuck (length ts))) (λ ts. Err (stuck (length ts)))
+    (low_enough (height t) n m left right le
+    (made_follows b c p (tok (assign_kind o) ∷ an_assignment ∷ []) (λ v. trees.assign o t v.1.0)))
+    sticks
 joined_by_follows b c n m le p t no_joint = gives t
 
 pub joined_follows : (b c : Below) (n m : ℕ)
@@ -301,7 +371,8 @@ pub joined_follows : (b c : Below) (n m : ℕ)
     → (t : Expression)
     → Follows (λ ts. joined b n t ts) (λ ts. joined c m t ts)
 unfolding joined
-joined_follows b c n m le p t = peeks joint (λ v ts. joined_by b n t v ts) (λ v ts. joined_by c m t v ts) (joined_by_follows b c n m le p t)
+joined_follows b c n m le p t =
+    peeks joint (λ v ts. joined_by b n t v ts) (λ v ts. joined_by c m t v ts) (joined_by_follows b c n m le p t)
 
 -- ---- what goes on behind the parameters of an arrow function
 
@@ -313,7 +384,9 @@ unfolding arrow_rest
 arrow_rest_follows b c p ps names =
     let left : Bool → Reader Expression = λ v ts. arrow_body_by b ps names v ts in
     let right : Bool → Reader Expression = λ v ts. arrow_body_by c ps names v ts in
-    binds (λ ts. expect_near kinds.Arrow ts) (λ ts. expect_near kinds.Arrow ts) (λ a ts. left (is_kind kinds.LeftBrace (head_of ts)) ts) (λ a ts. right (is_kind kinds.LeftBrace (head_of ts)) ts) (expect_near_follows kinds.Arrow)
+    binds (λ ts. expect_near kinds.Arrow ts) (λ ts. expect_near kinds.Arrow ts)
+    (λ a ts. left (is_kind kinds.LeftBrace (head_of ts)) ts)
+    (λ a ts. right (is_kind kinds.LeftBrace (head_of ts)) ts) (expect_near_follows kinds.Arrow)
     (λ a. peeks (λ o. is_kind kinds.LeftBrace o) left right (elim [
       | true ↦ made_follows b c p (in_braces function_body (with_names [] names) ∷ []) (λ v. trees.arrow_block ps v.0)
       | false ↦ made_follows b c p (an_assignment ∷ []) (λ v. trees.arrow ps v.0)

@@ -56,7 +56,8 @@ next_follows value false = sticks
 
 pub if_next_follows : {A : Type 0} (test : Option Token → Bool) (value : Option Token → A)
     → Follows (if_next test value) (if_next test value)
-if_next_follows test value = peeks (λ o. o) (next_of test value) (next_of test value) (λ o. next_follows (value o) (test o))
+if_next_follows test value =
+    peeks (λ o. o) (next_of test value) (next_of test value) (λ o. next_follows (value o) (test o))
 
 pub expect_follows : (k : TokenKind) → Follows (λ ts. expect k ts) (λ ts. expect k ts)
 unfolding expect
@@ -112,7 +113,8 @@ semicolon_by_follows end false = peeks (λ o. absent end o) if_absent if_absent 
 
 pub semicolon_follows : (end : End) → Follows (λ ts. semicolon_at end ts) (λ ts. semicolon_at end ts)
 unfolding semicolon_at
-semicolon_follows end = peeks (λ o. is_kind kinds.Semicolon o) (semicolon_by end) (semicolon_by end) (semicolon_by_follows end)
+semicolon_follows end =
+    peeks (λ o. is_kind kinds.Semicolon o) (semicolon_by end) (semicolon_by end) (semicolon_by_follows end)
 
 -- ---- elements up to a token
 
@@ -149,8 +151,12 @@ elements_local {S} {A} one next closer sh = λ go go' s ts h. by_close go go' s 
         → ((u : S) (r : List Token) → suc (length r) ≤ length ts → go u r ≡ go' u r)
         → (x : Read A)
         → one s ts ≡ x
-        → (x >>= λ x. go_after (go (next s x.0)) (after closer (head_of x.1)) x.1 >>= λ y. Ok (x.0 ∷ y.0, y.1)) ≡ (x >>= λ x. go_after (go' (next s x.0)) (after closer (head_of x.1)) x.1 >>= λ y. Ok (x.0 ∷ y.0, y.1))
-    by_first go go' s ts h (Ok x) e = ap (λ (r : Read (List A)). r >>= λ y. Ok (x.0 ∷ y.0, y.1)) (go_after_local (go (next s x.0)) (go' (next s x.0)) closer (length ts) (after closer (head_of x.1)) x.1 refl (sh s ts x e) (λ r l. h (next s x.0) r l))
+        → (x >>= λ x. go_after (go (next s x.0)) (after closer (head_of x.1)) x.1 >>= λ y. Ok (x.0 ∷ y.0, y.1)) ≡
+        (x >>= λ x. go_after (go' (next s x.0)) (after closer (head_of x.1)) x.1 >>= λ y. Ok (x.0 ∷ y.0, y.1))
+    by_first go go' s ts h (Ok x) e =
+        ap (λ (r : Read (List A)). r >>= λ y. Ok (x.0 ∷ y.0, y.1))
+        (go_after_local (go (next s x.0)) (go' (next s x.0)) closer (length ts) (after closer (head_of x.1))
+        x.1 refl (sh s ts x e) (λ r l. h (next s x.0) r l))
     by_first go go' s ts h (Err z) e = refl
 
     by_close : (go go' : S → Reader (List A)) (s : S) (ts : List Token)
@@ -163,11 +169,12 @@ elements_local {S} {A} one next closer sh = λ go go' s ts h. by_close go go' s 
 pub go_after_follows : {A : Type 0} (closer : TokenKind) (go go' : Reader (List A))
     → Follows go go'
     → Follows (λ ts. go_after go (after closer (head_of ts)) ts) (λ ts. go_after go' (after closer (head_of ts)) ts)
-go_after_follows closer go go' h = peeks (λ o. after closer o) (λ a ts. go_after go a ts) (λ a ts. go_after go' a ts) (elim [
-  | goes_on ↦ past go go' h
-  | ends ↦ past (λ ts. Ok ([], ts)) (λ ts. Ok ([], ts)) (gives [])
-  | neither ↦ sticks
-])
+go_after_follows closer go go' h =
+    peeks (λ o. after closer o) (λ a ts. go_after go a ts) (λ a ts. go_after go' a ts) (elim [
+      | goes_on ↦ past go go' h
+      | ends ↦ past (λ ts. Ok ([], ts)) (λ ts. Ok ([], ts)) (gives [])
+      | neither ↦ sticks
+    ])
 
 pub elements_turn : {S A : Type 0} (one one' : S → Reader A) (next : S → A → S) (closer : TokenKind)
     → ((s : S) → Follows (one s) (one' s))
@@ -175,11 +182,17 @@ pub elements_turn : {S A : Type 0} (one one' : S → Reader A) (next : S → A �
     → ((s : S) → Follows (f s) (f' s))
     → (s : S)
     → Follows (elements_body one next closer f s) (elements_body one' next closer f' s)
-elements_turn one one' next closer h f f' k s = peeks (λ o. is_kind closer o) (λ c ts. elements_by one next f closer s c ts) (λ c ts. elements_by one' next f' closer s c ts) (elim [
-  | true ↦ past (λ ts. Ok ([], ts)) (λ ts. Ok ([], ts)) (gives [])
-  | false ↦ binds (one s) (one' s) (λ a ts. go_after (f (next s a)) (after closer (head_of ts)) ts >>= λ y. Ok (a ∷ y.0, y.1)) (λ a ts. go_after (f' (next s a)) (after closer (head_of ts)) ts >>= λ y. Ok (a ∷ y.0, y.1)) (h s)
-      (λ a. makes (λ ts. go_after (f (next s a)) (after closer (head_of ts)) ts) (λ ts. go_after (f' (next s a)) (after closer (head_of ts)) ts) (λ ys. a ∷ ys) (go_after_follows closer (f (next s a)) (f' (next s a)) (k (next s a))))
-])
+elements_turn one one' next closer h f f' k s =
+    peeks (λ o. is_kind closer o) (λ c ts. elements_by one next f closer s c ts)
+    (λ c ts. elements_by one' next f' closer s c ts) (elim [
+      | true ↦ past (λ ts. Ok ([], ts)) (λ ts. Ok ([], ts)) (gives [])
+      | false ↦ binds (one s) (one' s)
+          (λ a ts. go_after (f (next s a)) (after closer (head_of ts)) ts >>= λ y. Ok (a ∷ y.0, y.1))
+          (λ a ts. go_after (f' (next s a)) (after closer (head_of ts)) ts >>= λ y. Ok (a ∷ y.0, y.1)) (h s)
+          (λ a. makes (λ ts. go_after (f (next s a)) (after closer (head_of ts)) ts)
+          (λ ts. go_after (f' (next s a)) (after closer (head_of ts)) ts) (λ ys. a ∷ ys)
+          (go_after_follows closer (f (next s a)) (f' (next s a)) (k (next s a))))
+    ])
 
 pub elements_turns : {S A : Type 0} (one : S → Reader A) (next : S → A → S) (closer : TokenKind)
     → Turns (elements_body one next closer) (λ k s ts. elements one next closer k s ts)
@@ -190,9 +203,12 @@ pub elements_follows : {S A : Type 0} (one one' : S → Reader A) (next : S → 
     → ((s : S) → Follows (one s) (one' s))
     → ((s : S) → Shortens (one' s))
     → (s : S)
-    → Follows (λ ts. elements one next closer (suc (length ts)) s ts) (λ ts. elements one' next closer (suc (length ts)) s ts)
+    → Follows (λ ts. elements one next closer (suc (length ts)) s ts)
+    (λ ts. elements one' next closer (suc (length ts)) s ts)
 elements_follows one one' next closer h sh s =
-    loops (elements_body one next closer) (elements_body one' next closer) (λ k s ts. elements one next closer k s ts) (λ k s ts. elements one' next closer k s ts) (elements_turns one next closer) (elements_turns one' next closer) (elements_local one' next closer sh) (elements_turn one one' next closer h) s
+    loops (elements_body one next closer) (elements_body one' next closer) (λ k s ts. elements one next closer k s ts)
+    (λ k s ts. elements one' next closer k s ts) (elements_turns one next closer) (elements_turns one' next closer)
+    (elements_local one' next closer sh) (elements_turn one one' next closer h) s
 
 -- ---- further elements
 
@@ -213,8 +229,11 @@ others_local {S} {A} one next sh = λ go go' s ts h. by_comma go go' s ts h (is_
         → ((u : S) (r : List Token) → suc (length r) ≤ length ts → go u r ≡ go' u r)
         → (x : Read A)
         → one s (tail_of ts) ≡ x
-        → (x >>= λ x. go (next s x.0) x.1 >>= λ y. Ok (x.0 ∷ y.0, y.1)) ≡ (x >>= λ x. go' (next s x.0) x.1 >>= λ y. Ok (x.0 ∷ y.0, y.1))
-    by_first go go' s ts c h (Ok x) e = ap (λ (r : Read (List A)). r >>= λ y. Ok (x.0 ∷ y.0, y.1)) (h (next s x.0) x.1 (omega (arith, sh s (tail_of ts) x e, kind_shorter kinds.Comma ts c)))
+        → (x >>= λ x. go (next s x.0) x.1 >>= λ y. Ok (x.0 ∷ y.0, y.1)) ≡
+        (x >>= λ x. go' (next s x.0) x.1 >>= λ y. Ok (x.0 ∷ y.0, y.1))
+    by_first go go' s ts c h (Ok x) e =
+        ap (λ (r : Read (List A)). r >>= λ y. Ok (x.0 ∷ y.0, y.1))
+        (h (next s x.0) x.1 (omega (arith, sh s (tail_of ts) x e, kind_shorter kinds.Comma ts c)))
     by_first go go' s ts c h (Err z) e = refl
 
     by_comma : (go go' : S → Reader (List A)) (s : S) (ts : List Token)
@@ -231,11 +250,15 @@ pub others_turn : {S A : Type 0} (one one' : S → Reader A) (next : S → A →
     → ((s : S) → Follows (f s) (f' s))
     → (s : S)
     → Follows (others_body one next f s) (others_body one' next f' s)
-others_turn one one' next h f f' k s = peeks (λ o. is_kind kinds.Comma o) (λ c ts. others_by one next f s c ts) (λ c ts. others_by one' next f' s c ts) (elim [
-  | true ↦ binds (λ ts. one s (tail_of ts)) (λ ts. one' s (tail_of ts)) (λ a ts. f (next s a) ts >>= λ y. Ok (a ∷ y.0, y.1)) (λ a ts. f' (next s a) ts >>= λ y. Ok (a ∷ y.0, y.1)) (past (one s) (one' s) (h s))
-      (λ a. makes (f (next s a)) (f' (next s a)) (λ ys. a ∷ ys) (k (next s a)))
-  | false ↦ gives []
-])
+others_turn one one' next h f f' k s =
+    peeks (λ o. is_kind kinds.Comma o) (λ c ts. others_by one next f s c ts) (λ c ts. others_by one' next f' s c ts)
+    (elim [
+      | true ↦ binds (λ ts. one s (tail_of ts)) (λ ts. one' s (tail_of ts))
+          (λ a ts. f (next s a) ts >>= λ y. Ok (a ∷ y.0, y.1)) (λ a ts. f' (next s a) ts >>= λ y. Ok (a ∷ y.0, y.1))
+          (past (one s) (one' s) (h s))
+          (λ a. makes (f (next s a)) (f' (next s a)) (λ ys. a ∷ ys) (k (next s a)))
+      | false ↦ gives []
+    ])
 
 pub others_turns : {S A : Type 0} (one : S → Reader A) (next : S → A → S)
     → Turns (others_body one next) (λ k s ts. others one next k s ts)
@@ -248,7 +271,9 @@ pub others_follows : {S A : Type 0} (one one' : S → Reader A) (next : S → A 
     → (s : S)
     → Follows (λ ts. others one next (suc (length ts)) s ts) (λ ts. others one' next (suc (length ts)) s ts)
 others_follows one one' next h sh s =
-    loops (others_body one next) (others_body one' next) (λ k s ts. others one next k s ts) (λ k s ts. others one' next k s ts) (others_turns one next) (others_turns one' next) (others_local one' next sh) (others_turn one one' next h) s
+    loops (others_body one next) (others_body one' next) (λ k s ts. others one next k s ts)
+    (λ k s ts. others one' next k s ts) (others_turns one next) (others_turns one' next)
+    (others_local one' next sh) (others_turn one one' next h) s
 
 -- so many of them at most
 pub others_from : {S A : Type 0} (one one' : S → Reader A) (next : S → A → S)
@@ -257,7 +282,9 @@ pub others_from : {S A : Type 0} (one one' : S → Reader A) (next : S → A →
     → (k : ℕ) (s : S)
     → Follows (λ ts. others one next k s ts) (λ ts. others one' next (suc (length ts)) s ts)
 others_from one one' next h sh k s =
-    loop_from (others_body one next) (others_body one' next) (λ k s ts. others one next k s ts) (λ k s ts. others one' next k s ts) (others_turns one next) (others_turns one' next) (others_local one' next sh) (others_turn one one' next h) k s
+    loop_from (others_body one next) (others_body one' next) (λ k s ts. others one next k s ts)
+    (λ k s ts. others one' next k s ts) (others_turns one next) (others_turns one' next)
+    (others_local one' next sh) (others_turn one one' next h) k s
 
 -- ---- elements up to what ends a list of statements
 
@@ -273,8 +300,10 @@ items_local {S} {A} one next sh = λ go go' s ts h. by_end go go' s ts h (ends_l
         → ((u : S) (r : List Token) → suc (length r) ≤ length ts → go u r ≡ go' u r)
         → (x : Read A)
         → one s ts ≡ x
-        → (x >>= λ x. go (next s x.0) x.1 >>= λ y. Ok (x.0 ∷ y.0, y.1)) ≡ (x >>= λ x. go' (next s x.0) x.1 >>= λ y. Ok (x.0 ∷ y.0, y.1))
-    by_first go go' s ts h (Ok x) e = ap (λ (r : Read (List A)). r >>= λ y. Ok (x.0 ∷ y.0, y.1)) (h (next s x.0) x.1 (sh s ts x e))
+        → (x >>= λ x. go (next s x.0) x.1 >>= λ y. Ok (x.0 ∷ y.0, y.1)) ≡
+        (x >>= λ x. go' (next s x.0) x.1 >>= λ y. Ok (x.0 ∷ y.0, y.1))
+    by_first go go' s ts h (Ok x) e =
+        ap (λ (r : Read (List A)). r >>= λ y. Ok (x.0 ∷ y.0, y.1)) (h (next s x.0) x.1 (sh s ts x e))
     by_first go go' s ts h (Err z) e = refl
 
     by_end : (go go' : S → Reader (List A)) (s : S) (ts : List Token)
@@ -290,11 +319,13 @@ pub items_turn : {S A : Type 0} (one one' : S → Reader A) (next : S → A → 
     → ((s : S) → Follows (f s) (f' s))
     → (s : S)
     → Follows (items_body one next f s) (items_body one' next f' s)
-items_turn one one' next h f f' k s = peeks ends_list (λ c ts. items_by one next f s c ts) (λ c ts. items_by one' next f' s c ts) (elim [
-  | true ↦ gives []
-  | false ↦ binds (one s) (one' s) (λ a ts. f (next s a) ts >>= λ y. Ok (a ∷ y.0, y.1)) (λ a ts. f' (next s a) ts >>= λ y. Ok (a ∷ y.0, y.1)) (h s)
-      (λ a. makes (f (next s a)) (f' (next s a)) (λ ys. a ∷ ys) (k (next s a)))
-])
+items_turn one one' next h f f' k s =
+    peeks ends_list (λ c ts. items_by one next f s c ts) (λ c ts. items_by one' next f' s c ts) (elim [
+      | true ↦ gives []
+      | false ↦ binds (one s) (one' s) (λ a ts. f (next s a) ts >>= λ y. Ok (a ∷ y.0, y.1))
+          (λ a ts. f' (next s a) ts >>= λ y. Ok (a ∷ y.0, y.1)) (h s)
+          (λ a. makes (f (next s a)) (f' (next s a)) (λ ys. a ∷ ys) (k (next s a)))
+    ])
 
 pub items_turns : {S A : Type 0} (one : S → Reader A) (next : S → A → S)
     → Turns (items_body one next) (λ k s ts. items one next k s ts)
@@ -307,7 +338,9 @@ pub items_follows : {S A : Type 0} (one one' : S → Reader A) (next : S → A �
     → (s : S)
     → Follows (λ ts. items one next (suc (length ts)) s ts) (λ ts. items one' next (suc (length ts)) s ts)
 items_follows one one' next h sh s =
-    loops (items_body one next) (items_body one' next) (λ k s ts. items one next k s ts) (λ k s ts. items one' next k s ts) (items_turns one next) (items_turns one' next) (items_local one' next sh) (items_turn one one' next h) s
+    loops (items_body one next) (items_body one' next) (λ k s ts. items one next k s ts)
+    (λ k s ts. items one' next k s ts) (items_turns one next) (items_turns one' next) (items_local one' next sh)
+    (items_turn one one' next h) s
 
 -- ---- lists of trees
 
@@ -317,23 +350,31 @@ pub arguments_follows : (b c : Below)
     → Follows (λ ts. arguments_before b closer ts) (λ ts. arguments_before c closer ts)
 unfolding arguments_before
 arguments_follows b c p closer =
-    makes (λ ts. elements (one_of b.assignment) no_state closer (suc (length ts)) tt ts) (λ ts. elements (one_of c.assignment) no_state closer (suc (length ts)) tt ts) expressions
-    (elements_follows (one_of b.assignment) (one_of c.assignment) no_state closer (λ s. p.both.assignment) (λ s. shortens c.assignment c.assignment p.right.assignment) tt)
+    makes (λ ts. elements (one_of b.assignment) no_state closer (suc (length ts)) tt ts)
+    (λ ts. elements (one_of c.assignment) no_state closer (suc (length ts)) tt ts) expressions
+    (elements_follows (one_of b.assignment) (one_of c.assignment) no_state closer (λ s. p.both.assignment)
+    (λ s. shortens c.assignment c.assignment p.right.assignment) tt)
 
 pub more_assignments_follows : (b c : Below)
     → Pair b c
     → Follows (λ ts. more_assignments b ts) (λ ts. more_assignments c ts)
 unfolding more_assignments
 more_assignments_follows b c p =
-    makes (λ ts. others (one_of b.assignment) no_state (suc (length ts)) tt ts) (λ ts. others (one_of c.assignment) no_state (suc (length ts)) tt ts) expressions
-    (others_follows (one_of b.assignment) (one_of c.assignment) no_state (λ s. p.both.assignment) (λ s. shortens c.assignment c.assignment p.right.assignment) tt)
+    makes (λ ts. others (one_of b.assignment) no_state (suc (length ts)) tt ts)
+    (λ ts. others (one_of c.assignment) no_state (suc (length ts)) tt ts) expressions
+    (others_follows (one_of b.assignment) (one_of c.assignment) no_state (λ s. p.both.assignment)
+    (λ s. shortens c.assignment c.assignment p.right.assignment) tt)
 
 pub parameters_follows : Follows (λ ts. parameters_at ts) (λ ts. parameters_at ts)
 unfolding parameters_at
 parameters_follows =
-    let names : Reader (List Identifier) = λ ts. elements (λ s r. fresh_name s r) with_name kinds.RightParenthesis (suc (length ts)) [] ts in
-    binds (λ ts. expect kinds.LeftParenthesis ts) (λ ts. expect kinds.LeftParenthesis ts) (λ o ts. names ts) (λ o ts. names ts) (expect_follows kinds.LeftParenthesis)
-    (λ o. elements_follows (λ s r. fresh_name s r) (λ s r. fresh_name s r) with_name kinds.RightParenthesis fresh_follows (λ s. shortens (λ r. fresh_name s r) (λ r. fresh_name s r) (fresh_follows s)) [])
+    let names : Reader (List Identifier) = λ ts. elements (λ s r. fresh_name s r) with_name kinds.RightParenthesis
+    (suc (length ts)) [] ts in
+    binds (λ ts. expect kinds.LeftParenthesis ts) (λ ts. expect kinds.LeftParenthesis ts) (λ o ts. names ts)
+    (λ o ts. names ts) (expect_follows kinds.LeftParenthesis)
+    (λ o. elements_follows (λ s r. fresh_name s r) (λ s r. fresh_name s r)
+    with_name kinds.RightParenthesis fresh_follows
+    (λ s. shortens (λ r. fresh_name s r) (λ r. fresh_name s r) (fresh_follows s)) [])
 
 pub items_at_follows : (b c : Below)
     → Pair b c
@@ -341,8 +382,10 @@ pub items_at_follows : (b c : Below)
     → Follows (λ ts. items_at b context taken ts) (λ ts. items_at c context taken ts)
 unfolding items_at
 items_at_follows b c p context taken =
-    makes (λ ts. items (λ names r. b.item context names r) with_declared (suc (length ts)) taken ts) (λ ts. items (λ names r. c.item context names r) with_declared (suc (length ts)) taken ts) statements
-    (items_follows (λ names r. b.item context names r) (λ names r. c.item context names r) with_declared (λ names. p.both.item context names) (λ names. p.takes context names) taken)
+    makes (λ ts. items (λ names r. b.item context names r) with_declared (suc (length ts)) taken ts)
+    (λ ts. items (λ names r. c.item context names r) with_declared (suc (length ts)) taken ts) statements
+    (items_follows (λ names r. b.item context names r) (λ names r. c.item context names r) with_declared
+    (λ names. p.both.item context names) (λ names. p.takes context names) taken)
 
 pub braces_follows : (b c : Below)
     → Pair b c
@@ -350,11 +393,17 @@ pub braces_follows : (b c : Below)
     → Follows (λ ts. braces b context taken ts) (λ ts. braces c context taken ts)
 unfolding braces
 braces_follows b c p context taken =
-    let ended_left : Reader trees.Statements = λ ts. items_at b context taken ts >>= λ x. expect kinds.RightBrace x.1 >>= λ y. Ok (x.0, y.1) in
-    let ended_right : Reader trees.Statements = λ ts. items_at c context taken ts >>= λ x. expect kinds.RightBrace x.1 >>= λ y. Ok (x.0, y.1) in
-    binds (λ ts. expect kinds.LeftBrace ts) (λ ts. expect kinds.LeftBrace ts) (λ o ts. ended_left ts) (λ o ts. ended_right ts) (expect_follows kinds.LeftBrace)
-    (λ o. binds (λ ts. items_at b context taken ts) (λ ts. items_at c context taken ts) (λ ss ts. expect kinds.RightBrace ts >>= λ y. Ok (ss, y.1)) (λ ss ts. expect kinds.RightBrace ts >>= λ y. Ok (ss, y.1)) (items_at_follows b c p context taken)
-    (λ ss. makes (λ ts. expect kinds.RightBrace ts) (λ ts. expect kinds.RightBrace ts) (λ y. ss) (expect_follows kinds.RightBrace)))
+    let ended_left : Reader trees.Statements = λ ts. items_at b context taken ts >>= λ x. expect kinds.RightBrace x.1 >>= λ y. Ok
+    (x.0, y.1) in
+    let ended_right : Reader trees.Statements = λ ts. items_at c context taken ts >>= λ x. expect kinds.RightBrace x.1 >>= λ y. Ok
+    (x.0, y.1) in
+    binds (λ ts. expect kinds.LeftBrace ts) (λ ts. expect kinds.LeftBrace ts) (λ o ts. ended_left ts)
+    (λ o ts. ended_right ts) (expect_follows kinds.LeftBrace)
+    (λ o. binds (λ ts. items_at b context taken ts) (λ ts. items_at c context taken ts)
+    (λ ss ts. expect kinds.RightBrace ts >>= λ y. Ok (ss, y.1))
+    (λ ss ts. expect kinds.RightBrace ts >>= λ y. Ok (ss, y.1)) (items_at_follows b c p context taken)
+    (λ ss. makes (λ ts. expect kinds.RightBrace ts) (λ ts. expect kinds.RightBrace ts) (λ y. ss)
+    (expect_follows kinds.RightBrace)))
 
 abbrev pub code_of : List Identifier → trees.Statements → Code
 code_of ps body = record { parameters = ps; body = body }
@@ -362,19 +411,27 @@ code_of ps body = record { parameters = ps; body = body }
 pub code_follows : (b c : Below) → Pair b c → Follows (λ ts. code_at b ts) (λ ts. code_at c ts)
 unfolding code_at
 code_follows b c p =
-    binds (λ ts. parameters_at ts) (λ ts. parameters_at ts) (λ ps ts. braces b function_body (with_names [] ps) ts >>= λ y. Ok (code_of ps y.0, y.1)) (λ ps ts. braces c function_body (with_names [] ps) ts >>= λ y. Ok (code_of ps y.0, y.1)) parameters_follows
-    (λ ps. makes (λ ts. braces b function_body (with_names [] ps) ts) (λ ts. braces c function_body (with_names [] ps) ts) (code_of ps) (braces_follows b c p function_body (with_names [] ps)))
+    binds (λ ts. parameters_at ts) (λ ts. parameters_at ts)
+    (λ ps ts. braces b function_body (with_names [] ps) ts >>= λ y. Ok (code_of ps y.0, y.1))
+    (λ ps ts. braces c function_body (with_names [] ps) ts >>= λ y. Ok (code_of ps y.0, y.1)) parameters_follows
+    (λ ps. makes (λ ts. braces b function_body (with_names [] ps) ts)
+    (λ ts. braces c function_body (with_names [] ps) ts) (code_of ps)
+    (braces_follows b c p function_body (with_names [] ps)))
 
 -- ---- declared names
 
 pub initializer_follows : (b c : Below)
     → Pair b c
     → (constant : Bool) (n : Identifier)
-    → Follows (λ ts. initializer_by b constant n (is_kind kinds.Assign (head_of ts)) ts) (λ ts. initializer_by c constant n (is_kind kinds.Assign (head_of ts)) ts)
-initializer_follows b c p constant n = peeks (λ o. is_kind kinds.Assign o) (λ v ts. initializer_by b constant n v ts) (λ v ts. initializer_by c constant n v ts) (elim [
-  | true ↦ makes (λ ts. b.assignment (tail_of ts)) (λ ts. c.assignment (tail_of ts)) (λ e. trees.declarator n (trees.present e)) (past b.assignment c.assignment p.both.assignment)
-  | false ↦ without constant
-])
+    → Follows (λ ts. initializer_by b constant n (is_kind kinds.Assign (head_of ts)) ts)
+    (λ ts. initializer_by c constant n (is_kind kinds.Assign (head_of ts)) ts)
+initializer_follows b c p constant n =
+    peeks (λ o. is_kind kinds.Assign o) (λ v ts. initializer_by b constant n v ts)
+    (λ v ts. initializer_by c constant n v ts) (elim [
+      | true ↦ makes (λ ts. b.assignment (tail_of ts)) (λ ts. c.assignment (tail_of ts))
+          (λ e. trees.declarator n (trees.present e)) (past b.assignment c.assignment p.both.assignment)
+      | false ↦ without constant
+    ])
   where
     without : (constant : Bool)
         → Follows (λ ts. initializer_by b constant n false ts) (λ ts. initializer_by c constant n false ts)
@@ -387,7 +444,9 @@ pub declarator_follows : (b c : Below)
     → Follows (λ ts. declarator_at b constant taken ts) (λ ts. declarator_at c constant taken ts)
 unfolding declarator_at
 declarator_follows b c p constant taken =
-    binds (λ ts. fresh_name taken ts) (λ ts. fresh_name taken ts) (λ n ts. initializer_by b constant n (is_kind kinds.Assign (head_of ts)) ts) (λ n ts. initializer_by c constant n (is_kind kinds.Assign (head_of ts)) ts) (fresh_follows taken)
+    binds (λ ts. fresh_name taken ts) (λ ts. fresh_name taken ts)
+    (λ n ts. initializer_by b constant n (is_kind kinds.Assign (head_of ts)) ts)
+    (λ n ts. initializer_by c constant n (is_kind kinds.Assign (head_of ts)) ts) (fresh_follows taken)
     (λ n. initializer_follows b c p constant n)
 
 pub declarators_follows : (b c : Below)
@@ -396,12 +455,22 @@ pub declarators_follows : (b c : Below)
     → Follows (λ ts. declarators_at b constant taken ts) (λ ts. declarators_at c constant taken ts)
 unfolding declarators_at
 declarators_follows b c p constant taken =
-    let left : Declarator → Reader (List Declarator) = λ d ts. others (λ names r. declarator_at b constant names r) with_declarator (suc (length ts)) (with_declarator taken d) ts in
-    let right : Declarator → Reader (List Declarator) = λ d ts. others (λ names r. declarator_at c constant names r) with_declarator (suc (length ts)) (with_declarator taken d) ts in
-    binds (λ ts. declarator_at b constant taken ts) (λ ts. declarator_at c constant taken ts) (λ d ts. left d ts >>= λ y. Ok (trees.a_declarator d (declarators y.0), y.1)) (λ d ts. right d ts >>= λ y. Ok (trees.a_declarator d (declarators y.0), y.1)) (declarator_follows b c p constant taken)
+    let left : Declarator
+    → Reader (List Declarator) = λ d ts. others (λ names r. declarator_at b constant names r) with_declarator
+    (suc (length ts)) (with_declarator taken d) ts in
+    let right : Declarator
+    → Reader (List Declarator) = λ d ts. others (λ names r. declarator_at c constant names r) with_declarator
+    (suc (length ts)) (with_declarator taken d) ts in
+    binds (λ ts. declarator_at b constant taken ts) (λ ts. declarator_at c constant taken ts)
+    (λ d ts. left d ts >>= λ y. Ok (trees.a_declarator d (declarators y.0), y.1))
+    (λ d ts. right d ts >>= λ y. Ok (trees.a_declarator d (declarators y.0), y.1))
+    (declarator_follows b c p constant taken)
     (λ d. makes (left d) (right d) (λ ds. trees.a_declarator d (declarators ds))
-    (others_follows (λ names r. declarator_at b constant names r) (λ names r. declarator_at c constant names r) with_declarator (λ names. declarator_follows b c p constant names)
-    (λ names. shortens (λ r. declarator_at c constant names r) (λ r. declarator_at c constant names r) (declarator_follows c c (on_right b c p) constant names)) (with_declarator taken d)))
+    (others_follows (λ names r. declarator_at b constant names r) (λ names r. declarator_at c constant names r)
+    with_declarator (λ names. declarator_follows b c p constant names)
+    (λ names. shortens (λ r. declarator_at c constant names r) (λ r. declarator_at c constant names r)
+    (declarator_follows c c (on_right b c p) constant names))
+    (with_declarator taken d)))
 
 -- ---- expressions with what ends them
 
@@ -410,17 +479,21 @@ pub optional_follows : (b c : Below)
     → (closer : TokenKind)
     → Follows (λ ts. optional_before b closer ts) (λ ts. optional_before c closer ts)
 unfolding optional_before
-optional_follows b c p closer = peeks (λ o. is_kind closer o) (λ v ts. optional_by b closer v ts) (λ v ts. optional_by c closer v ts) (elim [
-  | true ↦ past (λ ts. Ok (trees.omitted, ts)) (λ ts. Ok (trees.omitted, ts)) (gives trees.omitted)
-  | false ↦ binds b.expression c.expression (λ e ts. expect closer ts >>= λ y. Ok (trees.present e, y.1)) (λ e ts. expect closer ts >>= λ y. Ok (trees.present e, y.1)) p.both.expression
-      (λ e. makes (λ ts. expect closer ts) (λ ts. expect closer ts) (λ y. trees.present e) (expect_follows closer))
-])
+optional_follows b c p closer =
+    peeks (λ o. is_kind closer o) (λ v ts. optional_by b closer v ts) (λ v ts. optional_by c closer v ts) (elim [
+      | true ↦ past (λ ts. Ok (trees.omitted, ts)) (λ ts. Ok (trees.omitted, ts)) (gives trees.omitted)
+      | false ↦ binds b.expression c.expression (λ e ts. expect closer ts >>= λ y. Ok (trees.present e, y.1))
+          (λ e ts. expect closer ts >>= λ y. Ok (trees.present e, y.1)) p.both.expression
+          (λ e. makes (λ ts. expect closer ts) (λ ts. expect closer ts) (λ y. trees.present e) (expect_follows closer))
+    ])
 
 pub ended_follows : (b c : Below) → Pair b c → Follows (λ ts. ended_expression b ts) (λ ts. ended_expression c ts)
 unfolding ended_expression
 ended_follows b c p =
-    binds b.expression c.expression (λ e ts. semicolon_at (after_expression (edge e)) ts >>= λ y. Ok (e, y.1)) (λ e ts. semicolon_at (after_expression (edge e)) ts >>= λ y. Ok (e, y.1)) p.both.expression
-    (λ e. makes (λ ts. semicolon_at (after_expression (edge e)) ts) (λ ts. semicolon_at (after_expression (edge e)) ts) (λ y. e) (semicolon_follows (after_expression (edge e))))
+    binds b.expression c.expression (λ e ts. semicolon_at (after_expression (edge e)) ts >>= λ y. Ok (e, y.1))
+    (λ e ts. semicolon_at (after_expression (edge e)) ts >>= λ y. Ok (e, y.1)) p.both.expression
+    (λ e. makes (λ ts. semicolon_at (after_expression (edge e)) ts) (λ ts. semicolon_at (after_expression (edge e)) ts)
+    (λ y. e) (semicolon_follows (after_expression (edge e))))
 
 -- ---- productions
 
@@ -445,7 +518,8 @@ item_follows b c p code = code_follows b c p
 pub seq_follows : (b c : Below) → Pair b c → (is : List Item) → Follows (λ ts. seq b is ts) (λ ts. seq c is ts)
 seq_follows b c p [] = gives tt
 seq_follows b c p (i ∷ is) =
-    binds (λ ts. item b i ts) (λ ts. item c i ts) (λ v ts. seq b is ts >>= λ y. Ok ((v, y.0), y.1)) (λ v ts. seq c is ts >>= λ y. Ok ((v, y.0), y.1)) (item_follows b c p i)
+    binds (λ ts. item b i ts) (λ ts. item c i ts) (λ v ts. seq b is ts >>= λ y. Ok ((v, y.0), y.1))
+    (λ v ts. seq c is ts >>= λ y. Ok ((v, y.0), y.1)) (item_follows b c p i)
     (λ v. makes (λ ts. seq b is ts) (λ ts. seq c is ts) (λ vs. (v, vs)) (seq_follows b c p is))
 
 pub made_follows : {A : Type 0} (b c : Below)

@@ -89,11 +89,15 @@ past {A = A} f g h = record {
           same = ap (λ l. moved y l) (sym n.1) ∙ s.same;
           again = λ r e.
               let z = only_nil r e in
-              ap (λ r. g (tail_of r)) z ∙ ap (λ p. g (p ++ [])) (sym n.0) ∙ s.again [] (ap (λ l. head_of l) (sym n.1)) ∙ ap (λ l. moved y l) (sym z);
+              ap (λ r. g (tail_of r)) z
+              ∙ ap (λ p. g (p ++ [])) (sym n.0)
+              ∙ s.again [] (ap (λ l. head_of l) (sym n.1))
+              ∙ ap (λ l. moved y l) (sym z);
         }
 
     one_past : (y : Read A) (x : Token) (ts : List Token) → Seen g ts y → Seen (λ ts. g (tail_of ts)) (x ∷ ts) y
-    one_past y x ts s = record { pre = x ∷ s.pre; left = s.left; parts = ap (λ r. x ∷ r) s.parts; same = s.same; again = s.again }
+    one_past y x ts s =
+        record { pre = x ∷ s.pre; left = s.left; parts = ap (λ r. x ∷ r) s.parts; same = s.same; again = s.again }
 
 -- by a class of the next token
 pub peeks : {A V : Type 0} (k : Option Token → V) (f g : V → Reader A)
@@ -108,7 +112,8 @@ peeks k f g h = record {
         parts = s.parts;
         same = s.same;
         again = λ r e.
-            ap (λ o. g (k o) (s.pre ++ r)) (head_past s.pre r s.left e ∙ ap (λ l. head_of l) (sym s.parts)) ∙ s.again r e;
+            ap (λ o. g (k o) (s.pre ++ r)) (head_past s.pre r s.left e ∙ ap (λ l. head_of l) (sym s.parts))
+            ∙ s.again r e;
       };
 }
 
@@ -124,7 +129,10 @@ binds {A = A} {B = B} f f' g g' h k = record { at = λ ts. by_answer ts (f ts) (
         → Seen (λ ts. f' ts >>= λ x. g' x.0 x.1) ts y
     then_ok ts a r y s t =
         let left_is : s.left ≡ r = same_left a s.left r s.same in
-        let head_is : (q : List Token) → head_of q ≡ head_of t.left → head_of (t.pre ++ q) ≡ head_of s.left = λ q e. head_past t.pre q t.left e ∙ ap (λ l. head_of l) (sym t.parts ∙ sym left_is) in
+        let head_is : (q : List Token)
+        → head_of q ≡ head_of t.left
+        → head_of (t.pre ++ q) ≡ head_of s.left = λ q e. head_past t.pre q t.left e
+        ∙ ap (λ l. head_of l) (sym t.parts ∙ sym left_is) in
         record {
           pre = s.pre ++ t.pre;
           left = t.left;
@@ -136,7 +144,15 @@ binds {A = A} {B = B} f f' g g' h k = record { at = λ ts. by_answer ts (f ts) (
     then_stuck : (ts : List Token) (n : ℕ)
         → Seen f' ts (Err (stuck n))
         → Seen {A = B} (λ ts. f' ts >>= λ x. g' x.0 x.1) ts (Err (stuck n))
-    then_stuck ts n s = record { pre = s.pre; left = s.left; parts = s.parts; same = let e : length s.left ≡ n = cc s.same in ap (λ n. Err (stuck n)) e; again = λ q e. rw (s.again q e) refl }
+    then_stuck ts n s =
+        record {
+          pre = s.pre;
+          left = s.left;
+          parts = s.parts;
+          same = let e : length s.left ≡ n = cc s.same in
+              ap (λ n. Err (stuck n)) e;
+          again = λ q e. rw (s.again q e) refl;
+        }
 
     by_answer : (ts : List Token) (x : Read A)
         → FollowsAt x f' ts
@@ -163,12 +179,14 @@ tests false f f' g g' h k = k
 pub low_enough : {A : Type 0} (h n m : ℕ) (f g : Reader A)
     → n ≤ m
     → Follows f g
-    → Follows (λ ts. cond (nat_le h n) (f ts) (Err (deep (length (tail_of ts))))) (λ ts. cond (nat_le h m) (g ts) (Err (deep (length (tail_of ts)))))
+    → Follows (λ ts. cond (nat_le h n) (f ts) (Err (deep (length (tail_of ts)))))
+    (λ ts. cond (nat_le h m) (g ts) (Err (deep (length (tail_of ts)))))
 low_enough h n m f g le k = record { at = λ ts. by_test ts (nat_le h n) refl }
   where
     by_test : (ts : List Token) (b : Bool)
         → nat_le h n ≡ b
-        → FollowsAt (cond b (f ts) (Err (deep (length (tail_of ts))))) (λ ts. cond (nat_le h m) (g ts) (Err (deep (length (tail_of ts))))) ts
+        → FollowsAt (cond b (f ts) (Err (deep (length (tail_of ts)))))
+        (λ ts. cond (nat_le h m) (g ts) (Err (deep (length (tail_of ts))))) ts
     by_test ts true e = λ c.
         let s = k.at ts c in
         let low : h ≤ n = leb-true h n e in
@@ -178,7 +196,18 @@ low_enough h n m f g le k = record { at = λ ts. by_test ts (nat_le h n) refl }
 
 -- the same answers on the right
 pub onto : {A : Type 0} (f g g' : Reader A) → ((ts : List Token) → g' ts ≡ g ts) → Follows f g → Follows f g'
-onto f g g' e h = record { at = λ ts c. let s = h.at ts c in record { pre = s.pre; left = s.left; parts = s.parts; same = s.same; again = λ r q. e (s.pre ++ r) ∙ s.again r q } }
+onto f g g' e h =
+    record {
+      at = λ ts c. let s = h.at ts c in
+          record {
+            pre = s.pre;
+            left = s.left;
+            parts = s.parts;
+            same = s.same;
+            again = λ r q. e (s.pre ++ r)
+                ∙ s.again r q;
+          };
+    }
 
 -- and on the left
 pub from : {A : Type 0} (f f' g : Reader A) → ((ts : List Token) → f' ts ≡ f ts) → Follows f g → Follows f' g
@@ -210,8 +239,12 @@ pub reads_again : {A : Type 0} (f g : Reader A)
     → (pre : List Token) × (ts ≡ pre ++ left) × ((r : List Token) → head_of r ≡ head_of left → g (pre ++ r) ≡ Ok (a, r))
 reads_again {A} f g h ts a left e =
     let s : Seen g ts (Ok (a, left)) = subst (λ (x : Read A). FollowsAt x g ts) e (h.at ts) tt in
-    let is : s.left ≡ left = same_left a s.left left s.same in
-    (s.pre, s.parts ∙ ap (λ (l : List Token). s.pre ++ l) is, λ r q. s.again r (q ∙ ap (λ (l : List Token). head_of l) (sym is)))
+    let is : s.left ≡ left = same_left a s.left left s.same in (
+      s.pre,
+      s.parts
+          ∙ ap (λ (l : List Token). s.pre ++ l) is,
+      λ r q. s.again r (q ∙ ap (λ (l : List Token). head_of l) (sym is)),
+    )
 
 -- where f is stuck, g is stuck before all tokens that begin alike
 pub sticks_again : {A : Type 0} (f g : Reader A)
@@ -236,7 +269,10 @@ shortens f g h ts x e =
 
 -- what a turn answers hangs on what later turns answer for fewer tokens
 abbrev pub Local : {S B : Type 0} → ((S → Reader B) → S → Reader B) → Type 0
-Local {S} {B} body = (go go' : S → Reader B) (s : S) (ts : List Token) → ((u : S) (r : List Token) → suc (length r) ≤ length ts → go u r ≡ go' u r) → body go s ts ≡ body go' s ts
+Local {S} {B} body =
+    (go go' : S → Reader B) (s : S) (ts : List Token)
+    → ((u : S) (r : List Token) → suc (length r) ≤ length ts → go u r ≡ go' u r)
+    → body go s ts ≡ body go' s ts
 
 -- turns of this body, so many at most
 pub record Turns {S B : Type 0} (body : (S → Reader B) → S → Reader B) (go : ℕ → S → Reader B) : Type 0 where
@@ -257,7 +293,9 @@ enough : {S B : Type 0} (body : (S → Reader B) → S → Reader B) (go : ℕ �
 enough body go t l zero j s ts p q = absurd (omega arith)
 enough body go t l (suc k) zero s ts p q = absurd (omega arith)
 enough body go t l (suc k) (suc j) s ts p q =
-    t.one k s ts ∙ l (λ u r. go k u r) (λ u r. go j u r) s ts (λ u r e. enough body go t l k j u r (omega arith) (omega arith)) ∙ sym (t.one j s ts)
+    t.one k s ts
+    ∙ l (λ u r. go k u r) (λ u r. go j u r) s ts (λ u r e. enough body go t l k j u r (omega arith) (omega arith))
+    ∙ sym (t.one j s ts)
 
 pub one_turn : {S B : Type 0} (body : (S → Reader B) → S → Reader B) (go : ℕ → S → Reader B)
     → Turns body go
@@ -265,7 +303,9 @@ pub one_turn : {S B : Type 0} (body : (S → Reader B) → S → Reader B) (go :
     → (s : S) (ts : List Token)
     → enough_of go s ts ≡ body (enough_of go) s ts
 one_turn body go t l s ts =
-    t.one (length ts) s ts ∙ l (λ u r. go (length ts) u r) (enough_of go) s ts (λ u r e. enough body go t l (length ts) (suc (length r)) u r (omega arith) (omega arith))
+    t.one (length ts) s ts
+    ∙ l (λ u r. go (length ts) u r) (enough_of go) s ts
+    (λ u r e. enough body go t l (length ts) (suc (length r)) u r (omega arith) (omega arith))
 
 -- a loop with a bound on its turns
 pub loop_from : {S B : Type 0} (body body' : (S → Reader B) → S → Reader B) (go go' : ℕ → S → Reader B)
@@ -274,9 +314,11 @@ pub loop_from : {S B : Type 0} (body body' : (S → Reader B) → S → Reader B
     → Local body'
     → ((f f' : S → Reader B) → ((s : S) → Follows (f s) (f' s)) → (s : S) → Follows (body f s) (body' f' s))
     → (k : ℕ) (s : S) → Follows (go k s) (enough_of go' s)
-loop_from body body' go go' t t' l c zero s = from (λ ts. Err (deep (length ts))) (go zero s) (enough_of go' s) (t.none s) (deepens (enough_of go' s))
+loop_from body body' go go' t t' l c zero s =
+    from (λ ts. Err (deep (length ts))) (go zero s) (enough_of go' s) (t.none s) (deepens (enough_of go' s))
 loop_from body body' go go' t t' l c (suc k) s =
-    alike (body (λ u r. go k u r) s) (go (suc k) s) (body' (enough_of go') s) (enough_of go' s) (t.one k s) (one_turn body' go' t' l s)
+    alike (body (λ u r. go k u r) s) (go (suc k) s) (body' (enough_of go') s) (enough_of go' s) (t.one k s)
+    (one_turn body' go' t' l s)
     (c (λ u r. go k u r) (enough_of go') (λ u. loop_from body body' go go' t t' l c k u) s)
 
 -- a loop, where each turn follows if the later ones do
@@ -286,4 +328,5 @@ pub loops : {S B : Type 0} (body body' : (S → Reader B) → S → Reader B) (g
     → Local body'
     → ((f f' : S → Reader B) → ((s : S) → Follows (f s) (f' s)) → (s : S) → Follows (body f s) (body' f' s))
     → (s : S) → Follows (enough_of go s) (enough_of go' s)
-loops body body' go go' t t' l c s = record { at = λ ts. (loop_from body body' go go' t t' l c (suc (length ts)) s).at ts }
+loops body body' go go' t t' l c s =
+    record { at = λ ts. (loop_from body body' go go' t t' l c (suc (length ts)) s).at ts }

@@ -46,9 +46,14 @@ arrow_body_by_sound : (q : SeqSound) (n : ℕ) (b : Below)
     → arrow_body_by b ps (names_of_parameters ps) c us ≡ Ok x
     → TakesFunction n s x.0 x.1
 arrow_body_by_sound q n b snd s ps ts m fresh us a true f x e =
-    made_takes q n b snd (in_braces function_body (with_names [] (names_of_parameters ps)) ∷ []) (λ v. trees.arrow_block ps v.0) us x (λ e r. TakesFunction n s e r) (λ v r t. (
+    made_takes q n b snd (in_braces function_body (with_names [] (names_of_parameters ps)) ∷ [])
+    (λ v. trees.arrow_block ps v.0) us x (λ e r. TakesFunction n s e r) (λ v r t. (
       record {
-        marks = joins (flat_arrow_parameters ps) (beside (fixed kinds.Arrow) ∷ (flats.in_braces (flat_statements v.0) ++ [])) s ts r m (joins (beside (fixed kinds.Arrow) ∷ []) (flats.in_braces (flat_statements v.0) ++ []) ts us r a t.marks);
+        marks =
+            joins (flat_arrow_parameters ps)
+            (beside (fixed kinds.Arrow) ∷ (flats.in_braces (flat_statements v.0) ++ [])) s ts r m
+            (joins (beside (fixed kinds.Arrow) ∷ []) (flats.in_braces (flat_statements v.0) ++ [])
+            ts us r a t.marks);
         well = ((fresh, fresh_behind (names_of_parameters ps) _ t.sane.0.0), t.sane.0.1);
         level = omega arith;
         height = omega (arith, t.height);
@@ -58,8 +63,16 @@ arrow_body_by_sound q n b snd s ps ts m fresh us a true f x e =
 arrow_body_by_sound q n b snd s ps ts m fresh us a false f x e =
     made_takes q n b snd (an_assignment ∷ []) (λ v. trees.arrow ps v.0) us x (λ e r. TakesFunction n s e r) (λ v r t. (
       record {
-        marks = joins (flat_arrow_parameters ps) (beside (fixed kinds.Arrow) ∷ (flat v.0 ++ [])) s ts r m (joins (beside (fixed kinds.Arrow) ∷ []) (flat v.0 ++ []) ts us r a t.marks);
-        well = (fresh, t.sane.0.0, t.sane.0.1, no_brace (flat v.0) us r f (subst (λ (ms : List Mark). Matches ms us r) (append-nil (flat v.0)) t.marks));
+        marks =
+            joins (flat_arrow_parameters ps) (beside (fixed kinds.Arrow) ∷ (flat v.0 ++ [])) s ts r m
+            (joins (beside (fixed kinds.Arrow) ∷ []) (flat v.0 ++ []) ts us r a t.marks);
+        well = (
+          fresh,
+          t.sane.0.0,
+          t.sane.0.1,
+          no_brace (flat v.0) us r f
+              (subst (λ (ms : List Mark). Matches ms us r) (append-nil (flat v.0)) t.marks),
+        );
         level = omega arith;
         height = omega (arith, t.height);
       },
@@ -75,8 +88,10 @@ pub arrow_rest_sound : (q : SeqSound) (n : ℕ) (b : Below)
     → TakesFunction n s x.0 x.1
 unfolding arrow_rest
 arrow_rest_sound q n b snd s ps ts x m fresh e =
-    let a = bind_ok (expect_near kinds.Arrow ts) (λ a. arrow_body_by b ps (names_of_parameters ps) (is_kind kinds.LeftBrace (head_of a.1)) a.1) x e in
-    arrow_body_by_sound q n b snd s ps ts m fresh a.0.1 (expect_near_sound kinds.Arrow ts a.0 a.1) (is_kind kinds.LeftBrace (head_of a.0.1)) refl x a.2
+    let a = bind_ok (expect_near kinds.Arrow ts)
+    (λ a. arrow_body_by b ps (names_of_parameters ps) (is_kind kinds.LeftBrace (head_of a.1)) a.1) x e in
+    arrow_body_by_sound q n b snd s ps ts m fresh a.0.1 (expect_near_sound kinds.Arrow ts a.0 a.1)
+    (is_kind kinds.LeftBrace (head_of a.0.1)) refl x a.2
 
 pub arrow_of_one_sound : (q : SeqSound) (n : ℕ) (b : Below)
     → SoundBelow n b
@@ -102,7 +117,8 @@ arrow_of_names_sound : (q : SeqSound) (n : ℕ) (b : Below)
     → arrow_of_names b only names ts ≡ Ok x
     → TakesFunction n s x.0 x.1
 arrow_of_names_sound q n b snd s only names ts x m e =
-    elim (cond_ok (are_fresh [] names) (arrow_rest b (trees.name_list names) names ts) (if only then Err (stuck (suc (length ts))) else Err (stuck (length ts))) x e) [
+    elim (cond_ok (are_fresh [] names) (arrow_rest b (trees.name_list names) names ts)
+    (if only then Err (stuck (suc (length ts))) else Err (stuck (length ts))) x e) [
       | inl p ↦ arrow_rest_sound q n b snd s (trees.name_list names) ts x m (fresh_is [] names p.0) p.1
       | inr p ↦ elim (cond_ok only (Err (stuck (suc (length ts)))) (Err (stuck (length ts))) x p.1) [
         | inl r ↦ absurd cc
@@ -117,9 +133,12 @@ pub arrow_of_list_sound : (q : SeqSound) (n : ℕ) (b : Below)
     → TakesFunction n ts x.0 x.1
 unfolding arrow_of_list
 arrow_of_list_sound q n b s only ts x e =
-    let o = bind_ok (expect kinds.LeftParenthesis ts) (λ o. names_before o.1 >>= λ ns. arrow_of_names b only ns.0 ns.1) x e in
+    let o = bind_ok (expect kinds.LeftParenthesis ts) (λ o. names_before o.1 >>= λ ns. arrow_of_names b only ns.0 ns.1)
+    x e in
     let p = bind_ok (names_before o.0.1) (λ ns. arrow_of_names b only ns.0 ns.1) x o.2 in
-    let m = joins (token (fixed kinds.LeftParenthesis) ∷ []) (flat_names p.0.0 ++ (token (fixed kinds.RightParenthesis) ∷ [])) ts o.0.1 p.0.1 (expect_sound kinds.LeftParenthesis ts o.0 o.1) (names_before_sound o.0.1 p.0 p.1) in
+    let m = joins (token (fixed kinds.LeftParenthesis) ∷ [])
+    (flat_names p.0.0 ++ (token (fixed kinds.RightParenthesis) ∷ [])) ts o.0.1 p.0.1
+    (expect_sound kinds.LeftParenthesis ts o.0 o.1) (names_before_sound o.0.1 p.0 p.1) in
     arrow_of_names_sound q n b s ts only p.0.0 p.0.1 x m p.2
 
 -- ---- assignments
@@ -131,23 +150,35 @@ joined_by_sound : (q : SeqSound) (n : ℕ) (b : Below)
     → joined_by b n t j ts ≡ Ok x
     → TakesExpression 1 (suc n) s x.0 x.1
 joined_by_sound q n b snd s t question ts x l e =
-    let p = low_ok (height t) n ts (made b (tok kinds.Question ∷ an_assignment ∷ tok kinds.Colon ∷ an_assignment ∷ []) (λ v. trees.conditional t v.1.0 v.1.1.1.0) ts) x e in
-    made_takes q n b snd (tok kinds.Question ∷ an_assignment ∷ tok kinds.Colon ∷ an_assignment ∷ []) (λ v. trees.conditional t v.1.0 v.1.1.1.0) ts x (λ e r. TakesExpression 1 (suc n) s e r) (λ v r a. record {
-      marks = joins (flat t) (token (fixed kinds.Question) ∷ (flat v.1.0 ++ (token (fixed kinds.Colon) ∷ (flat v.1.1.1.0 ++ [])))) s ts r l.marks a.marks;
+    let p = low_ok (height t) n ts
+    (made b (tok kinds.Question ∷ an_assignment ∷ tok kinds.Colon ∷ an_assignment ∷ [])
+    (λ v. trees.conditional t v.1.0 v.1.1.1.0) ts)
+    x e in
+    made_takes q n b snd (tok kinds.Question ∷ an_assignment ∷ tok kinds.Colon ∷ an_assignment ∷ [])
+    (λ v. trees.conditional t v.1.0 v.1.1.1.0) ts x (λ e r. TakesExpression 1 (suc n) s e r) (λ v r a. record {
+      marks =
+          joins (flat t)
+          (token (fixed kinds.Question) ∷ (flat v.1.0 ++ (token (fixed kinds.Colon) ∷ (flat v.1.1.1.0 ++ []))))
+          s ts r l.marks a.marks;
       well = (l.well, l.level, a.sane.1.0.0, a.sane.1.0.1, a.sane.1.1.1.0.0, a.sane.1.1.1.0.1);
       level = omega arith;
       height = omega (arith, a.height, p.0);
     }) p.1
 joined_by_sound q n b snd s t (assigns_by o) ts x l e =
-    let c = test_ok (is_target t) (if_low (height t) n ts (made b (tok (assign_kind o) ∷ an_assignment ∷ []) (λ v. trees.assign o t v.1.0) ts)) (stuck (length ts)) x e in
-    let p = low_ok (height t) n ts (made b (tok (assign_kind o) ∷ an_assignment ∷ []) (λ v. trees.assign o t v.1.0) ts) x c.1 in
-    made_takes q n b snd (tok (assign_kind o) ∷ an_assignment ∷ []) (λ v. trees.assign o t v.1.0) ts x (λ e r. TakesExpression 1 (suc n) s e r) (λ v r a. record {
+    let c = test_ok (is_target t)
+    (if_low (height t) n ts (made b (tok (assign_kind o) ∷ an_assignment ∷ []) (λ v. trees.assign o t v.1.0) ts))
+    (stuck (length ts)) x e in
+    let p = low_ok (height t) n ts (made b (tok (assign_kind o) ∷ an_assignment ∷ []) (λ v. trees.assign o t v.1.0) ts)
+    x c.1 in
+    made_takes q n b snd (tok (assign_kind o) ∷ an_assignment ∷ []) (λ v. trees.assign o t v.1.0) ts x
+    (λ e r. TakesExpression 1 (suc n) s e r) (λ v r a. record {
       marks = joins (flat t) (token (fixed (assign_kind o)) ∷ (flat v.1.0 ++ [])) s ts r l.marks a.marks;
       well = (l.well, c.0, a.sane.1.0.0, a.sane.1.0.1);
       level = omega arith;
       height = omega (arith, a.height, p.0);
     }) p.1
-joined_by_sound q n b snd s t no_joint ts x l e = takes_ok 1 (suc n) s t ts x e (weaker 3 1 (suc n) s t ts (omega arith) l)
+joined_by_sound q n b snd s t no_joint ts x l e =
+    takes_ok 1 (suc n) s t ts x e (weaker 3 1 (suc n) s t ts (omega arith) l)
 
 pub joined_sound : (q : SeqSound) (n : ℕ) (b : Below)
     → SoundBelow n b
@@ -185,7 +216,10 @@ two_by : (e : Expression) (es : Expressions) (ts r : List Token)
     → is_kind kinds.Comma (head_of r) ≡ false
     → Matches (more_expressions es) ts r
     → is_two_expressions (trees.an_expression e es) ≡ true
-two_by e trees.no_expressions ts r f g m = let same : is_kind kinds.Comma (head_of ts) ≡ is_kind kinds.Comma (head_of r) = ap (λ (l : List Token). is_kind kinds.Comma (head_of l)) m in absurd cc
+two_by e trees.no_expressions ts r f g m =
+    let same : is_kind kinds.Comma (head_of ts) ≡ is_kind kinds.Comma (head_of r) = ap
+    (λ (l : List Token). is_kind kinds.Comma (head_of l)) m in
+    absurd cc
 two_by e (trees.an_expression d es) ts r f g m = refl
 
 comma_by_sound : (n : ℕ) (b : Below)
@@ -197,7 +231,8 @@ comma_by_sound : (n : ℕ) (b : Below)
     → TakesExpression 0 (suc n) s x.0 x.1
 comma_by_sound n b snd s f false ts x g t e = takes_ok 0 (suc n) s f ts x e (weaker 1 0 (suc n) s f ts (omega arith) t)
 comma_by_sound n b snd s f true ts x g t e =
-    let l = low_ok (height f) n ts (more_assignments b ts >>= λ x. Ok (trees.comma (trees.an_expression f x.0), x.1)) x e in
+    let l = low_ok (height f) n ts (more_assignments b ts >>= λ x. Ok (trees.comma (trees.an_expression f x.0), x.1))
+    x e in
     let p = bind_ok (more_assignments b ts) (λ x. Ok (trees.comma (trees.an_expression f x.0), x.1)) x l.1 in
     let a = more_sound n b snd ts p.0 p.1 in
     takes_ok 0 (suc n) s (trees.comma (trees.an_expression f p.0.0)) p.0.1 x p.2 (record {
@@ -215,7 +250,8 @@ pub expression_sound : (q : SeqSound) (n : ℕ) (b : Below)
 unfolding expression
 expression_sound q n b s ts x e =
     let p = bind_ok (assignment b n ts) (λ x. comma_by b n x.0 (is_kind kinds.Comma (head_of x.1)) x.1) x e in
-    comma_by_sound n b s ts p.0.0 (is_kind kinds.Comma (head_of p.0.1)) p.0.1 x refl (assignment_sound q n b s ts p.0 p.1) p.2
+    comma_by_sound n b s ts p.0.0 (is_kind kinds.Comma (head_of p.0.1)) p.0.1 x refl
+    (assignment_sound q n b s ts p.0 p.1) p.2
 
 -- ---- functions alone
 

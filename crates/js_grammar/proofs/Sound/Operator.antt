@@ -52,7 +52,8 @@ pub takes_ok : (low n : ℕ) (ts : List Token) (e : Expression) (r : List Token)
     → read_is (e, r) ≡ Ok x
     → TakesExpression low n ts e r
     → TakesExpression low n ts x.0 x.1
-takes_ok low n ts e r x is t = subst (λ (x : Expression × List Token). TakesExpression low n ts x.0 x.1) (ok_is (e, r) x is) t
+takes_ok low n ts e r x is t =
+    subst (λ (x : Expression × List Token). TakesExpression low n ts x.0 x.1) (ok_is (e, r) x is) t
 
 -- ---- updates
 
@@ -71,20 +72,23 @@ postfix_takes n s e o ts t f target low =
       height = omega arith;
     }
 
-updated_by_sound : (n : ℕ) (s : List Token) (e : Expression) (o : Option UpdateOperator) (ts : List Token) (x : Expression × List Token)
+updated_by_sound : (n : ℕ) (s : List Token) (e : Expression) (o : Option UpdateOperator) (ts : List Token)
+    (x : Expression × List Token)
     → update_near (head_of ts) ≡ o
     → TakesExpression 15 (suc n) s e ts
     → updated_by n e o ts ≡ Ok x
     → TakesExpression 14 (suc n) s x.0 x.1
 updated_by_sound n s e None ts x f t is = takes_ok 14 (suc n) s e ts x is (weaker 15 14 (suc n) s e ts (omega arith) t)
 updated_by_sound n s e (Some o) ts x f t is =
-    let a = test_ok (is_target e) (if_low (height e) n ts (Ok (trees.postfix o e, tail_of ts))) (stuck (length ts)) x is in
+    let a = test_ok (is_target e) (if_low (height e) n ts (Ok (trees.postfix o e, tail_of ts))) (stuck (length ts))
+    x is in
     let l = low_ok (height e) n ts (Ok (trees.postfix o e, tail_of ts)) x a.1 in
     takes_ok 14 (suc n) s (trees.postfix o e) (tail_of ts) x l.1 (postfix_takes n s e o ts t f a.0 l.0)
 
 -- the law of calls, which stands elsewhere
 abbrev pub CallSound : ℕ → Below → Type 0
-CallSound n b = (ts : List Token) (x : Expression × List Token) → call b n ts ≡ Ok x → TakesExpression 15 (suc n) ts x.0 x.1
+CallSound n b =
+    (ts : List Token) (x : Expression × List Token) → call b n ts ≡ Ok x → TakesExpression 15 (suc n) ts x.0 x.1
 
 pub postfix_sound : (n : ℕ) (b : Below)
     → CallSound n b
@@ -106,11 +110,14 @@ pub unary_by_sound : (n : ℕ) (b : Below)
     → unary_by b n p ts ≡ Ok x
     → TakesExpression 13 (suc n) ts x.0 x.1
 unary_by_sound n b s c deletes ts x f e =
-    let p = bind_ok (b.call (tail_of ts)) (λ x. if is_property x.0 then Ok (trees.unary unaries.Delete x.0, x.1) else Err (stuck (length x.1))) x e in
+    let p = bind_ok (b.call (tail_of ts))
+    (λ x. if is_property x.0 then Ok (trees.unary unaries.Delete x.0, x.1) else Err (stuck (length x.1))) x e in
     let t = test_ok (is_property p.0.0) (Ok (trees.unary unaries.Delete p.0.0, p.0.1)) (stuck (length p.0.1)) x p.2 in
     let a = s.call (tail_of ts) p.0 p.1 in
     takes_ok 13 (suc n) ts (trees.unary unaries.Delete p.0.0) p.0.1 x t.1 (record {
-      marks = joins (token (fixed (unary_kind unaries.Delete)) ∷ []) (flat p.0.0 ++ []) ts (tail_of ts) p.0.1 (prefix_delete (head_of ts) f, refl) (joins (flat p.0.0) [] (tail_of ts) p.0.1 p.0.1 a.marks refl);
+      marks =
+          joins (token (fixed (unary_kind unaries.Delete)) ∷ []) (flat p.0.0 ++ []) ts (tail_of ts) p.0.1
+          (prefix_delete (head_of ts) f, refl) (joins (flat p.0.0) [] (tail_of ts) p.0.1 p.0.1 a.marks refl);
       well = (a.well, omega (arith, a.level), t.0);
       level = omega arith;
       height = omega (arith, a.height);
@@ -126,7 +133,8 @@ unary_by_sound n b s c (a_unary o) ts x f e =
       height = omega (arith, a.height);
     })
 unary_by_sound n b s c (an_update o) ts x f e =
-    let p = bind_ok (b.call (tail_of ts)) (λ x. if is_target x.0 then Ok (trees.prefix o x.0, x.1) else Err (stuck (length x.1))) x e in
+    let p = bind_ok (b.call (tail_of ts))
+    (λ x. if is_target x.0 then Ok (trees.prefix o x.0, x.1) else Err (stuck (length x.1))) x e in
     let t = test_ok (is_target p.0.0) (Ok (trees.prefix o p.0.0, p.0.1)) (stuck (length p.0.1)) x p.2 in
     let a = s.call (tail_of ts) p.0 p.1 in
     takes_ok 13 (suc n) ts (trees.prefix o p.0.0) p.0.1 x t.1 (record {
@@ -169,9 +177,12 @@ pub binary_takes : (n : ℕ) (b : Below)
 binary_takes n b snd s m l o ts f t g low x e =
     let is = from_is m (operator (head_of ts)) o f in
     let a = snd.operation (suc (strength o)) (omega (arith, strength_low o)) (tail_of ts) x e in
-    let tight : strength o < suc (level l) = from_none (suc (level l)) o (subst (λ (p : Option BinaryOperator). operator_from (suc (level l)) p ≡ None) is.0 g) in (
+    let tight : strength o < suc (level l) = from_none (suc (level l)) o
+    (subst (λ (p : Option BinaryOperator). operator_from (suc (level l)) p ≡ None) is.0 g) in (
       record {
-        marks = joins (flat l) (token (fixed (binary_kind o)) ∷ (flat x.0 ++ [])) s ts x.1 t.marks (operator_next o (head_of ts) is.0, joins (flat x.0) [] (tail_of ts) x.1 x.1 a.0.marks refl);
+        marks =
+            joins (flat l) (token (fixed (binary_kind o)) ∷ (flat x.0 ++ [])) s ts x.1 t.marks
+            (operator_next o (head_of ts) is.0, joins (flat x.0) [] (tail_of ts) x.1 x.1 a.0.marks refl);
         well = (t.well, omega arith, a.0.well, a.0.level);
         level = is.1;
         height = omega (arith, a.0.height);
@@ -180,7 +191,11 @@ binary_takes n b snd s m l o ts f t g low x e =
     )
 
 chain_by_sound : (n : ℕ) (b : Below) → SoundBelow n b → (s : List Token) (m : ℕ) (go : Expression → Reader Expression)
-    → ((l : Expression) (ts : List Token) (x : Expression × List Token) → TakesExpression m (suc n) s l ts → Ended (suc (level l)) ts → go l ts ≡ Ok x → TakesOperation m (suc n) s x)
+    → ((l : Expression) (ts : List Token) (x : Expression × List Token)
+    → TakesExpression m (suc n) s l ts
+    → Ended (suc (level l)) ts
+    → go l ts ≡ Ok x
+    → TakesOperation m (suc n) s x)
     → (l : Expression) (o : Option BinaryOperator) (ts : List Token) (x : Expression × List Token)
     → operator_from m (operator (head_of ts)) ≡ o
     → TakesExpression m (suc n) s l ts
@@ -190,7 +205,8 @@ chain_by_sound : (n : ℕ) (b : Below) → SoundBelow n b → (s : List Token) (
 chain_by_sound n b snd s m go h l None ts x f t g e =
     subst (λ (x : Expression × List Token). TakesOperation m (suc n) s x) (ok_is (l, ts) x e) (t, f)
 chain_by_sound n b snd s m go h l (Some o) ts x f t g e =
-    let p = low_ok (height l) n ts (b.operation (suc (strength o)) (tail_of ts) >>= λ x. go (trees.binary o l x.0) x.1) x e in
+    let p = low_ok (height l) n ts (b.operation (suc (strength o)) (tail_of ts) >>= λ x. go (trees.binary o l x.0) x.1)
+    x e in
     let q = bind_ok (b.operation (suc (strength o)) (tail_of ts)) (λ x. go (trees.binary o l x.0) x.1) x p.1 in
     let w = binary_takes n b snd s m l o ts f t g p.0 q.0 q.1 in
     h (trees.binary o l q.0.0) q.0.1 x w.0 w.1 q.2
@@ -204,7 +220,9 @@ pub chain_sound : (n : ℕ) (b : Below)
     → TakesOperation m (suc n) s x
 unfolding chain
 chain_sound n b snd s m zero l ts x t g e = absurd cc
-chain_sound n b snd s m (suc k) l ts x t g e = chain_by_sound n b snd s m (λ l r. chain b n m k l r) (λ l r y v w u. chain_sound n b snd s m k l r y v w u) l (operator_from m (operator (head_of ts))) ts x refl t g e
+chain_sound n b snd s m (suc k) l ts x t g e =
+    chain_by_sound n b snd s m (λ l r. chain b n m k l r) (λ l r y v w u. chain_sound n b snd s m k l r y v w u) l
+    (operator_from m (operator (head_of ts))) ts x refl t g e
 
 pub operation_sound : (n : ℕ) (b : Below)
     → SoundBelow n b
@@ -218,4 +236,5 @@ unfolding operation
 operation_sound n b s c m le ts x e =
     let p = bind_ok (unary b n ts) (λ x. chain b n m (suc n) x.0 x.1) x e in
     let u = unary_sound n b s c ts p.0 p.1 in
-    chain_sound n b s ts m (suc n) p.0.0 p.0.1 x (weaker 13 m (suc n) ts p.0.0 p.0.1 le u) (from_past (suc (level p.0.0)) (operator (head_of p.0.1)) (omega (arith, u.level))) p.2
+    chain_sound n b s ts m (suc n) p.0.0 p.0.1 x (weaker 13 m (suc n) ts p.0.0 p.0.1 le u)
+    (from_past (suc (level p.0.0)) (operator (head_of p.0.1)) (omega (arith, u.level))) p.2

@@ -51,7 +51,8 @@ pub made_as : {A : Type 0} (n : ℕ) (b : Below)
 made_as {A} n b s is make ts P f x e =
     let p = bind_ok (seq b is ts) (λ x. Ok (make x.0, x.1)) x e in
     let t = seq_sound n b s is ts p.0 p.1 in
-    subst (λ (x : A × List Token). P x.0 x.1) (ok_is (make p.0.0, p.0.1) x p.2) (f p.0.0 p.0.1 t (all_low n is p.0.0 t.height))
+    subst (λ (x : A × List Token). P x.0 x.1) (ok_is (make p.0.0, p.0.1) x p.2)
+    (f p.0.0 p.0.1 t (all_low n is p.0.0 t.height))
 
 -- ---- marks
 
@@ -70,14 +71,16 @@ pub no_brace : (ms : List Mark) (ts r : List Token)
     → is_kind kinds.LeftBrace (head_of ts) ≡ false
     → Matches ms ts r
     → begins_with_brace ms ≡ false
-no_brace (token (fixed kinds.LeftBrace) ∷ ms) ts r h m = let q : is_kind kinds.LeftBrace (head_of ts) ≡ true = next_again kinds.LeftBrace (head_of ts) m.0 in absurd cc
+no_brace (token (fixed kinds.LeftBrace) ∷ ms) ts r h m =
+    let q : is_kind kinds.LeftBrace (head_of ts) ≡ true = next_again kinds.LeftBrace (head_of ts) m.0 in absurd cc
 no_brace _ ts r h m = refl
 
 pub no_function : (ms : List Mark) (ts r : List Token)
     → is_kind kinds.Function (head_of ts) ≡ false
     → Matches ms ts r
     → begins_with_function ms ≡ false
-no_function (token (fixed kinds.Function) ∷ ms) ts r h m = let q : is_kind kinds.Function (head_of ts) ≡ true = next_again kinds.Function (head_of ts) m.0 in absurd cc
+no_function (token (fixed kinds.Function) ∷ ms) ts r h m =
+    let q : is_kind kinds.Function (head_of ts) ≡ true = next_again kinds.Function (head_of ts) m.0 in absurd cc
 no_function _ ts r h m = refl
 
 -- ---- classes
@@ -118,7 +121,9 @@ given_on_line (Some t) e = by_kind t.kind t.newline_before e
 -- further marks behind those of an if
 pub behind_if : (es ss ms : List Mark) (k : TokenKind)
     → (es ++ (token (fixed k) ∷ (ss ++ []))) ++ ms ≡ es ++ (token (fixed k) ∷ (ss ++ ms))
-behind_if es ss ms k = append_assoc es (token (fixed k) ∷ (ss ++ [])) ms ∙ ap (λ (l : List Mark). es ++ (token (fixed k) ∷ (l ++ ms))) (append-nil ss)
+behind_if es ss ms k =
+    append_assoc es (token (fixed k) ∷ (ss ++ [])) ms
+    ∙ ap (λ (l : List Mark). es ++ (token (fixed k) ∷ (l ++ ms))) (append-nil ss)
 
 pub no_open_if : (s : Statement) (r : List Token)
     → NoElse s r
@@ -141,17 +146,31 @@ else_sound : (n : ℕ) (b : Below)
     → TakesStatement context (suc n) ts x.0 x.1
 else_sound n b s context ts vs r t true h x e =
     let low = all_low n (if_items context) vs t.height in
-    made_as n b s (tok kinds.Else ∷ a_statement context ∷ []) (λ v. trees.if_else vs.1.1.0 vs.1.1.1.1.0 v.1.0) r (TakesStatement context (suc n) ts) (λ v l u more. record {
-      marks = subst (λ (ms : List Mark). Matches (token (fixed kinds.If) ∷ token (fixed kinds.LeftParenthesis) ∷ ms) ts l) (behind_if (flat vs.1.1.0) (flat_statement vs.1.1.1.1.0) (token (fixed kinds.Else) ∷ (flat_statement v.1.0 ++ [])) kinds.RightParenthesis)
-          (joins (token (fixed kinds.If) ∷ token (fixed kinds.LeftParenthesis) ∷ (flat vs.1.1.0 ++ (token (fixed kinds.RightParenthesis) ∷ (flat_statement vs.1.1.1.1.0 ++ [])))) (token (fixed kinds.Else) ∷ (flat_statement v.1.0 ++ [])) ts r l t.marks u.marks);
-      well = (t.sane.1.1.0, t.sane.1.1.1.1.0.0, t.sane.1.1.1.1.0.1, no_open_if vs.1.1.1.1.0 r t.last h, u.sane.1.0.0, u.sane.1.0.1);
+    made_as n b s (tok kinds.Else ∷ a_statement context ∷ []) (λ v. trees.if_else vs.1.1.0 vs.1.1.1.1.0 v.1.0) r
+    (TakesStatement context (suc n) ts) (λ v l u more. record {
+      marks =
+          subst (λ (ms : List Mark). Matches (token (fixed kinds.If) ∷ token (fixed kinds.LeftParenthesis) ∷ ms) ts l)
+          (behind_if (flat vs.1.1.0) (flat_statement vs.1.1.1.1.0)
+          (token (fixed kinds.Else) ∷ (flat_statement v.1.0 ++ [])) kinds.RightParenthesis)
+          (joins (token (fixed kinds.If) ∷ token (fixed kinds.LeftParenthesis) ∷
+          (flat vs.1.1.0 ++ (token (fixed kinds.RightParenthesis) ∷ (flat_statement vs.1.1.1.1.0 ++ []))))
+          (token (fixed kinds.Else) ∷ (flat_statement v.1.0 ++ [])) ts r l t.marks u.marks);
+      well = (
+        t.sane.1.1.0,
+        t.sane.1.1.1.1.0.0,
+        t.sane.1.1.1.1.0.1,
+        no_open_if vs.1.1.1.1.0 r t.last h,
+        u.sane.1.0.0,
+        u.sane.1.0.1,
+      );
       form = refl;
       no_else = u.last;
       height = let p = low.1.1.0 in let q = low.1.1.1.1.0 in let r = more.1.0 in omega (arith, p, q, r);
     }) x e
 else_sound n b s context ts vs r t false h x e =
     let low = all_low n (if_items context) vs t.height in
-    subst (λ (x : Statement × List Token). TakesStatement context (suc n) ts x.0 x.1) (ok_is (trees.if_then vs.1.1.0 vs.1.1.1.1.0, r) x e) (record {
+    subst (λ (x : Statement × List Token). TakesStatement context (suc n) ts x.0 x.1)
+    (ok_is (trees.if_then vs.1.1.0 vs.1.1.1.1.0, r) x e) (record {
       marks = t.marks;
       well = (t.sane.1.1.0, t.sane.1.1.1.1.0.0, t.sane.1.1.1.1.0.1);
       form = refl;
@@ -166,8 +185,10 @@ if_sound : (n : ℕ) (b : Below)
     → TakesStatement context (suc n) ts x.0 x.1
 unfolding if_at
 if_sound n b s context ts x e =
-    let p = bind_ok (seq b (if_items context) ts) (λ x. else_by b context x.0.1.1.0 x.0.1.1.1.1.0 (is_kind kinds.Else (head_of x.1)) x.1) x e in
-    else_sound n b s context ts p.0.0 p.0.1 (seq_sound n b s (if_items context) ts p.0 p.1) (is_kind kinds.Else (head_of p.0.1)) refl x p.2
+    let p = bind_ok (seq b (if_items context) ts)
+    (λ x. else_by b context x.0.1.1.0 x.0.1.1.1.1.0 (is_kind kinds.Else (head_of x.1)) x.1) x e in
+    else_sound n b s context ts p.0.0 p.0.1 (seq_sound n b s (if_items context) ts p.0 p.1)
+    (is_kind kinds.Else (head_of p.0.1)) refl x p.2
 
 -- ---- loops
 
@@ -176,26 +197,30 @@ do_sound : (n : ℕ) (b : Below)
     → (context : Context) (ts : List Token) (x : Statement × List Token)
     → made b (do_items context) (λ v. trees.do_while v.1.0 v.1.1.1.1.0) ts ≡ Ok x
     → TakesStatement context (suc n) ts x.0 x.1
-do_sound n b s context ts = made_as n b s (do_items context) (λ v. trees.do_while v.1.0 v.1.1.1.1.0) ts (TakesStatement context (suc n) ts) (λ v r t low. record {
-  marks = t.marks;
-  well = (t.sane.1.0.0, t.sane.1.0.1, t.sane.1.1.1.1.0);
-  form = refl;
-  no_else = λ i. absurd cc;
-  height = let p = low.1.0 in let q = low.1.1.1.1.0 in omega (arith, p, q);
-})
+do_sound n b s context ts =
+    made_as n b s (do_items context) (λ v. trees.do_while v.1.0 v.1.1.1.1.0) ts (TakesStatement context (suc n) ts)
+    (λ v r t low. record {
+      marks = t.marks;
+      well = (t.sane.1.0.0, t.sane.1.0.1, t.sane.1.1.1.1.0);
+      form = refl;
+      no_else = λ i. absurd cc;
+      height = let p = low.1.0 in let q = low.1.1.1.1.0 in omega (arith, p, q);
+    })
 
 while_sound : (n : ℕ) (b : Below)
     → SoundBelow n b
     → (context : Context) (ts : List Token) (x : Statement × List Token)
     → made b (while_items context) (λ v. trees.while v.1.1.0 v.1.1.1.1.0) ts ≡ Ok x
     → TakesStatement context (suc n) ts x.0 x.1
-while_sound n b s context ts = made_as n b s (while_items context) (λ v. trees.while v.1.1.0 v.1.1.1.1.0) ts (TakesStatement context (suc n) ts) (λ v r t low. record {
-  marks = t.marks;
-  well = (t.sane.1.1.0, t.sane.1.1.1.1.0.0, t.sane.1.1.1.1.0.1);
-  form = refl;
-  no_else = t.last;
-  height = let p = low.1.1.0 in let q = low.1.1.1.1.0 in omega (arith, p, q);
-})
+while_sound n b s context ts =
+    made_as n b s (while_items context) (λ v. trees.while v.1.1.0 v.1.1.1.1.0) ts (TakesStatement context (suc n) ts)
+    (λ v r t low. record {
+      marks = t.marks;
+      well = (t.sane.1.1.0, t.sane.1.1.1.1.0.0, t.sane.1.1.1.1.0.1);
+      form = refl;
+      no_else = t.last;
+      height = let p = low.1.1.0 in let q = low.1.1.1.1.0 in omega (arith, p, q);
+    })
 
 -- the marks of an optional expression and its closer, one after the other
 pub next_optional : (es ms : List Mark) (k : TokenKind)
@@ -208,8 +233,11 @@ let_is false = refl
 
 -- the tests and the update of a for with its body
 pub tails_are : (is ts ms : List Mark)
-    → (is ++ (token (fixed kinds.Semicolon) ∷ [])) ++ ((ts ++ (token (fixed kinds.RightParenthesis) ∷ [])) ++ ms) ≡ is ++ (token (fixed kinds.Semicolon) ∷ (ts ++ (token (fixed kinds.RightParenthesis) ∷ ms)))
-tails_are is ts ms = next_optional is ((ts ++ (token (fixed kinds.RightParenthesis) ∷ [])) ++ ms) kinds.Semicolon ∙ ap (λ (l : List Mark). is ++ (token (fixed kinds.Semicolon) ∷ l)) (next_optional ts ms kinds.RightParenthesis)
+    → (is ++ (token (fixed kinds.Semicolon) ∷ [])) ++ ((ts ++ (token (fixed kinds.RightParenthesis) ∷ [])) ++ ms)
+    ≡ is ++ (token (fixed kinds.Semicolon) ∷ (ts ++ (token (fixed kinds.RightParenthesis) ∷ ms)))
+tails_are is ts ms =
+    next_optional is ((ts ++ (token (fixed kinds.RightParenthesis) ∷ [])) ++ ms) kinds.Semicolon
+    ∙ ap (λ (l : List Mark). is ++ (token (fixed kinds.Semicolon) ∷ l)) (next_optional ts ms kinds.RightParenthesis)
 
 max4 : (a b c d n : ℕ) → a ≤ n → b ≤ n → c ≤ n → d ≤ n → suc (max a (max b (max c d))) ≤ suc n
 max4 a b c d n p q r s = omega (arith, p, q, r, s)
@@ -219,12 +247,19 @@ for_plain_sound : (n : ℕ) (b : Below)
     → (context : Context) (ts : List Token) (x : Statement × List Token)
     → for_by b context plain_head ts ≡ Ok x
     → TakesStatement context (suc n) ts x.0 x.1
-for_plain_sound n b s context ts = made_as n b s (for_items context) (λ v. trees.for v.1.1.0 v.1.1.1.0 v.1.1.1.1.0 v.1.1.1.1.1.0) ts (TakesStatement context (suc n) ts) (λ v r t low.
+for_plain_sound n b s context ts =
+    made_as n b s (for_items context) (λ v. trees.for v.1.1.0 v.1.1.1.0 v.1.1.1.1.0 v.1.1.1.1.1.0) ts
+    (TakesStatement context (suc n) ts) (λ v r t low.
     let body = flat_statement v.1.1.1.1.1.0 ++ [] in
-    let after_first = (flat_optional v.1.1.1.0 ++ (token (fixed kinds.Semicolon) ∷ [])) ++ ((flat_optional v.1.1.1.1.0 ++ (token (fixed kinds.RightParenthesis) ∷ [])) ++ body) in
-    let same = next_optional (flat_optional v.1.1.0) after_first kinds.Semicolon ∙ ap (λ (l : List Mark). flat_optional v.1.1.0 ++ (token (fixed kinds.Semicolon) ∷ l)) (tails_are (flat_optional v.1.1.1.0) (flat_optional v.1.1.1.1.0) body) in
+    let after_first = (flat_optional v.1.1.1.0 ++ (token (fixed kinds.Semicolon) ∷ [])) ++
+    ((flat_optional v.1.1.1.1.0 ++ (token (fixed kinds.RightParenthesis) ∷ [])) ++ body) in
+    let same = next_optional (flat_optional v.1.1.0) after_first kinds.Semicolon
+    ∙ ap (λ (l : List Mark). flat_optional v.1.1.0 ++ (token (fixed kinds.Semicolon) ∷ l))
+    (tails_are (flat_optional v.1.1.1.0) (flat_optional v.1.1.1.1.0) body) in
     record {
-      marks = subst (λ (ms : List Mark). Matches (token (fixed kinds.For) ∷ token (fixed kinds.LeftParenthesis) ∷ ms) ts r) same t.marks;
+      marks =
+          subst (λ (ms : List Mark). Matches (token (fixed kinds.For) ∷ token (fixed kinds.LeftParenthesis) ∷ ms) ts r)
+          same t.marks;
       well = (t.sane.1.1.0, t.sane.1.1.1.0, t.sane.1.1.1.1.0, t.sane.1.1.1.1.1.0.0, t.sane.1.1.1.1.1.0.1);
       form = refl;
       no_else = t.last;
@@ -236,14 +271,32 @@ for_lexical_sound : (n : ℕ) (b : Below)
     → (context : Context) (constant : Bool) (ts : List Token) (x : Statement × List Token)
     → for_by b context (declares constant) ts ≡ Ok x
     → TakesStatement context (suc n) ts x.0 x.1
-for_lexical_sound n b s context constant ts = made_as n b s (for_lexical_items context constant) (λ v. trees.for_lexical constant v.1.1.1.0 v.1.1.1.1.1.0 v.1.1.1.1.1.1.0 v.1.1.1.1.1.1.1.0) ts (TakesStatement context (suc n) ts) (λ v r t low.
+for_lexical_sound n b s context constant ts =
+    made_as n b s (for_lexical_items context constant)
+    (λ v. trees.for_lexical constant v.1.1.1.0 v.1.1.1.1.1.0 v.1.1.1.1.1.1.0 v.1.1.1.1.1.1.1.0) ts
+    (TakesStatement context (suc n) ts) (λ v r t low.
     let body = flat_statement v.1.1.1.1.1.1.1.0 ++ [] in
-    let tails = (flat_optional v.1.1.1.1.1.0 ++ (token (fixed kinds.Semicolon) ∷ [])) ++ ((flat_optional v.1.1.1.1.1.1.0 ++ (token (fixed kinds.RightParenthesis) ∷ [])) ++ body) in
-    let same = ap (λ (l : List Mark). l ++ (flat_declarators v.1.1.1.0 ++ (token (fixed kinds.Semicolon) ∷ tails))) (let_is constant)
-    ∙ ap (λ (l : List Mark). let_or_const constant ++ (flat_declarators v.1.1.1.0 ++ (token (fixed kinds.Semicolon) ∷ l))) (tails_are (flat_optional v.1.1.1.1.1.0) (flat_optional v.1.1.1.1.1.1.0) body) in
+    let tails = (flat_optional v.1.1.1.1.1.0 ++ (token (fixed kinds.Semicolon) ∷ [])) ++
+    ((flat_optional v.1.1.1.1.1.1.0 ++ (token (fixed kinds.RightParenthesis) ∷ [])) ++ body) in
+    let same = ap (λ (l : List Mark). l ++ (flat_declarators v.1.1.1.0 ++ (token (fixed kinds.Semicolon) ∷ tails)))
+    (let_is constant)
+    ∙ ap (λ (l : List Mark). let_or_const constant ++
+    (flat_declarators v.1.1.1.0 ++ (token (fixed kinds.Semicolon) ∷ l)))
+    (tails_are (flat_optional v.1.1.1.1.1.0) (flat_optional v.1.1.1.1.1.1.0) body) in
     record {
-      marks = subst (λ (ms : List Mark). Matches (token (fixed kinds.For) ∷ token (fixed kinds.LeftParenthesis) ∷ ms) ts r) same t.marks;
-      well = (t.sane.1.1.1.0.0, t.sane.1.1.1.0.1, t.sane.1.1.1.0.2, t.sane.1.1.1.0.3, t.sane.1.1.1.1.1.0, t.sane.1.1.1.1.1.1.0, t.sane.1.1.1.1.1.1.1.0.0, t.sane.1.1.1.1.1.1.1.0.1);
+      marks =
+          subst (λ (ms : List Mark). Matches (token (fixed kinds.For) ∷ token (fixed kinds.LeftParenthesis) ∷ ms) ts r)
+          same t.marks;
+      well = (
+        t.sane.1.1.1.0.0,
+        t.sane.1.1.1.0.1,
+        t.sane.1.1.1.0.2,
+        t.sane.1.1.1.0.3,
+        t.sane.1.1.1.1.1.0,
+        t.sane.1.1.1.1.1.1.0,
+        t.sane.1.1.1.1.1.1.1.0.0,
+        t.sane.1.1.1.1.1.1.1.0.1,
+      );
       form = refl;
       no_else = t.last;
       height = max4 _ _ _ _ n low.1.1.1.0 low.1.1.1.1.1.0 low.1.1.1.1.1.1.0 low.1.1.1.1.1.1.1.0;
@@ -254,10 +307,16 @@ for_of_sound : (n : ℕ) (b : Below)
     → (context : Context) (constant : Bool) (ts : List Token) (x : Statement × List Token)
     → for_by b context (each constant) ts ≡ Ok x
     → TakesStatement context (suc n) ts x.0 x.1
-for_of_sound n b s context constant ts = made_as n b s (for_of_items context constant) (λ v. trees.for_of constant v.1.1.1.0 v.1.1.1.1.1.0 v.1.1.1.1.1.1.1.0) ts (TakesStatement context (suc n) ts) (λ v r t low.
-    let rest = token (identifier v.1.1.1.0) ∷ token (identifier (codes "of")) ∷ (flat v.1.1.1.1.1.0 ++ (token (fixed kinds.RightParenthesis) ∷ (flat_statement v.1.1.1.1.1.1.1.0 ++ []))) in
+for_of_sound n b s context constant ts =
+    made_as n b s (for_of_items context constant) (λ v. trees.for_of constant v.1.1.1.0 v.1.1.1.1.1.0 v.1.1.1.1.1.1.1.0)
+    ts (TakesStatement context (suc n) ts) (λ v r t low.
+    let rest = token (identifier v.1.1.1.0) ∷ token (identifier (codes "of")) ∷
+    (flat v.1.1.1.1.1.0 ++ (token (fixed kinds.RightParenthesis) ∷ (flat_statement v.1.1.1.1.1.1.1.0 ++ []))) in
     record {
-      marks = subst (λ (ms : List Mark). Matches (token (fixed kinds.For) ∷ token (fixed kinds.LeftParenthesis) ∷ (ms ++ rest)) ts r) (let_is constant) t.marks;
+      marks =
+          subst (λ (ms : List Mark). Matches
+          (token (fixed kinds.For) ∷ token (fixed kinds.LeftParenthesis) ∷ (ms ++ rest)) ts r)
+          (let_is constant) t.marks;
       well = (t.sane.1.1.1.1.1.0.0, t.sane.1.1.1.1.1.0.1, t.sane.1.1.1.1.1.1.1.0.0, t.sane.1.1.1.1.1.1.1.0.1);
       form = refl;
       no_else = t.last;
@@ -290,13 +349,15 @@ continue_sound : (n : ℕ) (b : Below)
     → (ts : List Token) (x : Statement × List Token)
     → made b (tok kinds.Continue ∷ an_end after_word ∷ []) (λ v. trees.continue) ts ≡ Ok x
     → TakesStatement context (suc n) ts x.0 x.1
-continue_sound n b s context loop ts = made_as n b s (tok kinds.Continue ∷ an_end after_word ∷ []) (λ v. trees.continue) ts (TakesStatement context (suc n) ts) (λ v r t low. record {
-  marks = t.marks;
-  well = loop;
-  form = refl;
-  no_else = λ i. absurd cc;
-  height = omega arith;
-})
+continue_sound n b s context loop ts =
+    made_as n b s (tok kinds.Continue ∷ an_end after_word ∷ []) (λ v. trees.continue) ts
+    (TakesStatement context (suc n) ts) (λ v r t low. record {
+      marks = t.marks;
+      well = loop;
+      form = refl;
+      no_else = λ i. absurd cc;
+      height = omega arith;
+    })
 
 break_sound : (n : ℕ) (b : Below)
     → SoundBelow n b
@@ -305,26 +366,30 @@ break_sound : (n : ℕ) (b : Below)
     → (ts : List Token) (x : Statement × List Token)
     → made b (tok kinds.Break ∷ an_end after_word ∷ []) (λ v. trees.break) ts ≡ Ok x
     → TakesStatement context (suc n) ts x.0 x.1
-break_sound n b s context loop ts = made_as n b s (tok kinds.Break ∷ an_end after_word ∷ []) (λ v. trees.break) ts (TakesStatement context (suc n) ts) (λ v r t low. record {
-  marks = t.marks;
-  well = loop;
-  form = refl;
-  no_else = λ i. absurd cc;
-  height = omega arith;
-})
+break_sound n b s context loop ts =
+    made_as n b s (tok kinds.Break ∷ an_end after_word ∷ []) (λ v. trees.break) ts (TakesStatement context (suc n) ts)
+    (λ v r t low. record {
+      marks = t.marks;
+      well = loop;
+      form = refl;
+      no_else = λ i. absurd cc;
+      height = omega arith;
+    })
 
 debugger_sound : (n : ℕ) (b : Below)
     → SoundBelow n b
     → (context : Context) (ts : List Token) (x : Statement × List Token)
     → made b (tok kinds.Debugger ∷ an_end after_word ∷ []) (λ v. trees.debugger) ts ≡ Ok x
     → TakesStatement context (suc n) ts x.0 x.1
-debugger_sound n b s context ts = made_as n b s (tok kinds.Debugger ∷ an_end after_word ∷ []) (λ v. trees.debugger) ts (TakesStatement context (suc n) ts) (λ v r t low. record {
-  marks = t.marks;
-  well = tt;
-  form = refl;
-  no_else = λ i. absurd cc;
-  height = omega arith;
-})
+debugger_sound n b s context ts =
+    made_as n b s (tok kinds.Debugger ∷ an_end after_word ∷ []) (λ v. trees.debugger) ts
+    (TakesStatement context (suc n) ts) (λ v r t low. record {
+      marks = t.marks;
+      well = tt;
+      form = refl;
+      no_else = λ i. absurd cc;
+      height = omega arith;
+    })
 
 return_sound : (n : ℕ) (b : Below)
     → SoundBelow n b
@@ -335,20 +400,29 @@ return_sound : (n : ℕ) (b : Below)
     → (x : Statement × List Token)
     → return_by b c ts ≡ Ok x
     → TakesStatement context (suc n) ts x.0 x.1
-return_sound n b s context inside ts true h = made_as n b s (tok kinds.Return ∷ an_end after_word ∷ []) (λ v. trees.return trees.omitted) ts (TakesStatement context (suc n) ts) (λ v r t low. record {
-  marks = t.marks;
-  well = (inside, tt);
-  form = refl;
-  no_else = λ i. absurd cc;
-  height = omega arith;
-})
-return_sound n b s context inside ts false h = made_as n b s (tok kinds.Return ∷ ended ∷ []) (λ v. trees.return (trees.present v.1.0)) ts (TakesStatement context (suc n) ts) (λ v r t low. record {
-  marks = (t.marks.0, on_line_is (flat v.1.0) (semicolon (after_expression (edge v.1.0)) ∷ []) (tail_of ts) r (given_on_line (head_of (tail_of ts)) h) (and_nothing (flat v.1.0 ++ (semicolon (after_expression (edge v.1.0)) ∷ [])) (tail_of ts) r t.marks.1));
-  well = (inside, t.sane.1.0);
-  form = refl;
-  no_else = λ i. absurd cc;
-  height = let p = low.1.0 in omega (arith, p);
-})
+return_sound n b s context inside ts true h =
+    made_as n b s (tok kinds.Return ∷ an_end after_word ∷ []) (λ v. trees.return trees.omitted) ts
+    (TakesStatement context (suc n) ts) (λ v r t low. record {
+      marks = t.marks;
+      well = (inside, tt);
+      form = refl;
+      no_else = λ i. absurd cc;
+      height = omega arith;
+    })
+return_sound n b s context inside ts false h =
+    made_as n b s (tok kinds.Return ∷ ended ∷ []) (λ v. trees.return (trees.present v.1.0)) ts
+    (TakesStatement context (suc n) ts) (λ v r t low. record {
+      marks = (
+        t.marks.0,
+        on_line_is (flat v.1.0) (semicolon (after_expression (edge v.1.0)) ∷ []) (tail_of ts) r
+            (given_on_line (head_of (tail_of ts)) h)
+            (and_nothing (flat v.1.0 ++ (semicolon (after_expression (edge v.1.0)) ∷ [])) (tail_of ts) r t.marks.1),
+      );
+      well = (inside, t.sane.1.0);
+      form = refl;
+      no_else = λ i. absurd cc;
+      height = let p = low.1.0 in omega (arith, p);
+    })
 
 throw_sound : (n : ℕ) (b : Below)
     → SoundBelow n b
@@ -357,13 +431,19 @@ throw_sound : (n : ℕ) (b : Below)
     → (x : Statement × List Token)
     → throw_by b c ts ≡ Ok x
     → TakesStatement context (suc n) ts x.0 x.1
-throw_sound n b s context ts true h x e = made_as n b s (tok kinds.Throw ∷ ended ∷ []) (λ v. trees.throw v.1.0) ts (TakesStatement context (suc n) ts) (λ v r t low. record {
-  marks = (t.marks.0, on_line_is (flat v.1.0) (semicolon (after_expression (edge v.1.0)) ∷ []) (tail_of ts) r h (and_nothing (flat v.1.0 ++ (semicolon (after_expression (edge v.1.0)) ∷ [])) (tail_of ts) r t.marks.1));
-  well = t.sane.1.0;
-  form = refl;
-  no_else = λ i. absurd cc;
-  height = let p = low.1.0 in omega (arith, p);
-}) x e
+throw_sound n b s context ts true h x e =
+    made_as n b s (tok kinds.Throw ∷ ended ∷ []) (λ v. trees.throw v.1.0) ts (TakesStatement context (suc n) ts)
+    (λ v r t low. record {
+      marks = (
+        t.marks.0,
+        on_line_is (flat v.1.0) (semicolon (after_expression (edge v.1.0)) ∷ []) (tail_of ts) r h
+            (and_nothing (flat v.1.0 ++ (semicolon (after_expression (edge v.1.0)) ∷ [])) (tail_of ts) r t.marks.1),
+      );
+      well = t.sane.1.0;
+      form = refl;
+      no_else = λ i. absurd cc;
+      height = let p = low.1.0 in omega (arith, p);
+    }) x e
 throw_sound n b s context ts false h x e = absurd cc
 
 -- ---- try
@@ -375,7 +455,8 @@ pub record TakesHandler (context : Context) (n : ℕ) (ts : List Token) (h : Han
   pub height : height_of_handler h ≤ n
 
 -- the finally of a try behind this catch
-pub record TakesFinalizer (context : Context) (n : ℕ) (h : Handler) (ts : List Token) (f : Finalizer) (r : List Token) : Type 0 where
+pub record TakesFinalizer (context : Context) (n : ℕ) (h : Handler) (ts : List Token) (f : Finalizer) (r : List Token)
+    : Type 0 where
   pub marks : Matches (flat_finalizer f) ts r
   pub well : WellFinalizer context f
   pub handled : is_handled h f ≡ true
@@ -392,20 +473,32 @@ catch_sound : (n : ℕ) (b : Below)
     → catch_by b context c (tail_of ts) ≡ Ok x
     → TakesHandler context n ts x.0 x.1
 catch_sound n b s context ts h true x e =
-    let p = bind_ok (seq b catch_items (tail_of ts)) (λ n. b.block context (n.0.1.0 ∷ []) n.1 >>= λ x. Ok (trees.catch (Some n.0.1.0) x.0, x.1)) x e in
+    let p = bind_ok (seq b catch_items (tail_of ts))
+    (λ n. b.block context (n.0.1.0 ∷ []) n.1 >>= λ x. Ok (trees.catch (Some n.0.1.0) x.0, x.1)) x e in
     let q = bind_ok (b.block context (p.0.0.1.0 ∷ []) p.0.1) (λ x. Ok (trees.catch (Some p.0.0.1.0) x.0, x.1)) x p.2 in
     let t = seq_sound n b s catch_items (tail_of ts) p.0 p.1 in
     let u = s.block context (p.0.0.1.0 ∷ []) p.0.1 q.0 q.1 in
-    subst (λ (x : Handler × List Token). TakesHandler context n ts x.0 x.1) (ok_is (trees.catch (Some p.0.0.1.0) q.0.0, q.0.1) x q.2) (record {
-      marks = (next_is kinds.Catch (head_of ts) h, joins (token (fixed kinds.LeftParenthesis) ∷ token (identifier p.0.0.1.0) ∷ token (fixed kinds.RightParenthesis) ∷ []) (flats.in_braces (flat_statements q.0.0) ++ []) (tail_of ts) p.0.1 q.0.1 t.marks (before_nothing (flats.in_braces (flat_statements q.0.0)) p.0.1 q.0.1 u.0.marks));
+    subst (λ (x : Handler × List Token). TakesHandler context n ts x.0 x.1)
+    (ok_is (trees.catch (Some p.0.0.1.0) q.0.0, q.0.1) x q.2) (record {
+      marks = (
+        next_is kinds.Catch (head_of ts) h,
+        joins (token (fixed kinds.LeftParenthesis) ∷ token (identifier p.0.0.1.0) ∷ token
+            (fixed kinds.RightParenthesis) ∷ [])
+            (flats.in_braces (flat_statements q.0.0) ++ []) (tail_of ts) p.0.1 q.0.1 t.marks
+            (before_nothing (flats.in_braces (flat_statements q.0.0)) p.0.1 q.0.1 u.0.marks),
+      );
       well = (u.0.fresh, u.0.well);
       height = u.1;
     })
 catch_sound n b s context ts h false x e =
     let q = bind_ok (b.block context [] (tail_of ts)) (λ x. Ok (trees.catch None x.0, x.1)) x e in
     let u = s.block context [] (tail_of ts) q.0 q.1 in
-    subst (λ (x : Handler × List Token). TakesHandler context n ts x.0 x.1) (ok_is (trees.catch None q.0.0, q.0.1) x q.2) (record {
-      marks = (next_is kinds.Catch (head_of ts) h, before_nothing (flats.in_braces (flat_statements q.0.0)) (tail_of ts) q.0.1 u.0.marks);
+    subst (λ (x : Handler × List Token). TakesHandler context n ts x.0 x.1)
+    (ok_is (trees.catch None q.0.0, q.0.1) x q.2) (record {
+      marks = (
+        next_is kinds.Catch (head_of ts) h,
+        before_nothing (flats.in_braces (flat_statements q.0.0)) (tail_of ts) q.0.1 u.0.marks,
+      );
       well = (u.0.fresh, u.0.well);
       height = u.1;
     })
@@ -417,9 +510,11 @@ handler_by_sound : (n : ℕ) (b : Below)
     → (x : Handler × List Token)
     → handler_by b context c ts ≡ Ok x
     → TakesHandler context n ts x.0 x.1
-handler_by_sound n b s context ts true h x e = catch_sound n b s context ts h (is_kind kinds.LeftParenthesis (head_of (tail_of ts))) x e
+handler_by_sound n b s context ts true h x e =
+    catch_sound n b s context ts h (is_kind kinds.LeftParenthesis (head_of (tail_of ts))) x e
 handler_by_sound n b s context ts false h x e =
-    subst (λ (x : Handler × List Token). TakesHandler context n ts x.0 x.1) (ok_is (trees.no_catch, ts) x e) (record { marks = refl; well = tt; height = omega arith })
+    subst (λ (x : Handler × List Token). TakesHandler context n ts x.0 x.1) (ok_is (trees.no_catch, ts) x e)
+    (record { marks = refl; well = tt; height = omega arith })
 
 pub handler_sound : (n : ℕ) (b : Below)
     → SoundBelow n b
@@ -438,15 +533,18 @@ finalizer_by_sound : (n : ℕ) (b : Below)
     → (context : Context) (h : Handler) (c : Bool) (ts : List Token) (x : Finalizer × List Token)
     → finalizer_by b context h c ts ≡ Ok x
     → TakesFinalizer context n h ts x.0 x.1
-finalizer_by_sound n b s context h true ts x e = made_as n b s (tok kinds.Finally ∷ a_block context [] ∷ []) (λ v. trees.finally v.1.0) ts (TakesFinalizer context n h ts) (λ v r t low. record {
-  marks = t.marks;
-  well = t.sane.1.0;
-  handled = finally_handled h v.1.0;
-  height = low.1.0;
-}) x e
+finalizer_by_sound n b s context h true ts x e =
+    made_as n b s (tok kinds.Finally ∷ a_block context [] ∷ []) (λ v. trees.finally v.1.0) ts
+    (TakesFinalizer context n h ts) (λ v r t low. record {
+      marks = t.marks;
+      well = t.sane.1.0;
+      handled = finally_handled h v.1.0;
+      height = low.1.0;
+    }) x e
 finalizer_by_sound n b s context trees.no_catch false ts x e = absurd cc
 finalizer_by_sound n b s context (trees.catch m ss) false ts x e =
-    subst (λ (x : Finalizer × List Token). TakesFinalizer context n (trees.catch m ss) ts x.0 x.1) (ok_is (trees.no_finally, ts) x e) (record { marks = refl; well = tt; handled = refl; height = omega arith })
+    subst (λ (x : Finalizer × List Token). TakesFinalizer context n (trees.catch m ss) ts x.0 x.1)
+    (ok_is (trees.no_finally, ts) x e) (record { marks = refl; well = tt; handled = refl; height = omega arith })
 
 pub finalizer_sound : (n : ℕ) (b : Below)
     → SoundBelow n b
@@ -467,8 +565,12 @@ try_takes : (n : ℕ) (context : Context) (ts : List Token) (vs : Values (try_it
     → TakesFinalizer context n h ws f r
     → TakesStatement context (suc n) ts (trees.try vs.1.0 h f) r
 try_takes n context ts vs us t h ws u f r v = record {
-  marks = joins (token (fixed kinds.Try) ∷ flats.in_braces (flat_statements vs.1.0)) (flat_handler h ++ (flat_finalizer f ++ [])) ts us r (and_nothing (token (fixed kinds.Try) ∷ flats.in_braces (flat_statements vs.1.0)) ts us t.marks)
-      (joins (flat_handler h) (flat_finalizer f ++ []) us ws r u.marks (before_nothing (flat_finalizer f) ws r v.marks));
+  marks =
+      joins (token (fixed kinds.Try) ∷ flats.in_braces (flat_statements vs.1.0))
+      (flat_handler h ++ (flat_finalizer f ++ [])) ts us r
+      (and_nothing (token (fixed kinds.Try) ∷ flats.in_braces (flat_statements vs.1.0)) ts us t.marks)
+      (joins (flat_handler h) (flat_finalizer f ++ []) us ws r u.marks
+      (before_nothing (flat_finalizer f) ws r v.marks));
   well = (t.sane.1.0.0, t.sane.1.0.1, u.well, v.well, v.handled);
   form = refl;
   no_else = λ i. absurd cc;
@@ -482,11 +584,17 @@ try_sound : (n : ℕ) (b : Below)
     → TakesStatement context (suc n) ts x.0 x.1
 unfolding try_at
 try_sound n b s context ts x e =
-    let p = bind_ok (seq b (try_items context) ts) (λ x. handler_at b context x.1 >>= λ h. finalizer_at b context h.0 h.1 >>= λ f. Ok (trees.try x.0.1.0 h.0 f.0, f.1)) x e in
-    let q = bind_ok (handler_at b context p.0.1) (λ h. finalizer_at b context h.0 h.1 >>= λ f. Ok (trees.try p.0.0.1.0 h.0 f.0, f.1)) x p.2 in
+    let p = bind_ok (seq b (try_items context) ts)
+    (λ x. handler_at b context x.1 >>= λ h. finalizer_at b context h.0 h.1 >>= λ f. Ok
+    (trees.try x.0.1.0 h.0 f.0, f.1))
+    x e in
+    let q = bind_ok (handler_at b context p.0.1)
+    (λ h. finalizer_at b context h.0 h.1 >>= λ f. Ok (trees.try p.0.0.1.0 h.0 f.0, f.1)) x p.2 in
     let o = bind_ok (finalizer_at b context q.0.0 q.0.1) (λ f. Ok (trees.try p.0.0.1.0 q.0.0 f.0, f.1)) x q.2 in
-    subst (λ (x : Statement × List Token). TakesStatement context (suc n) ts x.0 x.1) {x = (trees.try p.0.0.1.0 q.0.0 o.0.0, o.0.1)} (ok_is (trees.try p.0.0.1.0 q.0.0 o.0.0, o.0.1) x o.2)
-    (try_takes n context ts p.0.0 p.0.1 (seq_sound n b s (try_items context) ts p.0 p.1) q.0.0 q.0.1 (handler_sound n b s context p.0.1 q.0 q.1) o.0.0 o.0.1 (finalizer_sound n b s context q.0.0 q.0.1 o.0 o.1))
+    subst (λ (x : Statement × List Token). TakesStatement context (suc n) ts x.0 x.1)
+    {x = (trees.try p.0.0.1.0 q.0.0 o.0.0, o.0.1)} (ok_is (trees.try p.0.0.1.0 q.0.0 o.0.0, o.0.1) x o.2)
+    (try_takes n context ts p.0.0 p.0.1 (seq_sound n b s (try_items context) ts p.0 p.1) q.0.0 q.0.1
+    (handler_sound n b s context p.0.1 q.0 q.1) o.0.0 o.0.1 (finalizer_sound n b s context q.0.0 q.0.1 o.0 o.1))
 
 -- ---- any statement
 
@@ -495,13 +603,15 @@ block_sound : (n : ℕ) (b : Below)
     → (context : Context) (ts : List Token) (x : Statement × List Token)
     → made b (in_braces context [] ∷ []) (λ v. trees.block v.0) ts ≡ Ok x
     → TakesStatement context (suc n) ts x.0 x.1
-block_sound n b s context ts = made_as n b s (in_braces context [] ∷ []) (λ v. trees.block v.0) ts (TakesStatement context (suc n) ts) (λ v r t low. record {
-  marks = and_nothing (flats.in_braces (flat_statements v.0)) ts r t.marks;
-  well = t.sane.0;
-  form = refl;
-  no_else = λ i. absurd cc;
-  height = let p = low.0 in omega (arith, p);
-})
+block_sound n b s context ts =
+    made_as n b s (in_braces context [] ∷ []) (λ v. trees.block v.0) ts (TakesStatement context (suc n) ts)
+    (λ v r t low. record {
+      marks = and_nothing (flats.in_braces (flat_statements v.0)) ts r t.marks;
+      well = t.sane.0;
+      form = refl;
+      no_else = λ i. absurd cc;
+      height = let p = low.0 in omega (arith, p);
+    })
 
 expression_sound : (n : ℕ) (b : Below)
     → SoundBelow n b
@@ -510,7 +620,8 @@ expression_sound : (n : ℕ) (b : Below)
     → (x : Statement × List Token)
     → made b (ended ∷ []) (λ v. trees.expression v.0) ts ≡ Ok x
     → TakesStatement context (suc n) ts x.0 x.1
-expression_sound n b s context ts h = made_as n b s (ended ∷ []) (λ v. trees.expression v.0) ts (TakesStatement context (suc n) ts) (λ v r t low.
+expression_sound n b s context ts h =
+    made_as n b s (ended ∷ []) (λ v. trees.expression v.0) ts (TakesStatement context (suc n) ts) (λ v r t low.
     let m = and_nothing (flat v.0 ++ (semicolon (after_expression (edge v.0)) ∷ [])) ts r t.marks in
     let p = parts (flat v.0) (semicolon (after_expression (edge v.0)) ∷ []) ts r m in
     let k = expression_next (head_of ts) h in
@@ -532,21 +643,35 @@ statement_by_sound : (n : ℕ) (b : Below)
 statement_by_sound n b s context ts classes.a_block h x e = block_sound n b s context ts x e
 statement_by_sound n b s context ts (classes.a_lexical constant) h x e = absurd cc
 statement_by_sound n b s context ts classes.a_semicolon h x e =
-    subst (λ (x : Statement × List Token). TakesStatement context (suc n) ts x.0 x.1) (ok_is (trees.empty, tail_of ts) x e) (record { marks = (first_semicolon (head_of ts) h, refl); well = tt; form = refl; no_else = λ i. absurd cc; height = omega arith })
+    subst (λ (x : Statement × List Token). TakesStatement context (suc n) ts x.0 x.1)
+    (ok_is (trees.empty, tail_of ts) x e)
+    (record {
+      marks = (
+        first_semicolon (head_of ts) h,
+        refl,
+      );
+      well = tt;
+      form = refl;
+      no_else = λ i. absurd cc;
+      height = omega arith;
+    })
 statement_by_sound n b s context ts classes.an_if h x e = if_sound n b s context ts x e
 statement_by_sound n b s context ts classes.a_do h x e = do_sound n b s context ts x e
 statement_by_sound n b s context ts classes.a_while h x e = while_sound n b s context ts x e
 statement_by_sound n b s context ts classes.a_for h x e = for_sound n b s context ts x e
 statement_by_sound n b s context ts classes.a_continue h x e =
-    let t = test_ok context.in_loop (made b (tok kinds.Continue ∷ an_end after_word ∷ []) (λ v. trees.continue) ts) (stuck (length ts)) x e in
+    let t = test_ok context.in_loop (made b (tok kinds.Continue ∷ an_end after_word ∷ []) (λ v. trees.continue) ts)
+    (stuck (length ts)) x e in
     continue_sound n b s context t.0 ts x t.1
 statement_by_sound n b s context ts classes.a_break h x e =
-    let t = test_ok context.in_loop (made b (tok kinds.Break ∷ an_end after_word ∷ []) (λ v. trees.break) ts) (stuck (length ts)) x e in
+    let t = test_ok context.in_loop (made b (tok kinds.Break ∷ an_end after_word ∷ []) (λ v. trees.break) ts)
+    (stuck (length ts)) x e in
     break_sound n b s context t.0 ts x t.1
 statement_by_sound n b s context ts classes.a_return h x e =
     let t = test_ok context.in_function (return_by b (ends_return (head_of (tail_of ts))) ts) (stuck (length ts)) x e in
     return_sound n b s context t.0 ts (ends_return (head_of (tail_of ts))) refl x t.1
-statement_by_sound n b s context ts classes.a_throw h x e = throw_sound n b s context ts (is_on_line (head_of (tail_of ts))) refl x e
+statement_by_sound n b s context ts classes.a_throw h x e =
+    throw_sound n b s context ts (is_on_line (head_of (tail_of ts))) refl x e
 statement_by_sound n b s context ts classes.a_try h x e = try_sound n b s context ts x e
 statement_by_sound n b s context ts classes.a_debugger h x e = debugger_sound n b s context ts x e
 statement_by_sound n b s context ts classes.a_function h x e = absurd cc
@@ -572,13 +697,19 @@ lexical_sound : (n : ℕ) (b : Below)
     → TakesItem context taken (suc n) ts x.0 x.1
 unfolding lexical_at
 lexical_sound n b s context constant taken ts h x e =
-    let p = bind_ok (declarators_at b constant taken (tail_of ts)) (λ ds. semicolon_at (end_of_declarators ds.0) ds.1 >>= λ s. Ok (trees.lexical constant ds.0, s.1)) x e in
-    let q = bind_ok (semicolon_at (end_of_declarators p.0.0) p.0.1) (λ s. Ok (trees.lexical constant p.0.0, s.1)) x p.2 in
+    let p = bind_ok (declarators_at b constant taken (tail_of ts))
+    (λ ds. semicolon_at (end_of_declarators ds.0) ds.1 >>= λ s. Ok (trees.lexical constant ds.0, s.1)) x e in
+    let q = bind_ok (semicolon_at (end_of_declarators p.0.0) p.0.1) (λ s. Ok (trees.lexical constant p.0.0, s.1))
+    x p.2 in
     let t = declarators_sound n b s constant taken (tail_of ts) p.0 p.1 in
     let rest = flat_declarators p.0.0 ++ (semicolon (end_of_declarators p.0.0) ∷ []) in
-    let m = joins (flat_declarators p.0.0) (semicolon (end_of_declarators p.0.0) ∷ []) (tail_of ts) p.0.1 q.0.1 t.marks (semicolon_sound (end_of_declarators p.0.0) p.0.1 q.0 q.1) in
-    subst (λ (x : Statement × List Token). TakesItem context taken (suc n) ts x.0 x.1) (ok_is (trees.lexical constant p.0.0, q.0.1) x q.2) (record {
-      marks = subst (λ (ms : List Mark). Matches (ms ++ rest) ts q.0.1) (let_is constant) (first_lexical constant (head_of ts) h, m);
+    let m = joins (flat_declarators p.0.0) (semicolon (end_of_declarators p.0.0) ∷ []) (tail_of ts) p.0.1 q.0.1 t.marks
+    (semicolon_sound (end_of_declarators p.0.0) p.0.1 q.0 q.1) in
+    subst (λ (x : Statement × List Token). TakesItem context taken (suc n) ts x.0 x.1)
+    (ok_is (trees.lexical constant p.0.0, q.0.1) x q.2) (record {
+      marks =
+          subst (λ (ms : List Mark). Matches (ms ++ rest) ts q.0.1) (let_is constant)
+          (first_lexical constant (head_of ts) h, m);
       well = (t.some, t.well, t.initialized);
       fresh = t.fresh;
       no_else = λ i. absurd cc;
@@ -594,14 +725,22 @@ declaration_sound : (n : ℕ) (b : Below)
     → TakesItem context taken (suc n) ts x.0 x.1
 unfolding declaration_at
 declaration_sound n b s context taken ts h x e =
-    let p = bind_ok (fresh_name taken (tail_of ts)) (λ n. code_at b n.1 >>= λ f. Ok (trees.declared_function n.0 f.0.parameters f.0.body, f.1)) x e in
+    let p = bind_ok (fresh_name taken (tail_of ts))
+    (λ n. code_at b n.1 >>= λ f. Ok (trees.declared_function n.0 f.0.parameters f.0.body, f.1)) x e in
     let q = bind_ok (code_at b p.0.1) (λ f. Ok (trees.declared_function p.0.0 f.0.parameters f.0.body, f.1)) x p.2 in
     let t = fresh_sound taken (tail_of ts) p.0 p.1 in
     let u = code_sound n b s p.0.1 q.0 q.1 in
     let body = flats.in_braces (flat_statements q.0.0.body) in
     let m = parts (flat_parameters q.0.0.parameters) body p.0.1 q.0.1 u.marks in
-    subst (λ (x : Statement × List Token). TakesItem context taken (suc n) ts x.0 x.1) (ok_is (trees.declared_function p.0.0 q.0.0.parameters q.0.0.body, q.0.1) x q.2) (record {
-      marks = (first_function (head_of ts) h, joins (token (identifier p.0.0) ∷ []) (flat_parameters q.0.0.parameters ++ (body ++ [])) (tail_of ts) p.0.1 q.0.1 t.0 (joins (flat_parameters q.0.0.parameters) (body ++ []) p.0.1 m.0 q.0.1 m.1 (before_nothing body m.0 q.0.1 m.2)));
+    subst (λ (x : Statement × List Token). TakesItem context taken (suc n) ts x.0 x.1)
+    (ok_is (trees.declared_function p.0.0 q.0.0.parameters q.0.0.body, q.0.1) x q.2) (record {
+      marks = (
+        first_function (head_of ts) h,
+        joins (token (identifier p.0.0) ∷ []) (flat_parameters q.0.0.parameters ++ (body ++ [])) (tail_of ts)
+            p.0.1 q.0.1 t.0
+            (joins (flat_parameters q.0.0.parameters) (body ++ []) p.0.1 m.0 q.0.1 m.1
+            (before_nothing body m.0 q.0.1 m.2)),
+      );
       well = (u.differ, u.well);
       fresh = (t.1, tt);
       no_else = λ i. absurd cc;
@@ -632,9 +771,11 @@ item_by_sound : (n : ℕ) (b : Below)
     → (x : Statement × List Token)
     → item_by b context taken f ts ≡ Ok x
     → TakesItem context taken (suc n) ts x.0 x.1
-item_by_sound n b s context taken ts (classes.a_lexical constant) h x e = lexical_sound n b s context constant taken ts h x e
+item_by_sound n b s context taken ts (classes.a_lexical constant) h x e =
+    lexical_sound n b s context constant taken ts h x e
 item_by_sound n b s context taken ts classes.a_function h x e = declaration_sound n b s context taken ts h x e
-item_by_sound n b s context taken ts _ h x e = as_item context taken (suc n) ts x.0 x.1 (statement_sound n b s context ts x e)
+item_by_sound n b s context taken ts _ h x e =
+    as_item context taken (suc n) ts x.0 x.1 (statement_sound n b s context ts x e)
 
 -- the field item of what reads one more below
 pub list_item_sound : (n : ℕ) (b : Below)
@@ -654,8 +795,10 @@ pub counted_block_sound : (n : ℕ) (b : Below)
     → braces b context taken ts ≡ Ok x
     → TakesBlock context taken (suc n) ts x.0 x.1 × (suc (height_of_statements x.0) ≤ suc n)
 counted_block_sound n b s context taken ts x e =
-    let t = braces_sound n b s context taken ts x e in
-    (record { marks = t.marks; well = t.well; fresh = t.fresh; height = omega (arith, t.height) }, omega (arith, t.height))
+    let t = braces_sound n b s context taken ts x e in (
+      record { marks = t.marks; well = t.well; fresh = t.fresh; height = omega (arith, t.height) },
+      omega (arith, t.height),
+    )
 
 -- the field function of what reads one more below
 pub counted_function_sound : (n : ℕ) (b : Below)
@@ -664,5 +807,7 @@ pub counted_function_sound : (n : ℕ) (b : Below)
     → code_at b ts ≡ Ok x
     → TakesCode (suc n) ts x.0 x.1 × (suc (height_of_statements x.0.body) ≤ suc n)
 counted_function_sound n b s ts x e =
-    let t = code_sound n b s ts x e in
-    (record { marks = t.marks; differ = t.differ; well = t.well; height = omega (arith, t.height) }, omega (arith, t.height))
+    let t = code_sound n b s ts x e in (
+      record { marks = t.marks; differ = t.differ; well = t.well; height = omega (arith, t.height) },
+      omega (arith, t.height),
+    )

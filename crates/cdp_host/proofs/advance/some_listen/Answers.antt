@@ -9,7 +9,10 @@ loop-seat-init c = λ a. refl
 pub loop-seat-preserved : goal.loop-seat-preserved
 loop-seat-preserved c = λ a.
     let passed = ap (may_stop_seat a) (sym c.seat-item.is) ∙ c.listens.ensures c.if-listens.false a in
-    none-more (may_stop_seat a) c.loop-seat.seat-index c.args.seats.now c.seat-item.result c.loop-seat-test.true (c.loop-seat.invariant a) passed
+    none-more (may_stop_seat a) c.loop-seat.seat-index c.args.seats.now c.seat-item.result c.loop-seat-test.true
+    (c.loop-seat.invariant a) passed
 
 pub returns : goal.returns
-returns c = λ is a. none-done (may_stop_seat a) c.loop-seat.seat-index c.args.seats.now c.loop-seat-test.false (c.loop-seat.invariant a)
+returns c =
+    λ is a. none-done (may_stop_seat a) c.loop-seat.seat-index c.args.seats.now c.loop-seat-test.false
+    (c.loop-seat.invariant a)

@@ -9,6 +9,8 @@ use Rattle.cdp_host.proofs.seats.resume_seat.Goals as goal
 
 pub returns-in_default-resumed : goal.returns-in_default-resumed
 returns-in_default-resumed c = λ scripts.
-    let fit : fits c.in-Attached.session.outbox ≡ true = subst (Fits (protocol scripts)) c.in-Attached.is (c.requires scripts) in
+    let fit : fits c.in-Attached.session.outbox ≡ true = subst (Fits (protocol scripts)) c.in-Attached.is
+    (c.requires scripts) in
     subst (λ seat. HearsOn (protocol scripts) seat (Attached c.resumed.new.self)) (sym c.in-Attached.is)
-    (hears-told scripts c.in-Attached.session c.resumed.new.self c.in_default-resumed.ensures.session (c.in_default-resumed.ensures.fits fit))
+    (hears-told scripts c.in-Attached.session c.resumed.new.self c.in_default-resumed.ensures.session
+    (c.in_default-resumed.ensures.fits fit))

@@ -6,4 +6,5 @@ use Rattle.cdp_host.specs.Protocols.{protocol}
 use Rattle.cdp_host.proofs.seats.some_enabled.Given as goal
 
 abbrev pub invariant-loop-seat : goal.invariant-loop-seat
-invariant-loop-seat l = (scripts : List Script) → some (is_enabled_seat (protocol scripts)) (take l.seat-index l.seats) ≡ false
+invariant-loop-seat l =
+    (scripts : List Script) → some (is_enabled_seat (protocol scripts)) (take l.seat-index l.seats) ≡ false

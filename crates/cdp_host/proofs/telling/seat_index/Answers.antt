@@ -7,4 +7,5 @@ returns-then-index-seats-clause-some c =
     placed c.args.s c.in_ok-index.index c.args.seats.now at.0 at.1 c.if-index-seats.true
 
 pub returns-else-index-seats-clause-none : goal.returns-else-index-seats-clause-none
-returns-else-index-seats-clause-none c = unplaced c.args.s c.in_ok-index.index c.args.seats.now (c.in_ok-index.ensures).1 c.if-index-seats.false
+returns-else-index-seats-clause-none c =
+    unplaced c.args.s c.in_ok-index.index c.args.seats.now (c.in_ok-index.ensures).1 c.if-index-seats.false

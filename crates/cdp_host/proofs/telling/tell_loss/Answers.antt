@@ -7,4 +7,5 @@ use Rattle.cdp_host.proofs.telling.tell_loss.Goals as goal
 pub returns-in-None-clause-seats : goal.returns-in-None-clause-seats
 returns-in-None-clause-seats c =
     let none = c.in-None.ensures.none in
-    sym (put-same c.args.s (owner_told (seat_of c.args.s c.args.seats.now)) c.args.seats.now (none ∙ ap owner_told (sym none)))
+    sym (put-same c.args.s (owner_told (seat_of c.args.s c.args.seats.now)) c.args.seats.now
+    (none ∙ ap owner_told (sym none)))

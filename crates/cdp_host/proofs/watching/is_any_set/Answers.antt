@@ -9,7 +9,8 @@ pub returns-then-flag : goal.returns-then-flag
 returns-then-flag c = sym (set-found c.loop-flag.flag-index c.args.flags.now false c.loop-flag-test.true c.if-flag.true)
 
 pub loop-flag-preserved : goal.loop-flag-preserved
-loop-flag-preserved c = unset-more c.loop-flag.flag-index c.args.flags.now false c.loop-flag-test.true c.loop-flag.invariant c.if-flag.false
+loop-flag-preserved c =
+    unset-more c.loop-flag.flag-index c.args.flags.now false c.loop-flag-test.true c.loop-flag.invariant c.if-flag.false
 
 pub returns : goal.returns
 returns c = sym (unset-done c.loop-flag.flag-index c.args.flags.now c.loop-flag-test.false c.loop-flag.invariant)

@@ -8,19 +8,25 @@ use Rattle.cdp_host.proofs.watching.let_watch.Goals as goal
 
 pub stop_all-requires-clause-fit : goal.stop_all-requires-clause-fit
 stop_all-requires-clause-fit g c =
-    watched-fit (protocol c.args.situation.now.scripts.now) c.args.number c.args.moment (step_seen g.P.Program.standing c.args.situation.now c.args.step.now)
+    watched-fit (protocol c.args.situation.now.scripts.now) c.args.number c.args.moment
+    (step_seen g.P.Program.standing c.args.situation.now c.args.step.now)
     c.args.seats.now c.watch_all-stops.new.seats c.watch_all-stops.new.named c.watch_all-stops.ensures.watched
 
 pub returns-then-stops-clause-behind : goal.returns-then-stops-clause-behind
 returns-then-stops-clause-behind g c =
     let P = protocol c.args.situation.now.scripts.now in
     let step = step_seen g.P.Program.standing c.args.situation.now c.args.step.now in
-    subst (λ stops. Over (Behind P stops c.args.number c.args.moment step) c.args.seats.now c.stop_all.new.seats c.watch_all-stops.new.named) (sym c.if-stops.true)
+    subst (λ stops. Over (Behind P stops c.args.number c.args.moment step)
+    c.args.seats.now c.stop_all.new.seats c.watch_all-stops.new.named)
+    (sym c.if-stops.true)
     (behind-stopped P c.args.number c.args.moment step c.args.seats.now c.watch_all-stops.new.seats c.stop_all.new.seats c.watch_all-stops.new.named c.watch_all-stops.ensures.watched c.stop_all.ensures)
 
 pub returns-else-stops-clause-behind : goal.returns-else-stops-clause-behind
 returns-else-stops-clause-behind g c =
     let P = protocol c.args.situation.now.scripts.now in
     let step = step_seen g.P.Program.standing c.args.situation.now c.args.step.now in
-    subst (λ stops. Over (Behind P stops c.args.number c.args.moment step) c.args.seats.now c.watch_all-stops.new.seats c.watch_all-stops.new.named) (sym c.if-stops.false)
-    (behind-passed P c.args.number c.args.moment step c.args.seats.now c.watch_all-stops.new.seats c.watch_all-stops.new.named c.watch_all-stops.ensures.watched (sym c.watch_all-stops.ensures.any ∙ c.if-stops.false))
+    subst (λ stops. Over (Behind P stops c.args.number c.args.moment step)
+    c.args.seats.now c.watch_all-stops.new.seats c.watch_all-stops.new.named)
+    (sym c.if-stops.false)
+    (behind-passed P c.args.number c.args.moment step c.args.seats.now c.watch_all-stops.new.seats c.watch_all-stops.new.named c.watch_all-stops.ensures.watched
+    (sym c.watch_all-stops.ensures.any ∙ c.if-stops.false))

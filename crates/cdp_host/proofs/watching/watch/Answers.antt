@@ -28,14 +28,17 @@ returns-then-not-named-clause-session g c =
     let s = seen g.P.Program.standing c.args.situation.now in
     let step = step_seen g.P.Program.standing c.args.situation.now c.args.step.now in
     let named = names-told s c.args.moment step c.args.session.now c.tell_step.new.session c.in_ok-named.named false c.in_ok-tell_step.ensures.session c.in_ok-named.ensures.named c.if-not-named.true in
-    c.in_ok-named.ensures.kept ∙ c.in_ok-tell_step.ensures.session ∙ behind-passed s c.args.number c.args.moment step c.args.session.now named
+    c.in_ok-named.ensures.kept
+    ∙ c.in_ok-tell_step.ensures.session
+    ∙ behind-passed s c.args.number c.args.moment step c.args.session.now named
 
 pub returns-then-not-named-clause-fits : goal.returns-then-not-named-clause-fits
 returns-then-not-named-clause-fits g c = λ fit.
     let s = seen g.P.Program.standing c.args.situation.now in
     let step = step_seen g.P.Program.standing c.args.situation.now c.args.step.now in
     let named = names-told s c.args.moment step c.args.session.now c.tell_step.new.session c.in_ok-named.named false c.in_ok-tell_step.ensures.session c.in_ok-named.ensures.named c.if-not-named.true in
-    ap (λ y. fits y.outbox) (sym (behind-passed s c.args.number c.args.moment step c.args.session.now named)) ∙ c.in_ok-tell_step.ensures.fits fit
+    ap (λ y. fits y.outbox) (sym (behind-passed s c.args.number c.args.moment step c.args.session.now named))
+    ∙ c.in_ok-tell_step.ensures.fits fit
 
 -- ---- it names one
 
@@ -45,8 +48,12 @@ returns-in_err-stopped-clause-over g c = λ is.
     let step = step_seen g.P.Program.standing c.args.situation.now c.args.step.now in
     let named = names-told s c.args.moment step c.args.session.now c.tell_step.new.session c.in_ok-named.named true c.in_ok-tell_step.ensures.session c.in_ok-named.ensures.named c.if-not-named.false in
     let there = c.in_ok-named.ensures.kept ∙ c.in_ok-tell_step.ensures.session in
-    let over : fits (stopped s c.args.number c.args.step.now.arrival c.names.new.session).outbox ≡ false = search rules in
-    ap (λ y. fits y.outbox) (sym (ap (stopped s c.args.number c.args.step.now.arrival) there ∙ behind-named s c.args.number c.args.moment step c.args.session.now named)) ∙ over
+    let over : fits
+    (stopped s c.args.number c.args.step.now.arrival c.names.new.session).outbox ≡ false = search rules in
+    ap (λ y. fits y.outbox)
+    (sym (ap (stopped s c.args.number c.args.step.now.arrival) there
+    ∙ behind-named s c.args.number c.args.moment step c.args.session.now named))
+    ∙ over
 
 pub returns-clause-named : goal.returns-clause-named
 returns-clause-named g c =
@@ -61,7 +68,9 @@ returns-clause-session g c =
     let step = step_seen g.P.Program.standing c.args.situation.now c.args.step.now in
     let named = names-told s c.args.moment step c.args.session.now c.tell_step.new.session c.in_ok-named.named true c.in_ok-tell_step.ensures.session c.in_ok-named.ensures.named c.if-not-named.false in
     let there = c.in_ok-named.ensures.kept ∙ c.in_ok-tell_step.ensures.session in
-    c.in_ok-stopped.ensures.session ∙ ap (stopped s c.args.number c.args.step.now.arrival) there ∙ behind-named s c.args.number c.args.moment step c.args.session.now named
+    c.in_ok-stopped.ensures.session
+    ∙ ap (stopped s c.args.number c.args.step.now.arrival) there
+    ∙ behind-named s c.args.number c.args.moment step c.args.session.now named
 
 pub returns-clause-fits : goal.returns-clause-fits
 returns-clause-fits g c = λ fit.
@@ -70,5 +79,7 @@ returns-clause-fits g c = λ fit.
     let named = names-told s c.args.moment step c.args.session.now c.tell_step.new.session c.in_ok-named.named true c.in_ok-tell_step.ensures.session c.in_ok-named.ensures.named c.if-not-named.false in
     let there = c.in_ok-named.ensures.kept ∙ c.in_ok-tell_step.ensures.session in
     let fit_there = ap (λ y. fits y.outbox) there ∙ c.in_ok-tell_step.ensures.fits fit in
-    ap (λ y. fits y.outbox) (sym (ap (stopped s c.args.number c.args.step.now.arrival) there ∙ behind-named s c.args.number c.args.moment step c.args.session.now named))
+    ap (λ y. fits y.outbox)
+    (sym (ap (stopped s c.args.number c.args.step.now.arrival) there
+    ∙ behind-named s c.args.number c.args.moment step c.args.session.now named))
     ∙ c.in_ok-stopped.ensures.fits fit_there

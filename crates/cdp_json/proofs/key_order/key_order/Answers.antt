@@ -10,24 +10,34 @@ use Rattle.cdp_json.proofs.key_order.key_order.Goals as goal
 pub returns-then-ascends-clause-order : goal.returns-then-ascends-clause-order
 returns-then-ascends-clause-order c =
     let keys = map (λ m. m.key) c.args.members.now in
-    let order = order-ascending keys (sym c.ascends.ensures ∙ c.if-ascends.true) ∙ ap (range_with_len 0) (length-map c.args.members.now (λ m. m.key)) in
+    let order = order-ascending keys (sym c.ascends.ensures ∙ c.if-ascends.true)
+    ∙ ap (range_with_len 0) (length-map c.args.members.now (λ m. m.key)) in
     rw order c.places_to.ensures
 
 pub returns-then-ascends-clause-within : goal.returns-then-ascends-clause-within
 returns-then-ascends-clause-within c =
-    IfOk-weaker c.places_to.result (λ places. places.items ≡ range_with_len 0 (length c.args.members.now)) (λ places. All (λ place. place < length c.args.members.now) places.items)
-    (λ places is. subst (λ ps. All (λ place. place < length c.args.members.now) ps) (sym is) (range-below 0 (length c.args.members.now) _ (omega arith))) c.places_to.ensures
+    IfOk-weaker c.places_to.result (λ places. places.items ≡ range_with_len 0 (length c.args.members.now))
+    (λ places. All (λ place. place < length c.args.members.now) places.items)
+    (λ places is. subst (λ ps. All (λ place. place < length c.args.members.now) ps) (sym is)
+    (range-below 0 (length c.args.members.now) _ (omega arith)))
+    c.places_to.ensures
 
 pub loop-place-preserved : goal.loop-place-preserved
 loop-place-preserved c =
     let keys = map (λ m. m.key) c.args.members.now in
     let here : Bor (List ℕ) × ℕ = (c.as_slice.result, c.loop-place.place) in
     let lt : c.loop-place.place < length c.args.members.now = omega arith in
-    let key : c.as_slice.result.now ≡ key_at keys c.loop-place.place = c.as_slice.ensures ∙ ap (λ m. m.key) c.index-members-place.is ∙ sym (get_or-map (λ m. m.key) c.args.members.now c.loop-place.place _ [] lt) in
+    let key : c.as_slice.result.now ≡ key_at keys c.loop-place.place = c.as_slice.ensures
+    ∙ ap (λ m. m.key) c.index-members-place.is
+    ∙ sym (get_or-map (λ m. m.key) c.args.members.now c.loop-place.place _ [] lt) in
     let old = c.loop-place.invariant in
     let now : c.insert.new.self.keys ≡ _ = c.in_ok-insert.ensures.keys in (
-      ap (map (λ k. k.1)) now ∙ insert_place keys here c.loop-place.ordered.keys key old.1 ∙ ap (insert_by (key_at keys) c.loop-place.place) old.0 ∙ sym (in_order-place (key_at keys) c.loop-place.place),
-      subst (Placed keys (c.loop-place.place + 1)) (sym now) (still_placed keys here c.loop-place.ordered.keys key old.1),
+      ap (map (λ k. k.1)) now
+          ∙ insert_place keys here c.loop-place.ordered.keys key old.1
+          ∙ ap (insert_by (key_at keys) c.loop-place.place) old.0
+          ∙ sym (in_order-place (key_at keys) c.loop-place.place),
+      subst (Placed keys (c.loop-place.place + 1)) (sym now)
+          (still_placed keys here c.loop-place.ordered.keys key old.1),
     )
 
 pub loop-entry-preserved : goal.loop-entry-preserved
@@ -46,6 +56,9 @@ returns-clause-within c =
     let ended : c.loop-entry.entry-iterator ≡ [] = search (rules, c.in-None.ensures.steps, c.in-None.ensures.goes) in
     let all : c.loop-place.ordered.keys ≡ last.0 = search (rules, began, ended, last.1, append-nil) in
     let here : c.loop-place.place ≤ length c.args.members.now = omega arith in
-    let below = places_below (map (λ m. m.key) c.args.members.now) c.loop-place.place c.loop-place.ordered.keys c.loop-place.invariant.1 in
-    let listed : c.loop-entry.places.items ≡ map (λ k. k.1) c.loop-place.ordered.keys = last.2 ∙ ap (map (λ k. k.1)) (sym all) in
-    subst (λ ps. All (λ place. place < length c.args.members.now) ps) (sym listed) (λ k d lt. omega (arith, below k d lt, here))
+    let below = places_below (map (λ m. m.key) c.args.members.now)
+    c.loop-place.place c.loop-place.ordered.keys c.loop-place.invariant.1 in
+    let listed : c.loop-entry.places.items ≡ map (λ k. k.1) c.loop-place.ordered.keys = last.2
+    ∙ ap (map (λ k. k.1)) (sym all) in
+    subst (λ ps. All (λ place. place < length c.args.members.now) ps) (sym listed)
+    (λ k d lt. omega (arith, below k d lt, here))

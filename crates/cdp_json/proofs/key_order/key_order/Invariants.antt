@@ -11,4 +11,6 @@ invariant-loop-place l =
 
 abbrev pub invariant-loop-entry : goal.invariant-loop-entry
 invariant-loop-entry l =
-    (done : List (Bor (List ℕ) × ℕ)) × (l.initial.entry-iterator ≡ done ++ l.entry-iterator) × (l.places.items ≡ map (λ k. k.1) done)
+    (done : List (Bor (List ℕ) × ℕ))
+    × (l.initial.entry-iterator ≡ done ++ l.entry-iterator)
+    × (l.places.items ≡ map (λ k. k.1) done)

@@ -10,7 +10,9 @@ pub returns-in-Ok : goal.returns-in-Ok
 returns-in-Ok c =
     let ex = c.in-Ok.expression in
     record {
-      tree = subst (λ t. expression_of t ≡ Some (expression_view ex.tree)) c.as_slice.ensures (expression_some c.as_slice.result.now (expression_view ex.tree) c.in-Ok.ensures.found);
+      tree =
+          subst (λ t. expression_of t ≡ Some (expression_view ex.tree)) c.as_slice.ensures
+          (expression_some c.as_slice.result.now (expression_view ex.tree) c.in-Ok.ensures.found);
       kept = c.in-Ok.ensures.kept ∙ c.as_slice.ensures;
       numbered = c.in-Ok.ensures.numbered;
     }
@@ -18,5 +20,8 @@ returns-in-Ok c =
 pub returns-else-lacks_memory : goal.returns-else-lacks_memory
 returns-else-lacks_memory c =
     let f = c.in-Err.fault in
-    let none = subst (λ t. UnlessMemory (expression_of t ≡ None) f) c.as_slice.ensures (expression_none {A = Expression} c.as_slice.result.now (λ e. expression_view e.tree) (Err f) c.in-Err.ensures.only) in
+    let none = subst (λ t. UnlessMemory (expression_of t ≡ None) f) c.as_slice.ensures
+    (expression_none {A = Expression} c.as_slice.result.now (λ e. expression_view e.tree) (Err f)
+    c.in-Err.ensures.only)
+    in
     unless_lacking (expression_of c.args.text.now ≡ None) f none (sym c.lacks_memory.ensures ∙ c.if-lacks_memory.false)

@@ -11,4 +11,6 @@ abbrev pub invariant-loop-breakpoint : goal.invariant-loop-breakpoint
 invariant-loop-breakpoint g l =
     let s = (seen g.P.Program.standing l.fn.situation).standing in
     let w = unwrap_or l.fn.workspace no_workspace in
-    Collects s w (unwrap_or l.workspace no_workspace) (map id_of (filter (is_met s w) (hits_at l.fn.place l.fn.breakpoints))) l.ids.items (hits_in l.breakpoint-iterator.place l.breakpoint-iterator.left.now)
+    Collects s w (unwrap_or l.workspace no_workspace)
+    (map id_of (filter (is_met s w) (hits_at l.fn.place l.fn.breakpoints))) l.ids.items
+    (hits_in l.breakpoint-iterator.place l.breakpoint-iterator.left.now)

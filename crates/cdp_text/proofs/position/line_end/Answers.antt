@@ -8,4 +8,5 @@ returns-then-is_line_terminator c =
 
 pub returns : goal.returns
 returns c =
-    line_end_is c.args.u.now c.args.start _ (omega arith) (omega arith) (λ k from below. c.loop-i.invariant k from (omega arith)) (λ lt. absurd (omega arith))
+    line_end_is c.args.u.now c.args.start _ (omega arith) (omega arith)
+    (λ k from below. c.loop-i.invariant k from (omega arith)) (λ lt. absurd (omega arith))

@@ -12,7 +12,8 @@ use Rattle.cdp_text.proofs.units.units_of.Goals as goal
 form : (c : goal.In-None) → c.loop-c.items.items ≡ utf16_of c.args.s.now
 unfolding utf16_of
 form c =
-    let all = YieldsList-end (YieldsList-from_chars c.args.s.now c.utf8.s cc) c.loop-c.yielded _ c.loop-c.yielded_by _ _ c.in-None.is c.next.ensures.steps in
+    let all = YieldsList-end (YieldsList-from_chars c.args.s.now c.utf8.s cc)
+    c.loop-c.yielded _ c.loop-c.yielded_by _ _ c.in-None.is c.next.ensures.steps in
     c.loop-c.invariant ∙ ap (flat_map encode_utf16) (sym (map-id c.loop-c.yielded) ∙ all.0)
 
 pub returns-clause-form : goal.returns-clause-form

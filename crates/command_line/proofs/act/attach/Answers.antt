@@ -6,5 +6,7 @@ use Rattle.command_line.proofs.act.attach.Goals as goal
 pub returns-clause-acts : goal.returns-clause-acts
 returns-clause-acts c =
     let told = c.in_ok-session.ensures in
-    let line : map string_bytes c.in_ok-vec.field-0.items ≡ output_text (Attached c.in_ok-session.session) ∷ [] = search rules in
-    attach-done c.args.host.now c.attach.new.self c.in_ok-session.session (map string_bytes c.in_ok-vec.field-0.items) c.requires told.number told.leaves told.stands line
+    let line : map string_bytes c.in_ok-vec.field-0.items ≡ output_text (Attached c.in_ok-session.session)
+    ∷ [] = search rules in
+    attach-done c.args.host.now c.attach.new.self c.in_ok-session.session (map string_bytes c.in_ok-vec.field-0.items)
+    c.requires told.number told.leaves told.stands line

@@ -8,7 +8,8 @@ returns-in_err-put-clause-err g c =
     let line = c.split_at.result.0.now in
     let after = c.split_at.result.1.now in
     OnErr-GainsLess-behind c.from_residual.result _ _ _ done line after _ taken
-    (is ∙ ap (λ rest. done ++ rest) c.split_at.ensures.by_index.0 ∙ sym (append_assoc done line after)) c.in_err-put.ensures.err
+    (is ∙ ap (λ rest. done ++ rest) c.split_at.ensures.by_index.0 ∙ sym (append_assoc done line after))
+    c.in_err-put.ensures.err
 
 pub loop-rest-preserved : goal.loop-rest-preserved
 loop-rest-preserved g c =

@@ -6,5 +6,6 @@ pub returns-in-Refused-clause-fault : goal.returns-in-Refused-clause-fault
 returns-in-Refused-clause-fault c = (
   c.replay.new.out.bytes.items,
   drilled c.args.number c.args.script _ _ _ _ _ (Some c.in-Refused.line) c.in-Ok-vec.ensures.items c.new.ensures.items
-      (c.as_bytes-lines.ensures.value ∙ c.in-Ok.ensures) c.new-transcript.ensures (c.in-Refused.ensures.refused c.in-Refused.line refl),
+      (c.as_bytes-lines.ensures.value ∙ c.in-Ok.ensures) c.new-transcript.ensures
+      (c.in-Refused.ensures.refused c.in-Refused.line refl),
 )

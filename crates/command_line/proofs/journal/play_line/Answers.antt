@@ -11,7 +11,9 @@ returns-in_err-put_lines-clause-part g c =
     let reads = rw c.in-Ok-Some.field-0-is at c.in-Ok-Some.ensures.value in
     let acts = rw c.in-Ok-Some-act.field-0-is at c.in-Ok-Some-act.ensures.acts in
     on-err c.from_residual.result _ λ s i w h stood.
-    part-as _ _ _ _ (offers c.args.text.now (line_held c.in-Ok-Some.line) (map string_bytes c.in-Ok-Some-act.lines.items) c.args.host.now c.act.new.host reads acts s i w h stood
+    part-as _ _ _ _
+    (offers c.args.text.now (line_held c.in-Ok-Some.line) (map string_bytes c.in-Ok-Some-act.lines.items)
+    c.args.host.now c.act.new.host reads acts s i w h stood
     ∙ ap (λ xs. joined (map string_bytes xs)) (sym c.deref.ensures.value)) c.in_err-put_lines.ensures.err
 
 pub returns-in_err-put_lines-clause-less : goal.returns-in_err-put_lines-clause-less
@@ -19,7 +21,9 @@ returns-in_err-put_lines-clause-less g c is =
     let reads = rw c.in-Ok-Some.field-0-is at c.in-Ok-Some.ensures.value in
     let acts = rw c.in-Ok-Some-act.field-0-is at c.in-Ok-Some-act.ensures.acts in
     λ s i w h stood.
-    less-as _ _ _ _ (offers c.args.text.now (line_held c.in-Ok-Some.line) (map string_bytes c.in-Ok-Some-act.lines.items) c.args.host.now c.act.new.host reads acts s i w h stood
+    less-as _ _ _ _
+    (offers c.args.text.now (line_held c.in-Ok-Some.line) (map string_bytes c.in-Ok-Some-act.lines.items)
+    c.args.host.now c.act.new.host reads acts s i w h stood
     ∙ ap (λ xs. joined (map string_bytes xs)) (sym c.deref.ensures.value)) c.in_err-put_lines.ensures.err
 
 pub returns-in-Ok-None-act-clause-refused : goal.returns-in-Ok-None-act-clause-refused
@@ -32,5 +36,7 @@ pub returns-clause-ok : goal.returns-clause-ok
 returns-clause-ok g c =
     let reads = rw c.in-Ok-Some.field-0-is at c.in-Ok-Some.ensures.value in
     let acts = rw c.in-Ok-Some-act.field-0-is at c.in-Ok-Some-act.ensures.acts in
-    let written = c.in_ok-put_lines.ensures.ok ∙ ap (λ xs. gains (g.O.Sink.content c.args.out.now) (joined (map string_bytes xs))) c.deref.ensures.value in
-    plays c.args.text.now (line_held c.in-Ok-Some.line) (map string_bytes c.in-Ok-Some-act.lines.items) c.args.host.now c.act.new.host _ _ reads acts written
+    let written = c.in_ok-put_lines.ensures.ok
+    ∙ ap (λ xs. gains (g.O.Sink.content c.args.out.now) (joined (map string_bytes xs))) c.deref.ensures.value in
+    plays c.args.text.now (line_held c.in-Ok-Some.line) (map string_bytes c.in-Ok-Some-act.lines.items)
+    c.args.host.now c.act.new.host _ _ reads acts written

@@ -11,7 +11,8 @@ invariant-loop-line g l = record {
   number : l.number + length l.rest ≤ length l.journal + 1;
   works : l.host.broken ≡ false;
   behind : (scripts : List Script) (input : List (List ℕ)) (wait : Bool) → Stands scripts input wait l.fn.host []
-      → IsBehind scripts input wait (lines_of l.journal) (lines_of l.rest) l.number l.host (g.O.Sink.content l.fn.out) (g.O.Sink.content l.out);
+      → IsBehind scripts input wait (lines_of l.journal) (lines_of l.rest) l.number l.host (g.O.Sink.content l.fn.out)
+      (g.O.Sink.content l.out);
   quiet : g.O.Sink.faults l.out ≡ g.O.Sink.faults l.fn.out;
 }
 

@@ -6,6 +6,7 @@ use Rattle.command_line.proofs.journal.put_lines.Given as goal
 -- the lines so far are taken, and no write failed
 abbrev pub invariant-loop-line : goal.invariant-loop-line
 invariant-loop-line g l = record {
-  taken : g.O.Sink.content l.out ≡ gains (g.O.Sink.content l.fn.out) (joined (map string_bytes (take l.line-index l.lines)));
+  taken : g.O.Sink.content l.out ≡ gains (g.O.Sink.content l.fn.out)
+      (joined (map string_bytes (take l.line-index l.lines)));
   quiet : g.O.Sink.faults l.out ≡ g.O.Sink.faults l.fn.out;
 }

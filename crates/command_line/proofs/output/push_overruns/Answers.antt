@@ -7,5 +7,7 @@ use Rattle.command_line.proofs.output.push_overruns.Goals as goal
 pub loop-lost-preserved : goal.loop-lost-preserved
 loop-lost-preserved c =
     let nobody : SessionLost = record { session = 0; loss = Overrun } in
-    overruns-more c.args.losses.now c.loop-lost.lost-index nobody (map string_bytes c.args.lines.now.items) (map string_bytes c.loop-lost.lines.items)
-    (map string_bytes c.push_overrun.new.lines.items) c.loop-lost-test.true c.loop-lost.invariant c.in_ok-push_overrun.ensures
+    overruns-more c.args.losses.now c.loop-lost.lost-index nobody (map string_bytes c.args.lines.now.items)
+    (map string_bytes c.loop-lost.lines.items)
+    (map string_bytes c.push_overrun.new.lines.items)
+    c.loop-lost-test.true c.loop-lost.invariant c.in_ok-push_overrun.ensures

@@ -16,10 +16,14 @@ returns-in-Some-Run-clause-run_exact g c =
 
 pub returns-in-Some-Replay-clause-replay_decided : goal.returns-in-Some-Replay-clause-replay_decided
 returns-in-Some-Replay-clause-replay_decided g c =
-    replays.taken_given _ (request_held c.in-Some-Replay.request) _ c.replay.result _ _ _ _ _ _ c.end-in-Some-Replay.result
-    (sym (rw c.in-Some-Replay.field-0-is at c.in-Some-Replay.ensures)) c.end-in-Some-Replay.ensures.status c.replay.ensures.cause
+    replays.taken_given _ (request_held c.in-Some-Replay.request)
+    _ c.replay.result _ _ _ _ _ _ c.end-in-Some-Replay.result
+    (sym (rw c.in-Some-Replay.field-0-is at c.in-Some-Replay.ensures))
+    c.end-in-Some-Replay.ensures.status c.replay.ensures.cause
 
 pub returns-in-Some-Replay-clause-replay_exact : goal.returns-in-Some-Replay-clause-replay_exact
 returns-in-Some-Replay-clause-replay_exact g c =
-    replays.left_given _ (request_held c.in-Some-Replay.request) _ c.replay.result _ _ _ _ _ _ c.end-in-Some-Replay.result
-    (sym (rw c.in-Some-Replay.field-0-is at c.in-Some-Replay.ensures)) c.end-in-Some-Replay.ensures.status c.replay.ensures.cause
+    replays.left_given _ (request_held c.in-Some-Replay.request)
+    _ c.replay.result _ _ _ _ _ _ c.end-in-Some-Replay.result
+    (sym (rw c.in-Some-Replay.field-0-is at c.in-Some-Replay.ensures))
+    c.end-in-Some-Replay.ensures.status c.replay.ensures.cause

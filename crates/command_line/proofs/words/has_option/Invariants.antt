@@ -5,4 +5,5 @@ use Rattle.command_line.proofs.words.has_option.Given as goal
 
 -- none of the words so far begins like an option
 abbrev pub invariant-loop-word : goal.invariant-loop-word
-invariant-loop-word l = list_any is_option (map string_bytes (drop l.word-index l.words)) ≡ list_any is_option (map string_bytes l.words)
+invariant-loop-word l =
+    list_any is_option (map string_bytes (drop l.word-index l.words)) ≡ list_any is_option (map string_bytes l.words)

@@ -11,5 +11,6 @@ abbrev pub invariant-loop-place : goal.invariant-loop-place
 invariant-loop-place l = record {
   begins : l.node.first ≤ l.place;
   finds : (ts : List (List ℕ)) (x : ℕ)
-      → code_found ts l.table l.index.items x ≡ first_code (function_in_all x (trees ts l.table l.place l.node.end)) (code_found ts l.table l.fn.index.items x);
+      → code_found ts l.table l.index.items x ≡ first_code (function_in_all x (trees ts l.table l.place l.node.end))
+      (code_found ts l.table l.fn.index.items x);
 }

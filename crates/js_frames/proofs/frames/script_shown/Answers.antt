@@ -16,4 +16,5 @@ returns-then-d-depth c = λ ts f h.
 pub returns : goal.returns
 returns c = λ ts f h.
     let a = active (term_at ts c.args.table.now c.args.stack.now c.args.point) in
-    other-shown a c.args.context.now.frames c.args.d f (λ e. c.if-d-depth.false (e ∙ sym (depth-count c.depth.result c.args.context.now c.depth.ensures))) h
+    other-shown a c.args.context.now.frames c.args.d f
+    (λ e. c.if-d-depth.false (e ∙ sym (depth-count c.depth.result c.args.context.now c.depth.ensures))) h

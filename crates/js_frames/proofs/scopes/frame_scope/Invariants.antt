@@ -4,4 +4,5 @@ use Rattle.js_frames.proofs.scopes.frame_scope.Given as goal
 
 -- so many more calls are left behind these tasks
 abbrev pub invariant-loop-i : goal.invariant-loop-i
-invariant-loop-i l = slice_get (call_scopes l.fn.root l.stack) (l.fn.d - 1) ≡ slice_get (call_scopes l.fn.root (drop l.i l.stack)) l.left
+invariant-loop-i l =
+    slice_get (call_scopes l.fn.root l.stack) (l.fn.d - 1) ≡ slice_get (call_scopes l.fn.root (drop l.i l.stack)) l.left

@@ -6,7 +6,8 @@ use Rattle.js_frames.proofs.scopes.scope_at.Goals as goal
 pub returns-in-Some : goal.returns-in-Some
 returns-in-Some c =
     let ws = c.args.stack.now in
-    scope-some c.args.root ws c.args.i (wide c.in-Some.task (values_of (drop c.args.i ws)) (extra_of (drop c.args.i ws))) c.in-Some.ensures.some
+    scope-some c.args.root ws c.args.i
+    (wide c.in-Some.task (values_of (drop c.args.i ws)) (extra_of (drop c.args.i ws))) c.in-Some.ensures.some
 
 pub returns-in-None : goal.returns-in-None
 returns-in-None c = scope-none c.args.root c.args.stack.now c.args.i c.in-None.ensures.none

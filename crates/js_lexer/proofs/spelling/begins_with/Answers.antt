@@ -9,5 +9,6 @@ nothing_left (c ∷ cs) (u ∷ us) h z = absurd (omega arith)
 
 pub returns-in_default : goal.returns-in_default
 returns-in_default c =
-    let e = nothing_left (drop c.loop-b.b-index c.as_bytes-b-items.result.now) c.loop-b.rest.now (omega (arith, length-drop c.loop-b.b-index c.as_bytes-b-items.result.now)) (omega arith) in
+    let e = nothing_left (drop c.loop-b.b-index c.as_bytes-b-items.result.now) c.loop-b.rest.now
+    (omega (arith, length-drop c.loop-b.b-index c.as_bytes-b-items.result.now)) (omega arith) in
     cc

@@ -5,4 +5,7 @@ use Rattle.js_operations.proofs.cells.bind_at.Goals as goal
 
 pub returns : goal.returns
 returns g c =
-    written-by (λ x. g.W.World.world c.args.names.now x) c.args.world.now c.bind_at-written.new.self c.args.scope (changes.Bind (name_of c.args.names.now c.args.name.number) c.args.value) c.bind_at-written.result c.answered.result c.bind_at-written.ensures.written c.bind_at-written.ensures.kept (c.answered.ensures c.args.names.now)
+    written-by (λ x. g.W.World.world c.args.names.now x) c.args.world.now c.bind_at-written.new.self c.args.scope
+    (changes.Bind (name_of c.args.names.now c.args.name.number) c.args.value)
+    c.bind_at-written.result c.answered.result c.bind_at-written.ensures.written c.bind_at-written.ensures.kept
+    (c.answered.ensures c.args.names.now)

@@ -4,4 +4,7 @@ use Rattle.js_operations.proofs.cells.cut.Goals as goal
 
 pub returns : goal.returns
 returns g c =
-    written-by (λ x. g.W.World.world c.args.names.now x) c.args.world.now c.cut-written.new.self c.args.a (changes.Length c.args.length) c.cut-written.result c.answered.result (c.cut-written.ensures.written c.args.names.now) c.cut-written.ensures.kept (c.answered.ensures c.args.names.now)
+    written-by (λ x. g.W.World.world c.args.names.now x) c.args.world.now c.cut-written.new.self c.args.a
+    (changes.Length c.args.length) c.cut-written.result c.answered.result
+    (c.cut-written.ensures.written c.args.names.now) c.cut-written.ensures.kept
+    (c.answered.ensures c.args.names.now)

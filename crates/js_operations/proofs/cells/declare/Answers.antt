@@ -5,4 +5,7 @@ use Rattle.js_operations.proofs.cells.declare.Goals as goal
 
 pub returns : goal.returns
 returns g c =
-    written-by (λ x. g.W.World.world c.args.names.now x) c.args.world.now c.declare-written.new.self c.args.scope (changes.Declare (name_of c.args.names.now c.args.name.number) c.args.constant) c.declare-written.result c.answered.result (c.declare-written.ensures.written c.args.names.now) c.declare-written.ensures.kept (c.answered.ensures c.args.names.now)
+    written-by (λ x. g.W.World.world c.args.names.now x) c.args.world.now c.declare-written.new.self c.args.scope
+    (changes.Declare (name_of c.args.names.now c.args.name.number) c.args.constant)
+    c.declare-written.result c.answered.result (c.declare-written.ensures.written c.args.names.now)
+    c.declare-written.ensures.kept (c.answered.ensures c.args.names.now)

@@ -4,4 +4,7 @@ use Rattle.js_operations.proofs.cells.put_element.Goals as goal
 
 pub returns : goal.returns
 returns g c =
-    written-by (λ x. g.W.World.world c.args.names.now x) c.args.world.now c.put_element-written.new.self c.args.a (changes.Element c.args.index c.args.value) c.put_element-written.result c.answered.result (c.put_element-written.ensures.written c.args.names.now) c.put_element-written.ensures.kept (c.answered.ensures c.args.names.now)
+    written-by (λ x. g.W.World.world c.args.names.now x) c.args.world.now c.put_element-written.new.self c.args.a
+    (changes.Element c.args.index c.args.value) c.put_element-written.result c.answered.result
+    (c.put_element-written.ensures.written c.args.names.now) c.put_element-written.ensures.kept
+    (c.answered.ensures c.args.names.now)

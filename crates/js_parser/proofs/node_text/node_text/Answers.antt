@@ -19,4 +19,8 @@ returns-in-Ok c =
 
 pub returns-else-lacks_memory : goal.returns-else-lacks_memory
 returns-else-lacks_memory c =
-    IfOk-weaker c.from_slice-else-lacks_memory.result _ _ (λ units is. is ∙ text_refused {A = Expression} c.args.text.now c.args.node.0 (λ e. expression_view e.tree) c.in-Err.fault c.in-Err.ensures.only (sym c.lacks_memory.ensures ∙ c.if-lacks_memory.false)) c.from_slice-else-lacks_memory.ensures
+    IfOk-weaker c.from_slice-else-lacks_memory.result _ _
+    (λ units is. is
+    ∙ text_refused {A = Expression} c.args.text.now c.args.node.0 (λ e. expression_view e.tree)
+    c.in-Err.fault c.in-Err.ensures.only (sym c.lacks_memory.ensures ∙ c.if-lacks_memory.false))
+    c.from_slice-else-lacks_memory.ensures

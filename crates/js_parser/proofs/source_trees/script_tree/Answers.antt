@@ -17,9 +17,20 @@ use Rattle.js_parser.proofs.source_trees.script_tree.Goals as goal
 pub returns-clause-answers : goal.returns-clause-answers
 returns-clause-answers c =
     let earlier = c.args.declared.now in
-    let read = subst (λ (names : List (List ℕ)). Gives (λ x. statements_view x.0) c.script_of-read.result (parse_script MOST_ROOM names (tokens_view c.as_slice.result.now))) c.in_ok-names.ensures.names c.script_of-read.ensures.gives in
-    told_as (IsScript earlier) height_of_statements c.args.source.now (λ x. statements_view x) MOST_ROOM (λ ts. parse_script MOST_ROOM earlier ts) (lexed_view c.in_ok-lexed.lexed) (tokens_view c.as_slice.result.now) (length c.args.source.now) c.script_of-read.result c.told.result (omega arith) (λ ts. reads_script earlier ts) c.in_ok-lexed.ensures.tokens (ap (λ (ts : List lexer.Token). tokens_view ts) c.as_slice.ensures.value) c.in_ok-lexed.ensures.short refl read c.script_of-read.ensures.height c.told.ensures
+    let read = subst
+    (λ (names : List (List ℕ)). Gives (λ x. statements_view x.0) c.script_of-read.result
+    (parse_script MOST_ROOM names (tokens_view c.as_slice.result.now)))
+    c.in_ok-names.ensures.names c.script_of-read.ensures.gives in
+    told_as (IsScript earlier) height_of_statements c.args.source.now (λ x. statements_view x) MOST_ROOM
+    (λ ts. parse_script MOST_ROOM earlier ts) (lexed_view c.in_ok-lexed.lexed) (tokens_view c.as_slice.result.now)
+    (length c.args.source.now) c.script_of-read.result c.told.result (omega arith) (λ ts. reads_script earlier ts)
+    c.in_ok-lexed.ensures.tokens (ap (λ (ts : List lexer.Token). tokens_view ts) c.as_slice.ensures.value)
+    c.in_ok-lexed.ensures.short refl read c.script_of-read.ensures.height c.told.ensures
 
 pub returns-clause-placed : goal.returns-clause-placed
 returns-clause-placed c =
-    told_placed statements_places c.args.source.now _ _ (lexed_view c.in_ok-lexed.lexed) (tokens_view c.as_slice.result.now) (length c.args.source.now) c.script_of-read.result c.told.result c.in_ok-lexed.ensures.tokens (ap (λ (ts : List lexer.Token). tokens_view ts) c.as_slice.ensures.value) c.script_of-read.ensures.placed c.script_of-read.ensures.forward c.script_of-read.ensures.numbers c.told.ensures
+    told_placed statements_places c.args.source.now _ _ (lexed_view c.in_ok-lexed.lexed)
+    (tokens_view c.as_slice.result.now) (length c.args.source.now)
+    c.script_of-read.result c.told.result c.in_ok-lexed.ensures.tokens
+    (ap (λ (ts : List lexer.Token). tokens_view ts) c.as_slice.ensures.value)
+    c.script_of-read.ensures.placed c.script_of-read.ensures.forward c.script_of-read.ensures.numbers c.told.ensures

@@ -3,7 +3,10 @@ use Rattle.std.proofs.Common.{sym, ◌∙◌}
 use Rattle.js_parser.proofs.token_trees.expression_of.Goals as goal
 
 pub returns-clause-placed : goal.returns-clause-placed
-returns-clause-placed c = rw c.into_inner.ensures (whole_source c.in_ok-tree.ensures.placed (no_tokens c.in_ok-tree.rest.now (sym c.is_empty.ensures ∙ c.if-not-is_empty.false)))
+returns-clause-placed c =
+    rw c.into_inner.ensures
+    (whole_source c.in_ok-tree.ensures.placed
+    (no_tokens c.in_ok-tree.rest.now (sym c.is_empty.ensures ∙ c.if-not-is_empty.false)))
 
 pub returns-clause-forward : goal.returns-clause-forward
 returns-clause-forward c = c.in_ok-tree.ensures.placed.forward

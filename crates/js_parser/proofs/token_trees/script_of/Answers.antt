@@ -3,7 +3,9 @@ use Rattle.std.proofs.Common.{sym, ◌∙◌}
 use Rattle.js_parser.proofs.token_trees.script_of.Goals as goal
 
 pub returns-clause-placed : goal.returns-clause-placed
-returns-clause-placed c = whole_source c.in_ok-body.ensures.placed (no_tokens c.in_ok-body.rest.now (sym c.is_empty.ensures ∙ c.if-not-is_empty.false))
+returns-clause-placed c =
+    whole_source c.in_ok-body.ensures.placed
+    (no_tokens c.in_ok-body.rest.now (sym c.is_empty.ensures ∙ c.if-not-is_empty.false))
 
 pub returns-clause-forward : goal.returns-clause-forward
 returns-clause-forward c = c.in_ok-body.ensures.placed.forward

@@ -7,6 +7,9 @@ use Rattle.js_programs.proofs.literals.+placed.Given as goal
 
 abbrev pub invariant-items_placed-loop-item : goal.invariant-items_placed-loop-item
 invariant-items_placed-loop-item l = record {
-  placed : semantics.joined (listed_view l.placed.items) (run.all_with_literals (address l.fn.space) l.next (listed_view (drop l.item-index l.item-items))) ≡ run.all_with_literals (address l.fn.space) l.fn.next (listed_view l.item-items);
-  counted : l.next + length (run.literals_of (listed_view (drop l.item-index l.item-items))) ≡ l.fn.next + length (run.literals_of (listed_view l.item-items));
+  placed : semantics.joined (listed_view l.placed.items)
+      (run.all_with_literals (address l.fn.space) l.next (listed_view (drop l.item-index l.item-items)))
+      ≡ run.all_with_literals (address l.fn.space) l.fn.next (listed_view l.item-items);
+  counted : l.next + length (run.literals_of (listed_view (drop l.item-index l.item-items))) ≡ l.fn.next + length
+      (run.literals_of (listed_view l.item-items));
 }

@@ -8,4 +8,6 @@ returns g c =
     let ts = c.args.names.now in
     let v = g.W.World.world c.args.names.now c.args.world.now in
     let n = name_of ts c.args.name.number in
-    calls-by ts (value_of_found n (found v c.args.scope n)) v c.name_value.result (g.W.World.world c.args.names.now c.name_value.new.world) c.calling.result c.name_value.ensures c.calling.ensures
+    calls-by ts (value_of_found n (found v c.args.scope n)) v c.name_value.result
+    (g.W.World.world c.args.names.now c.name_value.new.world)
+    c.calling.result c.name_value.ensures c.calling.ensures

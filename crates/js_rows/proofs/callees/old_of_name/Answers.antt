@@ -8,4 +8,6 @@ returns g c =
     let ts = c.args.names.now in
     let v = g.W.World.world c.args.names.now c.args.world.now in
     let n = name_of ts c.args.name.number in
-    assigns-by ts (value_of_found n (found v c.args.scope n)) v c.name_value.result (g.W.World.world c.args.names.now c.name_value.new.world) c.assigning.result c.name_value.ensures c.assigning.ensures
+    assigns-by ts (value_of_found n (found v c.args.scope n)) v c.name_value.result
+    (g.W.World.world c.args.names.now c.name_value.new.world)
+    c.assigning.result c.name_value.ensures c.assigning.ensures

@@ -14,11 +14,15 @@ returns-in-ReadLine g c =
     let ts = c.args.names.now in
     let a = c.args.arguments.now in
     let v = g.W.World.world c.args.names.now c.args.world.now in
-    line-called ts a c.args.f c.args.receiver v c.args.context.now c.read_line.result (g.W.World.world c.args.names.now c.read_line.new.world) c.read_line.new.context c.in-ReadLine.is c.read_line.ensures
+    line-called ts a c.args.f c.args.receiver v c.args.context.now c.read_line.result
+    (g.W.World.world c.args.names.now c.read_line.new.world)
+    c.read_line.new.context c.in-ReadLine.is c.read_line.ensures
 
 pub returns-in_default : goal.returns-in_default
 returns-in_default g c =
     let ts = c.args.names.now in
     let a = c.args.arguments.now in
     let v = g.W.World.world c.args.names.now c.args.world.now in
-    given-acts ts a (built_in_call v c.args.f c.args.receiver a) v c.built_in_call.result (g.W.World.world c.args.names.now c.built_in_call.new.world) c.args.context.now c.replied.result c.built_in_call.ensures c.replied.ensures
+    given-acts ts a (built_in_call v c.args.f c.args.receiver a) v c.built_in_call.result
+    (g.W.World.world c.args.names.now c.built_in_call.new.world)
+    c.args.context.now c.replied.result c.built_in_call.ensures c.replied.ensures

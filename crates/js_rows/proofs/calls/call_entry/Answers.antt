@@ -14,4 +14,6 @@ returns-else-frame_count-lt1000 g c =
     let n = name_text ts i.name in
     let x = entry_code ts t c.args.place c.args.code.now in
     let h : nat_lt (length c.args.context.now.frames) 1000 ≡ false = grind arith in
-    past-limit ts t x i.source i.function n i.outer i.receiver c.args.arguments.now v (g.W.World.world c.args.names.now c.too_deep.new.world) c.args.context.now c.too_deep.result c.stopped.result h c.too_deep.ensures c.stopped.ensures
+    past-limit ts t x i.source i.function n i.outer i.receiver c.args.arguments.now v
+    (g.W.World.world c.args.names.now c.too_deep.new.world)
+    c.args.context.now c.too_deep.result c.stopped.result h c.too_deep.ensures c.stopped.ensures

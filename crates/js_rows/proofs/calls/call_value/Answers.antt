@@ -9,4 +9,6 @@ returns-in_default g c =
     let a = c.args.arguments.now in
     let v = g.W.World.world c.args.names.now c.args.world.now in
     let p = program_of ts t in
-    not-called ts t p a c.args.callee c.args.receiver v c.not_a_function.result (g.W.World.world c.args.names.now c.not_a_function.new.world) c.args.context.now c.stopped.result c.in_default.not-Object c.not_a_function.ensures c.stopped.ensures
+    not-called ts t p a c.args.callee c.args.receiver v c.not_a_function.result
+    (g.W.World.world c.args.names.now c.not_a_function.new.world)
+    c.args.context.now c.stopped.result c.in_default.not-Object c.not_a_function.ensures c.stopped.ensures

@@ -12,4 +12,8 @@ returns-in-Some g c =
     let w = g.W.World.world c.args.names.now c.bind_at-written.new.world in
     let n = name_of c.args.names.now c.args.name.number in
     let o = found v c.args.scope n in
-    change-reply c.args.names.now (name_written n o c.args.value) c.in-Some.slot.scope (changes.Bind n c.args.value) c.args.value v c.bind_at-written.result w c.replied_with.result (open-written n c.lookup-found.result o c.in-Some.slot c.args.value c.lookup-found.ensures.value (sym c.open_slot.ensures ∙ c.in-Some.is)) c.bind_at-written.ensures c.replied_with.ensures
+    change-reply c.args.names.now (name_written n o c.args.value) c.in-Some.slot.scope (changes.Bind n c.args.value)
+    c.args.value v c.bind_at-written.result w c.replied_with.result
+    (open-written n c.lookup-found.result o c.in-Some.slot c.args.value c.lookup-found.ensures.value
+    (sym c.open_slot.ensures ∙ c.in-Some.is))
+    c.bind_at-written.ensures c.replied_with.ensures

@@ -7,4 +7,5 @@ pub returns : goal.returns
 returns g c =
     let v = g.W.World.world c.args.names.now c.args.world.now in
     let n = name_of c.args.names.now c.args.name.number in
-    result-reply c.args.names.now (value_of_found n (found v c.args.scope n)) v c.get_name.result (g.W.World.world c.args.names.now c.get_name.new.world) c.replied.result c.get_name.ensures c.replied.ensures
+    result-reply c.args.names.now (value_of_found n (found v c.args.scope n)) v c.get_name.result
+    (g.W.World.world c.args.names.now c.get_name.new.world) c.replied.result c.get_name.ensures c.replied.ensures

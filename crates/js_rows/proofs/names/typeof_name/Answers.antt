@@ -8,4 +8,6 @@ pub returns : goal.returns
 returns g c =
     let v = g.W.World.world c.args.names.now c.args.world.now in
     let n = name_of c.args.names.now c.args.name.number in
-    replies-by c.args.names.now (type_of_found v n (found v c.args.scope n)) v c.type_of_name.result (g.W.World.world c.args.names.now c.type_of_name.new.world) c.replied.result c.type_of_name.ensures c.replied.ensures
+    replies-by c.args.names.now (type_of_found v n (found v c.args.scope n)) v c.type_of_name.result
+    (g.W.World.world c.args.names.now c.type_of_name.new.world)
+    c.replied.result c.type_of_name.ensures c.replied.ensures

@@ -13,6 +13,13 @@ returns g c =
     let ts = c.args.names.now in
     let v = g.W.World.world c.args.names.now c.args.world.now in
     let w = g.W.World.world c.args.names.now c.binary_value.new.world in
-    let P : Value → Type 0 = λ x. Replies ts (with_result (binary_result v c.args.operator x (argument c.args.values.now 1)) give) v c.replied.result w in
-    let Q : Value → Type 0 = λ y. Replies ts (with_result (binary_result v c.args.operator c.argument-left.result y) give) v c.replied.result w in
-    subst P c.argument-left.ensures (subst Q c.argument-right.ensures (result-reply ts (binary_result v c.args.operator c.argument-left.result c.argument-right.result) v c.binary_value.result w c.replied.result c.binary_value.ensures c.replied.ensures))
+    let P : Value
+    → Type 0 = λ x. Replies ts (with_result (binary_result v c.args.operator x (argument c.args.values.now 1)) give)
+    v c.replied.result w in
+    let Q : Value
+    → Type 0 = λ y. Replies ts (with_result (binary_result v c.args.operator c.argument-left.result y) give)
+    v c.replied.result w in
+    subst P c.argument-left.ensures
+    (subst Q c.argument-right.ensures
+    (result-reply ts (binary_result v c.args.operator c.argument-left.result c.argument-right.result)
+    v c.binary_value.result w c.replied.result c.binary_value.ensures c.replied.ensures))

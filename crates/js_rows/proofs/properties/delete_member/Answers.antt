@@ -9,4 +9,6 @@ returns g c =
     let ts = c.args.names.now in
     let vs = c.args.values.now in
     let v = g.W.World.world c.args.names.now c.args.world.now in
-    member-deleted ts vs c.in-Some.object (values.Bool true) (name_of ts c.args.key.number) v c.delete_own-deleted.result (g.W.World.world c.args.names.now c.delete_own-deleted.new.world) c.replied_with.result c.in-Some.ensures c.delete_own-deleted.ensures c.replied_with.ensures
+    member-deleted ts vs c.in-Some.object (values.Bool true) (name_of ts c.args.key.number)
+    v c.delete_own-deleted.result (g.W.World.world c.args.names.now c.delete_own-deleted.new.world)
+    c.replied_with.result c.in-Some.ensures c.delete_own-deleted.ensures c.replied_with.ensures

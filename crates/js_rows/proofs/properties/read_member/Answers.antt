@@ -7,4 +7,6 @@ returns-in-Some g c =
     let ts = c.args.names.now in
     let vs = c.args.values.now in
     let v = g.W.World.world c.args.names.now c.args.world.now in
-    member-read ts vs c.in-Some.object (name_of ts c.args.key.number) v c.member_value.result (g.W.World.world c.args.names.now c.member_value.new.world) c.replied.result c.in-Some.ensures c.member_value.ensures c.replied.ensures
+    member-read ts vs c.in-Some.object (name_of ts c.args.key.number) v c.member_value.result
+    (g.W.World.world c.args.names.now c.member_value.new.world)
+    c.replied.result c.in-Some.ensures c.member_value.ensures c.replied.ensures

@@ -14,14 +14,16 @@ returns-in-Block g c =
     let ts = c.args.names.now in
     let v = g.W.World.world c.args.names.now c.args.world.now in
     λ outer before.
-    block-row ts c.args.table.now c.args.form c.args.values.now outer v (g.W.World.world ts c.block.new.world) c.args.context.now before c.block.result _ c.in-Block.is refl c.block.ensures
+    block-row ts c.args.table.now c.args.form c.args.values.now outer v (g.W.World.world ts c.block.new.world)
+    c.args.context.now before c.block.result _ c.in-Block.is refl c.block.ensures
 
 pub returns-in-Initialize : goal.returns-in-Initialize
 returns-in-Initialize g c =
     let ts = c.args.names.now in
     let v = g.W.World.world c.args.names.now c.args.world.now in
     λ outer before.
-    initialize-row ts c.args.table.now c.args.form c.args.values.now outer v (g.W.World.world ts c.initialize.new.world) c.args.context.now before c.initialize.result c.in-Initialize.is c.initialize.ensures
+    initialize-row ts c.args.table.now c.args.form c.args.values.now outer v (g.W.World.world ts c.initialize.new.world)
+    c.args.context.now before c.initialize.result c.in-Initialize.is c.initialize.ensures
 
 pub returns-in-Break : goal.returns-in-Break
 returns-in-Break g c =
@@ -53,7 +55,9 @@ returns-in-Script g c =
     let ts = c.args.names.now in
     let v = g.W.World.world c.args.names.now c.args.world.now in
     λ outer before.
-    script-row ts c.args.table.now c.args.form c.args.values.now outer v (g.W.World.world ts c.script.new.world) c.args.context.now c.script.new.context before c.script.result (slice_get c.args.table.now.scripts.items c.args.form.info) c.in-Script.is refl c.script.ensures
+    script-row ts c.args.table.now c.args.form c.args.values.now outer v (g.W.World.world ts c.script.new.world)
+    c.args.context.now c.script.new.context before c.script.result
+    (slice_get c.args.table.now.scripts.items c.args.form.info) c.in-Script.is refl c.script.ensures
 
 pub returns-in-Ending : goal.returns-in-Ending
 returns-in-Ending g c =

@@ -27,4 +27,5 @@ returns-in-Fails g c =
     let v = g.W.World.world c.args.names.now c.args.world.now in
     let n = name_of ts c.args.name.number in
     let p = found v c.args.scope n in
-    old-fails c.args.operator c.args.prefix n p c.args.old c.in_ok-old.field-0 c.in-Fails.class c.in-Fails.message v c.fail.result (g.W.World.world c.args.names.now c.fail.new.world) c.in_ok-old.ensures c.in-Fails.is c.fail.ensures
+    old-fails c.args.operator c.args.prefix n p c.args.old c.in_ok-old.field-0 c.in-Fails.class c.in-Fails.message v c.fail.result
+    (g.W.World.world c.args.names.now c.fail.new.world) c.in_ok-old.ensures c.in-Fails.is c.fail.ensures

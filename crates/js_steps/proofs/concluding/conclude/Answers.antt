@@ -11,7 +11,9 @@ returns-in-Follows-clause-told c = λ ts m w taken h.
     let t = c.args.table.now in
     let old = c.args.stack.now in
     let s = state_of w c.args.context.now taken in
-    went-follows c.follow.result c.went_of.result ts t c.args.root (outer_of old) c.follow.new.stack c.follow.new.point m (λ names. reduced_term names t (innermost old) c.args.reduced) s c.went_of.ensures
+    went-follows c.follow.result c.went_of.result ts t c.args.root (outer_of old)
+    c.follow.new.stack c.follow.new.point m (λ names. reduced_term names t (innermost old) c.args.reduced)
+    s c.went_of.ensures
     (says-as ts t (innermost old) m c.args.reduced c.args.answer kinds.Follows s c.in-Follows.is h)
     c.follow.ensures.term
 
@@ -34,11 +36,13 @@ returns-in-Effect-clause-told c = λ ts m w taken h.
     let t = c.args.table.now in
     let old = c.args.stack.now in
     let s = state_of w c.args.context.now taken in
-    effect-told ts t c.args.root (outer_of old) old c.args.point.now m s (says-as ts t (innermost old) m c.args.reduced c.args.answer kinds.Effect s c.in-Effect.is h)
+    effect-told ts t c.args.root (outer_of old) old c.args.point.now m s
+    (says-as ts t (innermost old) m c.args.reduced c.args.answer kinds.Effect s c.in-Effect.is h)
 
 pub returns-in-Full-clause-told : goal.returns-in-Full-clause-told
 returns-in-Full-clause-told c = λ ts m w taken h.
     let t = c.args.table.now in
     let old = c.args.stack.now in
     let s = state_of w c.args.context.now taken in
-    full-told ts t c.args.root (outer_of old) old c.args.point.now c.in-Full.what m s (says-as ts t (innermost old) m c.args.reduced c.args.answer (kinds.Full c.in-Full.what) s c.in-Full.is h)
+    full-told ts t c.args.root (outer_of old) old c.args.point.now c.in-Full.what m s
+    (says-as ts t (innermost old) m c.args.reduced c.args.answer (kinds.Full c.in-Full.what) s c.in-Full.is h)

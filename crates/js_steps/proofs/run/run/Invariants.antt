@@ -9,9 +9,14 @@ use Rattle.js_steps.proofs.run.run.Given as goal
 
 abbrev pub invariant-loop-steps : goal.invariant-loop-steps
 invariant-loop-steps g l = record {
-  run : HasRun l.names l.table l.root l.fn.stack l.fn.point (g.W.World.world l.names l.fn.world) l.fn.context l.steps l.stack l.point (g.W.World.world l.names l.world) l.context;
+  run : HasRun l.names l.table l.root l.fn.stack l.fn.point (g.W.World.world l.names l.fn.world)
+      l.fn.context l.steps l.stack l.point (g.W.World.world l.names l.world) l.context;
   passed : (taken : List (List ℕ))
-      → HasPassed (g.H.Asks.stops l.host) l.steps (program_of l.names l.table) l.root (run_of (term_at l.names l.table l.fn.stack l.fn.point) (state_of (g.W.World.world l.names l.fn.world) l.fn.context taken));
+      → HasPassed (g.H.Asks.stops l.host) l.steps (program_of l.names l.table) l.root
+      (run_of (term_at l.names l.table l.fn.stack l.fn.point)
+      (state_of (g.W.World.world l.names l.fn.world) l.fn.context taken));
   silent : (taken : List (List ℕ))
-      → IsSilent l.steps (program_of l.names l.table) l.root (run_of (term_at l.names l.table l.fn.stack l.fn.point) (state_of (g.W.World.world l.names l.fn.world) l.fn.context taken));
+      → IsSilent l.steps (program_of l.names l.table) l.root
+      (run_of (term_at l.names l.table l.fn.stack l.fn.point)
+      (state_of (g.W.World.world l.names l.fn.world) l.fn.context taken));
 }

@@ -12,4 +12,8 @@ returns-in-Some-clause-scoped c = on_ok_weaker c.give.result (λ d. d c.args.roo
 pub returns-in-None-clause-term : goal.returns-in-None-clause-term
 returns-in-None-clause-term c =
     let t = c.args.table.now in
-    on_ok_weaker c.descend.result (λ d. λ ts. plugged-resettled (gaps_of ts t c.args.stack.now) (tree ts t c.args.node) (open-tree ts t c.args.node c.in-None.ensures.form) ∙ d ts) c.descend.ensures.term
+    on_ok_weaker c.descend.result
+    (λ d. λ ts. plugged-resettled (gaps_of ts t c.args.stack.now) (tree ts t c.args.node)
+    (open-tree ts t c.args.node c.in-None.ensures.form)
+    ∙ d ts)
+    c.descend.ensures.term

@@ -15,11 +15,13 @@ returns-in-Value c =
     IfOk-weaker c.behind_body.result
     (Comes t old c.behind_body.new.stack (λ ts. looped ts t old behind_body task))
     (Comes t old c.behind_body.new.stack (λ ts. looped ts t old at_body task))
-    (λ next. looped-same t old c.behind_body.new.stack at_body behind_body task next (λ ts. body-value ts t task c.in-Value.field-0 (turn_scope task.info task.inner) (c.in-Value.ensures ts)))
+    (λ next. looped-same t old c.behind_body.new.stack at_body behind_body task next
+    (λ ts. body-value ts t task c.in-Value.field-0 (turn_scope task.info task.inner) (c.in-Value.ensures ts)))
     c.behind_body.ensures
 
 pub returns-in-Open : goal.returns-in-Open
 returns-in-Open c =
     let t = c.args.table.now in
     let task = c.args.task in
-    looped-part t c.args.stack.now c.restage.new.stack at_body task ops.LoopBody c.in-Open.part c.requires.task c.requires.loops refl c.restage.ensures c.in-Open.ensures.form (λ ts. body-open ts t task c.in-Open.part (turn_scope task.info task.inner) c.in-Open.ensures)
+    looped-part t c.args.stack.now c.restage.new.stack at_body task ops.LoopBody c.in-Open.part c.requires.task c.requires.loops refl c.restage.ensures c.in-Open.ensures.form
+    (λ ts. body-open ts t task c.in-Open.part (turn_scope task.info task.inner) c.in-Open.ensures)

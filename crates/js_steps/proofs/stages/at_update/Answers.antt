@@ -15,11 +15,13 @@ returns-in-Value c =
     IfOk-weaker c.at_test.result
     (Comes t old c.at_test.new.stack (λ ts. looped ts t old at_test task))
     (Comes t old c.at_test.new.stack (λ ts. looped ts t old at_update task))
-    (λ next. looped-same t old c.at_test.new.stack at_update at_test task next (λ ts. update-value ts t task c.in-Value.field-0 (turn_scope task.info task.inner) (c.in-Value.ensures ts)))
+    (λ next. looped-same t old c.at_test.new.stack at_update at_test task next
+    (λ ts. update-value ts t task c.in-Value.field-0 (turn_scope task.info task.inner) (c.in-Value.ensures ts)))
     c.at_test.ensures
 
 pub returns-in-Open : goal.returns-in-Open
 returns-in-Open c =
     let t = c.args.table.now in
     let task = c.args.task in
-    looped-part t c.args.stack.now c.restage.new.stack at_update task ops.LoopUpdating c.in-Open.part c.requires.task c.requires.loops refl c.restage.ensures c.in-Open.ensures.form (λ ts. update-open ts t task c.in-Open.part (turn_scope task.info task.inner) c.in-Open.ensures)
+    looped-part t c.args.stack.now c.restage.new.stack at_update task ops.LoopUpdating c.in-Open.part c.requires.task c.requires.loops refl c.restage.ensures c.in-Open.ensures.form
+    (λ ts. update-open ts t task c.in-Open.part (turn_scope task.info task.inner) c.in-Open.ensures)

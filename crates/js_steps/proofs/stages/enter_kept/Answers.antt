@@ -5,4 +5,6 @@ use Rattle.js_steps.proofs.stages.enter_kept.Goals as goal
 
 pub returns-in_ok-push_value-in-Value : goal.returns-in_ok-push_value-in-Value
 returns-in_ok-push_value-in-Value c =
-    enter-value c.args.table.now c.args.stack.now c.push_value.new.self (λ ts. test_of (trees ts c.args.table.now c.args.place c.args.end)) c.in-Value.value c.requires.row c.requires.empty c.in-Value.ensures c.in_ok-push_value-in-Value.ensures
+    enter-value c.args.table.now c.args.stack.now c.push_value.new.self
+    (λ ts. test_of (trees ts c.args.table.now c.args.place c.args.end))
+    c.in-Value.value c.requires.row c.requires.empty c.in-Value.ensures c.in_ok-push_value-in-Value.ensures

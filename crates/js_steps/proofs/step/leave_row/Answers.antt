@@ -22,7 +22,10 @@ returns-in-Travels-clause-told g c = λ taken m h.
     let u = state_of (g.W.World.world ts c.args.world.now) c.args.context.now taken in
     let v = state_of (g.W.World.world ts c.travel.new.world) c.travel.new.context taken in
     let x = c.in-Travels.completion in
-    told-behind ts t root old c.pop.new.self c.travel.new.stack c.travel.new.point m (travels x u) c.travel.result v c.pop.ensures.outer (says-as ts t (innermost old) m r a (kinds.Travels x) u (sym c.answer_of.ensures ∙ c.in-Travels.is) h) (c.travel.ensures.told taken)
+    told-behind ts t root old c.pop.new.self c.travel.new.stack c.travel.new.point m (travels x u)
+    c.travel.result v c.pop.ensures.outer
+    (says-as ts t (innermost old) m r a (kinds.Travels x) u (sym c.answer_of.ensures ∙ c.in-Travels.is) h)
+    (c.travel.ensures.told taken)
 
 pub returns-in-Resumes-clause-told : goal.returns-in-Resumes-clause-told
 returns-in-Resumes-clause-told g c = λ taken m h.
@@ -34,7 +37,10 @@ returns-in-Resumes-clause-told g c = λ taken m h.
     let a = answer_of r in
     let u = state_of (g.W.World.world ts c.args.world.now) c.args.context.now taken in
     let v = state_of (g.W.World.world ts c.resume.new.world) c.resume.new.context taken in
-    told-same ts t root (outer_of old) c.resume.new.stack c.resume.new.point m (resumed (kept_of (innermost old).extra) u) c.resume.result v (says-as ts t (innermost old) m r a kinds.Resumes u (sym c.answer_of.ensures ∙ c.in-Resumes.is) h) (c.resume.ensures.told taken)
+    told-same ts t root (outer_of old) c.resume.new.stack c.resume.new.point m
+    (resumed (kept_of (innermost old).extra) u) c.resume.result v
+    (says-as ts t (innermost old) m r a kinds.Resumes u (sym c.answer_of.ensures ∙ c.in-Resumes.is) h)
+    (c.resume.ensures.told taken)
 
 pub returns-in_default : goal.returns-in_default
 returns-in_default g c = record {
@@ -43,6 +49,8 @@ returns-in_default g c = record {
       let t = c.args.table.now in
       let r = c.args.reduced in
       let u = state_of (g.W.World.world ts c.args.world.now) c.args.context.now taken in
-      c.conclude.ensures.told ts m (g.W.World.world ts c.args.world.now) taken (says-as ts t (innermost c.args.stack.now) m r (answer_of r) c.answer_of.result u (sym c.answer_of.ensures) h);
+      c.conclude.ensures.told ts m (g.W.World.world ts c.args.world.now) taken
+      (says-as ts t (innermost c.args.stack.now) m r (answer_of r) c.answer_of.result u (sym c.answer_of.ensures)
+      h);
   stands = goes-on-weaker c.conclude.result (λ k. k c.requires.scoped) c.conclude.ensures.stands;
 }

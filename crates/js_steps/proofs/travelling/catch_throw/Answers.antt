@@ -14,4 +14,7 @@ returns-clause-told g c = λ taken.
     (λ m h. c.conclude.ensures.told ts m w taken h)
 
 pub returns-clause-stands : goal.returns-clause-stands
-returns-clause-stands g c = goes-on-weaker c.conclude.result (λ h. h (at-scopes c.args.table.now c.args.root c.args.stack.now c.set_at.new.self c.in-Some.task.mid c.set_at.ensures c.requires.scoped)) c.conclude.ensures.stands
+returns-clause-stands g c =
+    goes-on-weaker c.conclude.result
+    (λ h. h (at-scopes c.args.table.now c.args.root c.args.stack.now c.set_at.new.self c.in-Some.task.mid c.set_at.ensures c.requires.scoped))
+    c.conclude.ensures.stands

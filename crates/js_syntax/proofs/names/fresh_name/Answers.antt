@@ -11,5 +11,6 @@ stuck_at n = Err (stuck n)
 
 pub returns-then-contains : goal.returns-then-contains
 returns-then-contains c =
-    fresh_taken c.args.names.now (tokens_view c.args.tokens.now) c.in_ok-name.name.now (tokens_view c.in_ok-name.rest.now) c.in_ok-name.ensures (sym c.contains.ensures ∙ c.if-contains.true)
+    fresh_taken c.args.names.now (tokens_view c.args.tokens.now) c.in_ok-name.name.now
+    (tokens_view c.in_ok-name.rest.now) c.in_ok-name.ensures (sym c.contains.ensures ∙ c.if-contains.true)
     ∙ ap stuck_at (length-map c.args.tokens.now token_view)

@@ -8,7 +8,9 @@ use Rattle.js_syntax.proofs.LoopStepLemmas.{Elements}
 use Rattle.js_syntax.proofs.words.names_before.Given as goal
 
 abbrev pub invariant-names : goal.invariant-names
-invariant-names l = Elements (one_of name_at) no_state kinds.RightParenthesis (names_before (tokens_view l.tokens)) (texts l.names.items) tt (tokens_view l.rest)
+invariant-names l =
+    Elements (one_of name_at) no_state kinds.RightParenthesis (names_before (tokens_view l.tokens))
+    (texts l.names.items) tt (tokens_view l.rest)
 
 abbrev pub decreases-names : goal.decreases-names
 decreases-names l = length l.rest

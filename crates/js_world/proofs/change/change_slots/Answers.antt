@@ -14,7 +14,10 @@ returns-in-Declare-clause-within c = λ end h k.
 pub returns-in-Bind-clause-value : goal.returns-in-Bind-clause-value
 returns-in-Bind-clause-value c = λ names d.
     let P : CellChange → Type 0 = λ x. Distinguishes names x in
-    rw c.in-Bind.is (bind-moves (bindings names c.args.slots.now) (bindings names c.bind.new.slots) (name_of names c.in-Bind.name.number) c.in-Bind.value c.args.units_left (c.bind.ensures.value names (subst P c.in-Bind.is d)))
+    rw c.in-Bind.is
+    (bind-moves (bindings names c.args.slots.now) (bindings names c.bind.new.slots)
+    (name_of names c.in-Bind.name.number) c.in-Bind.value c.args.units_left
+    (c.bind.ensures.value names (subst P c.in-Bind.is d)))
 
 pub returns-in-Bind-clause-within : goal.returns-in-Bind-clause-within
 returns-in-Bind-clause-within c = λ end h k. c.bind.ensures.within end k

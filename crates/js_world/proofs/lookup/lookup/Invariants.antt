@@ -5,4 +5,7 @@ use Rattle.js_world.specs.Calls.{kept_found}
 use Rattle.js_world.proofs.lookup.lookup.Given as goal
 
 abbrev pub invariant-loop-i : goal.invariant-loop-i
-invariant-loop-i g l = kept_found (found_within (l.count - l._i) (g.W.World.world l.names l.world) (name_of l.names l.name.number) l.at) ≡ kept_found (found_within l.count (g.W.World.world l.names l.world) (name_of l.names l.name.number) l.fn.scope)
+invariant-loop-i g l =
+    kept_found (found_within (l.count - l._i) (g.W.World.world l.names l.world) (name_of l.names l.name.number) l.at)
+    ≡ kept_found
+    (found_within l.count (g.W.World.world l.names l.world) (name_of l.names l.name.number) l.fn.scope)

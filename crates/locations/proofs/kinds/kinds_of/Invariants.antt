@@ -8,5 +8,6 @@ invariant-loop-marked l = record {
   long : length l.kinds.items ≡ length l.script.source + 1;
   stand : (x : ℕ)
       → x < length l.kinds.items
-      → merged (kind_of l.kinds.items x) (kind_at l.script.spans (drop l.marked-index l.marks) x) ≡ kind_at l.script.spans l.marks x;
+      → merged (kind_of l.kinds.items x) (kind_at l.script.spans (drop l.marked-index l.marks) x)
+      ≡ kind_at l.script.spans l.marks x;
 }

@@ -5,9 +5,12 @@ use Rattle.locations.proofs.spot.between.Goals as goal
 pub returns-in-None : goal.returns-in-None
 returns-in-None c =
     let rest = take (length c.args.spots.now - c.count_before.result) (drop c.count_before.result c.args.spots.now) in
-    between_none c.args.start c.args.end c.args.spots.now rest c.count_before.result c.in-None.is (slice_from c.args.spots.now c.count_before.result) c.count_before.ensures.split
+    between_none c.args.start c.args.end c.args.spots.now rest c.count_before.result c.in-None.is
+    (slice_from c.args.spots.now c.count_before.result) c.count_before.ensures.split
 
 pub returns-in-Some : goal.returns-in-Some
 returns-in-Some c =
     let rest = take (length c.args.spots.now - c.count_before.result) (drop c.count_before.result c.args.spots.now) in
-    between_some c.args.start c.in-Some.end c.args.end c.args.spots.now rest c.count_before.result c.count_before-in-Some.result c.in-Some.is (slice_from c.args.spots.now c.count_before.result) c.count_before.ensures.split c.count_before-in-Some.ensures.split
+    between_some c.args.start c.in-Some.end c.args.end c.args.spots.now rest c.count_before.result c.count_before-in-Some.result c.in-Some.is
+    (slice_from c.args.spots.now c.count_before.result)
+    c.count_before.ensures.split c.count_before-in-Some.ensures.split

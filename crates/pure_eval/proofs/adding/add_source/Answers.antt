@@ -6,4 +6,9 @@ use Rattle.pure_eval.proofs.adding.add_source.Goals as goal
 
 pub returns : goal.returns
 returns c =
-    added c.args.names.now c.add_term.new.names c.args.table.now c.add_term.new.table c.push.new.self c.args.at (term_view c.args.term.now) c.in-Some.root c.len-nodes.result c.len-functions.result c.in_ok-root.field-0 (record { source = kept_source c.args.at; root = c.in-Some.root; functions = c.new.result }) c.in_ok-entry.entry c.requires c.in_ok-root.ensures.grows c.in_ok-root.ensures.tree c.in-Some.is (grind arith) (c.if-not-are_closed.ensures refl) (grind arith) (c.if-not-are_placed.ensures refl) refl refl c.in_ok-entry.ensures (c.if-not-is_within.ensures refl) c.in_ok-push.ensures.items
+    added c.args.names.now c.add_term.new.names c.args.table.now c.add_term.new.table c.push.new.self c.args.at
+    (term_view c.args.term.now) c.in-Some.root c.len-nodes.result c.len-functions.result c.in_ok-root.field-0
+    (record { source = kept_source c.args.at; root = c.in-Some.root; functions = c.new.result })
+    c.in_ok-entry.entry c.requires c.in_ok-root.ensures.grows c.in_ok-root.ensures.tree c.in-Some.is (grind arith)
+    (c.if-not-are_closed.ensures refl) (grind arith) (c.if-not-are_placed.ensures refl)
+    refl refl c.in_ok-entry.ensures (c.if-not-is_within.ensures refl) c.in_ok-push.ensures.items

@@ -20,7 +20,13 @@ abbrev pub decreases-make_properties : goal.decreases-make_properties
 decreases-make_properties g l = 3 * members_size (object_view l.object.now) + 1
 
 abbrev pub invariant-make_elements-loop-item : goal.invariant-make_elements-loop-item
-invariant-make_elements-loop-item g l = (names : List (List ℕ)) → ElementsMade (g.W.World.world names l.fn.world) l.item-items l.item-index l.values.items (g.W.World.world names l.world)
+invariant-make_elements-loop-item g l =
+    (names : List (List ℕ))
+    → ElementsMade (g.W.World.world names l.fn.world) l.item-items l.item-index l.values.items
+    (g.W.World.world names l.world)
 
 abbrev pub invariant-make_properties-loop-member : goal.invariant-make_properties-loop-member
-invariant-make_properties-loop-member g l = (names : List (List ℕ)) → MembersMade (g.W.World.world names l.fn.world) l.member-items l.member-index l.properties (g.W.World.world names l.world)
+invariant-make_properties-loop-member g l =
+    (names : List (List ℕ))
+    → MembersMade (g.W.World.world names l.fn.world) l.member-items l.member-index l.properties
+    (g.W.World.world names l.world)

@@ -17,10 +17,24 @@ returns-in-Reduced-clause-answer g c =
     let t = c.args.table.now in
     let w = g.W.World.world ts c.args.world.now in
     let x = settle (tree ts t c.args.node) in
-    let P : Addr → Type 0 = λ a. Answers (evaluated (program_of ts t) a values.Undefined w (call_with_values c.args.receiver x c.args.arguments.now)) c.run_call.result (g.W.World.world ts c.run_call.new.world) in
+    let P : Addr
+    → Type 0 = λ a. Answers
+    (evaluated (program_of ts t) a values.Undefined w (call_with_values c.args.receiver x c.args.arguments.now))
+    c.run_call.result (g.W.World.world ts c.run_call.new.world) in
     subst P c.script_scope-root.ensures
-    (call-answers (program_of ts t) c.script_scope-root.result ts t c.new-stack.result x (term_at ts t c.uncover.new.stack c.uncover.new.point) c.args.arguments.now c.bare-context.result values.Undefined c.args.receiver w (g.W.World.world ts c.run_call.new.world) c.run_call.result c.new-stack.ensures (c.in-Ok.ensures.term ts) c.bare-context.ensures
-    (reduced-answers budget c.in-Reduced.left (program_of ts t) c.script_scope-root.result (run_of (call_with_values c.args.receiver (term_at ts t c.uncover.new.stack c.uncover.new.point) c.args.arguments.now) (state_of w c.bare-context.result [])) c.args.receiver c.in-Reduced.value c.args.arguments.now (state_of (g.W.World.world ts c.reduce_callee-callee.new.world) c.reduce_callee-callee.new.context []) c.run_call.result (g.W.World.world ts c.run_call.new.world) (c.in-Reduced.ensures [] c.args.receiver c.args.arguments.now) (c.run_call.ensures.answer [])))
+    (call-answers (program_of ts t) c.script_scope-root.result ts t c.new-stack.result x
+    (term_at ts t c.uncover.new.stack c.uncover.new.point)
+    c.args.arguments.now c.bare-context.result values.Undefined c.args.receiver w
+    (g.W.World.world ts c.run_call.new.world) c.run_call.result c.new-stack.ensures (c.in-Ok.ensures.term ts)
+    c.bare-context.ensures
+    (reduced-answers budget c.in-Reduced.left (program_of ts t) c.script_scope-root.result
+    (run_of (call_with_values c.args.receiver (term_at ts t c.uncover.new.stack c.uncover.new.point)
+    c.args.arguments.now)
+    (state_of w c.bare-context.result []))
+    c.args.receiver c.in-Reduced.value c.args.arguments.now
+    (state_of (g.W.World.world ts c.reduce_callee-callee.new.world) c.reduce_callee-callee.new.context [])
+    c.run_call.result (g.W.World.world ts c.run_call.new.world)
+    (c.in-Reduced.ensures [] c.args.receiver c.args.arguments.now) (c.run_call.ensures.answer [])))
 
 pub returns-in-Reduced-clause-world : goal.returns-in-Reduced-clause-world
 returns-in-Reduced-clause-world g c =
@@ -28,10 +42,25 @@ returns-in-Reduced-clause-world g c =
     let t = c.args.table.now in
     let w = g.W.World.world ts c.args.world.now in
     let x = settle (tree ts t c.args.node) in
-    let P : Addr → Type 0 = λ a. EndsIn (steps_in budget (program_of ts t) a (run_of (call_with_values c.args.receiver x c.args.arguments.now) (evaluation_state w values.Undefined))) c.run_call.result (g.W.World.world ts c.run_call.new.world) in
+    let P : Addr
+    → Type 0 = λ a. EndsIn
+    (steps_in budget (program_of ts t) a
+    (run_of (call_with_values c.args.receiver x c.args.arguments.now) (evaluation_state w values.Undefined)))
+    c.run_call.result (g.W.World.world ts c.run_call.new.world) in
     subst P c.script_scope-root.ensures
-    (call-world (program_of ts t) c.script_scope-root.result ts t c.new-stack.result x (term_at ts t c.uncover.new.stack c.uncover.new.point) c.args.arguments.now c.bare-context.result values.Undefined c.args.receiver w (g.W.World.world ts c.run_call.new.world) c.run_call.result c.new-stack.ensures (c.in-Ok.ensures.term ts) c.bare-context.ensures
-    (reduced-ends budget c.in-Reduced.left (program_of ts t) c.script_scope-root.result (run_of (call_with_values c.args.receiver (term_at ts t c.uncover.new.stack c.uncover.new.point) c.args.arguments.now) (state_of w c.bare-context.result [])) c.args.receiver c.in-Reduced.value c.args.arguments.now (state_of (g.W.World.world ts c.reduce_callee-callee.new.world) c.reduce_callee-callee.new.context []) c.run_call.result (g.W.World.world ts c.run_call.new.world) (c.in-Reduced.ensures [] c.args.receiver c.args.arguments.now) (c.run_call.ensures.world [])))
+    (call-world (program_of ts t) c.script_scope-root.result ts t c.new-stack.result x
+    (term_at ts t c.uncover.new.stack c.uncover.new.point)
+    c.args.arguments.now c.bare-context.result values.Undefined c.args.receiver w
+    (g.W.World.world ts c.run_call.new.world) c.run_call.result c.new-stack.ensures (c.in-Ok.ensures.term ts)
+    c.bare-context.ensures
+    (reduced-ends budget c.in-Reduced.left (program_of ts t) c.script_scope-root.result
+    (run_of (call_with_values c.args.receiver (term_at ts t c.uncover.new.stack c.uncover.new.point)
+    c.args.arguments.now)
+    (state_of w c.bare-context.result []))
+    c.args.receiver c.in-Reduced.value c.args.arguments.now
+    (state_of (g.W.World.world ts c.reduce_callee-callee.new.world) c.reduce_callee-callee.new.context [])
+    c.run_call.result (g.W.World.world ts c.run_call.new.world)
+    (c.in-Reduced.ensures [] c.args.receiver c.args.arguments.now) (c.run_call.ensures.world [])))
 
 pub returns-clause-answer : goal.returns-clause-answer
 returns-clause-answer g c =
@@ -39,9 +68,16 @@ returns-clause-answer g c =
     let t = c.args.table.now in
     let w = g.W.World.world ts c.args.world.now in
     let x = settle (tree ts t c.args.node) in
-    let P : Addr → Type 0 = λ a. Answers (evaluated (program_of ts t) a values.Undefined w (call_with_values c.args.receiver x c.args.arguments.now)) c.in-Ended.end (g.W.World.world ts c.reduce_callee-callee.new.world) in
+    let P : Addr
+    → Type 0 = λ a. Answers
+    (evaluated (program_of ts t) a values.Undefined w (call_with_values c.args.receiver x c.args.arguments.now))
+    c.in-Ended.end (g.W.World.world ts c.reduce_callee-callee.new.world) in
     subst P c.script_scope-root.ensures
-    (call-answers (program_of ts t) c.script_scope-root.result ts t c.new-stack.result x (term_at ts t c.uncover.new.stack c.uncover.new.point) c.args.arguments.now c.bare-context.result values.Undefined c.args.receiver w (g.W.World.world ts c.reduce_callee-callee.new.world) c.in-Ended.end c.new-stack.ensures (c.in-Ok.ensures.term ts) c.bare-context.ensures
+    (call-answers (program_of ts t) c.script_scope-root.result ts t c.new-stack.result x
+    (term_at ts t c.uncover.new.stack c.uncover.new.point)
+    c.args.arguments.now c.bare-context.result values.Undefined c.args.receiver w
+    (g.W.World.world ts c.reduce_callee-callee.new.world) c.in-Ended.end c.new-stack.ensures
+    (c.in-Ok.ensures.term ts) c.bare-context.ensures
     (c.in-Ended.ensures [] c.args.receiver c.args.arguments.now).0)
 
 pub returns-clause-world : goal.returns-clause-world
@@ -50,7 +86,15 @@ returns-clause-world g c =
     let t = c.args.table.now in
     let w = g.W.World.world ts c.args.world.now in
     let x = settle (tree ts t c.args.node) in
-    let P : Addr → Type 0 = λ a. EndsIn (steps_in budget (program_of ts t) a (run_of (call_with_values c.args.receiver x c.args.arguments.now) (evaluation_state w values.Undefined))) c.in-Ended.end (g.W.World.world ts c.reduce_callee-callee.new.world) in
+    let P : Addr
+    → Type 0 = λ a. EndsIn
+    (steps_in budget (program_of ts t) a
+    (run_of (call_with_values c.args.receiver x c.args.arguments.now) (evaluation_state w values.Undefined)))
+    c.in-Ended.end (g.W.World.world ts c.reduce_callee-callee.new.world) in
     subst P c.script_scope-root.ensures
-    (call-world (program_of ts t) c.script_scope-root.result ts t c.new-stack.result x (term_at ts t c.uncover.new.stack c.uncover.new.point) c.args.arguments.now c.bare-context.result values.Undefined c.args.receiver w (g.W.World.world ts c.reduce_callee-callee.new.world) c.in-Ended.end c.new-stack.ensures (c.in-Ok.ensures.term ts) c.bare-context.ensures
+    (call-world (program_of ts t) c.script_scope-root.result ts t c.new-stack.result x
+    (term_at ts t c.uncover.new.stack c.uncover.new.point)
+    c.args.arguments.now c.bare-context.result values.Undefined c.args.receiver w
+    (g.W.World.world ts c.reduce_callee-callee.new.world) c.in-Ended.end c.new-stack.ensures
+    (c.in-Ok.ensures.term ts) c.bare-context.ensures
     (c.in-Ended.ensures [] c.args.receiver c.args.arguments.now).1)

@@ -21,8 +21,14 @@ returns-in-Ok g c =
     let u = g.W.World.world ts c.call_node.new.world in
     let x = settle (tree ts c.args.table.now c.args.node) in
     record {
-      answer = called-fine p c.args.receiver (arguments_of c.args.arguments.now) w v u x c.slice.result.now c.call_node.result (c.in-Ok.ensures.made ts ∙ ap (λ xs. fine xs v) (sym c.slice.ensures)) c.call_node.ensures.answer;
-      keeps = keeps-behind c.call_node.result w v u (c.make_arguments.ensures.keeps ts) (ends-keep p script_scope (call_with_values c.args.receiver x c.slice.result.now) v u values.Undefined c.call_node.result c.call_node.ensures.world);
+      answer =
+          called-fine p c.args.receiver (arguments_of c.args.arguments.now)
+          w v u x c.slice.result.now c.call_node.result
+          (c.in-Ok.ensures.made ts ∙ ap (λ xs. fine xs v) (sym c.slice.ensures)) c.call_node.ensures.answer;
+      keeps =
+          keeps-behind c.call_node.result w v u (c.make_arguments.ensures.keeps ts)
+          (ends-keep p script_scope (call_with_values c.args.receiver x c.slice.result.now)
+          v u values.Undefined c.call_node.result c.call_node.ensures.world);
     }
 
 pub returns-in-Err : goal.returns-in-Err
@@ -34,6 +40,9 @@ returns-in-Err g c =
     let x = settle (tree ts c.args.table.now c.args.node) in
     let P : Evaluated → Type 0 = λ e. Answers (called p c.args.receiver (arguments_of c.args.arguments.now) w x) e v in
     record {
-      answer = subst P (sym c.refused_end.ensures) (called-refused p c.args.receiver (arguments_of c.args.arguments.now) w v x c.in-Err.refused (c.in-Err.ensures.made ts));
+      answer =
+          subst P (sym c.refused_end.ensures)
+          (called-refused p c.args.receiver (arguments_of c.args.arguments.now) w v x c.in-Err.refused
+          (c.in-Err.ensures.made ts));
       keeps = keeps-to c.refused_end.result w v (c.make_arguments.ensures.keeps ts);
     }

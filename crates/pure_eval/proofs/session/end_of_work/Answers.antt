@@ -17,7 +17,9 @@ returns-in-Expression g c =
     let P : Work → Type 0 = λ work. Answers (worked (program_of ts t) work w x) c.evaluate_node.result v in
     record {
       answer = subst P (sym c.in-Expression.is) c.evaluate_node.ensures.answer;
-      keeps = ends-keep (program_of ts t) c.in-Expression.scope x w v c.in-Expression.receiver c.evaluate_node.result c.evaluate_node.ensures.world;
+      keeps =
+          ends-keep (program_of ts t)
+          c.in-Expression.scope x w v c.in-Expression.receiver c.evaluate_node.result c.evaluate_node.ensures.world;
     }
 
 pub returns-in-Call : goal.returns-in-Call

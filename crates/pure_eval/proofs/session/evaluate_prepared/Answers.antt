@@ -9,4 +9,8 @@ pub returns : goal.returns
 returns g c = λ x from.
     let ts = c.args.names.now in
     let t = c.args.table.now in
-    leaves (worked (program_of ts t) c.args.work (over_world ts c.args.overlay) (settle (tree ts t c.args.node))) (over_world ts c.args.overlay) (over_world ts c.end_of_work-end.new.world) x (space_of ts c.scratch_after-scratch.result) c.args.mark c.end_of_work-end.result from c.end_of_work-end.ensures.answer c.end_of_work-end.ensures.keeps (c.scratch_after-scratch.ensures ts)
+    leaves (worked (program_of ts t) c.args.work (over_world ts c.args.overlay) (settle (tree ts t c.args.node)))
+    (over_world ts c.args.overlay) (over_world ts c.end_of_work-end.new.world) x
+    (space_of ts c.scratch_after-scratch.result)
+    c.args.mark c.end_of_work-end.result from c.end_of_work-end.ensures.answer c.end_of_work-end.ensures.keeps
+    (c.scratch_after-scratch.ensures ts)

@@ -8,6 +8,9 @@ use Rattle.remote_objects.proofs.frames.put_back.Goals as goal
 
 pub returns : goal.returns
 returns c =
-    on_ok_weaker c.put-3.result (λ e. three_put (map member_view c.args.members.now.items) (map member_view c.put.new.members.items) (map member_view c.put-2.new.members.items) (map member_view c.put-3.new.members.items)
-    (codes "scopeChain") (codes "this") (codes "url") (json_view c.list.result) (json_view c.args.receiver) (json_view c.in_ok-url.url) (list_of (map json_view c.args.scopes.items)) (text c.args.url.now)
+    on_ok_weaker c.put-3.result
+    (λ e. three_put (map member_view c.args.members.now.items) (map member_view c.put.new.members.items)
+    (map member_view c.put-2.new.members.items) (map member_view c.put-3.new.members.items)
+    (codes "scopeChain") (codes "this") (codes "url") (json_view c.list.result) (json_view c.args.receiver)
+    (json_view c.in_ok-url.url) (list_of (map json_view c.args.scopes.items)) (text c.args.url.now)
     c.list.ensures c.in_ok-url.ensures c.in_ok-put.ensures c.in_ok-put-2.ensures e) c.put-3.ensures

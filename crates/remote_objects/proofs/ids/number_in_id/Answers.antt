@@ -4,24 +4,32 @@ use Rattle.remote_objects.proofs.ids.number_in_id.Goals as goal
 
 pub returns-in_err-front-clause-none : goal.returns-in_err-front-clause-none
 returns-in_err-front-clause-none c =
-    if_none c.from_residual.result (no_halves c.args.session c.args.text.now (omega (arith, c.ranges.session)) (sym c.in_err-front.ensures))
+    if_none c.from_residual.result
+    (no_halves c.args.session c.args.text.now (omega (arith, c.ranges.session)) (sym c.in_err-front.ensures))
 
 pub returns-in_err-number_of-clause-none : goal.returns-in_err-number_of-clause-none
 returns-in_err-number_of-clause-none c =
-    if_none c.from_residual-in_err-number_of.result (other_front c.args.session c.args.text.now (record { front = c.in_ok-front.front.now; back = c.in_ok-front.back.now }) _
+    if_none c.from_residual-in_err-number_of.result
+    (other_front c.args.session c.args.text.now
+    (record { front = c.in_ok-front.front.now; back = c.in_ok-front.back.now }) _
     (omega (arith, c.ranges.session)) (sym c.in_ok-front.ensures) (sym c.in_err-number_of.ensures) (λ e. cc))
 
 pub returns-then-branch-session-clause-none : goal.returns-then-branch-session-clause-none
 returns-then-branch-session-clause-none c =
-    other_front c.args.session c.args.text.now (record { front = c.in_ok-front.front.now; back = c.in_ok-front.back.now }) _
-    (omega (arith, c.ranges.session)) (sym c.in_ok-front.ensures) (sym c.in_ok-number_of.ensures) (λ e. c.if-branch-session.true (let same : c.in_ok-number_of.field-0 ≡ c.args.session = cc in same))
+    other_front c.args.session c.args.text.now
+    (record { front = c.in_ok-front.front.now; back = c.in_ok-front.back.now }) _
+    (omega (arith, c.ranges.session)) (sym c.in_ok-front.ensures) (sym c.in_ok-number_of.ensures)
+    (λ e. c.if-branch-session.true (let same : c.in_ok-number_of.field-0 ≡ c.args.session = cc in same))
 
 pub returns-clause-some : goal.returns-clause-some
 returns-clause-some c =
-    back_some c.args.session c.args.text.now (record { front = c.in_ok-front.front.now; back = c.in_ok-front.back.now }) c.number_of-2.result
-    (sym c.in_ok-front.ensures) (sym c.in_ok-number_of.ensures ∙ ap (λ n. Some n) c.if-branch-session.false) c.number_of-2.ensures
+    back_some c.args.session c.args.text.now (record { front = c.in_ok-front.front.now; back = c.in_ok-front.back.now })
+    c.number_of-2.result
+    (sym c.in_ok-front.ensures) (sym c.in_ok-number_of.ensures ∙ ap (λ n. Some n) c.if-branch-session.false)
+    c.number_of-2.ensures
 
 pub returns-clause-none : goal.returns-clause-none
 returns-clause-none c =
-    back_none c.args.session c.args.text.now (record { front = c.in_ok-front.front.now; back = c.in_ok-front.back.now }) c.number_of-2.result
+    back_none c.args.session c.args.text.now (record { front = c.in_ok-front.front.now; back = c.in_ok-front.back.now })
+    c.number_of-2.result
     (omega (arith, c.ranges.session)) (sym c.in_ok-front.ensures) c.number_of-2.ensures

@@ -6,7 +6,8 @@ use Rattle.script_files.proofs.input.lines_of.Goals.{then-not-is_empty+in_ok-uni
 pub loop-line-preserved : goal.loop-line-preserved
 loop-line-preserved c = record {
   text = search rules;
-  lines = line_next c.loop-line.lines.items c.loop-line.rest.now c.in-Some.line.now c.in-Some.after.now _ c.in_ok-units_of.field-0 _ c.in-Some.ensures.parts.0 c.in-Some.ensures.parts.1
+  lines =
+      line_next c.loop-line.lines.items c.loop-line.rest.now c.in-Some.line.now c.in-Some.after.now _ c.in_ok-units_of.field-0 _ c.in-Some.ensures.parts.0 c.in-Some.ensures.parts.1
       c.in_ok-push_back.ensures.items c.in_ok-units_of.ensures.form c.loop-line.invariant.lines;
 }
 

@@ -8,8 +8,10 @@ pub returns-in-Err-clause-fault : goal.returns-in-Err-clause-fault
 returns-in-Err-clause-fault g c =
     let i = c.loop-name.invariant in
     let names = c.args.names.now in
-    fails_at c.in-Err.fault _ _ (map string_bytes names) (map string_bytes (take c.loop-name.name-index names)) c.as_str-name.result.now c.loop-name.scripts.items _ _ _ i.files i.quiet
-    (stands_behind names c.loop-name.name-index c.name-item.result c.as_str-name.result.now c.loop-name-test.true c.name-item.is c.as_str-name.ensures.value) i.are c.in-Err.ensures.fault
+    fails_at c.in-Err.fault _ _ (map string_bytes names) (map string_bytes (take c.loop-name.name-index names))
+    c.as_str-name.result.now c.loop-name.scripts.items _ _ _ i.files i.quiet
+    (stands_behind names c.loop-name.name-index c.name-item.result c.as_str-name.result.now c.loop-name-test.true c.name-item.is c.as_str-name.ensures.value)
+    i.are c.in-Err.ensures.fault
 
 pub returns-in-Err-clause-one : goal.returns-in-Err-clause-one
 returns-in-Err-clause-one g c = λ files ss name r. none_refused files (map string_bytes c.args.names.now) ss name r
@@ -21,9 +23,13 @@ pub loop-name-preserved : goal.loop-name-preserved
 loop-name-preserved g c =
     let i = c.loop-name.invariant in
     let e = c.in-Ok.ensures in
-    let more = subst (λ (o : Option (List Named)). Told o (λ files. IsOneMore files c.loop-name.scripts.items c.add_script.new.scripts.items c.as_str-name.result.now)) i.files e.script in
+    let more = subst
+    (λ (o : Option (List Named)). Told o
+    (λ files. IsOneMore files c.loop-name.scripts.items c.add_script.new.scripts.items c.as_str-name.result.now))
+    i.files e.script in
     record {
-      are = told_are_more _ c.args.names.now c.loop-name.name-index c.name-item.result c.loop-name.scripts.items c.add_script.new.scripts.items c.as_str-name.result.now c.loop-name-test.true c.name-item.is c.as_str-name.ensures.value i.are more;
+      are =
+          told_are_more _ c.args.names.now c.loop-name.name-index c.name-item.result c.loop-name.scripts.items c.add_script.new.scripts.items c.as_str-name.result.now c.loop-name-test.true c.name-item.is c.as_str-name.ensures.value i.are more;
       declared = e.declared;
       files = e.files ∙ i.files;
       quiet = e.quiet ∙ i.quiet;

@@ -5,7 +5,9 @@ use Rattle.script_runs.proofs.turns.run_on.Goals as goal
 
 pub turns-init : goal.turns-init
 turns-init g c = record {
-  come = come_nowhere c.args.machine.now (heap_world c.args.machine.now.names c.args.heap.now) (g.O.Sink.content c.args.out.now) c.requires.taken;
+  come =
+      come_nowhere c.args.machine.now (heap_world c.args.machine.now.names c.args.heap.now)
+      (g.O.Sink.content c.args.out.now) c.requires.taken;
   going = c.requires.going;
   quiet = refl;
 }
@@ -24,4 +26,5 @@ pub returns-in-Err-clause-part : goal.returns-in-Err-clause-part
 returns-in-Err-clause-part g c = cut_on _ _ _ _ _ _ _ c.turns.invariant.come c.in-Err.ensures.part
 
 pub returns-in-Err-clause-less : goal.returns-in-Err-clause-less
-returns-in-Err-clause-less g c = λ e. less_on _ _ _ _ _ _ _ c.turns.invariant.come (c.in-Err.ensures.less (same_fault _ _ e))
+returns-in-Err-clause-less g c =
+    λ e. less_on _ _ _ _ _ _ _ c.turns.invariant.come (c.in-Err.ensures.less (same_fault _ _ e))

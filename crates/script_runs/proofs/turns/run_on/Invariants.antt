@@ -6,7 +6,8 @@ use Rattle.script_runs.proofs.turns.run_on.Given as goal
 -- some turns led here, what they printed is written, the run hasn't ended, and no write failed
 abbrev pub invariant-turns : goal.invariant-turns
 invariant-turns g l = record {
-  come : HasCome l.fn.machine (heap_world l.fn.machine.names l.fn.heap) l.machine (heap_world l.machine.names l.heap) (g.O.Sink.content l.fn.out) (g.O.Sink.content l.out);
+  come : HasCome l.fn.machine (heap_world l.fn.machine.names l.fn.heap) l.machine (heap_world l.machine.names l.heap)
+      (g.O.Sink.content l.fn.out) (g.O.Sink.content l.out);
   going : l.machine.ended ≡ None;
   quiet : g.O.Sink.faults l.out ≡ g.O.Sink.faults l.fn.out;
 }

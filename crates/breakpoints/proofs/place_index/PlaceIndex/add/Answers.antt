@@ -11,4 +11,5 @@ invariant_of-self-2 c =
 
 pub returns-clause-kept : goal.returns-clause-kept
 returns-clause-kept c = λ q h.
-    insert-kept c.args.place c.self.inside.places c.insert.new.self c.in_ok-insert.ensures.updates q (ap (has_place q) c.self.view_is ∙ h)
+    insert-kept c.args.place c.self.inside.places c.insert.new.self c.in_ok-insert.ensures.updates q
+    (ap (has_place q) c.self.view_is ∙ h)

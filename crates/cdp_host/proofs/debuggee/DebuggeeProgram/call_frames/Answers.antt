@@ -14,13 +14,15 @@ returns-in-Some c =
     let m = d.machine.now in
     let w = heap_world m.names d.heap.now in
     ap (map frame_of) c.new.ensures.items
-    ∙ sym (standing-over d.scripts.now (machine_run m d.heap.now []) (finish_of c.in-Some.field-0) (state_of m w []) (c.in-Some.ensures.over w []))
+    ∙ sym (standing-over d.scripts.now (machine_run m d.heap.now []) (finish_of c.in-Some.field-0) (state_of m w [])
+    (c.in-Some.ensures.over w []))
 
 pub returns-in-Some-end : goal.returns-in-Some-end
 returns-in-Some-end c =
     let d = c.args.self.now in
     let ended : is_some d.machine.now.ended ≡ true = ap is_some (sym c.in-Some-end.ensures) in
-    ap (map frame_of) c.new-in-Some-end.ensures.items ∙ sym (standing-ended d.scripts.now d.machine.now d.heap.now d.kept ended)
+    ap (map frame_of) c.new-in-Some-end.ensures.items
+    ∙ sym (standing-ended d.scripts.now d.machine.now d.heap.now d.kept ended)
 
 pub returns-in-None-end : goal.returns-in-None-end
 returns-in-None-end c =
@@ -28,5 +30,7 @@ returns-in-None-end c =
     let m = d.machine.now in
     let going : m.ended ≡ None = sym c.in-None-end.ensures in
     IfOk-weaker c.walked.result _ _
-    (λ frames same. same ∙ sym (standing-going d.scripts.now m d.heap.now going (c.in-None.ensures.left going (heap_world m.names d.heap.now) [])))
+    (λ frames same. same
+    ∙ sym (standing-going d.scripts.now m d.heap.now going
+    (c.in-None.ensures.left going (heap_world m.names d.heap.now) [])))
     c.walked.ensures

@@ -16,7 +16,9 @@ advance-requires-clause-going c =
     let a = c.self.inside in
     let kept = c.self.invariant.kept (ap (λ h. h.broken) c.self.view_is ∙ c.requires.works) in
     let now = meaning_with c.args.self.now [] in
-    still-going a.machine a.heap [] kept (ap (λ h. is_over (meaning_with h []).program) c.self.view_is ∙ (ready-parts c.args.self.now.scripts now (c.requires.ready [])).1)
+    still-going a.machine a.heap [] kept
+    (ap (λ h. is_over (meaning_with h []).program) c.self.view_is
+    ∙ (ready-parts c.args.self.now.scripts now (c.requires.ready [])).1)
 
 pub advance-requires-clause-all_told : goal.advance-requires-clause-all_told
 advance-requires-clause-all_told c =

@@ -14,27 +14,36 @@ use Rattle.cdp_host.proofs.host.Host.answer.Goals as goal
 pub invariant_of-program : goal.invariant_of-program
 invariant_of-program c =
     let a = c.self.inside in
-    let held : is_attached (seat_of c.args.s a.seats.items) ≡ true = subst (λ o. is_attached (seat_of c.args.s o.meaning.seats) ≡ true) (sym c.self.view_is) c.requires in
+    let held : is_attached (seat_of c.args.s a.seats.items) ≡ true = subst
+    (λ o. is_attached (seat_of c.args.s o.meaning.seats) ≡ true) (sym c.self.view_is) c.requires in
     let P : List Script → Type 0 = λ ss. AreLines ss c.as_slice-2.result.now in
     let Q : List (List _) → Type 0 = λ ls. AreLines a.scripts.items ls in
     record {
-      located = subst P (sym c.as_slice.ensures.value) (subst Q (sym c.as_slice-2.ensures.value) c.self.invariant.lines);
+      located =
+          subst P (sym c.as_slice.ensures.value) (subst Q (sym c.as_slice-2.ensures.value) c.self.invariant.lines);
       kept = c.self.invariant.kept (works-at c.args.s a.broken a.seats.items c.self.invariant.alone held);
     }
 
 pub invariant_of-self : goal.invariant_of-self
 invariant_of-self c =
     let a = c.self.inside in
-    let held : is_attached (seat_of c.args.s a.seats.items) ≡ true = subst (λ o. is_attached (seat_of c.args.s o.meaning.seats) ≡ true) (sym c.self.view_is) c.requires in
+    let held : is_attached (seat_of c.args.s a.seats.items) ≡ true = subst
+    (λ o. is_attached (seat_of c.args.s o.meaning.seats) ≡ true) (sym c.self.view_is) c.requires in
     let it = whose (seat_of c.args.s a.seats.items) held in
     let rest = drop (length c.answer.new.seats) a.seats.items in
-    let f : List Script → List Script → Answer = λ ss ts. answer_of (record { scripts = ss; paused = a.stop; standing = machine_standing ts a.machine a.heap }) it.0 c.args.text.now in
+    let f : List Script
+    → List Script
+    → Answer = λ ss ts. answer_of
+    (record { scripts = ss; paused = a.stop; standing = machine_standing ts a.machine a.heap })
+    it.0 c.args.text.now in
     sound-seats a.scripts.items a.lines.items a.spots a.machine a.broken a.seats.items
     (take a.seats.len (c.answer.new.seats ++ rest)) a.seats.len a.fallback a.fallen.items
     c.self.invariant
     (works-at c.args.s a.broken a.seats.items c.self.invariant.alone held)
-    (answer-fit a.scripts.items c.answer.result (f c.as_slice-3.result.now c.as_slice.result.now) c.args.s a.seats.items (take a.seats.len (c.answer.new.seats ++ rest))
-    (answers-back c.answer.result (f c.as_slice-3.result.now c.as_slice.result.now) a.seats.len c.args.s a.seats.items c.as_mut_slice.result.now c.answer.new.seats rest
+    (answer-fit a.scripts.items c.answer.result (f c.as_slice-3.result.now c.as_slice.result.now) c.args.s a.seats.items
+    (take a.seats.len (c.answer.new.seats ++ rest))
+    (answers-back c.answer.result (f c.as_slice-3.result.now c.as_slice.result.now)
+    a.seats.len c.args.s a.seats.items c.as_mut_slice.result.now c.answer.new.seats rest
     c.as_mut_slice.ensures.value (sym c.as_mut_slice.ensures.len)
     (c.answer.ensures it.0 (ap (seat_of c.args.s) c.as_mut_slice.ensures.value ∙ it.1)))
     c.self.invariant.fit)
@@ -45,15 +54,24 @@ returns-clause-answers c =
     let h : HostState = seen_as a in
     let rest = drop (length c.answer.new.seats) a.seats.items in
     let news = take a.seats.len (c.answer.new.seats ++ rest) in
-    let f : Session → List Script → List Script → Answer = λ x ss ts. answer_of (record { scripts = ss; paused = a.stop; standing = machine_standing ts a.machine a.heap }) x c.args.text.now in
+    let f : Session
+    → List Script
+    → List Script
+    → Answer = λ x ss ts. answer_of
+    (record { scripts = ss; paused = a.stop; standing = machine_standing ts a.machine a.heap })
+    x c.args.text.now in
     let lent : (x : Session) → f x c.as_slice-3.result.now c.as_slice.result.now ≡ f x a.scripts.items a.scripts.items =
-    λ x. ap (λ ss. f x ss c.as_slice.result.now) c.as_slice-3.ensures.value ∙ ap (f x a.scripts.items) c.as_slice.ensures.value in
+    λ x. ap (λ ss. f x ss c.as_slice.result.now) c.as_slice-3.ensures.value
+    ∙ ap (f x a.scripts.items) c.as_slice.ensures.value in
     let A : HostState → Type 0 = λ o. (x : Session) → seat_of c.args.s o.meaning.seats ≡ Attached x
-    → AnswersIn c.answer.result (answer_of (situation o.scripts o.meaning.stop (parts_standing o.scripts o.meaning.program)) x c.args.text.now) c.args.s o.meaning.seats news in
+    → AnswersIn c.answer.result
+    (answer_of (situation o.scripts o.meaning.stop (parts_standing o.scripts o.meaning.program)) x c.args.text.now)
+    c.args.s o.meaning.seats news in
     let here : A h = λ x is.
     let B : Answer → Type 0 = λ answer. AnswersIn c.answer.result answer c.args.s a.seats.items news in
     subst B (lent x)
-    (answers-back c.answer.result (f x c.as_slice-3.result.now c.as_slice.result.now) a.seats.len c.args.s a.seats.items c.as_mut_slice.result.now c.answer.new.seats rest
+    (answers-back c.answer.result (f x c.as_slice-3.result.now c.as_slice.result.now)
+    a.seats.len c.args.s a.seats.items c.as_mut_slice.result.now c.answer.new.seats rest
     c.as_mut_slice.ensures.value (sym c.as_mut_slice.ensures.len)
     (c.answer.ensures x (ap (seat_of c.args.s) c.as_mut_slice.ensures.value ∙ is))) in
     subst A c.self.view_is here
@@ -61,5 +79,6 @@ returns-clause-answers c =
 pub returns-clause-works : goal.returns-clause-works
 returns-clause-works c =
     let a = c.self.inside in
-    let held : is_attached (seat_of c.args.s a.seats.items) ≡ true = subst (λ o. is_attached (seat_of c.args.s o.meaning.seats) ≡ true) (sym c.self.view_is) c.requires in
+    let held : is_attached (seat_of c.args.s a.seats.items) ≡ true = subst
+    (λ o. is_attached (seat_of c.args.s o.meaning.seats) ≡ true) (sym c.self.view_is) c.requires in
     ap (λ o. o.broken) (sym c.self.view_is) ∙ works-at c.args.s a.broken a.seats.items c.self.invariant.alone held

@@ -18,7 +18,8 @@ returns-in_err-reserve-clause-err c =
     let a = c.self.inside in
     let V : Fallback → HostState = λ f. record {
       scripts = a.scripts.items;
-      meaning = record { program = record { machine = a.machine; heap = a.heap }; phase = a.phase; stop = a.stop; stops = a.stops; shut = a.shut; seats = a.seats.items };
+      meaning =
+          record { program = record { machine = a.machine; heap = a.heap }; phase = a.phase; stop = a.stop; stops = a.stops; shut = a.shut; seats = a.seats.items };
       broken = a.broken;
       fallback = f;
       fallen = a.fallen.items;
@@ -42,13 +43,18 @@ returns-clause-leaves c =
     let h : HostState = seen_as a in
     let f : ℕ → Workspace → _ = λ n w. fresh n w in
     let P : Fallback → Type 0 = λ held.
-    Leaves c.args.self.now Attach (record h { meaning = record h.meaning { seats = c.push.new.self.items }; fallback = held }) in
+    Leaves c.args.self.now Attach
+    (record h { meaning = record h.meaning { seats = c.push.new.self.items }; fallback = held }) in
     subst P (sym c.in_ok-reserve.ensures.same)
     (attach-leaves h c.args.self.now c.push.new.self.items c.new-session.result c.self.view_is
     (c.new-session.ensures
-    ∙ ap (λ n. f (n + 1) c.in_ok-workspace.workspace) (c.sessions-number.ensures ∙ sym (ap (λ o. length o.meaning.seats) c.self.view_is))
-    ∙ ap (f (length a.seats.items + 1)) (c.in_ok-workspace.ensures ∙ ap (λ ss. begun (code_of ss)) c.as_slice.ensures.value))
+    ∙ ap (λ n. f (n + 1) c.in_ok-workspace.workspace)
+    (c.sessions-number.ensures ∙ sym (ap (λ o. length o.meaning.seats) c.self.view_is))
+    ∙ ap (f (length a.seats.items + 1))
+    (c.in_ok-workspace.ensures ∙ ap (λ ss. begun (code_of ss)) c.as_slice.ensures.value))
     c.in_ok-push.ensures.items)
 
 pub returns-clause-stands : goal.returns-clause-stands
-returns-clause-stands c = attach-stands c.args.self.now _ (ap (λ h. h.broken) (sym c.self.view_is) ∙ c.if-self.false) (returns-clause-leaves c)
+returns-clause-stands c =
+    attach-stands c.args.self.now _ (ap (λ h. h.broken) (sym c.self.view_is) ∙ c.if-self.false)
+    (returns-clause-leaves c)

@@ -11,4 +11,7 @@ pub returns-in-None : goal.returns-in-None
 returns-in-None c = λ works taken.
     let a = c.self.inside in
     let kept = c.self.invariant.kept (ap (λ h. h.broken) c.self.view_is ∙ works) in
-    rw (← c.self.view_is) (c.is_some.ensures ∙ ap is_some c.end.ensures ∙ unfinished-over a.machine a.heap taken kept c.in-None.ensures.left)
+    rw (← c.self.view_is)
+    (c.is_some.ensures
+    ∙ ap is_some c.end.ensures
+    ∙ unfinished-over a.machine a.heap taken kept c.in-None.ensures.left)

@@ -18,9 +18,12 @@ invariant_of-self c =
     let news = c.leave.new.seats in
     let rest = drop (length news) a.seats.items in
     let w = take a.seats.len (news ++ rest) in
-    let held : is_attached (seat_of c.args.s a.seats.items) ≡ true = subst (λ o. is_attached (seat_of c.args.s o.meaning.seats) ≡ true) (sym c.self.view_is) c.requires in
+    let held : is_attached (seat_of c.args.s a.seats.items) ≡ true = subst
+    (λ o. is_attached (seat_of c.args.s o.meaning.seats) ≡ true) (sym c.self.view_is) c.requires in
     let back : w ≡ put c.args.s Left a.seats.items =
-    put-back a.seats.len c.args.s Left a.seats.items news rest (sym c.as_mut_slice.ensures.len ∙ ap length c.as_mut_slice.ensures.value) (c.leave.ensures ∙ ap (put c.args.s Left) c.as_mut_slice.ensures.value) in
+    put-back a.seats.len c.args.s Left a.seats.items news rest
+    (sym c.as_mut_slice.ensures.len ∙ ap length c.as_mut_slice.ensures.value)
+    (c.leave.ensures ∙ ap (put c.args.s Left) c.as_mut_slice.ensures.value) in
     sound-seats a.scripts.items a.lines.items a.spots a.machine a.broken a.seats.items w a.seats.len a.fallback
     a.fallen.items
     c.self.invariant (works-at c.args.s a.broken a.seats.items c.self.invariant.alone held)
@@ -29,7 +32,8 @@ invariant_of-self c =
 pub settle-requires : goal.settle-requires
 settle-requires c =
     let a = c.self.inside in
-    works-at c.args.s a.broken a.seats.items c.self.invariant.alone (subst (λ o. is_attached (seat_of c.args.s o.meaning.seats) ≡ true) (sym c.self.view_is) c.requires)
+    works-at c.args.s a.broken a.seats.items c.self.invariant.alone
+    (subst (λ o. is_attached (seat_of c.args.s o.meaning.seats) ≡ true) (sym c.self.view_is) c.requires)
 
 pub returns-clause-leaves : goal.returns-clause-leaves
 returns-clause-leaves c =
@@ -39,7 +43,9 @@ returns-clause-leaves c =
     let rest = drop (length news) a.seats.items in
     let w = take a.seats.len (news ++ rest) in
     let back : w ≡ put c.args.s Left a.seats.items =
-    put-back a.seats.len c.args.s Left a.seats.items news rest (sym c.as_mut_slice.ensures.len ∙ ap length c.as_mut_slice.ensures.value) (c.leave.ensures ∙ ap (put c.args.s Left) c.as_mut_slice.ensures.value) in
+    put-back a.seats.len c.args.s Left a.seats.items news rest
+    (sym c.as_mut_slice.ensures.len ∙ ap length c.as_mut_slice.ensures.value)
+    (c.leave.ensures ∙ ap (put c.args.s Left) c.as_mut_slice.ensures.value) in
     let h : HostState = seen_as a in
     let mid : HostState = record h { meaning = record h.meaning { seats = w } } in
     let it = whose (seat_of c.args.s now.meaning.seats) c.requires in
@@ -51,4 +57,6 @@ returns-clause-leaves c =
 pub returns-clause-works : goal.returns-clause-works
 returns-clause-works c =
     let a = c.self.inside in
-    ap (λ o. o.broken) (sym c.self.view_is) ∙ works-at c.args.s a.broken a.seats.items c.self.invariant.alone (subst (λ o. is_attached (seat_of c.args.s o.meaning.seats) ≡ true) (sym c.self.view_is) c.requires)
+    ap (λ o. o.broken) (sym c.self.view_is)
+    ∙ works-at c.args.s a.broken a.seats.items c.self.invariant.alone
+    (subst (λ o. is_attached (seat_of c.args.s o.meaning.seats) ≡ true) (sym c.self.view_is) c.requires)

@@ -29,7 +29,8 @@ pub returns-else-may_step-clause-makes : goal.returns-else-may_step-clause-makes
 returns-else-may_step-clause-makes c = λ taken.
     let now = c.args.self.now in
     let none = c.new.result.items in
-    ran-nothing now.scripts c.args.moment now c.args.n none taken c.may_step.result c.new.ensures.items c.requires.works (c.may_step.ensures (taken ++ none)) c.if-may_step.false
+    ran-nothing now.scripts c.args.moment now c.args.n none taken c.may_step.result c.new.ensures.items c.requires.works
+    (c.may_step.ensures (taken ++ none)) c.if-may_step.false
 
 pub returns-else-may_step-clause-keeps : goal.returns-else-may_step-clause-keeps
 returns-else-may_step-clause-keeps c = keeps-none c.args.self.now

@@ -16,10 +16,13 @@ loop-self-init c = record {
   within = omega arith;
   scripts = refl;
   same = c.requires.works;
-  handed = sym (ap (λ h. h.meaning.program.machine.context.printed) c.self.view_is) ∙ c.self.invariant.handed (ap (λ h. h.broken) c.self.view_is ∙ c.requires.works);
+  handed =
+      sym (ap (λ h. h.meaning.program.machine.context.printed) c.self.view_is)
+      ∙ c.self.invariant.handed (ap (λ h. h.broken) c.self.view_is ∙ c.requires.works);
   flags = c.in-Ok.ensures ∙ c.len.ensures ∙ c.self.inside.seats.ok.0 ∙ ap (λ h. length h.meaning.seats) c.self.view_is;
   keeps = keeps-none c.args.self.now;
-  made = λ taken. ran-none c.args.self.now.scripts c.args.moment c.args.self.now c.args.n c.new-printed.result.items taken c.new-printed.ensures.items;
+  made =
+      λ taken. ran-none c.args.self.now.scripts c.args.moment c.args.self.now c.args.n c.new-printed.result.items taken c.new-printed.ensures.items;
 }
 
 pub advance-requires-clause-works : goal.advance-requires-clause-works
@@ -28,12 +31,14 @@ advance-requires-clause-works c = c.loop-self.invariant.same
 pub advance-requires-clause-ready : goal.advance-requires-clause-ready
 advance-requires-clause-ready c = λ taken.
     let now = c.loop-self.self in
-    (may-parts c.loop-self.left now.broken (is_ready (protocol now.scripts) (meaning_with now taken)) (sym (c.may_step.ensures taken) ∙ c.loop-self-test.true)).2
+    (may-parts c.loop-self.left now.broken (is_ready (protocol now.scripts) (meaning_with now taken))
+    (sym (c.may_step.ensures taken) ∙ c.loop-self-test.true)).2
 
 pub advance-requires-clause-some : goal.advance-requires-clause-some
 advance-requires-clause-some c =
     let now = c.loop-self.self in
-    (may-parts c.loop-self.left now.broken (is_ready (protocol now.scripts) (meaning_with now [])) (sym (c.may_step.ensures []) ∙ c.loop-self-test.true)).0
+    (may-parts c.loop-self.left now.broken (is_ready (protocol now.scripts) (meaning_with now []))
+    (sym (c.may_step.ensures []) ∙ c.loop-self-test.true)).0
 
 pub advance-requires-clause-flags : goal.advance-requires-clause-flags
 advance-requires-clause-flags c = ap (λ flags. length flags) c.as_mut_slice.ensures.value ∙ c.loop-self.invariant.flags
@@ -53,7 +58,8 @@ loop-self-preserved c =
     let now = c.in_ok-left.ensures in
     let host = c.loop-self.self in
     let flags : (with_items c.loop-self.named c.advance.new.named).items ≡ c.advance.new.named =
-    with_items_is c.loop-self.named c.advance.new.named (omega (arith, c.advance.auto.named, c.as_mut_slice.ensures.len)) in
+    with_items_is c.loop-self.named c.advance.new.named
+    (omega (arith, c.advance.auto.named, c.as_mut_slice.ensures.len)) in
     record {
       within = let counts = now.counts.within in let before = was.within in omega (arith, counts, before);
       scripts = now.scripts ∙ was.scripts;
@@ -63,9 +69,12 @@ loop-self-preserved c =
       keeps = keeps-more c.args.self.now host c.advance.new.self was.keeps now.keeps;
       made = λ taken.
           let there = taken ++ c.loop-self.printed.items in
-          let go = (may-parts c.loop-self.left host.broken (is_ready (protocol host.scripts) (meaning_with host there)) (sym (c.may_step.ensures there) ∙ c.loop-self-test.true)).2 in
-          ran-more c.args.self.now.scripts host.scripts c.args.moment (meaning_with c.args.self.now taken) (meaning_with host there)
-          (meaning_with c.advance.new.self (taken ++ c.advance.new.printed.items)) c.args.n c.loop-self.left c.in_ok-left.field-0
+          let go = (may-parts c.loop-self.left host.broken (is_ready (protocol host.scripts) (meaning_with host there))
+          (sym (c.may_step.ensures there) ∙ c.loop-self-test.true)).2 in
+          ran-more c.args.self.now.scripts host.scripts c.args.moment (meaning_with c.args.self.now taken)
+          (meaning_with host there)
+          (meaning_with c.advance.new.self (taken ++ c.advance.new.printed.items))
+          c.args.n c.loop-self.left c.in_ok-left.field-0
           was.scripts was.within now.counts.some now.counts.within (was.made taken) go (now.made taken);
     }
 
@@ -79,13 +88,16 @@ returns-clause-makes c = λ taken.
     let was = c.loop-self.invariant in
     let host = c.loop-self.self in
     let there = taken ++ c.loop-self.printed.items in
-    ran-longest c.args.self.now.scripts host.scripts c.args.moment (meaning_with c.args.self.now taken) (meaning_with host there) c.args.n c.loop-self.left
-    host.broken c.may_step.result was.scripts (was.made taken) was.within was.same (c.may_step.ensures there) c.loop-self-test.false
+    ran-longest c.args.self.now.scripts host.scripts c.args.moment (meaning_with c.args.self.now taken)
+    (meaning_with host there) c.args.n c.loop-self.left
+    host.broken c.may_step.result was.scripts (was.made taken) was.within was.same (c.may_step.ensures there)
+    c.loop-self-test.false
 
 pub returns-clause-printed : goal.returns-clause-printed
 returns-clause-printed c =
     ran-prints c.args.self.now.meaning.program c.loop-self.self.meaning.program c.loop-self.printed.items
-    (sym (ap (λ h. h.meaning.program.machine.context.printed) c.self.view_is) ∙ c.self.invariant.handed (ap (λ h. h.broken) c.self.view_is ∙ c.requires.works))
+    (sym (ap (λ h. h.meaning.program.machine.context.printed) c.self.view_is)
+    ∙ c.self.invariant.handed (ap (λ h. h.broken) c.self.view_is ∙ c.requires.works))
     c.loop-self.invariant.handed
 
 pub returns-clause-same : goal.returns-clause-same

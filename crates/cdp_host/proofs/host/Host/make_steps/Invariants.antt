@@ -14,7 +14,8 @@ invariant-loop-self l = record {
   flags : length l.named.items ≡ length l.self.meaning.seats;
   keeps : KeepsFallback l.fn.self l.self;
   made : (taken : List (List ℕ))
-      → HasMade (protocol l.fn.self.scripts) l.moment (meaning_with l.fn.self taken) (meaning_with l.self (taken ++ l.printed.items)) (l.n - l.left);
+      → HasMade (protocol l.fn.self.scripts) l.moment (meaning_with l.fn.self taken)
+      (meaning_with l.self (taken ++ l.printed.items)) (l.n - l.left);
 }
 
 abbrev pub decreases-loop-self : goal.decreases-loop-self

@@ -19,7 +19,10 @@ invariant_of-self c =
     let P = protocol a.scripts.items in
     let news = c.resume_all.new.seats in
     let rest = drop (length news) a.seats.items in
-    let back = given-back a.seats.len news rest (sym c.as_mut_slice.ensures.len ∙ sym (over-all-length (HearsOn P) c.as_mut_slice.result.now news (c.resume_all.ensures a.scripts.items))) in
+    let back = given-back a.seats.len news rest
+    (sym c.as_mut_slice.ensures.len
+    ∙ sym (over-all-length (HearsOn P) c.as_mut_slice.result.now news (c.resume_all.ensures a.scripts.items)))
+    in
     sound-seats a.scripts.items a.lines.items a.spots a.machine a.broken a.seats.items
     (take a.seats.len (news ++ rest)) a.seats.len a.fallback a.fallen.items
     c.self.invariant (ap (λ h. h.broken) c.self.view_is ∙ c.requires)
@@ -31,15 +34,23 @@ returns-then-is_some-clause-means c =
     let P = protocol a.scripts.items in
     let news = c.resume_all.new.seats in
     let rest = drop (length news) a.seats.items in
-    let back = given-back a.seats.len news rest (sym c.as_mut_slice.ensures.len ∙ sym (over-all-length (HearsOn P) c.as_mut_slice.result.now news (c.resume_all.ensures a.scripts.items))) in
+    let back = given-back a.seats.len news rest
+    (sym c.as_mut_slice.ensures.len
+    ∙ sym (over-all-length (HearsOn P) c.as_mut_slice.result.now news (c.resume_all.ensures a.scripts.items)))
+    in
     let w = take a.seats.len (news ++ rest) in
     let h : HostState = seen_as a in
     let new : HostState = record h { meaning = record h.meaning { stop = None; seats = w } } in
-    let over = subst (λ ss. OverAll (HearsOn P) a.seats.items ss) (sym back) (subst (λ ss. OverAll (HearsOn P) ss news) c.as_mut_slice.ensures.value (c.resume_all.ensures a.scripts.items)) in
-    let Q : HostState → Type 0 = λ o. (taken : List (List ℕ)) → meaning_with new taken ≡ less w (resume (protocol o.scripts) (meaning_with o taken)) in
+    let over = subst (λ ss. OverAll (HearsOn P) a.seats.items ss) (sym back)
+    (subst (λ ss. OverAll (HearsOn P) ss news) c.as_mut_slice.ensures.value (c.resume_all.ensures a.scripts.items))
+    in
+    let Q : HostState
+    → Type 0 = λ o. (taken : List (List ℕ))
+    → meaning_with new taken ≡ less w (resume (protocol o.scripts) (meaning_with o taken)) in
     subst Q c.self.view_is (λ taken. resumed-is P (meaning_with h taken) w (sym c.if-is_some.ensures) over)
 
 pub returns-else-is_some-clause-means : goal.returns-else-is_some-clause-means
 returns-else-is_some-clause-means c = λ taken.
     let now = c.args.self.now in
-    unresumed-is (protocol now.scripts) (meaning_with now taken) (ap (λ h. is_paused h.meaning) (sym c.self.view_is) ∙ sym c.if-is_some.ensures)
+    unresumed-is (protocol now.scripts) (meaning_with now taken)
+    (ap (λ h. is_paused h.meaning) (sym c.self.view_is) ∙ sym c.if-is_some.ensures)

@@ -15,4 +15,5 @@ pub returns-clause-stands : goal.returns-clause-stands
 returns-clause-stands c =
     let a = c.self.inside in
     let h : HostState = seen_as a in
-    subst (λ o. CarriesOn o Shut (record h { meaning = record h.meaning { shut = true } })) c.self.view_is (shut-stands h h.broken refl)
+    subst (λ o. CarriesOn o Shut (record h { meaning = record h.meaning { shut = true } })) c.self.view_is
+    (shut-stands h h.broken refl)

@@ -24,8 +24,12 @@ invariant_of-result c =
 
 pub returns-clause-host : goal.returns-clause-host
 returns-clause-host c =
-    let P : List Script → Type 0 = λ scripts. IsStarted (terms_of_scripts scripts) c.args.input.items c.in_ok-machine.field-0 in
-    rw (c.phase_of.ensures, c.new.ensures.items) (start-means c.args.scripts.items c.args.input.items c.args.wait c.in_ok-machine.field-0 (subst P c.as_slice-3.ensures.value c.in_ok-machine.ensures))
+    let P : List Script
+    → Type 0 = λ scripts. IsStarted (terms_of_scripts scripts) c.args.input.items c.in_ok-machine.field-0 in
+    rw (c.phase_of.ensures, c.new.ensures.items)
+    (start-means c.args.scripts.items c.args.input.items c.args.wait c.in_ok-machine.field-0
+    (subst P c.as_slice-3.ensures.value c.in_ok-machine.ensures))
 
 pub returns-clause-stands : goal.returns-clause-stands
-returns-clause-stands c = stands-start c.args.scripts.items c.args.input.items c.args.wait _ refl refl (returns-clause-host c)
+returns-clause-stands c =
+    stands-start c.args.scripts.items c.args.input.items c.args.wait _ refl refl (returns-clause-host c)

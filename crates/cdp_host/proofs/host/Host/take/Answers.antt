@@ -8,14 +8,16 @@ use Rattle.cdp_host.proofs.host.Host.take.Goals as goal
 pub invariant_of-self : goal.invariant_of-self
 invariant_of-self c =
     let a = c.self.inside in
-    let held : is_attached (seat_of c.args.s a.seats.items) ≡ true = subst (λ o. is_attached (seat_of c.args.s o.meaning.seats) ≡ true) (sym c.self.view_is) c.requires in
+    let held : is_attached (seat_of c.args.s a.seats.items) ≡ true = subst
+    (λ o. is_attached (seat_of c.args.s o.meaning.seats) ≡ true) (sym c.self.view_is) c.requires in
     let rest = drop (length c.take.new.seats) a.seats.items in
     sound-seats a.scripts.items a.lines.items a.spots a.machine a.broken a.seats.items
     (take a.seats.len (c.take.new.seats ++ rest)) a.seats.len a.fallback a.fallen.items
     c.self.invariant
     (works-at c.args.s a.broken a.seats.items c.self.invariant.alone held)
     (take-fit a.scripts.items c.args.s a.seats.items (take a.seats.len (c.take.new.seats ++ rest)) held
-    (take-back a.seats.len c.args.s a.seats.items c.as_mut_slice.result.now c.take.new.seats rest c.as_mut_slice.ensures.value (sym c.as_mut_slice.ensures.len) c.take.ensures.seats)
+    (take-back a.seats.len c.args.s a.seats.items c.as_mut_slice.result.now c.take.new.seats rest c.as_mut_slice.ensures.value
+    (sym c.as_mut_slice.ensures.len) c.take.ensures.seats)
     c.self.invariant.fit)
 
 pub returns-clause-leaves : goal.returns-clause-leaves
@@ -24,7 +26,8 @@ returns-clause-leaves c =
     let h : HostState = seen_as a in
     let rest = drop (length c.take.new.seats) a.seats.items in
     take-leaves h c.args.self.now c.args.s (take a.seats.len (c.take.new.seats ++ rest)) c.self.view_is c.requires
-    (take-back a.seats.len c.args.s a.seats.items c.as_mut_slice.result.now c.take.new.seats rest c.as_mut_slice.ensures.value (sym c.as_mut_slice.ensures.len) c.take.ensures.seats)
+    (take-back a.seats.len c.args.s a.seats.items c.as_mut_slice.result.now c.take.new.seats rest c.as_mut_slice.ensures.value
+    (sym c.as_mut_slice.ensures.len) c.take.ensures.seats)
 
 pub returns-clause-stands : goal.returns-clause-stands
 returns-clause-stands c =

@@ -19,9 +19,11 @@ invariant_of-self c =
     let news = c.tell_loss.new.seats in
     let rest = drop (length news) a.seats.items in
     let w = take a.seats.len (news ++ rest) in
-    let gone : is_attached (seat_of s a.seats.items) ≡ false = subst (λ o. is_attached (seat_of s o.meaning.seats) ≡ false) (sym c.self.view_is) c.requires in
+    let gone : is_attached (seat_of s a.seats.items) ≡ false = subst
+    (λ o. is_attached (seat_of s o.meaning.seats) ≡ false) (sym c.self.view_is) c.requires in
     let back : w ≡ put s (owner_told (seat_of s a.seats.items)) a.seats.items =
-    put-back a.seats.len s (owner_told (seat_of s a.seats.items)) a.seats.items news rest (sym c.as_mut_slice.ensures.len ∙ ap length c.as_mut_slice.ensures.value)
+    put-back a.seats.len s (owner_told (seat_of s a.seats.items)) a.seats.items news rest
+    (sym c.as_mut_slice.ensures.len ∙ ap length c.as_mut_slice.ensures.value)
     (c.tell_loss.ensures.seats ∙ ap (λ ss. put s (owner_told (seat_of s ss)) ss) c.as_mut_slice.ensures.value) in
     record {
       lines = c.self.invariant.lines;
@@ -32,8 +34,14 @@ invariant_of-self c =
       quiet = c.self.invariant.quiet;
       room = c.self.invariant.room;
       gone = c.self.invariant.gone;
-      alone = λ fails. subst NoneAttached (sym back) (put-gone s (owner_told (seat_of s a.seats.items)) a.seats.items (told-gone (seat_of s a.seats.items) gone) (c.self.invariant.alone fails));
-      fit = subst (AllFit P) (sym back) (put-fits P s (owner_told (seat_of s a.seats.items)) a.seats.items (told-fits a.scripts.items (seat_of s a.seats.items) gone) c.self.invariant.fit);
+      alone =
+          λ fails. subst NoneAttached (sym back)
+          (put-gone s (owner_told (seat_of s a.seats.items)) a.seats.items
+          (told-gone (seat_of s a.seats.items) gone) (c.self.invariant.alone fails));
+      fit =
+          subst (AllFit P) (sym back)
+          (put-fits P s (owner_told (seat_of s a.seats.items)) a.seats.items
+          (told-fits a.scripts.items (seat_of s a.seats.items) gone) c.self.invariant.fit);
     }
 
 pub returns-clause-stands : goal.returns-clause-stands
@@ -45,9 +53,12 @@ returns-clause-stands c =
     let rest = drop (length news) a.seats.items in
     let w = take a.seats.len (news ++ rest) in
     let h : HostState = seen_as a in
-    let gone : is_attached (seat_of s a.seats.items) ≡ false = subst (λ o. is_attached (seat_of s o.meaning.seats) ≡ false) (sym c.self.view_is) c.requires in
+    let gone : is_attached (seat_of s a.seats.items) ≡ false = subst
+    (λ o. is_attached (seat_of s o.meaning.seats) ≡ false) (sym c.self.view_is) c.requires in
     let back : w ≡ put s (owner_told (seat_of s a.seats.items)) a.seats.items =
-    put-back a.seats.len s (owner_told (seat_of s a.seats.items)) a.seats.items news rest (sym c.as_mut_slice.ensures.len ∙ ap length c.as_mut_slice.ensures.value)
+    put-back a.seats.len s (owner_told (seat_of s a.seats.items)) a.seats.items news rest
+    (sym c.as_mut_slice.ensures.len ∙ ap length c.as_mut_slice.ensures.value)
     (c.tell_loss.ensures.seats ∙ ap (λ ss. put s (owner_told (seat_of s ss)) ss) c.as_mut_slice.ensures.value) in
     subst (λ o. CarriesOn o (Detach s) (record h { meaning = record h.meaning { seats = w } })) c.self.view_is
-    (subst (λ ss. CarriesOn h (Detach s) (record h { meaning = record h.meaning { seats = ss } })) (sym back) (loss-stands h s a.broken refl gone))
+    (subst (λ ss. CarriesOn h (Detach s) (record h { meaning = record h.meaning { seats = ss } })) (sym back)
+    (loss-stands h s a.broken refl gone))

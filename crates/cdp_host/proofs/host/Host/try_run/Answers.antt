@@ -29,7 +29,9 @@ invariant_of-self c =
       room = c.self.invariant.room;
       alone = λ fails. absurd cc;
       gone = c.self.invariant.gone;
-      fit = subst (λ ss. AllFit (protocol a.scripts.items) ss) (sym seats) (reported-fit (protocol a.scripts.items) a.seats.items c.self.invariant.fit);
+      fit =
+          subst (λ ss. AllFit (protocol a.scripts.items) ss) (sym seats)
+          (reported-fit (protocol a.scripts.items) a.seats.items c.self.invariant.fit);
     }
 
 pub settle-requires : goal.settle-requires
@@ -49,16 +51,21 @@ returns-in-Ok-clause-runs c = λ taken.
       prints = c.in_ok-steps.ensures.printed taken;
       reports = c.in-Ok.ensures.losses ∙ ap (λ ss. losses_from 1 ss) c.as_slice.ensures.value
           ∙ ap (λ h. losses_from 1 h.meaning.seats) c.self.view_is;
-      is = settled-as _ made c.settle.new.self c.args.self.now.scripts (with_items a.seats c.report_all.new.seats).items there
+      is =
+          settled-as _ made c.settle.new.self c.args.self.now.scripts
+          (with_items a.seats c.report_all.new.seats).items there
           c.self.view_is c.in_ok-steps.ensures.scripts seats (c.settle.ensures.means there);
       all_there = λ paused.
-          ap (λ h. fallen_in h.meaning.seats) (c.settle.ensures.stays paused) ∙ ap (λ ss. fallen_in ss) seats ∙ reported-none a.seats.items;
+          ap (λ h. fallen_in h.meaning.seats) (c.settle.ensures.stays paused)
+          ∙ ap (λ ss. fallen_in ss) seats
+          ∙ reported-none a.seats.items;
     }
 
 -- ---- where there is no memory
 
 pub returns-in_err-steps-clause-err_steps : goal.returns-in_err-steps-clause-err_steps
-returns-in_err-steps-clause-err_steps c = on-err c.from_residual.result _ (λ taken. inl (c.in_err-steps.ensures.err_steps taken))
+returns-in_err-steps-clause-err_steps c =
+    on-err c.from_residual.result _ (λ taken. inl (c.in_err-steps.ensures.err_steps taken))
 
 pub returns-in-Err-clause-err_steps : goal.returns-in-Err-clause-err_steps
 returns-in-Err-clause-err_steps c =

@@ -15,4 +15,7 @@ pub invariant_of-self-2 : goal.invariant_of-self-2
 invariant_of-self-2 c =
     let sized : c.len-size.result ≡ length (string_bytes c.args.text) = search rules in
     let fit = subst (λ xs. fits (xs ++ string_bytes c.args.text ∷ []) ≡ true) (sym c.self.view_is) c.requires in
-    outbox-more _ _ _ c.len-size.result (string_bytes c.args.text) c.self.invariant (ap (map string_bytes) c.in_ok-push.ensures.items ∙ map-append string_bytes c.self.inside.texts.items (c.args.text ∷ [])) sized fit
+    outbox-more _ _ _ c.len-size.result (string_bytes c.args.text) c.self.invariant
+    (ap (map string_bytes) c.in_ok-push.ensures.items
+    ∙ map-append string_bytes c.self.inside.texts.items (c.args.text ∷ []))
+    sized fit

@@ -12,7 +12,8 @@ pub returns-then-len-lt-MOST_TEXTS : goal.returns-then-len-lt-MOST_TEXTS
 returns-then-len-lt-MOST_TEXTS c =
     let sized : c.len.result ≡ length c.self.inside.texts.items = search rules in
     let n = length-map c.self.inside.texts.items string_bytes in
-    let few : length (map string_bytes c.self.inside.texts.items) < most_texts = omega (arith, n, sized, c.if-len-lt-MOST_TEXTS.true) in
+    let few : length (map string_bytes c.self.inside.texts.items) < most_texts = omega
+    (arith, n, sized, c.if-len-lt-MOST_TEXTS.true) in
     λ text is.
     room-few (map string_bytes c.self.inside.texts.items) c.self.inside.bytes c.args.size text c.self.invariant few is
     ∙ ap (λ xs. fits (xs ++ text ∷ [])) c.self.view_is
@@ -21,7 +22,9 @@ pub returns-else-len-lt-MOST_TEXTS : goal.returns-else-len-lt-MOST_TEXTS
 returns-else-len-lt-MOST_TEXTS c =
     let sized : c.len.result ≡ length c.self.inside.texts.items = search rules in
     let n = length-map c.self.inside.texts.items string_bytes in
-    let many : most_texts ≤ length (map string_bytes c.self.inside.texts.items) = omega (arith, n, sized, c.if-len-lt-MOST_TEXTS.false) in
+    let many : most_texts ≤ length (map string_bytes c.self.inside.texts.items) = omega
+    (arith, n, sized, c.if-len-lt-MOST_TEXTS.false) in
     λ text is.
-    room-full (map string_bytes c.self.inside.texts.items) text _ (le-ltb c.len.result most_texts c.if-len-lt-MOST_TEXTS.false) many
+    room-full (map string_bytes c.self.inside.texts.items) text _
+    (le-ltb c.len.result most_texts c.if-len-lt-MOST_TEXTS.false) many
     ∙ ap (λ xs. fits (xs ++ text ∷ [])) c.self.view_is

@@ -23,9 +23,11 @@ returns-clause-made g c =
     let result = c.answer_evaluation.result in
     let new = c.answer_evaluation.new.self in
     let to = called-from s.standing.world x.workspace c.args.receiver arguments f c.next_address-at.result c.in_ok-prepared.prepared c.call-end.result c.in_ok-opened.opened n c.in_ok-opened.ensures.opened c.next_address-at.ensures c.in_ok-prepared.ensures c.call-end.ensures in
-    made-answer s x c.args.showing.now e a c.call-end.result c.in_ok-opened.opened n result new c.in_ok-opened.ensures.opened (sym c.is_memory.ensures ∙ c.if-is_memory.false) to
+    made-answer s x c.args.showing.now e a c.call-end.result c.in_ok-opened.opened n result new c.in_ok-opened.ensures.opened
+    (sym c.is_memory.ensures ∙ c.if-is_memory.false) to
     (λ world from.
-    subst (λ u. Makes result new (row_of (outcome_of_answer s (with_workspace n.before u) c.args.showing.now e a))) c.in_ok-opened.ensures.rest
+    subst (λ u. Makes result new (row_of (outcome_of_answer s (with_workspace n.before u) c.args.showing.now e a)))
+    c.in_ok-opened.ensures.rest
     (c.answer_evaluation.ensures.made s e a refl world from))
 
 pub returns-clause-kept : goal.returns-clause-kept
@@ -38,5 +40,7 @@ returns-clause-kept g c =
     let a = definition x.workspace.program s.standing.world x.workspace.scratch f c.args.receiver arguments in
     let n = c.call-end.new.self in
     let to = called-from s.standing.world x.workspace c.args.receiver arguments f c.next_address-at.result c.in_ok-prepared.prepared c.call-end.result c.in_ok-opened.opened n c.in_ok-opened.ensures.opened c.next_address-at.ensures c.in_ok-prepared.ensures c.call-end.ensures in
-    kept-answer x s.standing.world e a c.call-end.result c.in_ok-opened.opened n c.answer_evaluation.result c.answer_evaluation.new.self c.in_ok-opened.ensures.opened (sym c.is_memory.ensures ∙ c.if-is_memory.false) to
-    (subst (λ u. KeepsIfRefused c.answer_evaluation.result (with_workspace n.before u) c.answer_evaluation.new.self) c.in_ok-opened.ensures.rest c.answer_evaluation.ensures.kept)
+    kept-answer x s.standing.world e a c.call-end.result c.in_ok-opened.opened n c.answer_evaluation.result c.answer_evaluation.new.self c.in_ok-opened.ensures.opened
+    (sym c.is_memory.ensures ∙ c.if-is_memory.false) to
+    (subst (λ u. KeepsIfRefused c.answer_evaluation.result (with_workspace n.before u) c.answer_evaluation.new.self)
+    c.in_ok-opened.ensures.rest c.answer_evaluation.ensures.kept)

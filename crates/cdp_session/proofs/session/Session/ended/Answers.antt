@@ -10,5 +10,6 @@ returns-in_err-tell_ending-clause-over g c = λ is.
     let s = seen g.P.Program.standing c.args.situation.now in
     let told = ending_told s c.args.ending c.args.moment c.args.self.now in
     let unfit : fits told.outbox ≡ false = search rules in
-    let more : (ended s c.args.ending c.args.moment c.args.self.now).outbox ≡ told.outbox ++ context_destroyed_text ∷ [] = search rules in
+    let more :
+    (ended s c.args.ending c.args.moment c.args.self.now).outbox ≡ told.outbox ++ context_destroyed_text ∷ [] = search rules in
     unfit-as _ _ _ more unfit

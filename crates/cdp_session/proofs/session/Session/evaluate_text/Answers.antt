@@ -16,9 +16,11 @@ returns-in-Ok-clause-made g c =
     let x = c.args.self.now in
     let ex = c.in-Ok.expression in
     let source = c.args.source.now in
-    let tree = subst (λ t. expression_of t ≡ Some (expression_view ex.tree)) c.as_slice.ensures (expression_some c.as_slice.result.now (expression_view ex.tree) c.in-Ok.ensures.found) in
+    let tree = subst (λ t. expression_of t ≡ Some (expression_view ex.tree)) c.as_slice.ensures
+    (expression_some c.as_slice.result.now (expression_view ex.tree) c.in-Ok.ensures.found) in
     subst (λ y. Makes c.evaluate_expression.result c.evaluate_expression.new.self (row_of y))
-    (text-answer s x c.args.scope c.args.receiver c.args.showing.now source ex tree (c.in-Ok.ensures.kept ∙ c.as_slice.ensures) (numbered_same ex.tree (length ex.spans) c.in-Ok.ensures.numbered))
+    (text-answer s x c.args.scope c.args.receiver c.args.showing.now source ex tree
+    (c.in-Ok.ensures.kept ∙ c.as_slice.ensures) (numbered_same ex.tree (length ex.spans) c.in-Ok.ensures.numbered))
     c.evaluate_expression.ensures.made
 
 pub returns-in-Err-clause-made : goal.returns-in-Err-clause-made
@@ -27,5 +29,8 @@ returns-in-Err-clause-made g c =
     let x = c.args.self.now in
     let source = c.args.source.now in
     let f = c.in-Err.fault in
-    let none = subst (λ t. UnlessMemory (expression_of t ≡ None) f) c.as_slice.ensures (expression_none {A = Expression} c.as_slice.result.now (λ e. expression_view e.tree) (Err f) c.in-Err.ensures.only) in
+    let none = subst (λ t. UnlessMemory (expression_of t ≡ None) f) c.as_slice.ensures
+    (expression_none {A = Expression} c.as_slice.result.now (λ e. expression_view e.tree) (Err f)
+    c.in-Err.ensures.only)
+    in
     fault-answer s x c.args.scope c.args.receiver c.args.showing.now source f c.refuse_text.result c.refuse_text.new.self none c.refuse_text.ensures.memory c.refuse_text.ensures.made

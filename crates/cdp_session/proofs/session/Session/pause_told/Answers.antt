@@ -10,6 +10,8 @@ returns-clause-made g c =
     let s = seen g.P.Program.standing c.args.situation.now in
     IfOk-weaker c.paused_text.result _ _
     (λ text is. told-as _ _ _ _ _ _ _ _ is c.in_ok-frames.ensures.made
-    (c.in_ok-data.ensures.made ∙ ap (λ y. (data_made (sight_of s y) (value_told c.args.cause s.standing.thrown) y.handles).made) c.in_ok-frames.ensures.held)
+    (c.in_ok-data.ensures.made
+    ∙ ap (λ y. (data_made (sight_of s y) (value_told c.args.cause s.standing.thrown) y.handles).made)
+    c.in_ok-frames.ensures.held)
     c.reason_of.ensures)
     c.paused_text.ensures

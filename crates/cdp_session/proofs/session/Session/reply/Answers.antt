@@ -9,7 +9,8 @@ pub returns-in_err-send_all-clause-over : goal.returns-in_err-send_all-clause-ov
 returns-in_err-send_all-clause-over c = λ is.
     let waits = c.args.self.now.outbox in
     let before = map string_bytes c.args.done.before.items in
-    let more = result_text c.args.id (json_view c.args.done.answer) ∷ map string_bytes (option_to_list c.args.done.event) in
+    let more = result_text c.args.id (json_view c.args.done.answer) ∷ map string_bytes
+    (option_to_list c.args.done.event) in
     let unfit : fits (waits ++ before) ≡ false = search rules in
     unfit-as _ more _ (sym (append_assoc waits before more)) unfit
 
@@ -20,4 +21,5 @@ returns-in_err-send-clause-over c = λ is.
     let text = result_text c.args.id (json_view c.args.done.answer) in
     let event = map string_bytes (option_to_list c.args.done.event) in
     let unfit : fits ((waits ++ before) ++ text ∷ []) ≡ false = search rules in
-    unfit-as _ event _ (sym (append_assoc (waits ++ before) (text ∷ []) event ∙ append_assoc waits before (text ∷ event))) unfit
+    unfit-as _ event _
+    (sym (append_assoc (waits ++ before) (text ∷ []) event ∙ append_assoc waits before (text ∷ event))) unfit

@@ -20,13 +20,18 @@ returns-in_err-send-clause-over c = λ is.
     let rest = drop (length yielded + 1) texts in
     let all : texts ≡ (yielded ++ c.in-Some.text ∷ []) ++ rest =
     sym (take-append-drop (length yielded + 1) texts)
-    ∙ ap (λ xs. xs ++ rest) (take_more texts (length yielded) c.in-Some.text turn.0 ∙ ap (λ x. take (length yielded) texts ++ x ∷ []) (sym turn.1))
+    ∙ ap (λ xs. xs ++ rest)
+    (take_more texts (length yielded) c.in-Some.text turn.0
+    ∙ ap (λ x. take (length yielded) texts ++ x ∷ []) (sym turn.1))
     ∙ ap (λ xs. (xs ++ c.in-Some.text ∷ []) ++ rest) (sym first ∙ map-id yielded) in
     let waits = ap (λ x. x.outbox) c.loop-text.invariant in
     unfit-as _ (map string_bytes rest) _
     (ap (λ xs. c.args.self.now.outbox ++ map string_bytes xs) all
     ∙ ap (λ xs. c.args.self.now.outbox ++ xs) (map-append string_bytes (yielded ++ c.in-Some.text ∷ []) rest)
-    ∙ sym (append_assoc c.args.self.now.outbox (map string_bytes (yielded ++ c.in-Some.text ∷ [])) (map string_bytes rest))
-    ∙ ap (λ xs. (c.args.self.now.outbox ++ xs) ++ map string_bytes rest) (map-append string_bytes yielded (c.in-Some.text ∷ []))
-    ∙ ap (λ xs. xs ++ map string_bytes rest) (sym (append_assoc c.args.self.now.outbox (map string_bytes yielded) (string_bytes c.in-Some.text ∷ [])))
+    ∙ sym (append_assoc c.args.self.now.outbox (map string_bytes (yielded ++ c.in-Some.text ∷ []))
+    (map string_bytes rest))
+    ∙ ap (λ xs. (c.args.self.now.outbox ++ xs) ++ map string_bytes rest)
+    (map-append string_bytes yielded (c.in-Some.text ∷ []))
+    ∙ ap (λ xs. xs ++ map string_bytes rest)
+    (sym (append_assoc c.args.self.now.outbox (map string_bytes yielded) (string_bytes c.in-Some.text ∷ [])))
     ∙ ap (λ xs. (xs ++ string_bytes c.in-Some.text ∷ []) ++ map string_bytes rest) (sym waits)) unfit

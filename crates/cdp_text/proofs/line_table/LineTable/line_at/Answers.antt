@@ -4,12 +4,14 @@ use Rattle.cdp_text.proofs.line_table.LineTable.line_at.Goals as goal
 
 begins : (c : goal.In-Ok) → IsLineOf c.args.u.now c.args.self.now c.args.offset c.in-Ok.line
 begins c =
-    searched_line c.args.u.now c.args.self.now c.deref.result.now c.args.offset (Ok c.in-Ok.line) c.requires.of_text (c.deref.ensures.value ∙ c.self.view_is) c.requires.within c.in-Ok.ensures.position
+    searched_line c.args.u.now c.args.self.now c.deref.result.now c.args.offset (Ok c.in-Ok.line) c.requires.of_text
+    (c.deref.ensures.value ∙ c.self.view_is) c.requires.within c.in-Ok.ensures.position
 
 holds : (c : goal.In-Err)
     → (0 < c.in-Err.next) × IsLineOf c.args.u.now c.args.self.now c.args.offset (c.in-Err.next - 1)
 holds c =
-    searched_line c.args.u.now c.args.self.now c.deref.result.now c.args.offset (Err c.in-Err.next) c.requires.of_text (c.deref.ensures.value ∙ c.self.view_is) c.requires.within c.in-Err.ensures.position
+    searched_line c.args.u.now c.args.self.now c.deref.result.now c.args.offset (Err c.in-Err.next) c.requires.of_text
+    (c.deref.ensures.value ∙ c.self.view_is) c.requires.within c.in-Err.ensures.position
 
 pub overflow_sub-result : goal.overflow_sub-result
 overflow_sub-result c = omega (arith, (holds c).0)

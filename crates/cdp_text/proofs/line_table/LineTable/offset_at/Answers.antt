@@ -13,14 +13,16 @@ overflow_add-offset c =
 pub returns-in_err-start : goal.returns-in_err-start
 returns-in_err-start c =
     let start = rw c.requires.of_text at c.in_err-start.ensures in
-    let none : Finds c.args.u.now c.args.p c.from_residual.result = rw c.from_residual.ensures (Finds-none c.args.u.now c.args.p (λ i at. offset_past_table c.args.u.now c.args.p i (sym start) at)) in
+    let none : Finds c.args.u.now c.args.p c.from_residual.result = rw c.from_residual.ensures
+    (Finds-none c.args.u.now c.args.p (λ i at. offset_past_table c.args.u.now c.args.p i (sym start) at)) in
     record { found = none.found; undoes = none.undoes; none = none.none }
 
 pub returns-then-not-is_inside_cr_lf : goal.returns-then-not-is_inside_cr_lf
 returns-then-not-is_inside_cr_lf c =
     let start = rw c.requires.of_text at c.in_ok-start.ensures in
     let end = rw c.requires.of_text at c.start_or_end-next_start.ensures in
-    let at = offset_by_table c.args.u.now c.args.p c.in_ok-start.start (sym start) (omega arith) (sym c.if-not-is_inside_cr_lf.ensures) in
+    let at = offset_by_table c.args.u.now c.args.p c.in_ok-start.start (sym start) (omega arith)
+    (sym c.if-not-is_inside_cr_lf.ensures) in
     let some = Finds-some c.args.u.now c.args.p (c.in_ok-start.start + c.args.p.col) at in
     record { found = some.found; undoes = some.undoes; none = some.none }
 
@@ -28,10 +30,12 @@ pub returns-else-offset-next_start : goal.returns-else-offset-next_start
 returns-else-offset-next_start c =
     let start = rw c.requires.of_text at c.in_ok-start.ensures in
     let end = rw c.requires.of_text at c.start_or_end-next_start.ensures in
-    let inside : c.in_ok-start.start + c.args.p.col < end_of_line c.args.u.now c.args.p.line → is_inside_cr_lf c.args.u.now (c.in_ok-start.start + c.args.p.col) ≡ true = λ below.
+    let inside : c.in_ok-start.start + c.args.p.col < end_of_line c.args.u.now c.args.p.line
+    → is_inside_cr_lf c.args.u.now (c.in_ok-start.start + c.args.p.col) ≡ true = λ below.
     elim c.else-offset-next_start.branch [
       | else-offset-next_start-via-then-offset-next_start+else-not-is_inside_cr_lf w ↦ sym w.if-not-is_inside_cr_lf.ensures
       | else-offset-next_start-via-else-offset-next_start w ↦ absurd (omega arith)
     ] in
-    let none = Finds-none c.args.u.now c.args.p (λ i at. no_offset_by_table c.args.u.now c.args.p c.in_ok-start.start i (sym start) inside at) in
+    let none = Finds-none c.args.u.now c.args.p
+    (λ i at. no_offset_by_table c.args.u.now c.args.p c.in_ok-start.start i (sym start) inside at) in
     record { found = none.found; undoes = none.undoes; none = none.none }

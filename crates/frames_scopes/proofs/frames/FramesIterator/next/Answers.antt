@@ -25,7 +25,9 @@ returns-in_err-frame-clause-steps c =
     let t : Term = term_at i.names.now i.table.now i.stack.now i.point in
     let s : State = state_of w i.context.now [] in
     none-left c.args.self.now c.from_residual.result
-    (sym c.self.view_is ∙ walk-none i.scripts.now i.root t s c.self.inside.passed (sym (c.active_frame.ensures i.names.now w []) ∙ c.in_err-frame.was))
+    (sym c.self.view_is
+    ∙ walk-none i.scripts.now i.root t s c.self.inside.passed
+    (sym (c.active_frame.ensures i.names.now w []) ∙ c.in_err-frame.was))
     c.from_residual.ensures
 
 pub returns-clause-steps : goal.returns-clause-steps
@@ -34,7 +36,10 @@ returns-clause-steps c =
     let w : World = heap_world i.names.now i.heap.now in
     let t : Term = term_at i.names.now i.table.now i.stack.now i.point in
     let s : State = state_of w i.context.now [] in
-    sym c.self.view_is ∙ walk-next i.scripts.now i.root t s c.self.inside.passed c.in_ok-frame.frame c.here_of-here.result (frame_shown c.view_of.result) (sym (c.active_frame.ensures i.names.now w []) ∙ c.in_ok-frame.was) (c.here_of-here.ensures i.names.now) c.view_of.ensures
+    sym c.self.view_is
+    ∙ walk-next i.scripts.now i.root t s c.self.inside.passed c.in_ok-frame.frame c.here_of-here.result
+    (frame_shown c.view_of.result) (sym (c.active_frame.ensures i.names.now w []) ∙ c.in_ok-frame.was)
+    (c.here_of-here.ensures i.names.now) c.view_of.ensures
 
 pub returns-clause-goes : goal.returns-clause-goes
 returns-clause-goes c =
@@ -42,6 +47,9 @@ returns-clause-goes c =
     let w : World = heap_world i.names.now i.heap.now in
     let t : Term = term_at i.names.now i.table.now i.stack.now i.point in
     let s : State = state_of w i.context.now [] in
-    let e = sym c.self.view_is ∙ walk-next i.scripts.now i.root t s c.self.inside.passed c.in_ok-frame.frame c.here_of-here.result (frame_shown c.view_of.result) (sym (c.active_frame.ensures i.names.now w []) ∙ c.in_ok-frame.was) (c.here_of-here.ensures i.names.now) c.view_of.ensures in
+    let e = sym c.self.view_is
+    ∙ walk-next i.scripts.now i.root t s c.self.inside.passed c.in_ok-frame.frame c.here_of-here.result
+    (frame_shown c.view_of.result) (sym (c.active_frame.ensures i.names.now w []) ∙ c.in_ok-frame.was)
+    (c.here_of-here.ensures i.names.now) c.view_of.ensures in
     let l = one-less _ _ _ e in
     record { on = λ _. (tt, tt, l); keeps = tt; rests = λ _. tt }

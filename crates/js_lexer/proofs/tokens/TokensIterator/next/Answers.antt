@@ -24,19 +24,48 @@ pub returns-clause-steps : goal.returns-clause-steps
 returns-clause-steps c =
     let us = c.args.self.now.left.now in
     let e : token_at (drop (gap_len us) us) ≡ Some (c.in-Some.kind, c.in-Some.len) = cc in
-    rw (c.if-self.false, c.has_line_terminator.ensures, c.split_at-2.ensures.front, c.split_at-2.ensures.back, c.split_at.ensures.front_len, c.split_at.ensures.front, c.split_at.ensures.back, c.gap_len.ensures.value) (one_more c.args.self.now.at us (c.in-Some.kind, c.in-Some.len) e)
+    rw (
+      c.if-self.false,
+      c.has_line_terminator.ensures,
+      c.split_at-2.ensures.front,
+      c.split_at-2.ensures.back,
+      c.split_at.ensures.front_len,
+      c.split_at.ensures.front,
+      c.split_at.ensures.back,
+      c.gap_len.ensures.value,
+    )
+    (one_more c.args.self.now.at us (c.in-Some.kind, c.in-Some.len) e)
 
 pub returns-in_default-clause-goes : goal.returns-in_default-clause-goes
 returns-in_default-clause-goes c =
     let s = returns-in_default-clause-steps c in
-    record { on = λ f. (search rules, search rules, omega (arith, ap (λ (l : List (Result Lent ℕ)). length l) s)); keeps = search rules; rests = search rules }
+    record {
+      on = λ f. (
+        search rules,
+        search rules,
+        omega (arith, ap (λ (l : List (Result Lent ℕ)). length l) s),
+      );
+      keeps = search rules;
+      rests = search rules;
+    }
 
 pub returns-clause-goes : goal.returns-clause-goes
 returns-clause-goes c =
     let s = returns-clause-steps c in
-    record { on = λ f. (search rules, search rules, omega (arith, ap (λ (l : List (Result Lent ℕ)). length l) s)); keeps = search rules; rests = search rules }
+    record {
+      on = λ f. (
+        search rules,
+        search rules,
+        omega (arith, ap (λ (l : List (Result Lent ℕ)). length l) s),
+      );
+      keeps = search rules;
+      rests = search rules;
+    }
 
 pub invariant_of-result : goal.invariant_of-result
 invariant_of-result c =
     let e : token_at c.split_at.result.1.now ≡ Some (c.in-Some.kind, c.in-Some.len) = cc in
-    record { is_number = λ p. rw c.split_at-2.ensures.front (number_here c.split_at.result.1.now c.in-Some.kind c.in-Some.len e p) }
+    record {
+      is_number = λ p. rw c.split_at-2.ensures.front
+          (number_here c.split_at.result.1.now c.in-Some.kind c.in-Some.len e p);
+    }

@@ -22,4 +22,5 @@ returns-in_default-clause-left c = λ going w taken.
     let s = state_of w m.context taken in
     let at = stands-now m.table m.stack m.point m.end c.in-None.is c.self.invariant.stands in
     let P : Option End → Type 0 = λ e. IsRunning (run_by e (term_at m.names m.table m.stack m.point) s) in
-    rw (← c.self.view_is) (subst P (sym c.in-None.is) (left-running m.names m.table m.stack m.point s at.at c.in_default.not-Done))
+    rw (← c.self.view_is)
+    (subst P (sym c.in-None.is) (left-running m.names m.table m.stack m.point s at.at c.in_default.not-Done))

@@ -14,5 +14,8 @@ returns c =
     record {
       going = refl;
       program = h.code.program p.names (goes_on_same p.names);
-      run = starts-so (terms_view c.args.scripts.now) c.args.input.items p.names p.code.table p.code.root u (heap_world p.names p.heap) c.in_ok-context.context c.new-stack.result h.code c.new-stack.ensures (c.in_ok-uncover.ensures.term p.names) h.cells c.in_ok-context.ensures;
+      run =
+          starts-so (terms_view c.args.scripts.now) c.args.input.items p.names p.code.table p.code.root u
+          (heap_world p.names p.heap) c.in_ok-context.context c.new-stack.result h.code c.new-stack.ensures
+          (c.in_ok-uncover.ensures.term p.names) h.cells c.in_ok-context.ensures;
     }

@@ -9,7 +9,9 @@ pub returns-then-has_extra : goal.returns-then-has_extra
 returns-then-has_extra c =
     let s = c.self.inside in
     let t = c.in-Some.task.now in
-    let e : slice_get s.tasks.items (length s.tasks.items - 1) ≡ Some t = ap (λ (ts : List Task). slice_get ts (length ts - 1)) (sym c.deref.ensures.value) ∙ sym c.in-Some.ensures.value in
+    let e : slice_get s.tasks.items (length s.tasks.items - 1) ≡ Some t = ap
+    (λ (ts : List Task). slice_get ts (length ts - 1)) (sym c.deref.ensures.value)
+    ∙ sym c.in-Some.ensures.value in
     c.copied.ensures
     ∙ c.last-then-has_extra.ensures.value
     ∙ ap (λ (es : List Extra). slice_get es (length es - 1)) c.deref-then-has_extra.ensures.value

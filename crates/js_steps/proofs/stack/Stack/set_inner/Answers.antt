@@ -13,5 +13,7 @@ pub returns-then-n-gt0 : goal.returns-then-n-gt0
 returns-then-n-gt0 c =
     let s = c.self.inside in
     let e : c.len-n.result ≡ length s.tasks.items = omega arith in
-    set-view (within c.args.inner) s.tasks.items s.values.items s.extras.items c.index_mut.result.now _ c.len-n.result e c.if-n-gt0.true c.index_mut.ensures.value refl refl (λ x y ws. refl)
+    set-view (within c.args.inner)
+    s.tasks.items s.values.items s.extras.items c.index_mut.result.now _ c.len-n.result e c.if-n-gt0.true c.index_mut.ensures.value refl refl
+    (λ x y ws. refl)
     ∙ ap (within c.args.inner) c.self.view_is

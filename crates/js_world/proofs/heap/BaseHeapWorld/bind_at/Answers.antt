@@ -2,7 +2,9 @@ use Rattle.js_world.proofs.BindLemmas.{bind-heap, value-fit}
 use Rattle.js_world.proofs.heap.BaseHeapWorld.bind_at.Goals as goal
 
 pub invariant_of-self : goal.invariant_of-self
-invariant_of-self c = rw c.value_in_cells.ensures (value-fit c.self.inside.cells.items c.self.inside.ends c.self.inside.cells_left c.in-Base.i c.args.place c.args.value c.self.invariant)
+invariant_of-self c =
+    rw c.value_in_cells.ensures
+    (value-fit c.self.inside.cells.items c.self.inside.ends c.self.inside.cells_left c.in-Base.i c.args.place c.args.value c.self.invariant)
 
 pub returns-in-Base-clause-written : goal.returns-in-Base-clause-written
 returns-in-Base-clause-written c =

@@ -3,10 +3,14 @@ use Rattle.js_world.proofs.EarlierLemmas.{before-mark, all-before}
 use Rattle.js_world.proofs.overlay.Scratch.ends_at.Goals as goal
 
 pub returns-then-mark-self-clause-within : goal.returns-then-mark-self-clause-within
-returns-then-mark-self-clause-within c = all-before _ c.args.self.now c.args.mark.now c.self.inside.cells_left c.self.view_is c.self.invariant.0
+returns-then-mark-self-clause-within c =
+    all-before _ c.args.self.now c.args.mark.now c.self.inside.cells_left c.self.view_is c.self.invariant.0
 
 pub returns-then-self-mark-clause-within : goal.returns-then-self-mark-clause-within
-returns-then-self-mark-clause-within c = all-before _ c.args.self.now c.args.mark.now c.self.inside.cells_left c.self.view_is c.self.invariant.0
+returns-then-self-mark-clause-within c =
+    all-before _ c.args.self.now c.args.mark.now c.self.inside.cells_left c.self.view_is c.self.invariant.0
 
 pub returns-clause-within : goal.returns-clause-within
-returns-clause-within c = before-mark _ c.args.self.now _ c.args.mark.now c.self.inside.earlier c.self.inside.earlier_ends c.self.view_is c.mark.view_is c.self.invariant.1 (grind arith) (grind arith)
+returns-clause-within c =
+    before-mark _ c.args.self.now _ c.args.mark.now c.self.inside.earlier c.self.inside.earlier_ends c.self.view_is c.mark.view_is c.self.invariant.1
+    (grind arith) (grind arith)

@@ -8,7 +8,9 @@ use Rattle.js_world.proofs.properties.PropertyMap.put.Goals as goal
 pub returns-then-place-len-clause-value : goal.returns-then-place-len-clause-value
 returns-then-place-len-clause-value c =
     let h : key_place c.args.self.now c.args.key.now < length c.args.self.now = omega arith in
-    c.set_value.ensures ∙ ap (λ i. with_value_at c.args.self.now i c.args.value) c.place-place.ensures ∙ sym (put-there c.args.self.now c.args.key.now c.args.value h)
+    c.set_value.ensures
+    ∙ ap (λ i. with_value_at c.args.self.now i c.args.value) c.place-place.ensures
+    ∙ sym (put-there c.args.self.now c.args.key.now c.args.value h)
 
 pub add-requires : goal.add-requires
 add-requires c =

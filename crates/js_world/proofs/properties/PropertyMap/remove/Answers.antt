@@ -5,7 +5,10 @@ use Rattle.js_heap.proofs.PlaceLemmas.{without-place, without-past}
 use Rattle.js_world.proofs.properties.PropertyMap.remove.Goals as goal
 
 pub returns-then-place-len : goal.returns-then-place-len
-returns-then-place-len c = c.remove_at.ensures ∙ ap (remove c.args.self.now) c.place-place.ensures ∙ sym (without-place c.args.self.now c.args.key.now)
+returns-then-place-len c =
+    c.remove_at.ensures
+    ∙ ap (remove c.args.self.now) c.place-place.ensures
+    ∙ sym (without-place c.args.self.now c.args.key.now)
 
 pub returns-else-place-len : goal.returns-else-place-len
 returns-else-place-len c =

@@ -22,4 +22,6 @@ loop-property-preserved c =
     (zip-push _ is (take n c.args.properties.now) c.in-Some.index p c.loop-property.invariant key)
 
 pub returns : goal.returns
-returns c = order-end c.loop-property.indices.items c.args.properties.now c.loop-property.property-index c.requires (omega arith) c.loop-property.invariant
+returns c =
+    order-end c.loop-property.indices.items c.args.properties.now c.loop-property.property-index c.requires
+    (omega arith) c.loop-property.invariant

@@ -11,4 +11,5 @@ loop-property-preserved c =
     let text = c.in_ok-key.ensures.items ∙ c.as_slice.ensures in
     let fresh = rw (← c.property-item.is) at (order-fresh c.args.properties.now n p c.requires (omega arith)) in
     rw (take_more c.args.properties.now n p (omega arith), ← c.property-item.is)
-    (keys-push c.loop-property.keys.keys c.insert_full.new.self.keys (take n c.args.properties.now) c.in_ok-key.key p c.loop-property.invariant text fresh c.in_ok-insert_full.ensures.keys)
+    (keys-push c.loop-property.keys.keys c.insert_full.new.self.keys (take n c.args.properties.now)
+    c.in_ok-key.key p c.loop-property.invariant text fresh c.in_ok-insert_full.ensures.keys)

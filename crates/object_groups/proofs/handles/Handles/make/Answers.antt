@@ -10,7 +10,8 @@ use Rattle.object_groups.proofs.handles.Handles.make.Goals as goal
 
 pub invariant_of-self-2 : goal.invariant_of-self-2
 invariant_of-self-2 c =
-    let few = subst (λ s. s.made < MOST_MADE) (sym c.self.view_is) (more-may-be c.args.self.now (sym c.fault.ensures ∙ c.in_default.is)) in
+    let few = subst (λ s. s.made < MOST_MADE) (sym c.self.view_is)
+    (more-may-be c.args.self.now (sym c.fault.ensures ∙ c.in_default.is)) in
     subst (λ hs. IsIndexed hs (c.self.inside.made + 1) c.hold.new.groups) (sym c.in_ok-hold.ensures.added)
     (added-index c.self.inside.table _ c.self.inside.made c.self.inside.groups c.hold.new.groups c.self.invariant refl few
     (subst (λ hs. AreGroupsOf hs c.hold.new.groups) c.in_ok-hold.ensures.added c.in_ok-hold.ensures.grouped))

@@ -6,7 +6,8 @@ use Rattle.object_groups.proofs.table.Table.add.Goals as goal
 
 pub overflow_add-on_scratch : goal.overflow_add-on_scratch
 overflow_add-on_scratch c =
-    let most = one-more c.self.inside.by_number.entries c.self.inside.on_scratch c.from.result c.args.handle c.self.invariant (c.from.ensures ∙ ap from_bool c.is_on_scratch.ensures) in
+    let most = one-more c.self.inside.by_number.entries c.self.inside.on_scratch c.from.result c.args.handle c.self.invariant
+    (c.from.ensures ∙ ap from_bool c.is_on_scratch.ensures) in
     let long = ap length c.self.view_is in
     omega (arith, most, long, c.requires.room)
 

@@ -7,4 +7,7 @@ use Rattle.object_groups.proofs.TableLemmas.{some-counted}
 use Rattle.object_groups.proofs.table.Table.holds_scratch.Goals as goal
 
 pub returns : goal.returns
-returns c = ap (nat_lt 0) c.self.invariant.counted ∙ some-counted (values_of c.self.inside.by_number.entries) ∙ ap (list_any is_on_scratch) c.self.view_is
+returns c =
+    ap (nat_lt 0) c.self.invariant.counted
+    ∙ some-counted (values_of c.self.inside.by_number.entries)
+    ∙ ap (list_any is_on_scratch) c.self.view_is

@@ -20,12 +20,14 @@ returns-in_err-handle-clause-rest c =
 pub overflow_sub-self : goal.overflow_sub-self
 overflow_sub-self c =
     taken-counted c.self.inside.by_number.entries c.remove.new.self.entries c.self.inside.on_scratch c.args.number c.from.result c.in_ok-handle.handle c.self.invariant
-    (sym c.in_ok-handle.was ∙ c.remove.ensures.value) c.remove.ensures.entries (c.from.ensures ∙ ap from_bool c.is_on_scratch.ensures)
+    (sym c.in_ok-handle.was ∙ c.remove.ensures.value) c.remove.ensures.entries
+    (c.from.ensures ∙ ap from_bool c.is_on_scratch.ensures)
 
 pub invariant_of-self-2 : goal.invariant_of-self-2
 invariant_of-self-2 c =
     left-table c.self.inside.by_number.entries c.remove.new.self.entries c.self.inside.on_scratch c.args.number c.from.result c.in_ok-handle.handle c.self.invariant
-    (sym c.in_ok-handle.was ∙ c.remove.ensures.value) c.remove.ensures.entries (c.from.ensures ∙ ap from_bool c.is_on_scratch.ensures)
+    (sym c.in_ok-handle.was ∙ c.remove.ensures.value) c.remove.ensures.entries
+    (c.from.ensures ∙ ap from_bool c.is_on_scratch.ensures)
 
 pub returns-clause-handle : goal.returns-clause-handle
 returns-clause-handle c =

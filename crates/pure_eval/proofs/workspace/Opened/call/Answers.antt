@@ -9,5 +9,8 @@ use Rattle.pure_eval.proofs.workspace.Opened.call.Goals as goal
 pub returns : goal.returns
 returns g c = λ f prepared.
     let old = c.args.self.now in
-    let P : Answer → Type 0 = λ a. EvaluatesTo a (expression_source f.tree) c.evaluate_ready.result old c.evaluate_ready.new.self in
-    subst P (sym (call-is old.behind.program old.world old.behind.scratch f c.args.receiver (arguments_of c.args.arguments.now))) (c.evaluate_ready.ensures f.source f.tree prepared)
+    let P : Answer
+    → Type 0 = λ a. EvaluatesTo a (expression_source f.tree) c.evaluate_ready.result old c.evaluate_ready.new.self in
+    subst P (sym
+    (call-is old.behind.program old.world old.behind.scratch f c.args.receiver (arguments_of c.args.arguments.now)))
+    (c.evaluate_ready.ensures f.source f.tree prepared)

@@ -12,5 +12,6 @@ invariant_of-result c =
 pub returns : goal.returns
 returns c =
     let w = c.self.inside in
-    opened-is w.evaluator w.scripts c.mark-mark.result c.args.base.now w.scratch c.over-world.result c.mark-cells.result c.args.names.now c.mark-mark.ensures.marked (c.if-not-is_known.ensures refl) c.goes_on.ensures c.over-world.ensures.world c.mark-cells.ensures
+    opened-is w.evaluator w.scripts c.mark-mark.result c.args.base.now w.scratch c.over-world.result c.mark-cells.result c.args.names.now c.mark-mark.ensures.marked
+    (c.if-not-is_known.ensures refl) c.goes_on.ensures c.over-world.ensures.world c.mark-cells.ensures
     ∙ ap (opened (heap_world c.args.names.now c.args.base.now)) c.self.view_is

@@ -4,8 +4,12 @@ use Rattle.pure_eval.proofs.WorkspaceLemmas.{begun-is, working-first}
 use Rattle.pure_eval.proofs.workspace.Workspace.start.Goals as goal
 
 pub invariant_of-result : goal.invariant_of-result
-invariant_of-result c = working-first c.in_ok-evaluator.evaluator c.mark-start.result.table.sources c.mark-start.result c.in_ok-evaluator.ensures.code.code c.mark-start.ensures.marked c.mark-start.ensures.marked.table.sources
+invariant_of-result c =
+    working-first c.in_ok-evaluator.evaluator c.mark-start.result.table.sources c.mark-start.result c.in_ok-evaluator.ensures.code.code c.mark-start.ensures.marked c.mark-start.ensures.marked.table.sources
 
 pub returns : goal.returns
 returns c =
-    begun-is c.in_ok-evaluator.evaluator c.mark-start.result.table.sources c.new-scratch.result (program_from 1 (terms_view c.args.scripts.now)) c.in_ok-evaluator.ensures.code c.mark-start.ensures.marked.table.sources (c.new-scratch.ensures c.in_ok-evaluator.evaluator.names)
+    begun-is c.in_ok-evaluator.evaluator c.mark-start.result.table.sources c.new-scratch.result
+    (program_from 1 (terms_view c.args.scripts.now))
+    c.in_ok-evaluator.ensures.code c.mark-start.ensures.marked.table.sources
+    (c.new-scratch.ensures c.in_ok-evaluator.evaluator.names)

@@ -30,10 +30,12 @@ abbrev pub invariant-elements_given-loop-value : goal.invariant-elements_given-l
 invariant-elements_given-loop-value g l =
     let world = g.W.World.world l.self.names.now l.self.world.now in
     let each = element_given world (value_given world l.deep) in
-    Goes l.deep l.initial.left l.left (map json_view l.listed.items) (all_given each (drop l.value-index l.values)) (all_given each l.values)
+    Goes l.deep l.initial.left l.left (map json_view l.listed.items) (all_given each (drop l.value-index l.values))
+    (all_given each l.values)
 
 abbrev pub invariant-members_given-loop-place : goal.invariant-members_given-loop-place
 invariant-members_given-loop-place g l =
     let world = g.W.World.world l.self.names.now l.self.world.now in
     let each = member_given world (value_given world l.deep) in
-    Goes l.deep l.initial.left l.left (map member_view l.listed.items) (all_given each (drop l.place l.properties)) (all_given each l.properties)
+    Goes l.deep l.initial.left l.left (map member_view l.listed.items) (all_given each (drop l.place l.properties))
+    (all_given each l.properties)

@@ -10,6 +10,9 @@ use Rattle.remote_objects.proofs.describer.Describer.bindings.Given as goal
 
 abbrev pub invariant-loop-i : goal.invariant-loop-i
 invariant-loop-i g l =
-    let sight = sight_of g.S.FunctionSources.node_text (g.W.World.world l.self.names.now l.self.world.now) l.self.scripts.now l.self.session in
+    let sight = sight_of g.S.FunctionSources.node_text (g.W.World.world l.self.names.now l.self.world.now)
+    l.self.scripts.now l.self.session in
     let each = descriptor sight l.detail (option_copied l.group) in
-    Goes (map json_view l.listed.items) (made_all each (names_slots (bindings l.self.names.now (drop l.i l.slots))) l.handles) (made_all each (names_slots (bindings l.self.names.now l.slots)) l.fn.handles)
+    Goes (map json_view l.listed.items)
+    (made_all each (names_slots (bindings l.self.names.now (drop l.i l.slots))) l.handles)
+    (made_all each (names_slots (bindings l.self.names.now l.slots)) l.fn.handles)

@@ -9,5 +9,8 @@ use Rattle.remote_objects.proofs.describer.Describer.call_frames.Given as goal
 
 abbrev pub invariant-loop-depth : goal.invariant-loop-depth
 invariant-loop-depth g l =
-    let sight = sight_of g.S.FunctionSources.node_text (g.W.World.world l.self.names.now l.self.world.now) l.self.scripts.now l.self.session in
-    Goes (map json_view l.listed.items) (frames_from sight l.stop l.depth (map frame_of (drop l.depth l.frames)) l.handles) (frames_from sight l.stop 0 (map frame_of l.frames) l.fn.handles)
+    let sight = sight_of g.S.FunctionSources.node_text (g.W.World.world l.self.names.now l.self.world.now)
+    l.self.scripts.now l.self.session in
+    Goes (map json_view l.listed.items)
+    (frames_from sight l.stop l.depth (map frame_of (drop l.depth l.frames)) l.handles)
+    (frames_from sight l.stop 0 (map frame_of l.frames) l.fn.handles)

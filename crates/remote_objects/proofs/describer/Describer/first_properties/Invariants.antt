@@ -8,4 +8,5 @@ use Rattle.remote_objects.proofs.describer.Describer.first_properties.Given as g
 abbrev pub invariant-loop-place : goal.invariant-loop-place
 invariant-loop-place g l =
     let short = property_preview (g.W.World.world l.self.names.now l.self.world.now) in
-    Lists (map json_view l.first.items) (map short (enumerable (drop l.place l.properties))) (map short (enumerable l.properties))
+    Lists (map json_view l.first.items) (map short (enumerable (drop l.place l.properties)))
+    (map short (enumerable l.properties))

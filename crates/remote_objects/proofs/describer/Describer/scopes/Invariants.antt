@@ -9,5 +9,7 @@ use Rattle.remote_objects.proofs.describer.Describer.scopes.Given as goal
 
 abbrev pub invariant-loop-i : goal.invariant-loop-i
 invariant-loop-i g l =
-    let sight = sight_of g.S.FunctionSources.node_text (g.W.World.world l.self.names.now l.self.world.now) l.self.scripts.now l.self.session in
-    Goes (map json_view l.listed.items) (scopes_made sight (map scope_of (drop l.i l.scopes)) l.handles) (scopes_made sight (map scope_of l.scopes) l.fn.handles)
+    let sight = sight_of g.S.FunctionSources.node_text (g.W.World.world l.self.names.now l.self.world.now)
+    l.self.scripts.now l.self.session in
+    Goes (map json_view l.listed.items) (scopes_made sight (map scope_of (drop l.i l.scopes)) l.handles)
+    (scopes_made sight (map scope_of l.scopes) l.fn.handles)

@@ -8,4 +8,5 @@ use Rattle.remote_objects.proofs.describer.Describer.slot_names.Given as goal
 
 abbrev pub invariant-loop-i : goal.invariant-loop-i
 invariant-loop-i g l =
-    map json_view l.listed.items ++ map text (map binding_name (bindings l.self.names.now (drop l.i l.slots))) ≡ map text (map binding_name (bindings l.self.names.now l.slots))
+    map json_view l.listed.items ++ map text (map binding_name (bindings l.self.names.now (drop l.i l.slots)))
+    ≡ map text (map binding_name (bindings l.self.names.now l.slots))

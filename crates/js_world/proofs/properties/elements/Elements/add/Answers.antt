@@ -34,4 +34,7 @@ returns-clause-value c =
     let e = rw (c.unwrap.ensures, c.reserve.ensures.items) at c.insert-2.ensures.items in
     let at = search-place c.self.inside.indices.items c.self.inside.items.items c.args.index c.in-Err.place c.search.result c.self.invariant.0 s c.in-Err.is in
     let place = ap (new_place c.self.inside.items.items) c.requires.index ∙ at in
-    rw (← c.self.view_is) (e ∙ sym (placed-place c.self.inside.items.items c.args.property ∙ ap (λ i. insert c.self.inside.items.items i c.args.property) place))
+    rw (← c.self.view_is)
+    (e
+    ∙ sym (placed-place c.self.inside.items.items c.args.property
+    ∙ ap (λ i. insert c.self.inside.items.items i c.args.property) place))

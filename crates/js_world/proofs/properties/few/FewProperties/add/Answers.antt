@@ -6,6 +6,7 @@ use Rattle.js_world.proofs.properties.few.FewProperties.add.Goals as goal
 
 pub invariant_of-self-2 : goal.invariant_of-self-2
 invariant_of-self-2 c =
-    let e : c.insert.new.self.items ≡ placed c.self.inside.items.items c.args.property = cc (placed-place c.self.inside.items.items c.args.property, c.in_ok-insert.ensures.items) in
+    let e : c.insert.new.self.items ≡ placed c.self.inside.items.items c.args.property = cc
+    (placed-place c.self.inside.items.items c.args.property, c.in_ok-insert.ensures.items) in
     let f = rw (← c.self.view_is) at c.requires in
     rw e (order-placed c.self.inside.items.items c.args.property c.self.invariant f)
