@@ -4,7 +4,7 @@ use Rattle.std.specs.List.{range_with_len}
 use Rattle.js_tree.specs.declared.node.Span.{Span}
 use Rattle.js_tree.specs.declared.tree.Expr.{Expr}
 use Rattle.js_tree.specs.Height.{height}
-use Rattle.js_tree.specs.Spans.{span_of}
+use Rattle.js_tree.specs.Spans.{span_of, units_in}
 use Rattle.js_tree.specs.Trees.{Expression}
 use Rattle.js_tree.specs.Views.{expression_view}
 use Rattle.js_language.specs.Language.{IsExpression, IsFunction}
