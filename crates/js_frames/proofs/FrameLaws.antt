@@ -23,7 +23,7 @@ use Rattle.js_steps.specs.Tasks.{Wide, gap_of, gaps_of, task_form, redex_of, lat
 use Rattle.js_steps.specs.Points.{term_at, IsAt, IsLeafAt}
 use Rattle.js_steps.proofs.FinishLemmas.{node-form, node-scope}
 use Rattle.js_frames.specs.Kinds.{kind_of}
-use Rattle.js_frames.proofs.Kinds.{is_leaving}
+use Rattle.js_frames.proofs.FrameKinds.{is_leaving}
 use Rattle.js_frames.specs.Scopes.{is_frame, is_frame_at, call_scopes, frame_scopes}
 use Rattle.js_frames.proofs.KindLaws.{form-kind, task-leaves, leaving-op}
 use Rattle.js_frames.proofs.ActiveLaws.{leaf, leaf-tree, node-at}

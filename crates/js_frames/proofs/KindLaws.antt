@@ -20,7 +20,7 @@ use Rattle.js_code.specs.Forms.{form_of, script_form, for_form, for_of_form, lis
 use Rattle.js_steps.specs.declared.task.Extra.{Extra}
 use Rattle.js_steps.specs.Tasks.{Wide, index_of, form_in, task_form}
 use Rattle.js_frames.specs.Kinds.{Kind, entering, calling, opening, plain, kind_of, active_kind, for_kind, for_of_kind, call_kind, script_kind, op_kind, enters_debugger}
-use Rattle.js_frames.proofs.Kinds.{is_debugging, is_leaving, is_guarding}
+use Rattle.js_frames.proofs.FrameKinds.{is_debugging, is_leaving, is_guarding}
 use Rattle.js_frames.specs.Catchers.{is_catcher}
 use Rattle.js_frames.specs.Scopes.{is_frame}
 

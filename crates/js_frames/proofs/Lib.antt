@@ -1,4 +1,4 @@
-pub mod Kinds
+pub mod FrameKinds
 pub mod KindLaws
 pub mod ActiveLaws
 pub mod CatchLaws

@@ -5,8 +5,8 @@ use Rattle.js_rows.specs.Calls.{entry_code}
 use Rattle.js_rows.proofs.CallLemmas.{past-limit}
 use Rattle.js_rows.proofs.calls.call_entry.Goals as goal
 
-pub returns-else-frame_count-lt1000 : goal.returns-else-frame_count-lt1000
-returns-else-frame_count-lt1000 g c =
+pub returns-else-frame_count-lt-MOST_FRAMES : goal.returns-else-frame_count-lt-MOST_FRAMES
+returns-else-frame_count-lt-MOST_FRAMES g c =
     let ts = c.args.names.now in
     let t = c.args.table.now in
     let v = g.W.World.world c.args.names.now c.args.world.now in
