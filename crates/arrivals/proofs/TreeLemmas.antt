@@ -23,7 +23,7 @@ use Rattle.js_semantics.proofs.SourceFolds.{made_parts, expression_turn, propert
 use Rattle.locations.specs.declared.marks.Marked.{Marked}
 use Rattle.locations.specs.Marks as marks
 use Rattle.locations.specs.Marks.{Layer, Marking, Marks, together, in_all, in_present, expression_marks, property_marks, key_marks, statement_marks, block_marks, catch_marks, declarator_marks, declarators_marks, expressions_marks, properties_marks, statements_marks}
-use Rattle.locations.proofs.TreeLaws as laws
+use Rattle.locations.proofs.TreeLemmas as laws
 use Rattle.arrivals.proofs.MakerLemmas.{both-marks, ExpressionFits, ExpressionsFit, OptionalFits, ItemFits, ItemsFit, KeyFits, PropertyFits, PropertiesFit, InitializerFits, DeclaratorsFit, CatchFits, made-fits, name-fits, member-fits, function-fits, arrow_block-fits, arrow-fits, call-fits, updated-belongs, unary-belongs, binary-belongs, assignment-belongs, comma-fits, two-fit, conditional-fits, value-fits, method-fits, optional-none, optional-some, block_item-fits, empty-fits, lexical-fits, expression-fits, if-fits, if_else-fits, do_while-fits, while-fits, for-fits, for_lexical-fits, for_of-fits, continue-fits, break-fits, return-fits, throw-fits, no_catch-fits, catch-fits, no_finally-fits, finally-fits, try-fits, debugger-fits, declaration-fits, no_items-fit, and_items-fit}
 
 -- ---- the marks of one level

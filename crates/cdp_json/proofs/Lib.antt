@@ -7,5 +7,5 @@ pub mod PlainLemmas
 pub mod ReadBackLemmas
 pub mod SafeLemmas
 pub mod TextLemmas
-pub mod ViewLaws
+pub mod ViewLemmas
 pub mod WholeLemmas

@@ -11,7 +11,7 @@ use Rattle.cdp_json.specs.KeyOrder.{in_order, key_at, order_of}
 use Rattle.cdp_json.specs.Compact.{compact_text, string_text, member_text, with_commas, behind_commas, comma_before, item_texts, member_texts, members_text}
 use Rattle.cdp_json.specs.declared.value.Json.{Json}
 use Rattle.cdp_json.specs.declared.value.Member.{Member}
-use Rattle.cdp_json.proofs.ViewLaws.{member_parts}
+use Rattle.cdp_json.proofs.ViewLemmas.{member_parts}
 use Rattle.cdp_json.proofs.OrderLemmas.{in_order-map, at_places}
 
 -- ---- commas

@@ -15,7 +15,7 @@ use std::alloc::AllocError;
 use std::fmt::Write;
 
 /// Appends the text of a value.
-#[tactic(auto, using(crate::proofs::ViewLaws::json_laws))]
+#[tactic(auto, using(crate::proofs::ViewLemmas::json_laws))]
 #[cycle(put)]
 pub(crate) fn put_json(out: &mut String, value: &Json) -> Result<(), AllocError>
     ensures { OnOk result (string_bytes out.new ≡ string_bytes out.old ++ spec.compact_text (json_view value.now)) }

@@ -7,7 +7,7 @@ use crate::value::{Json, JsonList, JsonObject, Member, boolean, list, null, numb
 use std::alloc::{AllocError, Global};
 
 /// A copy of a JSON value. Errors: there is no memory for it.
-#[tactic(auto, using(crate::proofs::ViewLaws::json_laws))]
+#[tactic(auto, using(crate::proofs::ViewLemmas::json_laws))]
 #[cycle(copies)]
 pub fn copied(alloc: Global, value: &Json) -> Result<Json, AllocError>
     ensures { IfOk result (λ j. json_view j ≡ json_view value.now) }
@@ -47,7 +47,7 @@ fn copied_members(alloc: Global, pairs: &JsonObject) -> Result<Vec<Member>, Allo
 }
 
 /// A copy of a member. Errors: there is no memory for it.
-#[tactic(auto, using(crate::proofs::ViewLaws::member_parts))]
+#[tactic(auto, using(crate::proofs::ViewLemmas::member_parts))]
 #[cycle(copies)]
 fn copied_member(alloc: Global, member: &Member) -> Result<Member, AllocError>
     ensures { IfOk result (λ m. member_view m ≡ member_view member.now) }

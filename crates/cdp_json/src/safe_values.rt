@@ -30,7 +30,7 @@ fn safe_integer(value: &Number) -> Option<i64>
 }
 
 /// The value that a number is, where it is a safe integer.
-#[tactic(auto, using(crate::proofs::ViewLaws::json_laws))]
+#[tactic(auto, using(crate::proofs::ViewLemmas::json_laws))]
 fn safe_number(value: &Number) -> Option<Json>
     ensures { option_map json_view result ≡ option_map json.number (safe_integer_of (number_view value.now)) }
 {

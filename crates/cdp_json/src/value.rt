@@ -50,7 +50,7 @@ pub struct Member {
 
 impl JsonList {
     /// The list of these values, in the memory of the vector.
-    #[tactic(auto, using(crate::proofs::ViewLaws::view_list))]
+    #[tactic(auto, using(crate::proofs::ViewLemmas::view_list))]
     pub fn from_vec(items: Vec<Json>) -> JsonList
         ensures { list_view result ≡ items_view items.items }
     {
@@ -58,7 +58,7 @@ impl JsonList {
     }
 
     /// The values, in the memory of the list.
-    #[tactic(auto, using(crate::proofs::ViewLaws::list_items))]
+    #[tactic(auto, using(crate::proofs::ViewLemmas::list_items))]
     pub fn into_vec(self) -> Vec<Json>
         ensures { items_view result.items ≡ list_view self }
     {
@@ -66,7 +66,7 @@ impl JsonList {
     }
 
     /// The values.
-    #[tactic(auto, using(crate::proofs::ViewLaws::list_items))]
+    #[tactic(auto, using(crate::proofs::ViewLemmas::list_items))]
     pub fn as_slice(&self) -> &[Json]
         ensures { items_view result.now ≡ list_view self.now }
     {
@@ -76,7 +76,7 @@ impl JsonList {
 
 impl JsonObject {
     /// The object of these members, in the memory of the vector.
-    #[tactic(auto, using(crate::proofs::ViewLaws::view_object))]
+    #[tactic(auto, using(crate::proofs::ViewLemmas::view_object))]
     pub fn from_vec(members: Vec<Member>) -> JsonObject
         ensures { object_view result ≡ members_view members.items }
     {
@@ -84,7 +84,7 @@ impl JsonObject {
     }
 
     /// The members, in the memory of the object.
-    #[tactic(auto, using(crate::proofs::ViewLaws::object_members))]
+    #[tactic(auto, using(crate::proofs::ViewLemmas::object_members))]
     pub fn into_vec(self) -> Vec<Member>
         ensures { members_view result.items ≡ object_view self }
     {
@@ -92,7 +92,7 @@ impl JsonObject {
     }
 
     /// The members.
-    #[tactic(auto, using(crate::proofs::ViewLaws::object_members))]
+    #[tactic(auto, using(crate::proofs::ViewLemmas::object_members))]
     pub fn as_slice(&self) -> &[Member]
         ensures { members_view result.now ≡ object_view self.now }
     {
@@ -102,7 +102,7 @@ impl JsonObject {
 
 impl Member {
     /// A key with its value.
-    #[tactic(auto, using(crate::proofs::ViewLaws::view_member))]
+    #[tactic(auto, using(crate::proofs::ViewLemmas::view_member))]
     pub fn new(key: Units, value: Json) -> Member
         ensures { member_view result ≡ (key, json_view value) }
     {
@@ -111,7 +111,7 @@ impl Member {
 }
 
 /// The value `null`.
-#[tactic(auto, using(crate::proofs::ViewLaws::json_laws))]
+#[tactic(auto, using(crate::proofs::ViewLemmas::json_laws))]
 pub fn null() -> Json
     ensures { json_view result ≡ json.null }
 {
@@ -119,7 +119,7 @@ pub fn null() -> Json
 }
 
 /// A truth value.
-#[tactic(auto, using(crate::proofs::ViewLaws::json_laws))]
+#[tactic(auto, using(crate::proofs::ViewLemmas::json_laws))]
 pub fn boolean(value: bool) -> Json
     ensures { json_view result ≡ json.boolean value }
 {
@@ -127,7 +127,7 @@ pub fn boolean(value: bool) -> Json
 }
 
 /// A number.
-#[tactic(auto, using(crate::proofs::ViewLaws::json_laws))]
+#[tactic(auto, using(crate::proofs::ViewLemmas::json_laws))]
 pub fn number(value: i64) -> Json
     ensures { json_view result ≡ json.number value }
 {
@@ -135,7 +135,7 @@ pub fn number(value: i64) -> Json
 }
 
 /// A text.
-#[tactic(auto, using(crate::proofs::ViewLaws::json_laws))]
+#[tactic(auto, using(crate::proofs::ViewLemmas::json_laws))]
 pub fn text(units: Units) -> Json
     ensures { json_view result ≡ json.text units }
 {
@@ -143,7 +143,7 @@ pub fn text(units: Units) -> Json
 }
 
 /// A list of these values.
-#[tactic(auto, using(crate::proofs::ViewLaws::json_laws))]
+#[tactic(auto, using(crate::proofs::ViewLemmas::json_laws))]
 pub fn list(items: Vec<Json>) -> Json
     ensures { json_view result ≡ json.list (items_view items.items) }
 {
@@ -151,7 +151,7 @@ pub fn list(items: Vec<Json>) -> Json
 }
 
 /// An object of these members.
-#[tactic(auto, using(crate::proofs::ViewLaws::json_laws))]
+#[tactic(auto, using(crate::proofs::ViewLemmas::json_laws))]
 pub fn object(members: Vec<Member>) -> Json
     ensures { json_view result ≡ json.object (members_view members.items) }
 {

@@ -7,6 +7,6 @@ pub mod TermSteps
 pub mod ScriptLemmas
 pub mod PlainLaws
 pub mod IndexLemmas
-pub mod PlaceLaws
+pub mod PlaceLemmas
 pub mod FillLemmas
 pub mod SourceIndexes

@@ -10,7 +10,7 @@ use Rattle.js_semantics.specs.Functions.{SourceTree}
 use Rattle.js_semantics.specs.Run.{program_from}
 use Rattle.js_terms.specs.declared.term.Term.{Term}
 use Rattle.js_terms.specs.Views.{term_view, listed_view}
-use Rattle.js_terms.proofs.TermLaws.{listed_view-append}
+use Rattle.js_terms.proofs.TermLemmas.{listed_view-append}
 use Rattle.js_world.specs.Names.{GoesOn}
 use Rattle.js_code.specs.declared.op.Op.TheVariants as ops
 use Rattle.js_code.specs.declared.node.Node.{Node}

@@ -12,7 +12,7 @@ use Rattle.js_terms.specs.declared.term.Term.{Term}
 use Rattle.js_terms.specs.declared.term.Terms.{Terms}
 use Rattle.js_terms.specs.declared.term.Term.TheViews as views
 use Rattle.js_terms.specs.Views.{term_view, terms_view, listed_view}
-use Rattle.js_terms.proofs.TermLaws.{view_done, view_standing, view_part, listed_view-append}
+use Rattle.js_terms.proofs.TermLemmas.{view_done, view_standing, view_part, listed_view-append}
 use Rattle.js_code.specs.declared.op.Op.TheVariants as ops
 use Rattle.js_code.specs.declared.table.NodeTable.{NodeTable}
 use Rattle.js_world.specs.Names.{GoesOn}

@@ -23,7 +23,7 @@ fn make_place(index: &mut Vec<u32>, node: u32) -> Result<(), AllocError>
 }
 
 /// Puts a number at a node.
-#[tactic(auto, using(crate::proofs::PlaceLaws::number_set))]
+#[tactic(auto, using(crate::proofs::PlaceLemmas::number_set))]
 fn put_at(index: &mut Vec<u32>, node: u32, number: u32) -> Result<(), AllocError>
     ensures { OnOk result ((x : ℕ) → number_at index.new.items x ≡ (if nat_eq node x then number else number_at index.old.items x)) }
 {

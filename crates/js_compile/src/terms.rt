@@ -77,7 +77,7 @@ pub fn add_term(
 
 /// Nodes for terms, in order.
 #[cycle(add_term)]
-#[tactic(auto, using(js_terms::proofs::TermLaws::terms_listed))]
+#[tactic(auto, using(js_terms::proofs::TermLemmas::terms_listed))]
 fn add_terms(
     alloc: Global,
     names: &mut Names,

@@ -1,6 +1,6 @@
 pub mod FrameKinds
-pub mod KindLaws
-pub mod ActiveLaws
-pub mod CatchLaws
-pub mod FrameLaws
-pub mod ShownLaws
+pub mod KindLemmas
+pub mod ActiveLemmas
+pub mod CatchLemmas
+pub mod FrameLemmas
+pub mod ShownLemmas

@@ -1,3 +1,3 @@
-pub mod LiteralLaws
-pub mod SourceLaws
-pub mod TargetLaws
+pub mod LiteralLemmas
+pub mod SourceLemmas
+pub mod TargetLemmas

@@ -38,7 +38,7 @@ pub fn literals_in(alloc: Global, term: &Term) -> Result<Vec<Units>, AllocError>
 
 // adds the literals of a part at the end
 #[cycle(add_literals)]
-#[tactic(auto, using(js_terms::proofs::TermLaws::term_laws, crate::proofs::LiteralLaws::found_laws))]
+#[tactic(auto, using(js_terms::proofs::TermLemmas::term_laws, crate::proofs::LiteralLemmas::found_laws))]
 fn add_literals(term: &Term, found: &mut Vec<Units>) -> Result<(), AllocError>
     ensures { OnOk result (found.new.items ≡ found.old.items ++ run.literals (term_view term.now)) }
 {
@@ -60,7 +60,7 @@ fn add_literals(term: &Term, found: &mut Vec<Units>) -> Result<(), AllocError>
 }
 
 #[cycle(add_literals)]
-#[tactic(auto, using(js_terms::proofs::TermLaws::terms_listed))]
+#[tactic(auto, using(js_terms::proofs::TermLemmas::terms_listed))]
 fn add_all_literals(terms: &Terms, found: &mut Vec<Units>) -> Result<(), AllocError>
     ensures { OnOk result (found.new.items ≡ found.old.items ++ run.literals_of (terms_view terms.now)) }
 {
@@ -115,7 +115,7 @@ pub fn literals_placed(alloc: Global, at: Addr, term: &Term) -> Result<Term, All
 
 // the part with the addresses of its literals, and the number after them
 #[cycle(placed)]
-#[tactic(auto, using(js_terms::proofs::TermLaws::term_laws, crate::proofs::LiteralLaws::literal_laws))]
+#[tactic(auto, using(js_terms::proofs::TermLemmas::term_laws, crate::proofs::LiteralLemmas::literal_laws))]
 fn term_placed(alloc: Global, space: Space, term: &Term, next: &mut u32) -> Result<Term, AllocError>
     ensures term { IfOk result (λ t. term_view t ≡ run.with_literals (address space) next.old (term_view term.now)) }
     ensures next { OnOk result (next.new ≡ next.old + length (run.literals (term_view term.now))) }
@@ -151,7 +151,7 @@ fn literal_placed(space: Space, next: &mut u32) -> Result<Term, AllocError>
 }
 
 #[cycle(placed)]
-#[tactic(auto, using(js_terms::proofs::TermLaws::terms_listed))]
+#[tactic(auto, using(js_terms::proofs::TermLemmas::terms_listed))]
 fn terms_placed(
     alloc: Global,
     space: Space,

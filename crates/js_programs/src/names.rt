@@ -30,7 +30,7 @@ pub fn arrow_parameters(alloc: Global, parameters: &ArrowParameters) -> Result<N
 }
 
 /// The names that a list of statements declares, without values.
-#[tactic(auto, using(crate::proofs::SourceLaws::list_laws))]
+#[tactic(auto, using(crate::proofs::SourceLemmas::list_laws))]
 pub fn names_of(alloc: Global, statements: &Stmts) -> Result<ScopeNames, AllocError>
     ensures { IfOk result (λ ns. ns ≡ (statements_source statements.now).names) }
 {
@@ -49,7 +49,7 @@ fn add_item_names(items: &[Stmt], names: &mut Vec<Binding>) -> Result<(), AllocE
 }
 
 // adds the names of a statement at the end
-#[tactic(auto, using(crate::proofs::SourceLaws::statement_laws))]
+#[tactic(auto, using(crate::proofs::SourceLemmas::statement_laws))]
 fn add_names(statement: &Stmt, names: &mut Vec<Binding>) -> Result<(), AllocError>
     ensures { OnOk result (names.new.items ≡ names.old.items ++ (statement_source statement.now).names) }
 {
@@ -108,7 +108,7 @@ pub fn declarators_names(
     Ok(ScopeNames::from_vec(names))
 }
 
-#[tactic(auto, using(crate::proofs::SourceLaws::source_declarators))]
+#[tactic(auto, using(crate::proofs::SourceLemmas::source_declarators))]
 fn add_declared(
     constant: bool,
     declarators: &Declarators,
@@ -133,7 +133,7 @@ fn add_declared_items(
 }
 
 /// The place of a call of an expression, where that isn't the call's `(`.
-#[tactic(auto, using(crate::proofs::SourceLaws::expression_laws))]
+#[tactic(auto, using(crate::proofs::SourceLemmas::expression_laws))]
 pub fn last_word(e: &Expr) -> Option<Mark>
     ensures { result ≡ (expression_source e.now).last_word }
 {
@@ -164,7 +164,7 @@ pub fn last_word(e: &Expr) -> Option<Mark>
 }
 
 /// The node of an expression.
-#[tactic(auto, using(crate::proofs::SourceLaws::expression_laws))]
+#[tactic(auto, using(crate::proofs::SourceLemmas::expression_laws))]
 pub fn node_of(e: &Expr) -> u32
     ensures { result ≡ (expression_source e.now).node }
 {

@@ -37,7 +37,7 @@ fn plain_unary(alloc: Global, operator: UnaryOperator, operand: Term) -> Result<
 }
 
 /// An operator on two values.
-#[tactic(auto, using(crate::proofs::TargetLaws::binary_laws))]
+#[tactic(auto, using(crate::proofs::TargetLemmas::binary_laws))]
 pub fn binary_term(
     alloc: Global,
     operator: BinaryOperator,

@@ -23,7 +23,7 @@ pub enum Target {
 }
 
 /// A term taken apart where it is read.
-#[tactic(auto, using(js_terms::proofs::TermLaws::term_laws))]
+#[tactic(auto, using(js_terms::proofs::TermLemmas::term_laws))]
 fn target_of(alloc: Global, term: Term) -> Result<Target, AllocError>
     ensures { IfOk result (λ target. IsTarget (term_view term) target) }
 {
@@ -44,7 +44,7 @@ fn read_target(alloc: Global, form: Form, now: Terms, later: Terms) -> Result<Ta
 }
 
 /// `target = value`; a term that isn't a target stays as it is.
-#[tactic(auto, using(crate::proofs::TargetLaws::assigned_laws))]
+#[tactic(auto, using(crate::proofs::TargetLemmas::assigned_laws))]
 fn assigned_to(alloc: Global, target: Term, value: Term) -> Result<Term, AllocError>
     ensures { IfOk result (λ t. term_view t ≡ makers.assigned_to (term_view target) (term_view value)) }
 {
@@ -58,7 +58,7 @@ fn assigned_to(alloc: Global, target: Term, value: Term) -> Result<Term, AllocEr
 }
 
 /// `target op= value`.
-#[tactic(auto, using(crate::proofs::TargetLaws::compounded_laws))]
+#[tactic(auto, using(crate::proofs::TargetLemmas::compounded_laws))]
 fn compounded(
     alloc: Global,
     operator: BinaryOperator,
@@ -77,7 +77,7 @@ fn compounded(
 }
 
 /// `++` and `--`, and whether it stands in front.
-#[tactic(auto, using(crate::proofs::TargetLaws::updated_laws))]
+#[tactic(auto, using(crate::proofs::TargetLemmas::updated_laws))]
 pub fn updated(
     alloc: Global,
     operator: UpdateOperator,
@@ -100,7 +100,7 @@ pub fn updated(
 }
 
 /// `delete target`.
-#[tactic(auto, using(crate::proofs::TargetLaws::deleted_laws))]
+#[tactic(auto, using(crate::proofs::TargetLemmas::deleted_laws))]
 pub fn deleted(alloc: Global, target: Term) -> Result<Term, AllocError>
     ensures { IfOk result (λ t. term_view t ≡ makers.deleted (term_view target)) }
 {
@@ -113,7 +113,7 @@ pub fn deleted(alloc: Global, target: Term) -> Result<Term, AllocError>
 }
 
 /// `typeof operand`.
-#[tactic(auto, using(crate::proofs::TargetLaws::type_laws))]
+#[tactic(auto, using(crate::proofs::TargetLemmas::type_laws))]
 pub(crate) fn type_of(alloc: Global, operand: Term) -> Result<Term, AllocError>
     ensures { IfOk result (λ t. term_view t ≡ makers.type_of (term_view operand)) }
 {
@@ -177,7 +177,7 @@ pub fn operator_of(operator: AssignmentOperator) -> Option<BinaryOperator>
 }
 
 /// `target = value` and its like.
-#[tactic(auto, using(crate::proofs::TargetLaws::assignment_laws))]
+#[tactic(auto, using(crate::proofs::TargetLemmas::assignment_laws))]
 pub fn assignment(
     alloc: Global,
     operator: AssignmentOperator,
@@ -203,7 +203,7 @@ pub fn place_or(last_word: Option<Mark>, parentheses: u32) -> Mark
 }
 
 /// A call; a callee that is a reference is read before the arguments.
-#[tactic(auto, using(crate::proofs::TargetLaws::call_laws))]
+#[tactic(auto, using(crate::proofs::TargetLemmas::call_laws))]
 pub fn call_term(
     alloc: Global,
     place: Mark,
@@ -222,7 +222,7 @@ pub fn call_term(
 }
 
 // a call of a callee that isn't a reference: `this` is undefined
-#[tactic(auto, using(js_terms::proofs::TermLaws::joined_laws))]
+#[tactic(auto, using(js_terms::proofs::TermLemmas::joined_laws))]
 fn plain_call(
     alloc: Global,
     place: Mark,

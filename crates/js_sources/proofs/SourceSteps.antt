@@ -12,7 +12,7 @@ use Rattle.js_semantics.specs.Terms as semantics
 use Rattle.js_semantics.specs.Makers as makers
 use Rattle.js_semantics.specs.Makers.{Context, Made, Item, Items, CatchMade}
 use Rattle.js_semantics.specs.Sources.{expression_source, statement_source}
-use Rattle.js_programs.proofs.LiteralLaws.{joined_end}
+use Rattle.js_programs.proofs.LiteralLemmas.{joined_end}
 
 joined_assoc : (ts us vs : semantics.Terms)
     → semantics.joined (semantics.joined ts us) vs ≡ semantics.joined ts (semantics.joined us vs)

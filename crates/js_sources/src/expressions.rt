@@ -194,7 +194,7 @@ pub fn part_term<'a>(alloc: Global, e: &Expr, place: Place<'a>) -> Result<Term, 
 
 /// Parts that follow one another.
 #[cycle(source)]
-#[tactic(auto, using(js_programs::proofs::SourceLaws::list_laws))]
+#[tactic(auto, using(js_programs::proofs::SourceLemmas::list_laws))]
 pub fn parts_terms<'a>(alloc: Global, es: &Exprs, place: Place<'a>) -> Result<Terms, AllocError>
     ensures { IfOk result (λ ts. terms_view ts ≡ makers.plains (expressions_source es.now) (context_of place.entry)) }
 {

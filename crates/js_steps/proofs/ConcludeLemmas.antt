@@ -27,7 +27,7 @@ use Rattle.js_steps.specs.Points.{term_at, IsAt}
 use Rattle.js_steps.specs.Answers.{reduced_move, reduced_term, Reduces}
 use Rattle.js_steps.specs.Stacks.{outer_of}
 use Rattle.js_steps.specs.Stepping.{IfGoesOn, StandsIn, answer_of, Says, Raises, went_of, TellsWithin}
-use Rattle.js_steps.proofs.GapLaws.{goes-risen, effect-risen, full-risen, plugged-resettled}
+use Rattle.js_steps.proofs.GapLemmas.{goes-risen, effect-risen, full-risen, plugged-resettled}
 
 -- what an answer says, by what it asks for
 pub says : (ts : List (List ℕ)) (t : NodeTable) (w : Wide) (m : Move Term) (r : Reduced) (s : State)

@@ -30,8 +30,8 @@ use Rattle.js_code.specs.Ops.{is_literal, is_loop}
 use Rattle.js_code.specs.declared.node.Node.{Node}
 use Rattle.js_steps.proofs.PartLemmas.{joined-value}
 use Rattle.js_steps.specs.Following.{innermost, HasTurn, RestsAt, IsCallOf, IsCompound, Compounds}
-use Rattle.js_steps.proofs.GapLaws.{plugged-resettled}
-use Rattle.js_steps.proofs.ScopeLaws.{has_scope, scopes-same, scopes-own, scopes-plain}
+use Rattle.js_steps.proofs.GapLemmas.{plugged-resettled}
+use Rattle.js_steps.proofs.ScopeLemmas.{has_scope, scopes-same, scopes-own, scopes-plain}
 use Rattle.js_steps.specs.Stacks.{has_extra, OwnsOnly, begun, outer_of, values_of, extra_of, wide, with_value, without_values, changed, turned, turned_extra, owning}
 use Rattle.js_steps.specs.Answers.{in_scope, head_of, rest_of, own_scope, now_of, added, listed, assigning, operating, assigned, called, this_of_call, reduced_term}
 use Rattle.js_steps.proofs.StageLemmas.{outer_scopes}

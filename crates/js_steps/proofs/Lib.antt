@@ -1,6 +1,6 @@
-pub mod GapLaws
+pub mod GapLemmas
 pub mod TreeLemmas
-pub mod ScopeLaws
+pub mod ScopeLemmas
 pub mod FollowLemmas
 pub mod StackLemmas
 pub mod TaskLemmas

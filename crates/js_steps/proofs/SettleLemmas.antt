@@ -16,7 +16,7 @@ use Rattle.js_steps.specs.Settling.{settled_row}
 use Rattle.js_steps.proofs.SettledParts.{settled_parts}
 use Rattle.js_steps.proofs.TreeLemmas.{open-tree}
 use Rattle.js_steps.proofs.PartLemmas.{joined-value}
-use Rattle.js_steps.proofs.GapLaws.{plugged-resettled, settled_filled}
+use Rattle.js_steps.proofs.GapLemmas.{plugged-resettled, settled_filled}
 
 -- ---- a part that is no value
 

@@ -32,7 +32,7 @@ use Rattle.js_steps.specs.Answers.{resumed}
 use Rattle.js_steps.specs.Stacks.{wide, outer_of, values_of, extra_of}
 use Rattle.js_steps.specs.Following.{innermost}
 use Rattle.js_steps.specs.Stepping.{Tells, TellsWithin, Steps, answer_of, Says, went_of}
-use Rattle.js_steps.proofs.GapLaws.{next-row-within, next-standing-within}
+use Rattle.js_steps.proofs.GapLemmas.{next-row-within, next-standing-within}
 use Rattle.js_code.proofs.TreeLemmas.{kids-end, node-at}
 use Rattle.js_steps.proofs.FinishLemmas.{node-scope}
 use Rattle.js_steps.proofs.DescentLemmas.{node_task, node-tree}

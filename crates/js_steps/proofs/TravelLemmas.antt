@@ -45,7 +45,7 @@ use Rattle.std.proofs.lemmas.Result.{on_ok_weaker}
 use Rattle.js_steps.specs.Answers.{Reduces}
 use Rattle.js_steps.proofs.SettleLemmas.{resettled-part}
 use Rattle.js_steps.proofs.ClosingLemmas.{innermost-none}
-use Rattle.js_steps.proofs.ScopeLaws.{has_scope, scopes-same}
+use Rattle.js_steps.proofs.ScopeLemmas.{has_scope, scopes-same}
 use Rattle.js_steps.proofs.FollowLemmas.{trees-none, waits-settled}
 use Rattle.js_steps.proofs.PassLemmas.{risen-by}
 use Rattle.js_steps.proofs.ConcludeLemmas.{says, went-follows, went-stands, goes-on-weaker}

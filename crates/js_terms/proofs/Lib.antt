@@ -1,1 +1,1 @@
-pub mod TermLaws
+pub mod TermLemmas

@@ -34,7 +34,7 @@ pub struct Terms {
 }
 
 /// A value.
-#[tactic(auto, using(crate::proofs::TermLaws::term_laws))]
+#[tactic(auto, using(crate::proofs::TermLemmas::term_laws))]
 pub fn done(value: Value) -> Term
     ensures { term_view result ≡ semantics.done value }
 {
@@ -42,7 +42,7 @@ pub fn done(value: Value) -> Term
 }
 
 /// A throw that stands.
-#[tactic(auto, using(crate::proofs::TermLaws::term_laws))]
+#[tactic(auto, using(crate::proofs::TermLemmas::term_laws))]
 pub fn standing(value: Value, spot: Spot) -> Term
     ensures { term_view result ≡ semantics.standing value spot }
 {
@@ -50,7 +50,7 @@ pub fn standing(value: Value, spot: Spot) -> Term
 }
 
 /// A form with its parts.
-#[tactic(auto, using(crate::proofs::TermLaws::term_laws))]
+#[tactic(auto, using(crate::proofs::TermLemmas::term_laws))]
 pub fn part(alloc: Global, form: Form, now: Terms, later: Terms) -> Result<Term, AllocError>
     ensures { IfOk result (λ t. term_view t ≡ semantics.part form (terms_view now) (terms_view later)) }
 {
@@ -66,7 +66,7 @@ pub fn leaf(alloc: Global, form: Form) -> Result<Term, AllocError>
 }
 
 /// No parts.
-#[tactic(auto, using(crate::proofs::TermLaws::view_terms))]
+#[tactic(auto, using(crate::proofs::TermLemmas::view_terms))]
 pub fn end(alloc: Global) -> Terms
     ensures { terms_view result ≡ semantics.end }
 {
@@ -76,7 +76,7 @@ pub fn end(alloc: Global) -> Terms
 }
 
 /// The parts in the memory of the vector.
-#[tactic(auto, using(crate::proofs::TermLaws::view_terms))]
+#[tactic(auto, using(crate::proofs::TermLemmas::view_terms))]
 pub fn terms_of(items: Vec<Term>) -> Terms
     ensures { terms_view result ≡ listed_view items.items }
 {
@@ -115,7 +115,7 @@ pub fn three(alloc: Global, first: Term, second: Term, third: Term) -> Result<Te
 
 impl Terms {
     /// The parts.
-    #[tactic(auto, using(crate::proofs::TermLaws::terms_listed))]
+    #[tactic(auto, using(crate::proofs::TermLemmas::terms_listed))]
     pub fn slice(&self) -> &[Term]
         ensures { listed_view result.now ≡ terms_view self.now }
     {
@@ -123,7 +123,7 @@ impl Terms {
     }
 
     /// The parts, in the memory of the list.
-    #[tactic(auto, using(crate::proofs::TermLaws::terms_listed))]
+    #[tactic(auto, using(crate::proofs::TermLemmas::terms_listed))]
     pub fn into_vec(self) -> Vec<Term>
         ensures { listed_view result.items ≡ terms_view self }
     {
@@ -132,7 +132,7 @@ impl Terms {
 }
 
 /// These parts and then those.
-#[tactic(auto, using(crate::proofs::TermLaws::joined_laws))]
+#[tactic(auto, using(crate::proofs::TermLemmas::joined_laws))]
 pub fn joined(first: Terms, second: Terms) -> Result<Terms, AllocError>
     ensures { IfOk result (λ ts. terms_view ts ≡ semantics.joined (terms_view first) (terms_view second)) }
 {

@@ -1,4 +1,4 @@
-pub mod TreeLaws
+pub mod TreeLemmas
 pub mod WalkLemmas
 pub mod KindLemmas
 pub mod OrderLemmas

@@ -7,7 +7,7 @@ use Rattle.js_tree.specs.declared.tree.Expr.{Expr}
 use Rattle.js_tree.specs.declared.tree.Declarator.{Declarator}
 use Rattle.std.specs.Option.{option_map}
 use Rattle.locations.specs.Marks.{Marks, Marking, together, in_all, in_present, expression_marks, declarator_marks}
-use Rattle.locations.proofs.TreeLaws.{marks_declarator}
+use Rattle.locations.proofs.TreeLemmas.{marks_declarator}
 
 -- ---- parts in order
 

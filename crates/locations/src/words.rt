@@ -8,7 +8,7 @@ use js_semantics::form::Mark;
 use js_tree::tree::Expr;
 
 /// The name at the end of an expression, where it is a name or a member by a name.
-#[tactic(auto, using(crate::proofs::TreeLaws::expression_laws))]
+#[tactic(auto, using(crate::proofs::TreeLemmas::expression_laws))]
 fn last_word(e: &Expr) -> Option<Mark>
     ensures { result ≡ (expression_marks e.now).last_word }
 {
@@ -49,7 +49,7 @@ pub fn call_place(callee: &Expr, parentheses: u32) -> Mark
 }
 
 /// The node of an expression.
-#[tactic(auto, using(crate::proofs::TreeLaws::expression_laws))]
+#[tactic(auto, using(crate::proofs::TreeLemmas::expression_laws))]
 pub fn node_of(e: &Expr) -> u32
     ensures { result ≡ (expression_marks e.now).node }
 {

@@ -5,7 +5,7 @@ use Rattle.cdp_json.specs.Json.{Json as AnyJson, Items, Members as AnyMembers}
 use Rattle.cdp_json.specs.Views.{json_view, member_view, items_view, members_view}
 use Rattle.cdp_json.specs.declared.value.Json.{Json as JsonCode}
 use Rattle.cdp_json.specs.declared.value.Member.{Member}
-use Rattle.cdp_json.proofs.ViewLaws.{member_parts}
+use Rattle.cdp_json.proofs.ViewLemmas.{member_parts}
 use Rattle.js_heap.specs.declared.value.Value.{Value}
 use Rattle.js_heap.specs.declared.cell.Property.{Property}
 use Rattle.js_heap.specs.Keys.{put_property}

@@ -41,7 +41,7 @@ use Rattle.js_steps.specs.Points.{term_at, IsAt}
 use Rattle.js_steps.specs.Stacks.{begun, with_value}
 use Rattle.js_steps.specs.Stepping.{finish_of, EndsSo, Tells, IfGoesOn, IsGoing, StandsIn}
 use Rattle.js_steps.specs.Tasks.{Wide, task_form, gaps_of}
-use Rattle.js_steps.proofs.GapLaws.{next-within}
+use Rattle.js_steps.proofs.GapLemmas.{next-within}
 use Rattle.js_steps.proofs.RunLemmas.{at-open}
 use Rattle.pure_eval.specs.declared.calling.Callee.TheVariants as callees
 use Rattle.pure_eval.specs.declared.evaluated.Evaluated.{Evaluated}

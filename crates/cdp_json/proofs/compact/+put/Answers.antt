@@ -3,7 +3,7 @@ use Rattle.cdp_json.specs.declared.value.Json.TheViews as views
 use Rattle.cdp_json.specs.declared.value.Member.{Member}
 use Rattle.cdp_json.specs.Compact.{string_text, with_commas, item_texts, members_text}
 use Rattle.cdp_json.specs.KeyOrder.{order_of}
-use Rattle.cdp_json.proofs.ViewLaws.{list_items, object_members}
+use Rattle.cdp_json.proofs.ViewLemmas.{list_items, object_members}
 use Rattle.cdp_json.proofs.TextLemmas.{text_of_item, text_at, pieces_more, pieces_all, item_texts-view, at_place, all_members, member_pieces}
 use Rattle.cdp_json.proofs.compact.+put.Goals as goal
 

@@ -1,7 +1,7 @@
 use Rattle.std.proofs.Common.{ap, sym, ◌∙◌, arith}
 use Rattle.cdp_json.specs.Json.{items_of, members_of}
 use Rattle.cdp_json.specs.Views.{json_view, member_view, items_view, members_view}
-use Rattle.cdp_json.proofs.ViewLaws.{list_items, object_members}
+use Rattle.cdp_json.proofs.ViewLemmas.{list_items, object_members}
 use Rattle.cdp_json.proofs.CopyLemmas.{copies_more, copies_all}
 use Rattle.cdp_json.proofs.copies.+copies.Goals as goal
 

@@ -1,6 +1,6 @@
 use Rattle.std.proofs.Common.{sym, ◌∙◌}
 use Rattle.js_steps.specs.Points.{term_at}
-use Rattle.js_frames.proofs.ActiveLaws.{debugger-some, debugger-none}
+use Rattle.js_frames.proofs.ActiveLemmas.{debugger-some, debugger-none}
 use Rattle.js_frames.proofs.arrivals.is_at_debugger.Goals as goal
 
 pub returns-in-Some : goal.returns-in-Some

@@ -2,8 +2,8 @@ use Rattle.std.proofs.Common.{◌∙◌}
 use Rattle.js_steps.specs.Points.{term_at}
 use Rattle.js_frames.specs.Scopes.{frame_scopes}
 use Rattle.js_frames.specs.Shown.{at_script}
-use Rattle.js_frames.proofs.FrameLaws.{scopes-at}
-use Rattle.js_frames.proofs.ShownLaws.{frame-none, frame-some}
+use Rattle.js_frames.proofs.FrameLemmas.{scopes-at}
+use Rattle.js_frames.proofs.ShownLemmas.{frame-none, frame-some}
 use Rattle.js_frames.proofs.frames.active_frame.Goals as goal
 
 pub returns-in_err-frame : goal.returns-in_err-frame

@@ -3,7 +3,7 @@ use Rattle.js_semantics.specs.Frames.{active}
 use Rattle.js_steps.specs.Points.{term_at}
 use Rattle.js_frames.specs.Kinds.{opened_by}
 use Rattle.js_frames.specs.Shown.{at_script}
-use Rattle.js_frames.proofs.ShownLaws.{bottom-shown, other-shown, depth-count}
+use Rattle.js_frames.proofs.ShownLemmas.{bottom-shown, other-shown, depth-count}
 use Rattle.js_frames.proofs.frames.script_shown.Goals as goal
 
 pub returns-then-d-depth : goal.returns-then-d-depth

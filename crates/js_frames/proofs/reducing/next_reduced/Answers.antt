@@ -1,5 +1,5 @@
 use Rattle.js_steps.specs.Stacks.{wide, values_of, extra_of, outer_of}
-use Rattle.js_frames.proofs.ActiveLaws.{row-kind, leaf-kind, stands-kind, done-kind}
+use Rattle.js_frames.proofs.ActiveLemmas.{row-kind, leaf-kind, stands-kind, done-kind}
 use Rattle.js_frames.proofs.reducing.next_reduced.Goals as goal
 
 pub returns-in_ok-task-in-Row : goal.returns-in_ok-task-in-Row

@@ -1,5 +1,5 @@
 use Rattle.std.proofs.Common.{◌≡◌, ℕ, ◌+◌, ◌≤◌, length, arith, subst, sym}
-use Rattle.js_frames.proofs.FrameLaws.{Left, calls-here, calls-passed, calls-on, calls-none}
+use Rattle.js_frames.proofs.FrameLemmas.{Left, calls-here, calls-passed, calls-on, calls-none}
 use Rattle.js_frames.proofs.scopes.frame_scope.Goals as goal
 use Rattle.js_frames.proofs.scopes.frame_scope.Goals.{then-is_frame_at+else-left-eq0, else-is_frame_at}
 

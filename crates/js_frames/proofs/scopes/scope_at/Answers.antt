@@ -1,6 +1,6 @@
 use Rattle.js_steps.specs.Stacks.{wide, values_of, extra_of}
 use Rattle.std.proofs.Common.{drop}
-use Rattle.js_frames.proofs.FrameLaws.{scope-some, scope-none}
+use Rattle.js_frames.proofs.FrameLemmas.{scope-some, scope-none}
 use Rattle.js_frames.proofs.scopes.scope_at.Goals as goal
 
 pub returns-in-Some : goal.returns-in-Some

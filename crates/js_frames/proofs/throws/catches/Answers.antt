@@ -1,4 +1,4 @@
-use Rattle.js_frames.proofs.CatchLaws.{catches-here, catches-on}
+use Rattle.js_frames.proofs.CatchLemmas.{catches-here, catches-on}
 use Rattle.js_frames.proofs.throws.catches.Goals as goal
 
 pub returns-then-catches_at : goal.returns-then-catches_at

@@ -1,4 +1,4 @@
-use Rattle.js_frames.proofs.CatchLaws.{stands-throw, no-throw}
+use Rattle.js_frames.proofs.CatchLemmas.{stands-throw, no-throw}
 use Rattle.js_frames.proofs.throws.thrown.Goals as goal
 
 pub returns-in-Stands : goal.returns-in-Stands

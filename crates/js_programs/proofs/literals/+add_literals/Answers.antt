@@ -1,6 +1,6 @@
 use Rattle.std.proofs.Common.{ap, sym, ◌∙◌}
 use Rattle.js_programs.specs.Literals.{literal_in}
-use Rattle.js_programs.proofs.LiteralLaws.{found_parts}
+use Rattle.js_programs.proofs.LiteralLemmas.{found_parts}
 use Rattle.js_programs.proofs.literals.+add_literals.Goals as goal
 
 pub add_literals-returns-in_ok-add_all_literals-in-None-2 : goal.add_literals-returns-in_ok-add_all_literals-in-None-2

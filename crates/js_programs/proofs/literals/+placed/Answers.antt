@@ -3,7 +3,7 @@ use Rattle.js_semantics.specs.Run as run
 use Rattle.js_terms.specs.Views.{listed_view}
 use Rattle.js_programs.specs.Literals.{literal_in}
 use Rattle.js_programs.specs.Spaces.{address}
-use Rattle.js_programs.proofs.LiteralLaws.{always_ok, counted_literal, counted_parts, placed_step, counted_step, placed_all}
+use Rattle.js_programs.proofs.LiteralLemmas.{always_ok, counted_literal, counted_parts, placed_step, counted_step, placed_all}
 use Rattle.js_programs.proofs.literals.+placed.Goals as goal
 use Rattle.js_programs.proofs.literals.+placed.Goals.{term_placed-in-Some+in_ok-literal_placed-in-Some, term_placed-in-None+in_ok-form-in-None+in_ok-now-in-None+in_ok-later-in-None}
 

@@ -1,5 +1,5 @@
 use Rattle.std.proofs.Common.{◌∙◌}
-use Rattle.js_programs.proofs.SourceLaws.{declared_step}
+use Rattle.js_programs.proofs.SourceLemmas.{declared_step}
 use Rattle.js_programs.proofs.names.add_declared_items.Goals as goal
 
 pub loop-item-preserved : goal.loop-item-preserved

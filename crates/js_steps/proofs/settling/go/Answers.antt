@@ -4,7 +4,7 @@ use Rattle.js_code.specs.Trees.{tree}
 use Rattle.js_steps.specs.Tasks.{gaps_of}
 use Rattle.js_steps.proofs.TreeLemmas.{open-tree}
 use Rattle.js_steps.proofs.settling.go.Goals as goal
-use Rattle.js_steps.proofs.GapLaws.{plugged-resettled}
+use Rattle.js_steps.proofs.GapLemmas.{plugged-resettled}
 
 pub returns-in-Some-clause-scoped : goal.returns-in-Some-clause-scoped
 returns-in-Some-clause-scoped c = on_ok_weaker c.give.result (λ d. d c.args.root) c.give.ensures.scoped

@@ -5,7 +5,7 @@ use mir.Syntax.{w64}
 use Rattle.cdp_json.specs.Json as json
 use Rattle.cdp_json.specs.Json.{Items, Members}
 use Rattle.cdp_json.specs.Views.{json_view, list_view, object_view}
-use Rattle.cdp_json.proofs.ViewLaws.{view_null, view_bool, view_number, view_text, view_list_of, view_object_of}
+use Rattle.cdp_json.proofs.ViewLemmas.{view_null, view_bool, view_number, view_text, view_list_of, view_object_of}
 use Rattle.js_heap.specs.declared.value.Value.TheVariants as values
 use Rattle.js_heap.specs.Keys.{put_property}
 use Rattle.js_heap.specs.World.{fine}

@@ -14,8 +14,8 @@ use Rattle.js_steps.specs.Gaps.{Gap, filled, plugged}
 use Rattle.js_steps.specs.Tasks.{Wide, gap_of, gaps_of, task_form}
 use Rattle.js_steps.specs.Points.{term_at, IsAt, IsLeafAt}
 use Rattle.js_frames.specs.Catchers.{is_catcher, catches_at, catches, standing_throw}
-use Rattle.js_frames.proofs.KindLaws.{task-catches}
-use Rattle.js_frames.proofs.ActiveLaws.{active-row, active-stands, active-done, active-leaf}
+use Rattle.js_frames.proofs.KindLemmas.{task-catches}
+use Rattle.js_frames.proofs.ActiveLemmas.{active-row, active-stands, active-done, active-leaf}
 
 -- ---- in gaps
 

@@ -13,7 +13,7 @@ use Rattle.js_heap.specs.declared.value.Value.{Value}
 use Rattle.js_terms.specs.declared.term.Term.{Term}
 use Rattle.js_terms.specs.declared.term.Terms.{Terms}
 use Rattle.js_terms.specs.declared.term.Term.TheViews as views
-use Rattle.js_terms.proofs.TermLaws.{view_done, view_standing, view_part}
+use Rattle.js_terms.proofs.TermLemmas.{view_done, view_standing, view_part}
 use Rattle.js_terms.specs.Views.{term_view, terms_view, listed, listed_view}
 use Rattle.js_programs.specs.Literals.{literal_in}
 

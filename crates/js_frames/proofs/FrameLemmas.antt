@@ -25,8 +25,8 @@ use Rattle.js_steps.proofs.FinishLemmas.{node-form, node-scope}
 use Rattle.js_frames.specs.Kinds.{kind_of}
 use Rattle.js_frames.proofs.FrameKinds.{is_leaving}
 use Rattle.js_frames.specs.Scopes.{is_frame, is_frame_at, call_scopes, frame_scopes}
-use Rattle.js_frames.proofs.KindLaws.{form-kind, task-leaves, leaving-op}
-use Rattle.js_frames.proofs.ActiveLaws.{leaf, leaf-tree, node-at}
+use Rattle.js_frames.proofs.KindLemmas.{form-kind, task-leaves, leaving-op}
+use Rattle.js_frames.proofs.ActiveLemmas.{leaf, leaf-tree, node-at}
 
 -- ---- a form with its parts
 

@@ -19,7 +19,7 @@ use Rattle.js_steps.proofs.FinishLemmas.{node-form}
 use Rattle.js_code.proofs.TreeLemmas.{kids-end}
 use Rattle.js_frames.specs.Kinds.{plain, kind_of, active_kind, op_kind, enters_debugger}
 use Rattle.js_frames.proofs.FrameKinds.{is_debugging}
-use Rattle.js_frames.proofs.KindLaws.{form-kind, task-kind, debugger-kind, debugging-op}
+use Rattle.js_frames.proofs.KindLemmas.{form-kind, task-kind, debugger-kind, debugging-op}
 use Rattle.js_steps.proofs.StepLemmas.{leaf_is}
 
 -- ---- within gaps
