@@ -2,14 +2,9 @@
 use Rattle.std.proofs.Common.{◌≡◌, ℕ, true, false, List, [], ◌∷◌, Option, None, Some, map, option_map, sym, subst}
 use Rattle.js_tree.specs.declared.tree.Expr.{Expr}
 use Rattle.js_tree.specs.declared.tree.PropertyDefinition.{PropertyDefinition}
-use Rattle.js_tree.specs.declared.tree.PropertyName.{PropertyName}
 use Rattle.js_tree.specs.declared.tree.Stmt.{Stmt}
 use Rattle.js_tree.specs.declared.tree.Block.{Block}
-use Rattle.js_tree.specs.declared.tree.Catch.{Catch}
 use Rattle.js_tree.specs.declared.tree.Declarator.{Declarator}
-use Rattle.js_tree.specs.declared.tree.Declarators.{Declarators}
-use Rattle.js_tree.specs.declared.tree.Exprs.{Exprs}
-use Rattle.js_tree.specs.declared.tree.PropertyDefinitions.{PropertyDefinitions}
 use Rattle.js_tree.specs.declared.tree.Stmts.{Stmts}
 use Rattle.js_tree.specs.declared.tree.Expr.TheOpen as layers
 use Rattle.js_tree.specs.declared.tree.Expr.TheOpen.{Expr-F, Stmt-F, PropertyName-F, PropertyDefinition-F}
@@ -18,19 +13,15 @@ use Rattle.js_tree.specs.declared.tree.Expr.TheViews as views
 use Rattle.js_tree.specs.Views.{parameters_view}
 use Rattle.js_semantics.specs.Makers.{parameter_names, DeclaratorMade, items_of, operator_of, unnamed, naming}
 use Rattle.js_semantics.specs.Sources.{expression_source, property_source, key_source, statement_source, block_source, catch_source, declarator_source, declarators_source, expressions_source, properties_source, statements_source, expression_layer, property_layer, key_layer, statement_layer, block_layer, catch_layer, declarator_layer, declarators_layer, expressions_layer, properties_layer, statements_layer}
-use Rattle.js_semantics.proofs.TreeFolds.{Former, Mapper, Level, Claims, Known, known_trees, Grows, every-statements}
+use Rattle.js_tree.proofs.ViewLemmas.{Layer as Level}
+use Rattle.js_semantics.proofs.TreeFolds.{Former, Claims, Known, known_trees, Grows, every-statements}
 use Rattle.js_semantics.proofs.SourceFolds.{made_parts, expression_turn, property_turn, key_turn, statement_turn, block_turn, catch_turn, declarator_turn, declarators_turn, expressions_turn, properties_turn, statements_turn}
 use Rattle.locations.specs.declared.marks.Marked.{Marked}
 use Rattle.locations.specs.Marks as marks
-use Rattle.locations.specs.Marks.{Layer, Marking, Marks, together, in_all, in_present, expression_marks, property_marks, key_marks, statement_marks, block_marks, catch_marks, declarator_marks, declarators_marks, expressions_marks, properties_marks, statements_marks}
+use Rattle.locations.specs.Marks.{Marking, Marks, together, in_all, in_present, expression_marks, property_marks, key_marks, statement_marks, block_marks, catch_marks, declarator_marks, declarators_marks, expressions_marks, properties_marks, statements_marks}
 use Rattle.locations.proofs.TreeLemmas as laws
+use Rattle.locations.proofs.TreeLemmas.{marks_of}
 use Rattle.arrivals.proofs.MakerLemmas.{both-marks, ExpressionFits, ExpressionsFit, OptionalFits, ItemFits, ItemsFit, KeyFits, PropertyFits, PropertiesFit, InitializerFits, DeclaratorsFit, CatchFits, made-fits, name-fits, member-fits, function-fits, arrow_block-fits, arrow-fits, call-fits, updated-belongs, unary-belongs, binary-belongs, assignment-belongs, comma-fits, two-fit, conditional-fits, value-fits, method-fits, optional-none, optional-some, block_item-fits, empty-fits, lexical-fits, expression-fits, if-fits, if_else-fits, do_while-fits, while-fits, for-fits, for_lexical-fits, for_of-fits, continue-fits, break-fits, return-fits, throw-fits, no_catch-fits, catch-fits, no_finally-fits, finally-fits, try-fits, debugger-fits, declaration-fits, no_items-fit, and_items-fit}
-
--- ---- the marks of one level
-
-abbrev marks_of : (F : Former) → Mapper F → Level F → Layer F
-marks_of F change =
-    change Expr PropertyDefinition PropertyName Stmt Block Catch Declarator Declarators Exprs PropertyDefinitions Stmts Marking Marks Marks Marks Marks Marks Marks Marks Marks Marks Marks expression_marks property_marks key_marks statement_marks block_marks catch_marks declarator_marks declarators_marks expressions_marks properties_marks statements_marks
 
 -- ---- what is claimed
 

@@ -26,7 +26,8 @@ use Rattle.js_language.specs.Places.{Place, a_symbol, may_stand, in_braces, in_p
 use Rattle.js_language.proofs.PlaceLemmas as standing
 use Rattle.js_semantics.specs.Makers.{Made, CatchMade, items_of}
 use Rattle.js_semantics.specs.Sources.{expression_layer, property_layer, key_layer, statement_layer, block_layer, catch_layer, declarator_layer, declarators_layer, expressions_layer, properties_layer, statements_layer, expression_source, property_source, key_source, statement_source, block_source, catch_source, declarator_source, declarators_source, expressions_source, properties_source, statements_source}
-use Rattle.js_semantics.proofs.TreeFolds.{Former, Mapper, Level, Claims, Known, known_trees, Grows, every-expression}
+use Rattle.js_tree.proofs.ViewLemmas.{Layer as Level}
+use Rattle.js_semantics.proofs.TreeFolds.{Former, Mapper, Claims, Known, known_trees, Grows, every-expression}
 use Rattle.js_semantics.proofs.SourceFolds as sources
 use Rattle.js_semantics.proofs.SourceFolds.{made_parts, clean_parts}
 use Rattle.js_numbered.specs.Numbering.{Counted, Numbering}

@@ -1,18 +1,17 @@
-//! The names that statements and functions declare, and the words of expressions.
+//! The names that statements and functions declare.
 
 ghost use Rattle.std.specs.Prelude.{◌≡◌, ◌++◌, IfOk, OnOk, map};
 ghost use Rattle.js_tree.specs.Views.{parameters_view};
 ghost use Rattle.js_semantics.specs.Makers.{parameter_names};
 ghost use Rattle.js_semantics.specs.Makers as makers;
-ghost use Rattle.js_semantics.specs.Sources.{expression_source, statements_source, statement_source, declarator_source, declarators_source};
+ghost use Rattle.js_semantics.specs.Sources.{statements_source, statement_source, declarator_source, declarators_source};
 ghost use Rattle.js_heap.specs.Cells as cells;
 
 use cdp_text::units::Units;
 use js_heap::cell::{Binding, Names as ScopeNames};
-use js_semantics::form::Mark;
 use js_terms::copies::names_copy;
 use js_tree::names::Names;
-use js_tree::tree::{ArrowParameters, Declarator, Declarators, Expr, Stmt, Stmts};
+use js_tree::tree::{ArrowParameters, Declarator, Declarators, Stmt, Stmts};
 use std::alloc::{AllocError, Global};
 
 /// The names of an arrow's parameters.
@@ -49,7 +48,7 @@ fn add_item_names(items: &[Stmt], names: &mut Vec<Binding>) -> Result<(), AllocE
 }
 
 // adds the names of a statement at the end
-#[tactic(auto, using(crate::proofs::SourceLemmas::statement_laws))]
+#[tactic(auto, using(js_semantics::proofs::TreeLemmas::statement_laws))]
 fn add_names(statement: &Stmt, names: &mut Vec<Binding>) -> Result<(), AllocError>
     ensures { OnOk result (names.new.items ≡ names.old.items ++ (statement_source statement.now).names) }
 {
@@ -108,7 +107,7 @@ pub fn declarators_names(
     Ok(ScopeNames::from_vec(names))
 }
 
-#[tactic(auto, using(crate::proofs::SourceLemmas::source_declarators))]
+#[tactic(auto, using(js_semantics::proofs::TreeLemmas::source_declarators))]
 fn add_declared(
     constant: bool,
     declarators: &Declarators,
@@ -130,66 +129,4 @@ fn add_declared_items(
         names.push(declared(&item.name, constant)?)?;
     }
     Ok(())
-}
-
-/// The place of a call of an expression, where that isn't the call's `(`.
-#[tactic(auto, using(crate::proofs::SourceLemmas::expression_laws))]
-pub fn last_word(e: &Expr) -> Option<Mark>
-    ensures { result ≡ (expression_source e.now).last_word }
-{
-    match e {
-        Expr::Name { node, .. } => Some(Mark::Start(node.0)),
-        Expr::Member { node, name, .. } => Some(Mark::BeforeEnd(node.0, name.len())),
-        Expr::This { .. } => None,
-        Expr::Number { .. } => None,
-        Expr::String { .. } => None,
-        Expr::Boolean { .. } => None,
-        Expr::Null { .. } => None,
-        Expr::Array { .. } => None,
-        Expr::Object { .. } => None,
-        Expr::Function { .. } => None,
-        Expr::Arrow { .. } => None,
-        Expr::ArrowBlock { .. } => None,
-        Expr::Parenthesized { .. } => None,
-        Expr::Index { .. } => None,
-        Expr::Call { .. } => None,
-        Expr::Postfix { .. } => None,
-        Expr::Prefix { .. } => None,
-        Expr::Unary { .. } => None,
-        Expr::Binary { .. } => None,
-        Expr::Conditional { .. } => None,
-        Expr::Assign { .. } => None,
-        Expr::Comma { .. } => None,
-    }
-}
-
-/// The node of an expression.
-#[tactic(auto, using(crate::proofs::SourceLemmas::expression_laws))]
-pub fn node_of(e: &Expr) -> u32
-    ensures { result ≡ (expression_source e.now).node }
-{
-    match e {
-        Expr::Name { node, .. } => node.0,
-        Expr::Member { node, .. } => node.0,
-        Expr::This { node } => node.0,
-        Expr::Number { node, .. } => node.0,
-        Expr::String { node, .. } => node.0,
-        Expr::Boolean { node, .. } => node.0,
-        Expr::Null { node } => node.0,
-        Expr::Array { node, .. } => node.0,
-        Expr::Object { node, .. } => node.0,
-        Expr::Function { node, .. } => node.0,
-        Expr::Arrow { node, .. } => node.0,
-        Expr::ArrowBlock { node, .. } => node.0,
-        Expr::Parenthesized { node, .. } => node.0,
-        Expr::Index { node, .. } => node.0,
-        Expr::Call { node, .. } => node.0,
-        Expr::Postfix { node, .. } => node.0,
-        Expr::Prefix { node, .. } => node.0,
-        Expr::Unary { node, .. } => node.0,
-        Expr::Binary { node, .. } => node.0,
-        Expr::Conditional { node, .. } => node.0,
-        Expr::Assign { node, .. } => node.0,
-        Expr::Comma { node, .. } => node.0,
-    }
 }

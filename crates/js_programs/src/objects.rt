@@ -83,7 +83,7 @@ pub fn number_key(alloc: Global, value: SafeInteger) -> Result<Units, AllocError
 }
 
 /// The members of an object literal.
-#[tactic(auto, using(crate::proofs::SourceLemmas::source_properties))]
+#[tactic(auto, using(js_semantics::proofs::TreeLemmas::source_properties))]
 pub fn members_of(alloc: Global, properties: &PropertyDefinitions) -> Result<Members, AllocError>
     ensures { IfOk result (λ ms. ms ≡ map makers.member_of (properties_source properties.now)) }
 {
@@ -100,7 +100,7 @@ fn members_in(alloc: Global, items: &[PropertyDefinition]) -> Result<Vec<Member>
     Ok(members)
 }
 
-#[tactic(auto, using(crate::proofs::SourceLemmas::property_laws))]
+#[tactic(auto, using(js_semantics::proofs::TreeLemmas::property_laws))]
 fn member_of(alloc: Global, property: &PropertyDefinition) -> Result<Member, AllocError>
     ensures { IfOk result (λ m. m ≡ makers.member_of (property_source property.now)) }
 {
@@ -111,7 +111,7 @@ fn member_of(alloc: Global, property: &PropertyDefinition) -> Result<Member, All
     }
 }
 
-#[tactic(auto, using(crate::proofs::SourceLemmas::key_laws))]
+#[tactic(auto, using(js_semantics::proofs::TreeLemmas::key_laws))]
 fn member_of_key(alloc: Global, key: &PropertyName) -> Result<Member, AllocError>
     ensures { IfOk result (λ m. m ≡ makers.member_of_key (key_source key.now)) }
 {

@@ -192,16 +192,6 @@ pub fn assignment(
     }
 }
 
-/// The place of a call: the callee's last word, else its `(`.
-pub fn place_or(last_word: Option<Mark>, parentheses: u32) -> Mark
-    ensures { result ≡ makers.place_or last_word parentheses }
-{
-    match last_word {
-        Some(mark) => mark,
-        None => Mark::Start(parentheses),
-    }
-}
-
 /// A call; a callee that is a reference is read before the arguments.
 #[tactic(auto, using(crate::proofs::TargetLemmas::call_laws))]
 pub fn call_term(

@@ -1,5 +1,6 @@
 pub mod TreeFolds
 pub mod SourceFolds
+pub mod TreeLemmas
 pub mod Clean
 pub mod Reports
 pub mod Steps

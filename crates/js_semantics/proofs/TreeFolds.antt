@@ -15,6 +15,7 @@ use Rattle.js_tree.specs.declared.tree.Expr.TheOpen as layers
 use Rattle.js_tree.specs.declared.tree.Expr.TheOpen.{Expr-F, Stmt-F, PropertyName-F, PropertyDefinition-F}
 use Rattle.js_tree.specs.declared.tree.Expr.TheFolds.{map-Expr, map-PropertyDefinition, map-PropertyName, map-Stmt, map-Block, map-Catch, map-Declarator, map-Declarators, map-Exprs, map-PropertyDefinitions, map-Stmts, ind-Expr, ind-Stmts}
 use Rattle.js_tree.specs.declared.tree.Expr.TheViews as views
+use Rattle.js_tree.proofs.ViewLemmas.{Layer as Level}
 
 -- ---- one level of each type of tree
 
@@ -38,10 +39,6 @@ Mapper F =
     → (L → L2)
     → F A B C D E G H I J K L
     → F A2 B2 C2 D2 E2 G2 H2 I2 J2 K2 L2
-
--- the trees themselves in its places
-abbrev pub Level : Former → Type 0
-Level F = F Expr PropertyDefinition PropertyName Stmt Block Catch Declarator Declarators Exprs PropertyDefinitions Stmts
 
 -- ---- laws of trees
 

@@ -19,3 +19,4 @@ pub mod bounds;
 pub mod form;
 pub mod laws;
 pub mod offsets;
+pub mod words;

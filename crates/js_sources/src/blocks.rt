@@ -21,7 +21,7 @@ use std::alloc::{AllocError, Global};
 
 /// A block.
 #[cycle(source)]
-#[tactic(auto, using(js_programs::proofs::SourceLemmas::source_block_body))]
+#[tactic(auto, using(js_semantics::proofs::TreeLemmas::source_block_body))]
 pub fn block_term<'a>(alloc: Global, block: &Block, place: Place<'a>) -> Result<Term, AllocError>
     ensures { IfOk result (λ t. term_view t ≡ makers.block_term (block_source block.now) (context_of place.entry)) }
 {
@@ -46,7 +46,7 @@ fn block_of(
 
 /// A block with what catches its errors.
 #[cycle(source)]
-#[tactic(auto, using(js_programs::proofs::SourceLemmas::source_catch))]
+#[tactic(auto, using(js_semantics::proofs::TreeLemmas::source_catch))]
 pub fn caught_term<'a>(
     alloc: Global,
     handler: &Option<Catch>,

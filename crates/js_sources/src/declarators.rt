@@ -47,7 +47,7 @@ fn declarator_items<'a>(
 }
 
 #[cycle(source)]
-#[tactic(auto, using(js_programs::proofs::SourceLemmas::source_declarator, js_programs::proofs::SourceLemmas::initializer_named))]
+#[tactic(auto, using(js_semantics::proofs::TreeLemmas::source_declarator, js_programs::proofs::SourceLemmas::initializer_named))]
 fn declarator<'a>(alloc: Global, d: &Declarator, place: Place<'a>) -> Result<Term, AllocError>
     ensures { IfOk result (λ t. term_view t ≡ declarator_term (declarator_source d.now) (context_of place.entry)) }
 {

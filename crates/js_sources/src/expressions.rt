@@ -14,12 +14,12 @@ use crate::objects::object_term;
 use cdp_text::units::Units;
 use js_heap::cell::Names as ScopeNames;
 use js_heap::value::Value;
-use js_programs::names::last_word;
 use js_programs::objects::{name_read, number_of};
 use js_programs::operators::{binary_term, choice, comma_term, unary_term};
 use js_programs::places::{Place, unnamed};
-use js_programs::references::{assignment, call_term, place_or, updated};
+use js_programs::references::{assignment, call_term, updated};
 use js_semantics::form::{Form, Reference};
+use js_semantics::words::call_place;
 use js_terms::term::{Term, Terms, done, end, leaf, one, part, terms_of, two};
 use js_tree::tree::{Expr, Exprs};
 use std::alloc::{AllocError, Global};
@@ -89,7 +89,7 @@ pub fn expression_term<'a>(alloc: Global, e: &Expr, place: Place<'a>) -> Result<
             arguments,
             ..
         } => {
-            let mark = place_or(last_word(callee), parentheses.0);
+            let mark = call_place(callee, parentheses.0);
             let callee = part_term(alloc, callee, place)?;
             let arguments = parts_terms(alloc, arguments, place)?;
             call_term(alloc, mark, place.statement, callee, arguments)

@@ -48,7 +48,7 @@ fn object_of(
 
 /// The parts of the members.
 #[cycle(source)]
-#[tactic(auto, using(js_programs::proofs::SourceLemmas::source_properties))]
+#[tactic(auto, using(js_semantics::proofs::TreeLemmas::source_properties))]
 fn properties_parts<'a>(
     alloc: Global,
     properties: &PropertyDefinitions,
@@ -76,7 +76,7 @@ fn property_items<'a>(
 }
 
 #[cycle(source)]
-#[tactic(auto, using(js_programs::proofs::SourceLemmas::property_laws, js_programs::proofs::SourceLemmas::key_laws))]
+#[tactic(auto, using(js_semantics::proofs::TreeLemmas::property_laws, js_semantics::proofs::TreeLemmas::key_laws))]
 fn property_parts<'a>(
     alloc: Global,
     property: &PropertyDefinition,

@@ -53,7 +53,7 @@ fn statement_items<'a>(
 
 /// The functions that a list of statements declares.
 #[cycle(source)]
-#[tactic(auto, using(js_programs::proofs::SourceLemmas::source_statements))]
+#[tactic(auto, using(js_semantics::proofs::TreeLemmas::source_statements))]
 pub fn functions_terms<'a>(alloc: Global, ss: &Stmts, place: Place<'a>) -> Result<Terms, AllocError>
     ensures { IfOk result (λ ts. terms_view ts ≡ (statements_source ss.now).functions (context_of place.entry)) }
 {

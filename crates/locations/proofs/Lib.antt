@@ -1,4 +1,5 @@
 pub mod TreeLemmas
+pub mod WordLemmas
 pub mod WalkLemmas
 pub mod KindLemmas
 pub mod OrderLemmas

@@ -29,37 +29,39 @@ use Rattle.js_tree.specs.declared.tree.PropertyDefinition.TheVariants.{rolls-Sho
 use Rattle.js_tree.specs.declared.tree.Expr.TheViews as views
 use Rattle.locations.specs.declared.spot.SpotKind.TheVariants as kinds
 use Rattle.locations.specs.Marks as definitions
-use Rattle.locations.specs.Marks.{Marking, Marks, expression_marks, property_marks, key_marks, statement_marks, block_marks, catch_marks, declarator_marks, declarators_marks, expressions_marks, properties_marks, statements_marks, expression_layer, property_layer, key_layer, statement_layer, block_layer, catch_layer, declarator_layer, declarators_layer, expressions_layer, properties_layer, statements_layer}
-use Rattle.js_tree.proofs.ViewLemmas.{Layer}
+use Rattle.locations.specs.Marks.{Layer, Marking, Marks, expression_marks, property_marks, key_marks, statement_marks, block_marks, catch_marks, declarator_marks, declarators_marks, expressions_marks, properties_marks, statements_marks, expression_layer, property_layer, key_layer, statement_layer, block_layer, catch_layer, declarator_layer, declarators_layer, expressions_layer, properties_layer, statements_layer}
+use Rattle.js_tree.proofs.ViewLemmas.{Layer as Level}
+use Rattle.js_semantics.proofs.TreeFolds.{Former, Mapper}
+
+-- the marks of the parts in the places of one level
+abbrev pub marks_of : (F : Former) → Mapper F → Level F → Layer F
+marks_of F change =
+    change Expr PropertyDefinition PropertyName Stmt Block Catch Declarator Declarators Exprs PropertyDefinitions Stmts Marking Marks Marks Marks Marks Marks Marks Marks Marks Marks Marks expression_marks property_marks key_marks statement_marks block_marks catch_marks declarator_marks declarators_marks expressions_marks properties_marks statements_marks
 
 -- the marks of a tree are made of those of its parts
-pub expression_turn : (x : Layer Expr-F)
-    → expression_marks (views.roll-Expr x) ≡ expression_layer
-    (map-Expr Expr PropertyDefinition PropertyName Stmt Block Catch Declarator Declarators Exprs PropertyDefinitions Stmts Marking Marks Marks Marks Marks Marks Marks Marks Marks Marks Marks expression_marks property_marks key_marks statement_marks block_marks catch_marks declarator_marks declarators_marks expressions_marks properties_marks statements_marks x)
+pub expression_turn : (x : Level Expr-F)
+    → expression_marks (views.roll-Expr x) ≡ expression_layer (marks_of Expr-F map-Expr x)
 unfolding expression_marks property_marks key_marks statement_marks block_marks catch_marks declarator_marks
     declarators_marks expressions_marks properties_marks statements_marks
 expression_turn x =
     fold-roll-Expr Marking Marks Marks Marks Marks Marks Marks Marks Marks Marks Marks expression_layer property_layer key_layer statement_layer block_layer catch_layer declarator_layer declarators_layer expressions_layer properties_layer statements_layer x
 
-pub property_turn : (x : Layer PropertyDefinition-F)
-    → property_marks (views.roll-PropertyDefinition x) ≡ property_layer
-    (map-PropertyDefinition Expr PropertyDefinition PropertyName Stmt Block Catch Declarator Declarators Exprs PropertyDefinitions Stmts Marking Marks Marks Marks Marks Marks Marks Marks Marks Marks Marks expression_marks property_marks key_marks statement_marks block_marks catch_marks declarator_marks declarators_marks expressions_marks properties_marks statements_marks x)
+pub property_turn : (x : Level PropertyDefinition-F)
+    → property_marks (views.roll-PropertyDefinition x) ≡ property_layer (marks_of PropertyDefinition-F map-PropertyDefinition x)
 unfolding expression_marks property_marks key_marks statement_marks block_marks catch_marks declarator_marks
     declarators_marks expressions_marks properties_marks statements_marks
 property_turn x =
     fold-roll-PropertyDefinition Marking Marks Marks Marks Marks Marks Marks Marks Marks Marks Marks expression_layer property_layer key_layer statement_layer block_layer catch_layer declarator_layer declarators_layer expressions_layer properties_layer statements_layer x
 
-pub key_turn : (x : Layer PropertyName-F)
-    → key_marks (views.roll-PropertyName x) ≡ key_layer
-    (map-PropertyName Expr PropertyDefinition PropertyName Stmt Block Catch Declarator Declarators Exprs PropertyDefinitions Stmts Marking Marks Marks Marks Marks Marks Marks Marks Marks Marks Marks expression_marks property_marks key_marks statement_marks block_marks catch_marks declarator_marks declarators_marks expressions_marks properties_marks statements_marks x)
+pub key_turn : (x : Level PropertyName-F)
+    → key_marks (views.roll-PropertyName x) ≡ key_layer (marks_of PropertyName-F map-PropertyName x)
 unfolding expression_marks property_marks key_marks statement_marks block_marks catch_marks declarator_marks
     declarators_marks expressions_marks properties_marks statements_marks
 key_turn x =
     fold-roll-PropertyName Marking Marks Marks Marks Marks Marks Marks Marks Marks Marks Marks expression_layer property_layer key_layer statement_layer block_layer catch_layer declarator_layer declarators_layer expressions_layer properties_layer statements_layer x
 
-pub statement_turn : (x : Layer Stmt-F)
-    → statement_marks (views.roll-Stmt x) ≡ statement_layer
-    (map-Stmt Expr PropertyDefinition PropertyName Stmt Block Catch Declarator Declarators Exprs PropertyDefinitions Stmts Marking Marks Marks Marks Marks Marks Marks Marks Marks Marks Marks expression_marks property_marks key_marks statement_marks block_marks catch_marks declarator_marks declarators_marks expressions_marks properties_marks statements_marks x)
+pub statement_turn : (x : Level Stmt-F)
+    → statement_marks (views.roll-Stmt x) ≡ statement_layer (marks_of Stmt-F map-Stmt x)
 unfolding expression_marks property_marks key_marks statement_marks block_marks catch_marks declarator_marks
     declarators_marks expressions_marks properties_marks statements_marks
 statement_turn x =

@@ -9,8 +9,8 @@ use crate::marks::{Marked, add};
 use crate::objects::properties_marks;
 use crate::spot::SpotKind;
 use crate::statements::statements_marks;
-use crate::words::{call_place, node_of};
 use js_semantics::form::Mark;
+use js_semantics::words::{call_place, node_of};
 use js_tree::tree::{Expr, Exprs, Stmts};
 use std::alloc::AllocError;
 

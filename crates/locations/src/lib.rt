@@ -20,4 +20,3 @@ mod marks;
 mod objects;
 pub mod spot;
 mod statements;
-mod words;

@@ -15,8 +15,9 @@ use Rattle.js_semantics.specs.declared.form.Mark.{Mark}
 use Rattle.js_semantics.specs.declared.form.Reference.TheVariants as references
 use Rattle.js_semantics.specs.declared.form.Stage.TheVariants as stages
 use Rattle.js_programs.specs.Sources.{context_of, own_form}
-use Rattle.js_programs.proofs.SourceLemmas.{function_own, source_this, source_name, source_number, source_string, source_boolean, source_null, source_array, source_object, source_function, source_arrow, source_arrow_block, source_parenthesized, source_member, source_index, source_call, source_postfix, source_prefix, source_unary, source_binary, source_conditional, source_assign, source_comma}
-use Rattle.js_programs.proofs.SourceLemmas.{source_block, source_lexical, source_empty, source_expression, source_if, source_do_while, source_while, source_for, source_for_lexical, source_for_of, source_continue, source_break, source_return, source_throw, source_try, source_debugger, source_function_declaration}
+use Rattle.js_semantics.proofs.TreeLemmas.{source_this, source_name, source_number, source_string, source_boolean, source_null, source_array, source_object, source_function, source_arrow, source_arrow_block, source_parenthesized, source_member, source_index, source_call, source_postfix, source_prefix, source_unary, source_binary, source_conditional, source_assign, source_comma}
+use Rattle.js_programs.proofs.SourceLemmas.{function_own}
+use Rattle.js_semantics.proofs.TreeLemmas.{source_block, source_lexical, source_empty, source_expression, source_if, source_do_while, source_while, source_for, source_for_lexical, source_for_of, source_continue, source_break, source_return, source_throw, source_try, source_debugger, source_function_declaration}
 use Rattle.js_sources.proofs.SourceSteps.{functions_step, functions_all, made_term, made_tail, item_term, item_tail, item_functions, functions_tail, functions_of, of_part, of_two, of_three, of_four, loop_so, try_so, body_so, plain_so}
 use Rattle.js_sources.proofs.+source.Goals as goal
 

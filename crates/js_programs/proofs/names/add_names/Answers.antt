@@ -1,6 +1,7 @@
 use Rattle.std.proofs.Common.{refl, ap, ◌∙◌}
 use Rattle.js_semantics.specs.Sources.{statement_source}
-use Rattle.js_programs.proofs.SourceLemmas.{no_names, source_block, source_empty, source_expression, source_if, source_do_while, source_while, source_for, source_for_lexical, source_for_of, source_continue, source_break, source_return, source_throw, source_try, source_debugger}
+use Rattle.js_semantics.proofs.TreeLemmas.{source_block, source_empty, source_expression, source_if, source_do_while, source_while, source_for, source_for_lexical, source_for_of, source_continue, source_break, source_return, source_throw, source_try, source_debugger}
+use Rattle.js_programs.proofs.SourceLemmas.{no_names}
 use Rattle.js_programs.proofs.names.add_names.Goals as goal
 
 pub returns-in-Block : goal.returns-in-Block

@@ -1,16 +1,16 @@
-//! Where an expression stands, and the last word of one that ends in a name.
+//! Where an expression stands: its node, and the mark of a call of it.
 
 ghost use Rattle.std.specs.Prelude.{◌≡◌};
-ghost use Rattle.js_semantics.specs.Makers as makers;
-ghost use Rattle.locations.specs.Marks.{expression_marks};
+ghost use Rattle.js_semantics.specs.Makers.{place_or};
+ghost use Rattle.js_semantics.specs.Sources.{expression_source};
 
-use js_semantics::form::Mark;
+use crate::form::Mark;
 use js_tree::tree::Expr;
 
 /// The name at the end of an expression, where it is a name or a member by a name.
 #[tactic(auto, using(crate::proofs::TreeLemmas::expression_laws))]
 fn last_word(e: &Expr) -> Option<Mark>
-    ensures { result ≡ (expression_marks e.now).last_word }
+    ensures { result ≡ (expression_source e.now).last_word }
 {
     match e {
         Expr::Name { node, .. } => Some(Mark::Start(node.0)),
@@ -40,7 +40,7 @@ fn last_word(e: &Expr) -> Option<Mark>
 
 /// The place of a call: the last word of its callee, else its `(`.
 pub fn call_place(callee: &Expr, parentheses: u32) -> Mark
-    ensures { result ≡ makers.place_or (expression_marks callee.now).last_word parentheses }
+    ensures { result ≡ place_or (expression_source callee.now).last_word parentheses }
 {
     match last_word(callee) {
         Some(mark) => mark,
@@ -48,10 +48,10 @@ pub fn call_place(callee: &Expr, parentheses: u32) -> Mark
     }
 }
 
-/// The node of an expression.
+/// The node of an expression: its number in the tree.
 #[tactic(auto, using(crate::proofs::TreeLemmas::expression_laws))]
 pub fn node_of(e: &Expr) -> u32
-    ensures { result ≡ (expression_marks e.now).node }
+    ensures { result ≡ (expression_source e.now).node }
 {
     match e {
         Expr::Name { node, .. } => node.0,
