@@ -1,17 +1,11 @@
 //! Where a machine stands behind each step of a run.
 
-ghost use Rattle.std.specs.Prelude.{false};
-
 use cdp_text::units::units_of;
-use js_code::table::NodeTable;
 use js_frames::spans::offset_in;
 use js_machine::machine::Machine;
-use js_operations::context::Context;
+use js_machine::plain::Never;
 use js_parser::parse::parse_script;
 use js_semantics::form::Source;
-use js_steps::run::Asks;
-use js_steps::stack::Stack;
-use js_steps::task::Point;
 use js_tree::script::Script;
 use js_world::heap::BaseHeap;
 use std::alloc::{AllocError, Global};
@@ -39,18 +33,6 @@ const ROWS: [(&str, &str); 7] = [
         "35/0 . . 16/1 . . 23/1 . . . . 16/2 . . 33/2 33/1 end",
     ),
 ];
-
-// Asks for no stop.
-#[derive(Clone, Copy)]
-struct Nobody;
-
-impl Asks for Nobody {
-    ghost stops = { λ host term frames. false };
-
-    fn asks(&self, _table: &NodeTable, _context: &Context, _stack: &Stack, _point: Point) -> bool {
-        false
-    }
-}
 
 // What is told of where a machine stands.
 fn told(alloc: Global, machine: &Machine, scripts: &[Script]) -> Result<String, AllocError> {
@@ -84,7 +66,7 @@ fn steps_told(
         if machine.end().is_some() || machine.finished().is_some() {
             break;
         }
-        let _ = machine.run(heap, 1, &Nobody);
+        let _ = machine.run(heap, 1, &Never);
         text.push_str(&told(alloc, machine, scripts)?)?;
     }
     Ok(text)

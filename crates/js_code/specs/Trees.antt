@@ -75,6 +75,12 @@ IsNodeAt t n (Some node) = IsNode t n node
 pub record IsTable (t : NodeTable) : Type 0 where
   pub nodes : (n : ℕ) → IsNodeAt t n (slice_get t.nodes.items n)
 
+-- a table in which nothing is yet
+pub record IsEmpty (t : NodeTable) : Type 0 where
+  pub nodes : t.nodes.items ≡ []
+  pub functions : t.functions.items ≡ []
+  pub sources : t.sources.items ≡ []
+
 -- ---- the program
 
 -- a source with the tree of its node

@@ -1,10 +1,13 @@
 //! The table of nodes.
 
+ghost use Rattle.js_code.specs.Trees.{IsEmpty};
+
 use crate::node::{
     CallEntry, ForEntry, ForOfEntry, FunctionEntry, MemberEntry, Node, ScriptEntry, SourceEntry,
 };
 use js_heap::value::Value;
 use js_world::stored::Slots;
+use std::alloc::Global;
 
 /// The nodes of all sources of a program, with the parts that they have and the entries that they name by number.
 #[derive(Debug, Drop)]
@@ -23,4 +26,25 @@ pub struct NodeTable {
     pub objects: Vec<Vec<MemberEntry>>,
     pub calls: Vec<CallEntry>,
     pub sources: Vec<SourceEntry>,
+}
+
+impl NodeTable {
+    /// A table in which nothing is yet. It takes no memory.
+    pub fn new(alloc: Global) -> NodeTable
+        ensures { IsEmpty result }
+    {
+        NodeTable {
+            nodes: Vec::new(alloc),
+            kids: Vec::new(alloc),
+            constants: Vec::new(alloc),
+            blocks: Vec::new(alloc),
+            scripts: Vec::new(alloc),
+            fors: Vec::new(alloc),
+            for_ofs: Vec::new(alloc),
+            functions: Vec::new(alloc),
+            objects: Vec::new(alloc),
+            calls: Vec::new(alloc),
+            sources: Vec::new(alloc),
+        }
+    }
 }

@@ -16,10 +16,10 @@ use Rattle.js_code.specs.declared.op.Op.TheVariants as ops
 use Rattle.js_code.specs.declared.node.Node.{Node}
 use Rattle.js_code.specs.declared.node.SourceEntry.{SourceEntry}
 use Rattle.js_code.specs.declared.table.NodeTable.{NodeTable}
-use Rattle.js_code.specs.Trees.{tree, IsNodeAt, IsTable, source_tree, source_trees}
+use Rattle.js_code.specs.Trees.{IsEmpty, tree, IsNodeAt, IsTable, source_tree, source_trees}
 use Rattle.js_compile.specs.Added.{IsNodeAdded}
 use Rattle.js_compile.specs.Grown.{IsPlacedNode, HasPlaces, Extends, HasTree, HaveTrees, Holds, HoldsAll}
-use Rattle.js_compile.specs.Scripts.{IsEmpty, Continues, IsSourceAdded, AddsSource, IsProgram, HasNodes}
+use Rattle.js_compile.specs.Scripts.{Continues, IsSourceAdded, AddsSource, IsProgram, HasNodes}
 use Rattle.js_compile.proofs.GrownLemmas.{extends_same, extends_twice, node_extends, node_keeps, node_tree, no_trees}
 use Rattle.js_compile.proofs.EntryLemmas.{has_bare}
 use Rattle.js_world.proofs.StartLemmas.{goes-then}
@@ -121,11 +121,11 @@ script_step ts us t u items i number root x o p g s k a n l is vs v h w =
     ∙ sym (program_push 1 number front (term_view x) m)
     ∙ ap (program_from 1) (sym q)
 
-empty_is_table : (t : NodeTable) → IsEmpty t → IsTable t
+pub empty_is_table : (t : NodeTable) → IsEmpty t → IsTable t
 empty_is_table t e =
     record { nodes = λ n. subst (λ (o : Option Node). IsNodeAt t n o) (ap (λ ns. slice_get ns n) (sym e.nodes)) tt }
 
-empty_places : (t : NodeTable) → IsEmpty t → HasPlaces t
+pub empty_places : (t : NodeTable) → IsEmpty t → HasPlaces t
 empty_places t e =
     record { nodes = λ n. subst (λ (o : Option Node). IsPlacedNode t n o) (ap (λ ns. slice_get ns n) (sym e.nodes)) tt }
 

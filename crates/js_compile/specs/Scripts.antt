@@ -16,11 +16,6 @@ use Rattle.js_compile.specs.Plain.{are_plain}
 use Rattle.js_compile.specs.Grown.{Extends, HasPlaces}
 use Rattle.js_compile.specs.Index.{AreIndexed}
 
--- a table without nodes and sources
-pub record IsEmpty (t : NodeTable) : Type 0 where
-  pub nodes : t.nodes.items ≡ []
-  pub sources : t.sources.items ≡ []
-
 -- names and a table that go on; the parts of each node stay before it
 pub record Continues (ts : List (List ℕ)) (t : NodeTable) (us : List (List ℕ)) (u : NodeTable) : Type 0 where
   pub names : GoesOn ts us

@@ -4,9 +4,9 @@ ghost use Rattle.std.specs.Prelude.{◌≡◌, ◌+◌, OnOk, IfOk, IfSome};
 ghost use Rattle.js_world.specs.Names.{GoesOn};
 ghost use Rattle.js_terms.specs.Views.{term_view, terms_view, listed_view};
 ghost use Rattle.js_semantics.specs.Run.{program_from};
-ghost use Rattle.js_code.specs.Trees.{IsTable};
+ghost use Rattle.js_code.specs.Trees.{IsEmpty, IsTable};
 ghost use Rattle.js_compile.specs.Grown.{Holds, HoldsAll, HasPlaces};
-ghost use Rattle.js_compile.specs.Scripts.{IsEmpty, Continues, AddsSource, IsProgram, HaveNodes, IsIndexedCode, AreCompiled};
+ghost use Rattle.js_compile.specs.Scripts.{Continues, AddsSource, IsProgram, HaveNodes, IsIndexedCode, AreCompiled};
 
 use crate::functions::indexed_sources;
 use crate::nodes::{Entry, add_node, counted_from_one, next_number};
@@ -24,25 +24,6 @@ use std::alloc::{AllocError, Global};
 pub struct ScriptCode {
     pub table: NodeTable,
     pub root: u32,
-}
-
-/// A table without nodes. It takes no memory.
-fn empty_table(alloc: Global) -> NodeTable
-    ensures { IsEmpty result }
-{
-    NodeTable {
-        nodes: Vec::new(alloc),
-        kids: Vec::new(alloc),
-        constants: Vec::new(alloc),
-        blocks: Vec::new(alloc),
-        scripts: Vec::new(alloc),
-        fors: Vec::new(alloc),
-        for_ofs: Vec::new(alloc),
-        functions: Vec::new(alloc),
-        objects: Vec::new(alloc),
-        calls: Vec::new(alloc),
-        sources: Vec::new(alloc),
-    }
 }
 
 /// The number of the script behind this many.
@@ -110,7 +91,7 @@ fn nodes_of_scripts(
     ensures goes_on { OnOk result (GoesOn names.old names.new) }
     ensures code { IfOk result (λ o. HaveNodes names.new (terms_view scripts.now) o) }
 {
-    let mut table = empty_table(alloc);
+    let mut table = NodeTable::new(alloc);
     let Some(roots) = add_scripts(alloc, names, &mut table, scripts.slice())? else {
         return Ok(None);
     };

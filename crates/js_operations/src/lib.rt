@@ -20,7 +20,7 @@ pub mod frame;
 pub mod functions;
 pub mod lists;
 pub mod names;
-mod objects;
+pub mod objects;
 pub mod properties;
 pub mod seen;
 pub mod shown;

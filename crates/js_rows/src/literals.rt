@@ -34,6 +34,7 @@ use js_heap::value::{Addr, Value};
 use js_operations::action_end::ActionEnd;
 use js_operations::built_ins::new_array;
 use js_operations::context::Context;
+use js_operations::errors::bad_key;
 use js_operations::functions::{make_function, named_function};
 use js_operations::lists::last_of;
 use js_operations::objects::object_or_fail;

@@ -552,9 +552,6 @@ abbrev inner : ℕ → Form → ℕ
 inner b (frame node a) = suc b
 inner b f = b
 
-row-quiet : (b : ℕ) (a : Action) → QuietAction a → FramedAction b b a
-row-quiet b a h = quiet-framed b a h
-
 row-gives : (b : ℕ) (a : Action) → GivesValues a → FramedAction b b a
 row-gives b a h = quiet-framed b a (gives-quiet a h)
 
@@ -564,49 +561,49 @@ row-framed : (b : ℕ) (p : Program) (s : State) (scope : Addr) (f : Form) (vs :
     → HaveNoFrame later
     → FramedAction b (inner b f) (row p s scope f vs later)
 row-framed b p s scope (script number names) vs later l g k = script-framed b number names later l k
-row-framed b p s scope (enter node) vs later l g k = row-quiet b (enter_row node later) (enter-quiet node later k)
+row-framed b p s scope (enter node) vs later l g k = quiet-framed b (enter_row node later) (enter-quiet node later k)
 row-framed b p s scope (enter_debugger node) vs later l g k =
-    row-quiet b (enter_row node later) (enter-quiet node later k)
+    quiet-framed b (enter_row node later) (enter-quiet node later k)
 row-framed b p s scope (enter_for node constant names) vs later l g k =
-    row-quiet b (enter_for_row scope node constant names later) (λ a. for_in-quiet constant a later k)
+    quiet-framed b (enter_for_row scope node constant names later) (λ a. for_in-quiet constant a later k)
 row-framed b p s scope (enter_for_of node x) vs later l g k =
-    row-quiet b (enter_for_of_row scope node x later) (enter_for_of-quiet scope node x later k)
+    quiet-framed b (enter_for_of_row scope node x later) (enter_for_of-quiet scope node x later k)
 row-framed b p s scope (block names) vs later l g k =
-    row-quiet b (block_row scope names later) (block-quiet scope names later k)
+    quiet-framed b (block_row scope names later) (block-quiet scope names later k)
 row-framed b p s scope (initialize name) vs later l g k = (refl, (tt, omega arith))
 row-framed b p s scope choose vs later l g k =
-    row-quiet b (go (chosen (is_truthy s.world (only vs)) later)) (chosen-quiet (is_truthy s.world (only vs)) later k)
+    quiet-framed b (go (chosen (is_truthy s.world (only vs)) later)) (chosen-quiet (is_truthy s.world (only vs)) later k)
 row-framed b p s scope both vs later l g k =
-    row-quiet b (go (kept_or (is_truthy s.world (only vs)) (only vs) later))
+    quiet-framed b (go (kept_or (is_truthy s.world (only vs)) (only vs) later))
     (kept-quiet (is_truthy s.world (only vs)) (only vs) later k)
 row-framed b p s scope either vs later l g k =
-    row-quiet b (go (otherwise (is_truthy s.world (only vs)) (only vs) later))
+    quiet-framed b (go (otherwise (is_truthy s.world (only vs)) (only vs) later))
     (otherwise-quiet (is_truthy s.world (only vs)) (only vs) later k)
 row-framed b p s scope (loop stage a) vs later l g k =
-    row-quiet b (loop_row s.world stage a vs later) (loop-quiet s.world stage a vs later k)
+    quiet-framed b (loop_row s.world stage a vs later) (loop-quiet s.world stage a vs later k)
 row-framed b p s scope (list_of x) vs later l g k =
-    row-quiet b (list_row s.world x (only vs) later) (list-quiet s.world x (only vs) later k)
+    quiet-framed b (list_row s.world x (only vs) later) (list-quiet s.world x (only vs) later k)
 row-framed b p s scope (turn_of x i) vs later l g k =
-    row-quiet b (turn_row scope x i (elements_of s.world later i) later)
+    quiet-framed b (turn_row scope x i (elements_of s.world later i) later)
     (turn-quiet scope x i (elements_of s.world later i) later k)
 row-framed b p s scope (read r) vs later l g k =
-    row-quiet b (with_result (read_result s.world scope r vs) give)
+    quiet-framed b (with_result (read_result s.world scope r vs) give)
     (result-quiet (read_result s.world scope r vs) give (λ x. tt))
 row-framed b p s scope (typeof_name x) vs later l g k =
     row-gives b (type_of_found s.world x (found s.world scope x)) (type_of-gives s.world x (found s.world scope x))
 row-framed b p s scope (unary op) vs later l g k =
-    row-quiet b (with_result (unary_result s.world op (only vs)) give)
+    quiet-framed b (with_result (unary_result s.world op (only vs)) give)
     (result-quiet (unary_result s.world op (only vs)) give (λ x. tt))
 row-framed b p s scope (binary op) vs later l g k =
-    row-quiet b (with_result (binary_result s.world op (argument vs 0) (argument vs 1)) give)
+    quiet-framed b (with_result (binary_result s.world op (argument vs 0) (argument vs 1)) give)
     (result-quiet (binary_result s.world op (argument vs 0) (argument vs 1)) give (λ x. tt))
-row-framed b p s scope comma vs later l g k = row-quiet b (comma_row later) (comma-quiet later k)
+row-framed b p s scope comma vs later l g k = quiet-framed b (comma_row later) (comma-quiet later k)
 row-framed b p s scope (function f) vs later l g k = row-gives b (function_row s scope f) (function_row-gives s scope f)
 row-framed b p s scope array vs later l g k = (refl, λ a. (tt, omega arith))
 row-framed b p s scope (object ms) vs later l g k =
-    row-quiet b (object_row s.world scope ms vs later) (object-quiet s.world scope ms vs later k)
+    quiet-framed b (object_row s.world scope ms vs later) (object-quiet s.world scope ms vs later k)
 row-framed b p s scope (compound op r) vs later l g k =
-    row-quiet b (compound_row s.world scope op r vs later) (compound-quiet s.world scope op r vs later k)
+    quiet-framed b (compound_row s.world scope op r vs later) (compound-quiet s.world scope op r vs later k)
 row-framed b p s scope (assign r) vs later l g k =
     row-gives b (assign_row s.world scope r vs) (put-gives s.world scope r vs (last_of vs) (give (last_of vs)) tt)
 row-framed b p s scope (update op prefix r) vs later l g k =
@@ -615,7 +612,7 @@ row-framed b p s scope (delete r) vs later l g k =
     row-gives b (remove s.world r vs (give (values.Bool true))) (remove-gives s.world r vs (give (values.Bool true)) tt)
 row-framed b p s scope (call m node) vs later l g k = call-framed b p s m vs g
 row-framed b p s scope (call_of r m node) vs later l g k =
-    row-quiet b (callee_row s.world scope r m node vs later) (callee-quiet s.world scope r m node vs later k)
+    quiet-framed b (callee_row s.world scope r m node vs later) (callee-quiet s.world scope r m node vs later k)
 row-framed b p s scope (frame node a) vs later l g k = (b, refl, (tt, omega arith))
 row-framed b p s scope return_ vs later l g k = refl
 row-framed b p s scope break_ vs later l g k = refl
@@ -631,24 +628,24 @@ taken-framed : (b : ℕ) (scope : Addr) (f : Form) (c : Completion) (later : Ter
     → HaveNoFrame later
     → FramedAction b (inner b f) (taken scope f c later)
 taken-framed b scope (catching x) (throws v m) later k =
-    row-quiet b (catch_row scope x v later) (catch-quiet scope x v later k)
+    quiet-framed b (catch_row scope x v later) (catch-quiet scope x v later k)
 taken-framed b scope (catching x) (returns v) later k = refl
 taken-framed b scope (catching x) breaks later k = refl
 taken-framed b scope (catching x) continues later k = refl
 taken-framed b scope finishing c later k =
-    row-quiet b (go (settled (ending (Some c)) later end)) (settled-quiet (ending (Some c)) later end (k, tt))
+    quiet-framed b (go (settled (ending (Some c)) later end)) (settled-quiet (ending (Some c)) later end (k, tt))
 taken-framed b scope (frame node a) (returns v) later k = (b, refl, (tt, omega arith))
 taken-framed b scope (frame node a) (throws v m) later k = (b, refl, refl)
 taken-framed b scope (frame node a) breaks later k = (b, refl, refl)
 taken-framed b scope (frame node a) continues later k = (b, refl, refl)
 taken-framed b scope (loop body a) breaks later k = (tt, omega arith)
 taken-framed b scope (loop body a) continues later k =
-    row-quiet b (go (settled (loop body a) end later)) (settled-quiet (loop body a) end later (tt, k))
+    quiet-framed b (go (settled (loop body a) end later)) (settled-quiet (loop body a) end later (tt, k))
 taken-framed b scope (loop body a) (throws v m) later k = refl
 taken-framed b scope (loop body a) (returns v) later k = refl
 taken-framed b scope (body_of x i) breaks later k = (tt, omega arith)
 taken-framed b scope (body_of x i) continues later k =
-    row-quiet b (go (settled (body_of x i) end later)) (settled-quiet (body_of x i) end later (tt, k))
+    quiet-framed b (go (settled (body_of x i) end later)) (settled-quiet (body_of x i) end later (tt, k))
 taken-framed b scope (body_of x i) (throws v m) later k = refl
 taken-framed b scope (body_of x i) (returns v) later k = refl
 taken-framed b scope f c later k = refl

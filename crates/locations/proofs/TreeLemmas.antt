@@ -376,28 +376,3 @@ declarator_by n (Some e) =
 pub marks_declarator : (d : Declarator)
     → declarator_marks d ≡ definitions.in_present (option_map expression_marks d.initializer)
 marks_declarator d = declarator_by d.name d.initializer
-
-pub ruleset expression_laws = (
-  marks_this,
-  marks_name,
-  marks_number,
-  marks_string,
-  marks_boolean,
-  marks_null,
-  marks_array,
-  marks_object,
-  marks_function,
-  marks_arrow,
-  marks_arrow_block,
-  marks_parenthesized,
-  marks_member,
-  marks_index,
-  marks_call,
-  marks_postfix,
-  marks_prefix,
-  marks_unary,
-  marks_binary,
-  marks_conditional,
-  marks_assign,
-  marks_comma,
-)

@@ -89,8 +89,8 @@ grown = record {
 head : (e : Expr) → SameHead (expression_source e) (expression_marks e)
 head = every-expression heads grown
 
-pub node-made : (e : Expr) → (expression_marks e).node ≡ (expression_source e).node
-node-made e = let h = head e in h.same_node
+pub node_made : (e : Expr) → (expression_marks e).node ≡ (expression_source e).node
+node_made e = let h = head e in h.same_node
 
-pub word-made : (e : Expr) → (expression_marks e).last_word ≡ (expression_source e).last_word
-word-made e = let h = head e in h.same_word
+pub word_made : (e : Expr) → (expression_marks e).last_word ≡ (expression_source e).last_word
+word_made e = let h = head e in h.same_word

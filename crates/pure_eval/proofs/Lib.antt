@@ -15,4 +15,5 @@ pub mod EvaluatorLemmas
 pub mod ReturnLemmas
 pub mod ForgetLemmas
 pub mod WorkspaceLemmas
+pub mod EmptyLemmas
 pub mod OpenLemmas

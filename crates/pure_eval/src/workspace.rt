@@ -165,24 +165,13 @@ fn is_given_up(end: Evaluated) -> bool
 }
 
 /// The evaluator of no sources. It takes no memory.
+#[tactic(auto, using(crate::proofs::EmptyLemmas::empty_code))]
 fn no_sources(alloc: Global) -> Evaluator
     ensures { IsCodeOf result [] }
 {
     Evaluator {
         names: Names::new(alloc),
-        table: NodeTable {
-            nodes: Vec::new(alloc),
-            kids: Vec::new(alloc),
-            constants: Vec::new(alloc),
-            blocks: Vec::new(alloc),
-            scripts: Vec::new(alloc),
-            fors: Vec::new(alloc),
-            for_ofs: Vec::new(alloc),
-            functions: Vec::new(alloc),
-            objects: Vec::new(alloc),
-            calls: Vec::new(alloc),
-            sources: Vec::new(alloc),
-        },
+        table: NodeTable::new(alloc),
         next: 0,
         call: 0,
     }
