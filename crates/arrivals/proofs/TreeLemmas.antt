@@ -181,14 +181,20 @@ block-turn : (x : Level layers.Block-F)
 unfolding expression_marks property_marks key_marks statement_marks block_marks catch_marks declarator_marks
     declarators_marks expressions_marks properties_marks statements_marks
 block-turn x =
-    fold-roll-Block Marking Marks Marks Marks Marks Marks Marks Marks Marks Marks Marks marks.expression_layer marks.property_layer marks.key_layer marks.statement_layer marks.block_layer marks.catch_layer marks.declarator_layer marks.declarators_layer marks.expressions_layer marks.properties_layer marks.statements_layer x
+    fold-roll-Block Marking Marks Marks Marks Marks Marks Marks Marks Marks Marks Marks marks.expression_layer
+    marks.property_layer marks.key_layer marks.statement_layer marks.block_layer marks.catch_layer
+    marks.declarator_layer marks.declarators_layer marks.expressions_layer marks.properties_layer
+    marks.statements_layer x
 
 catch-turn : (x : Level layers.Catch-F)
     → catch_marks (views.roll-Catch x) ≡ marks.catch_layer (marks_of layers.Catch-F map-Catch x)
 unfolding expression_marks property_marks key_marks statement_marks block_marks catch_marks declarator_marks
     declarators_marks expressions_marks properties_marks statements_marks
 catch-turn x =
-    fold-roll-Catch Marking Marks Marks Marks Marks Marks Marks Marks Marks Marks Marks marks.expression_layer marks.property_layer marks.key_layer marks.statement_layer marks.block_layer marks.catch_layer marks.declarator_layer marks.declarators_layer marks.expressions_layer marks.properties_layer marks.statements_layer x
+    fold-roll-Catch Marking Marks Marks Marks Marks Marks Marks Marks Marks Marks Marks marks.expression_layer
+    marks.property_layer marks.key_layer marks.statement_layer marks.block_layer marks.catch_layer
+    marks.declarator_layer marks.declarators_layer marks.expressions_layer marks.properties_layer
+    marks.statements_layer x
 
 declarator-turn : (x : Level layers.Declarator-F)
     → declarator_marks (views.roll-Declarator x) ≡ marks.declarator_layer
@@ -196,7 +202,10 @@ declarator-turn : (x : Level layers.Declarator-F)
 unfolding expression_marks property_marks key_marks statement_marks block_marks catch_marks declarator_marks
     declarators_marks expressions_marks properties_marks statements_marks
 declarator-turn x =
-    fold-roll-Declarator Marking Marks Marks Marks Marks Marks Marks Marks Marks Marks Marks marks.expression_layer marks.property_layer marks.key_layer marks.statement_layer marks.block_layer marks.catch_layer marks.declarator_layer marks.declarators_layer marks.expressions_layer marks.properties_layer marks.statements_layer x
+    fold-roll-Declarator Marking Marks Marks Marks Marks Marks Marks Marks Marks Marks Marks marks.expression_layer
+    marks.property_layer marks.key_layer marks.statement_layer marks.block_layer marks.catch_layer
+    marks.declarator_layer marks.declarators_layer marks.expressions_layer marks.properties_layer
+    marks.statements_layer x
 
 declarators-turn : (x : Level layers.Declarators-F)
     → declarators_marks (views.roll-Declarators x) ≡ marks.declarators_layer
@@ -204,14 +213,20 @@ declarators-turn : (x : Level layers.Declarators-F)
 unfolding expression_marks property_marks key_marks statement_marks block_marks catch_marks declarator_marks
     declarators_marks expressions_marks properties_marks statements_marks
 declarators-turn x =
-    fold-roll-Declarators Marking Marks Marks Marks Marks Marks Marks Marks Marks Marks Marks marks.expression_layer marks.property_layer marks.key_layer marks.statement_layer marks.block_layer marks.catch_layer marks.declarator_layer marks.declarators_layer marks.expressions_layer marks.properties_layer marks.statements_layer x
+    fold-roll-Declarators Marking Marks Marks Marks Marks Marks Marks Marks Marks Marks Marks marks.expression_layer
+    marks.property_layer marks.key_layer marks.statement_layer marks.block_layer marks.catch_layer
+    marks.declarator_layer marks.declarators_layer marks.expressions_layer marks.properties_layer
+    marks.statements_layer x
 
 expressions-turn : (x : Level layers.Exprs-F)
     → expressions_marks (views.roll-Exprs x) ≡ marks.expressions_layer (marks_of layers.Exprs-F map-Exprs x)
 unfolding expression_marks property_marks key_marks statement_marks block_marks catch_marks declarator_marks
     declarators_marks expressions_marks properties_marks statements_marks
 expressions-turn x =
-    fold-roll-Exprs Marking Marks Marks Marks Marks Marks Marks Marks Marks Marks Marks marks.expression_layer marks.property_layer marks.key_layer marks.statement_layer marks.block_layer marks.catch_layer marks.declarator_layer marks.declarators_layer marks.expressions_layer marks.properties_layer marks.statements_layer x
+    fold-roll-Exprs Marking Marks Marks Marks Marks Marks Marks Marks Marks Marks Marks marks.expression_layer
+    marks.property_layer marks.key_layer marks.statement_layer marks.block_layer marks.catch_layer
+    marks.declarator_layer marks.declarators_layer marks.expressions_layer marks.properties_layer
+    marks.statements_layer x
 
 properties-turn : (x : Level layers.PropertyDefinitions-F)
     → properties_marks (views.roll-PropertyDefinitions x) ≡ marks.properties_layer
@@ -219,14 +234,20 @@ properties-turn : (x : Level layers.PropertyDefinitions-F)
 unfolding expression_marks property_marks key_marks statement_marks block_marks catch_marks declarator_marks
     declarators_marks expressions_marks properties_marks statements_marks
 properties-turn x =
-    fold-roll-PropertyDefinitions Marking Marks Marks Marks Marks Marks Marks Marks Marks Marks Marks marks.expression_layer marks.property_layer marks.key_layer marks.statement_layer marks.block_layer marks.catch_layer marks.declarator_layer marks.declarators_layer marks.expressions_layer marks.properties_layer marks.statements_layer x
+    fold-roll-PropertyDefinitions Marking Marks Marks Marks Marks Marks Marks Marks Marks Marks Marks
+    marks.expression_layer marks.property_layer marks.key_layer marks.statement_layer marks.block_layer
+    marks.catch_layer marks.declarator_layer marks.declarators_layer marks.expressions_layer marks.properties_layer
+    marks.statements_layer x
 
 statements-turn : (x : Level layers.Stmts-F)
     → statements_marks (views.roll-Stmts x) ≡ marks.statements_layer (marks_of layers.Stmts-F map-Stmts x)
 unfolding expression_marks property_marks key_marks statement_marks block_marks catch_marks declarator_marks
     declarators_marks expressions_marks properties_marks statements_marks
 statements-turn x =
-    fold-roll-Stmts Marking Marks Marks Marks Marks Marks Marks Marks Marks Marks Marks marks.expression_layer marks.property_layer marks.key_layer marks.statement_layer marks.block_layer marks.catch_layer marks.declarator_layer marks.declarators_layer marks.expressions_layer marks.properties_layer marks.statements_layer x
+    fold-roll-Stmts Marking Marks Marks Marks Marks Marks Marks Marks Marks Marks Marks marks.expression_layer
+    marks.property_layer marks.key_layer marks.statement_layer marks.block_layer marks.catch_layer
+    marks.declarator_layer marks.declarators_layer marks.expressions_layer marks.properties_layer
+    marks.statements_layer x
 
 block-known : (P : Marked → Type 0) (y : Parts P layers.Block-F)
     → ItemsFit P (block_layer (made_parts layers.Block-F map-Block (known_trees (fits P) layers.Block-F map-Block y)))
@@ -373,7 +394,19 @@ grown-statements P y =
 
 grown : (P : Marked → Type 0) → Grows (fits P)
 grown P =
-    record { grows_expression = grown-expression P; grows_property = grown-property P; grows_key = grown-key P; grows_statement = grown-statement P; grows_block = grown-block P; grows_catch = grown-catch P; grows_declarator = grown-declarator P; grows_declarators = grown-declarators P; grows_expressions = grown-expressions P; grows_properties = grown-properties P; grows_statements = grown-statements P }
+    record {
+      grows_expression = grown-expression P;
+      grows_property = grown-property P;
+      grows_key = grown-key P;
+      grows_statement = grown-statement P;
+      grows_block = grown-block P;
+      grows_catch = grown-catch P;
+      grows_declarator = grown-declarator P;
+      grows_declarators = grown-declarators P;
+      grows_expressions = grown-expressions P;
+      grows_properties = grown-properties P;
+      grows_statements = grown-statements P;
+    }
 
 -- what is made of statements belongs to a source that has their marks
 pub statements-fit : (P : Marked → Type 0) (ss : Stmts) → ItemsFit P (statements_source ss) (statements_marks ss)

@@ -1,5 +1,6 @@
--- Which source each part of a term belongs to: the places at which the run can arrive in a part are marks of its source.
--- No throw stands in a part that waits; one that stands as the part about to be reduced was raised by the step before.
+-- Which source each part of a term belongs to: the places at which the run can arrive in a part are marks of its
+-- source. No throw stands in a part that waits; one that stands as the part about to be reduced was raised by the step
+-- before.
 use Rattle.std.specs.Prelude.{◌≡◌, ◌⊎◌, ℕ, List, [], ◌∷◌, Option, Some}
 use Rattle.js_semantics.specs.declared.form.Source.{Source}
 use Rattle.js_semantics.specs.declared.form.Source.TheVariants.{Script as script_source}
@@ -88,8 +89,8 @@ abbrev pub sources_of : List Frame → List Source
 sources_of [] = []
 sources_of (f ∷ fs) = f.source ∷ sources_of fs
 
--- A term within the frames of these sources, where all active frames are of those: each `frame` around the part about to
--- be reduced is one frame more, and what is within it belongs to the source of that frame.
+-- A term within the frames of these sources, where all active frames are of those: each `frame` around the part about
+-- to be reduced is one frame more, and what is within it belongs to the source of that frame.
 abbrev mutual
   pub TermStands : Sources → List Source → Term → List Source → Type 0
   TermStands R around (done v) all = all ≡ around

@@ -11,4 +11,10 @@ scope_of s = record { kind = s.kind; name = s.name.now; bindings = s.bindings }
 -- a frame with its scopes
 abbrev pub frame_of : CallFrame → ShownFrame
 frame_of f =
-    record { name = f.name.now; place = f.place; function_place = f.function_place; receiver = f.this; scopes = map scope_of f.scopes.items }
+    record {
+      name = f.name.now;
+      place = f.place;
+      function_place = f.function_place;
+      receiver = f.this;
+      scopes = map scope_of f.scopes.items;
+    }

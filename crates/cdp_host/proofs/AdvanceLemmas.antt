@@ -158,7 +158,14 @@ behind_same : (scripts : List Script) (moment : ℕ) (first : Bool) (stops : ℕ
     (beside first stops seats r)
 behind_same scripts moment first stops seats news flags r q t stopped there over =
     let f : Option Pause → List (Seat Session) → Meaning Run =
-    λ o ss. record { program = q; phase = Running; stop = o; stops = if is_some stopped then next_number stops else stops; shut = false; seats = ss } in
+    λ o ss. record {
+      program = q;
+      phase = Running;
+      stop = o;
+      stops = if is_some stopped then next_number stops else stops;
+      shut = false;
+      seats = ss;
+    } in
     let each_of = behind-each (protocol scripts) (is_some stopped) (next_number stops) moment t seats news flags over in
     ap (λ o. f o news) (stop_there scripts stops stopped q there)
     ∙ ap (f (if is_some stopped then Some (pause_at scripts (next_number stops) q) else None))
@@ -183,7 +190,8 @@ pub advance-made : (scripts : List Script) (moment most k : ℕ) (m n : Machine)
     → is_some stopped ≡ any_set flags
     → HasMade (protocol scripts) moment (beside first stops seats (machine_run m h before))
     (beside_behind stopped stops news (machine_run n i after)) k
-advance-made scripts moment most k m n h i first stops seats news flags stopped values before after steps kept one fit told_all printed there over any =
+advance-made scripts moment most k m n h i first stops seats news flags stopped values before after steps kept one fit
+    told_all printed there over any =
     let P = protocol scripts in
     let r : Run = machine_run m h before in
     let q : Run = machine_run n i after in
@@ -252,7 +260,14 @@ free-beside m free =
     let f : Option Pause
     → Phase
     → Bool
-    → Meaning Run = λ o p b. record { program = m.program; phase = p; stop = o; stops = m.stops; shut = b; seats = m.seats } in
+    → Meaning Run = λ o p b. record {
+      program = m.program;
+      phase = p;
+      stop = o;
+      stops = m.stops;
+      shut = b;
+      seats = m.seats;
+    } in
     ap (λ o. f o m.phase m.shut) parts.0
     ∙ ap (λ p. f None p m.shut) parts.1
     ∙ ap (f None (if is_first m.phase then Woken else Running)) parts.2

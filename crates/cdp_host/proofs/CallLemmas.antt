@@ -203,4 +203,5 @@ attach-leaves h old news x same is are = subst (λ o. Leaves o Attach (seated h 
 
 pub attach-stands : (old new : HostState) → old.broken ≡ false → Leaves old Attach new → CarriesOn old Attach new
 attach-stands old new works leaves =
-    λ scripts input wait history stood. stands-call scripts input wait old new history Attach stood refl tt tt leaves works
+    λ scripts input wait history stood. stands-call scripts input wait old new history Attach stood refl tt tt leaves
+    works

@@ -1,4 +1,5 @@
--- Machines in the words of programs: where they arrive, what they have printed, whether they are over, and what their steps are.
+-- Machines in the words of programs: where they arrive, what they have printed, whether they are over, and what their
+-- steps are.
 use Rattle.std.proofs.Common.{◌≡◌, ℕ, zero, suc, ◌-◌, ◌<◌, ◌≤◌, List, [], ◌∷◌, ◌++◌, length, Bool, true, false, not, ◌||◌, is_some, if◌then◌else◌, refl, ap, sym, subst, ◌∙◌, arith, append_assoc, append-nil, Option, Some, None}
 use Rattle.std.proofs.lemmas.Bool.{or_parts}
 use Rattle.std.specs.Option.{option_map}

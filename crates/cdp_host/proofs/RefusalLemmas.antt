@@ -66,7 +66,8 @@ pub refused-told : (old mid new : HostState) (s : ℕ) (text : List ℕ) (asks :
     → outcome_of (situation old.scripts old.meaning.stop (parts_standing old.scripts old.meaning.program))
     x text ≡ IsRefused id refusal
     → new.meaning ≡ with_seat s (Attached (sent (refusal_text id refusal ∷ []) x)) old.meaning
-refused-told old mid new s text asks x id refusal scripts input wait history same works answers quiet stood had refused =
+refused-told old mid new s text asks x id refusal scripts input wait history same works answers quiet stood had
+    refused =
     let y : Session = sent (refusal_text id refusal ∷ []) x in
     let a : Answer = answer_of (situation old.scripts old.meaning.stop (parts_standing old.scripts old.meaning.program))
     x text in

@@ -1,4 +1,5 @@
--- What a host's loop of stretches comes to, what a run reports, and that a host stands for a history with the run behind it.
+-- What a host's loop of stretches comes to, what a run reports, and that a host stands for a history with the run
+-- behind it.
 use Rattle.std.specs.declared.alloc.AllocError.{AllocError}
 use Rattle.std.proofs.Common.{Result, Ok, Err, IfOk, OnErr, OnOk, ◌≡◌, ◌⊎◌, ℕ, zero, suc, ◌+◌, ◌-◌, ◌<◌, ◌≤◌, List, [], ◌∷◌, ◌++◌, length, drop, Bool, true, false, ◌&&◌, not, nat_lt, inl, inr, refl, ap, sym, subst, ◌∙◌, append-nil, arith, if◌then◌else◌, is_some, Option, None}
 use Rattle.std.specs.Option.{option_map}
@@ -50,9 +51,17 @@ pub advanced : (a old : HostState) (scripts : List Script) (moment k : ℕ) (fir
     → items ≡ news
     → HasMade (protocol scripts) moment (beside first a.meaning.stops seats (run_with before a.meaning.program))
     (beside_behind stopped a.meaning.stops news q) k
-    → (let n : Meaning Run = record { program = q; phase = Running; stop = stop; stops = stops; shut = a.meaning.shut; seats = items } in
+    → (let n : Meaning Run = record {
+      program = q;
+      phase = Running;
+      stop = stop;
+      stops = stops;
+      shut = a.meaning.shut;
+      seats = items;
+    } in
     HasMade (protocol old.scripts) moment (meaning_with old before) n k)
-advanced a old scripts moment k first seats news items before stopped stop stops q is go runs begins sat stop_is stops_are put made =
+advanced a old scripts moment k first seats news items before stopped stop stops q is go runs begins sat stop_is
+    stops_are put made =
     let m : Meaning Run = meaning_with a before in
     let r : Run = run_with before a.meaning.program in
     let s : ℕ = a.meaning.stops in

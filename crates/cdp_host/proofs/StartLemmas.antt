@@ -24,12 +24,26 @@ use Rattle.cdp_host.proofs.PartLemmas.{run-printed}
 -- it means the beginning
 pub start-means : (scripts : List Script) (input : List (List ℕ)) (wait : Bool) (s : Started)
     → IsStarted (terms_of_scripts scripts) input s
-    → (let m : Meaning Run = record { program = machine_run s.machine s.heap []; phase = phase_of wait; stop = None; stops = 0; shut = false; seats = [] } in
+    → (let m : Meaning Run = record {
+      program = machine_run s.machine s.heap [];
+      phase = phase_of wait;
+      stop = None;
+      stops = 0;
+      shut = false;
+      seats = [];
+    } in
     m ≡ begin scripts input wait)
 unfolding start
 start-means scripts input wait s is =
     let f : Run
-    → Meaning Run = λ r. record { program = r; phase = phase_of wait; stop = None; stops = 0; shut = false; seats = [] } in
+    → Meaning Run = λ r. record {
+      program = r;
+      phase = phase_of wait;
+      stop = None;
+      stops = 0;
+      shut = false;
+      seats = [];
+    } in
     ap f is.run
 
 started_prints : (scripts : List Script) (input : List (List ℕ)) (s : Started)

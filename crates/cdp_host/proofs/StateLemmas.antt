@@ -23,10 +23,12 @@ works_as h taken works = ap (λ b. if b then Broken else state_of (meaning_with 
 
 -- where it wasn't shut, the state is that of its program
 unshut_as : (m : Meaning Run) → m.shut ≡ false
-    → (if has_thrown m.program then Threw else if is_over m.program then Ended else if is_paused m then Paused else if waits m.phase then Waiting else Ready)
+    → (if has_thrown m.program then Threw else if is_over m.program then Ended else if is_paused m then Paused
+    else if waits m.phase then Waiting else Ready)
     ≡ state_of m
 unshut_as m is =
-    ap (λ b. if b then Shut else if has_thrown m.program then Threw else if is_over m.program then Ended else if is_paused m then Paused else if waits m.phase then Waiting else Ready)
+    ap (λ b. if b then Shut else if has_thrown m.program then Threw else if is_over m.program then Ended
+    else if is_paused m then Paused else if waits m.phase then Waiting else Ready)
     (sym is)
 
 pub state-shut : (h : HostState) (taken : List (List ℕ))
@@ -35,12 +37,14 @@ pub state-shut : (h : HostState) (taken : List (List ℕ))
     → Shut ≡ state_at h taken
 state-shut h taken works is =
     let m : Meaning Run = meaning_with h taken in
-    ap (λ b. if b then Shut else if has_thrown m.program then Threw else if is_over m.program then Ended else if is_paused m then Paused else if waits m.phase then Waiting else Ready)
+    ap (λ b. if b then Shut else if has_thrown m.program then Threw else if is_over m.program then Ended
+    else if is_paused m then Paused else if waits m.phase then Waiting else Ready)
     (sym is) ∙ works_as h taken works
 
 open_as : (h : HostState) (taken : List (List ℕ)) → h.broken ≡ false → h.meaning.shut ≡ false
     → (let m : Meaning Run = meaning_with h taken in
-    (if has_thrown m.program then Threw else if is_over m.program then Ended else if is_paused m then Paused else if waits m.phase then Waiting else Ready)
+    (if has_thrown m.program then Threw else if is_over m.program then Ended else if is_paused m then Paused
+    else if waits m.phase then Waiting else Ready)
     ≡ state_at h taken)
 open_as h taken works unshut = unshut_as (meaning_with h taken) unshut ∙ works_as h taken works
 
@@ -51,7 +55,8 @@ pub state-threw : (h : HostState) (taken : List (List ℕ))
     → Threw ≡ state_at h taken
 state-threw h taken works unshut is =
     let m : Meaning Run = meaning_with h taken in
-    ap (λ b. if b then Threw else if is_over m.program then Ended else if is_paused m then Paused else if waits m.phase then Waiting else Ready)
+    ap (λ b. if b then Threw else if is_over m.program then Ended else if is_paused m then Paused else if waits m.phase
+    then Waiting else Ready)
     is
     ∙ open_as h taken works unshut
 
@@ -64,7 +69,8 @@ unthrown_as : (h : HostState) (taken : List (List ℕ))
     ≡ state_at h taken)
 unthrown_as h taken works unshut is =
     let m : Meaning Run = meaning_with h taken in
-    ap (λ b. if b then Threw else if is_over m.program then Ended else if is_paused m then Paused else if waits m.phase then Waiting else Ready)
+    ap (λ b. if b then Threw else if is_over m.program then Ended else if is_paused m then Paused else if waits m.phase
+    then Waiting else Ready)
     is
     ∙ open_as h taken works unshut
 
@@ -85,7 +91,8 @@ going_as : (h : HostState) (taken : List (List ℕ))
     → false ≡ is_over (meaning_with h taken).program
     → (if is_paused h.meaning then Paused else if waits h.meaning.phase then Waiting else Ready) ≡ state_at h taken
 going_as h taken works unshut thrown over =
-    ap (λ b. if b then Ended else if is_paused h.meaning then Paused else if waits h.meaning.phase then Waiting else Ready)
+    ap (λ b. if b then Ended else if is_paused h.meaning then Paused else if waits h.meaning.phase then Waiting
+    else Ready)
     over
     ∙ unthrown_as h taken works unshut thrown
 

@@ -40,7 +40,8 @@ place_at scripts source (Some mark) = place_of scripts source mark
 abbrev pub is_uncaught : StandingThrow → Bool
 is_uncaught thrown = thrown.uncaught
 
--- where something is left to reduce. A throw that stands was raised by the step that led there: one that travels doesn't stand.
+-- where something is left to reduce. A throw that stands was raised by the step that led there: one that travels
+-- doesn't stand.
 abbrev pub arrival_at : List Script → Term → List Frame → Arrival
 arrival_at scripts t frames = record {
   place = place_at scripts (top_spot frames).source (at (spans_in scripts (top_spot frames).source) t);

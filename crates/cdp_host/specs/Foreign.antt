@@ -1,4 +1,5 @@
--- Ids that another session made, given to a session (Chrome DevTools Protocol 1.3, `Runtime.RemoteObjectId` and `Debugger.CallFrameId`).
+-- Ids that another session made, given to a session (Chrome DevTools Protocol 1.3, `Runtime.RemoteObjectId` and
+-- `Debugger.CallFrameId`).
 use Rattle.std.specs.Prelude.{◌≡◌, ◌<◌, ◌^◌, ℕ, List, ◌∷◌, ◌++◌, Bool, true, is_some, Option, Some, None}
 use Rattle.cdp_json.specs.Arguments.{Argument, an_object}
 use Rattle.cdp_json.specs.declared.params.Evaluation.{Evaluation}
@@ -25,8 +26,8 @@ pub record IsOfAnother (other : ℕ) (x : Session) : Type 0 where
 abbrev pub IsRefusal : Row → Type 0
 IsRefusal w = (why : Refusal) × (w ≡ Refuses why)
 
--- No object of the session has this id: each command that takes the id of an object is refused, a call also where one of its
--- arguments alone names it.
+-- No object of the session has this id: each command that takes the id of an object is refused, a call also where one
+-- of its arguments alone names it.
 pub record RefusesObject (s : Situation) (x : Session) (id : List ℕ) : Type 0 where
   pub no_handle : handle_of x id ≡ None
   pub no_object : object_of x id ≡ None
@@ -39,8 +40,8 @@ pub record RefusesObject (s : Situation) (x : Session) (id : List ℕ) : Type 0 
   pub argument : (call : FunctionCall) (front back : List Argument) → call.arguments ≡ front ++ (an_object id ∷ back)
       → comes_to s x (params.CallFunctionOn call) ≡ Refuses refusals.UnknownObject
 
--- No frame that the session knows has this id, at any stop: an evaluation in it is refused, and where the session has the debugger
--- enabled and the program is paused, because of the frame.
+-- No frame that the session knows has this id, at any stop: an evaluation in it is refused, and where the session has
+-- the debugger enabled and the program is paused, because of the frame.
 pub record RefusesFrame (s : Situation) (x : Session) (id : List ℕ) : Type 0 where
   pub no_frame : (paused : Option Pause) → frame_of s x paused id ≡ None
   pub by_row : (evaluation : Evaluation)

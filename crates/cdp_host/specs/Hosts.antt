@@ -83,7 +83,14 @@ machine_step scripts m h values first = record {
 -- all but the program of a host that isn't held, where its next step is the first of a program that waited, or isn't
 abbrev pub beside : Bool → ℕ → List (Seat Session) → Run → Meaning Run
 beside first stops seats r =
-    record { program = r; phase = if first then Woken else Running; stop = None; stops = stops; shut = false; seats = seats }
+    record {
+      program = r;
+      phase = if first then Woken else Running;
+      stop = None;
+      stops = stops;
+      shut = false;
+      seats = seats;
+    }
 
 -- the stop behind so many, with so many calls active
 abbrev pub pause_behind : ℕ → ℕ → Pause
@@ -105,8 +112,8 @@ pub record AreLines (scripts : List Script) (lines : List (List ℕ)) : Type 0 w
   pub starts : lines ≡ map starts_of scripts
   pub short : All IsShort scripts
 
--- the scripts, what is kept of the program and the sessions, and whether want of memory in a run broke the host; what it falls
--- back to where it does, and the losses that it has to hand out then
+-- the scripts, what is kept of the program and the sessions, and whether want of memory in a run broke the host; what
+-- it falls back to where it does, and the losses that it has to hand out then
 pub record HostState : Type 0 where
   pub scripts : List Script
   pub meaning : Meaning Parts
@@ -128,9 +135,10 @@ state_at host taken = if host.broken then Broken else state_of (meaning_with hos
 abbrev pub NoneAttached : List (Seat Session) → Type 0
 NoneAttached seats = some is_attached seats ≡ false
 
--- A host stands for a history of its scripts with this input, where they may be to wait, whose runs have handed out all that they
--- printed: it is what the history means, but for sessions that a resume lost for want of memory, of which the next run tells. A
--- broken one has the seats that the history leaves: none of them is attached, and none waits for a run.
+-- A host stands for a history of its scripts with this input, where they may be to wait, whose runs have handed out all
+-- that they printed: it is what the history means, but for sessions that a resume lost for want of memory, of which the
+-- next run tells. A broken one has the seats that the history leaves: none of them is attached, and none waits for a
+-- run.
 pub record Stands (scripts : List Script) (input : List (List ℕ)) (wait : Bool) (host : HostState)
     (history : List Entry) : Type 0 where
   pub runs : host.scripts ≡ scripts
@@ -163,8 +171,9 @@ lost_for_memory [] = []
 lost_for_memory (lost ∷ losses) =
     if is_for_memory lost.loss then lost.session ∷ lost_for_memory losses else lost_for_memory losses
 
--- What a run of at most so many steps at a moment does to a host that works: it makes the longest run, reports the losses, and goes on
--- where no session is left that has the debugger enabled. That may lose sessions for want of memory, of which the next run tells.
+-- What a run of at most so many steps at a moment does to a host that works: it makes the longest run, reports the
+-- losses, and goes on where no session is left that has the debugger enabled. That may lose sessions for want of
+-- memory, of which the next run tells.
 pub record RunsTo (scripts : List Script) (moment most : ℕ) (m : Meaning Run) (steps : ℕ) (printed : List (List ℕ))
     (lost : List SessionLost) (n : Meaning Run) : Type 0 where
   pub middle : Meaning Run

@@ -26,7 +26,8 @@ IsBreakLocation scripts place =
 pub record ArrivesAtLocations (scripts : List Script) (r : Run) : Type 0 where
   -- the place of an arrival is a break location
   pub at_a_location : (place : Place) → (arrival_of scripts r).place ≡ Some place → IsBreakLocation scripts place
-  -- and it is that of the mark at which the next step arrives in the script of the top frame; where it arrives at none there is no place
+  -- and it is that of the mark at which the next step arrives in the script of the top frame; where it arrives at none
+  -- there is no place
   pub at_its_mark : (t : Term) (s : State) (script : Script)
       → r ≡ running t s
       → Contains scripts script

@@ -128,4 +128,9 @@ stop_texts_of scripts number t x = stop_texts (seen_behind scripts t) number t.a
 -- those of each kind
 abbrev pub texts : (scripts : List Script) → Texts (protocol scripts)
 texts scripts =
-    record { reply = reply_texts scripts; resumed = resume_texts; told = step_texts scripts; stopped = stop_texts_of scripts }
+    record {
+      reply = reply_texts scripts;
+      resumed = resume_texts;
+      told = step_texts scripts;
+      stopped = stop_texts_of scripts;
+    }

@@ -37,8 +37,8 @@ may_stop_seat a Left = false
 abbrev pub may_stop : Arrival → List (Seat Session) → Bool
 may_stop a seats = some (may_stop_seat a) seats
 
--- A stretch of so many steps leads from one to the other, each made where the program isn't over. Before the last of them nothing
--- is printed, and no rule of a session names a stop.
+-- A stretch of so many steps leads from one to the other, each made where the program isn't over. Before the last of
+-- them nothing is printed, and no rule of a session names a stop.
 pub record Advances (scripts : List Script) (seats : List (Seat Session)) (most k : ℕ) (r q : Run) : Type 0 where
   pub counts : IsStretch most k
   pub reached : q ≡ nexts scripts k r

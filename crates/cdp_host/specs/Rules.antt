@@ -20,8 +20,8 @@ use Rattle.cdp_host.specs.Protocols.{protocol}
 
 -- ---- output
 
--- A program that has made so many steps has printed what the run without a debugger has printed by then: a prefix of what that
--- prints in any further steps, and all of it once it is over.
+-- A program that has made so many steps has printed what the run without a debugger has printed by then: a prefix of
+-- what that prints in any further steps, and all of it once it is over.
 pub record PrintsAsPlain (scripts : List Script) (input : List (List ℕ)) (made : ℕ) (r : Run) : Type 0 where
   pub first : (j : ℕ) → IsPrefix (printed_of r) (printed_of (plain (made + j) scripts input))
   pub all : is_over r ≡ true → (j : ℕ) → printed_of (plain (made + j) scripts input) ≡ printed_of r
@@ -32,7 +32,8 @@ printed_between r q = drop (length (printed_of r)) (printed_of q)
 
 -- ---- steps that a session asks for
 
--- the session asks for one step of this kind, from this depth, and for nothing else: no breakpoint of it is hit anywhere
+-- the session asks for one step of this kind, from this depth, and for nothing else: no breakpoint of it is hit
+-- anywhere
 pub record StepsAlone (x : Session) (kind : StepKind) (depth : ℕ) : Type 0 where
   pub rules : AsksForStep x.rules kind depth
   pub none_hit : (place : Place) → is_hit place x.breakpoints ≡ false
@@ -45,9 +46,9 @@ ends_step kind depth a = is_some a.place && (a.debugger || ends_at kind depth a.
 abbrev pub NoOtherEnabled : ℕ → Meaning Run → Type 0
 NoOtherEnabled s m = (r : ℕ) (y : Session) → r ≢ s → seat_of r m.seats ≡ Attached y → y.rules.enabled ≡ false
 
--- A program makes these steps at a moment, from the one that is so many plain steps from its beginning, and the last of them loses
--- the sessions of these numbers for want of memory. It stops at the first that ends the step, or at none; nor does it stop at one
--- at which the session of this number is lost.
+-- A program makes these steps at a moment, from the one that is so many plain steps from its beginning, and the last of
+-- them loses the sessions of these numbers for want of memory. It stops at the first that ends the step, or at none;
+-- nor does it stop at one at which the session of this number is lost.
 pub record StopsAtFirst (kind : StepKind) (depth : ℕ) (scripts : List Script) (input : List (List ℕ)) (made moment : ℕ)
     (gone : List ℕ) (s : ℕ) (m : Meaning Run) (n : ℕ) : Type 0 where
   pub passes_none : (j : ℕ)

@@ -13,8 +13,8 @@ use Rattle.cdp_session.specs.declared.ending.Ending.{Ending}
 use Rattle.cdp_host.specs.Programs.{arrival_of, next, prints_next}
 use Rattle.cdp_host.specs.Standings.{ending_of, standing_of}
 
--- what a step tells: how the program stands behind it, where it arrived, the values that it printed, if it printed, how the run
--- ended, if it did, and whether it was the first step of a program that a client let begin
+-- what a step tells: how the program stands behind it, where it arrived, the values that it printed, if it printed, how
+-- the run ended, if it did, and whether it was the first step of a program that a client let begin
 pub record Step : Type 0 where
   pub standing : Standing
   pub arrival : Arrival
@@ -38,8 +38,8 @@ seen_behind scripts step = record { scripts = scripts; paused = None; standing =
 
 -- ---- stops
 
--- the start rule names the first step of a program that a client let begin, for a session that has the debugger enabled; not
--- where that step ends the run
+-- the start rule names the first step of a program that a client let begin, for a session that has the debugger
+-- enabled; not where that step ends the run
 abbrev pub is_started : Step → Session → Bool
 is_started step x = step.first && (x.rules.enabled && not step.standing.over)
 

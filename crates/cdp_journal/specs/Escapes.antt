@@ -8,7 +8,8 @@ use Rattle.cdp_text.specs.Units.{utf8_of}
 -- what a byte is written as
 abbrev pub byte_escaped : ℕ → List ℕ
 byte_escaped byte =
-    if byte == 37 then codes "%25" else if byte == 10 then codes "%0A" else if byte == 13 then codes "%0D" else byte ∷ []
+    if byte == 37 then codes "%25" else if byte == 10 then codes "%0A" else if byte == 13 then codes "%0D" else byte ∷
+    []
 
 -- a byte that is written as it is
 abbrev pub is_plain : ℕ → Bool

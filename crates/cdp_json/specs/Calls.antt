@@ -30,7 +30,8 @@ call_from (Some function) (Some id) (Some arguments) (Some group) (Some flags) =
       throw_on_side_effect = flags.throw_on_side_effect;
     })
 
--- `functionDeclaration, objectId?, arguments?, objectGroup?, silent?, returnByValue?, generatePreview?, throwOnSideEffect?`
+-- `functionDeclaration, objectId?, arguments?, objectGroup?, silent?, returnByValue?, generatePreview?,
+-- throwOnSideEffect?`
 abbrev pub call_of : Data → Option FunctionCall
 call_of d =
     call_from (required text_of (codes "functionDeclaration") d) (optional text_of (codes "objectId") d)

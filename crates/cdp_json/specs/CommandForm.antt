@@ -9,7 +9,8 @@ use Rattle.cdp_json.specs.declared.command.Reading.TheVariants.{Command}
 use Rattle.cdp_json.specs.declared.method.Method.{Method}
 use Rattle.cdp_json.specs.declared.params.Params.{Params}
 
--- the value has the member `id`, an integer from 0 to 2^53-1, the member `method`, a string that names the method, and these parameters
+-- the value has the member `id`, an integer from 0 to 2^53-1, the member `method`, a string that names the method, and
+-- these parameters
 pub record IsCommand (d : Data) (id : ℕ) (method : Method) (parameters : Params) : Type 0 where
   pub id_stands : get (codes "id") d ≡ Some (number (unsigned id))
   pub id_is_safe : id < 2 ^ 53

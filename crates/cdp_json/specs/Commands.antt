@@ -1,4 +1,5 @@
--- The reading of commands: JSON, an object, its `id`, its `method`, the method's name, its parameters. The first that fails refuses the text.
+-- The reading of commands: JSON, an object, its `id`, its `method`, the method's name, its parameters. The first that
+-- fails refuses the text.
 use Rattle.std.specs.Prelude.{ℕ, ◌^◌, List, nat_lt, if◌then◌else◌, codes, Option, Some, None, is_some, option_and_then}
 use Rattle.cdp_text.specs.Units.{utf16_of}
 use Rattle.serde_json.specs.Data.{Data, null}

@@ -25,7 +25,11 @@ flags_from None preview throws = None
 flags_from (Some by_value) None throws = None
 flags_from (Some by_value) (Some preview) None = None
 flags_from (Some by_value) (Some preview) (Some throws) =
-    Some (record { return_by_value = if_true by_value; generate_preview = if_true preview; throw_on_side_effect = unless_false throws })
+    Some (record {
+      return_by_value = if_true by_value;
+      generate_preview = if_true preview;
+      throw_on_side_effect = unless_false throws;
+    })
 
 -- the flags that have an effect
 abbrev pub given_flags : Data → Option EvaluationFlags

@@ -1,4 +1,5 @@
--- The messages that a session is sent (JSON-RPC 2.0): replies, refusals and events, as compact JSON with its keys in order.
+-- The messages that a session is sent (JSON-RPC 2.0): replies, refusals and events, as compact JSON with its keys in
+-- order.
 use Rattle.std.specs.Prelude.{ℕ, List, [], ◌++◌, codes, decimal, Option, Some, None}
 use Rattle.std.specs.Fmt.{signed_decimal}
 use Rattle.json.specs.Print.{quoted}

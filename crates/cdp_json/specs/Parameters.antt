@@ -1,4 +1,5 @@
--- The parameters of each method (Chrome DevTools Protocol 1.3), read off a JSON value. Members without a meaning are passed over.
+-- The parameters of each method (Chrome DevTools Protocol 1.3), read off a JSON value. Members without a meaning are
+-- passed over.
 use Rattle.std.specs.Prelude.{ℕ, List, [], ◌∷◌, Bool, bytes_eq, if◌then◌else◌, codes, Option, Some, None, option_map, option_and_then}
 use Rattle.cdp_text.specs.declared.position.Pos.{Pos}
 use Rattle.serde_json.specs.Data.{Data}

@@ -1,4 +1,5 @@
--- Parts of messages: objects and lists of values, and places in scripts (Chrome DevTools Protocol 1.3, `Debugger.Location`).
+-- Parts of messages: objects and lists of values, and places in scripts (Chrome DevTools Protocol 1.3,
+-- `Debugger.Location`).
 use Rattle.std.specs.Prelude.{ℕ, pos, List, [], ◌∷◌, codes, decimal}
 use Rattle.cdp_text.specs.declared.position.Place.{Place}
 use Rattle.cdp_json.specs.Json.{Json, number, text, list, object, items_of, members_of}

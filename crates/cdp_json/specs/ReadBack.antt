@@ -15,7 +15,8 @@ use Rattle.cdp_json.specs.Compact.{compact_text}
 
 -- what is read of a value, of the values of a list and of the members of an object
 abbrev mutual
-  -- texts and keys in UTF-8 (a surrogate without a partner is U+FFFD), numbers as unsigned or negative integers, and of the members of one key the last
+  -- texts and keys in UTF-8 (a surrogate without a partner is U+FFFD), numbers as unsigned or negative integers, and of
+  -- the members of one key the last
   pub data_of : Json → Data
   data_of null = values.null
   data_of (boolean b) = values.boolean b
@@ -105,7 +106,8 @@ abbrev mutual
   MembersFit no_members = ⊤
   MembersFit (member k j ms) = NumbersFit j × MembersFit ms
 
--- what serde_json can read back: at most 127 lists and objects are inside one another, and each number is a value of i64 or of u64
+-- what serde_json can read back: at most 127 lists and objects are inside one another, and each number is a value of
+-- i64 or of u64
 pub record IsReadable (j : Json) : Type 0 where
   pub is_shallow : depth j ≤ 127
   pub numbers_fit : NumbersFit j
@@ -147,7 +149,8 @@ pub record IsWhole (units : List ℕ) : Type 0 where
 abbrev pub WrittenIsReadBack : Type 0
 WrittenIsReadBack = (j : Json) → IsReadable j → read (compact_text j) ≡ Some (data_of (ordered j))
 
--- it is read back as it was given. Keys of other units may have one text, as two surrogates without a partner have: of such the last that is written stays, and not the last that was given.
+-- it is read back as it was given. Keys of other units may have one text, as two surrogates without a partner have: of
+-- such the last that is written stays, and not the last that was given.
 abbrev pub GivenIsReadBack : Type 0
 GivenIsReadBack = (j : Json) → IsReadable j → KeysStandApart j → read (compact_text j) ≡ Some (data_of j)
 

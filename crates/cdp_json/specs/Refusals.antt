@@ -5,7 +5,8 @@ use Rattle.cdp_json.specs.declared.refusal.Refusal.TheVariants.{NotJson, NotObje
 use Rattle.cdp_json.specs.declared.refusal.ScratchLimit.{ScratchLimit}
 use Rattle.cdp_json.specs.declared.refusal.ScratchLimit.TheVariants.{Cells, Units}
 
--- -32700 of a text that isn't JSON, -32600 of what is no command, -32601 of an unknown method, -32602 of wrong parameters, else -32000
+-- -32700 of a text that isn't JSON, -32600 of what is no command, -32601 of an unknown method, -32602 of wrong
+-- parameters, else -32000
 abbrev pub code_of : Refusal → ℤ
 code_of NotJson = negsuc 32699
 code_of NotObject = negsuc 32599

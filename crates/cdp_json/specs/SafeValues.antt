@@ -1,4 +1,5 @@
--- JSON values whose numbers are safe integers. The members of an object are in ascending order of the UTF-8 bytes of their names; of two members of one name the later one counts.
+-- JSON values whose numbers are safe integers. The members of an object are in ascending order of the UTF-8 bytes of
+-- their names; of two members of one name the later one counts.
 use Rattle.std.specs.Prelude.{ℤ, ◌^◌, nat_abs, nat_lt, if◌then◌else◌, Option, Some, None, option_map, option_and_then}
 use Rattle.cdp_text.specs.Units.{utf16_of}
 use Rattle.serde_json.specs.Data as values

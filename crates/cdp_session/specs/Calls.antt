@@ -1,4 +1,5 @@
--- What a call of a function does to its session, and what it is answered with (Chrome DevTools Protocol 1.3, `Runtime.callFunctionOn`).
+-- What a call of a function does to its session, and what it is answered with (Chrome DevTools Protocol 1.3,
+-- `Runtime.callFunctionOn`).
 use Rattle.std.specs.Prelude.{ℕ, List, [], ◌∷◌, if◌then◌else◌, Option, Some, None, option_map, option_and_then}
 use Rattle.js_heap.specs.declared.value.Value.{Value}
 use Rattle.js_heap.specs.declared.value.Value.TheVariants as values
@@ -71,7 +72,11 @@ group_for x None receiver = receiver_group x receiver
 -- how the value is to be described
 abbrev pub showing_for : Session → FunctionCall → Showing
 showing_for x call =
-    record { group = group_for x call.object_group call.object_id; by_value = call.return_by_value; detail = detail_of call.generate_preview }
+    record {
+      group = group_for x call.object_group call.object_id;
+      by_value = call.return_by_value;
+      detail = detail_of call.generate_preview;
+    }
 
 -- ---- outcomes
 

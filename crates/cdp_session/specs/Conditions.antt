@@ -28,7 +28,8 @@ use Rattle.cdp_session.specs.Situations.{Standing}
 
 -- ---- where a condition is evaluated
 
--- in the innermost scope of the top frame, with its `this`; a program that is over has none, and there it is the scope of the scripts
+-- in the innermost scope of the top frame, with its `this`; a program that is over has none, and there it is the scope
+-- of the scripts
 abbrev pub top_scope : List ShownFrame → Addr
 top_scope [] = script_scope
 top_scope (f ∷ fs) = innermost f.scopes
@@ -40,8 +41,8 @@ top_this (f ∷ fs) = f.receiver
 
 -- ---- what it comes to
 
--- an evaluation over a program's cells came to a value that counts as true; an effect, a throw, a spent budget and a full
--- scratch are no such value
+-- an evaluation over a program's cells came to a value that counts as true; an effect, a throw, a spent budget and a
+-- full scratch are no such value
 abbrev pub comes_true : World → Answer → Bool
 comes_true base (a_result v w) = is_truthy (copied_world base (space_after w)) v
 comes_true base answer = false
@@ -77,7 +78,8 @@ is_met s w b = condition_holds s w b.condition
 
 -- ---- hits
 
--- the breakpoints that are hit where the program arrived, if it did, in order of setting: the active ones there that are met
+-- the breakpoints that are hit where the program arrived, if it did, in order of setting: the active ones there that
+-- are met
 abbrev pub hits : Standing → Workspace → breakpoints.State → Option Place → List Breakpoint
 hits s w b None = []
 hits s w b (Some place) = filter (is_met s w) (hits_at place b)

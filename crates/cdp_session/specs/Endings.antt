@@ -24,7 +24,8 @@ use Rattle.cdp_session.specs.declared.ending.Ending.TheVariants as endings
 abbrev pub url_at : List Script → Place → List ℕ
 url_at scripts place = url_of (script_numbered scripts place.script)
 
--- where the throw stands, the exception as it is described, its number among those of the session, and the URL of its script
+-- where the throw stands, the exception as it is described, its number among those of the session, and the URL of its
+-- script
 abbrev pub throw_pairs : Place → Json → ℕ → List ℕ → List Pair
 throw_pairs place exception id url =
     (codes "columnNumber", number (pos place.pos.col))

@@ -1,5 +1,5 @@
--- What an evaluation does to its session, and what it is answered with (Chrome DevTools Protocol 1.3, `Runtime.evaluate` and
--- `Debugger.evaluateOnCallFrame`).
+-- What an evaluation does to its session, and what it is answered with (Chrome DevTools Protocol 1.3,
+-- `Runtime.evaluate` and `Debugger.evaluateOnCallFrame`).
 use Rattle.std.specs.Prelude.{ℕ, pos, ◌+◌, Bool, true, false, not, is_some, List, [], ◌∷◌, ◌++◌, bytes_eq, codes, if◌then◌else◌, ◌&&◌, Option, Some, None, option_map}
 use Rattle.js_heap.specs.declared.value.Addr.{Addr}
 use Rattle.js_heap.specs.declared.value.Addr.TheVariants.{Scratch}
@@ -93,13 +93,14 @@ abbrev pub showing_of : Evaluation → Showing
 showing_of ev =
     record { group = ev.object_group; by_value = ev.return_by_value; detail = detail_of ev.generate_preview }
 
--- whether a reply that describes a value makes a handle on a cell of the session's: on an object there, unless as many handles
--- are held as may be
+-- whether a reply that describes a value makes a handle on a cell of the session's: on an object there, unless as many
+-- handles are held as may be
 abbrev pub holds_on : Value → handles.State → Bool
 holds_on (values.Object (Scratch i)) h = not (is_some (fault_of h))
 holds_on v h = false
 
--- the evaluation's cells and its source are kept where the reply holds on to one of the session's cells, and forgotten else
+-- the evaluation's cells and its source are kept where the reply holds on to one of the session's cells, and forgotten
+-- else
 abbrev pub kept_by : Bool → Source → World → Session → Session
 kept_by true e w x = with_workspace (with_evaluated e w x.workspace) x
 kept_by false e w x = x
@@ -116,11 +117,16 @@ pub data Evaluates : Type 0 where
   Stops : Refusal → Evaluates
   Answers : Json → Session → Evaluates
 
--- what values are described to the session by: the program's cells, and these of its evaluations, whose functions are parts of
--- the texts that were evaluated
+-- what values are described to the session by: the program's cells, and these of its evaluations, whose functions are
+-- parts of the texts that were evaluated
 abbrev pub sight_with : Situation → Session → ScratchSpace → Sight
 sight_with s x scratch =
-    record { node_text = node_text; world = copied_world s.standing.world scratch; scripts = s.scripts; session = x.number }
+    record {
+      node_text = node_text;
+      world = copied_world s.standing.world scratch;
+      scripts = s.scripts;
+      session = x.number;
+    }
 
 -- the same as it is lent
 abbrev pub described_over : {S : Type 0} → Describer Over S → Sight

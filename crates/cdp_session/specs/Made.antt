@@ -61,7 +61,8 @@ GivesValue (Ok j) o = o ≡ Some (json_view j)
 GivesValue (Err (faults.Refused q)) o = (o ≡ None) × (q ≡ refusals.ReferenceChainTooLong)
 GivesValue (Err faults.Memory) o = Unit {0}
 
--- a value is described so, and this session has the handles behind it; what is too long is refused, and want of memory says nothing
+-- a value is described so, and this session has the handles behind it; what is too long is refused, and want of memory
+-- says nothing
 abbrev pub Describes : Result HeldJson Fault → Session → Session → Option (Described Json) → Type 0
 Describes (Ok j) new x o =
     (o ≡ Some (record { made = json_view j; handles = new.handles })) × (new ≡ with_handles new.handles x)

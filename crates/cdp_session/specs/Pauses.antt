@@ -67,8 +67,8 @@ pause_told s number hits cause x = record {
   handles = (data_told s number cause x).handles;
 }
 
--- A session that had the debugger enabled is told nothing by enabling it; another one of the pause, if there is one. None of its
--- rules named the stop.
+-- A session that had the debugger enabled is told nothing by enabling it; another one of the pause, if there is one.
+-- None of its rules named the stop.
 abbrev pub enabling_told : Situation → Option Pause → Bool → Session → Made (List (List ℕ))
 enabling_told s None enabled x = record { made = []; handles = x.handles }
 enabling_told s (Some p) true x = record { made = []; handles = x.handles }

@@ -79,8 +79,8 @@ abbrev pub context_created_text : List ℕ
 context_created_text =
     event_text (codes "Runtime.executionContextCreated") (object_of ((codes "context", context) ∷ []))
 
--- The program stopped: its frames from the top one outward, the value that was thrown, where the session is told of one, the ids
--- of the breakpoints that it hit, and why.
+-- The program stopped: its frames from the top one outward, the value that was thrown, where the session is told of
+-- one, the ids of the breakpoints that it hit, and why.
 abbrev pub paused_params : List Json → List Pair → List (List ℕ) → List ℕ → Json
 paused_params frames thrown hits reason =
     object_of

@@ -43,8 +43,8 @@ use Rattle.cdp_session.specs.declared.situation.Pause.{Pause}
 use Rattle.cdp_session.specs.declared.asks.Asks.{Asks}
 use Rattle.cdp_session.specs.declared.asks.Asks.TheVariants.{Nothing, Wake, Resume, Leave}
 
--- what a method that is done leaves: its session, the events before the reply, its result, the events behind the reply, and what
--- it asks of the program
+-- what a method that is done leaves: its session, the events before the reply, its result, the events behind the reply,
+-- and what it asks of the program
 pub record Done : Type 0 where
   pub session : Session
   pub before : List (List ℕ)
@@ -75,8 +75,8 @@ resumes x = asking Resume x
 
 -- ---- the debugger
 
--- enabling it anew tells of the scripts, and behind the reply of the pause, if the program is paused; none of the session's rules
--- named that
+-- enabling it anew tells of the scripts, and behind the reply of the pause, if the program is paused; none of the
+-- session's rules named that
 abbrev pub enable : Situation → Session → Row
 enable s x = Does (record {
   session =
@@ -88,7 +88,8 @@ enable s x = Does (record {
   asks = Nothing;
 })
 
--- disabling it forgets what the session asked for and the objects of the stop; the program isn't paused for this session any more
+-- disabling it forgets what the session asked for and the objects of the stop; the program isn't paused for this
+-- session any more
 abbrev pub disable : Session → Row
 disable x = asking Leave (with_rules no_rules (with_breakpoints none_set (without_backtrace x)))
 
@@ -251,7 +252,13 @@ contexts_told s x = if s.standing.over || x.runtime then [] else context_created
 -- the domain is enabled, and the events come before the reply
 abbrev pub enable_runtime : Situation → Session → Row
 enable_runtime s x =
-    Does (record { session = with_runtime true x; before = contexts_told s x; result = nothing; events = []; asks = Nothing })
+    Does (record {
+      session = with_runtime true x;
+      before = contexts_told s x;
+      result = nothing;
+      events = [];
+      asks = Nothing;
+    })
 
 -- the domain is not enabled any more
 abbrev pub disable_runtime : Session → Row

@@ -10,8 +10,8 @@ use Rattle.object_groups.specs.Handles.{is_on_scratch, none_made, without_group}
 use Rattle.pure_eval.specs.Workspaces.{Workspace, begun, emptied_workspace}
 use Rattle.remote_objects.specs.CallFrames.{backtrace}
 
--- its number, what it asks for, whether it has the domain Runtime enabled, its breakpoints, the objects that it holds, what its
--- evaluations made and kept, how many exceptions it was told of, and the texts that wait for it
+-- its number, what it asks for, whether it has the domain Runtime enabled, its breakpoints, the objects that it holds,
+-- what its evaluations made and kept, how many exceptions it was told of, and the texts that wait for it
 pub record Session : Type 0 where
   pub number : ℕ
   pub rules : Rules
@@ -25,7 +25,16 @@ pub record Session : Type 0 where
 -- one of this number that was attached just now, whose evaluations begin with this
 abbrev pub fresh : ℕ → Workspace → Session
 fresh number workspace =
-    record { number = number; rules = no_rules; runtime = false; breakpoints = none_set; handles = none_made; workspace = workspace; exceptions = 0; outbox = [] }
+    record {
+      number = number;
+      rules = no_rules;
+      runtime = false;
+      breakpoints = none_set;
+      handles = none_made;
+      workspace = workspace;
+      exceptions = 0;
+      outbox = [];
+    }
 
 -- with texts behind those that wait
 abbrev pub sent : List (List ℕ) → Session → Session
@@ -63,8 +72,8 @@ with_workspace w x = record x { workspace = w }
 abbrev pub with_exception : Session → Session
 with_exception x = record x { exceptions = if nat_lt x.exceptions (2 ^ 62) then x.exceptions + 1 else x.exceptions }
 
--- where none of these objects is in a cell of the session's evaluations, those cells are given up, and the sources of the
--- evaluations with them
+-- where none of these objects is in a cell of the session's evaluations, those cells are given up, and the sources of
+-- the evaluations with them
 abbrev pub workspace_for : handles.State → Workspace → Workspace
 workspace_for h w = if list_any is_on_scratch h.held then w else emptied_workspace w
 

@@ -8,8 +8,8 @@ use Rattle.call_frames.specs.Frames.{ShownFrame}
 use Rattle.cdp_session.specs.declared.situation.Pause.{Pause}
 use Rattle.cdp_session.specs.declared.situation.Situation.{Situation as Held}
 
--- how it stands: its cells, its active frames from the top one outward, the value of a throw that stands, if one does, and
--- whether its run has ended
+-- how it stands: its cells, its active frames from the top one outward, the value of a throw that stands, if one does,
+-- and whether its run has ended
 pub record Standing : Type 0 where
   pub world : World
   pub frames : List ShownFrame

@@ -243,8 +243,8 @@ run-texts printed lost steps state first second all last prints loses ends line 
     ∙ ap (λ xs. xs ++ last ∷ []) (loses ∙ ap (λ xs. xs ++ map output_text (map Overran (overrun_in lost))) prints)
     ∙ ap (λ x. (map output_text (map Out printed) ++ map output_text (map Overran (overrun_in lost))) ++ x ∷ []) line
 
--- A run of a host that lost nobody for want of memory: where it stood for this meaning, it made the longest run from there, and so it
--- printed and lost what that did.
+-- A run of a host that lost nobody for want of memory: where it stood for this meaning, it made the longest run from
+-- there, and so it printed and lost what that did.
 record RunsAs (scripts : List Script) (moment most : ℕ) (m : Meaning Program) (steps : ℕ) (printed : List (List ℕ))
     (lost : List SessionLost) : Type 0 where
   long : steps ≡ longest (protocol scripts) moment most m
@@ -310,7 +310,8 @@ pub run-done : (moment most : ℕ) (old new : HostState) (steps : ℕ) (printed 
     → Stands scripts input wait old history
     → Acts scripts input wait history (entry_at scripts (whole scripts input wait history) (lines.Run most moment))
     (Some texts) new
-run-done moment most old new steps printed texts lost state works same runs carries nobody tells texts_are scripts input wait history stood =
+run-done moment most old new steps printed texts lost state works same runs carries nobody tells texts_are scripts input
+    wait history stood =
     let m : Meaning Program = whole scripts input wait history in
     let taken : List (List ℕ) = printed_of m.program in
     let R : List Script

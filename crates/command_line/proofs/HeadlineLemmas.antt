@@ -113,7 +113,8 @@ out-all (entry ∷ history) scripts m =
 
 -- ---- the history of a journal
 
--- an entry that a line may have: its number is one of 64 bits where that is written, and it loses nobody for want of memory
+-- an entry that a line may have: its number is one of 64 bits where that is written, and it loses nobody for want of
+-- memory
 abbrev IsOfLine : Entry → Type 0
 IsOfLine Attach = Unit {0}
 IsOfLine (Tell s text) = Unit {0}
@@ -187,10 +188,12 @@ entries-go (text ∷ texts) scripts m =
 -- the state that these tests tell
 abbrev state_by : Bool → Bool → Bool → Bool → Bool → State
 state_by shut threw ended paused held =
-    if shut then states.Shut else if threw then states.Threw else if ended then states.Ended else if paused then states.Paused else if held then states.Waiting else states.Ready
+    if shut then states.Shut else if threw then states.Threw else if ended then states.Ended else if paused
+    then states.Paused else if held then states.Waiting else states.Ready
 
 name_by : (shut threw ended paused held : Bool) → state_name (state_by shut threw ended paused held)
-    ≡ (if shut then codes "shut" else if threw then codes "threw" else if ended then codes "ended" else if paused then codes "paused" else if held then codes "waiting" else codes "ready")
+    ≡ (if shut then codes "shut" else if threw then codes "threw" else if ended then codes "ended" else if paused
+    then codes "paused" else if held then codes "waiting" else codes "ready")
 name_by true threw ended paused held = refl
 name_by false true ended paused held = refl
 name_by false false true paused held = refl
@@ -371,7 +374,8 @@ kept-first P handed (seats.Attached x) made keeps = (P.outbox x, sym keeps)
 kept-first P handed (seats.Lost loss is_reported is_told) made keeps = keeps
 kept-first P handed seats.Left made keeps = keeps
 
--- of the texts that are made for a session those that were handed out are the first; the others wait, while it is attached
+-- of the texts that are made for a session those that were handed out are the first; the others wait, while it is
+-- attached
 keeps-of : (scripts : List Script) (input : List (List ℕ)) (wait : Bool) (history : List Entry) (s : ℕ)
     → IsHistory scripts input wait history
     → Keeps (protocol scripts) (sent_to scripts input wait s history)

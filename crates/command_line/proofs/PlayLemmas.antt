@@ -92,8 +92,8 @@ left-output scripts m rest line lines is =
 
 -- ---- how far a replay came
 
--- A host stands for the history of the lines so far; what was written and what the lines that are left write make up all, and
--- the first line that is refused is one of those that are left.
+-- A host stands for the history of the lines so far; what was written and what the lines that are left write make up
+-- all, and the first line that is refused is one of those that are left.
 pub record IsBehind (scripts : List Script) (input : List (List ℕ)) (wait : Bool) (all rest : List (List ℕ))
     (number : ℕ) (host : HostState) (before now : Option (List ℕ)) : Type 0 where
   pub history : List Entry

@@ -117,7 +117,13 @@ because (plays.Refused number) request told before after was now old new journal
   quiet_by (plays.Refused number) was now (λ is. cc) h.quiet,
   told_map told (λ files. HoldsReplay files request journal scripts input)
       (λ files. ReplaysWhole files request (Some number) old new)
-      (λ files i. record { journal = journal; scripts = scripts; input = input; holds = i; writes = h.refused number refl })
+      (λ files i. record {
+        journal = journal;
+        scripts = scripts;
+        input = input;
+        holds = i;
+        writes = h.refused number refl;
+      })
       holds,
 )
 because plays.WriteFault request told before after was now old new journal scripts input holds same h = (
@@ -156,7 +162,8 @@ pub played : (e : ReplayEnd) (request : Request) (told mid_told : Option (List N
     → journal ≡ bytes
     → HasReplayed e scripts input request.wait journal was now old new
     → BecauseReplay (outcome_of_replay e) request told before after was now old new
-played e request told mid_told before mid after was now old new bytes journal scripts input there quiet same sources still is h =
+played e request told mid_told before mid after was now old new bytes journal scripts input there quiet same sources
+    still is h =
     let held_all : HasHeld told request bytes scripts input =
     held told request bytes scripts input there
     (subst (λ (t : Option (List Named)). Told t (λ files. HoldsSources files request.sources scripts input))

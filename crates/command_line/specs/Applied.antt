@@ -10,9 +10,9 @@ use Rattle.cdp_host.specs.Protocols.{protocol}
 use Rattle.command_line.specs.Journal.{is_there}
 use Rattle.cdp_journal.specs.Lines.{Line, Attach, Tell, Take, Detach, Run, Shut, IsLine}
 
--- a line may stand there, and this is its entry: one that attaches or shuts at any place, one that tells, takes or detaches where its
--- session is attached, and one that runs at any place, for the longest run of at most its steps at its moment that loses nobody for
--- want of memory
+-- a line may stand there, and this is its entry: one that attaches or shuts at any place, one that tells, takes or
+-- detaches where its session is attached, and one that runs at any place, for the longest run of at most its steps at
+-- its moment that loses nobody for want of memory
 abbrev pub MayStand : List Script → Meaning Program → Line → Entry → Type 0
 MayStand scripts m Attach entry = entry ≡ Attached
 MayStand scripts m (Tell s text) entry = (is_there m s ≡ true) × (entry ≡ Told s text)
@@ -38,7 +38,8 @@ AreEntries scripts m (text ∷ texts) [] = ⊥
 AreEntries scripts m (text ∷ texts) (entry ∷ entries) =
     IsEntry scripts m text entry × AreEntries scripts (apply scripts m entry) texts entries
 
--- the text of this number, where the first has the first number, isn't of its form or may not stand behind these entries, which are those of the texts before it
+-- the text of this number, where the first has the first number, isn't of its form or may not stand behind these
+-- entries, which are those of the texts before it
 pub record RefusesAt (scripts : List Script) (first : ℕ) (m : Meaning Program) (texts : List (List ℕ))
     (entries : List Entry) (number : ℕ) : Type 0 where
   pub before : List (List ℕ)

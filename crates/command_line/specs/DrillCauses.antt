@@ -69,7 +69,8 @@ BecauseJournalOf (ends.LineRefused line) n script = (output : List ℕ) × IsDri
 BecauseJournalOf ends.OutOfMemory n script = Unit {0}
 BecauseJournalOf end n script = ⊥
 
--- why a drill ended so: its script or its journal is refused, the count of faults of the output rose, or memory was wanting
+-- why a drill ended so: its script or its journal is refused, the count of faults of the output rose, or memory was
+-- wanting
 abbrev pub BecauseDrill : Outcome → ℕ → ℕ → ℕ → Option (List ℕ) → Option (List ℕ) → Type 0
 BecauseDrill ends.Done n was now old new = (now ≡ was) × DrillsWhole n old new
 BecauseDrill ends.OutOfMemory n was now old new = (now ≡ was) × ((new ≡ old) ⊎ DrillsInPart n old new)

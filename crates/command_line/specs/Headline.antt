@@ -1,6 +1,6 @@
--- What debugging leaves of a run: the program prints what it prints without a debugger; it stops at exactly the steps that the rules
--- of its sessions or the start rule name; and each session is sent exactly what a host with no other session sends it, given the
--- program's steps, stops and resumes.
+-- What debugging leaves of a run: the program prints what it prints without a debugger; it stops at exactly the steps
+-- that the rules of its sessions or the start rule name; and each session is sent exactly what a host with no other
+-- session sends it, given the program's steps, stops and resumes.
 use Rattle.std.specs.Prelude.{◌≡◌, ◌<◌, ◌^◌, ℕ, List, ◌++◌, map, Bool, true, codes, decimal}
 use Rattle.cdp_text.specs.Lines.{lines_of}
 use Rattle.isolation.specs.Histories.{Entry, steps_made}
@@ -30,9 +30,11 @@ pub record PrintsPlainly (scripts : List Script) (input : List (List ℕ)) (hist
 -- it stops at exactly the steps that the rules of its sessions or the start rule name
 pub record StopsWhereNamed (scripts : List Script) (input : List (List ℕ)) (wait : Bool) (history : List Entry)
     (output : List ℕ) : Type 0 where
-  -- each step of a run is made where the program is ready: it isn't paused, doesn't wait, wasn't shut, and owes no report of a loss
+  -- each step of a run is made where the program is ready: it isn't paused, doesn't wait, wasn't shut, and owes no
+  -- report of a loss
   pub is_history : IsHistory scripts input wait history
-  -- it stops at each step that a session or the start rule names, but for one at which all that name it are lost, and at no other
+  -- it stops at each step that a session or the start rule names, but for one at which all that name it are lost, and
+  -- at no other
   pub exactly : AllStopExactly (protocol scripts) (start scripts input) 0 (begin scripts input wait) history
   -- the lines `ran K STATE` tell each run's steps, and say `paused` exactly where it stops at the last of them
   pub lines : behind_each (codes "ran ") (lines_of output) ≡ ran_texts scripts input 0 (begin scripts input wait)
@@ -48,8 +50,8 @@ pub record SendsAsAlone (scripts : List Script) (input : List (List ℕ)) (wait 
   -- and these are what it would be sent with no other session there, given what it sees of the history
   pub alone : (s : ℕ)
       → sent_to scripts input wait s history ≡ sent_alone scripts input wait s (view scripts input wait s history)
-  -- for a session that is attached at the end, the texts on its lines and those that wait for it are all answers and events that its
-  -- commands and the steps make for it
+  -- for a session that is attached at the end, the texts on its lines and those that wait for it are all answers and
+  -- events that its commands and the steps make for it
   pub all : (s : ℕ) → s < 2 ^ 64 → is_there (whole scripts input wait history) s ≡ true
       → behind_each (to_front s) (lines_of output) ++ map escaped
       (waiting_to s scripts (whole scripts input wait history)) ≡ map escaped

@@ -14,7 +14,8 @@ use Rattle.cdp_journal.specs.Lines.{Line, Attach, Tell, Take, Detach, Run, Shut,
 abbrev pub is_there : Meaning Program → ℕ → Bool
 is_there m s = is_attached (seat_of s m.seats)
 
--- the entry of a line; None where it names a session that isn't attached. A run is the longest, and loses nobody for want of memory.
+-- the entry of a line; None where it names a session that isn't attached. A run is the longest, and loses nobody for
+-- want of memory.
 abbrev pub entry_at : List Script → Meaning Program → Line → Option Entry
 entry_at scripts m Attach = Some Attached
 entry_at scripts m (Tell s text) = if is_there m s then Some (Told s text) else None

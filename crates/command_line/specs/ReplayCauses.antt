@@ -53,7 +53,8 @@ BecauseJournal (ends.CannotRead name) journal before after = Blames (Read name.n
 BecauseJournal ends.OutOfMemory journal before after = after ≡ before
 BecauseJournal end journal before after = ⊥
 
--- why a replay ended so: the files say so, a count of faults rose, or memory was wanting. The counts are those of the shelf and of the output, the contents those of the output
+-- why a replay ended so: the files say so, a count of faults rose, or memory was wanting. The counts are those of the
+-- shelf and of the output, the contents those of the output
 abbrev pub BecauseReplay : Outcome
     → Request
     → Option (List Named)

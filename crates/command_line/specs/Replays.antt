@@ -15,8 +15,8 @@ AppliesUpTo None scripts input wait texts history = AreEntries scripts (begin sc
 AppliesUpTo (Some number) scripts input wait texts history =
     RefusesAt scripts 1 (begin scripts input wait) texts history number
 
--- This is the output of a journal's replay over a program, up to the line that is refused, if one is. The replay has a history, and
--- the output shows what a debugger leaves of the run in it.
+-- This is the output of a journal's replay over a program, up to the line that is refused, if one is. The replay has a
+-- history, and the output shows what a debugger leaves of the run in it.
 pub record IsReplay (scripts : List Script) (input : List (List ℕ)) (wait : Bool) (journal : List ℕ) (line : Option ℕ)
     (output : List ℕ) : Type 0 where
   pub history : List Entry

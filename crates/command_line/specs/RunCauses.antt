@@ -82,7 +82,8 @@ BecauseSources (ends.CannotRead name) sources told before after =
 BecauseSources ends.OutOfMemory sources told before after = after ≡ before
 BecauseSources end sources told before after = ⊥
 
--- why a run ended so: the files say so, a count of faults rose, or memory was wanting. The counts are those of the shelf and of the output, the contents those of the output
+-- why a run ended so: the files say so, a count of faults rose, or memory was wanting. The counts are those of the
+-- shelf and of the output, the contents those of the output
 abbrev pub BecauseRun : Outcome
     → Sources
     → Option (List Named)

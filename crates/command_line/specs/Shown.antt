@@ -16,8 +16,8 @@ use Rattle.command_line.specs.Output.{overrun_at, overruns}
 abbrev pub to_front : ℕ → List ℕ
 to_front s = codes "to " ++ (decimal s ++ 32 ∷ [])
 
--- the program is paused behind a run of so many steps at a moment: a session that isn't lost at the last of them names it, by its rules
--- or by the start rule, or the program was paused where the run makes none
+-- the program is paused behind a run of so many steps at a moment: a session that isn't lost at the last of them names
+-- it, by its rules or by the start rule, or the program was paused where the run makes none
 abbrev pub is_stopped : List Script → List (List ℕ) → ℕ → List ℕ → ℕ → Meaning Program → ℕ → Bool
 is_stopped scripts input moment gone made m zero = is_paused m
 is_stopped scripts input moment gone made m (suc n) =
@@ -52,8 +52,8 @@ ran_texts scripts input made m [] = []
 ran_texts scripts input made m (entry ∷ history) =
     ran_at scripts input made m entry ++ ran_texts scripts input (made + steps_of entry) (apply scripts m entry) history
 
--- the sessions that an entry tells as lost: that of a command whose answer's texts don't fit behind those that wait, and behind a run those
--- that its last step, or a resume before it, lost by too many texts, in ascending order
+-- the sessions that an entry tells as lost: that of a command whose answer's texts don't fit behind those that wait,
+-- and behind a run those that its last step, or a resume before it, lost by too many texts, in ascending order
 abbrev pub losses_at : List Script → Meaning Program → Entry → List ℕ
 losses_at scripts m Attach = []
 losses_at scripts m (Tell s text) = if overruns scripts m text (seat_of s m.seats) then s ∷ [] else []

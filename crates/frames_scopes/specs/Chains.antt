@@ -14,8 +14,8 @@ use Rattle.frames_scopes.specs.Scopes.{ScopeParts, scope_parts}
 
 -- ---- whole chains
 
--- A list has all scopes from one outward: each is the one around that before it, listed by what made it and by whether no
--- scope of a call came before, and the list ends where there is none around, and nowhere else.
+-- A list has all scopes from one outward: each is the one around that before it, listed by what made it and by whether
+-- no scope of a call came before, and the list ends where there is none around, and nowhere else.
 abbrev pub IsChain : World → Bool → Option Addr → List ListedScope → Type 0
 IsChain w inside None [] = Unit {0}
 IsChain w inside None (l ∷ ls) = ⊥

@@ -19,7 +19,8 @@ shown_kind as_closure = listed.Closure
 shown_kind as_script = listed.Script
 shown_kind as_global = listed.Global
 
--- a function's name is shown on the scope of its call, and where that scope is one of an outer function or of the name itself
+-- a function's name is shown on the scope of its call, and where that scope is one of an outer function or of the name
+-- itself
 abbrev pub name_on : ListedKind → List ℕ → List ℕ
 name_on listed.Local name = name
 name_on listed.Closure name = name

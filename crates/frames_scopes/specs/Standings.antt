@@ -9,8 +9,8 @@ use Rattle.js_steps.specs.Tasks.{Wide, InScopes}
 use Rattle.js_steps.specs.Points.{IsAt}
 use Rattle.frames_scopes.specs.Places.{starts_of}
 
--- the tasks of a machine stand in its code, which is in order; the lines are those of the scripts, none of which is longer than
--- lines and columns can count
+-- the tasks of a machine stand in its code, which is in order; the lines are those of the scripts, none of which is
+-- longer than lines and columns can count
 pub record CanWalk (t : NodeTable) (root : Addr) (ws : List Wide) (p : Point) (scripts : List Script)
     (lines : List (List ℕ)) : Type 0 where
   pub table : IsTable t

@@ -1,4 +1,5 @@
--- What stretches of steps come to: stretches behind others, the longest run, and a stretch of which nobody is told before its end.
+-- What stretches of steps come to: stretches behind others, the longest run, and a stretch of which nobody is told
+-- before its end.
 use Rattle.std.proofs.Common.{◌≡◌, ◌⊎◌, ℕ, zero, suc, ◌+◌, ◌-◌, ◌<◌, ◌≤◌, List, [], ◌∷◌, Bool, true, false, ◌||◌, inl, inr, refl, ap, sym, subst, ◌∙◌}
 use Rattle.std.proofs.Common.{arith, if◌then◌else◌, Option, Some, None, is_some}
 use Rattle.std.proofs.lemmas.Bool.{and_right, or_from, or_parts}

@@ -1,4 +1,5 @@
--- Where programs stop: each makes the plain run's steps, stops exactly where it is asked to, and is paused for somebody.
+-- Where programs stop: each makes the plain run's steps, stops exactly where it is asked to, and is paused for
+-- somebody.
 use Rattle.std.proofs.Common.{◌≡◌, ◌<◌, ℕ, zero, suc, ◌+◌, List, [], ◌∷◌, ◌++◌, length, Bool, true, false, ◌||◌, if◌then◌else◌, fold, Option, Some, None, refl, ap, sym, ◌∙◌, arith}
 use Rattle.isolation.specs.Seats.{each, put, put_in, reported, seat_in, seat_of, some}
 use Rattle.isolation.specs.Protocols.{Protocol}

@@ -9,8 +9,8 @@ use Rattle.isolation.specs.declared.seat.Seat.TheVariants.{Attached, Lost, Left}
 
 -- ---- the view
 
--- What of an entry a session sees. A host that let a session learn what another evaluates, holds or is told would need more of its
--- entries than these.
+-- What of an entry a session sees. A host that let a session learn what another evaluates, holds or is told would need
+-- more of its entries than these.
 pub data Seen : Type 0 where
   -- it was attached
   Came : Seen
@@ -20,8 +20,8 @@ pub data Seen : Type 0 where
   Took : Seen
   -- it was detached, and the program went on then, or didn't
   Went : Bool → Seen
-  -- so many steps were made at a moment; whether the last of them stopped the program, whether the session was lost there for want
-  -- of memory, and whether the program went on since no session had the debugger enabled
+  -- so many steps were made at a moment; whether the last of them stopped the program, whether the session was lost
+  -- there for want of memory, and whether the program went on since no session had the debugger enabled
   Passed : ℕ → ℕ → Bool → Bool → Bool → Seen
   -- another session let the program go on
   Resumed : Seen
@@ -53,8 +53,8 @@ view P s m (entry ∷ history) = view_at P s m entry ++ view P s (apply P m entr
 
 -- ---- alone
 
--- A program, whether its next step is the first of one that waited, where it is paused and how many stops there were; and what
--- became of one session. No other session is there whose texts could be seen, counted or mixed up with these.
+-- A program, whether its next step is the first of one that waited, where it is paused and how many stops there were;
+-- and what became of one session. No other session is there whose texts could be seen, counted or mixed up with these.
 pub record Alone (C Q X : Type 0) : Type 0 where
   pub program : C
   pub first : Bool

@@ -13,8 +13,8 @@ pub data Entry : Type 0 where
   Tell : ℕ → List ℕ → Entry
   Take : ℕ → Entry
   Detach : ℕ → Entry
-  -- the steps that were made; the moment at which they were, in milliseconds since the epoch; the numbers of the sessions that were
-  -- lost for want of memory
+  -- the steps that were made; the moment at which they were, in milliseconds since the epoch; the numbers of the
+  -- sessions that were lost for want of memory
   Ran : ℕ → ℕ → List ℕ → Entry
   Shut : Entry
 

@@ -8,8 +8,8 @@ use Rattle.isolation.specs.declared.seat.Loss.TheVariants.{Overrun}
 use Rattle.isolation.specs.declared.seat.Seat.{Seat}
 use Rattle.isolation.specs.declared.seat.Seat.TheVariants.{Attached, Lost, Left}
 
--- A program and how far it has begun; where it is paused, if it is, and how many stops there were; whether it was shut, and what
--- became of each session so far.
+-- A program and how far it has begun; where it is paused, if it is, and how many stops there were; whether it was shut,
+-- and what became of each session so far.
 pub record Meaning (C Q X : Type 0) : Type 0 where
   pub program : C
   pub phase : Phase
@@ -77,7 +77,8 @@ kept P x = if P.fits x then Attached x else lost_by Overrun
 abbrev pub next_number : ℕ → ℕ
 next_number n = if nat_lt n (2 ^ 62) then n + 1 else n
 
--- a session behind a step, where that names a stop of this number or doesn't: it is told of the step, and of the stop that it names
+-- a session behind a step, where that names a stop of this number or doesn't: it is told of the step, and of the stop
+-- that it names
 abbrev pub session_behind : {C T Q X : Type 0} → Protocol C T Q X → ℕ → ℕ → T → X → X
 session_behind P number moment t x = if P.names t x then P.stopped number t (P.told moment t x) else P.told moment t x
 
@@ -107,8 +108,8 @@ seat_behind P stops number moment t Left = Left
 abbrev pub told_at : {C T Q X : Type 0} → Protocol C T Q X → C → Meaning C Q X → T
 told_at P c m = P.tells (is_first m.phase) c
 
--- the next step of a program that stands there is named by a session that isn't lost at it; those of the listed numbers are lost
--- for want of memory before it names them
+-- the next step of a program that stands there is named by a session that isn't lost at it; those of the listed numbers
+-- are lost for want of memory before it names them
 abbrev pub is_named : {C T Q X : Type 0} → Protocol C T Q X → ℕ → List ℕ → C → Meaning C Q X → Bool
 is_named P moment gone c m = some (stops_for P (next_number m.stops) moment (told_at P c m)) (without gone m.seats)
 
@@ -123,8 +124,8 @@ behind P moment gone t c stops m = record {
   seats = each (seat_behind P stops (next_number m.stops) moment t) (without gone m.seats);
 }
 
--- one step of the program at a moment, which loses the sessions of the listed numbers for want of memory: the program stops exactly
--- where another session names the step and isn't lost at it
+-- one step of the program at a moment, which loses the sessions of the listed numbers for want of memory: the program
+-- stops exactly where another session names the step and isn't lost at it
 abbrev pub step : {C T Q X : Type 0} → Protocol C T Q X → ℕ → List ℕ → Meaning C Q X → Meaning C Q X
 step P moment gone m =
     behind P moment gone (told_at P m.program m) (P.next m.program) (is_named P moment gone m.program m) m
@@ -152,7 +153,8 @@ resumed_seat P (Attached x) = kept P (P.resumed x)
 resumed_seat P (Lost loss is_reported is_told) = Lost loss is_reported is_told
 resumed_seat P Left = Left
 
--- a paused program goes on, and each session is told; one whose texts don't fit is lost, which waits for a run that reports it
+-- a paused program goes on, and each session is told; one whose texts don't fit is lost, which waits for a run that
+-- reports it
 abbrev pub resume : {C T Q X : Type 0} → Protocol C T Q X → Meaning C Q X → Meaning C Q X
 resume P m = if is_paused m then record m { stop = None; seats = each (resumed_seat P) m.seats } else m
 

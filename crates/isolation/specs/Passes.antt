@@ -1,5 +1,5 @@
--- What two passes over all seats do for one step: in the first each session watches it, in the second those are told of a stop that
--- didn't name it.
+-- What two passes over all seats do for one step: in the first each session watches it, in the second those are told of
+-- a stop that didn't name it.
 use Rattle.std.specs.Prelude.{◌≡◌, ℕ, zero, suc, List, [], ◌∷◌, Bool, false, ◌||◌, if◌then◌else◌}
 use Rattle.isolation.specs.Protocols.{Protocol}
 use Rattle.isolation.specs.Meanings.{resumed_seat, seat_behind, stops_for}
@@ -38,8 +38,8 @@ pub record HearsOn {C T Q X : Type 0} (P : Protocol C T Q X) (old new : Seat X) 
 
 -- ---- one seat after another
 
--- the relation holds of the first seats, so many, with their flags, which are there from the beginning; the others are as
--- they were
+-- the relation holds of the first seats, so many, with their flags, which are there from the beginning; the others are
+-- as they were
 abbrev pub GoesAlong : {X : Type 0}
     → (Seat X → Seat X → Bool → Type 0)
     → ℕ

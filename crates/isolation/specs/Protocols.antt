@@ -20,7 +20,8 @@ pub record Protocol (C T Q X : Type 0) : Type 0 where
   pub fits : X → Bool
   -- all of its texts were handed out
   pub emptied : X → X
-  -- it was told a text, where the program is paused so, or isn't, and stands so; whether the text asks the program to go on, and to begin
+  -- it was told a text, where the program is paused so, or isn't, and stands so; whether the text asks the program to
+  -- go on, and to begin
   pub reply : Option Q → C → List ℕ → X → X
   pub resumes : Option Q → C → List ℕ → X → Bool
   pub wakes : Option Q → C → List ℕ → X → Bool

@@ -8,8 +8,8 @@ use Rattle.isolation.specs.Texts.{Fits}
 use Rattle.isolation.specs.declared.seat.Seat.{Seat}
 use Rattle.isolation.specs.declared.seat.Seat.TheVariants.{Attached, Lost, Left}
 
--- so many steps at a moment lead from one to the other, each made where the program is ready; the last of them alone loses sessions
--- for want of memory, and these are gone
+-- so many steps at a moment lead from one to the other, each made where the program is ready; the last of them alone
+-- loses sessions for want of memory, and these are gone
 pub record HasMade {C T Q X : Type 0} (P : Protocol C T Q X) (moment : ℕ) (m n : Meaning C Q X) (k : ℕ) : Type 0 where
   pub reached : n ≡ after_run P moment (fallen_in n.seats) k m
   pub ready : (j : ℕ) → j < k → is_ready P (after_steps P moment j m) ≡ true

@@ -33,13 +33,14 @@ less seats m = with_seats (without (fallen_in seats) m.seats) m
 
 -- ---- standing
 
--- A host is what a history means, but for sessions that a resume lost for want of memory: these are gone from it already, and no
--- step is made before a run has told of them.
+-- A host is what a history means, but for sessions that a resume lost for want of memory: these are gone from it
+-- already, and no step is made before a run has told of them.
 pub record StandsAs {C Q X : Type 0} (host m : Meaning C Q X) : Type 0 where
   pub is : host ≡ less host.seats m
   pub all_there : is_paused host ≡ true → fallen_in host.seats ≡ []
 
--- what an entry that makes no step leaves of a host: what it means, but for sessions that its resume lost for want of memory
+-- what an entry that makes no step leaves of a host: what it means, but for sessions that its resume lost for want of
+-- memory
 pub record LeavesAs {C T Q X : Type 0} (P : Protocol C T Q X) (old : Meaning C Q X) (entry : Entry)
     (new : Meaning C Q X) : Type 0 where
   pub is : new ≡ less new.seats (apply P old entry)

@@ -10,9 +10,10 @@ abbrev pub plain : {C T Q X : Type 0} → Protocol C T Q X → ℕ → C → C
 plain P zero c = c
 plain P (suc k) c = P.next (plain P k c)
 
--- A program makes these steps at a moment, from the one that is so many plain steps from its beginning, and the last of them loses
--- the sessions of these numbers for want of memory. Each is made where the program is ready. No step before the last is named by
--- a session as it is just before that step; and the program stops at the last exactly where one names it that isn't lost at it.
+-- A program makes these steps at a moment, from the one that is so many plain steps from its beginning, and the last of
+-- them loses the sessions of these numbers for want of memory. Each is made where the program is ready. No step before
+-- the last is named by a session as it is just before that step; and the program stops at the last exactly where one
+-- names it that isn't lost at it.
 pub record StopsExactly {C T Q X : Type 0} (P : Protocol C T Q X) (c : C) (made moment : ℕ) (gone : List ℕ)
     (m : Meaning C Q X) (n : ℕ) : Type 0 where
   pub ready : (j : ℕ) → j < n → is_ready P (after_steps P moment j m) ≡ true

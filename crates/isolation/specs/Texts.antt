@@ -6,8 +6,8 @@ use Rattle.isolation.specs.Alone.{Alone, Seen, Came, Told, Took, Went, Passed, R
 use Rattle.isolation.specs.declared.seat.Seat.{Seat}
 use Rattle.isolation.specs.declared.seat.Seat.TheVariants.{Attached, Lost, Left}
 
--- the texts that a protocol makes for a session: the answer to a text, the event of a resume, what it is told of a step, and the
--- event of a stop
+-- the texts that a protocol makes for a session: the answer to a text, the event of a resume, what it is told of a
+-- step, and the event of a stop
 pub record Texts {C T Q X : Type 0} (P : Protocol C T Q X) : Type 0 where
   pub reply : Option Q → C → List ℕ → X → List (List ℕ)
   pub resumed : X → List (List ℕ)
@@ -97,8 +97,8 @@ abbrev pub made_of : {C T Q X : Type 0} → (P : Protocol C T Q X) → Texts P �
 made_of P E s a [] = []
 made_of P E s a (seen ∷ view) = made_at P E a seen ++ made_of P E s (see P s a seen) view
 
--- These texts were handed out, and of those that were made the others wait for the session, while it is attached; where it isn't,
--- they are the first.
+-- These texts were handed out, and of those that were made the others wait for the session, while it is attached; where
+-- it isn't, they are the first.
 abbrev pub Keeps : {C T Q X : Type 0} → Protocol C T Q X → List (List ℕ) → Seat X → List (List ℕ) → Type 0
 Keeps P handed (Attached x) made = handed ++ P.outbox x ≡ made
 Keeps P handed (Lost loss is_reported is_told) made = (rest : List (List ℕ)) × (made ≡ handed ++ rest)

@@ -37,7 +37,15 @@ members_of ts (m ∷ ms) = member_of ts m ∷ members_of ts ms
 -- a function's form, by its entry
 abbrev pub function_of : List (List ℕ) → FunctionEntry → FunctionForm
 function_of ts f =
-    record { code = f.code; node = f.node; name = name_of ts f.name.number; parameters = texts_of ts f.parameters.items; names = bindings ts f.names; is_arrow = f.is_arrow; is_named = f.is_named }
+    record {
+      code = f.code;
+      node = f.node;
+      name = name_of ts f.name.number;
+      parameters = texts_of ts f.parameters.items;
+      names = bindings ts f.names;
+      is_arrow = f.is_arrow;
+      is_named = f.is_named;
+    }
 
 -- ---- forms; a number that names no entry gives the form `this`
 

@@ -7,7 +7,13 @@ use Rattle.js_code.specs.declared.table.NodeTable.{NodeTable}
 -- the node that stands behind a list of parts and those that are added
 abbrev pub node_behind : List ℕ → Op → ℕ → List ℕ → List ℕ → Node
 node_behind kids op info now later =
-    record { op = op; info = info; first = length kids; mid = length kids + length now; end = length kids + length now + length later }
+    record {
+      op = op;
+      info = info;
+      first = length kids;
+      mid = length kids + length now;
+      end = length kids + length now + length later;
+    }
 
 -- a table with one node more, of these parts, and all entries as they were
 pub record IsNodeAdded (t u : NodeTable) (op : Op) (info : ℕ) (now later : List ℕ) (n : ℕ) : Type 0 where

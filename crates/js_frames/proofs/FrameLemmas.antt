@@ -121,7 +121,8 @@ scopes_node : (ts : List (List ℕ)) (t : NodeTable) (node : Node) (n : ℕ) (sc
     → scopes_at scope (leaf ts t n node) ≡ scope ∷ []
 scopes_node ts t node n scope k =
     let f : Form = form_of ts t node.op node.info in
-    let same : form_in ts t node.op node.info scope None ≡ f = node-form ts t node.op node.info scope k.source k.turns in
+    let same : form_in ts t node.op node.info scope None ≡ f = node-form ts t node.op node.info scope k.source k.turns
+    in
     let stays : scope_in f scope ≡ scope = ap (λ g. scope_in g scope) (sym same)
     ∙ node-scope ts t node.op node.info scope scope k.source k.turns in
     let leaves : is_leaving (kind_of f) ≡ false = ap (λ g. is_leaving (kind_of g)) (sym same)

@@ -15,8 +15,9 @@ use Rattle.js_code.specs.declared.node.CallEntry.{CallEntry}
 use Rattle.js_code.specs.declared.table.NodeTable.{NodeTable}
 use Rattle.js_frames.specs.declared.reducing.Reducing.{Reducing}
 
--- the form enters a statement, or a `debugger` statement, by its node; it is the body of a call, by its function's node; a call, by
--- its place and the node of its statement; a script, by its number; a `try` with a `catch`; or anything else
+-- the form enters a statement, or a `debugger` statement, by its node; it is the body of a call, by its function's
+-- node; a call, by its place and the node of its statement; a script, by its number; a `try` with a `catch`; or
+-- anything else
 pub data Kind : Type 0 where
   entering : ℕ → Kind
   debugging : ℕ → Kind

@@ -1,4 +1,5 @@
--- What begins the language begins it with tokens that can be written behind it, and it matters nowhere where tokens stand.
+-- What begins the language begins it with tokens that can be written behind it, and it matters nowhere where tokens
+-- stand.
 use Rattle.std.proofs.Common.{◌≡◌, ℕ, ◌+◌, Bool, not, List, [], ◌∷◌, ◌++◌, length, Result, Ok, Err, refl, sym, ap, subst, ◌∙◌, inl, inr, append_assoc, arith}
 use Rattle.std.proofs.lemmas.List.{append-nil}
 use Rattle.js_lexer.specs.declared.token.TokenKind.{TokenKind}
@@ -18,7 +19,8 @@ use Rattle.js_grammar.proofs.DeepWhole.{expression_too_deep, script_too_deep, fu
 
 -- ---- written tokens behind those that begin the language
 
--- How sources of a language are read: what is read is in it; where the reader stops, the tokens before begin it with written ones behind them, and leave it with the next one; and trees are too deep as said.
+-- How sources of a language are read: what is read is in it; where the reader stops, the tokens before begin it with
+-- written ones behind them, and leave it with the next one; and trees are too deep as said.
 record ReadSo {Tree : Type 0} (Is : List Token → Tree → Type 0) (height_of : Tree → ℕ)
     (parse : ℕ → List Token → Result Tree Fault) : Type 0 where
   sound : (n : ℕ) (ts : List Token) (t : Tree) → parse n ts ≡ Ok t → Is ts t

@@ -59,7 +59,8 @@ pub record TakesCode (n : ℕ) (ts : List Token) (f : Code) (r : List Token) : T
   pub well : WellStatements function_body f.body
   pub height : height_of_statements f.body ≤ n
 
--- What reads below a node reads well-formed trees at most n high. A block and a function count one beside their statements.
+-- What reads below a node reads well-formed trees at most n high. A block and a function count one beside their
+-- statements.
 pub record SoundBelow (n : ℕ) (b : Below) : Type 0 where
   pub assignment : (ts : List Token) (x : Expression × List Token)
       → b.assignment ts ≡ Ok x
@@ -211,7 +212,8 @@ abbrev pub StopsUnary : Edge → List Token → Type 0
 StopsUnary plain r = (link (head_of r) ≡ no_link) × (update_near (head_of r) ≡ None)
 StopsUnary _ r = Unit {0}
 
--- what may follow a statement: no token that could only go on with an expression, and no finally, which goes on with a try
+-- what may follow a statement: no token that could only go on with an expression, and no finally, which goes on with a
+-- try
 abbrev pub follows_by : TokenKind → Bool
 follows_by kinds.Finally = false
 follows_by kinds.Dot = false

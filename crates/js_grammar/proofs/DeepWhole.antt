@@ -1,4 +1,5 @@
--- Where a whole source is too deep for readers with three levels to spare, some first tokens begin only sources that are deeper.
+-- Where a whole source is too deep for readers with three levels to spare, some first tokens begin only sources that
+-- are deeper.
 use Rattle.std.proofs.Common.{◌≡◌, ℕ, zero, suc, ◌+◌, ◌<◌, ◌≤◌, Bool, true, false, List, [], ◌∷◌, ◌++◌, length, Ok, Err, refl, sym, ap, ◌∙◌, append_assoc, arith}
 use Rattle.std.specs.Prelude.{nat_le}
 use Rattle.std.proofs.lemmas.Bool.{leb-true, leb-false}
@@ -61,7 +62,8 @@ above h n f = by_test (nat_le h n) refl
     by_test true e = absurd (f (leb-true h n e))
     by_test false e = leb-false h n e
 
--- Where a reader too deep for the last one is between two others, of which the first reads all trees that are at most n high, the tokens through the one that shows it begin only deeper ones.
+-- Where a reader too deep for the last one is between two others, of which the first reads all trees that are at most n
+-- high, the tokens through the one that shows it begin only deeper ones.
 too_deep_from : {A : Type 0} (Is : List Token → A → Type 0) (height_of : A → ℕ) (n : ℕ) (low mid high : Reader A)
     → Follows low mid
     → Follows mid high
@@ -170,7 +172,13 @@ unfolding parse_function
 -- no tree is lower than 1
 function_deeper zero ts k e =
     let l : LivesIn IsFunction ts (deep k) = function_alive 3 ts (deep k) e in
-    record { before = l.before; left = l.left; parts = l.parts; begins = l.begins; deeper = λ rest t is. height_positive t }
+    record {
+      before = l.before;
+      left = l.left;
+      parts = l.parts;
+      begins = l.begins;
+      deeper = λ rest t is. height_positive t;
+    }
 function_deeper (suc n) ts k e =
     let q : Kept n = kept n in
     too_deep_from IsFunction height (suc n) (code_reader (below n)) (code_reader (room n))

@@ -1,4 +1,5 @@
--- Answers depend on the tokens read, and stay the same where trees may be higher: of all that reads, by induction on the height that is allowed.
+-- Answers depend on the tokens read, and stay the same where trees may be higher: of all that reads, by induction on
+-- the height that is allowed.
 use Rattle.std.proofs.Common.{ℕ, zero, suc, ◌≤◌, List, [], ◌∷◌, length, Err, refl, inl, arith}
 use Rattle.js_tree.specs.Trees as trees
 use Rattle.js_tree.specs.Trees.{Identifier}

@@ -133,8 +133,11 @@ unfolding semicolon_at
 semicolon_sound end ts y e =
     elim (cond_ok (is_kind kinds.Semicolon (head_of ts)) (Ok (tt, tail_of ts))
     (cond (absent end (head_of ts)) (Ok (tt, ts)) (Err (stuck (length ts)))) y e) [
-      | inl q ↦ inl
-          (next_is kinds.Semicolon (head_of ts) q.0, ap (λ (p : Unit {0} × List Token). p.1) (ok_is (tt, tail_of ts) y q.1))
+      | inl q ↦ inl (
+        next_is kinds.Semicolon (head_of ts) q.0,
+        ap (λ (p : Unit {0} × List Token). p.1)
+            (ok_is (tt, tail_of ts) y q.1),
+      )
       | inr q ↦
           let t = test_ok (absent end (head_of ts)) (Ok (tt, ts)) (stuck (length ts)) y q.1 in
           inr (t.0, ap (λ (p : Unit {0} × List Token). p.1) (ok_is (tt, ts) y t.1))

@@ -1,4 +1,5 @@
--- Where tokens leave a language, which begin it with written tokens behind them, and which begin only trees that are too deep.
+-- Where tokens leave a language, which begin it with written tokens behind them, and which begin only trees that are
+-- too deep.
 use Rattle.std.specs.Prelude.{◌≡◌, ℕ, ◌<◌, List, [], ◌∷◌, ◌++◌, length, map}
 use Rattle.js_lexer.specs.Written.{Written, AreTokens}
 use Rattle.js_language.specs.Tokens.{Token}

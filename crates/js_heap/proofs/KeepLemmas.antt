@@ -102,7 +102,11 @@ making-keeps w c =
     fine_if (nat_lt 0 w.room.cells) counted.Cells
     (if nat_le (weight c) w.room.units then fine (next_address w w.start) v else full counted.Units) P
     (fine_if (nat_le (weight c) w.room.units) counted.Units (fine (next_address w w.start) v) P
-    (record { start = made_start w v.room w.start c; kinds = made_kinds w v.room w.start c; others = made_others w v.room w.start c }))
+    (record {
+      start = made_start w v.room w.start c;
+      kinds = made_kinds w v.room w.start c;
+      others = made_others w v.room w.start c;
+    }))
 
 -- ---- writing
 
@@ -176,7 +180,11 @@ pub set-keeps : (w : World) (r : Room) (a : Addr) (old new : Cell)
     → is_own w.start a ≡ true
     → Keeps w (record (replaced w a new) { room = r })
 set-keeps w r a old new e k own =
-    record { start = set_start w r a new; kinds = set_kinds w r a old new e k; others = set_others w.start w r a new own }
+    record {
+      start = set_start w r a new;
+      kinds = set_kinds w r a old new e k;
+      others = set_others w.start w r a new own;
+    }
 
 pub written_keeps : (w : World) (a : Addr) (old : Cell) (o : Option Cell)
     → read_cell w a ≡ Some old

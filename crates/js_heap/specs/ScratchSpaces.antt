@@ -22,5 +22,11 @@ abbrev pub keep_source : World → List ℕ → Tried Addr
 keep_source w units =
     if nat_le (length units) w.room.units
     then fine (Scratch (length w.scratch))
-    (record w { scratch = w.scratch ++ cells.Text units ∷ []; room = record { cells = w.room.cells; units = w.room.units - length units } })
+    (record w {
+      scratch = w.scratch ++ cells.Text units ∷ [];
+      room = record {
+        cells = w.room.cells;
+        units = w.room.units - length units;
+      };
+    })
     else full counted.Units

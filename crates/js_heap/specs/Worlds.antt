@@ -113,7 +113,8 @@ OthersStay None w v = Unit {0}
 OthersStay (Some n) w v =
     (v.base ≡ w.base) × (n ≤ length w.scratch → (n ≤ length v.scratch) × (take n v.scratch ≡ take n w.scratch))
 
--- what every change of a world keeps: which cells may be written, each cell's kind, and in an evaluation the cells of others
+-- what every change of a world keeps: which cells may be written, each cell's kind, and in an evaluation the cells of
+-- others
 pub record Keeps (w v : World) : Type 0 where
   pub start : v.start ≡ w.start
   pub kinds : (a : Addr) → KindStays (read_cell w a) (read_cell v a)

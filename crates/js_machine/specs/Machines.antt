@@ -26,8 +26,8 @@ use Rattle.js_steps.specs.Stepping.{finish_of, StandsIn}
 use Rattle.js_machine.specs.declared.end.End.{End}
 use Rattle.js_machine.specs.declared.end.End.TheVariants as ends
 
--- the code with its names, what a step threads beside the world, the tasks from the innermost one, where it stands, and how
--- it ended
+-- the code with its names, what a step threads beside the world, the tasks from the innermost one, where it stands, and
+-- how it ended
 pub record Machine : Type 0 where
   pub table : NodeTable
   pub names : List (List ℕ)

@@ -6,8 +6,8 @@ use Rattle.js_semantics.specs.Run.{steps_in, steps_taken}
 use Rattle.js_steps.specs.Running.{RunsFor}
 use Rattle.js_machine.specs.Machines.{Machine, program_of, run_at, IsKept, HasSameCode}
 
--- a machine that was one thing with a world is another with another world, so many steps further, each of them one of a run
--- that isn't over
+-- a machine that was one thing with a world is another with another world, so many steps further, each of them one of a
+-- run that isn't over
 pub record HasMadeSteps (m : Machine) (v : World) (n : Machine) (w : World) (k : ℕ) : Type 0 where
   pub code : HasSameCode m n
   pub kept : IsKept n.ended

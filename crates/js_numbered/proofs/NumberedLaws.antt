@@ -1,4 +1,5 @@
--- What a tree without numbers says of the terms of the parser's tree, whose nodes are numbered in the order in which they end.
+-- What a tree without numbers says of the terms of the parser's tree, whose nodes are numbered in the order in which
+-- they end.
 use Rattle.std.proofs.Common.{◌≡◌, ℕ, ◌+◌, List, [], ◌∷◌, Option, None, Some, map, option_map, refl, ap, codes}
 use Rattle.std.specs.List.{range_with_len}
 use Rattle.js_tree.specs.declared.tree.Expr.{Expr}
@@ -70,7 +71,8 @@ place_parts F change =
     change Expr PropertyDefinition PropertyName Stmt Block Catch Declarator Declarators Exprs PropertyDefinitions Stmts
     (List Place) (List Place) (List Place) (List Place) (List Place) (List Place) (List Place) (List Place)
     (List Place) (List Place) (List Place)
-    expression_places property_places key_places statement_places block_places catch_places declarator_places declarators_places expressions_places properties_places statements_places
+    expression_places property_places key_places statement_places block_places catch_places declarator_places
+    declarators_places expressions_places properties_places statements_places
 
 -- trees of which it is known
 abbrev trees_of : (F : Former) → Mapper F → Known fits F → Level F
@@ -613,7 +615,19 @@ grown-statements y =
 
 grown : Grows fits
 grown =
-    record { grows_expression = grown-expression; grows_property = grown-property; grows_key = grown-key; grows_statement = grown-statement; grows_block = grown-block; grows_catch = grown-catch; grows_declarator = grown-declarator; grows_declarators = grown-declarators; grows_expressions = grown-expressions; grows_properties = grown-properties; grows_statements = grown-statements }
+    record {
+      grows_expression = grown-expression;
+      grows_property = grown-property;
+      grows_key = grown-key;
+      grows_statement = grown-statement;
+      grows_block = grown-block;
+      grows_catch = grown-catch;
+      grows_declarator = grown-declarator;
+      grows_declarators = grown-declarators;
+      grows_expressions = grown-expressions;
+      grows_properties = grown-properties;
+      grows_statements = grown-statements;
+    }
 
 -- the nodes of a tree that are numbered one after another are those of the clean tree
 pub numbered_same : (e : Expr) (count : ℕ)

@@ -1,4 +1,5 @@
--- Where the nodes of the parser's tree stand, whose nodes are numbered in the order in which they end, the tree without numbers says.
+-- Where the nodes of the parser's tree stand, whose nodes are numbered in the order in which they end, the tree without
+-- numbers says.
 use Rattle.std.proofs.Common.{◌≡◌, ℕ, ◌+◌, List, [], ◌∷◌, Option, None, Some, map, option_map, ap, codes}
 use Rattle.std.specs.List.{range_with_len}
 use Rattle.js_tree.specs.declared.tree.Expr.{Expr}
@@ -653,7 +654,19 @@ grown-statements y =
 
 grown : Grows stands_so
 grown =
-    record { grows_expression = grown-expression; grows_property = grown-property; grows_key = grown-key; grows_statement = grown-statement; grows_block = grown-block; grows_catch = grown-catch; grows_declarator = grown-declarator; grows_declarators = grown-declarators; grows_expressions = grown-expressions; grows_properties = grown-properties; grows_statements = grown-statements }
+    record {
+      grows_expression = grown-expression;
+      grows_property = grown-property;
+      grows_key = grown-key;
+      grows_statement = grown-statement;
+      grows_block = grown-block;
+      grows_catch = grown-catch;
+      grows_declarator = grown-declarator;
+      grows_declarators = grown-declarators;
+      grows_expressions = grown-expressions;
+      grows_properties = grown-properties;
+      grows_statements = grown-statements;
+    }
 
 pub expression-stands : (e : Expr) → Stand (expression_placed (expression_view e)) (expression_places e)
 expression-stands e = every-expression stands_so grown e

@@ -121,7 +121,8 @@ opened_quiet ps none n e = let f : is_number n [] ≡ true = subst (λ ns. is_nu
 
 -- ---- places that are those of a part
 
--- From the first of their numbers on, these are the places that are given, and each node among them that ends has begun.
+-- From the first of their numbers on, these are the places that are given, and each node among them that ends has
+-- begun.
 pub record Stand (f : Placing) (ps : List Place) : Type 0 where
   pub fits : Fits f (numbers_of ps) ps
   pub opened : AreOpened ps

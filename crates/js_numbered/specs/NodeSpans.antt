@@ -1,4 +1,5 @@
--- The span of a node, found in its tree's places and its source's tokens: from the start of its first token to the end of its last one.
+-- The span of a node, found in its tree's places and its source's tokens: from the start of its first token to the end
+-- of its last one.
 use Rattle.std.specs.Prelude.{ℕ, List, [], ◌∷◌, nat_eq, if◌then◌else◌}
 use Rattle.js_lexer.specs.declared.token.TokenKind.{TokenKind}
 use Rattle.js_tree.specs.declared.node.Span.{Span}
@@ -22,7 +23,8 @@ node_start n (closes m ∷ ps) ts = node_start n ps ts
 node_start n (stands s ∷ ps) ts = node_start n ps (tail_of ts)
 node_start n (stands_maybe kind ∷ ps) ts = node_start n ps (left_behind kind ts)
 
--- where the last token of the node of this number ends; 0 where no node has it. The token before the first place ends at `before`.
+-- where the last token of the node of this number ends; 0 where no node has it. The token before the first place ends
+-- at `before`.
 abbrev pub node_end : ℕ → List Place → ℕ → List Token → ℕ
 node_end n [] before ts = 0
 node_end n (opens m ∷ ps) before ts = node_end n ps before ts
@@ -30,6 +32,7 @@ node_end n (closes m ∷ ps) before ts = if (nat_eq n m) then before else node_e
 node_end n (stands s ∷ ps) before ts = node_end n ps (end_of (head_of ts)) (tail_of ts)
 node_end n (stands_maybe kind ∷ ps) before ts = node_end n ps (end_behind kind before ts) (left_behind kind ts)
 
--- The span of the node of this number, in a tree with these places and a source with these tokens; where no node has the number, the empty span at the start.
+-- The span of the node of this number, in a tree with these places and a source with these tokens; where no node has
+-- the number, the empty span at the start.
 abbrev pub node_span : ℕ → List Place → List Token → Span
 node_span n ps ts = record { start = node_start n ps ts; end = node_end n ps 0 ts }

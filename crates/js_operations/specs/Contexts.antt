@@ -1,5 +1,5 @@
--- What a step threads beside a world: the active calls from the top, the `this` outside all of them, the input lines left,
--- and the texts printed that nobody has taken yet.
+-- What a step threads beside a world: the active calls from the top, the `this` outside all of them, the input lines
+-- left, and the texts printed that nobody has taken yet.
 use Rattle.std.specs.Prelude.{◌≡◌, ℕ, List, ◌∷◌, [], ◌++◌, Option, Result, Ok, Err}
 use Rattle.js_heap.specs.declared.value.Value.{Value}
 use Rattle.js_heap.specs.declared.value.Value.TheVariants as values

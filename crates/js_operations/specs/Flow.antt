@@ -1,5 +1,5 @@
--- How far an action was taken: what a part of it does to a world, in every state that has this world, and how the action
--- goes on from there. Frames, input and texts printed stay as they are.
+-- How far an action was taken: what a part of it does to a world, in every state that has this world, and how the
+-- action goes on from there. Frames, input and texts printed stay as they are.
 use Rattle.std.specs.Prelude.{◌≡◌, Bool, true, false, List, [], ◌∷◌, ℕ, Result, Ok, Err}
 use Rattle.js_heap.specs.declared.value.Value.{Value}
 use Rattle.js_heap.specs.declared.value.Value.TheVariants as values

@@ -1,4 +1,5 @@
--- What is told of a source, for any language whose reader reads exactly its trees, and is stuck exactly where the language is left.
+-- What is told of a source, for any language whose reader reads exactly its trees, and is stuck exactly where the
+-- language is left.
 use Rattle.std.proofs.Common.{◌≡◌, ℕ, zero, suc, ◌-◌, ◌≤◌, ◌<◌, inl, inr, List, [], ◌∷◌, ◌++◌, length, Option, Some, None, Result, Ok, Err, refl, sym, ap, subst, ◌∙◌, append_assoc, arith}
 use Rattle.std.specs.Prelude.{slice_get, Bool, true, false, nat_lt, IfOk}
 use borrow.Author.Tests.{ltb-true, ltb-false}
@@ -26,7 +27,8 @@ use Rattle.js_parser.proofs.ReadLemmas.{IsReadOf, is_read_of, AreFirst, are_firs
 abbrev HasTree : {Tree : Type 0} → (List Token → Tree → Type 0) → (Tree → ℕ) → List ℕ → Type 0
 HasTree {Tree} Is height_of source = (t : Tree) × IsSource Is height_of source t
 
--- What is read from these tokens is exactly their trees that are at most so high, of which there is one at most, where it is stuck the language is left, and where it is too deep some first tokens begin only trees that are too deep.
+-- What is read from these tokens is exactly their trees that are at most so high, of which there is one at most, where
+-- it is stuck the language is left, and where it is too deep some first tokens begin only trees that are too deep.
 pub record ReadsExactly {Tree : Type 0} (Is : List Token → Tree → Type 0) (height_of : Tree → ℕ) (room : ℕ)
     (ts : List Token) (read : Result Tree Fault) : Type 0 where
   pub sound : (t : Tree) → read ≡ Ok t → Is ts t × (height_of t ≤ room)

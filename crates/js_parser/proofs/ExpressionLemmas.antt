@@ -135,11 +135,17 @@ fails_by Is read reads source look (Err f) only = unless_memory Is read reads so
 
 reads_expressions : Reads IsExpression (parse_expression MOST_HEIGHT)
 reads_expressions =
-    record { sound = λ ts e r. expression_read MOST_HEIGHT ts e r; complete = λ ts e i l. expression_again_whole MOST_HEIGHT ts e i l }
+    record {
+      sound = λ ts e r. expression_read MOST_HEIGHT ts e r;
+      complete = λ ts e i l. expression_again_whole MOST_HEIGHT ts e i l;
+    }
 
 reads_functions : Reads IsFunction (parse_function MOST_HEIGHT)
 reads_functions =
-    record { sound = λ ts e r. function_read MOST_HEIGHT ts e r; complete = λ ts e i l. function_again_whole MOST_HEIGHT ts e i l }
+    record {
+      sound = λ ts e r. function_read MOST_HEIGHT ts e r;
+      complete = λ ts e i l. function_again_whole MOST_HEIGHT ts e i l;
+    }
 
 -- the tree of a source
 pub expression_some : (source : List ℕ) (e : Expression)

@@ -150,7 +150,8 @@ not_in Is before [] t leaves i = leaves (t, subst (λ (ts : List Token). Is ts t
 not_in Is before (x ∷ left) t leaves i =
     leaves (left, (t, subst (λ (ts : List Token). Is ts t) (sym (append_assoc before (x ∷ []) left)) i))
 
--- Where tokens have a tree within the limits of length and of tokens, no fault stands at a place, and the source isn't too long.
+-- Where tokens have a tree within the limits of length and of tokens, no fault stands at a place, and the source isn't
+-- too long.
 abbrev pub IsPlaced : ParseFault → Type 0
 IsPlaced faults.TooDeep = ⊥
 IsPlaced faults.Memory = ⊥

@@ -62,7 +62,12 @@ function_source : (source : List ℕ) (e : Expression)
     → IsSource IsFunction height source e
     → IsSource IsExpression height source e
 function_source source e i =
-    let t : IsTreeOf IsExpression source e = record { short = i.0.short; all_good = i.0.all_good; few = i.0.few; is = record { well = i.0.is.well; spelled = i.0.is.spelled } } in
+    let t : IsTreeOf IsExpression source e = record {
+      short = i.0.short;
+      all_good = i.0.all_good;
+      few = i.0.few;
+      is = record { well = i.0.is.well; spelled = i.0.is.spelled };
+    } in
     (t, i.1)
 
 pub function_tree_is : (source : List ℕ) (e : Expression) → function_of source ≡ Some e → expression_of source ≡ Some e

@@ -44,7 +44,15 @@ pub is_read : (n : ℕ) (is : List (Result Lent ℕ))
 is_read n [] = (refl, refl, omega arith)
 is_read n (Err at ∷ is) = (refl, refl, omega arith)
 is_read zero (Ok t ∷ is) =
-    record { before = []; next = lent_view t; left = tokens_in is; parts = refl; taken = refl; place = refl; counted = refl }
+    record {
+      before = [];
+      next = lent_view t;
+      left = tokens_in is;
+      parts = refl;
+      taken = refl;
+      place = refl;
+      counted = refl;
+    }
 is_read (suc n) (Ok t ∷ is) =
     with_one (lent_view t) n (tokens_in is) (bad_in is) (lexed n is).tokens (lexed n is).stop (is_read n is)
 

@@ -29,7 +29,8 @@ abbrev pub tree_by : TreeReader → List ℕ → Option Expression
 tree_by read source =
     if (nat_le (length source) MOST_UNITS) then tree_of_tokens read (bad_place source) (tokens_of source) else None
 
--- The tree of the expression that a text is, without numbers and places; None where the text is no expression within the limits.
+-- The tree of the expression that a text is, without numbers and places; None where the text is no expression within
+-- the limits.
 unfoldable pub expression_of : List ℕ → Option Expression
 expression_of source = tree_by (parse_expression MOST_HEIGHT) source
 

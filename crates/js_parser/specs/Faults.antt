@@ -10,14 +10,18 @@ use Rattle.js_parser.specs.declared.limits.TheConstants.{MOST_UNITS, MOST_TOKENS
 use Rattle.js_parser.specs.Sources.{tokens_of, bad_place, HasDeepTree}
 
 -- ---- causes
--- Tokens begin a language where some tokens behind them, of whatever number, make them one of its sources (Begins). The greatest numbers of tokens and of code units play no part in that. Of the first tokens of a source that says as much as that a text of the language begins with them (BeginsText, and the clause texts of each call).
+-- Tokens begin a language where some tokens behind them, of whatever number, make them one of its sources (Begins). The
+-- greatest numbers of tokens and of code units play no part in that. Of the first tokens of a source that says as much
+-- as that a text of the language begins with them (BeginsText, and the clause texts of each call).
 
--- where the first of these last tokens of a source begins; where none is left, the end of the source, none of whose tokens is bad
+-- where the first of these last tokens of a source begins; where none is left, the end of the source, none of whose
+-- tokens is bad
 abbrev pub IsPlace : List ℕ → List Token → ℕ → Type 0
 IsPlace source [] at = (bad_place source ≡ None) × (at ≡ length source)
 IsPlace source (t ∷ left) at = at ≡ t.start
 
--- The language is left at this place of the source: the tokens before it begin the language, and with the one that stands here they don't; or here is the end, and all tokens begin the language and aren't in it.
+-- The language is left at this place of the source: the tokens before it begin the language, and with the one that
+-- stands here they don't; or here is the end, and all tokens begin the language and aren't in it.
 pub record LeavesLanguage {Tree : Type 0} (Is : List Token → Tree → Type 0) (source : List ℕ) (at : ℕ) : Type 0 where
   pub before : List Token
   pub left : List Token
@@ -51,7 +55,8 @@ HasSyntaxFault Is source at = (l : LeavesLanguage Is source at) × (length l.bef
 abbrev pub HasTooMany : {Tree : Type 0} → (List Token → Tree → Type 0) → List ℕ → ℕ → Type 0
 HasTooMany Is source at = (p : PassesLimit source at) × Begins Is (p.before ++ p.next ∷ [])
 
--- This fault stands in the source. In a source that isn't too long that is the first of these: a bad token, a syntax fault, a token too many. A tree is too deep where none of these stands.
+-- This fault stands in the source. In a source that isn't too long that is the first of these: a bad token, a syntax
+-- fault, a token too many. A tree is too deep where none of these stands.
 abbrev pub Stands : {Tree : Type 0} → (List Token → Tree → Type 0) → (Tree → ℕ) → List ℕ → ParseFault → Type 0
 Stands Is height_of source (faults.TooLong units) = (MOST_UNITS < length source) × (units ≡ length source)
 Stands Is height_of source (faults.Token at) = (length source ≤ MOST_UNITS) × HasBadToken Is source at
@@ -60,12 +65,15 @@ Stands Is height_of source (faults.TooMany at) = (length source ≤ MOST_UNITS) 
 Stands Is height_of source faults.TooDeep = HasDeepTree Is height_of source
 Stands Is height_of source faults.Memory = ⊥
 
--- The source isn't too long, and some of its first tokens begin the language, but only trees that are deeper than a source's may be.
+-- The source isn't too long, and some of its first tokens begin the language, but only trees that are deeper than a
+-- source's may be.
 abbrev pub BeginsTooDeep : {Tree : Type 0} → (List Token → Tree → Type 0) → (Tree → ℕ) → List ℕ → Type 0
 BeginsTooDeep Is height_of source =
     (length source ≤ MOST_UNITS) × TooDeepFrom Is height_of (tokens_of source) MOST_HEIGHT
 
--- What each fault says of a source. A tree is too deep where the source is in the language with a tree that is deeper than may be, or where its first tokens begin only such trees; such a source that has another fault besides may get either.
+-- What each fault says of a source. A tree is too deep where the source is in the language with a tree that is deeper
+-- than may be, or where its first tokens begin only such trees; such a source that has another fault besides may get
+-- either.
 abbrev pub Caused : {Tree : Type 0} → (List Token → Tree → Type 0) → (Tree → ℕ) → List ℕ → ParseFault → Type 0
 Caused Is height_of source faults.TooDeep = HasDeepTree Is height_of source ⊎ BeginsTooDeep Is height_of source
 Caused Is height_of source faults.Memory = Unit {0}
@@ -91,7 +99,8 @@ IsNoLaterThan a rank (faults.Syntax b) = IsNoLater a rank b 1
 IsNoLaterThan a rank (faults.TooMany b) = IsNoLater a rank b 2
 IsNoLaterThan a rank g = Unit {0}
 
--- The first of these faults comes first, if both have places: at the earlier place, and at one place in the order Token, Syntax, TooMany.
+-- The first of these faults comes first, if both have places: at the earlier place, and at one place in the order
+-- Token, Syntax, TooMany.
 abbrev pub ComesFirst : ParseFault → ParseFault → Type 0
 ComesFirst (faults.Token a) g = IsNoLaterThan a 0 g
 ComesFirst (faults.Syntax a) g = IsNoLaterThan a 1 g

@@ -1,4 +1,5 @@
--- What is read of a source: at most so many tokens and one more, and what is answered for where the reading of them is stuck.
+-- What is read of a source: at most so many tokens and one more, and what is answered for where the reading of them is
+-- stuck.
 use Rattle.std.specs.Prelude.{ℕ, zero, suc, List, [], ◌∷◌, length, ◌-◌, slice_get, Bool, true, false, nat_lt, Option, Some, None, Result, Ok, Err}
 use Rattle.js_lexer.specs.State.{items_of}
 use Rattle.js_lexer.specs.Tokens.{Lent}
@@ -78,7 +79,8 @@ abbrev pub unless_deep : {A : Type 0} → Bool → A → Result A ParseFault
 unless_deep true x = Err faults.TooDeep
 unless_deep false x = Ok x
 
--- what is told of a source whose tokens were read as a tree of this height: where there are no further tokens for a cause, that cause
+-- what is told of a source whose tokens were read as a tree of this height: where there are no further tokens for a
+-- cause, that cause
 abbrev pub complete : {A : Type 0} → ℕ → Option Stop → A → ℕ → Result A ParseFault
 complete end None x height = unless_deep (nat_lt MOST_HEIGHT height) x
 complete end (Some stop) x height = Err (stop_fault end (Some stop))

@@ -14,7 +14,8 @@ abbrev pub node_units : Option Expression → List ℕ → ℕ → List ℕ
 node_units None source node = []
 node_units (Some e) source node = units_in (node_span node (numbered_places e) (tokens_of source)) source
 
--- The text of the node of this number in a text that is an expression within the limits, from the start of the node's first token to the end of its last one. Empty where the text is none, or no node has the number.
+-- The text of the node of this number in a text that is an expression within the limits, from the start of the node's
+-- first token to the end of its last one. Empty where the text is none, or no node has the number.
 unfoldable pub node_text : List ℕ → ℕ → List ℕ
 node_text source node = node_units (expression_of source) source node
 

@@ -32,11 +32,13 @@ bad_in [] = None
 bad_in (Ok t ∷ is) = bad_in is
 bad_in (Err at ∷ is) = Some at
 
--- The tokens of a source, however many, which tile it with the gaps between them (ECMA-262, 12); up to the place of a bad one, if one is bad.
+-- The tokens of a source, however many, which tile it with the gaps between them (ECMA-262, 12); up to the place of a
+-- bad one, if one is bad.
 abbrev pub tokens_of : List ℕ → List Token
 tokens_of source = tokens_in (items_of source)
 
--- The place in a source behind its tokens where neither the end, white space, a line terminator, a comment nor a token begins.
+-- The place in a source behind its tokens where neither the end, white space, a line terminator, a comment nor a token
+-- begins.
 abbrev pub bad_place : List ℕ → Option ℕ
 bad_place source = bad_in (items_of source)
 

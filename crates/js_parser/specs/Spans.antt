@@ -9,7 +9,8 @@ use Rattle.js_parser.specs.Sources.{tokens_of}
 abbrev pub AreSpansIn : List ℕ → List Span → List Place → Type 0
 AreSpansIn source spans places = AreSpans spans places 0 (tokens_of source) []
 
--- These spans are those of a tree's nodes in the source, and the nodes have the numbers of those that came; with those before them none of them ends before it begins.
+-- These spans are those of a tree's nodes in the source, and the nodes have the numbers of those that came; with those
+-- before them none of them ends before it begins.
 pub record PlacedIn (source : List ℕ) (old new : List Span) (places : List Place) : Type 0 where
   pub exact : AreSpansIn source new places
   pub forward : All IsForward old → All IsForward new

@@ -1,4 +1,5 @@
--- Lemmas that make clauses of rows of names, properties, operators, calls and simple statements those of the table of steps.
+-- Lemmas that make clauses of rows of names, properties, operators, calls and simple statements those of the table of
+-- steps.
 use Rattle.std.proofs.Common.{◌≡◌, ℕ, true, refl, sym, subst, ap, ◌∙◌, List, [], ◌∷◌, Option, Some, None, slice_get, drop}
 use Rattle.js_heap.specs.declared.value.Addr.{Addr}
 use Rattle.js_heap.specs.declared.value.Value.{Value}
@@ -602,7 +603,8 @@ pub continue-row : (ts : List (List ℕ)) (t : NodeTable) (form : Redex) (vs : L
     → IsRow ts t form vs None v c reduced.Continues v c
 unfolding form_of
 continue-row ts t form vs v c h =
-    λ outer before. task-row ts t form vs None ops.Continue forms.Continue outer v v c c before reduced.Continues h refl refl
+    λ outer before. task-row ts t form vs None ops.Continue forms.Continue outer v v c c before reduced.Continues h refl
+    refl
     (continues_does ts t (redex form vs None) (state_of v c before))
 
 pub frame-row : (ts : List (List ℕ)) (t : NodeTable) (form : Redex) (vs : List Value) (v : World) (c d : Context)

@@ -523,7 +523,8 @@ case_026 : ended_as
 unfolding digits
 case_026 = refl
 
--- console.log(typeof undefined, typeof null, typeof true, typeof 1, typeof 'a', typeof {}, typeof [], typeof console.log, typeof nothing);
+-- console.log(typeof undefined, typeof null, typeof true, typeof 1, typeof 'a', typeof {}, typeof [], typeof
+-- console.log, typeof nothing);
 case_027 : ended_as
     ((t.a_statement
     (t.expression
@@ -599,7 +600,8 @@ case_030 : ended_as
 unfolding digits
 case_030 = refl
 
--- let a = 1; console.log(a++, a, ++a, a--, --a); a += 5; a -= 1; a *= 3; console.log(a); a %= 4; a <<= 3; console.log(a); a >>= 1; a >>>= 1; a |= 5; a &= 6; a ^= 1; console.log(a); a /= 1; console.log(a);
+-- let a = 1; console.log(a++, a, ++a, a--, --a); a += 5; a -= 1; a *= 3; console.log(a); a %= 4; a <<= 3;
+-- console.log(a); a >>= 1; a >>>= 1; a |= 5; a &= 6; a ^= 1; console.log(a); a /= 1; console.log(a);
 case_031 : ended_as
     ((t.a_statement
     (t.lexical false (t.a_declarator (t.declarator (codes "a") (t.present (t.number 1))) t.no_declarators))
@@ -702,7 +704,8 @@ case_032 : ended_as
 unfolding digits
 case_032 = refl
 
--- let o = {}; o.x = 1; o['y'] = 2; o[10] = 3; o[9] = 4; delete o.x; o.x = 5; console.log(Object.keys(o).join('-'), o.x, o.z, delete o.nothing);
+-- let o = {}; o.x = 1; o['y'] = 2; o[10] = 3; o[9] = 4; delete o.x; o.x = 5; console.log(Object.keys(o).join('-'), o.x,
+-- o.z, delete o.nothing);
 case_033 : ended_as
     ((t.a_statement
     (t.lexical false
@@ -744,7 +747,8 @@ case_033 : ended_as
 unfolding digits
 case_033 = refl
 
--- let k = 'q'; let o = {a: 1, [k]: 2, [1 + 2]: 3, m(x) { return this.a + x; }, ['n' + k]() { return this.q; }, k}; console.log(o.q, o[3], o.m(5), o.nq(), o.k, o.nq.name, o.m.name);
+-- let k = 'q'; let o = {a: 1, [k]: 2, [1 + 2]: 3, m(x) { return this.a + x; }, ['n' + k]() { return this.q; }, k};
+-- console.log(o.q, o[3], o.m(5), o.nq(), o.k, o.nq.name, o.m.name);
 case_034 : ended_as
     ((t.a_statement
     (t.lexical false
@@ -802,7 +806,8 @@ case_034 : ended_as
 unfolding digits
 case_034 = refl
 
--- let o = {f() { return (() => this === o)(); }, g: function() { return this === o; }, h: () => this === o}; console.log(o.f(), o.g(), (o.g)(), o.h());
+-- let o = {f() { return (() => this === o)(); }, g: function() { return this === o; }, h: () => this === o};
+-- console.log(o.f(), o.g(), (o.g)(), o.h());
 case_035 : ended_as
     ((t.a_statement
     (t.lexical false
@@ -851,7 +856,8 @@ case_035 : ended_as
 unfolding digits
 case_035 = refl
 
--- console.log((function() { return this; })(), (function g() { return g.name; })(), (() => 1).name, (function(a, b) {}).length);
+-- console.log((function() { return this; })(), (function g() { return g.name; })(), (() => 1).name, (function(a, b)
+-- {}).length);
 case_036 : ended_as
     ((t.a_statement
     (t.expression
@@ -880,7 +886,8 @@ case_036 : ended_as
 unfolding digits
 case_036 = refl
 
--- let f = function() {}; const g = () => 1; let h = (function() {}); let o = {p: () => 1, 'q r': function() {}, 3: () => 1}; console.log(f.name, g.name, h.name, o.p.name, o['q r'].name, o[3].name);
+-- let f = function() {}; const g = () => 1; let h = (function() {}); let o = {p: () => 1, 'q r': function() {}, 3: ()
+-- => 1}; console.log(f.name, g.name, h.name, o.p.name, o['q r'].name, o[3].name);
 case_037 : ended_as
     ((t.a_statement
     (t.lexical false
@@ -999,7 +1006,8 @@ case_040 : ended_as
 unfolding digits
 case_040 = refl
 
--- function make() { let n = 0; return () => { n = n + 1; return n; }; } let a = make(), b = make(); console.log(a(), a(), b());
+-- function make() { let n = 0; return () => { n = n + 1; return n; }; } let a = make(), b = make(); console.log(a(),
+-- a(), b());
 case_041 : ended_as
     ((t.a_statement
     (t.declared_function (codes "make") []
@@ -1035,7 +1043,8 @@ case_041 : ended_as
 unfolding digits
 case_041 = refl
 
--- let a = [1, 2]; console.log(a.length, a.push(3, 4), a.length, a.pop(), a.length, [].pop(), a[2], a[7], a.foo); a[3] = 9; a.length = 2; console.log(a.join());
+-- let a = [1, 2]; console.log(a.length, a.push(3, 4), a.length, a.pop(), a.length, [].pop(), a[2], a[7], a.foo); a[3] =
+-- 9; a.length = 2; console.log(a.join());
 case_042 : ended_as
     ((t.a_statement
     (t.lexical false
@@ -1079,7 +1088,8 @@ case_042 : ended_as
 unfolding digits
 case_042 = refl
 
--- console.log([1, 'a', null].indexOf('a'), [1].indexOf(2), [[1]].indexOf([1]), 'banana'.indexOf('an'), 'abc'.indexOf('x'), 'abc'.indexOf(''));
+-- console.log([1, 'a', null].indexOf('a'), [1].indexOf(2), [[1]].indexOf([1]), 'banana'.indexOf('an'),
+-- 'abc'.indexOf('x'), 'abc'.indexOf(''));
 case_043 : ended_as
     ((t.a_statement
     (t.expression
@@ -1142,7 +1152,8 @@ case_044 : ended_as
 unfolding digits
 case_044 = refl
 
--- let a = [0, 1, 2, 3, 4]; console.log(a.slice(1, 3).join(), a.slice(-2).join(), a.slice().join(), a.slice(2, -1).join(), a.slice(9).join(), 'hello'.slice(1, 3), 'hello'.slice(-3, -1), 'hello'.slice(3, 1) + '|');
+-- let a = [0, 1, 2, 3, 4]; console.log(a.slice(1, 3).join(), a.slice(-2).join(), a.slice().join(), a.slice(2,
+-- -1).join(), a.slice(9).join(), 'hello'.slice(1, 3), 'hello'.slice(-3, -1), 'hello'.slice(3, 1) + '|');
 case_045 : ended_as
     ((t.a_statement
     (t.lexical false
@@ -1232,7 +1243,8 @@ case_046 : ended_as
 unfolding digits
 case_046 = refl
 
--- console.log(Array.isArray([]), Array.isArray({}), Array.isArray('a'), String(12), String(null), String(true), String('s'), String(undefined));
+-- console.log(Array.isArray([]), Array.isArray({}), Array.isArray('a'), String(12), String(null), String(true),
+-- String('s'), String(undefined));
 case_047 : ended_as
     ((t.a_statement
     (t.expression
@@ -1300,7 +1312,8 @@ case_048 : ended_as
 unfolding digits
 case_048 = refl
 
--- let e = Error('m'); console.log(e.message, e.name, typeof e, Error().message + '|', TypeError('t').name, RangeError('r').message, ReferenceError('x').name); e.name = 'N'; console.log(e.name);
+-- let e = Error('m'); console.log(e.message, e.name, typeof e, Error().message + '|', TypeError('t').name,
+-- RangeError('r').message, ReferenceError('x').name); e.name = 'N'; console.log(e.name);
 case_049 : ended_as
     ((t.a_statement
     (t.lexical false
@@ -1550,7 +1563,8 @@ case_058 : ended_as
 unfolding digits
 case_058 = refl
 
--- let log = []; function t(n) { log.push(n); return n; } t(1) + t(2) * t(3); [t(4), t(5)]; ({a: t(6), [t(7)]: t(8)}); console.log(log.join());
+-- let log = []; function t(n) { log.push(n); return n; } t(1) + t(2) * t(3); [t(4), t(5)]; ({a: t(6), [t(7)]: t(8)});
+-- console.log(log.join());
 case_059 : ended_as
     ((t.a_statement
     (t.lexical false
@@ -2821,7 +2835,8 @@ case_146 : ended_as
 unfolding digits
 case_146 = refl
 
--- function f() { for (const x of [1, 2, 3]) { try { if (x === 2) return x; continue; } finally { console.log('f' + x); } } } console.log(f());
+-- function f() { for (const x of [1, 2, 3]) { try { if (x === 2) return x; continue; } finally { console.log('f' + x);
+-- } } } console.log(f());
 case_147 : ended_as
     ((t.a_statement
     (t.declared_function (codes "f") []
@@ -2929,7 +2944,8 @@ case_150 : ended_as
 unfolding digits
 case_150 = refl
 
--- let t = ''; for (let i = 0; i < 3; i++) { for (let j = 0; j < 3; j++) { if (j === 1) continue; if (i === 1) break; t += i + '' + j + ' '; } } console.log(t);
+-- let t = ''; for (let i = 0; i < 3; i++) { for (let j = 0; j < 3; j++) { if (j === 1) continue; if (i === 1) break; t
+-- += i + '' + j + ' '; } } console.log(t);
 case_151 : ended_as
     ((t.a_statement
     (t.lexical false
@@ -3073,7 +3089,8 @@ case_154 : ended_as
 unfolding digits
 case_154 = refl
 
--- console.log('\ud83d\ude00'.length, '\ud83d\ude00'[0] === '\ud83d', '\ud83d' < '\uffff', '' < 'a', 'a' < 'B', 'ab' > 'a');
+-- console.log('\ud83d\ude00'.length, '\ud83d\ude00'[0] === '\ud83d', '\ud83d' < '\uffff', '' < 'a', 'a' < 'B', 'ab' >
+-- 'a');
 case_155 : ended_as
     ((t.a_statement
     (t.expression
@@ -3287,7 +3304,8 @@ case_162 : ended_as
 unfolding digits
 case_162 = refl
 
--- console.log(7 & -2, -5 | 1, 6 ^ -1, 1 << 30, 1 << -1, -1 >> 31, -1 >>> 31, 5 >>> 32, 2147483647 + 1 | 0, -2147483648 >> 0);
+-- console.log(7 & -2, -5 | 1, 6 ^ -1, 1 << 30, 1 << -1, -1 >> 31, -1 >>> 31, 5 >>> 32, 2147483647 + 1 | 0, -2147483648
+-- >> 0);
 case_163 : ended_as
     ((t.a_statement
     (t.expression
@@ -3431,7 +3449,8 @@ case_167 : ended_as
 unfolding digits
 case_167 = refl
 
--- let o = {b: 1, a: 2}; o[1] = 3; o['0'] = 4; o['01'] = 5; o[4294967295] = 6; o[4294967294] = 7; o[-1] = 8; console.log(Object.keys(o).join(' '));
+-- let o = {b: 1, a: 2}; o[1] = 3; o['0'] = 4; o['01'] = 5; o[4294967295] = 6; o[4294967294] = 7; o[-1] = 8;
+-- console.log(Object.keys(o).join(' '));
 case_168 : ended_as
     ((t.a_statement
     (t.lexical false
@@ -3545,7 +3564,8 @@ case_170 : ended_as
 unfolding digits
 case_170 = refl
 
--- let k = 0; let o = {[k++]: k, [k++]: k, ['x' + k]() { return k; }, y: k++}; console.log(Object.keys(o).join(), o[0], o[1], o.x2(), o.y);
+-- let k = 0; let o = {[k++]: k, [k++]: k, ['x' + k]() { return k; }, y: k++}; console.log(Object.keys(o).join(), o[0],
+-- o[1], o.x2(), o.y);
 case_171 : ended_as
     ((t.a_statement
     (t.lexical false (t.a_declarator (t.declarator (codes "k") (t.present (t.number 0))) t.no_declarators))
@@ -3623,7 +3643,8 @@ case_172 : ended_as
 unfolding digits
 case_172 = refl
 
--- let e = RangeError('r'); e.message = ''; console.log(e, e.message === ''); delete e.message; console.log(e.message === '', Object.keys(e).length); e.message = 'n'; console.log(e, Object.keys(e).join());
+-- let e = RangeError('r'); e.message = ''; console.log(e, e.message === ''); delete e.message; console.log(e.message
+-- === '', Object.keys(e).length); e.message = 'n'; console.log(e, Object.keys(e).join());
 case_173 : ended_as
     ((t.a_statement
     (t.lexical false
@@ -3704,7 +3725,8 @@ case_174 : ended_as
 unfolding digits
 case_174 = refl
 
--- console.log('abcabc'.indexOf('ca'), 'aaa'.indexOf('aa'), ''.indexOf('a'), 'abc'.slice(), 'abc'.slice(1), 'abc'.slice(-9, 9), 'abc'.slice(2, 1) === '', 'abc'.slice(undefined, -1));
+-- console.log('abcabc'.indexOf('ca'), 'aaa'.indexOf('aa'), ''.indexOf('a'), 'abc'.slice(), 'abc'.slice(1),
+-- 'abc'.slice(-9, 9), 'abc'.slice(2, 1) === '', 'abc'.slice(undefined, -1));
 case_175 : ended_as
     ((t.a_statement
     (t.expression
@@ -3745,7 +3767,8 @@ case_175 : ended_as
 unfolding digits
 case_175 = refl
 
--- console.log([1, 2, 3].slice(-2, -1)[0], [1].slice(5).length, [1, 2].slice(0, undefined).length, [1, [2]].indexOf(1), [null].indexOf(undefined), [undefined].indexOf());
+-- console.log([1, 2, 3].slice(-2, -1)[0], [1].slice(5).length, [1, 2].slice(0, undefined).length, [1, [2]].indexOf(1),
+-- [null].indexOf(undefined), [undefined].indexOf());
 case_176 : ended_as
     ((t.a_statement
     (t.expression
@@ -3838,7 +3861,8 @@ case_177 : ended_as
 unfolding digits
 case_177 = refl
 
--- let a = [5]; console.log(a[0]++, a[0], ++a[0], a[0]--, a[0]); let o = {n: 1}; console.log(-o.n, +o.n, ~o.n, !o.n, typeof o.n, void o.n);
+-- let a = [5]; console.log(a[0]++, a[0], ++a[0], a[0]--, a[0]); let o = {n: 1}; console.log(-o.n, +o.n, ~o.n, !o.n,
+-- typeof o.n, void o.n);
 case_178 : ended_as
     ((t.a_statement
     (t.lexical false
@@ -3916,7 +3940,8 @@ case_179 : ended_as
 unfolding digits
 case_179 = refl
 
--- let o = {f(a, b) { return [a, b, this === o]; }}; let r = o.f(1); console.log(r.length, r[0], r[1], r[2]); let g = o.f; console.log(g(1, 2)[2]);
+-- let o = {f(a, b) { return [a, b, this === o]; }}; let r = o.f(1); console.log(r.length, r[0], r[1], r[2]); let g =
+-- o.f; console.log(g(1, 2)[2]);
 case_180 : ended_as
     ((t.a_statement
     (t.lexical false
@@ -4034,7 +4059,8 @@ case_182 : ended_as
 unfolding digits
 case_182 = refl
 
--- let log = []; function v(n) { log.push(n); return n; } let o = {}; o[v('k')] = v('v'); o[v('k')] += v('w'); log.push(o.k); v(0) && v(1); v(2) || v(3); v(0) ? v(4) : v(5); console.log(log.join());
+-- let log = []; function v(n) { log.push(n); return n; } let o = {}; o[v('k')] = v('v'); o[v('k')] += v('w');
+-- log.push(o.k); v(0) && v(1); v(2) || v(3); v(0) ? v(4) : v(5); console.log(log.join());
 case_183 : ended_as
     ((t.a_statement
     (t.lexical false
@@ -4240,7 +4266,8 @@ case_188 : ended_as
 unfolding digits
 case_188 = refl
 
--- let f = function() { return 1; }; f = (() => 2); console.log(f.name === '', f()); let o = {}; o.g = () => 1; console.log(o.g.name === '');
+-- let f = function() { return 1; }; f = (() => 2); console.log(f.name === '', f()); let o = {}; o.g = () => 1;
+-- console.log(o.g.name === '');
 case_189 : ended_as
     ((t.a_statement
     (t.lexical false
@@ -4314,7 +4341,8 @@ case_190 : ended_as
 unfolding digits
 case_190 = refl
 
--- try { null.x; } catch (e) { console.log(e); } try { undefined['y'](); } catch (e) { console.log(e); } try { (void 0).z = 1; } catch (e) { console.log(e); }
+-- try { null.x; } catch (e) { console.log(e); } try { undefined['y'](); } catch (e) { console.log(e); } try { (void
+-- 0).z = 1; } catch (e) { console.log(e); }
 case_191 : ended_as
     ((t.a_statement
     (t.try (t.a_statement (t.expression (t.member t.null (codes "x"))) t.no_statements)
@@ -4360,7 +4388,8 @@ case_191 : ended_as
 unfolding digits
 case_191 = refl
 
--- try { q; } catch (e) { console.log(e); } try { q = 1; } catch (e) { console.log(e); } try { q++; } catch (e) { console.log(e); } console.log(typeof q);
+-- try { q; } catch (e) { console.log(e); } try { q = 1; } catch (e) { console.log(e); } try { q++; } catch (e) {
+-- console.log(e); } console.log(typeof q);
 case_192 : ended_as
     ((t.a_statement
     (t.try (t.a_statement (t.expression (t.name (codes "q"))) t.no_statements)

@@ -1,7 +1,7 @@
--- The terms of trees without places: a node's number is given by the path to it, so that functions differ. They serve to
--- compute runs of scripts that are written as trees. Programs run by the terms of the parser's trees (Sources), which
--- differ from these in the numbers alone; that a run's steps, output and end don't depend on them, as long as functions
--- differ, is not proved.
+-- The terms of trees without places: a node's number is given by the path to it, so that functions differ. They serve
+-- to compute runs of scripts that are written as trees. Programs run by the terms of the parser's trees (Sources),
+-- which differ from these in the numbers alone; that a run's steps, output and end don't depend on them, as long as
+-- functions differ, is not proved.
 use Rattle.std.specs.Prelude.{ℕ, ◌+◌, ◌*◌, true, false, List, [], ◌∷◌, Option, Some, None, decimal}
 use Rattle.js_tree.specs.Trees as trees
 use Rattle.js_tree.specs.Trees.{Expression, Expressions, OptionalExpression, Key, Property, Properties, Statement, Statements, Handler, Finalizer}
@@ -9,7 +9,8 @@ use Rattle.js_heap.specs.declared.value.Value.TheVariants as values
 use Rattle.js_semantics.specs.Terms.{Term, Terms, end, more}
 use Rattle.js_semantics.specs.Makers.{parameter_names, Made, Item, Items, PropertyKey, fixed_key, computed_key, PropertyMade, value_property, method_property, DeclaratorMade, CatchMade, value_made, number_made, string_made, this_made, name_made, array_made, parenthesized_made, member_made, index_made, assign_made, update_made, unary_made, binary_made, conditional_made, comma_made, call_made, function_made, returned_body, arrow_made, object_made, no_items, and_items, block_item, empty_item, expression_item, lexical_item, if_item, while_item, do_while_item, for_item, for_lexical_item, for_of_item, continue_item, break_item, return_item, throw_item, try_item, debugger_item, function_item, script_term}
 
--- the numbers of a node's parts: the node's own times five and one to four more, so that nodes on different paths differ
+-- the numbers of a node's parts: the node's own times five and one to four more, so that nodes on different paths
+-- differ
 abbrev pub part_number : ℕ → ℕ → ℕ
 part_number n i = n * 5 + i
 

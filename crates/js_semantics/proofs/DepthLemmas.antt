@@ -572,7 +572,8 @@ row-framed b p s scope (block names) vs later l g k =
     quiet-framed b (block_row scope names later) (block-quiet scope names later k)
 row-framed b p s scope (initialize name) vs later l g k = (refl, (tt, omega arith))
 row-framed b p s scope choose vs later l g k =
-    quiet-framed b (go (chosen (is_truthy s.world (only vs)) later)) (chosen-quiet (is_truthy s.world (only vs)) later k)
+    quiet-framed b (go (chosen (is_truthy s.world (only vs)) later))
+    (chosen-quiet (is_truthy s.world (only vs)) later k)
 row-framed b p s scope both vs later l g k =
     quiet-framed b (go (kept_or (is_truthy s.world (only vs)) (only vs) later))
     (kept-quiet (is_truthy s.world (only vs)) (only vs) later k)

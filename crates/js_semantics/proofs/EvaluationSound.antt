@@ -389,7 +389,13 @@ pub evaluate_call-sound : (p : Program) (w : World) (x : ScratchSpace) (source :
 evaluate_call-sound p w x source order e receiver args f h a =
     let c : World = copied_world w x in
     let q : Program = with_source p x e in
-    let outside : IsReady p c script_scope values.Undefined = record { world = h.world; built_ins = h.built_ins; program = h.program; scope_lives = h.scope_lives; receiver_lives = tt } in
+    let outside : IsReady p c script_scope values.Undefined = record {
+      world = h.world;
+      built_ins = h.built_ins;
+      program = h.program;
+      scope_lives = h.scope_lives;
+      receiver_lives = tt;
+    } in
     answered-sound c q (with_arguments receiver args (prepared w x source order e))
     (evaluated q script_scope values.Undefined) (IsTree x e)
     (called-good w x source order e receiver args f h.world h.receiver_lives a)

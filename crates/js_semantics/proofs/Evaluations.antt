@@ -293,7 +293,8 @@ body_before_test : with_one_cell
 unfolding digits
 body_before_test = refl
 
--- (function () { function f() { return 'b'; } return 'long'; }): 'b' comes first, though the term keeps the function behind
+-- (function () { function f() { return 'b'; } return 'long'; }): 'b' comes first, though the term keeps the function
+-- behind
 declared_before_statements : with_one_cell
     (t.parenthesized
     (t.function None []

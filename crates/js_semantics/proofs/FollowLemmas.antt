@@ -28,7 +28,10 @@ follows-same s = record { output = prefix-same s.printed; cells = keeps-same s.w
 
 pub follows-trans : (r s t : State) → Follows r s → Follows s t → Follows r t
 follows-trans r s t h k =
-    record { output = prefix-trans r.printed s.printed t.printed h.output k.output; cells = keeps-trans r.world s.world t.world h.cells k.cells }
+    record {
+      output = prefix-trans r.printed s.printed t.printed h.output k.output;
+      cells = keeps-trans r.world s.world t.world h.cells k.cells;
+    }
 
 move-trans : {T : Type 0} (r s : State) (m : Move T) → Follows r s → MoveFollows s m → MoveFollows r m
 move-trans r s (goes x t told) h k = follows-trans r s t h k

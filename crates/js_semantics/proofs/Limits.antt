@@ -24,7 +24,8 @@ with_room r ts =
 abbrev below : ℕ → Terms → Outcome
 below n ts = let s : State = first_state ts [] in from_state ts (record s { frames = replicate n bottom_frame })
 
--- try { ({}); } catch (e) { console.log(e); } where no cell is left: neither the object nor the catch's scope can be made
+-- try { ({}); } catch (e) { console.log(e); } where no cell is left: neither the object nor the catch's scope can be
+-- made
 object_is_refused : with_room (record { cells = 0; units = 1000 })
     (one (clean_script 1
     (t.a_statement
@@ -40,7 +41,8 @@ object_is_refused : with_room (record { cells = 0; units = 1000 })
     ≡ outcome (threw_text (codes "RangeError: Program heap is full")) []
 object_is_refused = refl
 
--- try { try { throw 1; } catch (e) { console.log('no'); } finally { console.log('f'); } } catch { console.log('outer'); } where the catch's scope can't be made: its finally runs
+-- try { try { throw 1; } catch (e) { console.log('no'); } finally { console.log('f'); } } catch { console.log('outer');
+-- } where the catch's scope can't be made: its finally runs
 catch_is_refused : with_room (record { cells = 0; units = 1000 })
     (one (clean_script 1
     (t.a_statement
@@ -70,7 +72,8 @@ catch_is_refused : with_room (record { cells = 0; units = 1000 })
     ≡ outcome ended_normally ((codes "f") ∷ (codes "outer") ∷ [])
 catch_is_refused = refl
 
--- let a = []; a.push(1); a.pop(); a.push(2); a.push(3); with room for the name, the array and two elements: what is popped is given back
+-- let a = []; a.push(1); a.pop(); a.push(2); a.push(3); with room for the name, the array and two elements: what is
+-- popped is given back
 popped_is_given_back : with_room (record { cells = 1; units = 24 })
     (one (clean_script 1
     (t.a_statement
@@ -143,7 +146,8 @@ frames_are_refused : below 1000
     ≡ outcome (threw_text (codes "RangeError: Maximum call stack size exceeded")) []
 frames_are_refused = refl
 
--- try { 'ab'[0]++; } catch (e) { console.log(e); } with room for the error's text, the error and the catch's scope: the unit that is read makes no cell
+-- try { 'ab'[0]++; } catch (e) { console.log(e); } with room for the error's text, the error and the catch's scope: the
+-- unit that is read makes no cell
 a_read_unit_makes_no_cell : with_room (record { cells = 3; units = 1000 })
     (one (clean_script 1
     (t.a_statement

@@ -1,4 +1,5 @@
--- Whether the cells of some string literals can be made depends on their number and their units alone, not on their order.
+-- Whether the cells of some string literals can be made depends on their number and their units alone, not on their
+-- order.
 use Rattle.std.proofs.Common.{◌≡◌, ◌⊎◌, inl, inr, ℕ, ◌+◌, ◌-◌, ◌<◌, ◌≤◌, Bool, true, false, List, [], ◌∷◌, length, sum_by, refl, sym, ap, subst, ◌∙◌, arith}
 use Rattle.std.specs.Prelude.{nat_lt, nat_le, if◌then◌else◌}
 use Rattle.js_heap.specs.declared.value.Addr.{Addr}

@@ -37,7 +37,8 @@ returning = items_of (
 
 abbrev returning_spans : List Span
 returning_spans =
-    span 0 28 ∷ span 17 26 ∷ span 24 25 ∷ span 29 33 ∷ span 29 32 ∷ span 29 30 ∷ span 30 32 ∷ span 34 49 ∷ span 34 48 ∷ span 34 45 ∷ span 34 41 ∷ span 45 48 ∷ span 46 47 ∷ []
+    span 0 28 ∷ span 17 26 ∷ span 24 25 ∷ span 29 33 ∷ span 29 32 ∷ span 29 30 ∷ span 30 32 ∷ span 34 49 ∷ span 34 48 ∷
+    span 34 45 ∷ span 34 41 ∷ span 45 48 ∷ span 46 47 ∷ []
 
 -- the statements, and the call of log, whose place isn't the start of its statement; the call of f is at its start
 arrivals : offsets_from 11 0 returning_spans (one (script_term 1 returning))

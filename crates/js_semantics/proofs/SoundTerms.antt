@@ -283,7 +283,13 @@ perform-sound p (take_line k) s h a =
     (a (first_line s.input)))
 perform-sound p (set_here m k) s h a =
     perform-sound p k (with_here s m)
-    (record { world = h.world; built_ins = h.built_ins; program = h.program; frames = frames-moved s.world s.frames m h.frames; outer = h.outer })
+    (record {
+      world = h.world;
+      built_ins = h.built_ins;
+      program = h.program;
+      frames = frames-moved s.world s.frames m h.frames;
+      outer = h.outer;
+    })
     a
 perform-sound p (push_frame f k) s h a =
     perform-sound p k (record s { frames = f ∷ s.frames })
@@ -300,5 +306,11 @@ perform-sound p (push_frame f k) s h a =
     a.1
 perform-sound p (pop_frame k) s h a =
     perform-sound p k (record s { frames = rest_of s.frames })
-    (record { world = h.world; built_ins = h.built_ins; program = h.program; frames = frames-rest s.world s.frames h.frames; outer = h.outer })
+    (record {
+      world = h.world;
+      built_ins = h.built_ins;
+      program = h.program;
+      frames = frames-rest s.world s.frames h.frames;
+      outer = h.outer;
+    })
     a

@@ -34,18 +34,24 @@ use Rattle.js_semantics.proofs.TreeFolds.{Former, Mapper, Claims, Known, known_t
 -- the parts' clean trees in its places
 abbrev pub CleanLayer : Former → Type 0
 CleanLayer F =
-    F Expression Property Key Statement Statements Handler trees.Declarator trees.Declarators Expressions Properties Statements
+    F Expression Property Key Statement Statements Handler trees.Declarator trees.Declarators Expressions Properties
+    Statements
 
 -- what is made of the parts, and the parts' clean trees
 abbrev pub made_parts : (F : Former) → Mapper F → Level F → Layer F
 made_parts F change =
-    change Expr PropertyDefinition PropertyName Stmt Block Catch Declarator Declarators Exprs PropertyDefinitions Stmts Made PropertyMade PropertyKey Item Items CatchMade DeclaratorMade
+    change Expr PropertyDefinition PropertyName Stmt Block Catch Declarator Declarators Exprs PropertyDefinitions Stmts
+    Made PropertyMade PropertyKey Item Items CatchMade DeclaratorMade
     (List DeclaratorMade) (List Made) (List PropertyMade)
-    Items expression_source property_source key_source statement_source block_source catch_source declarator_source declarators_source expressions_source properties_source statements_source
+    Items expression_source property_source key_source statement_source block_source catch_source declarator_source
+    declarators_source expressions_source properties_source statements_source
 
 abbrev pub clean_parts : (F : Former) → Mapper F → Level F → CleanLayer F
 clean_parts F change =
-    change Expr PropertyDefinition PropertyName Stmt Block Catch Declarator Declarators Exprs PropertyDefinitions Stmts Expression Property Key Statement Statements Handler trees.Declarator trees.Declarators Expressions Properties Statements expression_view property_view key_view statement_view block_view catch_view declarator_view declarators_view expressions_view properties_view statements_view
+    change Expr PropertyDefinition PropertyName Stmt Block Catch Declarator Declarators Exprs PropertyDefinitions Stmts
+    Expression Property Key Statement Statements Handler trees.Declarator trees.Declarators Expressions Properties
+    Statements expression_view property_view key_view statement_view block_view catch_view declarator_view
+    declarators_view expressions_view properties_view statements_view
 
 -- what is made of a tree is made of what is made of its parts
 pub expression_turn : (x : Level Expr-F)
@@ -55,7 +61,8 @@ unfolding expression_source property_source key_source statement_source block_so
 expression_turn x =
     fold-roll-Expr Made PropertyMade PropertyKey Item Items CatchMade DeclaratorMade (List DeclaratorMade) (List Made)
     (List PropertyMade)
-    Items expression_layer property_layer key_layer statement_layer block_layer catch_layer declarator_layer declarators_layer expressions_layer properties_layer statements_layer x
+    Items expression_layer property_layer key_layer statement_layer block_layer catch_layer declarator_layer
+    declarators_layer expressions_layer properties_layer statements_layer x
 
 pub property_turn : (x : Level PropertyDefinition-F)
     → property_source (views.roll-PropertyDefinition x) ≡ property_layer
@@ -65,7 +72,8 @@ unfolding expression_source property_source key_source statement_source block_so
 property_turn x =
     fold-roll-PropertyDefinition Made PropertyMade PropertyKey Item Items CatchMade DeclaratorMade (List DeclaratorMade)
     (List Made) (List PropertyMade)
-    Items expression_layer property_layer key_layer statement_layer block_layer catch_layer declarator_layer declarators_layer expressions_layer properties_layer statements_layer x
+    Items expression_layer property_layer key_layer statement_layer block_layer catch_layer declarator_layer
+    declarators_layer expressions_layer properties_layer statements_layer x
 
 pub key_turn : (x : Level PropertyName-F)
     → key_source (views.roll-PropertyName x) ≡ key_layer (made_parts PropertyName-F map-PropertyName x)
@@ -74,7 +82,8 @@ unfolding expression_source property_source key_source statement_source block_so
 key_turn x =
     fold-roll-PropertyName Made PropertyMade PropertyKey Item Items CatchMade DeclaratorMade (List DeclaratorMade)
     (List Made) (List PropertyMade)
-    Items expression_layer property_layer key_layer statement_layer block_layer catch_layer declarator_layer declarators_layer expressions_layer properties_layer statements_layer x
+    Items expression_layer property_layer key_layer statement_layer block_layer catch_layer declarator_layer
+    declarators_layer expressions_layer properties_layer statements_layer x
 
 pub statement_turn : (x : Level Stmt-F)
     → statement_source (views.roll-Stmt x) ≡ statement_layer (made_parts Stmt-F map-Stmt x)
@@ -83,7 +92,8 @@ unfolding expression_source property_source key_source statement_source block_so
 statement_turn x =
     fold-roll-Stmt Made PropertyMade PropertyKey Item Items CatchMade DeclaratorMade (List DeclaratorMade) (List Made)
     (List PropertyMade)
-    Items expression_layer property_layer key_layer statement_layer block_layer catch_layer declarator_layer declarators_layer expressions_layer properties_layer statements_layer x
+    Items expression_layer property_layer key_layer statement_layer block_layer catch_layer declarator_layer
+    declarators_layer expressions_layer properties_layer statements_layer x
 
 pub block_turn : (x : Level layers.Block-F)
     → block_source (views.roll-Block x) ≡ block_layer (made_parts layers.Block-F map-Block x)
@@ -92,7 +102,8 @@ unfolding expression_source property_source key_source statement_source block_so
 block_turn x =
     fold-roll-Block Made PropertyMade PropertyKey Item Items CatchMade DeclaratorMade (List DeclaratorMade) (List Made)
     (List PropertyMade)
-    Items expression_layer property_layer key_layer statement_layer block_layer catch_layer declarator_layer declarators_layer expressions_layer properties_layer statements_layer x
+    Items expression_layer property_layer key_layer statement_layer block_layer catch_layer declarator_layer
+    declarators_layer expressions_layer properties_layer statements_layer x
 
 pub catch_turn : (x : Level layers.Catch-F)
     → catch_source (views.roll-Catch x) ≡ catch_layer (made_parts layers.Catch-F map-Catch x)
@@ -101,7 +112,8 @@ unfolding expression_source property_source key_source statement_source block_so
 catch_turn x =
     fold-roll-Catch Made PropertyMade PropertyKey Item Items CatchMade DeclaratorMade (List DeclaratorMade) (List Made)
     (List PropertyMade)
-    Items expression_layer property_layer key_layer statement_layer block_layer catch_layer declarator_layer declarators_layer expressions_layer properties_layer statements_layer x
+    Items expression_layer property_layer key_layer statement_layer block_layer catch_layer declarator_layer
+    declarators_layer expressions_layer properties_layer statements_layer x
 
 pub declarator_turn : (x : Level layers.Declarator-F)
     → declarator_source (views.roll-Declarator x) ≡ declarator_layer (made_parts layers.Declarator-F map-Declarator x)
@@ -110,7 +122,8 @@ unfolding expression_source property_source key_source statement_source block_so
 declarator_turn x =
     fold-roll-Declarator Made PropertyMade PropertyKey Item Items CatchMade DeclaratorMade (List DeclaratorMade)
     (List Made) (List PropertyMade)
-    Items expression_layer property_layer key_layer statement_layer block_layer catch_layer declarator_layer declarators_layer expressions_layer properties_layer statements_layer x
+    Items expression_layer property_layer key_layer statement_layer block_layer catch_layer declarator_layer
+    declarators_layer expressions_layer properties_layer statements_layer x
 
 pub declarators_turn : (x : Level layers.Declarators-F)
     → declarators_source (views.roll-Declarators x) ≡ declarators_layer
@@ -120,7 +133,8 @@ unfolding expression_source property_source key_source statement_source block_so
 declarators_turn x =
     fold-roll-Declarators Made PropertyMade PropertyKey Item Items CatchMade DeclaratorMade (List DeclaratorMade)
     (List Made) (List PropertyMade)
-    Items expression_layer property_layer key_layer statement_layer block_layer catch_layer declarator_layer declarators_layer expressions_layer properties_layer statements_layer x
+    Items expression_layer property_layer key_layer statement_layer block_layer catch_layer declarator_layer
+    declarators_layer expressions_layer properties_layer statements_layer x
 
 pub expressions_turn : (x : Level layers.Exprs-F)
     → expressions_source (views.roll-Exprs x) ≡ expressions_layer (made_parts layers.Exprs-F map-Exprs x)
@@ -129,7 +143,8 @@ unfolding expression_source property_source key_source statement_source block_so
 expressions_turn x =
     fold-roll-Exprs Made PropertyMade PropertyKey Item Items CatchMade DeclaratorMade (List DeclaratorMade) (List Made)
     (List PropertyMade)
-    Items expression_layer property_layer key_layer statement_layer block_layer catch_layer declarator_layer declarators_layer expressions_layer properties_layer statements_layer x
+    Items expression_layer property_layer key_layer statement_layer block_layer catch_layer declarator_layer
+    declarators_layer expressions_layer properties_layer statements_layer x
 
 pub properties_turn : (x : Level layers.PropertyDefinitions-F)
     → properties_source (views.roll-PropertyDefinitions x) ≡ properties_layer
@@ -139,7 +154,8 @@ unfolding expression_source property_source key_source statement_source block_so
 properties_turn x =
     fold-roll-PropertyDefinitions Made PropertyMade PropertyKey Item Items CatchMade DeclaratorMade
     (List DeclaratorMade) (List Made) (List PropertyMade)
-    Items expression_layer property_layer key_layer statement_layer block_layer catch_layer declarator_layer declarators_layer expressions_layer properties_layer statements_layer x
+    Items expression_layer property_layer key_layer statement_layer block_layer catch_layer declarator_layer
+    declarators_layer expressions_layer properties_layer statements_layer x
 
 pub statements_turn : (x : Level layers.Stmts-F)
     → statements_source (views.roll-Stmts x) ≡ statements_layer (made_parts layers.Stmts-F map-Stmts x)
@@ -148,7 +164,8 @@ unfolding expression_source property_source key_source statement_source block_so
 statements_turn x =
     fold-roll-Stmts Made PropertyMade PropertyKey Item Items CatchMade DeclaratorMade (List DeclaratorMade) (List Made)
     (List PropertyMade)
-    Items expression_layer property_layer key_layer statement_layer block_layer catch_layer declarator_layer declarators_layer expressions_layer properties_layer statements_layer x
+    Items expression_layer property_layer key_layer statement_layer block_layer catch_layer declarator_layer
+    declarators_layer expressions_layer properties_layer statements_layer x
 
 -- ---- what is made of a tree beside its clean tree
 
@@ -717,7 +734,19 @@ grown-statements R k y =
 
 grown : (R : Relations) → Keeps R → Grows (related R)
 grown R k =
-    record { grows_expression = grown-expression R k; grows_property = grown-property R k; grows_key = grown-key R k; grows_statement = grown-statement R k; grows_block = grown-block R k; grows_catch = grown-catch R k; grows_declarator = grown-declarator R k; grows_declarators = grown-declarators R k; grows_expressions = grown-expressions R k; grows_properties = grown-properties R k; grows_statements = grown-statements R k }
+    record {
+      grows_expression = grown-expression R k;
+      grows_property = grown-property R k;
+      grows_key = grown-key R k;
+      grows_statement = grown-statement R k;
+      grows_block = grown-block R k;
+      grows_catch = grown-catch R k;
+      grows_declarator = grown-declarator R k;
+      grows_declarators = grown-declarators R k;
+      grows_expressions = grown-expressions R k;
+      grows_properties = grown-properties R k;
+      grows_statements = grown-statements R k;
+    }
 
 -- what is made of every tree stands in the relation to its clean tree
 pub expression-related : (R : Relations) → Keeps R → (e : Expr) → R.expression (expression_source e) (expression_view e)

@@ -1,5 +1,5 @@
--- The terms of the parser's trees are unstarted, are well-shaped, and wait for their steps, so each configuration of their
--- run is sound, well-shaped and waits for a step.
+-- The terms of the parser's trees are unstarted, are well-shaped, and wait for their steps, so each configuration of
+-- their run is sound, well-shaped and waits for a step.
 use Rattle.std.proofs.Common.{ℕ, List, [], ◌∷◌}
 use Rattle.js_tree.specs.declared.tree.Expr.{Expr}
 use Rattle.js_tree.specs.declared.script.Script.{Script}

@@ -186,12 +186,14 @@ statements-step P g x y is =
 
 pub every-expression : (P : Claims) → Grows P → (e : Expr) → P.of_expression e
 every-expression P g =
-    ind-Expr P.of_expression P.of_property P.of_key P.of_statement P.of_block P.of_catch P.of_declarator P.of_declarators P.of_expressions P.of_properties P.of_statements
+    ind-Expr P.of_expression P.of_property P.of_key P.of_statement P.of_block P.of_catch P.of_declarator
+    P.of_declarators P.of_expressions P.of_properties P.of_statements
     (expression-step P g) (property-step P g) (key-step P g) (statement-step P g) (block-step P g) (catch-step P g)
     (declarator-step P g) (declarators-step P g) (expressions-step P g) (properties-step P g) (statements-step P g)
 
 pub every-statements : (P : Claims) → Grows P → (ss : Stmts) → P.of_statements ss
 every-statements P g =
-    ind-Stmts P.of_expression P.of_property P.of_key P.of_statement P.of_block P.of_catch P.of_declarator P.of_declarators P.of_expressions P.of_properties P.of_statements
+    ind-Stmts P.of_expression P.of_property P.of_key P.of_statement P.of_block P.of_catch P.of_declarator
+    P.of_declarators P.of_expressions P.of_properties P.of_statements
     (expression-step P g) (property-step P g) (key-step P g) (statement-step P g) (block-step P g) (catch-step P g)
     (declarator-step P g) (declarators-step P g) (expressions-step P g) (properties-step P g) (statements-step P g)

@@ -298,7 +298,8 @@ unfolding expression_source property_source key_source statement_source block_so
 source_block_body b =
     fold_out-Block Made PropertyMade PropertyKey Item Items CatchMade DeclaratorMade (List DeclaratorMade) (List Made)
     (List PropertyMade)
-    Items expression_layer property_layer key_layer statement_layer block_layer catch_layer declarator_layer declarators_layer expressions_layer properties_layer statements_layer b
+    Items expression_layer property_layer key_layer statement_layer block_layer catch_layer declarator_layer
+    declarators_layer expressions_layer properties_layer statements_layer b
 
 pub source_catch : (h : Catch) → catch_source h ≡ record { name = h.parameter; body = block_source h.block }
 unfolding expression_source property_source key_source statement_source block_source catch_source declarator_source
@@ -306,7 +307,8 @@ unfolding expression_source property_source key_source statement_source block_so
 source_catch h =
     fold_out-Catch Made PropertyMade PropertyKey Item Items CatchMade DeclaratorMade (List DeclaratorMade) (List Made)
     (List PropertyMade)
-    Items expression_layer property_layer key_layer statement_layer block_layer catch_layer declarator_layer declarators_layer expressions_layer properties_layer statements_layer h
+    Items expression_layer property_layer key_layer statement_layer block_layer catch_layer declarator_layer
+    declarators_layer expressions_layer properties_layer statements_layer h
 
 pub source_declarators : (ds : Declarators)
     → declarators_source ds ≡ map declarator_source (out-Declarators ds).items.items
@@ -315,7 +317,8 @@ unfolding expression_source property_source key_source statement_source block_so
 source_declarators ds =
     fold_out-Declarators Made PropertyMade PropertyKey Item Items CatchMade DeclaratorMade (List DeclaratorMade)
     (List Made) (List PropertyMade)
-    Items expression_layer property_layer key_layer statement_layer block_layer catch_layer declarator_layer declarators_layer expressions_layer properties_layer statements_layer ds
+    Items expression_layer property_layer key_layer statement_layer block_layer catch_layer declarator_layer
+    declarators_layer expressions_layer properties_layer statements_layer ds
 
 pub source_expressions : (es : Exprs) → expressions_source es ≡ map expression_source es.items.items
 unfolding expression_source property_source key_source statement_source block_source catch_source declarator_source
@@ -323,7 +326,8 @@ unfolding expression_source property_source key_source statement_source block_so
 source_expressions es =
     fold_out-Exprs Made PropertyMade PropertyKey Item Items CatchMade DeclaratorMade (List DeclaratorMade) (List Made)
     (List PropertyMade)
-    Items expression_layer property_layer key_layer statement_layer block_layer catch_layer declarator_layer declarators_layer expressions_layer properties_layer statements_layer es
+    Items expression_layer property_layer key_layer statement_layer block_layer catch_layer declarator_layer
+    declarators_layer expressions_layer properties_layer statements_layer es
 
 pub source_properties : (ps : PropertyDefinitions) → properties_source ps ≡ map property_source ps.items.items
 unfolding expression_source property_source key_source statement_source block_source catch_source declarator_source
@@ -331,7 +335,8 @@ unfolding expression_source property_source key_source statement_source block_so
 source_properties ps =
     fold_out-PropertyDefinitions Made PropertyMade PropertyKey Item Items CatchMade DeclaratorMade (List DeclaratorMade)
     (List Made) (List PropertyMade)
-    Items expression_layer property_layer key_layer statement_layer block_layer catch_layer declarator_layer declarators_layer expressions_layer properties_layer statements_layer ps
+    Items expression_layer property_layer key_layer statement_layer block_layer catch_layer declarator_layer
+    declarators_layer expressions_layer properties_layer statements_layer ps
 
 pub source_statements : (ss : Stmts) → statements_source ss ≡ makers.items_of (map statement_source ss.items.items)
 unfolding expression_source property_source key_source statement_source block_source catch_source declarator_source
@@ -339,7 +344,8 @@ unfolding expression_source property_source key_source statement_source block_so
 source_statements ss =
     fold_out-Stmts Made PropertyMade PropertyKey Item Items CatchMade DeclaratorMade (List DeclaratorMade) (List Made)
     (List PropertyMade)
-    Items expression_layer property_layer key_layer statement_layer block_layer catch_layer declarator_layer declarators_layer expressions_layer properties_layer statements_layer ss
+    Items expression_layer property_layer key_layer statement_layer block_layer catch_layer declarator_layer
+    declarators_layer expressions_layer properties_layer statements_layer ss
 
 declarator_by : (n : List ℕ) (o : Option Expr)
     → declarator_source (record { name = n; initializer = o })
@@ -349,12 +355,14 @@ unfolding expression_source property_source key_source statement_source block_so
 declarator_by n None =
     fold_out-Declarator Made PropertyMade PropertyKey Item Items CatchMade DeclaratorMade (List DeclaratorMade)
     (List Made) (List PropertyMade)
-    Items expression_layer property_layer key_layer statement_layer block_layer catch_layer declarator_layer declarators_layer expressions_layer properties_layer statements_layer
+    Items expression_layer property_layer key_layer statement_layer block_layer catch_layer declarator_layer
+    declarators_layer expressions_layer properties_layer statements_layer
     (record { name = n; initializer = None })
 declarator_by n (Some e) =
     fold_out-Declarator Made PropertyMade PropertyKey Item Items CatchMade DeclaratorMade (List DeclaratorMade)
     (List Made) (List PropertyMade)
-    Items expression_layer property_layer key_layer statement_layer block_layer catch_layer declarator_layer declarators_layer expressions_layer properties_layer statements_layer
+    Items expression_layer property_layer key_layer statement_layer block_layer catch_layer declarator_layer
+    declarators_layer expressions_layer properties_layer statements_layer
     (record { name = n; initializer = Some e })
 
 pub source_declarator : (d : Declarator)

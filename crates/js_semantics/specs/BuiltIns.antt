@@ -117,7 +117,8 @@ abbrev pub pop_last : Addr → List Value → Action
 pop_last a [] = give values.Undefined
 pop_last a (v ∷ vs) = write a (changes.Length (length vs)) (give (last_of (v ∷ vs)))
 
--- `indexOf` (23.1.3.17): the index of the first element that is `===` to a value, counted from a number on; -1 where none is
+-- `indexOf` (23.1.3.17): the index of the first element that is `===` to a value, counted from a number on; -1 where
+-- none is
 abbrev pub first_same : World → ℕ → List Value → Value → ℤ
 first_same w i [] v = negsuc 0
 first_same w i (u ∷ us) v = if is_same w u v then pos i else first_same w (i + 1) us v
@@ -151,7 +152,8 @@ join w vs _ = wrong_type
 
 -- ---- parts of arrays and strings (23.1.3.28, 22.1.3.21)
 
--- the place that an argument names in so many: negative ones count from the end, and all are clamped; None where it is no number
+-- the place that an argument names in so many: negative ones count from the end, and all are clamped; None where it is
+-- no number
 abbrev pub place : ℕ → ℕ → Value → Option ℕ
 place l default values.Undefined = Some default
 place l default (values.Number (pos n)) = Some (min n l)

@@ -1,4 +1,5 @@
--- How the active frames stand in a term: each is a `frame` around the part about to be reduced, and no other part has one.
+-- How the active frames stand in a term: each is a `frame` around the part about to be reduced, and no other part has
+-- one.
 use Rattle.std.specs.Prelude.{◌≡◌, ℕ, suc, ◌+◌, ◌≤◌, [], ◌∷◌, length, Some}
 use Rattle.js_heap.specs.BuiltIns.{script_scope}
 use Rattle.js_semantics.specs.Terms.{frame, Term, done, standing, part, Terms, end, more}

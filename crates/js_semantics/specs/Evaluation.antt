@@ -1,4 +1,5 @@
--- Pure evaluation: an expression, or a call of a function, on a copy of the world with the cells of a session's scratch.
+-- Pure evaluation: an expression, or a call of a function, on a copy of the world with the cells of a session's
+-- scratch.
 use Rattle.std.specs.Prelude.{ℕ, ◌+◌, Bool, List, [], ◌∷◌, length, ℤ}
 use Rattle.js_heap.specs.declared.value.Addr.{Addr}
 use Rattle.js_heap.specs.declared.value.Addr.TheVariants.{Base, Scratch}
@@ -35,9 +36,9 @@ abbrev pub make_literals : World → List (List ℕ) → Tried (Unit {0})
 make_literals w [] = fine tt w
 make_literals w (us ∷ rest) = after_try (make_cell w (cells.Text us)) (λ a v. make_literals v rest)
 
--- The cells of a source's string literals are made in the order of the source, so a full scratch names the count that would
--- pass its limit first in that order. The cells stand in the order in which the source's term keeps them: the literals are
--- the same, so that is fine wherever the former is.
+-- The cells of a source's string literals are made in the order of the source, so a full scratch names the count that
+-- would pass its limit first in that order. The cells stand in the order in which the source's term keeps them: the
+-- literals are the same, so that is fine wherever the former is.
 abbrev pub place_literals : World → List (List ℕ) → List (List ℕ) → Tried (Unit {0})
 place_literals w of_source of_term = after_try (make_literals w of_source) (λ u v. make_literals w of_term)
 
@@ -65,7 +66,8 @@ mutual
 abbrev pub object_value : Tried Addr → Tried Value
 object_value t = after_try t (λ a w. fine (values.Object a) w)
 
--- the values of JSON values, of the elements of an array and of the members of an object, with the world that has their cells
+-- the values of JSON values, of the elements of an array and of the members of an object, with the world that has their
+-- cells
 abbrev mutual
   -- the value of a JSON value: each part before its whole, from left to right
   pub make_json : World → Json → Tried Value
@@ -168,8 +170,8 @@ prepared w x source order e =
 abbrev pub evaluated : Program → Addr → Value → World → Term → Answer
 evaluated p scope receiver w t = answer_of (steps_in budget p scope (run_of t (evaluation_state w receiver)))
 
--- Evaluates a source's expression in a scope with a `this`. The program has the scripts and the sources kept before; this
--- one is added, so that functions which it makes can be called.
+-- Evaluates a source's expression in a scope with a `this`. The program has the scripts and the sources kept before;
+-- this one is added, so that functions which it makes can be called.
 abbrev pub evaluate : Program → World → ScratchSpace → Addr → Value → List ℕ → List (List ℕ) → Made → Answer
 evaluate p w x scope receiver source order e =
     answered (prepared w x source order e) (evaluated (with_source p x e) scope receiver)

@@ -179,7 +179,8 @@ abbrev pub call_value : Program → State → Value → Value → List Value →
 call_value p s (values.Object a) given args = call_cell p s a (read_cell s.world a) given args
 call_value p s _ given args = not_a_function
 
--- the values of a call are its `this`, its callee and its arguments; its place is `here` from now on, also where it raises
+-- the values of a call are its `this`, its callee and its arguments; its place is `here` from now on, also where it
+-- raises
 abbrev pub call_row : Program → State → Mark → List Value → Action
 call_row p s place (given ∷ callee ∷ args) = set_here place (call_value p s callee given args)
 call_row p s place _ = give values.Undefined

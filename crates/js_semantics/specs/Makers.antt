@@ -245,7 +245,15 @@ body_terms body c = more (part sequence (body.terms (within 0 c)) end) (body.fun
 -- a function with its own name, or that of the context
 abbrev pub form_of : ℕ → Source → List ℕ → List (List ℕ) → List Binding → Bool → Bool → FunctionForm
 form_of node source n ps names arrow named =
-    record { code = code_of source node; node = node; name = n; parameters = ps; names = names; is_arrow = arrow; is_named = named }
+    record {
+      code = code_of source node;
+      node = node;
+      name = n;
+      parameters = ps;
+      names = names;
+      is_arrow = arrow;
+      is_named = named;
+    }
 
 -- a function expression: with its own name, or with the one that its place gives
 abbrev pub function_term : ℕ → Option (List ℕ) → List (List ℕ) → Items → Context → Term

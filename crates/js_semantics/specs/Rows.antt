@@ -1,4 +1,5 @@
--- The table of steps: one row for each form whose parts have their values, and one for each completion that a form takes.
+-- The table of steps: one row for each form whose parts have their values, and one for each completion that a form
+-- takes.
 use Rattle.std.specs.Prelude.{ℕ, ◌+◌, Bool, true, false, List, [], ◌∷◌, Option, Some, None, slice_get, codes, if◌then◌else◌}
 use Rattle.js_operators.specs.declared.operator.BinaryOperator.{BinaryOperator}
 use Rattle.js_operators.specs.declared.operator.UpdateOperator.{UpdateOperator}
@@ -34,7 +35,13 @@ only vs = argument vs 0
 -- the bottom frame of a script, at its beginning
 abbrev pub script_frame : ℕ → Frame
 script_frame number =
-    record { function = None; source = script_source number; receiver = values.Undefined; scope = script_scope; here = beginning }
+    record {
+      function = None;
+      source = script_source number;
+      receiver = values.Undefined;
+      scope = script_scope;
+      here = beginning;
+    }
 
 -- a script: it is the bottom frame's from now on; its names, its functions, then its statements (16.1.7)
 abbrev pub script_row : ℕ → List Binding → Terms → Action

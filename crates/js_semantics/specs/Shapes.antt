@@ -1,5 +1,6 @@
--- Well-shaped terms: each form has the parts that its row takes, so that the clauses of the rows for other numbers of parts
--- are never met. Two of them are for trees that no source of the language has: `delete` of a name, and a comma list of one.
+-- Well-shaped terms: each form has the parts that its row takes, so that the clauses of the rows for other numbers of
+-- parts are never met. Two of them are for trees that no source of the language has: `delete` of a name, and a comma
+-- list of one.
 use Rattle.std.specs.Prelude.{◌≡◌, ℕ, suc, ◌+◌, ◌≤◌, List, [], ◌∷◌}
 use Rattle.js_semantics.specs.Terms.{Reference, to_name, to_member, to_index, Member, keyed, computed, testing, Form, script, enter, enter_debugger, enter_for, enter_for_of, block, choose, both, either, loop, list_of, turn_of, body_of, throw_, catching, finishing, read, unary, binary, comma, function, object, method, assign, compound, update, delete, call, call_of, Term, done, standing, part, Terms, end, more}
 use Rattle.js_semantics.specs.State.{Action, go, make, write, take_line, set_here, push_frame, pop_frame, Move, goes}

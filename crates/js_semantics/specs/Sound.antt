@@ -1,4 +1,5 @@
--- Sound configurations: all that a residual term, a frame or a completion names is live in the world and of the right kind.
+-- Sound configurations: all that a residual term, a frame or a completion names is live in the world and of the right
+-- kind.
 use Rattle.std.specs.Prelude.{◌≡◌, ℕ, List, [], ◌∷◌, Option, Some, None}
 use Rattle.js_heap.specs.declared.value.Addr.{Addr}
 use Rattle.js_heap.specs.declared.value.Value.{Value}

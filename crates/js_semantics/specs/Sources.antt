@@ -121,77 +121,88 @@ unfoldable pub expression_source : Expr → Made
 expression_source =
     fold-Expr Made PropertyMade PropertyKey Item Items CatchMade DeclaratorMade (List DeclaratorMade) (List Made)
     (List PropertyMade)
-    Items expression_layer property_layer key_layer statement_layer block_layer catch_layer declarator_layer declarators_layer expressions_layer properties_layer statements_layer
+    Items expression_layer property_layer key_layer statement_layer block_layer catch_layer declarator_layer
+    declarators_layer expressions_layer properties_layer statements_layer
 
 -- what is made of a member of an object literal
 unfoldable pub property_source : PropertyDefinition → PropertyMade
 property_source =
     fold-PropertyDefinition Made PropertyMade PropertyKey Item Items CatchMade DeclaratorMade (List DeclaratorMade)
     (List Made) (List PropertyMade)
-    Items expression_layer property_layer key_layer statement_layer block_layer catch_layer declarator_layer declarators_layer expressions_layer properties_layer statements_layer
+    Items expression_layer property_layer key_layer statement_layer block_layer catch_layer declarator_layer
+    declarators_layer expressions_layer properties_layer statements_layer
 
 -- what is made of a property's key
 unfoldable pub key_source : PropertyName → PropertyKey
 key_source =
     fold-PropertyName Made PropertyMade PropertyKey Item Items CatchMade DeclaratorMade (List DeclaratorMade)
     (List Made) (List PropertyMade)
-    Items expression_layer property_layer key_layer statement_layer block_layer catch_layer declarator_layer declarators_layer expressions_layer properties_layer statements_layer
+    Items expression_layer property_layer key_layer statement_layer block_layer catch_layer declarator_layer
+    declarators_layer expressions_layer properties_layer statements_layer
 
 -- what is made of a statement or declaration
 unfoldable pub statement_source : Stmt → Item
 statement_source =
     fold-Stmt Made PropertyMade PropertyKey Item Items CatchMade DeclaratorMade (List DeclaratorMade) (List Made)
     (List PropertyMade)
-    Items expression_layer property_layer key_layer statement_layer block_layer catch_layer declarator_layer declarators_layer expressions_layer properties_layer statements_layer
+    Items expression_layer property_layer key_layer statement_layer block_layer catch_layer declarator_layer
+    declarators_layer expressions_layer properties_layer statements_layer
 
 -- what is made of a block
 unfoldable pub block_source : Block → Items
 block_source =
     fold-Block Made PropertyMade PropertyKey Item Items CatchMade DeclaratorMade (List DeclaratorMade) (List Made)
     (List PropertyMade)
-    Items expression_layer property_layer key_layer statement_layer block_layer catch_layer declarator_layer declarators_layer expressions_layer properties_layer statements_layer
+    Items expression_layer property_layer key_layer statement_layer block_layer catch_layer declarator_layer
+    declarators_layer expressions_layer properties_layer statements_layer
 
 -- what is made of a catch
 unfoldable pub catch_source : Catch → CatchMade
 catch_source =
     fold-Catch Made PropertyMade PropertyKey Item Items CatchMade DeclaratorMade (List DeclaratorMade) (List Made)
     (List PropertyMade)
-    Items expression_layer property_layer key_layer statement_layer block_layer catch_layer declarator_layer declarators_layer expressions_layer properties_layer statements_layer
+    Items expression_layer property_layer key_layer statement_layer block_layer catch_layer declarator_layer
+    declarators_layer expressions_layer properties_layer statements_layer
 
 -- what is made of a declarator
 unfoldable pub declarator_source : Declarator → DeclaratorMade
 declarator_source =
     fold-Declarator Made PropertyMade PropertyKey Item Items CatchMade DeclaratorMade (List DeclaratorMade) (List Made)
     (List PropertyMade)
-    Items expression_layer property_layer key_layer statement_layer block_layer catch_layer declarator_layer declarators_layer expressions_layer properties_layer statements_layer
+    Items expression_layer property_layer key_layer statement_layer block_layer catch_layer declarator_layer
+    declarators_layer expressions_layer properties_layer statements_layer
 
 -- what is made of the declarators of a declaration
 unfoldable pub declarators_source : Declarators → List DeclaratorMade
 declarators_source =
     fold-Declarators Made PropertyMade PropertyKey Item Items CatchMade DeclaratorMade (List DeclaratorMade) (List Made)
     (List PropertyMade)
-    Items expression_layer property_layer key_layer statement_layer block_layer catch_layer declarator_layer declarators_layer expressions_layer properties_layer statements_layer
+    Items expression_layer property_layer key_layer statement_layer block_layer catch_layer declarator_layer
+    declarators_layer expressions_layer properties_layer statements_layer
 
 -- what is made of a list of expressions
 unfoldable pub expressions_source : Exprs → List Made
 expressions_source =
     fold-Exprs Made PropertyMade PropertyKey Item Items CatchMade DeclaratorMade (List DeclaratorMade) (List Made)
     (List PropertyMade)
-    Items expression_layer property_layer key_layer statement_layer block_layer catch_layer declarator_layer declarators_layer expressions_layer properties_layer statements_layer
+    Items expression_layer property_layer key_layer statement_layer block_layer catch_layer declarator_layer
+    declarators_layer expressions_layer properties_layer statements_layer
 
 -- what is made of the members of an object literal
 unfoldable pub properties_source : PropertyDefinitions → List PropertyMade
 properties_source =
     fold-PropertyDefinitions Made PropertyMade PropertyKey Item Items CatchMade DeclaratorMade (List DeclaratorMade)
     (List Made) (List PropertyMade)
-    Items expression_layer property_layer key_layer statement_layer block_layer catch_layer declarator_layer declarators_layer expressions_layer properties_layer statements_layer
+    Items expression_layer property_layer key_layer statement_layer block_layer catch_layer declarator_layer
+    declarators_layer expressions_layer properties_layer statements_layer
 
 -- what is made of a list of statements
 unfoldable pub statements_source : Stmts → Items
 statements_source =
     fold-Stmts Made PropertyMade PropertyKey Item Items CatchMade DeclaratorMade (List DeclaratorMade) (List Made)
     (List PropertyMade)
-    Items expression_layer property_layer key_layer statement_layer block_layer catch_layer declarator_layer declarators_layer expressions_layer properties_layer statements_layer
+    Items expression_layer property_layer key_layer statement_layer block_layer catch_layer declarator_layer
+    declarators_layer expressions_layer properties_layer statements_layer
 
 -- the term of a script
 abbrev pub term_of_script : Script → Term

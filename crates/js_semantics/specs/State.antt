@@ -12,8 +12,8 @@ use Rattle.js_heap.specs.World.{World, Tried, fine, effect, full, make_cell, wri
 use Rattle.js_heap.specs.BuiltIns.{heap_full_error, message_property}
 use Rattle.js_semantics.specs.Terms.{Source, script_source, Mark, beginning, Spot, Completion, Term, done, standing}
 
--- An active call, or the script as the bottom one: its function, the source of its code, its `this`, the scope of its body,
--- and `here`, the place of the statement last entered or call last reduced in it.
+-- An active call, or the script as the bottom one: its function, the source of its code, its `this`, the scope of its
+-- body, and `here`, the place of the statement last entered or call last reduced in it.
 pub record Frame : Type 0 where
   pub function : Option Addr
   pub source : Source
@@ -21,8 +21,8 @@ pub record Frame : Type 0 where
   pub scope : Addr
   pub here : Mark
 
--- What a step threads beside the residual term: the world, the active calls from the top, the `this` outside all of them,
--- the input lines left, and the texts printed so far.
+-- What a step threads beside the residual term: the world, the active calls from the top, the `this` outside all of
+-- them, the input lines left, and the texts printed so far.
 pub record State : Type 0 where
   pub world : World
   pub frames : List Frame
@@ -53,8 +53,8 @@ inside f (is_full what s) = is_full what s
 
 -- ---- actions: what one step does, in order
 
--- Each row of the table of steps is an action: the changes that it makes, one after another, and what it ends in. Where a
--- change is refused, those before it stay (see perform).
+-- Each row of the table of steps is an action: the changes that it makes, one after another, and what it ends in. Where
+-- a change is refused, those before it stay (see perform).
 pub data Action : Type 0 where
   -- goes on with a term; raises freshly; lets a completion travel
   go : Term → Action

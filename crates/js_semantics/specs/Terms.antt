@@ -24,7 +24,8 @@ pub use Rattle.js_semantics.specs.declared.form.Form.TheVariants.{Scripts as scr
 
 -- ---- terms
 
--- a value, a throw that stands, or a form with the parts that are reduced from left to right and those that are kept for later
+-- a value, a throw that stands, or a form with the parts that are reduced from left to right and those that are kept
+-- for later
 mutual
   pub data Term : Type 0 where
     done : Value → Term

@@ -1,5 +1,5 @@
--- What takes no step is done at once: where all parts of a form about to be reduced have their values, the form waits for
--- its step, and isn't one that is finished without one.
+-- What takes no step is done at once: where all parts of a form about to be reduced have their values, the form waits
+-- for its step, and isn't one that is finished without one.
 use Rattle.std.specs.Prelude.{◌≡◌, Bool, true, false, [], ◌∷◌, None}
 use Rattle.js_semantics.specs.Terms.{first, doing, body, updating, Form, scripts, script, sequence, enter, enter_debugger, enter_for, block, scoped, loop, body_of, catching, finishing, function, method, Term, done, standing, part, Terms, end, more, all_done}
 use Rattle.js_semantics.specs.State.{Action, go, make, write, take_line, set_here, push_frame, pop_frame, Move, goes}
@@ -37,7 +37,8 @@ abbrev pub ByCase : Bool → Type 0 → Type 0 → Type 0
 ByCase true A B = A
 ByCase false A B = B
 
--- every form in a term waits for its step once its parts have their values, but for a part that is settled when it is uncovered
+-- every form in a term waits for its step once its parts have their values, but for a part that is settled when it is
+-- uncovered
 abbrev mutual
   pub Waits : (Terms → Bool) → Term → Type 0
   Waits ready (done v) = Unit {0}

@@ -698,7 +698,14 @@ pub turn-scopes : (t : NodeTable) (old new : List Wide) (task : Task) (a : Addr)
     → InScopes t root new
 turn-scopes t [] new task a h o n = cc
 turn-scopes t (w ∷ ws) new task a h o n = λ root k.
-    let x : Wide = record w { op = ops.BodyOf; info = task.info; at = task.mid; mid = task.mid; values = []; extra = turned_extra w.extra } in
+    let x : Wide = record w {
+      op = ops.BodyOf;
+      info = task.info;
+      at = task.mid;
+      mid = task.mid;
+      values = [];
+      extra = turned_extra w.extra;
+    } in
     let plain : has_scope w.op w.info ≡ false = ap (λ y. has_scope y w.info)
     (ap (λ y. y.op) (sym (same_task w ws task h)) ∙ o) in
     let Q : List Wide → Type 0 = InScopes t root in

@@ -89,7 +89,11 @@ pub through-value : (t : NodeTable) (old new : List Wide) (v : Value) → new �
 through-value t old new v e =
     let P : List Wide → Type 0 = Through t old in
     subst P (sym e)
-    (record { outer = outer_value v old; inner = λ root. scope-value root v old; scoped = λ root s. scopes-value t root v old s })
+    (record {
+      outer = outer_value v old;
+      inner = λ root. scope-value root v old;
+      scoped = λ root s. scopes-value t root v old s;
+    })
   where
     outer_value : (v : Value) (ws : List Wide) → outer_of (with_value v ws) ≡ outer_of ws
     outer_value v [] = refl

@@ -87,7 +87,16 @@ at_redex : (task : Task) (vs : List Value) (e : Option Extra)
     → wide task vs e ≡ redex (task_redex task) vs e
 at_redex task vs e h =
     let f : ℕ
-    → Wide = λ a. record { op = task.op; info = task.info; at = a; mid = task.mid; end = task.end; inner = task.inner; values = vs; extra = e } in
+    → Wide = λ a. record {
+      op = task.op;
+      info = task.info;
+      at = a;
+      mid = task.mid;
+      end = task.end;
+      inner = task.inner;
+      values = vs;
+      extra = e;
+    } in
     ap f h
 
 row_is : (w : Wide) (ws : List Wide) (task : Task)

@@ -21,7 +21,16 @@ use Rattle.js_steps.specs.Answers.{Reduces}
 -- what is about to be reduced, as a task whose parts have these values
 abbrev pub redex : Redex → List Value → Option Extra → Wide
 redex r vs extra =
-    record { op = r.op; info = r.info; at = r.mid; mid = r.mid; end = r.end; inner = r.inner; values = vs; extra = extra }
+    record {
+      op = r.op;
+      info = r.info;
+      at = r.mid;
+      mid = r.mid;
+      end = r.end;
+      inner = r.inner;
+      values = vs;
+      extra = extra;
+    }
 
 -- where the form's parts are in its scope, the answer is its row's, from one state to another
 abbrev pub RowOf : List (List ℕ) → NodeTable → Wide → Addr → State → Reduced → State → Type 0

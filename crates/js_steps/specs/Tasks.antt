@@ -17,9 +17,9 @@ use Rattle.js_steps.specs.declared.task.Extra.{Extra}
 use Rattle.js_steps.specs.declared.task.Extra.TheVariants as extras
 use Rattle.js_steps.specs.Gaps.{Gap}
 
--- A task with its own values: its parts up to `at` are reduced or in the gap, those from `at` to `mid` come, those from `mid`
--- to `end` are kept. `inner` is the scope in which its parts are. An ending keeps a completion, a `for .. of` its list and index,
--- an object literal where its kept parts begin.
+-- A task with its own values: its parts up to `at` are reduced or in the gap, those from `at` to `mid` come, those from
+-- `mid` to `end` are kept. `inner` is the scope in which its parts are. An ending keeps a completion, a `for .. of` its
+-- list and index, an object literal where its kept parts begin.
 pub record Wide : Type 0 where
   pub op : Op
   pub info : ℕ

@@ -170,10 +170,22 @@ pub cut-space : (h g : Heap) (ds : List Stored) (m n : Marked)
     → m ≡ n
     → ds ≡ take m.count h.cells
     → (ts : List (List ℕ))
-    → let x : ScratchSpace = record { cells = cells_of ts ds; room = record { cells = m.cells_left; units = m.units_left } } in
+    → let x : ScratchSpace = record {
+      cells = cells_of ts ds;
+      room = record {
+        cells = m.cells_left;
+        units = m.units_left;
+      };
+    } in
     x ≡ space_at (space_of ts g) n
 cut-space h g ds m n e f k ts =
-    let x : ScratchSpace = record { cells = cells_of ts ds; room = record { cells = m.cells_left; units = m.units_left } } in
+    let x : ScratchSpace = record {
+      cells = cells_of ts ds;
+      room = record {
+        cells = m.cells_left;
+        units = m.units_left;
+      };
+    } in
     let P : Heap → Type 0 = λ y. x ≡ space_at (space_of ts y) n in
     let Q : Marked → Type 0 = λ y. x ≡ space_at (space_of ts h) y in
     subst P e (subst Q f (rw (k, cells_take ts m.count h.cells) refl))

@@ -48,7 +48,15 @@ goes-on h g e f ts us l =
     let P : Heap → Type 0 = λ x. x.ends ≤ length ts → heap_world (ts ++ us) x ≡ heap_world ts x in
     let base : h.ends ≤ length ts
     → heap_world (ts ++ us) h ≡ heap_world ts h = λ k. ap
-    (λ xs. let w : World = record { base = xs; scratch = []; start = None; room = record { cells = h.cells_left; units = h.units_left } } in
+    (λ xs. let w : World = record {
+      base = xs;
+      scratch = [];
+      start = None;
+      room = record {
+        cells = h.cells_left;
+        units = h.units_left;
+      };
+    } in
     w)
     (cells-stay ts us h.cells (cells-more h.ends (length ts) h.cells k f.within)) in
     subst P e base l

@@ -56,7 +56,15 @@ pub record Heap : Type 0 where
 -- the world of the program's own run
 abbrev pub base_world : List (List ℕ) → List Stored → ℕ → ℕ → World
 base_world ts cs cells_left units_left =
-    record { base = cells_of ts cs; scratch = []; start = None; room = record { cells = cells_left; units = units_left } }
+    record {
+      base = cells_of ts cs;
+      scratch = [];
+      start = None;
+      room = record {
+        cells = cells_left;
+        units = units_left;
+      };
+    }
 
 -- the world that a heap is with a table of names
 abbrev pub heap_world : List (List ℕ) → Heap → World

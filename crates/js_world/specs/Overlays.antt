@@ -21,7 +21,15 @@ pub record Over : Type 0 where
 -- the world of an evaluation
 abbrev pub overlay_world : List (List ℕ) → List Cell → List Stored → ℕ → ℕ → ℕ → World
 overlay_world ts base cs start cells_left units_left =
-    record { base = base; scratch = cells_of ts cs; start = Some start; room = record { cells = cells_left; units = units_left } }
+    record {
+      base = base;
+      scratch = cells_of ts cs;
+      start = Some start;
+      room = record {
+        cells = cells_left;
+        units = units_left;
+      };
+    }
 
 -- the world that a session's cells over a program's are with a table of names
 abbrev pub over_world : List (List ℕ) → Over → World

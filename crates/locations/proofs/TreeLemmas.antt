@@ -36,7 +36,10 @@ use Rattle.js_semantics.proofs.TreeFolds.{Former, Mapper}
 -- the marks of the parts in the places of one level
 abbrev pub marks_of : (F : Former) → Mapper F → Level F → Layer F
 marks_of F change =
-    change Expr PropertyDefinition PropertyName Stmt Block Catch Declarator Declarators Exprs PropertyDefinitions Stmts Marking Marks Marks Marks Marks Marks Marks Marks Marks Marks Marks expression_marks property_marks key_marks statement_marks block_marks catch_marks declarator_marks declarators_marks expressions_marks properties_marks statements_marks
+    change Expr PropertyDefinition PropertyName Stmt Block Catch Declarator Declarators Exprs PropertyDefinitions Stmts
+    Marking Marks Marks Marks Marks Marks Marks Marks Marks Marks Marks expression_marks property_marks key_marks
+    statement_marks block_marks catch_marks declarator_marks declarators_marks expressions_marks properties_marks
+    statements_marks
 
 -- the marks of a tree are made of those of its parts
 pub expression_turn : (x : Level Expr-F)
@@ -44,28 +47,37 @@ pub expression_turn : (x : Level Expr-F)
 unfolding expression_marks property_marks key_marks statement_marks block_marks catch_marks declarator_marks
     declarators_marks expressions_marks properties_marks statements_marks
 expression_turn x =
-    fold-roll-Expr Marking Marks Marks Marks Marks Marks Marks Marks Marks Marks Marks expression_layer property_layer key_layer statement_layer block_layer catch_layer declarator_layer declarators_layer expressions_layer properties_layer statements_layer x
+    fold-roll-Expr Marking Marks Marks Marks Marks Marks Marks Marks Marks Marks Marks expression_layer property_layer
+    key_layer statement_layer block_layer catch_layer declarator_layer declarators_layer expressions_layer
+    properties_layer statements_layer x
 
 pub property_turn : (x : Level PropertyDefinition-F)
-    → property_marks (views.roll-PropertyDefinition x) ≡ property_layer (marks_of PropertyDefinition-F map-PropertyDefinition x)
+    → property_marks (views.roll-PropertyDefinition x) ≡ property_layer
+    (marks_of PropertyDefinition-F map-PropertyDefinition x)
 unfolding expression_marks property_marks key_marks statement_marks block_marks catch_marks declarator_marks
     declarators_marks expressions_marks properties_marks statements_marks
 property_turn x =
-    fold-roll-PropertyDefinition Marking Marks Marks Marks Marks Marks Marks Marks Marks Marks Marks expression_layer property_layer key_layer statement_layer block_layer catch_layer declarator_layer declarators_layer expressions_layer properties_layer statements_layer x
+    fold-roll-PropertyDefinition Marking Marks Marks Marks Marks Marks Marks Marks Marks Marks Marks expression_layer
+    property_layer key_layer statement_layer block_layer catch_layer declarator_layer declarators_layer
+    expressions_layer properties_layer statements_layer x
 
 pub key_turn : (x : Level PropertyName-F)
     → key_marks (views.roll-PropertyName x) ≡ key_layer (marks_of PropertyName-F map-PropertyName x)
 unfolding expression_marks property_marks key_marks statement_marks block_marks catch_marks declarator_marks
     declarators_marks expressions_marks properties_marks statements_marks
 key_turn x =
-    fold-roll-PropertyName Marking Marks Marks Marks Marks Marks Marks Marks Marks Marks Marks expression_layer property_layer key_layer statement_layer block_layer catch_layer declarator_layer declarators_layer expressions_layer properties_layer statements_layer x
+    fold-roll-PropertyName Marking Marks Marks Marks Marks Marks Marks Marks Marks Marks Marks expression_layer
+    property_layer key_layer statement_layer block_layer catch_layer declarator_layer declarators_layer
+    expressions_layer properties_layer statements_layer x
 
 pub statement_turn : (x : Level Stmt-F)
     → statement_marks (views.roll-Stmt x) ≡ statement_layer (marks_of Stmt-F map-Stmt x)
 unfolding expression_marks property_marks key_marks statement_marks block_marks catch_marks declarator_marks
     declarators_marks expressions_marks properties_marks statements_marks
 statement_turn x =
-    fold-roll-Stmt Marking Marks Marks Marks Marks Marks Marks Marks Marks Marks Marks expression_layer property_layer key_layer statement_layer block_layer catch_layer declarator_layer declarators_layer expressions_layer properties_layer statements_layer x
+    fold-roll-Stmt Marking Marks Marks Marks Marks Marks Marks Marks Marks Marks Marks expression_layer property_layer
+    key_layer statement_layer block_layer catch_layer declarator_layer declarators_layer expressions_layer
+    properties_layer statements_layer x
 
 -- ---- expressions
 
@@ -328,49 +340,65 @@ pub marks_block_body : (b : Block) → block_marks b ≡ statements_marks b.body
 unfolding expression_marks property_marks key_marks statement_marks block_marks catch_marks declarator_marks
     declarators_marks expressions_marks properties_marks statements_marks
 marks_block_body b =
-    fold_out-Block Marking Marks Marks Marks Marks Marks Marks Marks Marks Marks Marks expression_layer property_layer key_layer statement_layer block_layer catch_layer declarator_layer declarators_layer expressions_layer properties_layer statements_layer b
+    fold_out-Block Marking Marks Marks Marks Marks Marks Marks Marks Marks Marks Marks expression_layer property_layer
+    key_layer statement_layer block_layer catch_layer declarator_layer declarators_layer expressions_layer
+    properties_layer statements_layer b
 
 pub marks_catch : (h : Catch) → catch_marks h ≡ block_marks h.block
 unfolding expression_marks property_marks key_marks statement_marks block_marks catch_marks declarator_marks
     declarators_marks expressions_marks properties_marks statements_marks
 marks_catch h =
-    fold_out-Catch Marking Marks Marks Marks Marks Marks Marks Marks Marks Marks Marks expression_layer property_layer key_layer statement_layer block_layer catch_layer declarator_layer declarators_layer expressions_layer properties_layer statements_layer h
+    fold_out-Catch Marking Marks Marks Marks Marks Marks Marks Marks Marks Marks Marks expression_layer property_layer
+    key_layer statement_layer block_layer catch_layer declarator_layer declarators_layer expressions_layer
+    properties_layer statements_layer h
 
 pub marks_declarators : (ds : Declarators)
     → declarators_marks ds ≡ definitions.together (map declarator_marks (out-Declarators ds).items.items)
 unfolding expression_marks property_marks key_marks statement_marks block_marks catch_marks declarator_marks
     declarators_marks expressions_marks properties_marks statements_marks
 marks_declarators ds =
-    fold_out-Declarators Marking Marks Marks Marks Marks Marks Marks Marks Marks Marks Marks expression_layer property_layer key_layer statement_layer block_layer catch_layer declarator_layer declarators_layer expressions_layer properties_layer statements_layer ds
+    fold_out-Declarators Marking Marks Marks Marks Marks Marks Marks Marks Marks Marks Marks expression_layer
+    property_layer key_layer statement_layer block_layer catch_layer declarator_layer declarators_layer
+    expressions_layer properties_layer statements_layer ds
 
 pub marks_expressions : (es : Exprs) → expressions_marks es ≡ definitions.in_all (map expression_marks es.items.items)
 unfolding expression_marks property_marks key_marks statement_marks block_marks catch_marks declarator_marks
     declarators_marks expressions_marks properties_marks statements_marks
 marks_expressions es =
-    fold_out-Exprs Marking Marks Marks Marks Marks Marks Marks Marks Marks Marks Marks expression_layer property_layer key_layer statement_layer block_layer catch_layer declarator_layer declarators_layer expressions_layer properties_layer statements_layer es
+    fold_out-Exprs Marking Marks Marks Marks Marks Marks Marks Marks Marks Marks Marks expression_layer property_layer
+    key_layer statement_layer block_layer catch_layer declarator_layer declarators_layer expressions_layer
+    properties_layer statements_layer es
 
 pub marks_properties : (ps : PropertyDefinitions)
     → properties_marks ps ≡ definitions.together (map property_marks ps.items.items)
 unfolding expression_marks property_marks key_marks statement_marks block_marks catch_marks declarator_marks
     declarators_marks expressions_marks properties_marks statements_marks
 marks_properties ps =
-    fold_out-PropertyDefinitions Marking Marks Marks Marks Marks Marks Marks Marks Marks Marks Marks expression_layer property_layer key_layer statement_layer block_layer catch_layer declarator_layer declarators_layer expressions_layer properties_layer statements_layer ps
+    fold_out-PropertyDefinitions Marking Marks Marks Marks Marks Marks Marks Marks Marks Marks Marks expression_layer
+    property_layer key_layer statement_layer block_layer catch_layer declarator_layer declarators_layer
+    expressions_layer properties_layer statements_layer ps
 
 pub marks_statements : (ss : Stmts) → statements_marks ss ≡ definitions.together (map statement_marks ss.items.items)
 unfolding expression_marks property_marks key_marks statement_marks block_marks catch_marks declarator_marks
     declarators_marks expressions_marks properties_marks statements_marks
 marks_statements ss =
-    fold_out-Stmts Marking Marks Marks Marks Marks Marks Marks Marks Marks Marks Marks expression_layer property_layer key_layer statement_layer block_layer catch_layer declarator_layer declarators_layer expressions_layer properties_layer statements_layer ss
+    fold_out-Stmts Marking Marks Marks Marks Marks Marks Marks Marks Marks Marks Marks expression_layer property_layer
+    key_layer statement_layer block_layer catch_layer declarator_layer declarators_layer expressions_layer
+    properties_layer statements_layer ss
 
 declarator_by : (n : List ℕ) (o : Option Expr)
     → declarator_marks (record { name = n; initializer = o }) ≡ definitions.in_present (option_map expression_marks o)
 unfolding expression_marks property_marks key_marks statement_marks block_marks catch_marks declarator_marks
     declarators_marks expressions_marks properties_marks statements_marks
 declarator_by n None =
-    fold_out-Declarator Marking Marks Marks Marks Marks Marks Marks Marks Marks Marks Marks expression_layer property_layer key_layer statement_layer block_layer catch_layer declarator_layer declarators_layer expressions_layer properties_layer statements_layer
+    fold_out-Declarator Marking Marks Marks Marks Marks Marks Marks Marks Marks Marks Marks expression_layer
+    property_layer key_layer statement_layer block_layer catch_layer declarator_layer declarators_layer
+    expressions_layer properties_layer statements_layer
     (record { name = n; initializer = None })
 declarator_by n (Some e) =
-    fold_out-Declarator Marking Marks Marks Marks Marks Marks Marks Marks Marks Marks Marks expression_layer property_layer key_layer statement_layer block_layer catch_layer declarator_layer declarators_layer expressions_layer properties_layer statements_layer
+    fold_out-Declarator Marking Marks Marks Marks Marks Marks Marks Marks Marks Marks Marks expression_layer
+    property_layer key_layer statement_layer block_layer catch_layer declarator_layer declarators_layer
+    expressions_layer properties_layer statements_layer
     (record { name = n; initializer = Some e })
 
 pub marks_declarator : (d : Declarator)

@@ -193,54 +193,76 @@ statements_layer ss = together ss.items.items
 -- the marks of an expression, with its node and its last word
 unfoldable pub expression_marks : Expr → Marking
 expression_marks =
-    fold-Expr Marking Marks Marks Marks Marks Marks Marks Marks Marks Marks Marks expression_layer property_layer key_layer statement_layer block_layer catch_layer declarator_layer declarators_layer expressions_layer properties_layer statements_layer
+    fold-Expr Marking Marks Marks Marks Marks Marks Marks Marks Marks Marks Marks expression_layer property_layer
+    key_layer statement_layer block_layer catch_layer declarator_layer declarators_layer expressions_layer
+    properties_layer statements_layer
 
 -- the marks of a member of an object literal
 unfoldable pub property_marks : PropertyDefinition → Marks
 property_marks =
-    fold-PropertyDefinition Marking Marks Marks Marks Marks Marks Marks Marks Marks Marks Marks expression_layer property_layer key_layer statement_layer block_layer catch_layer declarator_layer declarators_layer expressions_layer properties_layer statements_layer
+    fold-PropertyDefinition Marking Marks Marks Marks Marks Marks Marks Marks Marks Marks Marks expression_layer
+    property_layer key_layer statement_layer block_layer catch_layer declarator_layer declarators_layer
+    expressions_layer properties_layer statements_layer
 
 -- the marks of the key of a member
 unfoldable pub key_marks : PropertyName → Marks
 key_marks =
-    fold-PropertyName Marking Marks Marks Marks Marks Marks Marks Marks Marks Marks Marks expression_layer property_layer key_layer statement_layer block_layer catch_layer declarator_layer declarators_layer expressions_layer properties_layer statements_layer
+    fold-PropertyName Marking Marks Marks Marks Marks Marks Marks Marks Marks Marks Marks expression_layer
+    property_layer key_layer statement_layer block_layer catch_layer declarator_layer declarators_layer
+    expressions_layer properties_layer statements_layer
 
 -- the marks of a statement or declaration
 unfoldable pub statement_marks : Stmt → Marks
 statement_marks =
-    fold-Stmt Marking Marks Marks Marks Marks Marks Marks Marks Marks Marks Marks expression_layer property_layer key_layer statement_layer block_layer catch_layer declarator_layer declarators_layer expressions_layer properties_layer statements_layer
+    fold-Stmt Marking Marks Marks Marks Marks Marks Marks Marks Marks Marks Marks expression_layer property_layer
+    key_layer statement_layer block_layer catch_layer declarator_layer declarators_layer expressions_layer
+    properties_layer statements_layer
 
 -- the marks of a block
 unfoldable pub block_marks : Block → Marks
 block_marks =
-    fold-Block Marking Marks Marks Marks Marks Marks Marks Marks Marks Marks Marks expression_layer property_layer key_layer statement_layer block_layer catch_layer declarator_layer declarators_layer expressions_layer properties_layer statements_layer
+    fold-Block Marking Marks Marks Marks Marks Marks Marks Marks Marks Marks Marks expression_layer property_layer
+    key_layer statement_layer block_layer catch_layer declarator_layer declarators_layer expressions_layer
+    properties_layer statements_layer
 
 -- the marks of a catch
 unfoldable pub catch_marks : Catch → Marks
 catch_marks =
-    fold-Catch Marking Marks Marks Marks Marks Marks Marks Marks Marks Marks Marks expression_layer property_layer key_layer statement_layer block_layer catch_layer declarator_layer declarators_layer expressions_layer properties_layer statements_layer
+    fold-Catch Marking Marks Marks Marks Marks Marks Marks Marks Marks Marks Marks expression_layer property_layer
+    key_layer statement_layer block_layer catch_layer declarator_layer declarators_layer expressions_layer
+    properties_layer statements_layer
 
 -- the marks of a declarator
 unfoldable pub declarator_marks : Declarator → Marks
 declarator_marks =
-    fold-Declarator Marking Marks Marks Marks Marks Marks Marks Marks Marks Marks Marks expression_layer property_layer key_layer statement_layer block_layer catch_layer declarator_layer declarators_layer expressions_layer properties_layer statements_layer
+    fold-Declarator Marking Marks Marks Marks Marks Marks Marks Marks Marks Marks Marks expression_layer property_layer
+    key_layer statement_layer block_layer catch_layer declarator_layer declarators_layer expressions_layer
+    properties_layer statements_layer
 
 -- the marks of the declarators of a declaration
 unfoldable pub declarators_marks : Declarators → Marks
 declarators_marks =
-    fold-Declarators Marking Marks Marks Marks Marks Marks Marks Marks Marks Marks Marks expression_layer property_layer key_layer statement_layer block_layer catch_layer declarator_layer declarators_layer expressions_layer properties_layer statements_layer
+    fold-Declarators Marking Marks Marks Marks Marks Marks Marks Marks Marks Marks Marks expression_layer property_layer
+    key_layer statement_layer block_layer catch_layer declarator_layer declarators_layer expressions_layer
+    properties_layer statements_layer
 
 -- the marks of a list of expressions
 unfoldable pub expressions_marks : Exprs → Marks
 expressions_marks =
-    fold-Exprs Marking Marks Marks Marks Marks Marks Marks Marks Marks Marks Marks expression_layer property_layer key_layer statement_layer block_layer catch_layer declarator_layer declarators_layer expressions_layer properties_layer statements_layer
+    fold-Exprs Marking Marks Marks Marks Marks Marks Marks Marks Marks Marks Marks expression_layer property_layer
+    key_layer statement_layer block_layer catch_layer declarator_layer declarators_layer expressions_layer
+    properties_layer statements_layer
 
 -- the marks of the members of an object literal
 unfoldable pub properties_marks : PropertyDefinitions → Marks
 properties_marks =
-    fold-PropertyDefinitions Marking Marks Marks Marks Marks Marks Marks Marks Marks Marks Marks expression_layer property_layer key_layer statement_layer block_layer catch_layer declarator_layer declarators_layer expressions_layer properties_layer statements_layer
+    fold-PropertyDefinitions Marking Marks Marks Marks Marks Marks Marks Marks Marks Marks Marks expression_layer
+    property_layer key_layer statement_layer block_layer catch_layer declarator_layer declarators_layer
+    expressions_layer properties_layer statements_layer
 
 -- the marks of a list of statements
 unfoldable pub statements_marks : Stmts → Marks
 statements_marks =
-    fold-Stmts Marking Marks Marks Marks Marks Marks Marks Marks Marks Marks Marks expression_layer property_layer key_layer statement_layer block_layer catch_layer declarator_layer declarators_layer expressions_layer properties_layer statements_layer
+    fold-Stmts Marking Marks Marks Marks Marks Marks Marks Marks Marks Marks Marks expression_layer property_layer
+    key_layer statement_layer block_layer catch_layer declarator_layer declarators_layer expressions_layer
+    properties_layer statements_layer

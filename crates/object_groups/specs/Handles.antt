@@ -37,7 +37,10 @@ next_number s = s.made + 1
 -- one handle more, in a group or in none
 abbrev pub with_handle : Target → Option (List ℕ) → State → State
 with_handle target group s =
-    record { held = s.held ++ record { number = next_number s; target = target; group = group } ∷ []; made = next_number s }
+    record {
+      held = s.held ++ record { number = next_number s; target = target; group = group } ∷ [];
+      made = next_number s;
+    }
 
 -- ---- finding and releasing
 

@@ -169,5 +169,11 @@ added names more t w es at x root from first o plain entry h g k e a b c d s r i
     let Q : ℕ → Type 0 = AreClosed w in
     let R : ℕ → Type 0 = ArePlaced w in
     let tree : HasTree more w root x = (let t' : Holds more w x (Some root) = subst P e k in t') in
-    let ready : IsReady t w plain entry = record { keeps = g.table; closed = subst Q a b; placed = subst R c d; indexed = i; within = j } in
+    let ready : IsReady t w plain entry = record {
+      keeps = g.table;
+      closed = subst Q a b;
+      placed = subst R c d;
+      indexed = i;
+      within = j;
+    } in
     source-added names more t w es at x root plain entry h g.names ready tree s r l

@@ -125,7 +125,8 @@ cut-back u v m c t es h k g =
       nodes = cut_same t.nodes.items u.nodes.items v.nodes.items m.nodes g.entries.nodes k.nodes c.nodes;
       kids = cut_same t.kids.items u.kids.items v.kids.items m.kids g.entries.kids k.kids c.kids;
       functions =
-          cut_same t.functions.items u.functions.items v.functions.items m.functions g.entries.functions k.functions c.functions;
+          cut_same t.functions.items u.functions.items v.functions.items m.functions g.entries.functions k.functions
+          c.functions;
       sources = cut_same t.sources.items u.sources.items v.sources.items m.sources b k.sources c.sources;
     } in
     record {

@@ -182,7 +182,13 @@ prepared_same : (w : World) (x : ScratchSpace) (us : List ℕ) (order : List (Li
     (kept_tree (next_kept x) e)
 prepared_same w x us order e =
     let c : World = copied_world w x in
-    let v : World = record c { scratch = c.scratch ++ cells.Text us ∷ []; room = record { cells = c.room.cells; units = c.room.units - length us } } in
+    let v : World = record c {
+      scratch = c.scratch ++ cells.Text us ∷ [];
+      room = record {
+        cells = c.room.cells;
+        units = c.room.units - length us;
+      };
+    } in
     tried_same (nat_le (length us) c.room.units) (Scratch (length c.scratch)) v counted.Units
     (λ at z. after_try (place_literals z order (literals (kept_term at e))) (λ o y. fine (kept_tree at e) y))
 

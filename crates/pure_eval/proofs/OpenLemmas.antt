@@ -259,7 +259,8 @@ pub evaluates-open : (end : Evaluated) (x : Prepared) (work : Work) (old new : E
     (expression_source e) work)
     end (space_of old.names g) (space_of new.names h))
     → Evaluates end work x (opened_of old n m base o k) (opened_of new n m base q k)
-evaluates-open end x work old new n start m base g h o q k count from next f i went code further known number long before over answer =
+evaluates-open end x work old new n start m base g h o q k count from next f i went code further known number long
+    before over answer =
     λ source e prepared.
     let y : ScratchSpace = space_after (over_world old.names o) in
     let p : Program = program_of old.names old.table in

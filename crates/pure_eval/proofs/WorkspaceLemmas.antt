@@ -150,7 +150,8 @@ program-first b e n c g f =
     let more : Program = source_trees e.names e.table g.entries in
     let parts : program_of e.names e.table ≡ first ++ more = ap (source_trees e.names e.table) g.table.sources
     ∙ trees_append e.names e.table b.table.sources.items g.entries in
-    let stays : first ≡ program_of b.names b.table = sources-stay e.names b.table e.table b.table.sources.items w.table w.closed g.table.entries w.sources
+    let stays : first ≡ program_of b.names b.table = sources-stay e.names b.table e.table b.table.sources.items w.table
+    w.closed g.table.entries w.sources
     ∙ c.steady e.names g.names in
     ap (take n) parts
     ∙ ap (λ k. take k (first ++ more)) (f ∙ sym (program-length e.names e.table b.table.sources.items))

@@ -74,7 +74,8 @@ end_with (steppeds.Full what) = Some (ends.Full what)
 end_with steppeds.Memory = Some ends.Memory
 end_with stepped = None
 
--- what the run of a call comes to that begins with its callee: the call of a value, with the steps that are left, or an end
+-- what the run of a call comes to that begins with its callee: the call of a value, with the steps that are left, or an
+-- end
 abbrev pub ComesTo : Program → Addr → ℕ → Run → Value → List Value → Callee → State → Type 0
 ComesTo p root most first receiver arguments (callees.Reduced v left) s =
     steps_in most p root first ≡ steps_in left p root (run_of (call_with_values receiver (done v) arguments) s)

@@ -25,7 +25,8 @@ pub record GoesOnFrom (w : World) (x : ScratchSpace) (m : Marked) : Type 0 where
   pub cells_left : m.cells_left ≡ x.room.cells
   pub units_left : m.units_left ≡ x.room.units
 
--- the answer of the definition: with the cells of its world, or with the session's cells as before; want of memory says nothing
+-- the answer of the definition: with the cells of its world, or with the session's cells as before; want of memory says
+-- nothing
 abbrev pub Leaves : Answer → Evaluated → ScratchSpace → ScratchSpace → Type 0
 Leaves a (ends.Value v) old new = (w : World) × (a ≡ a_result v w) × (new ≡ space_after w)
 Leaves a (ends.Thrown v) old new = (w : World) × (a ≡ a_throw v w) × (new ≡ space_after w)

@@ -14,7 +14,8 @@ use Rattle.pure_eval.specs.Leaving.{refused_end}
 abbrev pub AreSameLiterals : List (List ℕ) → List (List ℕ) → Type 0
 AreSameLiterals order literals = (w : World) → SameOutcome (make_literals w literals) (make_literals w order)
 
--- a term that is ready in the copied world; a full scratch names the count that is passed first in the order of the source
+-- a term that is ready in the copied world; a full scratch names the count that is passed first in the order of the
+-- source
 abbrev pub ready_in_order : World → ScratchSpace → List ℕ → List (List ℕ) → List (List ℕ) → Term → Tried Term
 ready_in_order w x source order literals t =
     after_try (keep_source (copied_world w x) source)

@@ -21,7 +21,8 @@ pub record IsWorking (e : Evaluator) (scripts : ℕ) (m : EvaluatorMark) : Type 
   pub goes_on : WentOn first e
   pub count : length first.table.sources.items ≡ scripts
 
--- an evaluator over a program's cells, with those of a session, which went on from one that was marked when it was opened
+-- an evaluator over a program's cells, with those of a session, which went on from one that was marked when it was
+-- opened
 pub record IsOpen (e : Evaluator) (scripts : ℕ) (start mark : EvaluatorMark) (base : Heap) (world : Over)
     (cells : Marked) (count : ℕ) (next : Addr) : Type 0 where
   pub working : IsWorking e scripts start

@@ -42,8 +42,8 @@ emptied_workspace x = record x { program = take x.scripts x.program; scratch = f
 
 -- ---- over the cells of a program
 
--- a workspace that was opened over the cells of a program: those, and what evaluations would go on from when it was opened and
--- behind those that were made since
+-- a workspace that was opened over the cells of a program: those, and what evaluations would go on from when it was
+-- opened and behind those that were made since
 pub record Opened : Type 0 where
   pub world : World
   pub before : Workspace
@@ -68,7 +68,8 @@ opened_of e n m base world cells = record {
       record { program = program_of e.names e.table; scripts = n; scratch = space_after (over_world e.names world) };
 }
 
--- how an evaluation of what is made of a source ends, and what it leaves, by the definition's answer; want of memory says nothing
+-- how an evaluation of what is made of a source ends, and what it leaves, by the definition's answer; want of memory
+-- says nothing
 abbrev pub EvaluatesTo : Answer → Made → Evaluated → Opened → Opened → Type 0
 EvaluatesTo a e (ends.Value v) old new =
     (w : World) × (a ≡ a_result v w) × (new ≡ record old { behind = with_evaluated e w old.behind })

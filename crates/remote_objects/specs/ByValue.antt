@@ -1,4 +1,5 @@
--- Values by value (Chrome DevTools Protocol 1.3, `returnByValue`): as JSON in place of a handle, unless they are too deep or have too many parts.
+-- Values by value (Chrome DevTools Protocol 1.3, `returnByValue`): as JSON in place of a handle, unless they are too
+-- deep or have too many parts.
 use Rattle.std.specs.Prelude.{◌≡◌, ℕ, ◌+◌, zero, suc, max, ◌<◌, ◌≤◌, ◌⊎◌, Bool, true, false, ◌&&◌, List, [], ◌∷◌, ◌++◌, nat_le, if◌then◌else◌, Option, Some, None, Result, Ok, Err, codes}
 use Rattle.js_heap.specs.declared.cell.Cell.{Cell}
 use Rattle.js_heap.specs.declared.cell.Cell.TheVariants as cells
@@ -18,7 +19,8 @@ use Rattle.remote_objects.specs.declared.by_value.TheConstants.{MOST_DEEP, MOST_
 
 -- ---- what is given
 
--- what is given for a value or for parts of one, how deep these are, and how many values were met; one that is met again counts again
+-- what is given for a value or for parts of one, how deep these are, and how many values were met; one that is met
+-- again counts again
 pub record Given (A : Type 0) : Type 0 where
   pub given : A
   pub depth : ℕ
@@ -113,7 +115,8 @@ abbrev pub value_by : World → (Addr → Given Json) → Value → Given Json
 value_by w objects (values.Object a) = objects a
 value_by w objects v = plain_given w v
 
--- an object that is looked at so many levels deep, since a world may have cycles; one at which nobody looks is deeper than 0
+-- an object that is looked at so many levels deep, since a world may have cycles; one at which nobody looks is deeper
+-- than 0
 unfoldable pub object_given : World → ℕ → Addr → Given Json
 object_given w zero a = around (mapped object_of no_parts)
 object_given w (suc n) a = around (parts_given w (value_by w (object_given w n)) (read_cell w a))

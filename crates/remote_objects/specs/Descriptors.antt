@@ -1,4 +1,5 @@
--- The own properties of what a handle stands for (Chrome DevTools Protocol 1.3, `Runtime.PropertyDescriptor`), in the order of ECMA-262, 10.1.11.
+-- The own properties of what a handle stands for (Chrome DevTools Protocol 1.3, `Runtime.PropertyDescriptor`), in the
+-- order of ECMA-262, 10.1.11.
 use Rattle.std.specs.Prelude.{ℕ, ◌+◌, Bool, true, false, not, List, [], ◌∷◌, ◌++◌, map, codes, decimal, Option, Some, None, pos}
 use Rattle.js_heap.specs.declared.cell.Binding.{Binding}
 use Rattle.js_heap.specs.declared.cell.Cell.{Cell}
@@ -36,7 +37,13 @@ pub record Slot : Type 0 where
 -- a property of an object, with its flags
 abbrev pub property_slot : Property → Slot
 property_slot p =
-    record { name = p.key; content = a_value p.value; writable = p.writable; enumerable = p.enumerable; configurable = p.configurable }
+    record {
+      name = p.key;
+      content = a_value p.value;
+      writable = p.writable;
+      enumerable = p.enumerable;
+      configurable = p.configurable;
+    }
 
 -- the length of an array, which can be written alone
 abbrev pub array_length : ℕ → Slot
@@ -127,6 +134,7 @@ descriptor s detail group p h =
       handles = (content_made s detail group p.content h).handles;
     }
 
--- the properties of a target, in order, with or without previews of their values; new handles are in this group or in none
+-- the properties of a target, in order, with or without previews of their values; new handles are in this group or in
+-- none
 abbrev pub descriptors_with : Sight → Detail → Option (List ℕ) → Target → handles.State → Made (List Json)
 descriptors_with s detail group target h = made_all (descriptor s detail group) (slots_of s.world target) h

@@ -23,7 +23,8 @@ number_behind session parts = if bytes_eq parts.front (decimal session) then dec
 abbrev pub number_in_id : ℕ → List ℕ → Option ℕ
 number_in_id session text = option_and_then (number_behind session) (halves 46 text)
 
--- a text is the id of a session's object of this number (`read_object_id`: value { result ≡ number_in_id session text.now }, and that just the written ids are read)
+-- a text is the id of a session's object of this number (`read_object_id`: value { result ≡ number_in_id session
+-- text.now }, and that just the written ids are read)
 pub record IsObjectId (session : ℕ) (text : List ℕ) (number : ℕ) : Type 0 where
   pub written : text ≡ object_id session number
   pub small : number < 2 ^ 64

@@ -1,4 +1,5 @@
--- Previews of objects (Chrome DevTools Protocol 1.3, `Runtime.ObjectPreview` and `Runtime.PropertyPreview`): the first of their enumerable properties in short, without handles.
+-- Previews of objects (Chrome DevTools Protocol 1.3, `Runtime.ObjectPreview` and `Runtime.PropertyPreview`): the first
+-- of their enumerable properties in short, without handles.
 use Rattle.std.specs.Prelude.{ℕ, ◌+◌, Bool, true, false, List, [], ◌∷◌, ◌++◌, map, length, take, codes, decimal, nat_lt, nat_le, if◌then◌else◌, Option, Some}
 use Rattle.js_heap.specs.declared.cell.Cell.{Cell}
 use Rattle.js_heap.specs.declared.cell.Cell.TheVariants as cells

@@ -1,4 +1,5 @@
--- Remote objects (Chrome DevTools Protocol 1.3, `Runtime.RemoteObject`): what a value is described as, with a handle where it is an object.
+-- Remote objects (Chrome DevTools Protocol 1.3, `Runtime.RemoteObject`): what a value is described as, with a handle
+-- where it is an object.
 use Rattle.std.specs.Prelude.{ℕ, List, ◌++◌, Option}
 use Rattle.js_heap.specs.World.{read_cell}
 use Rattle.js_heap.specs.declared.value.Addr.{Addr}

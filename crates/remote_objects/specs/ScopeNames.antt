@@ -10,7 +10,8 @@ use Rattle.js_heap.specs.World.{World, read_cell}
 abbrev pub binding_name : Binding → List ℕ
 binding_name b = b.name
 
--- the names of a scope with this cell in the order in which they were declared, also those without a value yet; another cell has none
+-- the names of a scope with this cell in the order in which they were declared, also those without a value yet; another
+-- cell has none
 abbrev pub names_of_cell : Option Cell → List (List ℕ)
 names_of_cell (Some (cells.Bindings kind name outer names)) = map binding_name names
 names_of_cell cell = []

@@ -10,7 +10,13 @@ use Rattle.remote_objects.specs.Descriptors.{Content, a_value, a_text, Slot, des
 -- a property of this name and content with its flags
 abbrev pub slot_with : List ℕ → Content → Flags → Slot
 slot_with name content flags =
-    record { name = name; content = content; writable = flags.writable; enumerable = flags.enumerable; configurable = flags.configurable }
+    record {
+      name = name;
+      content = content;
+      writable = flags.writable;
+      enumerable = flags.enumerable;
+      configurable = flags.configurable;
+    }
 
 -- what a property is described as, whatever it holds is described as
 abbrev pub described : List ℕ → Flags → Json → Json

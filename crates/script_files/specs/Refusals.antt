@@ -28,7 +28,8 @@ StandsWithin source (faults.Token at) = (at ≤ length source) × (length source
 StandsWithin source (faults.Syntax at) = (at ≤ length source) × (length source < 2 ^ 32)
 StandsWithin source f = Unit {0}
 
--- This fault stands in a source behind scripts that declare these names, and the source has no cause of a fault at an earlier place.
+-- This fault stands in a source behind scripts that declare these names, and the source has no cause of a fault at an
+-- earlier place.
 pub record IsFaultOf (declared : List (List ℕ)) (source : List ℕ) (f : ParseFault) : Type 0 where
   pub caused : Caused (IsScript declared) height_of_statements source f
   pub first : (g : ParseFault) → IsCause (IsScript declared) source g → ComesFirst f g
@@ -38,7 +39,8 @@ pub record IsRefusedBy (declared : List (List ℕ)) (source : List ℕ) (f : Par
   pub fault : IsFaultOf declared source f
   pub told : refusal_of source f ≡ Some r
 
--- Bytes are refused as a script behind scripts that declare these names: they aren't UTF-8, or what they spell has this fault.
+-- Bytes are refused as a script behind scripts that declare these names: they aren't UTF-8, or what they spell has this
+-- fault.
 abbrev pub IsRefused : List (List ℕ) → List ℕ → Refusal → Type 0
 IsRefused declared bytes r =
     ((is_utf8 bytes ≡ false) × (r ≡ refusals.NotUtf8))

@@ -18,7 +18,8 @@ use Rattle.script_files.specs.declared.fault.FileFault.TheVariants as faults
 use Rattle.script_files.specs.TopNames.{declared_in}
 use Rattle.script_files.specs.Refusals.{IsRefused}
 
--- These bytes are this script, under this name, behind so many scripts that declare these names: its source is what the bytes spell, its tree the one of that source, and its nodes are numbered in the order in which they end.
+-- These bytes are this script, under this name, behind so many scripts that declare these names: its source is what the
+-- bytes spell, its tree the one of that source, and its nodes are numbered in the order in which they end.
 pub record IsScriptOf (declared : List (List ℕ)) (before : ℕ) (name bytes : List ℕ) (s : Script) : Type 0 where
   pub utf8 : is_utf8 bytes ≡ true
   pub number : s.number ≡ before + 1

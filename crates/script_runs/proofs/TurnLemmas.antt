@@ -26,7 +26,13 @@ taken_run : (n : Machine) (w : World) (taken : List (List ℕ))
     ≡ run_at n w taken
 taken_run n w taken =
     ap (λ (ps : List (List ℕ)). run_by n.ended (term_of n)
-    (record { world = w; frames = n.context.frames; outer_this = n.context.outer_this; input = n.context.input; printed = ps }))
+    (record {
+      world = w;
+      frames = n.context.frames;
+      outer_this = n.context.outer_this;
+      input = n.context.input;
+      printed = ps;
+    }))
     (append-nil (taken ++ n.context.printed))
 
 turned_there : (m n : Machine) (v w : World) (k : ℕ) (texts : List (List ℕ))

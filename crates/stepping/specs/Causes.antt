@@ -29,8 +29,8 @@ EndsAt kinds.Out asked depth = depth < asked
 abbrev pub HasArrived : Arrival → Type 0
 HasArrived a = IsSome a.place
 
--- the rule of a cause, for a session that stops the program at all; `hit` says that an active breakpoint of it is at the
--- place, and that the condition of it holds
+-- the rule of a cause, for a session that stops the program at all; `hit` says that an active breakpoint of it is at
+-- the place, and that the condition of it holds
 abbrev pub Applies : Rules → Arrival → Bool → Cause → Type 0
 Applies r a hit causes.Exception = StopsAtRaise r.exceptions a.raised
 Applies r a hit causes.Breakpoint = HasArrived a × IsTrue hit

@@ -1,4 +1,5 @@
--- Where the readers of arrow functions, assignments and whole expressions stop, the tokens before begin well-formed expressions.
+-- Where the readers of arrow functions, assignments and whole expressions stop, the tokens before begin well-formed
+-- expressions.
 use Rattle.std.proofs.Common.{◌≡◌, ℕ, zero, suc, ◌<◌, Bool, true, false, List, [], ◌∷◌, ◌++◌, length, Option, Some, None, Ok, Err, refl, sym, ap, subst, ◌∙◌, inl, inr, append_assoc, arith}
 use Rattle.std.specs.Prelude.{if◌then◌else◌}
 use Rattle.std.proofs.lemmas.List.{append-nil}
@@ -129,7 +130,8 @@ unfolding arrow_rest
 arrow_rest_lives n b snd a s ps ts e m fresh p =
     elim (bind_err (expect_near kinds.Arrow ts)
     (λ a. arrow_body_by b ps (names_of_parameters ps) (is_kind kinds.LeftBrace (head_of a.1)) a.1) e p) [
-      | inl q ↦ stopped (flat_arrow_parameters ps) (firm_arrow_parameters ps) s ts m e (expect_near_err kinds.Arrow ts e q)
+      | inl q ↦ stopped (flat_arrow_parameters ps) (firm_arrow_parameters ps) s ts m e
+          (expect_near_err kinds.Arrow ts e q)
           (trees.arrow ps (trees.number 0)) (((fresh, tt, omega arith, refl), omega arith), refl)
           zero_arrow zero_arrow_tokens zero_arrow_spelled refl
       | inr q ↦ arrow_body_lives n b snd a s ps ts m fresh q.0.1 (expect_near_sound kinds.Arrow ts q.0 q.1)
@@ -161,7 +163,8 @@ abbrev with_zero : List Identifier → Expressions
 with_zero [] = trees.an_expression (trees.number 0) trees.no_expressions
 with_zero (n ∷ ns) = trees.an_expression (trees.name n) (with_zero ns)
 
--- What names that end so are, as they are read: of true they begin expressions that 0 ends, of false they are expressions with the parenthesis.
+-- What names that end so are, as they are read: of true they begin expressions that 0 ends, of false they are
+-- expressions with the parenthesis.
 abbrev Shaped : Bool → List Identifier → List Token → List Token → Type 0
 Shaped true names us r =
     (before : List Token)
@@ -676,7 +679,8 @@ comma_by_lives n b snd a s t true ts e f k p =
       ]
       | inr c ↦ token_lives 1 (suc n) s t ts e k kinds.Comma (next_is kinds.Comma (head_of ts) f) c
           (trees.comma (trees.an_expression t (trees.an_expression (trees.number 0) trees.no_expressions)))
-          ((refl, (k.well, k.level, (tt, omega arith, tt))), omega arith) zero_marks zero_token (λ r. ((refl, refl), refl))
+          ((refl, (k.well, k.level, (tt, omega arith, tt))), omega arith) zero_marks zero_token
+          (λ r. ((refl, refl), refl))
           refl
     ]
 

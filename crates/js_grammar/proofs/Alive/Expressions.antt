@@ -244,7 +244,8 @@ property_by_lives n b s a false ts e p =
           ends_in l (trees.value l.tree (trees.number 0)) (l.good, tt, omega arith) zero_value zero_value_tokens
           (λ r. (refl, ((refl, refl), refl))) refl
       | inr q ↦ from_nothing
-          (member_by_lives n b s a ts q.0.0 (after_key (head_of q.0.1)) q.0.1 e refl (key_sound seq_sound n b s ts q.0 q.1)
+          (member_by_lives n b s a ts q.0.0 (after_key (head_of q.0.1)) q.0.1 e refl
+          (key_sound seq_sound n b s ts q.0 q.1)
           q.2)
     ]
 
@@ -401,7 +402,8 @@ linked_by_lives : (n : ℕ) (b : Below)
 linked_by_lives n b snd a s f dot ts e g t p =
     elim (bind_err (word_at (tail_of ts)) (λ x. Ok (trees.member f x.0, x.1)) e p) [
       | inl q ↦ token_lives 15 (suc n) s f ts e t kinds.Dot (link_dot (head_of ts) g) (word_err (tail_of ts) e q)
-          (trees.member f x_name) ((t.well, t.level), omega arith) word_marks word_tokens (λ r. ((refl, refl), refl)) refl
+          (trees.member f x_name) ((t.well, t.level), omega arith) word_marks word_tokens (λ r. ((refl, refl), refl))
+          refl
       | inr q ↦ absurd cc
     ]
 linked_by_lives n b snd a s f key ts e g t p =
@@ -470,7 +472,8 @@ linked_higher b f classes.arguments ts x p =
     (λ v. omega arith) ts x p
 linked_higher b f no_link ts x p = absurd cc
 
--- Where what goes on with links stops, the tokens before begin an expression. There are turns enough for all that is low enough.
+-- Where what goes on with links stops, the tokens before begin an expression. There are turns enough for all that is
+-- low enough.
 abbrev GoesAlive : ℕ → ℕ → List Token → (Expression → Reader Expression) → Type 0
 GoesAlive n k s go =
     (f : Expression) (ts : List Token) (e : Fault)
@@ -581,7 +584,8 @@ postfix_lives n b s a ts e p =
     elim (bind_err (call b n ts) (λ x. updated_by n x.0 (update_near (head_of x.1)) x.1) e p) [
       | inl q ↦ looser 15 14 (omega arith) (call_lives n b s a ts e q)
       | inr q ↦ from_nothing
-          (updated_by_lives n ts q.0.0 (update_near (head_of q.0.1)) q.0.1 e refl (call_sound seq_sound n b s ts q.0 q.1)
+          (updated_by_lives n ts q.0.0 (update_near (head_of q.0.1)) q.0.1 e refl
+          (call_sound seq_sound n b s ts q.0 q.1)
           q.2)
     ]
 

@@ -1,4 +1,5 @@
--- A token that begins an expression or a statement lives, whatever follows it: the tree that it begins, with what is added behind it.
+-- A token that begins an expression or a statement lives, whatever follows it: the tree that it begins, with what is
+-- added behind it.
 use Rattle.std.proofs.Common.{◌≡◌, Bool, true, false, List, [], ◌∷◌, ◌++◌, length, Option, None, refl, ap, ◌∙◌, inl, inr, arith}
 use Rattle.js_lexer.specs.declared.token.TokenKind.{TokenKind}
 use Rattle.js_lexer.specs.declared.token.TokenKind.TheVariants as kinds
@@ -143,7 +144,8 @@ test_marks =
 
 abbrev test_tokens : List Added
 test_tokens =
-    a_token kinds.LeftParenthesis ∷ a_token kinds.Number ∷ a_token kinds.RightParenthesis ∷ a_token kinds.Number ∷ a_token kinds.Semicolon ∷ []
+    a_token kinds.LeftParenthesis ∷ a_token kinds.Number ∷ a_token kinds.RightParenthesis ∷ a_token kinds.Number ∷
+    a_token kinds.Semicolon ∷ []
 
 test_spelled : (r : List Token) → Matches test_marks (added test_tokens ++ r) r
 test_spelled r = (refl, ((refl, refl), (refl, ((refl, refl), inl (refl, refl)))))
@@ -156,7 +158,8 @@ zero_do =
 
 abbrev zero_do_tokens : List Added
 zero_do_tokens =
-    a_token kinds.Number ∷ a_token kinds.Semicolon ∷ a_token kinds.While ∷ a_token kinds.LeftParenthesis ∷ a_token kinds.Number ∷ a_token kinds.RightParenthesis ∷ a_token kinds.Semicolon ∷ []
+    a_token kinds.Number ∷ a_token kinds.Semicolon ∷ a_token kinds.While ∷ a_token kinds.LeftParenthesis ∷ a_token
+    kinds.Number ∷ a_token kinds.RightParenthesis ∷ a_token kinds.Semicolon ∷ []
 
 abbrev zero_for : List Mark
 zero_for =
@@ -165,7 +168,8 @@ zero_for =
 
 abbrev zero_for_tokens : List Added
 zero_for_tokens =
-    a_token kinds.LeftParenthesis ∷ a_token kinds.Semicolon ∷ a_token kinds.Semicolon ∷ a_token kinds.RightParenthesis ∷ a_token kinds.Number ∷ a_token kinds.Semicolon ∷ []
+    a_token kinds.LeftParenthesis ∷ a_token kinds.Semicolon ∷ a_token kinds.Semicolon ∷ a_token kinds.RightParenthesis ∷
+    a_token kinds.Number ∷ a_token kinds.Semicolon ∷ []
 
 abbrev zero_statement_tree : Statement
 zero_statement_tree = trees.expression (trees.number 0)

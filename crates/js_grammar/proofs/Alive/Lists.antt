@@ -115,7 +115,8 @@ elements_by_lives {S} {A} First one next flat_of Good reads firm lives closer go
           e q.2) [
             | inl k ↦
                 let t = reads s ts q.0 q.1 in
-                go_after_lives {Good = AllGood next Good (next s q.0.0)} {Fine = AllGood next Good s} flat_of closer q.0.0
+                go_after_lives {Good = AllGood next Good (next s q.0.0)} {Fine = AllGood next Good s} flat_of closer
+                q.0.0
                 (firm s q.0.0 t.1) (λ xs g. (t.1, g)) tt (go (next s q.0.0)) (h (next s q.0.0))
                 (after closer (head_of q.0.1)) ts q.0.1 refl t.0 e k
             | inr k ↦ absurd cc

@@ -124,7 +124,8 @@ pub empty_code : (ts : List Token) (e : Fault)
     → Lives (IsAdded kinds.LeftParenthesis) flat_code IsCode ts e
 empty_code ts e c =
     fills ts e c (record { parameters = []; body = trees.no_statements }) ((tt, tt), tt)
-    (a_token kinds.LeftParenthesis ∷ a_token kinds.RightParenthesis ∷ a_token kinds.LeftBrace ∷ a_token kinds.RightBrace ∷ [])
+    (a_token kinds.LeftParenthesis ∷ a_token kinds.RightParenthesis ∷ a_token kinds.LeftBrace ∷ a_token
+    kinds.RightBrace ∷ [])
     (λ r. (refl, (refl, (refl, (refl, refl))))) (λ r. refl)
 
 -- x, one time more than this
@@ -401,7 +402,8 @@ braces_lives n b s a context taken ts e p =
     elim (bind_err (expect kinds.LeftBrace ts)
     (λ o. items_at b context taken o.1 >>= λ x. expect kinds.RightBrace x.1 >>= λ c. Ok (x.0, c.1)) e p) [
       | inl q ↦ empty_block context taken ts e (expect_err kinds.LeftBrace ts e q)
-      | inr q ↦ from_nothing (inside_lives n b s a context taken ts q.0.1 e (expect_sound kinds.LeftBrace ts q.0 q.1) q.2)
+      | inr q ↦ from_nothing (inside_lives n b s a context taken ts q.0.1 e (expect_sound kinds.LeftBrace ts q.0 q.1)
+          q.2)
     ]
 
 -- where the first brace is there
@@ -488,7 +490,8 @@ initializer_lives b a constant taken ts m r t f true h e p =
           around l (token (identifier m) ∷ token (fixed kinds.Assign) ∷ []) refl ts
           (joins (token (identifier m) ∷ []) (token (fixed kinds.Assign) ∷ []) ts r (tail_of r) t
           (next_is kinds.Assign (head_of r) h, refl))
-          (trees.declarator m (trees.present l.tree)) (l.good, initialized_present constant m l.tree, f) [] [] (λ r. refl)
+          (trees.declarator m (trees.present l.tree)) (l.good, initialized_present constant m l.tree, f) [] []
+          (λ r. refl)
           refl
       | inr q ↦ absurd cc
     ]
@@ -577,7 +580,8 @@ declarators_lives n b s a constant taken ts e p =
                 let reads : Reads (λ names r. declarator_at b constant names r) flat_declarator (IsDeclarator constant)
                 = λ names ts x e. let t = declarator_sound n b s constant names ts x e in
                 (t.marks, (t.well, t.initialized, t.fresh)) in
-                let l = others_lives Anything (λ names r. declarator_at b constant names r) with_declarator flat_declarator
+                let l = others_lives Anything (λ names r. declarator_at b constant names r) with_declarator
+                flat_declarator
                 (IsDeclarator constant) reads (λ names d g. declarator_firm d (g.0, tt))
                 (λ names ts e p. declarator_lives b a constant names ts e p) (suc (length q.0.1))
                 (with_declarator taken q.0.0) q.0.1 e k in
@@ -604,7 +608,8 @@ optional_by_lives n b s a closer false ts e p =
     elim (bind_err (b.expression ts) (λ e. expect closer e.1 >>= λ c. Ok (trees.present e.0, c.1)) e p) [
       | inl q ↦
           let l = anything (a.expression ts e q) in
-          ends_in l (trees.present l.tree) l.good.0 (token (fixed closer) ∷ []) (a_token closer ∷ []) (λ r. (refl, refl))
+          ends_in l (trees.present l.tree) l.good.0 (token (fixed closer) ∷ []) (a_token closer ∷ [])
+          (λ r. (refl, refl))
           refl
       | inr q ↦ elim (bind_err (expect closer q.0.1) (λ c. Ok (trees.present q.0.0, c.1)) e q.2) [
         | inl k ↦
@@ -703,7 +708,8 @@ spell (a_statement context) = zero_spelled
 spell (a_block context taken) = a_token kinds.LeftBrace ∷ a_token kinds.RightBrace ∷ []
 spell (in_braces context taken) = a_token kinds.LeftBrace ∷ a_token kinds.RightBrace ∷ []
 spell code =
-    a_token kinds.LeftParenthesis ∷ a_token kinds.RightParenthesis ∷ a_token kinds.LeftBrace ∷ a_token kinds.RightBrace ∷ []
+    a_token kinds.LeftParenthesis ∷ a_token kinds.RightParenthesis ∷ a_token kinds.LeftBrace ∷ a_token
+    kinds.RightBrace ∷ []
 
 spelled : (i : Item) → is_writable i ≡ true → (r : List Token) → Matches (marks_of i (fill i)) (added (spell i) ++ r) r
 spelled (tok k) w r = (refl, refl)
@@ -933,7 +939,8 @@ known_lives n b s a k is y ts e f p =
       | inr q ↦ elim (bind_err (seq b is q.0.1) (λ y. Ok ((q.0.0, y.0), y.1)) e q.2) [
         | inl j ↦
             let l = seq_lives n b s a is y q.0.1 e j in
-            around l (token (fixed k) ∷ []) refl ts (expect_sound k ts q.0 q.1) (tt, l.tree) (tt, l.good) [] [] (λ r. refl)
+            around l (token (fixed k) ∷ []) refl ts (expect_sound k ts q.0 q.1) (tt, l.tree) (tt, l.good) [] []
+            (λ r. refl)
             (ap (λ (ms : List Mark). token (fixed k) ∷ ms) (append-nil (marks is l.tree)))
         | inr j ↦ absurd cc
       ]

@@ -406,14 +406,16 @@ catch_lives n b s a context true ts e f p =
     (λ n. b.block context (n.0.1.0 ∷ []) n.1 >>= λ x. Ok (trees.catch (Some n.0.1.0) x.0, x.1)) e p) [
       | inl q ↦
           let l = anything (seq_lives n b s a catch_items refl (tail_of ts) e q) in
-          around l (token (fixed kinds.Catch) ∷ []) refl ts (f, refl) (trees.catch (Some l.tree.1.0) trees.no_statements)
+          around l (token (fixed kinds.Catch) ∷ []) refl ts (f, refl)
+          (trees.catch (Some l.tree.1.0) trees.no_statements)
           ((tt, tt), refl) empty_braces empty_brace_tokens (λ r. (refl, (refl, refl))) refl
       | inr q ↦ elim
           (bind_err (b.block context (q.0.0.1.0 ∷ []) q.0.1) (λ x. Ok (trees.catch (Some q.0.0.1.0) x.0, x.1)) e q.2) [
             | inl w ↦
                 let t = seq_sound n b s catch_items (tail_of ts) q.0 q.1 in
                 let l = a.block context (q.0.0.1.0 ∷ []) q.0.1 e w in
-                let front = token (fixed kinds.Catch) ∷ token (fixed kinds.LeftParenthesis) ∷ token (identifier q.0.0.1.0)
+                let front = token (fixed kinds.Catch) ∷ token (fixed kinds.LeftParenthesis) ∷ token
+                (identifier q.0.0.1.0)
                 ∷ token (fixed kinds.RightParenthesis) ∷ [] in
                 behind l front refl ts (f, t.marks) (trees.catch (Some q.0.0.1.0) l.tree) (l.good, refl)
                 (ap (λ (ms : List Mark). front ++ ms) (sym (append-nil (flat_block l.tree))))
@@ -683,9 +685,11 @@ lexical_lives n b s a context constant taken ts e f p =
                 let end = semicolon (end_of_declarators ds) ∷ [] in
                 let front = token (fixed (let_kind constant)) ∷ flat_declarators ds in
                 stopped front
-                (firm_behind (token (fixed (let_kind constant))) (flat_declarators ds) (declarators_firm ds t.some t.well))
+                (firm_behind (token (fixed (let_kind constant))) (flat_declarators ds)
+                (declarators_firm ds t.some t.well))
                 ts q.0.1 (f, t.marks) e (semicolon_err (end_of_declarators ds) q.0.1 e w)
-                (trees.lexical constant ds) ((t.some, t.well, t.initialized), t.fresh) end (a_token kinds.Semicolon ∷ [])
+                (trees.lexical constant ds) ((t.some, t.well, t.initialized), t.fresh) end
+                (a_token kinds.Semicolon ∷ [])
                 (λ r. inl (refl, refl)) (let_marks constant (flat_declarators ds ++ end))
             | inr w ↦ absurd cc
           ]

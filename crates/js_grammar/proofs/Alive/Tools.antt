@@ -1,4 +1,5 @@
--- What lives: where a reader stops, the tokens before begin a well-formed tree. Tools to make such trees from those of the parts.
+-- What lives: where a reader stops, the tokens before begin a well-formed tree. Tools to make such trees from those of
+-- the parts.
 use Rattle.std.proofs.Common.{◌≡◌, ℕ, Bool, true, false, cond, List, [], ◌∷◌, ◌++◌, length, Option, Some, Ok, Err, refl, sym, ap, subst, ◌∙◌, ◌⊎◌, inl, inr, append_assoc}
 use Rattle.std.proofs.lemmas.List.{append-nil}
 use Rattle.js_lexer.specs.declared.token.TokenKind.{TokenKind}
@@ -69,7 +70,8 @@ pub added_append : (front back : List Added) → added (front ++ back) ≡ added
 added_append [] back = refl
 added_append (a ∷ front) back = ap (λ (us : List Token). as_token a ∷ us) (added_append front back)
 
--- what the first token of an added text may be: anything, nothing, the number 0 on a new line, a token of a kind on a new line
+-- what the first token of an added text may be: anything, nothing, the number 0 on a new line, a token of a kind on a
+-- new line
 abbrev pub Anything : Option Token → Type 0
 Anything o = Unit {0}
 
@@ -382,7 +384,8 @@ pub grows : {A B : Type 0} {First Other : Option Token
     → Matches (flat_as tree) (front ++ us) r)
     → ((us : List Token) → Starts First mid us → Starts Other ts (front ++ us))
     → Lives Other flat_as Fine ts e
-grows {A} {B} {First} {Other} {flat_of} {Good} {flat_as} {Fine} {mid} {e} l ts front parts tree fine more spelled starts =
+grows {A} {B} {First} {Other} {flat_of} {Good} {flat_as} {Fine} {mid} {e} l ts front parts tree fine more spelled
+    starts =
     let whole : (r : List Token)
     → (front ++ l.before) ++ (added (l.rest ++ more) ++ r) ≡ front ++ (l.before ++ (added l.rest ++ (added more ++ r)))
     = λ r. append_assoc front l.before (added (l.rest ++ more) ++ r)
@@ -499,7 +502,8 @@ pub around_softly : {A B : Type 0} {First : Option Token
     → (ns : List Mark) (more : List Added)
     → ((r : List Token) → Matches ns (added more ++ r) r)
     → ms ++ (flat_of l.tree ++ ns) ≡ flat_as tree → Lives First flat_as Fine ts e
-around_softly {A} {B} {First} {flat_of} {Good} {flat_as} {Fine} {mid} {e} l soft ms ts m tree fine ns more spelled same =
+around_softly {A} {B} {First} {flat_of} {Good} {flat_as} {Fine} {mid} {e} l soft ms ts m tree fine ns more spelled
+    same =
     let f = softens ms ts mid m in
     grows l ts f.before f.parts tree fine more
     (λ us r s k. subst (λ (ms : List Mark). Matches ms (f.before ++ us) r) same

@@ -1,4 +1,5 @@
--- The readers at the bottom, of which those of all heights are made where one asks what is too deep: names and the commas between them are read, and all else that begins anything is too deep.
+-- The readers at the bottom, of which those of all heights are made where one asks what is too deep: names and the
+-- commas between them are read, and all else that begins anything is too deep.
 use Rattle.std.proofs.Common.{◌≡◌, ℕ, suc, Bool, true, false, List, [], ◌∷◌, length, Ok, Err, refl, ap, subst, ◌∙◌, inl, inr, arith}
 use Rattle.js_lexer.specs.declared.token.TokenKind.TheVariants as kinds
 use Rattle.js_tree.specs.Trees as trees

@@ -1,4 +1,5 @@
--- What reads a name alone, and is too deep at whatever else begins an expression or goes on with the name: so much has to be read behind a parenthesis for it to be told from one before parameters.
+-- What reads a name alone, and is too deep at whatever else begins an expression or goes on with the name: so much has
+-- to be read behind a parenthesis for it to be told from one before parameters.
 use Rattle.std.proofs.Common.{◌≡◌, ℕ, zero, suc, Bool, true, false, List, [], ◌∷◌, ◌++◌, length, Option, Some, None, Ok, Err, refl, sym, ap, subst, ◌∙◌, inr, arith}
 use Rattle.std.specs.Prelude.{nat_le}
 use Rattle.std.proofs.lemmas.Bool.{lt-leb}
@@ -207,7 +208,8 @@ lone_name_deepens n s =
     ∙ e in absurd cc)
     (elim [
       | true ↦ lost_deepens n
-      | false ↦ on n (λ ts. behind bare 0 (trees.name s) ts) (behind_deepens bare 0 bare_own bare_deepens n (trees.name s))
+      | false ↦ on n (λ ts. behind bare 0 (trees.name s) ts)
+          (behind_deepens bare 0 bare_own bare_deepens n (trees.name s))
     ])
 
 lone_by_deepens : (n : ℕ) (v : Start) → DeepensOn n (λ ts. lone_by v ts)

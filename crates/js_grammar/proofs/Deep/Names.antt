@@ -1,4 +1,5 @@
--- Names in parentheses are never too deep for readers that read a name alone: so what is too deep there lies behind the tokens that were looked at.
+-- Names in parentheses are never too deep for readers that read a name alone: so what is too deep there lies behind the
+-- tokens that were looked at.
 use Rattle.std.proofs.Common.{◌≡◌, ℕ, zero, suc, ◌≤◌, Bool, true, false, cond, List, [], ◌∷◌, ◌++◌, length, Some, None, Ok, Err, refl, sym, ap, subst, ◌∙◌, append_assoc, arith}
 use Rattle.std.proofs.lemmas.List.{length-append}
 use Rattle.js_lexer.specs.declared.token.TokenKind.TheVariants as kinds

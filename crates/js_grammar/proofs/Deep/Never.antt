@@ -1,4 +1,5 @@
--- Where a tree would be too deep, the tokens through the one that shows it are read by nothing: one step up, for all that reads.
+-- Where a tree would be too deep, the tokens through the one that shows it are read by nothing: one step up, for all
+-- that reads.
 use Rattle.std.proofs.Common.{ℕ, suc, ◌≤◌, true, false, [], ◌∷◌, arith}
 use Rattle.js_tree.specs.Trees as trees
 use Rattle.js_tree.specs.Trees.{Identifier, Expression}

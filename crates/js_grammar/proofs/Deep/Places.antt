@@ -1,4 +1,5 @@
--- Why readers need levels to spare where they are to tell what is too deep: with one alone, names in parentheses are answered to be too deep, though they begin an arrow function that is low enough.
+-- Why readers need levels to spare where they are to tell what is too deep: with one alone, names in parentheses are
+-- answered to be too deep, though they begin an arrow function that is low enough.
 use Rattle.std.proofs.Common.{◌≡◌, ℕ, ◌+◌, ◌<◌, ◌≤◌, false, List, [], ◌∷◌, ◌++◌, Ok, Err, refl, subst, arith}
 use Rattle.js_lexer.specs.declared.token.TokenKind.TheVariants as k
 use Rattle.js_tree.specs.Trees.{Identifier, name_list, Expression, arrow_block, no_statements}

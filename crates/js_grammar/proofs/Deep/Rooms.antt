@@ -1,4 +1,6 @@
--- Readers of all heights over the readers at the bottom: they answer what reads trees at most n high answers, and what they answer, so does what reads trees that are three higher. Where they are too deep, the tokens through the one that shows it are read by none of them.
+-- Readers of all heights over the readers at the bottom: they answer what reads trees at most n high answers, and what
+-- they answer, so does what reads trees that are three higher. Where they are too deep, the tokens through the one that
+-- shows it are read by none of them.
 use Rattle.std.proofs.Common.{◌≡◌, ℕ, zero, suc, true, List, length, Err, arith}
 use Rattle.js_tree.specs.Trees.{Identifier}
 use Rattle.js_language.specs.Tokens.{Token}

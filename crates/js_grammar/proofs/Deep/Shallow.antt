@@ -1,4 +1,5 @@
--- Readers that read nothing: at a token that begins what they are for, all is too deep, and elsewhere they are stuck. Such readers stand below all others where one asks what is too deep.
+-- Readers that read nothing: at a token that begins what they are for, all is too deep, and elsewhere they are stuck.
+-- Such readers stand below all others where one asks what is too deep.
 use Rattle.std.proofs.Common.{◌≡◌, ℕ, suc, ◌≤◌, Bool, true, false, cond, List, [], ◌∷◌, length, Option, Some, None, Ok, Err, refl, ap, subst, ◌∙◌, ◌⊎◌, inl, inr, arith}
 use Rattle.std.specs.Prelude.{◌||◌}
 use Rattle.js_lexer.specs.declared.token.TokenKind.TheVariants as kinds

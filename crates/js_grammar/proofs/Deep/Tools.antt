@@ -1,4 +1,5 @@
--- Where a tree would be too deep, the tokens through the one that shows it are read by nothing: how readers that are made of others keep this.
+-- Where a tree would be too deep, the tokens through the one that shows it are read by nothing: how readers that are
+-- made of others keep this.
 use Rattle.std.proofs.Common.{◌≡◌, ℕ, zero, suc, ◌≤◌, Bool, true, false, cond, List, [], ◌∷◌, ◌++◌, length, Option, Some, None, Ok, Err, refl, sym, ap, ◌∙◌, append_assoc, arith}
 use Rattle.std.specs.Prelude.{nat_le}
 use Rattle.js_language.specs.Tokens.{Token, head_of, tail_of}

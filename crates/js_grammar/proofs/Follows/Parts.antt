@@ -393,9 +393,11 @@ pub braces_follows : (b c : Below)
     → Follows (λ ts. braces b context taken ts) (λ ts. braces c context taken ts)
 unfolding braces
 braces_follows b c p context taken =
-    let ended_left : Reader trees.Statements = λ ts. items_at b context taken ts >>= λ x. expect kinds.RightBrace x.1 >>= λ y. Ok
+    let ended_left : Reader trees.Statements = λ ts. items_at b context taken ts >>= λ x. expect kinds.RightBrace x.1
+    >>= λ y. Ok
     (x.0, y.1) in
-    let ended_right : Reader trees.Statements = λ ts. items_at c context taken ts >>= λ x. expect kinds.RightBrace x.1 >>= λ y. Ok
+    let ended_right : Reader trees.Statements = λ ts. items_at c context taken ts >>= λ x. expect kinds.RightBrace x.1
+    >>= λ y. Ok
     (x.0, y.1) in
     binds (λ ts. expect kinds.LeftBrace ts) (λ ts. expect kinds.LeftBrace ts) (λ o ts. ended_left ts)
     (λ o ts. ended_right ts) (expect_follows kinds.LeftBrace)

@@ -176,7 +176,8 @@ handler_follows b c p context =
     peeks (λ o. is_kind kinds.Catch o) (λ v ts. handler_by b context v ts) (λ v ts. handler_by c context v ts) (elim [
       | true ↦ past (λ ts. catch_by b context (is_kind kinds.LeftParenthesis (head_of ts)) ts)
           (λ ts. catch_by c context (is_kind kinds.LeftParenthesis (head_of ts)) ts)
-          (peeks (λ o. is_kind kinds.LeftParenthesis o) (λ v ts. catch_by b context v ts) (λ v ts. catch_by c context v ts)
+          (peeks (λ o. is_kind kinds.LeftParenthesis o) (λ v ts. catch_by b context v ts)
+          (λ v ts. catch_by c context v ts)
           (catch_follows b c p context))
       | false ↦ gives trees.no_catch
     ])

@@ -1,4 +1,5 @@
--- An answer depends on the tokens through the one where reading stopped, and on no others: what that says, and how readers that are made of others keep it.
+-- An answer depends on the tokens through the one where reading stopped, and on no others: what that says, and how
+-- readers that are made of others keep it.
 use Rattle.std.proofs.Common.{◌≡◌, ℕ, zero, suc, ◌<◌, ◌≤◌, Bool, true, false, cond, List, [], ◌∷◌, ◌++◌, length, Option, None, Ok, Err, refl, sym, ap, subst, ◌∙◌, append_assoc, arith}
 use Rattle.std.specs.Prelude.{nat_le}
 use Rattle.std.proofs.lemmas.List.{length-append}

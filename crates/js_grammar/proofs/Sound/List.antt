@@ -123,7 +123,8 @@ elements_by_sound {S} {A} one next flat_of Good reads closer go h false s ts f y
     subst (λ (y : List A × List Token). Matches (up_to flat_of closer y.0) ts y.1 × AllGood next Good s y.0)
     {x = (p.0.0 ∷ q.0.0, q.0.1)} (ok_is (p.0.0 ∷ q.0.0, q.0.1) y q.2) (
       subst (λ (ms : List Mark). Matches ms ts q.0.1)
-          (sym (append_assoc (flat_of p.0.0) (behind_commas flat_of q.0.0) (trailing_comma ∷ token (fixed closer) ∷ [])))
+          (sym (append_assoc (flat_of p.0.0) (behind_commas flat_of q.0.0)
+          (trailing_comma ∷ token (fixed closer) ∷ [])))
           m,
       (t.1, u.1),
     )

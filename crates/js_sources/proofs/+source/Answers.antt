@@ -64,7 +64,8 @@ statements::statement_functions-returns-in-For t c = item_functions c.args.s.now
 pub statements::statement_functions-returns-in-ForLexical : goal.statements::statement_functions-returns-in-ForLexical
 statements::statement_functions-returns-in-ForLexical t c = item_functions c.args.s.now _ (context_of c.args.place) _
     (ap statement_source c.in-ForLexical.is
-    ∙ source_for_lexical c.in-ForLexical.node c.in-ForLexical.constant c.in-ForLexical.declarators c.in-ForLexical.test c.in-ForLexical.update c.in-ForLexical.body)
+    ∙ source_for_lexical c.in-ForLexical.node c.in-ForLexical.constant c.in-ForLexical.declarators c.in-ForLexical.test
+    c.in-ForLexical.update c.in-ForLexical.body)
     c.end-in-ForLexical.ensures
 
 pub statements::statement_functions-returns-in-ForOf : goal.statements::statement_functions-returns-in-ForOf
@@ -98,11 +99,13 @@ pub statements::statement_functions-returns-in-Debugger : goal.statements::state
 statements::statement_functions-returns-in-Debugger t c = item_functions c.args.s.now _ (context_of c.args.place) _
     (ap statement_source c.in-Debugger.is ∙ source_debugger c.in-Debugger.node) c.end-in-Debugger.ensures
 
-pub statements::statement_functions-returns-in_ok-function-in-FunctionDeclaration : goal.statements::statement_functions-returns-in_ok-function-in-FunctionDeclaration
+pub statements::statement_functions-returns-in_ok-function-in-FunctionDeclaration :
+    goal.statements::statement_functions-returns-in_ok-function-in-FunctionDeclaration
 statements::statement_functions-returns-in_ok-function-in-FunctionDeclaration t c = functions_tail c.args.s.now _
     (context_of c.args.place) _
     (ap statement_source c.in-FunctionDeclaration.is
-    ∙ source_function_declaration c.in-FunctionDeclaration.node c.in-FunctionDeclaration.name c.in-FunctionDeclaration.parameters c.in-FunctionDeclaration.body)
+    ∙ source_function_declaration c.in-FunctionDeclaration.node c.in-FunctionDeclaration.name
+    c.in-FunctionDeclaration.parameters c.in-FunctionDeclaration.body)
     (functions_of (λ (t : semantics.Term). semantics.one t) _ _
     (c.in_ok-function-in-FunctionDeclaration.ensures
     ∙ ap (λ (n : List ℕ). semantics.part
@@ -122,13 +125,16 @@ pub statements::statement_term-returns-in-Empty : goal.statements::statement_ter
 statements::statement_term-returns-in-Empty t c = item_term c.args.s.now _ (context_of c.args.place) _
     (ap statement_source c.in-Empty.is ∙ source_empty c.in-Empty.node) c.done.ensures
 
-pub statements::statement_term-returns-in-FunctionDeclaration : goal.statements::statement_term-returns-in-FunctionDeclaration
+pub statements::statement_term-returns-in-FunctionDeclaration :
+    goal.statements::statement_term-returns-in-FunctionDeclaration
 statements::statement_term-returns-in-FunctionDeclaration t c = item_term c.args.s.now _ (context_of c.args.place) _
     (ap statement_source c.in-FunctionDeclaration.is
-    ∙ source_function_declaration c.in-FunctionDeclaration.node c.in-FunctionDeclaration.name c.in-FunctionDeclaration.parameters c.in-FunctionDeclaration.body)
+    ∙ source_function_declaration c.in-FunctionDeclaration.node c.in-FunctionDeclaration.name
+    c.in-FunctionDeclaration.parameters c.in-FunctionDeclaration.body)
     c.done-in-FunctionDeclaration.ensures
 
-pub statements::statement_term-returns-in_ok-names-in-Lexical : goal.statements::statement_term-returns-in_ok-names-in-Lexical
+pub statements::statement_term-returns-in_ok-names-in-Lexical :
+    goal.statements::statement_term-returns-in_ok-names-in-Lexical
 statements::statement_term-returns-in_ok-names-in-Lexical t c = item_tail c.args.s.now _ (context_of c.args.place) _
     (ap statement_source c.in-Lexical.is
     ∙ source_lexical c.in-Lexical.node c.in-Lexical.constant c.in-Lexical.declarators)
@@ -139,7 +145,8 @@ statements::statement_term-returns-in_ok-names-in-Lexical t c = item_tail c.args
     c.within.ensures)
     _ c.entered.ensures)
 
-pub statements::statement_term-returns-in_ok-term-in-Expression : goal.statements::statement_term-returns-in_ok-term-in-Expression
+pub statements::statement_term-returns-in_ok-term-in-Expression :
+    goal.statements::statement_term-returns-in_ok-term-in-Expression
 statements::statement_term-returns-in_ok-term-in-Expression t c = item_tail c.args.s.now _ (context_of c.args.place) _
     (ap statement_source c.in-Expression.is ∙ source_expression c.in-Expression.node c.in-Expression.expression)
     (of_part (λ (t : semantics.Term). semantics.part (forms.Enter c.in-Expression.node.0) semantics.end
@@ -149,7 +156,8 @@ statements::statement_term-returns-in_ok-term-in-Expression t c = item_tail c.ar
     c.within-in-Expression.ensures)
     _ c.entered-in-Expression.ensures)
 
-pub statements::statement_term-returns-in_ok-alternate-in-If : goal.statements::statement_term-returns-in_ok-alternate-in-If
+pub statements::statement_term-returns-in_ok-alternate-in-If :
+    goal.statements::statement_term-returns-in_ok-alternate-in-If
 statements::statement_term-returns-in_ok-alternate-in-If t c = item_tail c.args.s.now _ (context_of c.args.place) _
     (ap statement_source c.in-If.is ∙ source_if c.in-If.node c.in-If.test c.in-If.consequent c.in-If.alternate)
     (of_three
@@ -164,7 +172,8 @@ statements::statement_term-returns-in_ok-alternate-in-If t c = item_tail c.args.
     c.within-inner.ensures)
     _ c.if_term.ensures)
 
-pub statements::statement_term-returns-in_ok-body-in-DoWhile : goal.statements::statement_term-returns-in_ok-body-in-DoWhile
+pub statements::statement_term-returns-in_ok-body-in-DoWhile :
+    goal.statements::statement_term-returns-in_ok-body-in-DoWhile
 statements::statement_term-returns-in_ok-body-in-DoWhile t c = item_tail c.args.s.now _ (context_of c.args.place) _
     (ap statement_source c.in-DoWhile.is ∙ source_do_while c.in-DoWhile.node c.in-DoWhile.body c.in-DoWhile.test)
     (of_two (λ (t b : semantics.Term). semantics.part (forms.Enter c.in-DoWhile.node.0) semantics.end
@@ -207,10 +216,12 @@ statements::statement_term-returns-in_ok-body-in-For t c = item_tail c.args.s.no
     _ _ (body_so _ _ c.deref-in-For.ensures _ _ c.within-inner-in-For.ensures _ c.in_ok-body-in-For.ensures)
     _ c.for_term.ensures)
 
-pub statements::statement_term-returns-in_ok-parts-in-ForLexical : goal.statements::statement_term-returns-in_ok-parts-in-ForLexical
+pub statements::statement_term-returns-in_ok-parts-in-ForLexical :
+    goal.statements::statement_term-returns-in_ok-parts-in-ForLexical
 statements::statement_term-returns-in_ok-parts-in-ForLexical t c = item_tail c.args.s.now _ (context_of c.args.place) _
     (ap statement_source c.in-ForLexical.is
-    ∙ source_for_lexical c.in-ForLexical.node c.in-ForLexical.constant c.in-ForLexical.declarators c.in-ForLexical.test c.in-ForLexical.update c.in-ForLexical.body)
+    ∙ source_for_lexical c.in-ForLexical.node c.in-ForLexical.constant c.in-ForLexical.declarators c.in-ForLexical.test
+    c.in-ForLexical.update c.in-ForLexical.body)
     (of_two (λ (f : semantics.Term) (p : semantics.Terms). semantics.part
     (forms.EnterFor c.in-ForLexical.node.0 c.in-ForLexical.constant
     (makers.declarators_names c.in-ForLexical.constant (declarators_source c.in-ForLexical.declarators)))
@@ -228,7 +239,8 @@ statements::statement_term-returns-in_ok-parts-in-ForLexical t c = item_tail c.a
     ∙ ap (λ (y : Context). makers.optional_term (option_map expression_source c.in-ForLexical.update) y
     (makers.nothing))
     c.within-inner-in-ForLexical.ensures)
-    _ _ (body_so _ _ c.deref-in-ForLexical.ensures _ _ c.within-inner-in-ForLexical.ensures _ c.in_ok-body-in-ForLexical.ensures))
+    _ _ (body_so _ _ c.deref-in-ForLexical.ensures _ _ c.within-inner-in-ForLexical.ensures _
+    c.in_ok-body-in-ForLexical.ensures))
     _ c.for_lexical_term.ensures)
 
 pub statements::statement_term-returns-in_ok-body-in-ForOf : goal.statements::statement_term-returns-in_ok-body-in-ForOf
@@ -251,7 +263,8 @@ pub statements::statement_term-returns-in-Break : goal.statements::statement_ter
 statements::statement_term-returns-in-Break t c = item_tail c.args.s.now _ (context_of c.args.place) _
     (ap statement_source c.in-Break.is ∙ source_break c.in-Break.node) c.plain_statement-in-Break.ensures
 
-pub statements::statement_term-returns-in_ok-value-in-Return : goal.statements::statement_term-returns-in_ok-value-in-Return
+pub statements::statement_term-returns-in_ok-value-in-Return :
+    goal.statements::statement_term-returns-in_ok-value-in-Return
 statements::statement_term-returns-in_ok-value-in-Return t c = item_tail c.args.s.now _ (context_of c.args.place) _
     (ap statement_source c.in-Return.is ∙ source_return c.in-Return.node c.in-Return.value)
     (of_part (λ (v : semantics.Terms). semantics.part (forms.Enter c.in-Return.node.0) semantics.end
@@ -261,7 +274,8 @@ statements::statement_term-returns-in_ok-value-in-Return t c = item_tail c.args.
     c.within-in-Return.ensures)
     _ c.return_term.ensures)
 
-pub statements::statement_term-returns-in_ok-value-in-Throw : goal.statements::statement_term-returns-in_ok-value-in-Throw
+pub statements::statement_term-returns-in_ok-value-in-Throw :
+    goal.statements::statement_term-returns-in_ok-value-in-Throw
 statements::statement_term-returns-in_ok-value-in-Throw t c = item_tail c.args.s.now _ (context_of c.args.place) _
     (ap statement_source c.in-Throw.is ∙ source_throw c.in-Throw.node c.in-Throw.value)
     (of_part (λ (t : semantics.Term). semantics.part (forms.Enter c.in-Throw.node.0) semantics.end
@@ -276,7 +290,8 @@ statements::statement_term-returns-in_ok-term-in-Try t c = item_tail c.args.s.no
     (of_part (λ (t : semantics.Term). semantics.part (forms.Enter c.in-Try.node.0) semantics.end (semantics.one (t)))
     _ _ (try_so (option_map block_source c.in-Try.finalizer) (option_map catch_source c.in-Try.handler)
     (block_source c.in-Try.block)
-    _ _ c.within-inner-in-Try.ensures _ _ _ c.in_ok-block-in-Try.ensures c.in_ok-caught-in-Try.ensures c.in_ok-term-in-Try.ensures)
+    _ _ c.within-inner-in-Try.ensures _ _ _ c.in_ok-block-in-Try.ensures c.in_ok-caught-in-Try.ensures
+    c.in_ok-term-in-Try.ensures)
     _ c.entered-in-Try.ensures)
 
 pub statements::statement_term-returns-in-Debugger : goal.statements::statement_term-returns-in-Debugger
@@ -284,7 +299,8 @@ statements::statement_term-returns-in-Debugger t c = item_tail c.args.s.now _ (c
     (ap statement_source c.in-Debugger.is ∙ source_debugger c.in-Debugger.node) c.debugger_term.ensures
 
 pub statements::function_items-loop-item-preserved : goal.statements::function_items-loop-item-preserved
-statements::function_items-loop-item-preserved t c = functions_step c.deref-item-items.result.now c.loop-item.item-index c.item-item.result
+statements::function_items-loop-item-preserved t c = functions_step c.deref-item-items.result.now c.loop-item.item-index
+    c.item-item.result
     (context_of c.args.place)
     c.loop-item-test.true c.item-item.is _ _ _ c.in_ok-functions.ensures c.in_ok-statement_functions.ensures
     ∙ c.loop-item.invariant
@@ -306,7 +322,8 @@ expressions::expression_term-returns-in-Name t c = made_tail c.args.e.now _ (con
 pub expressions::expression_term-returns-in-Number : goal.expressions::expression_term-returns-in-Number
 expressions::expression_term-returns-in-Number t c = search (rules, source_number c.in-Number.node c.in-Number.value)
 
-pub expressions::expression_term-returns-in_ok-clone-in-String : goal.expressions::expression_term-returns-in_ok-clone-in-String
+pub expressions::expression_term-returns-in_ok-clone-in-String :
+    goal.expressions::expression_term-returns-in_ok-clone-in-String
 expressions::expression_term-returns-in_ok-clone-in-String t c = search
     (rules, source_string c.in-String.node c.in-String.value)
 
@@ -319,7 +336,8 @@ pub expressions::expression_term-returns-in-Null : goal.expressions::expression_
 expressions::expression_term-returns-in-Null t c = made_term c.args.e.now _ (context_of c.args.place) _
     (ap expression_source c.in-Null.is ∙ source_null c.in-Null.node) c.done-in-Null.ensures
 
-pub expressions::expression_term-returns-in_ok-elements-in-Array : goal.expressions::expression_term-returns-in_ok-elements-in-Array
+pub expressions::expression_term-returns-in_ok-elements-in-Array :
+    goal.expressions::expression_term-returns-in_ok-elements-in-Array
 expressions::expression_term-returns-in_ok-elements-in-Array t c = made_tail c.args.e.now _ (context_of c.args.place) _
     (ap expression_source c.in-Array.is ∙ source_array c.in-Array.node c.in-Array.elements)
     (of_part (λ (es : semantics.Terms). semantics.part forms.Array es semantics.end)
@@ -329,7 +347,8 @@ pub expressions::expression_term-returns-in-Object : goal.expressions::expressio
 expressions::expression_term-returns-in-Object t c = made_tail c.args.e.now _ (context_of c.args.place) _
     (ap expression_source c.in-Object.is ∙ source_object c.in-Object.node c.in-Object.properties) c.object_term.ensures
 
-pub expressions::expression_term-returns-in_ok-later-in-Function : goal.expressions::expression_term-returns-in_ok-later-in-Function
+pub expressions::expression_term-returns-in_ok-later-in-Function :
+    goal.expressions::expression_term-returns-in_ok-later-in-Function
 expressions::expression_term-returns-in_ok-later-in-Function t c = made_tail c.args.e.now _ (context_of c.args.place) _
     (ap expression_source c.in-Function.is
     ∙ source_function c.in-Function.node c.in-Function.name c.in-Function.parameters c.in-Function.body)
@@ -344,11 +363,13 @@ expressions::expression_term-returns-in_ok-later-in-Function t c = made_tail c.a
     semantics.end l)
     _ _ c.in_ok-later-in-Function.ensures _ c.function_term.ensures))
 
-pub expressions::expression_term-returns-in_ok-later-in-Arrow : goal.expressions::expression_term-returns-in_ok-later-in-Arrow
+pub expressions::expression_term-returns-in_ok-later-in-Arrow :
+    goal.expressions::expression_term-returns-in_ok-later-in-Arrow
 expressions::expression_term-returns-in_ok-later-in-Arrow t c = search
     (rules, source_arrow c.in-Arrow.node c.in-Arrow.parameters c.in-Arrow.body)
 
-pub expressions::expression_term-returns-in_ok-later-in-ArrowBlock : goal.expressions::expression_term-returns-in_ok-later-in-ArrowBlock
+pub expressions::expression_term-returns-in_ok-later-in-ArrowBlock :
+    goal.expressions::expression_term-returns-in_ok-later-in-ArrowBlock
 expressions::expression_term-returns-in_ok-later-in-ArrowBlock t c = made_tail c.args.e.now _ (context_of c.args.place)
     _ (ap expression_source c.in-ArrowBlock.is
     ∙ source_arrow_block c.in-ArrowBlock.node c.in-ArrowBlock.parameters c.in-ArrowBlock.body)
@@ -366,7 +387,8 @@ expressions::expression_term-returns-in-Parenthesized t c = made_tail c.args.e.n
     (of_part (λ (a : Expr). (expression_source a).term (context_of c.args.place))
     _ _ c.deref-in-Parenthesized.ensures _ c.expression_term.ensures)
 
-pub expressions::expression_term-returns-in_ok-object-in-Member : goal.expressions::expression_term-returns-in_ok-object-in-Member
+pub expressions::expression_term-returns-in_ok-object-in-Member :
+    goal.expressions::expression_term-returns-in_ok-object-in-Member
 expressions::expression_term-returns-in_ok-object-in-Member t c = made_tail c.args.e.now _ (context_of c.args.place) _
     (ap expression_source c.in-Member.is ∙ source_member c.in-Member.node c.in-Member.object c.in-Member.name)
     (of_part (λ (o : semantics.Term). semantics.part (forms.Read (references.Member c.in-Member.name)) (semantics.one o)
@@ -374,7 +396,8 @@ expressions::expression_term-returns-in_ok-object-in-Member t c = made_tail c.ar
     _ _ (plain_so _ _ c.deref-in-Member.ensures (context_of c.args.place) _ c.in_ok-object-in-Member.ensures)
     _ c.member_term.ensures)
 
-pub expressions::expression_term-returns-in_ok-key-in-Index : goal.expressions::expression_term-returns-in_ok-key-in-Index
+pub expressions::expression_term-returns-in_ok-key-in-Index :
+    goal.expressions::expression_term-returns-in_ok-key-in-Index
 expressions::expression_term-returns-in_ok-key-in-Index t c = made_tail c.args.e.now _ (context_of c.args.place) _
     (ap expression_source c.in-Index.is ∙ source_index c.in-Index.node c.in-Index.object c.in-Index.key)
     (of_two (λ (o k : semantics.Term). semantics.part (forms.Read references.Index) (semantics.more o (semantics.one k))
@@ -383,7 +406,8 @@ expressions::expression_term-returns-in_ok-key-in-Index t c = made_tail c.args.e
     (plain_so _ _ c.deref-in-Index-2.ensures (context_of c.args.place) _ c.in_ok-key-in-Index.ensures)
     _ c.index_term.ensures)
 
-pub expressions::expression_term-returns-in_ok-arguments-in-Call : goal.expressions::expression_term-returns-in_ok-arguments-in-Call
+pub expressions::expression_term-returns-in_ok-arguments-in-Call :
+    goal.expressions::expression_term-returns-in_ok-arguments-in-Call
 expressions::expression_term-returns-in_ok-arguments-in-Call t c = made_tail c.args.e.now _ (context_of c.args.place) _
     (ap expression_source c.in-Call.is
     ∙ source_call c.in-Call.node c.in-Call.callee c.in-Call.parentheses c.in-Call.arguments)
@@ -396,28 +420,32 @@ expressions::expression_term-returns-in_ok-arguments-in-Call t c = made_tail c.a
     _ _ (plain_so _ _ c.deref-in-Call-2.ensures (context_of c.args.place) _ c.in_ok-callee-in-Call.ensures)
     _ _ c.in_ok-arguments-in-Call.ensures _ c.call_term.ensures)
 
-pub expressions::expression_term-returns-in_ok-operand-in-Postfix : goal.expressions::expression_term-returns-in_ok-operand-in-Postfix
+pub expressions::expression_term-returns-in_ok-operand-in-Postfix :
+    goal.expressions::expression_term-returns-in_ok-operand-in-Postfix
 expressions::expression_term-returns-in_ok-operand-in-Postfix t c = made_tail c.args.e.now _ (context_of c.args.place) _
     (ap expression_source c.in-Postfix.is ∙ source_postfix c.in-Postfix.node c.in-Postfix.operator c.in-Postfix.operand)
     (of_part (λ (t : semantics.Term). makers.updated c.in-Postfix.operator false t) _ _
     (plain_so _ _ c.deref-in-Postfix.ensures (context_of c.args.place) _ c.in_ok-operand-in-Postfix.ensures)
     _ c.updated.ensures)
 
-pub expressions::expression_term-returns-in_ok-operand-in-Prefix : goal.expressions::expression_term-returns-in_ok-operand-in-Prefix
+pub expressions::expression_term-returns-in_ok-operand-in-Prefix :
+    goal.expressions::expression_term-returns-in_ok-operand-in-Prefix
 expressions::expression_term-returns-in_ok-operand-in-Prefix t c = made_tail c.args.e.now _ (context_of c.args.place) _
     (ap expression_source c.in-Prefix.is ∙ source_prefix c.in-Prefix.node c.in-Prefix.operator c.in-Prefix.operand)
     (of_part (λ (t : semantics.Term). makers.updated c.in-Prefix.operator true t) _ _
     (plain_so _ _ c.deref-in-Prefix.ensures (context_of c.args.place) _ c.in_ok-operand-in-Prefix.ensures)
     _ c.updated-in-Prefix.ensures)
 
-pub expressions::expression_term-returns-in_ok-operand-in-Unary : goal.expressions::expression_term-returns-in_ok-operand-in-Unary
+pub expressions::expression_term-returns-in_ok-operand-in-Unary :
+    goal.expressions::expression_term-returns-in_ok-operand-in-Unary
 expressions::expression_term-returns-in_ok-operand-in-Unary t c = made_tail c.args.e.now _ (context_of c.args.place) _
     (ap expression_source c.in-Unary.is ∙ source_unary c.in-Unary.node c.in-Unary.operator c.in-Unary.operand)
     (of_part (λ (t : semantics.Term). makers.unary_term c.in-Unary.operator t) _ _
     (plain_so _ _ c.deref-in-Unary.ensures (context_of c.args.place) _ c.in_ok-operand-in-Unary.ensures)
     _ c.unary_term.ensures)
 
-pub expressions::expression_term-returns-in_ok-right-in-Binary : goal.expressions::expression_term-returns-in_ok-right-in-Binary
+pub expressions::expression_term-returns-in_ok-right-in-Binary :
+    goal.expressions::expression_term-returns-in_ok-right-in-Binary
 expressions::expression_term-returns-in_ok-right-in-Binary t c = made_tail c.args.e.now _ (context_of c.args.place) _
     (ap expression_source c.in-Binary.is
     ∙ source_binary c.in-Binary.node c.in-Binary.operator c.in-Binary.left c.in-Binary.right)
@@ -426,11 +454,13 @@ expressions::expression_term-returns-in_ok-right-in-Binary t c = made_tail c.arg
     (plain_so _ _ c.deref-in-Binary-2.ensures (context_of c.args.place) _ c.in_ok-right-in-Binary.ensures)
     _ c.binary_term.ensures)
 
-pub expressions::expression_term-returns-in_ok-alternate-in-Conditional : goal.expressions::expression_term-returns-in_ok-alternate-in-Conditional
+pub expressions::expression_term-returns-in_ok-alternate-in-Conditional :
+    goal.expressions::expression_term-returns-in_ok-alternate-in-Conditional
 expressions::expression_term-returns-in_ok-alternate-in-Conditional t c = made_tail c.args.e.now _
     (context_of c.args.place) _
     (ap expression_source c.in-Conditional.is
-    ∙ source_conditional c.in-Conditional.node c.in-Conditional.test c.in-Conditional.consequent c.in-Conditional.alternate)
+    ∙ source_conditional c.in-Conditional.node c.in-Conditional.test c.in-Conditional.consequent
+    c.in-Conditional.alternate)
     (of_three
     (λ (t a b : semantics.Term). semantics.part forms.Choose (semantics.one t) (semantics.more a (semantics.one b)))
     _ _ (plain_so _ _ c.deref-in-Conditional.ensures (context_of c.args.place)
@@ -441,7 +471,8 @@ expressions::expression_term-returns-in_ok-alternate-in-Conditional t c = made_t
     _ c.in_ok-alternate-in-Conditional.ensures)
     _ c.choice.ensures)
 
-pub expressions::expression_term-returns-in_ok-value-in-Assign : goal.expressions::expression_term-returns-in_ok-value-in-Assign
+pub expressions::expression_term-returns-in_ok-value-in-Assign :
+    goal.expressions::expression_term-returns-in_ok-value-in-Assign
 expressions::expression_term-returns-in_ok-value-in-Assign t c = made_tail c.args.e.now _ (context_of c.args.place) _
     (ap expression_source c.in-Assign.is
     ∙ source_assign c.in-Assign.node c.in-Assign.operator c.in-Assign.target c.in-Assign.value)
@@ -450,7 +481,8 @@ expressions::expression_term-returns-in_ok-value-in-Assign t c = made_tail c.arg
     (plain_so _ _ c.deref-in-Assign-2.ensures (context_of c.args.place) _ c.in_ok-value-in-Assign.ensures)
     _ c.assignment.ensures)
 
-pub expressions::expression_term-returns-in_ok-expressions-in-Comma : goal.expressions::expression_term-returns-in_ok-expressions-in-Comma
+pub expressions::expression_term-returns-in_ok-expressions-in-Comma :
+    goal.expressions::expression_term-returns-in_ok-expressions-in-Comma
 expressions::expression_term-returns-in_ok-expressions-in-Comma t c = made_tail c.args.e.now _ (context_of c.args.place)
     _ (ap expression_source c.in-Comma.is ∙ source_comma c.in-Comma.node c.in-Comma.expressions)
     (of_part (λ (ts : semantics.Terms). makers.comma_term ts)

@@ -78,7 +78,8 @@ expressions::expression_marks-returns-in-Member t c = expression_last c.args.e.n
     (same_last (λ (a : Expr). (expression_marks a).marks)
     _ _ c.deref-in-Member.ensures _ _ _ c.expression_marks-in-Member.ensures)
 
-pub expressions::expression_marks-returns-in_ok-expression_marks-in-Index : goal.expressions::expression_marks-returns-in_ok-expression_marks-in-Index
+pub expressions::expression_marks-returns-in_ok-expression_marks-in-Index :
+    goal.expressions::expression_marks-returns-in_ok-expression_marks-in-Index
 expressions::expression_marks-returns-in_ok-expression_marks-in-Index t c = expression_last c.args.e.now _ _ _ _
     (ap expression_marks c.in-Index.is ∙ marks_index c.in-Index.node c.in-Index.object c.in-Index.key)
     (last _ _ _ _ _ _
@@ -87,7 +88,8 @@ expressions::expression_marks-returns-in_ok-expression_marks-in-Index t c = expr
     (same_last (λ (a : Expr). (expression_marks a).marks)
     _ _ c.deref-in-Index-2.ensures _ _ _ c.expression_marks-in-Index-2.ensures))
 
-pub expressions::expression_marks-returns-in_ok-add-in-Call : goal.expressions::expression_marks-returns-in_ok-add-in-Call
+pub expressions::expression_marks-returns-in_ok-add-in-Call :
+    goal.expressions::expression_marks-returns-in_ok-add-in-Call
 expressions::expression_marks-returns-in_ok-add-in-Call t c = expression_last c.args.e.now _ _ _ _
     (ap expression_marks c.in-Call.is
     ∙ marks_call c.in-Call.node c.in-Call.callee c.in-Call.parentheses c.in-Call.arguments)
@@ -120,7 +122,8 @@ expressions::expression_marks-returns-in-Unary t c = expression_last c.args.e.no
     (same_last (λ (a : Expr). (expression_marks a).marks)
     _ _ c.deref-in-Unary.ensures _ _ _ c.expression_marks-in-Unary.ensures)
 
-pub expressions::expression_marks-returns-in_ok-expression_marks-in-Binary : goal.expressions::expression_marks-returns-in_ok-expression_marks-in-Binary
+pub expressions::expression_marks-returns-in_ok-expression_marks-in-Binary :
+    goal.expressions::expression_marks-returns-in_ok-expression_marks-in-Binary
 expressions::expression_marks-returns-in_ok-expression_marks-in-Binary t c = expression_last c.args.e.now _ _ _ _
     (ap expression_marks c.in-Binary.is
     ∙ marks_binary c.in-Binary.node c.in-Binary.operator c.in-Binary.left c.in-Binary.right)
@@ -130,7 +133,8 @@ expressions::expression_marks-returns-in_ok-expression_marks-in-Binary t c = exp
     (same_last (λ (a : Expr). (expression_marks a).marks)
     _ _ c.deref-in-Binary-2.ensures _ _ _ c.expression_marks-in-Binary-2.ensures))
 
-pub expressions::expression_marks-returns-in_ok-expression_marks-in-Assign : goal.expressions::expression_marks-returns-in_ok-expression_marks-in-Assign
+pub expressions::expression_marks-returns-in_ok-expression_marks-in-Assign :
+    goal.expressions::expression_marks-returns-in_ok-expression_marks-in-Assign
 expressions::expression_marks-returns-in_ok-expression_marks-in-Assign t c = expression_last c.args.e.now _ _ _ _
     (ap expression_marks c.in-Assign.is
     ∙ marks_assign c.in-Assign.node c.in-Assign.operator c.in-Assign.target c.in-Assign.value)
@@ -140,10 +144,12 @@ expressions::expression_marks-returns-in_ok-expression_marks-in-Assign t c = exp
     (same_last (λ (a : Expr). (expression_marks a).marks)
     _ _ c.deref-in-Assign-2.ensures _ _ _ c.expression_marks-in-Assign-2.ensures))
 
-pub expressions::expression_marks-returns-in_ok-expression_marks-in-Conditional-2 : goal.expressions::expression_marks-returns-in_ok-expression_marks-in-Conditional-2
+pub expressions::expression_marks-returns-in_ok-expression_marks-in-Conditional-2 :
+    goal.expressions::expression_marks-returns-in_ok-expression_marks-in-Conditional-2
 expressions::expression_marks-returns-in_ok-expression_marks-in-Conditional-2 t c = expression_last c.args.e.now _ _ _ _
     (ap expression_marks c.in-Conditional.is
-    ∙ marks_conditional c.in-Conditional.node c.in-Conditional.test c.in-Conditional.consequent c.in-Conditional.alternate)
+    ∙ marks_conditional c.in-Conditional.node c.in-Conditional.test c.in-Conditional.consequent
+    c.in-Conditional.alternate)
     (last _ _ _ _ _ _
     (before _ _ _ _ _
     (same (λ (a : Expr). (expression_marks a).marks)
@@ -167,13 +173,15 @@ expressions::expressions_marks-returns t c = all_over (λ (e : Expr). (expressio
     ∙ sym (marks_expressions c.args.es.now))
 
 pub objects::properties_marks-returns : goal.objects::properties_marks-returns
-objects::properties_marks-returns t c = all_over property_marks c.deref-item-items.result.now c.loop-item.item-index _ _ c.loop-item-test.false c.loop-item.invariant
+objects::properties_marks-returns t c = all_over property_marks c.deref-item-items.result.now c.loop-item.item-index _ _
+    c.loop-item-test.false c.loop-item.invariant
     ∙ ap (λ (ms : Marks). c.args.marks.now.items ++ ms)
     (ap (λ xs. together (map property_marks xs)) c.deref-item-items.ensures.value
     ∙ sym (marks_properties c.args.properties.now))
 
 pub statements::statements_marks-returns : goal.statements::statements_marks-returns
-statements::statements_marks-returns t c = all_over statement_marks c.deref-item-items.result.now c.loop-item.item-index _ _ c.loop-item-test.false c.loop-item.invariant
+statements::statements_marks-returns t c = all_over statement_marks c.deref-item-items.result.now c.loop-item.item-index
+    _ _ c.loop-item-test.false c.loop-item.invariant
     ∙ ap (λ (ms : Marks). c.args.marks.now.items ++ ms)
     (ap (λ xs. together (map statement_marks xs)) c.deref-item-items.ensures.value
     ∙ sym (marks_statements c.args.ss.now))
@@ -208,12 +216,14 @@ pub objects::property_marks-returns-in-Shorthand : goal.objects::property_marks-
 objects::property_marks-returns-in-Shorthand t c = none (λ (x : Marks). x) (property_marks c.args.property.now) _
     (ap property_marks c.in-Shorthand.is ∙ marks_shorthand c.in-Shorthand.name) refl _
 
-pub objects::property_marks-returns-in_ok-key_marks-in-Value : goal.objects::property_marks-returns-in_ok-key_marks-in-Value
+pub objects::property_marks-returns-in_ok-key_marks-in-Value :
+    goal.objects::property_marks-returns-in_ok-key_marks-in-Value
 objects::property_marks-returns-in_ok-key_marks-in-Value t c = part_last property_marks c.args.property.now _ _ _ _
     (ap property_marks c.in-Value.is ∙ marks_value c.in-Value.key c.in-Value.value)
     (last _ _ _ _ _ _ c.in_ok-key_marks-in-Value.ensures c.expression_marks.ensures)
 
-pub objects::property_marks-returns-in_ok-key_marks-in-Method : goal.objects::property_marks-returns-in_ok-key_marks-in-Method
+pub objects::property_marks-returns-in_ok-key_marks-in-Method :
+    goal.objects::property_marks-returns-in_ok-key_marks-in-Method
 objects::property_marks-returns-in_ok-key_marks-in-Method t c = part_last property_marks c.args.property.now _ _ _ _
     (ap property_marks c.in-Method.is
     ∙ marks_method c.in-Method.node c.in-Method.key c.in-Method.parameters c.in-Method.body)
@@ -239,34 +249,41 @@ pub statements::statement_marks-returns-in-Debugger : goal.statements::statement
 statements::statement_marks-returns-in-Debugger t c = part_last statement_marks c.args.s.now _ _ _ _
     (ap statement_marks c.in-Debugger.is ∙ marks_debugger c.in-Debugger.node) c.begin-in-Debugger.ensures
 
-pub statements::statement_marks-returns-in-FunctionDeclaration : goal.statements::statement_marks-returns-in-FunctionDeclaration
+pub statements::statement_marks-returns-in-FunctionDeclaration :
+    goal.statements::statement_marks-returns-in-FunctionDeclaration
 statements::statement_marks-returns-in-FunctionDeclaration t c = part_last statement_marks c.args.s.now _ _ _ _
     (ap statement_marks c.in-FunctionDeclaration.is
-    ∙ marks_function_declaration c.in-FunctionDeclaration.node c.in-FunctionDeclaration.name c.in-FunctionDeclaration.parameters c.in-FunctionDeclaration.body)
+    ∙ marks_function_declaration c.in-FunctionDeclaration.node c.in-FunctionDeclaration.name
+    c.in-FunctionDeclaration.parameters c.in-FunctionDeclaration.body)
     c.function_marks.ensures
 
-pub statements::statement_marks-returns-in_ok-begin-in-Lexical : goal.statements::statement_marks-returns-in_ok-begin-in-Lexical
+pub statements::statement_marks-returns-in_ok-begin-in-Lexical :
+    goal.statements::statement_marks-returns-in_ok-begin-in-Lexical
 statements::statement_marks-returns-in_ok-begin-in-Lexical t c = part_last statement_marks c.args.s.now _ _ _ _
     (ap statement_marks c.in-Lexical.is
     ∙ marks_lexical c.in-Lexical.node c.in-Lexical.constant c.in-Lexical.declarators)
     (last _ _ _ _ _ _ c.in_ok-begin-in-Lexical.ensures c.declarators_marks.ensures)
 
-pub statements::statement_marks-returns-in_ok-begin-in-Expression : goal.statements::statement_marks-returns-in_ok-begin-in-Expression
+pub statements::statement_marks-returns-in_ok-begin-in-Expression :
+    goal.statements::statement_marks-returns-in_ok-begin-in-Expression
 statements::statement_marks-returns-in_ok-begin-in-Expression t c = part_last statement_marks c.args.s.now _ _ _ _
     (ap statement_marks c.in-Expression.is ∙ marks_expression c.in-Expression.node c.in-Expression.expression)
     (last _ _ _ _ _ _ c.in_ok-begin-in-Expression.ensures c.expression_marks.ensures)
 
-pub statements::statement_marks-returns-in_ok-begin-in-Return : goal.statements::statement_marks-returns-in_ok-begin-in-Return
+pub statements::statement_marks-returns-in_ok-begin-in-Return :
+    goal.statements::statement_marks-returns-in_ok-begin-in-Return
 statements::statement_marks-returns-in_ok-begin-in-Return t c = part_last statement_marks c.args.s.now _ _ _ _
     (ap statement_marks c.in-Return.is ∙ marks_return c.in-Return.node c.in-Return.value)
     (last _ _ _ _ _ _ c.in_ok-begin-in-Return.ensures c.optional_marks-in-Return.ensures)
 
-pub statements::statement_marks-returns-in_ok-begin-in-Throw : goal.statements::statement_marks-returns-in_ok-begin-in-Throw
+pub statements::statement_marks-returns-in_ok-begin-in-Throw :
+    goal.statements::statement_marks-returns-in_ok-begin-in-Throw
 statements::statement_marks-returns-in_ok-begin-in-Throw t c = part_last statement_marks c.args.s.now _ _ _ _
     (ap statement_marks c.in-Throw.is ∙ marks_throw c.in-Throw.node c.in-Throw.value)
     (last _ _ _ _ _ _ c.in_ok-begin-in-Throw.ensures c.expression_marks-in-Throw.ensures)
 
-pub statements::statement_marks-returns-in_ok-expression_marks-in-While : goal.statements::statement_marks-returns-in_ok-expression_marks-in-While
+pub statements::statement_marks-returns-in_ok-expression_marks-in-While :
+    goal.statements::statement_marks-returns-in_ok-expression_marks-in-While
 statements::statement_marks-returns-in_ok-expression_marks-in-While t c = part_last statement_marks c.args.s.now _ _ _ _
     (ap statement_marks c.in-While.is ∙ marks_while c.in-While.node c.in-While.test c.in-While.body)
     (last _ _ _ (beginning kinds.Plain c.in-While.node.0 ++ (expression_marks c.in-While.test).marks)
@@ -276,7 +293,8 @@ statements::statement_marks-returns-in_ok-expression_marks-in-While t c = part_l
     (same_last (λ (a : Stmt). statement_marks a)
     _ _ c.deref-in-While.ensures _ _ _ c.statement_marks-in-While.ensures))
 
-pub statements::statement_marks-returns-in_ok-expression_marks-in-ForOf : goal.statements::statement_marks-returns-in_ok-expression_marks-in-ForOf
+pub statements::statement_marks-returns-in_ok-expression_marks-in-ForOf :
+    goal.statements::statement_marks-returns-in_ok-expression_marks-in-ForOf
 statements::statement_marks-returns-in_ok-expression_marks-in-ForOf t c = part_last statement_marks c.args.s.now _ _ _ _
     (ap statement_marks c.in-ForOf.is
     ∙ marks_for_of c.in-ForOf.node c.in-ForOf.constant c.in-ForOf.name c.in-ForOf.list c.in-ForOf.body)
@@ -287,8 +305,10 @@ statements::statement_marks-returns-in_ok-expression_marks-in-ForOf t c = part_l
     (same_last (λ (a : Stmt). statement_marks a)
     _ _ c.deref-in-ForOf.ensures _ _ _ c.statement_marks-in-ForOf.ensures))
 
-pub statements::statement_marks-returns-in_ok-statement_marks-in-DoWhile : goal.statements::statement_marks-returns-in_ok-statement_marks-in-DoWhile
-statements::statement_marks-returns-in_ok-statement_marks-in-DoWhile t c = part_last statement_marks c.args.s.now _ _ _ _
+pub statements::statement_marks-returns-in_ok-statement_marks-in-DoWhile :
+    goal.statements::statement_marks-returns-in_ok-statement_marks-in-DoWhile
+statements::statement_marks-returns-in_ok-statement_marks-in-DoWhile t c = part_last statement_marks c.args.s.now _ _ _
+    _
     (ap statement_marks c.in-DoWhile.is ∙ marks_do_while c.in-DoWhile.node c.in-DoWhile.body c.in-DoWhile.test)
     (last _ _ _ (beginning kinds.Plain c.in-DoWhile.node.0 ++ statement_marks c.in-DoWhile.body.value)
     ((expression_marks c.in-DoWhile.test).marks) _
@@ -298,7 +318,8 @@ statements::statement_marks-returns-in_ok-statement_marks-in-DoWhile t c = part_
     _ _ c.deref-in-DoWhile.ensures _ _ c.in_ok-statement_marks-in-DoWhile.ensures))
     c.expression_marks-in-DoWhile.ensures)
 
-pub statements::statement_marks-returns-in_ok-statement_marks-in-If : goal.statements::statement_marks-returns-in_ok-statement_marks-in-If
+pub statements::statement_marks-returns-in_ok-statement_marks-in-If :
+    goal.statements::statement_marks-returns-in_ok-statement_marks-in-If
 statements::statement_marks-returns-in_ok-statement_marks-in-If t c = part_last statement_marks c.args.s.now _ _ _ _
     (ap statement_marks c.in-If.is ∙ marks_if c.in-If.node c.in-If.test c.in-If.consequent c.in-If.alternate)
     (last _ _ _
@@ -312,7 +333,8 @@ statements::statement_marks-returns-in_ok-statement_marks-in-If t c = part_last 
     (same (λ (a : Stmt). statement_marks a) _ _ c.deref.ensures _ _ c.in_ok-statement_marks-in-If.ensures))
     c.alternate_marks.ensures)
 
-pub statements::statement_marks-returns-in_ok-handler_marks-in-Try : goal.statements::statement_marks-returns-in_ok-handler_marks-in-Try
+pub statements::statement_marks-returns-in_ok-handler_marks-in-Try :
+    goal.statements::statement_marks-returns-in_ok-handler_marks-in-Try
 statements::statement_marks-returns-in_ok-handler_marks-in-Try t c = part_last statement_marks c.args.s.now _ _ _ _
     (ap statement_marks c.in-Try.is ∙ marks_try c.in-Try.node c.in-Try.block c.in-Try.handler c.in-Try.finalizer)
     (last _ _ _
@@ -326,7 +348,8 @@ statements::statement_marks-returns-in_ok-handler_marks-in-Try t c = part_last s
     c.in_ok-handler_marks-in-Try.ensures)
     c.finalizer_marks.ensures)
 
-pub statements::statement_marks-returns-in_ok-optional_marks-in-For-3 : goal.statements::statement_marks-returns-in_ok-optional_marks-in-For-3
+pub statements::statement_marks-returns-in_ok-optional_marks-in-For-3 :
+    goal.statements::statement_marks-returns-in_ok-optional_marks-in-For-3
 statements::statement_marks-returns-in_ok-optional_marks-in-For-3 t c = part_last statement_marks c.args.s.now _ _ _ _
     (ap statement_marks c.in-For.is
     ∙ marks_for c.in-For.node c.in-For.initializer c.in-For.test c.in-For.update c.in-For.body)
@@ -349,10 +372,13 @@ statements::statement_marks-returns-in_ok-optional_marks-in-For-3 t c = part_las
     c.in_ok-optional_marks-in-For-3.ensures)
     (same_last (λ (a : Stmt). statement_marks a) _ _ c.deref-in-For.ensures _ _ _ c.statement_marks-in-For.ensures))
 
-pub statements::statement_marks-returns-in_ok-optional_marks-in-ForLexical-2 : goal.statements::statement_marks-returns-in_ok-optional_marks-in-ForLexical-2
-statements::statement_marks-returns-in_ok-optional_marks-in-ForLexical-2 t c = part_last statement_marks c.args.s.now _ _ _ _
+pub statements::statement_marks-returns-in_ok-optional_marks-in-ForLexical-2 :
+    goal.statements::statement_marks-returns-in_ok-optional_marks-in-ForLexical-2
+statements::statement_marks-returns-in_ok-optional_marks-in-ForLexical-2 t c = part_last statement_marks c.args.s.now _
+    _ _ _
     (ap statement_marks c.in-ForLexical.is
-    ∙ marks_for_lexical c.in-ForLexical.node c.in-ForLexical.constant c.in-ForLexical.declarators c.in-ForLexical.test c.in-ForLexical.update c.in-ForLexical.body)
+    ∙ marks_for_lexical c.in-ForLexical.node c.in-ForLexical.constant c.in-ForLexical.declarators c.in-ForLexical.test
+    c.in-ForLexical.update c.in-ForLexical.body)
     (last _ _ _
     (beginning kinds.Plain c.in-ForLexical.node.0 ++ declarators_marks c.in-ForLexical.declarators ++ in_present
     (option_map expression_marks c.in-ForLexical.test) ++ in_present

@@ -14,13 +14,16 @@ returns-clause-made c = λ taken.
     let within = steps.counts.within in
     let few = steps.counts.some in
     let values = option_map (λ vs. vs.items) made.values in
-    let t = machine_step c.args.scripts.now c.make_steps_and_print.new.machine c.make_steps_and_print.new.heap values c.args.first in
+    let t = machine_step c.args.scripts.now c.make_steps_and_print.new.machine c.make_steps_and_print.new.heap values
+    c.args.first in
     let Q : ℕ
     → Type 0 = λ n. Over
     (Behind (protocol c.args.scripts.now) (is_some c.watch_machine-stopped.result) n c.args.moment t)
     c.args.seats.now c.watch_machine-stopped.new.seats c.watch_machine-stopped.new.named in
-    advance-made c.args.scripts.now c.args.moment c.most_of-most.result made.steps c.args.machine.now c.make_steps_and_print.new.machine c.args.heap.now c.make_steps_and_print.new.heap
-    c.args.first c.args.stops c.args.seats.now c.watch_machine-stopped.new.seats c.watch_machine-stopped.new.named c.watch_machine-stopped.result values
+    advance-made c.args.scripts.now c.args.moment c.most_of-most.result made.steps c.args.machine.now
+    c.make_steps_and_print.new.machine c.args.heap.now c.make_steps_and_print.new.heap
+    c.args.first c.args.stops c.args.seats.now c.watch_machine-stopped.new.seats c.watch_machine-stopped.new.named
+    c.watch_machine-stopped.result values
     (taken ++ c.args.printed.now.items) (taken ++ c.make_steps_and_print.new.printed.items)
     steps c.in_ok-steps.ensures.kept
     (λ first. let one = c.most_of-most.ensures.one first in omega (arith, one, within, few))
@@ -40,5 +43,7 @@ returns-clause-fit c =
     let values = option_map (λ vs. vs.items) c.in_ok-steps.field-0.values in
     (behind-each (protocol c.args.scripts.now) (is_some c.watch_machine-stopped.result)
     c.next_number-number.result c.args.moment
-    (machine_step c.args.scripts.now c.make_steps_and_print.new.machine c.make_steps_and_print.new.heap values c.args.first)
-    c.args.seats.now c.watch_machine-stopped.new.seats c.watch_machine-stopped.new.named c.watch_machine-stopped.ensures.behind).2
+    (machine_step c.args.scripts.now c.make_steps_and_print.new.machine c.make_steps_and_print.new.heap values
+    c.args.first)
+    c.args.seats.now c.watch_machine-stopped.new.seats c.watch_machine-stopped.new.named
+    c.watch_machine-stopped.ensures.behind).2

@@ -22,13 +22,15 @@ loop-seat-preserved c =
     record {
       counted = ap (λ n. n + 1) c.loop-seat.invariant.counted;
       items =
-          losses-more c.loop-seat.seat-index c.args.seats.now c.seat-item.result c.loop-seat.losses.items c.push_loss.new.losses.items c.loss_waiting.result
+          losses-more c.loop-seat.seat-index c.args.seats.now c.seat-item.result c.loop-seat.losses.items
+          c.push_loss.new.losses.items c.loss_waiting.result
           c.loop-seat-test.true c.loop-seat.invariant.items here c.in_ok-push_loss.ensures.pushed;
     }
 
 pub returns-clause-losses : goal.returns-clause-losses
 returns-clause-losses c =
-    losses-done c.loop-seat.seat-index c.args.seats.now c.loop-seat.losses.items c.loop-seat-test.false c.loop-seat.invariant.items
+    losses-done c.loop-seat.seat-index c.args.seats.now c.loop-seat.losses.items c.loop-seat-test.false
+    c.loop-seat.invariant.items
 
 -- there is no memory for a loss that waits
 pub returns-in_err-push_loss-clause-err : goal.returns-in_err-push_loss-clause-err

@@ -10,7 +10,8 @@ pub loop-seat-preserved : goal.loop-seat-preserved
 loop-seat-preserved c =
     let small : c.loop-seat.seat-index < length c.loop-seat.seats = omega
     (arith, c.loop-seat-test.true, c.loop-seat.auto.seats) in
-    on-next IsReported c.loop-seat.seat-index c.args.seats.now c.loop-seat.seats c.seat-item.result c.report_seat.new.seat c.loop-seat.invariant small c.report_seat.ensures
+    on-next IsReported c.loop-seat.seat-index c.args.seats.now c.loop-seat.seats c.seat-item.result
+    c.report_seat.new.seat c.loop-seat.invariant small c.report_seat.ensures
 
 pub returns : goal.returns
 returns c =

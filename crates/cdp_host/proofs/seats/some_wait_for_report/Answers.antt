@@ -8,7 +8,8 @@ returns-then-waits_for_report c =
     let found = ap waits_for_report (sym c.seat-item.is)
     ∙ sym c.waits_for_report.ensures
     ∙ c.if-waits_for_report.true in
-    sym (some-found waits_for_report c.loop-seat.seat-index c.args.seats.now c.seat-item.result c.loop-seat-test.true found)
+    sym (some-found waits_for_report c.loop-seat.seat-index c.args.seats.now c.seat-item.result c.loop-seat-test.true
+    found)
 
 pub loop-seat-init : goal.loop-seat-init
 loop-seat-init c = refl
@@ -18,8 +19,10 @@ loop-seat-preserved c =
     let passed = ap waits_for_report (sym c.seat-item.is)
     ∙ sym c.waits_for_report.ensures
     ∙ c.if-waits_for_report.false in
-    none-more waits_for_report c.loop-seat.seat-index c.args.seats.now c.seat-item.result c.loop-seat-test.true c.loop-seat.invariant passed
+    none-more waits_for_report c.loop-seat.seat-index c.args.seats.now c.seat-item.result c.loop-seat-test.true
+    c.loop-seat.invariant passed
 
 pub returns : goal.returns
 returns c =
-    sym (none-done waits_for_report c.loop-seat.seat-index c.args.seats.now c.loop-seat-test.false c.loop-seat.invariant)
+    sym (none-done waits_for_report c.loop-seat.seat-index c.args.seats.now c.loop-seat-test.false
+    c.loop-seat.invariant)

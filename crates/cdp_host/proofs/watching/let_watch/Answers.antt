@@ -19,7 +19,8 @@ returns-then-stops-clause-behind g c =
     subst (λ stops. Over (Behind P stops c.args.number c.args.moment step)
     c.args.seats.now c.stop_all.new.seats c.watch_all-stops.new.named)
     (sym c.if-stops.true)
-    (behind-stopped P c.args.number c.args.moment step c.args.seats.now c.watch_all-stops.new.seats c.stop_all.new.seats c.watch_all-stops.new.named c.watch_all-stops.ensures.watched c.stop_all.ensures)
+    (behind-stopped P c.args.number c.args.moment step c.args.seats.now c.watch_all-stops.new.seats c.stop_all.new.seats
+    c.watch_all-stops.new.named c.watch_all-stops.ensures.watched c.stop_all.ensures)
 
 pub returns-else-stops-clause-behind : goal.returns-else-stops-clause-behind
 returns-else-stops-clause-behind g c =
@@ -28,5 +29,6 @@ returns-else-stops-clause-behind g c =
     subst (λ stops. Over (Behind P stops c.args.number c.args.moment step)
     c.args.seats.now c.watch_all-stops.new.seats c.watch_all-stops.new.named)
     (sym c.if-stops.false)
-    (behind-passed P c.args.number c.args.moment step c.args.seats.now c.watch_all-stops.new.seats c.watch_all-stops.new.named c.watch_all-stops.ensures.watched
+    (behind-passed P c.args.number c.args.moment step c.args.seats.now c.watch_all-stops.new.seats
+    c.watch_all-stops.new.named c.watch_all-stops.ensures.watched
     (sym c.watch_all-stops.ensures.any ∙ c.if-stops.false))

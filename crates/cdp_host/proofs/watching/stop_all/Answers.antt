@@ -15,7 +15,8 @@ stop_seat-requires-clause-fit g c =
     let P = protocol c.args.situation.now.scripts.now in
     let here = along-here
     (HearsOf P c.args.number (step_seen g.P.Program.standing c.args.situation.now c.args.step.now))
-    c.loop-index.index c.args.seats.now c.loop-index.seats c.args.named.now c.index-seats-index.result c.loop-index.invariant in
+    c.loop-index.index c.args.seats.now c.loop-index.seats c.args.named.now c.index-seats-index.result
+    c.loop-index.invariant in
     subst (Fits P) (sym here)
     (fits-at P c.loop-index.index c.args.seats.now c.index-seats-index.result c.requires.fit c.loop-index-test.true)
 

@@ -15,7 +15,8 @@ watch_seat-requires-clause-fit g c =
     let P = protocol c.args.situation.now.scripts.now in
     let here = along-here
     (Watches P c.args.number c.args.moment (step_seen g.P.Program.standing c.args.situation.now c.args.step.now))
-    c.loop-index.index c.args.seats.now c.loop-index.seats c.loop-index.named c.index-seats-index.result c.loop-index.invariant in
+    c.loop-index.index c.args.seats.now c.loop-index.seats c.loop-index.named c.index-seats-index.result
+    c.loop-index.invariant in
     subst (Fits P) (sym here)
     (fits-at P c.loop-index.index c.args.seats.now c.index-seats-index.result c.requires.fit c.loop-index-test.true)
 
@@ -29,7 +30,8 @@ loop-index-preserved g c =
     (Watches (protocol c.args.situation.now.scripts.now) c.args.number c.args.moment
     (step_seen g.P.Program.standing c.args.situation.now c.args.step.now))
     c.loop-index.index c.args.seats.now c.loop-index.seats c.loop-index.named
-    c.index-seats-index.result c.watch_seat.new.seat c.watch_seat.result c.loop-index.invariant small few c.watch_seat.ensures
+    c.index-seats-index.result c.watch_seat.new.seat c.watch_seat.result c.loop-index.invariant small few
+    c.watch_seat.ensures
 
 pub returns-clause-watched : goal.returns-clause-watched
 returns-clause-watched g c =

@@ -24,7 +24,8 @@ loop-plain-preserved c = record {
   utf8 = search rules;
   to = rw (c.in_ok-push.ensures.bytes, c.in_ok-push_str.ensures.bytes)
       (read-next c.args.written.now (string_bytes c.loop-plain.text)
-      c.loop-plain.rest.now c.in-Some.plain.now c.in-Some.form.now c.in-Some-read_form.after.now _ _ _ c.in-Some.ensures.parts.0 c.in-Some.ensures.parts.1
+      c.loop-plain.rest.now c.in-Some.plain.now c.in-Some.form.now c.in-Some-read_form.after.now _ _ _
+      c.in-Some.ensures.parts.0 c.in-Some.ensures.parts.1
       c.in-Some-read_form.ensures.parts.2 c.in-Some-read_form.ensures.parts.3 c.loop-plain.invariant.to);
 }
 

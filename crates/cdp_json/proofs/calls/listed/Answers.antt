@@ -7,7 +7,8 @@ use Rattle.cdp_json.proofs.calls.listed.Goals as goal
 
 pub loop-value-preserved : goal.loop-value-preserved
 loop-value-preserved c =
-    arguments_more c.args.values.now c.loop-value.value-index c.value-item.result c.loop-value.items.items _ c.in-Some.item
+    arguments_more c.args.values.now c.loop-value.value-index c.value-item.result c.loop-value.items.items _
+    c.in-Some.item
     (omega arith)
     (ap (option_map argument_view) (sym c.in-Some.is)
     ∙ c.in_ok-item.ensures

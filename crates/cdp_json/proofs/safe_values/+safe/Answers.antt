@@ -8,7 +8,8 @@ use Rattle.cdp_json.proofs.safe_values.+safe.Goals as goal
 
 pub safe_items-loop-value-preserved : goal.safe_items-loop-value-preserved
 safe_items-loop-value-preserved t c =
-    items_more c.deref-value-items.result.now c.loop-value.value-index c.value-item.result c.loop-value.items.items _ c.in-Some.item
+    items_more c.deref-value-items.result.now c.loop-value.value-index c.value-item.result c.loop-value.items.items _
+    c.in-Some.item
     (omega arith)
     (ap (option_map json_view) (sym c.in-Some.is)
     ∙ c.in_ok-item.ensures

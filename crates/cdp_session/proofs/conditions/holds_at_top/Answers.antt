@@ -11,8 +11,10 @@ returns-clause-holds g c =
     let s = (seen g.P.Program.standing c.args.situation.now).standing in
     let w = unwrap_or c.args.workspace.now no_workspace in
     let fs = map frame_of c.in_ok-frames.frames.items in
-    holds-at s w fs c.top_scope-scope.result c.top_this-this.result c.args.expression.now c.next_address-at.result c.in_ok-prepared.prepared c.evaluate-end.result
-    c.in_ok-opened.opened c.evaluate-end.new.self c.in_ok-holds.holds c.in_ok-opened.ensures.opened c.next_address-at.ensures c.in_ok-prepared.ensures c.evaluate-end.ensures
+    holds-at s w fs c.top_scope-scope.result c.top_this-this.result c.args.expression.now c.next_address-at.result
+    c.in_ok-prepared.prepared c.evaluate-end.result
+    c.in_ok-opened.opened c.evaluate-end.new.self c.in_ok-holds.holds c.in_ok-opened.ensures.opened
+    c.next_address-at.ensures c.in_ok-prepared.ensures c.evaluate-end.ensures
     c.in_ok-holds.ensures.value c.in_ok-frames.ensures
     (c.top_scope-scope.ensures ∙ ap (λ xs. top_scope (map frame_of xs)) c.as_slice.ensures.value)
     (c.top_this-this.ensures ∙ ap (λ xs. top_this (map frame_of xs)) c.as_slice-2.ensures.value)
@@ -22,5 +24,7 @@ returns-clause-kept g c =
     let s = (seen g.P.Program.standing c.args.situation.now).standing in
     let w = unwrap_or c.args.workspace.now no_workspace in
     c.forget.ensures
-    ∙ forgets s w c.top_scope-scope.result c.top_this-this.result c.args.expression.now c.next_address-at.result c.in_ok-prepared.prepared c.evaluate-end.result
-    c.in_ok-opened.opened c.evaluate-end.new.self c.in_ok-opened.ensures.opened c.next_address-at.ensures c.in_ok-prepared.ensures c.evaluate-end.ensures c.in_ok-holds.ensures.memory
+    ∙ forgets s w c.top_scope-scope.result c.top_this-this.result c.args.expression.now c.next_address-at.result
+    c.in_ok-prepared.prepared c.evaluate-end.result
+    c.in_ok-opened.opened c.evaluate-end.new.self c.in_ok-opened.ensures.opened c.next_address-at.ensures
+    c.in_ok-prepared.ensures c.evaluate-end.ensures c.in_ok-holds.ensures.memory

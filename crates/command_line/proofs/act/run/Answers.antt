@@ -20,4 +20,5 @@ returns-clause-acts c =
     run-done c.args.moment c.args.most c.args.host.now c.run.new.self ran.steps ran.printed.items
     (map string_bytes c.push.new.self.items) ran.lost.items c.state.result
     c.requires.works told.same (told.runs c.requires.works) told.stands nobody c.state.ensures
-    (run-texts ran.printed.items ran.lost.items ran.steps c.state.result _ _ _ _ prints loses last c.in_ok-ran_line.ensures)
+    (run-texts ran.printed.items ran.lost.items ran.steps c.state.result _ _ _ _ prints loses last
+    c.in_ok-ran_line.ensures)

@@ -3,11 +3,13 @@ use Rattle.command_line.proofs.journal.replay.Goals as goal
 
 pub returns-clause-done : goal.returns-clause-done
 returns-clause-done g c is =
-    done-writes c.play.result c.args.scripts.items c.args.input.items c.args.wait c.args.journal.now _ _ c.play.ensures.end c.play.ensures.whole is
+    done-writes c.play.result c.args.scripts.items c.args.input.items c.args.wait c.args.journal.now _ _
+    c.play.ensures.end c.play.ensures.whole is
 
 pub returns-clause-refused : goal.returns-clause-refused
 returns-clause-refused g c line is =
-    refused-writes c.play.result c.args.scripts.items c.args.input.items c.args.wait c.args.journal.now _ _ c.play.ensures.end c.play.ensures.whole line is
+    refused-writes c.play.result c.args.scripts.items c.args.input.items c.args.wait c.args.journal.now _ _
+    c.play.ensures.end c.play.ensures.whole line is
 
 pub returns-clause-part : goal.returns-clause-part
 returns-clause-part g c =

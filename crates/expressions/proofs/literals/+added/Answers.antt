@@ -92,14 +92,16 @@ add_expression-returns-in-Member t c = last_more _ c.args.found.now.items _ _ _ 
 
 pub add_expression-returns-in_ok-add_expression-in-Index : goal.add_expression-returns-in_ok-add_expression-in-Index
 add_expression-returns-in_ok-add_expression-in-Index t c =
-    then_more _ c.args.found.now.items _ _ _ _ _ _ _ c.in_ok-add_expression-in-Index.ensures c.add_expression-in-Index-2.ensures
+    then_more _ c.args.found.now.items _ _ _ _ _ _ _ c.in_ok-add_expression-in-Index.ensures
+    c.add_expression-in-Index-2.ensures
     (ap literals.expression_literals
     (ap expression_view c.in-Index.is ∙ view_index c.in-Index.node c.in-Index.object c.in-Index.key))
     (ap source_literals c.deref-in-Index.ensures) (ap source_literals c.deref-in-Index-2.ensures)
 
 pub add_expression-returns-in_ok-add_expression-in-Call : goal.add_expression-returns-in_ok-add_expression-in-Call
 add_expression-returns-in_ok-add_expression-in-Call t c =
-    then_more _ c.args.found.now.items _ _ _ _ _ _ _ c.in_ok-add_expression-in-Call.ensures c.add_expressions-in-Call.ensures
+    then_more _ c.args.found.now.items _ _ _ _ _ _ _ c.in_ok-add_expression-in-Call.ensures
+    c.add_expressions-in-Call.ensures
     (ap literals.expression_literals
     (ap expression_view c.in-Call.is
     ∙ view_call c.in-Call.node c.in-Call.callee c.in-Call.parentheses c.in-Call.arguments))
@@ -126,20 +128,23 @@ add_expression-returns-in-Unary t c = last_more _ c.args.found.now.items _ _ _ _
 
 pub add_expression-returns-in_ok-add_expression-in-Binary : goal.add_expression-returns-in_ok-add_expression-in-Binary
 add_expression-returns-in_ok-add_expression-in-Binary t c =
-    then_more _ c.args.found.now.items _ _ _ _ _ _ _ c.in_ok-add_expression-in-Binary.ensures c.add_expression-in-Binary-2.ensures
+    then_more _ c.args.found.now.items _ _ _ _ _ _ _ c.in_ok-add_expression-in-Binary.ensures
+    c.add_expression-in-Binary-2.ensures
     (ap literals.expression_literals
     (ap expression_view c.in-Binary.is
     ∙ view_binary c.in-Binary.node c.in-Binary.operator c.in-Binary.left c.in-Binary.right))
     (ap source_literals c.deref-in-Binary.ensures) (ap source_literals c.deref-in-Binary-2.ensures)
 
-pub add_expression-returns-in_ok-add_expression-in-Conditional-2 : goal.add_expression-returns-in_ok-add_expression-in-Conditional-2
+pub add_expression-returns-in_ok-add_expression-in-Conditional-2 :
+    goal.add_expression-returns-in_ok-add_expression-in-Conditional-2
 add_expression-returns-in_ok-add_expression-in-Conditional-2 t c =
     then_more _ c.args.found.now.items _ _ _ _ _ _ _
     (both_more _ _ _ _ _ c.in_ok-add_expression-in-Conditional.ensures c.in_ok-add_expression-in-Conditional-2.ensures)
     c.add_expression-in-Conditional-3.ensures
     (ap literals.expression_literals
     (ap expression_view c.in-Conditional.is
-    ∙ view_conditional c.in-Conditional.node c.in-Conditional.test c.in-Conditional.consequent c.in-Conditional.alternate))
+    ∙ view_conditional c.in-Conditional.node c.in-Conditional.test c.in-Conditional.consequent
+    c.in-Conditional.alternate))
     (both _ _ _ _ (ap source_literals c.deref-in-Conditional.ensures)
     (ap source_literals c.deref-in-Conditional-2.ensures))
     (ap source_literals c.deref-in-Conditional-3.ensures)
@@ -189,7 +194,8 @@ add_statement-returns-in-FunctionDeclaration t c =
     none_more c.args.found.now.items _
     (ap literals.statement_literals
     (ap statement_view c.in-FunctionDeclaration.is
-    ∙ view_function_declaration c.in-FunctionDeclaration.node c.in-FunctionDeclaration.name c.in-FunctionDeclaration.parameters c.in-FunctionDeclaration.body))
+    ∙ view_function_declaration c.in-FunctionDeclaration.node c.in-FunctionDeclaration.name
+    c.in-FunctionDeclaration.parameters c.in-FunctionDeclaration.body))
 
 pub add_statement-returns-in-Block : goal.add_statement-returns-in-Block
 add_statement-returns-in-Block t c = last_more _ c.args.found.now.items _ _ _ _ c.add_block.ensures
@@ -220,7 +226,8 @@ add_statement-returns-in_ok-add_statement-in-If t c =
 
 pub add_statement-returns-in_ok-add_statement-in-DoWhile : goal.add_statement-returns-in_ok-add_statement-in-DoWhile
 add_statement-returns-in_ok-add_statement-in-DoWhile t c =
-    then_more _ c.args.found.now.items _ _ _ _ _ _ _ c.in_ok-add_statement-in-DoWhile.ensures c.add_expression-in-DoWhile.ensures
+    then_more _ c.args.found.now.items _ _ _ _ _ _ _ c.in_ok-add_statement-in-DoWhile.ensures
+    c.add_expression-in-DoWhile.ensures
     (ap literals.statement_literals
     (ap statement_view c.in-DoWhile.is
     ∙ view_do_while_statement c.in-DoWhile.node c.in-DoWhile.body c.in-DoWhile.test))
@@ -228,7 +235,8 @@ add_statement-returns-in_ok-add_statement-in-DoWhile t c =
 
 pub add_statement-returns-in_ok-add_expression-in-While : goal.add_statement-returns-in_ok-add_expression-in-While
 add_statement-returns-in_ok-add_expression-in-While t c =
-    then_more _ c.args.found.now.items _ _ _ _ _ _ _ c.in_ok-add_expression-in-While.ensures c.add_statement-in-While.ensures
+    then_more _ c.args.found.now.items _ _ _ _ _ _ _ c.in_ok-add_expression-in-While.ensures
+    c.add_statement-in-While.ensures
     (ap literals.statement_literals
     (ap statement_view c.in-While.is ∙ view_while_statement c.in-While.node c.in-While.test c.in-While.body))
     refl (ap literals_of c.deref-in-While.ensures)
@@ -245,7 +253,8 @@ add_statement-returns-in_ok-add_optional-in-For-3 t c =
     ∙ view_for_statement c.in-For.node c.in-For.initializer c.in-For.test c.in-For.update c.in-For.body))
     refl (ap literals_of c.deref-in-For.ensures)
 
-pub add_statement-returns-in_ok-add_optional-in-ForLexical-2 : goal.add_statement-returns-in_ok-add_optional-in-ForLexical-2
+pub add_statement-returns-in_ok-add_optional-in-ForLexical-2 :
+    goal.add_statement-returns-in_ok-add_optional-in-ForLexical-2
 add_statement-returns-in_ok-add_optional-in-ForLexical-2 t c =
     then_more _ c.args.found.now.items _ _ _ _ _ _ _
     (both_more _ _ _ _ _
@@ -254,12 +263,14 @@ add_statement-returns-in_ok-add_optional-in-ForLexical-2 t c =
     c.add_statement-in-ForLexical.ensures
     (ap literals.statement_literals
     (ap statement_view c.in-ForLexical.is
-    ∙ view_for_lexical_statement c.in-ForLexical.node c.in-ForLexical.constant c.in-ForLexical.declarators c.in-ForLexical.test c.in-ForLexical.update c.in-ForLexical.body))
+    ∙ view_for_lexical_statement c.in-ForLexical.node c.in-ForLexical.constant c.in-ForLexical.declarators
+    c.in-ForLexical.test c.in-ForLexical.update c.in-ForLexical.body))
     refl (ap literals_of c.deref-in-ForLexical.ensures)
 
 pub add_statement-returns-in_ok-add_expression-in-ForOf : goal.add_statement-returns-in_ok-add_expression-in-ForOf
 add_statement-returns-in_ok-add_expression-in-ForOf t c =
-    then_more _ c.args.found.now.items _ _ _ _ _ _ _ c.in_ok-add_expression-in-ForOf.ensures c.add_statement-in-ForOf.ensures
+    then_more _ c.args.found.now.items _ _ _ _ _ _ _ c.in_ok-add_expression-in-ForOf.ensures
+    c.add_statement-in-ForOf.ensures
     (ap literals.statement_literals
     (ap statement_view c.in-ForOf.is
     ∙ view_for_of_statement c.in-ForOf.node c.in-ForOf.constant c.in-ForOf.name c.in-ForOf.list c.in-ForOf.body))
@@ -336,7 +347,8 @@ add_declared-returns-in-ForLexical t c =
     none_more c.args.found.now.items _
     (ap literals.declared_literals
     (ap statement_view c.in-ForLexical.is
-    ∙ view_for_lexical_statement c.in-ForLexical.node c.in-ForLexical.constant c.in-ForLexical.declarators c.in-ForLexical.test c.in-ForLexical.update c.in-ForLexical.body))
+    ∙ view_for_lexical_statement c.in-ForLexical.node c.in-ForLexical.constant c.in-ForLexical.declarators
+    c.in-ForLexical.test c.in-ForLexical.update c.in-ForLexical.body))
 
 pub add_declared-returns-in-ForOf : goal.add_declared-returns-in-ForOf
 add_declared-returns-in-ForOf t c =
@@ -390,7 +402,8 @@ pub add_declared-returns-in-FunctionDeclaration : goal.add_declared-returns-in-F
 add_declared-returns-in-FunctionDeclaration t c = last_more _ c.args.found.now.items _ _ _ _ c.add_statements.ensures
     (ap literals.declared_literals
     (ap statement_view c.in-FunctionDeclaration.is
-    ∙ view_function_declaration c.in-FunctionDeclaration.node c.in-FunctionDeclaration.name c.in-FunctionDeclaration.parameters c.in-FunctionDeclaration.body))
+    ∙ view_function_declaration c.in-FunctionDeclaration.node c.in-FunctionDeclaration.name
+    c.in-FunctionDeclaration.parameters c.in-FunctionDeclaration.body))
     refl
 
 pub add_key-returns-in-Word : goal.add_key-returns-in-Word

@@ -58,5 +58,13 @@ returns-in_ok-call_entry-in-Call-clause-entry c =
 
 pub returns-in_default : goal.returns-in_default
 returns-in_default c =
-    let e : needs_names c.args.form.now ≡ false = needs_nothing c.args.form.now c.in_default.not-Script c.in_default.not-EnterFor c.in_default.not-EnterForOf c.in_default.not-Block c.in_default.not-Initialize c.in_default.not-Catching c.in_default.not-Read c.in_default.not-TypeofName c.in_default.not-Function c.in_default.not-Object c.in_default.not-Method c.in_default.not-Assign c.in_default.not-Compound c.in_default.not-Update c.in_default.not-Delete c.in_default.not-Call c.in_default.not-CallOf in
-    record { grows = grows_same c.args.names.now c.args.table.now; entry = answer_enters c.args.names.now c.args.table.now c.args.form.now c.alone_entry.result c.alone_entry.ensures e }
+    let e : needs_names c.args.form.now ≡ false = needs_nothing c.args.form.now c.in_default.not-Script
+    c.in_default.not-EnterFor c.in_default.not-EnterForOf c.in_default.not-Block c.in_default.not-Initialize
+    c.in_default.not-Catching c.in_default.not-Read c.in_default.not-TypeofName c.in_default.not-Function
+    c.in_default.not-Object c.in_default.not-Method c.in_default.not-Assign c.in_default.not-Compound
+    c.in_default.not-Update c.in_default.not-Delete c.in_default.not-Call c.in_default.not-CallOf in
+    record {
+      grows = grows_same c.args.names.now c.args.table.now;
+      entry = answer_enters c.args.names.now c.args.table.now c.args.form.now c.alone_entry.result
+          c.alone_entry.ensures e;
+    }

@@ -35,7 +35,8 @@ loop-place-preserved t c = record {
   begins = omega arith;
   finds =
       parts_before c.args.table.now c.args.number (c.loop-place.place - 1)
-      c.loop-place.place c.in-Some.node c.kid.result c.args.index.now.items c.loop-place.index.items c.index_node.new.index.items c.requires.table
+      c.loop-place.place c.in-Some.node c.kid.result c.args.index.now.items c.loop-place.index.items
+      c.index_node.new.index.items c.requires.table
       (sym c.in-Some.ensures) (omega arith) (omega arith)
       c.kid.ensures c.in_ok-index_node.ensures c.loop-place.invariant.finds;
 }
@@ -44,6 +45,7 @@ pub returns : goal.returns
 returns t c =
     let all : c.loop-place.place ≡ c.in-Some.node.first = omega arith in
     on_ok_weaker c.put_function.result
-    (filled_node c.args.table.now c.args.number c.loop-place.place c.in-Some.node c.args.index.now.items c.loop-place.index.items c.put_function.new.index.items c.requires.table c.requires.places
+    (filled_node c.args.table.now c.args.number c.loop-place.place c.in-Some.node c.args.index.now.items
+    c.loop-place.index.items c.put_function.new.index.items c.requires.table c.requires.places
     (sym c.in-Some.ensures) (sym c.is_literal.ensures ∙ c.if-is_literal.false) all c.loop-place.invariant.finds)
     c.put_function.ensures

@@ -10,11 +10,13 @@ returns-in_ok-task-in-Row c = λ ts.
 
 pub returns-in_ok-node-in-Leaf : goal.returns-in_ok-node-in-Leaf
 returns-in_ok-node-in-Leaf c = λ ts.
-    leaf-kind ts c.args.table.now c.args.stack.now c.in-Leaf.n c.in_ok-node-in-Leaf.node c.args.point c.in-Leaf.is c.in_ok-node-in-Leaf.ensures c.requires.table c.requires.at
+    leaf-kind ts c.args.table.now c.args.stack.now c.in-Leaf.n c.in_ok-node-in-Leaf.node c.args.point c.in-Leaf.is
+    c.in_ok-node-in-Leaf.ensures c.requires.table c.requires.at
 
 pub returns-in-Stands : goal.returns-in-Stands
 returns-in-Stands c =
-    λ ts. stands-kind ts c.args.table.now c.args.stack.now c.in-Stands.field-0 c.in-Stands.field-1 c.args.point c.in-Stands.is
+    λ ts. stands-kind ts c.args.table.now c.args.stack.now c.in-Stands.field-0 c.in-Stands.field-1 c.args.point
+    c.in-Stands.is
 
 pub returns-in-Done : goal.returns-in-Done
 returns-in-Done c =

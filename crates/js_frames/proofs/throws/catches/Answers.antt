@@ -3,8 +3,10 @@ use Rattle.js_frames.proofs.throws.catches.Goals as goal
 
 pub returns-then-catches_at : goal.returns-then-catches_at
 returns-then-catches_at c =
-    catches-here c.args.stack.now c.loop-i.i c.catches_at.result c.loop-i.invariant c.catches_at.ensures c.if-catches_at.true
+    catches-here c.args.stack.now c.loop-i.i c.catches_at.result c.loop-i.invariant c.catches_at.ensures
+    c.if-catches_at.true
 
 pub loop-i-preserved : goal.loop-i-preserved
 loop-i-preserved c =
-    catches-on c.args.stack.now c.loop-i.i c.catches_at.result c.loop-i.invariant c.catches_at.ensures c.if-catches_at.false
+    catches-on c.args.stack.now c.loop-i.i c.catches_at.result c.loop-i.invariant c.catches_at.ensures
+    c.if-catches_at.false

@@ -9,7 +9,9 @@ loop-left-preserved g c =
     let r = c.run-ran.ensures in
     record {
       made =
-          made-on c.args.machine.now c.loop-left.machine c.run-ran.new.self _ _ _ c.args.most c.loop-left.left c.run-ran.result.steps c.run-ran.result.why c.loop-left.invariant.made c.loop-left.invariant.within r.within
+          made-on c.args.machine.now c.loop-left.machine c.run-ran.new.self _ _ _ c.args.most c.loop-left.left
+          c.run-ran.result.steps c.run-ran.result.why c.loop-left.invariant.made c.loop-left.invariant.within
+          r.within
           (record { run = r.run; left = r.left; end = r.end; code = r.code; kept = c.in_default.not-Memory });
       within = omega arith;
     }
@@ -19,7 +21,9 @@ loop-left-preserved-else-ran-eq0 g c =
     let r = c.run-ran.ensures in
     record {
       made =
-          made-on c.args.machine.now c.loop-left.machine c.run-ran.new.self _ _ _ c.args.most c.loop-left.left c.run-ran.result.steps c.run-ran.result.why c.loop-left.invariant.made c.loop-left.invariant.within r.within
+          made-on c.args.machine.now c.loop-left.machine c.run-ran.new.self _ _ _ c.args.most c.loop-left.left
+          c.run-ran.result.steps c.run-ran.result.why c.loop-left.invariant.made c.loop-left.invariant.within
+          r.within
           (record { run = r.run; left = r.left; end = r.end; code = r.code; kept = c.in_default.not-Memory });
       within = omega arith;
     }
@@ -37,7 +41,8 @@ returns g c =
       | then-loop-left-test+else-is_some+in_default+then-ran-eq0 w ↦
           let r = w.run-ran.ensures in
           rw (w.machine-is, w.world-is, w.left-is)
-          (made-still m c.loop-left.machine w.run-ran.new.self _ _ _ c.args.most c.loop-left.left w.run-ran.result.steps w.run-ran.result.why i.made i.within r.within
+          (made-still m c.loop-left.machine w.run-ran.new.self _ _ _ c.args.most c.loop-left.left w.run-ran.result.steps
+          w.run-ran.result.why i.made i.within r.within
           (record { run = r.run; left = r.left; end = r.end; code = r.code; kept = w.in_default.not-Memory })
           w.loop-left-test.true r.counted w.if-ran-eq0.true)
     ]

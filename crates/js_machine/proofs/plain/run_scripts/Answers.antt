@@ -10,9 +10,11 @@ run_on-requires c =
 pub returns-clause-reached : goal.returns-clause-reached
 returns-clause-reached c =
     plain-reached (terms_of_scripts c.args.scripts.now)
-    c.args.input.items c.in_ok-machine.field-0 c.run_on.new.machine _ c.args.most c.in_ok-steps.steps c.in_ok-machine.ensures c.in_ok-steps.ensures
+    c.args.input.items c.in_ok-machine.field-0 c.run_on.new.machine _ c.args.most c.in_ok-steps.steps
+    c.in_ok-machine.ensures c.in_ok-steps.ensures
 
 pub returns-clause-counted : goal.returns-clause-counted
 returns-clause-counted c =
     plain-counted (terms_of_scripts c.args.scripts.now)
-    c.args.input.items c.in_ok-machine.field-0 c.run_on.new.machine _ c.args.most c.in_ok-steps.steps c.in_ok-machine.ensures c.in_ok-steps.ensures
+    c.args.input.items c.in_ok-machine.field-0 c.run_on.new.machine _ c.args.most c.in_ok-steps.steps
+    c.in_ok-machine.ensures c.in_ok-steps.ensures

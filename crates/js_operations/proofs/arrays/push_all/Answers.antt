@@ -6,4 +6,5 @@ returns-in_err-put_element g c =
     push-stop c.args.a c.args.len c.loop-value.index c.args.values.now c.loop-value.value-index
     (g.W.World.world c.args.names.now c.args.world.now) (g.W.World.world c.args.names.now c.loop-value.world)
     (g.W.World.world c.args.names.now c.put_element.new.world)
-    c.from_residual.result c.in_err-put_element.field-0.0 c.loop-value-test.true c.loop-value.invariant c.in_err-put_element.ensures c.from_residual.ensures.1
+    c.from_residual.result c.in_err-put_element.field-0.0 c.loop-value-test.true c.loop-value.invariant
+    c.in_err-put_element.ensures c.from_residual.ensures.1

@@ -7,13 +7,16 @@ returns-in_err-value g c =
     (g.W.World.world c.args.names.now c.args.world.now) (g.W.World.world c.args.names.now c.loop-i.world)
     (g.W.World.world c.args.names.now c.make_text.new.world)
     c.from_residual-in_err-value.result c.in_err-value.field-0.0 c.loop-i-test.true
-    (same-at c.args.texts.now c.loop-i.i c.in_ok-units.units c.index-texts-i.result c.in_ok-units.ensures c.index-texts-i.is)
+    (same-at c.args.texts.now c.loop-i.i c.in_ok-units.units c.index-texts-i.result c.in_ok-units.ensures
+    c.index-texts-i.is)
     c.loop-i.invariant c.in_err-value.ensures c.from_residual-in_err-value.ensures.1
 
 pub loop-i-preserved : goal.loop-i-preserved
 loop-i-preserved g c =
-    texts-step c.args.texts.now c.loop-i.i c.in_ok-units.units c.loop-i.values.items c.push.new.self.items c.in_ok-value.value
+    texts-step c.args.texts.now c.loop-i.i c.in_ok-units.units c.loop-i.values.items c.push.new.self.items
+    c.in_ok-value.value
     (g.W.World.world c.args.names.now c.args.world.now) (g.W.World.world c.args.names.now c.loop-i.world)
     (g.W.World.world c.args.names.now c.make_text.new.world) c.loop-i-test.true
-    (same-at c.args.texts.now c.loop-i.i c.in_ok-units.units c.index-texts-i.result c.in_ok-units.ensures c.index-texts-i.is)
+    (same-at c.args.texts.now c.loop-i.i c.in_ok-units.units c.index-texts-i.result c.in_ok-units.ensures
+    c.index-texts-i.is)
     c.loop-i.invariant c.in_ok-push.ensures.items c.in_ok-value.ensures

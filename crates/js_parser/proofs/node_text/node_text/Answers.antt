@@ -15,7 +15,8 @@ returns-in-Ok c =
     is
     ∙ c.units_in.ensures
     ∙ ap (λ (s : Span). units_in s text) c.of.ensures
-    ∙ text_found text x.tree x.spans c.args.node.0 c.in-Ok.ensures.found c.in-Ok.ensures.spans c.in-Ok.ensures.numbered) c.from_slice.ensures
+    ∙ text_found text x.tree x.spans c.args.node.0 c.in-Ok.ensures.found c.in-Ok.ensures.spans c.in-Ok.ensures.numbered)
+    c.from_slice.ensures
 
 pub returns-else-lacks_memory : goal.returns-else-lacks_memory
 returns-else-lacks_memory c =

@@ -20,7 +20,8 @@ returns-clause-answers c =
     (length c.args.source.now) c.expression_of-read.result c.told.result (omega arith)
     reads_expression c.in_ok-lexed.ensures.tokens
     (ap (λ (ts : List lexer.Token). tokens_view ts) c.as_slice.ensures.value)
-    c.in_ok-lexed.ensures.short refl c.expression_of-read.ensures.gives c.expression_of-read.ensures.height c.told.ensures
+    c.in_ok-lexed.ensures.short refl c.expression_of-read.ensures.gives c.expression_of-read.ensures.height
+    c.told.ensures
 
 pub returns-clause-placed : goal.returns-clause-placed
 returns-clause-placed c =
@@ -28,4 +29,5 @@ returns-clause-placed c =
     (tokens_view c.as_slice.result.now) (length c.args.source.now)
     c.expression_of-read.result c.told.result c.in_ok-lexed.ensures.tokens
     (ap (λ (ts : List lexer.Token). tokens_view ts) c.as_slice.ensures.value)
-    c.expression_of-read.ensures.placed c.expression_of-read.ensures.forward c.expression_of-read.ensures.numbers c.told.ensures
+    c.expression_of-read.ensures.placed c.expression_of-read.ensures.forward c.expression_of-read.ensures.numbers
+    c.told.ensures

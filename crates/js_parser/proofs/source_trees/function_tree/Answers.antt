@@ -27,4 +27,5 @@ returns-clause-placed c =
     (tokens_view c.as_slice.result.now) (length c.args.source.now)
     c.function_of-read.result c.told.result c.in_ok-lexed.ensures.tokens
     (ap (λ (ts : List lexer.Token). tokens_view ts) c.as_slice.ensures.value)
-    c.function_of-read.ensures.placed c.function_of-read.ensures.forward c.function_of-read.ensures.numbers c.told.ensures
+    c.function_of-read.ensures.placed c.function_of-read.ensures.forward c.function_of-read.ensures.numbers
+    c.told.ensures

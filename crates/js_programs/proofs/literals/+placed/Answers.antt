@@ -14,28 +14,34 @@ items_placed-loop-item-preserved t c =
     let x = c.item-item.result in record {
       placed =
           placed_step (address c.args.space)
-          items i x c.loop-item-test.true c.item-item.is c.loop-item.placed.items c.push.new.self.items c.in_ok-term_placed.field-0 c.loop-item.next c.term_placed.new.next c.in_ok-push.ensures.items c.in_ok-term_placed.ensures.term c.in_ok-term_placed.ensures.next
+          items i x c.loop-item-test.true c.item-item.is c.loop-item.placed.items c.push.new.self.items
+          c.in_ok-term_placed.field-0 c.loop-item.next c.term_placed.new.next c.in_ok-push.ensures.items
+          c.in_ok-term_placed.ensures.term c.in_ok-term_placed.ensures.next
           ∙ c.loop-item.invariant.placed;
       counted =
-          counted_step items i x c.loop-item-test.true c.item-item.is c.loop-item.next c.term_placed.new.next c.in_ok-term_placed.ensures.next
+          counted_step items i x c.loop-item-test.true c.item-item.is c.loop-item.next c.term_placed.new.next
+          c.in_ok-term_placed.ensures.next
           ∙ c.loop-item.invariant.counted;
     }
 
 pub items_placed-returns-clause-term : goal.items_placed-returns-clause-term
 items_placed-returns-clause-term t c =
     placed_all (address c.args.space)
-    c.deref-item-items.result.now c.loop-item.item-index c.loop-item.placed.items c.args.next.now c.loop-item.next c.loop-item-test.false c.loop-item.invariant.placed
+    c.deref-item-items.result.now c.loop-item.item-index c.loop-item.placed.items c.args.next.now c.loop-item.next
+    c.loop-item-test.false c.loop-item.invariant.placed
     ∙ ap (λ xs. run.all_with_literals (address c.args.space) c.args.next.now (listed_view xs))
     c.deref-item-items.ensures.value
 
 pub term_placed-returns-after-branch-2-clause-next : goal.term_placed-returns-after-branch-2-clause-next
 term_placed-returns-after-branch-2-clause-next t c = always_ok c.match-branch-2.result (elim c.match-branch-2.branch [
   | term_placed-in-Some+in_ok-literal_placed-in-Some w ↦ w.next-is
-      ∙ counted_literal c.args.next.now w.literal_placed.new.next c.args.term.now c.in-Part.form c.in-Part.now c.in-Part.later _ c.in-Part.is
+      ∙ counted_literal c.args.next.now w.literal_placed.new.next c.args.term.now c.in-Part.form c.in-Part.now
+      c.in-Part.later _ c.in-Part.is
       (sym w.in-Some.is ∙ c.in_ok-literal_in-in-Part.ensures ∙ ap literal_in c.deref.ensures)
       w.in_ok-literal_placed-in-Some.ensures.next
   | term_placed-in-None+in_ok-form-in-None+in_ok-now-in-None+in_ok-later-in-None w ↦ w.next-is
-      ∙ counted_parts c.args.next.now w.terms_placed.new.next w.terms_placed-in-None.new.next c.args.term.now c.in-Part.form c.in-Part.now c.in-Part.later c.in-Part.is
+      ∙ counted_parts c.args.next.now w.terms_placed.new.next w.terms_placed-in-None.new.next c.args.term.now
+      c.in-Part.form c.in-Part.now c.in-Part.later c.in-Part.is
       (sym w.in-None.is ∙ c.in_ok-literal_in-in-Part.ensures ∙ ap literal_in c.deref.ensures)
       w.in_ok-now-in-None.ensures.next w.in_ok-later-in-None.ensures.next
 ])

@@ -48,7 +48,8 @@ pub returns-in-ForLexical : goal.returns-in-ForLexical
 returns-in-ForLexical c =
     no_names c.args.names.now.items c.args.statement.now _
     (ap statement_source c.in-ForLexical.is
-    ∙ source_for_lexical c.in-ForLexical.node c.in-ForLexical.constant c.in-ForLexical.declarators c.in-ForLexical.test c.in-ForLexical.update c.in-ForLexical.body)
+    ∙ source_for_lexical c.in-ForLexical.node c.in-ForLexical.constant c.in-ForLexical.declarators c.in-ForLexical.test
+    c.in-ForLexical.update c.in-ForLexical.body)
     refl
 
 pub returns-in-ForOf : goal.returns-in-ForOf

@@ -7,7 +7,8 @@ returns-in-ConsoleLog g c =
     let ts = c.args.names.now in
     let a = c.args.arguments.now in
     let v = g.W.World.world c.args.names.now c.args.world.now in
-    log-called ts a c.args.f c.args.receiver v c.args.context.now c.log.result v c.log.new.context c.in-ConsoleLog.is c.log.ensures
+    log-called ts a c.args.f c.args.receiver v c.args.context.now c.log.result v c.log.new.context c.in-ConsoleLog.is
+    c.log.ensures
 
 pub returns-in-ReadLine : goal.returns-in-ReadLine
 returns-in-ReadLine g c =

@@ -19,8 +19,10 @@ returns-in-Some-outer g c =
     (λ s. entered_within s x c.args.source c.args.function n c.in-Some-outer.outer c.called_this-receiver.result a)
     v c.args.context.now c.call_entry.result (g.W.World.world c.args.names.now c.call_entry.new.world)
     c.call_entry.new.context
-    (λ s. code-called s p x c.args.source c.args.function n k.outer c.in-Some-outer.outer k.this c.args.receiver c.called_this-receiver.result a
-    (code-there ts t c.args.place c.in-Some.place c.in-Some-function_entry.code.now c.in-Some.is c.in-Some-function_entry.ensures)
+    (λ s. code-called s p x c.args.source c.args.function n k.outer c.in-Some-outer.outer k.this c.args.receiver
+    c.called_this-receiver.result a
+    (code-there ts t c.args.place c.in-Some.place c.in-Some-function_entry.code.now c.in-Some.is
+    c.in-Some-function_entry.ensures)
     c.in-Some-outer.is c.called_this-receiver.ensures)
     c.call_entry.ensures
 
@@ -57,7 +59,8 @@ returns-in-None-function_entry g c =
     (code-missing ts t c.args.place c.in-Some.place c.in-Some.is c.in-None-function_entry.ensures))
     (ends-act ts t not_a_function v c.not_a_function-in-None-function_entry.result
     (g.W.World.world c.args.names.now c.not_a_function-in-None-function_entry.new.world)
-    c.args.context.now c.stopped-in-None-function_entry.result c.not_a_function-in-None-function_entry.ensures c.stopped-in-None-function_entry.ensures)
+    c.args.context.now c.stopped-in-None-function_entry.result c.not_a_function-in-None-function_entry.ensures
+    c.stopped-in-None-function_entry.ensures)
 
 pub returns-in-None : goal.returns-in-None
 returns-in-None g c =

@@ -12,7 +12,8 @@ returns-in-Ok g c =
     let i = c.args.entry in
     let n = name_text ts i.name in
     let x = entry_code ts t c.args.place c.args.code.now in
-    enters-scope ts t x i.source i.function n i.outer i.receiver c.args.arguments.now c.in-Ok.own c.args.code.now.node c.args.place.body v
+    enters-scope ts t x i.source i.function n i.outer i.receiver c.args.arguments.now c.in-Ok.own c.args.code.now.node
+    c.args.place.body v
     (g.W.World.world c.args.names.now c.call_scope.new.world)
     c.args.context.now c.enter_frame.new.context c.enter_frame.result c.in-Ok.ensures c.enter_frame.ensures refl refl
 

@@ -9,4 +9,5 @@ returns-in-Ok-print g c =
 pub returns-in-Err-print : goal.returns-in-Err-print
 returns-in-Err-print g c =
     log-stops c.args.names.now c.args.arguments.now c.in-Ok.text (g.W.World.world c.args.names.now c.args.world.now)
-    c.args.context.now c.print.new.self c.in-Err-print.stop c.stopped.result c.in-Ok.ensures c.in-Err-print.ensures c.stopped.ensures
+    c.args.context.now c.print.new.self c.in-Err-print.stop c.stopped.result c.in-Ok.ensures c.in-Err-print.ensures
+    c.stopped.ensures

@@ -3,7 +3,8 @@ use Rattle.js_rows.proofs.literals.before_form.Goals as goal
 
 pub returns-in-Some : goal.returns-in-Some
 returns-in-Some g c =
-    method-some c.args.names.now c.args.table.now c.args.scope c.args.op c.args.info c.in-Some.entry.now c.args.values.now
+    method-some c.args.names.now c.args.table.now c.args.scope c.args.op c.args.info c.in-Some.entry.now
+    c.args.values.now
     (g.W.World.world c.args.names.now c.args.world.now)
     (g.W.World.world c.args.names.now c.before_method.new.world)
     c.before_method.result c.in-Method.is c.in-Some.ensures c.before_method.ensures

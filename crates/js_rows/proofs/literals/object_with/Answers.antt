@@ -4,7 +4,8 @@ use Rattle.js_rows.proofs.literals.object_with.Goals as goal
 
 pub returns-in-Some : goal.returns-in-Some
 returns-in-Some g c =
-    literal-part c.args.names.now c.args.table.now c.args.form.inner c.args.from c.args.form.end c.in-Some.part c.args.values.now
+    literal-part c.args.names.now c.args.table.now c.args.form.inner c.args.from c.args.form.end c.in-Some.part
+    c.args.values.now
     (g.W.World.world c.args.names.now c.args.world.now) (g.W.World.world c.args.names.now c.before_part.new.world)
     c.before_part.result c.in-Some.ensures c.before_part.ensures (members_of c.args.names.now c.args.members.now)
 

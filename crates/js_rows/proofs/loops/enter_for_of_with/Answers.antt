@@ -13,4 +13,5 @@ returns g c =
     for-of-part c.args.names.now c.args.table.now c.args.form c.args.entry c.in-Some.field-0
     (g.W.World.world c.args.names.now c.args.world.now)
     (g.W.World.world c.args.names.now c.nameless_scope-own.new.world)
-    c.args.context.now c.set_here.new.self c.nameless_scope-own.result c.lists_in.result c.requires c.in-Some.ensures c.set_here.ensures c.nameless_scope-own.ensures c.lists_in.ensures
+    c.args.context.now c.set_here.new.self c.nameless_scope-own.result c.lists_in.result c.requires c.in-Some.ensures
+    c.set_here.ensures c.nameless_scope-own.ensures c.lists_in.ensures

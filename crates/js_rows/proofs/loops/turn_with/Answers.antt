@@ -9,7 +9,9 @@ returns-in_default g c =
 
 pub returns : goal.returns
 returns g c =
-    turn-part c.args.names.now c.args.table.now c.args.form c.args.entry c.args.list c.in-Some.value c.args.index c.turn_slot-slot.result
+    turn-part c.args.names.now c.args.table.now c.args.form c.args.entry c.args.list c.in-Some.value c.args.index
+    c.turn_slot-slot.result
     (g.W.World.world c.args.names.now c.args.world.now)
     (g.W.World.world c.args.names.now c.nameless_scope-own.new.world)
-    c.nameless_scope-own.result c.iterated_in.result c.requires c.in-Some.ensures c.turn_slot-slot.ensures c.nameless_scope-own.ensures c.iterated_in.ensures
+    c.nameless_scope-own.result c.iterated_in.result c.requires c.in-Some.ensures c.turn_slot-slot.ensures
+    c.nameless_scope-own.ensures c.iterated_in.ensures

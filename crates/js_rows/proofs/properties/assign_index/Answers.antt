@@ -8,4 +8,5 @@ returns g c =
     let v = g.W.World.world c.args.names.now c.args.world.now in
     index-assigned ts vs c.in-Some.object c.in-Some-value_at.index c.last_of-value.result v c.put_index_value.result
     (g.W.World.world c.args.names.now c.put_index_value.new.world)
-    c.replied_with.result c.in-Some.ensures c.in-Some-value_at.ensures c.last_of-value.ensures c.put_index_value.ensures c.replied_with.ensures
+    c.replied_with.result c.in-Some.ensures c.in-Some-value_at.ensures c.last_of-value.ensures c.put_index_value.ensures
+    c.replied_with.ensures

@@ -10,4 +10,5 @@ returns g c =
     let v = g.W.World.world c.args.names.now c.args.world.now in
     index-deleted ts vs c.in-Some.object c.in-Some-value_at.index (values.Bool true) v c.remove_index-deleted.result
     (g.W.World.world c.args.names.now c.remove_index-deleted.new.world)
-    c.replied_with.result c.in-Some.ensures c.in-Some-value_at.ensures c.remove_index-deleted.ensures c.replied_with.ensures
+    c.replied_with.result c.in-Some.ensures c.in-Some-value_at.ensures c.remove_index-deleted.ensures
+    c.replied_with.ensures

@@ -10,13 +10,15 @@ returns-in_default g c =
 
 pub returns-then-is_empty : goal.returns-then-is_empty
 returns-then-is_empty g c =
-    block-plain c.args.names.now c.args.table.now c.args.form.inner c.args.slots.now c.args.form.mid c.args.form.end c.in-Some.statements
+    block-plain c.args.names.now c.args.table.now c.args.form.inner c.args.slots.now c.args.form.mid c.args.form.end
+    c.in-Some.statements
     (g.W.World.world c.args.names.now c.args.world.now) c.in-Some.ensures
     (sym c.is_empty.ensures ∙ c.if-is_empty.true)
 
 pub returns : goal.returns
 returns g c =
-    block-part c.args.names.now c.args.table.now c.args.form.inner c.args.slots.now c.args.form.mid c.args.form.end c.in-Some.statements
+    block-part c.args.names.now c.args.table.now c.args.form.inner c.args.slots.now c.args.form.mid c.args.form.end
+    c.in-Some.statements
     (g.W.World.world c.args.names.now c.args.world.now)
     (g.W.World.world c.args.names.now c.scope_with-own.new.world)
     c.scope_with-own.result c.scoped.result c.in-Some.ensures (sym c.is_empty.ensures ∙ c.if-is_empty.false)

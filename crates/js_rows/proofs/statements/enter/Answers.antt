@@ -3,7 +3,8 @@ use Rattle.js_rows.proofs.statements.enter.Goals as goal
 
 pub returns-in-Some : goal.returns-in-Some
 returns-in-Some c =
-    enter-part c.args.table.now c.args.form.info c.args.form.mid c.args.form.end c.in-Some.entered c.args.context.now c.set_here.new.self c.in-Some.ensures c.set_here.ensures
+    enter-part c.args.table.now c.args.form.info c.args.form.mid c.args.form.end c.in-Some.entered c.args.context.now
+    c.set_here.new.self c.in-Some.ensures c.set_here.ensures
 
 pub returns-in-None : goal.returns-in-None
 returns-in-None c =

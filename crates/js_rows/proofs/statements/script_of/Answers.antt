@@ -14,5 +14,6 @@ returns-in-Ok g c =
     (bindings c.args.names.now c.args.entry.now.names) c.args.form.mid c.args.form.end c.in-Some.statements
     (g.W.World.world c.args.names.now c.args.world.now)
     (g.W.World.world c.args.names.now c.declare_script-declared.new.world)
-    c.args.context.now c.enter_script.new.context c.declare_script-declared.result c.uncovered_after.result c.in-Some.ensures c.in-Ok.ensures
+    c.args.context.now c.enter_script.new.context c.declare_script-declared.result c.uncovered_after.result
+    c.in-Some.ensures c.in-Ok.ensures
     (rw (← c.slice-slots.ensures) c.declare_script-declared.ensures) c.uncovered_after.ensures

@@ -15,7 +15,8 @@ pub returns-in-This : goal.returns-in-This
 returns-in-This g c =
     let ts = c.args.names.now in
     let v = g.W.World.world c.args.names.now c.args.world.now in
-    this-row ts c.args.table.now c.args.form c.args.values.now v c.args.context.now c.this.result c.in-This.is c.this.ensures
+    this-row ts c.args.table.now c.args.form c.args.values.now v c.args.context.now c.this.result c.in-This.is
+    c.this.ensures
 
 pub returns-in-TypeofName : goal.returns-in-TypeofName
 returns-in-TypeofName g c =
@@ -29,20 +30,23 @@ returns-in-Both g c =
     let ts = c.args.names.now in
     let v = g.W.World.world c.args.names.now c.args.world.now in
     λ outer before.
-    both-row ts c.args.table.now c.args.form c.args.values.now outer v c.args.context.now before c.both.result c.in-Both.is c.both.ensures
+    both-row ts c.args.table.now c.args.form c.args.values.now outer v c.args.context.now before c.both.result
+    c.in-Both.is c.both.ensures
 
 pub returns-in-Either : goal.returns-in-Either
 returns-in-Either g c =
     let ts = c.args.names.now in
     let v = g.W.World.world c.args.names.now c.args.world.now in
     λ outer before.
-    either-row ts c.args.table.now c.args.form c.args.values.now outer v c.args.context.now before c.either.result c.in-Either.is c.either.ensures
+    either-row ts c.args.table.now c.args.form c.args.values.now outer v c.args.context.now before c.either.result
+    c.in-Either.is c.either.ensures
 
 pub returns-in-Comma : goal.returns-in-Comma
 returns-in-Comma g c =
     let ts = c.args.names.now in
     let v = g.W.World.world c.args.names.now c.args.world.now in
-    comma-row ts c.args.table.now c.args.form c.args.values.now v c.args.context.now c.comma.result c.in-Comma.is c.comma.ensures
+    comma-row ts c.args.table.now c.args.form c.args.values.now v c.args.context.now c.comma.result c.in-Comma.is
+    c.comma.ensures
 
 pub returns-in-Array : goal.returns-in-Array
 returns-in-Array g c =

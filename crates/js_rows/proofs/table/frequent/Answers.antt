@@ -21,7 +21,8 @@ returns-in-Enter g c =
     let ts = c.args.names.now in
     let v = g.W.World.world c.args.names.now c.args.world.now in
     λ outer before.
-    enter-row ts c.args.table.now c.args.form c.args.values.now outer v c.args.context.now c.enter.new.context before c.enter.result c.in-Enter.is c.enter.ensures
+    enter-row ts c.args.table.now c.args.form c.args.values.now outer v c.args.context.now c.enter.new.context before
+    c.enter.result c.in-Enter.is c.enter.ensures
 
 pub returns-in-AssignName : goal.returns-in-AssignName
 returns-in-AssignName g c =
@@ -35,9 +36,11 @@ pub returns-in-UpdateName : goal.returns-in-UpdateName
 returns-in-UpdateName g c =
     let ts = c.args.names.now in
     let v = g.W.World.world c.args.names.now c.args.world.now in
-    update-name-row ts c.args.table.now c.args.form c.args.values.now c.in-UpdateName.kind c.operator_of.result c.is_prefix.result v
+    update-name-row ts c.args.table.now c.args.form c.args.values.now c.in-UpdateName.kind c.operator_of.result
+    c.is_prefix.result v
     (g.W.World.world ts c.update_name.new.world)
-    c.args.context.now c.update_name.result c.in-UpdateName.is c.operator_of.ensures c.is_prefix.ensures c.update_name.ensures
+    c.args.context.now c.update_name.result c.in-UpdateName.is c.operator_of.ensures c.is_prefix.ensures
+    c.update_name.ensures
 
 pub returns-in-ReadMember : goal.returns-in-ReadMember
 returns-in-ReadMember g c =
@@ -65,17 +68,20 @@ returns-in-Choose g c =
     let ts = c.args.names.now in
     let v = g.W.World.world c.args.names.now c.args.world.now in
     λ outer before.
-    choose-row ts c.args.table.now c.args.form c.args.values.now outer v c.args.context.now before c.choose.result c.in-Choose.is c.choose.ensures
+    choose-row ts c.args.table.now c.args.form c.args.values.now outer v c.args.context.now before c.choose.result
+    c.in-Choose.is c.choose.ensures
 
 pub returns-in-LoopTesting : goal.returns-in-LoopTesting
 returns-in-LoopTesting g c =
     let ts = c.args.names.now in
     let v = g.W.World.world c.args.names.now c.args.world.now in
     λ outer before.
-    testing-row ts c.args.table.now c.args.form c.args.values.now outer v c.args.context.now before c.loop_test.result c.in-LoopTesting.is c.loop_test.ensures
+    testing-row ts c.args.table.now c.args.form c.args.values.now outer v c.args.context.now before c.loop_test.result
+    c.in-LoopTesting.is c.loop_test.ensures
 
 pub returns-in-Return : goal.returns-in-Return
 returns-in-Return g c =
     let ts = c.args.names.now in
     let v = g.W.World.world c.args.names.now c.args.world.now in
-    return-row ts c.args.table.now c.args.form c.args.values.now v c.args.context.now c.returned.result c.in-Return.is c.returned.ensures
+    return-row ts c.args.table.now c.args.form c.args.values.now v c.args.context.now c.returned.result c.in-Return.is
+    c.returned.ensures

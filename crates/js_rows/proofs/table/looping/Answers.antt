@@ -30,7 +30,8 @@ returns-in-LoopUpdating g c =
     let ts = c.args.names.now in
     let v = g.W.World.world c.args.names.now c.args.world.now in
     λ outer before.
-    updating-row ts c.args.table.now c.args.form c.args.values.now outer v c.args.context.now before c.in-LoopUpdating.is
+    updating-row ts c.args.table.now c.args.form c.args.values.now outer v c.args.context.now before
+    c.in-LoopUpdating.is
 
 pub returns-in-EnterFor : goal.returns-in-EnterFor
 returns-in-EnterFor g c =

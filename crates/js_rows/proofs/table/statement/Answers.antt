@@ -7,7 +7,8 @@ pub returns-in-Frame : goal.returns-in-Frame
 returns-in-Frame g c =
     let ts = c.args.names.now in
     let v = g.W.World.world c.args.names.now c.args.world.now in
-    frame-row ts c.args.table.now c.args.form c.args.values.now v c.args.context.now c.frame.new.context c.frame.result c.in-Frame.is c.frame.ensures
+    frame-row ts c.args.table.now c.args.form c.args.values.now v c.args.context.now c.frame.new.context c.frame.result
+    c.in-Frame.is c.frame.ensures
 
 pub returns-in-Block : goal.returns-in-Block
 returns-in-Block g c =
@@ -41,14 +42,16 @@ pub returns-in-Throw : goal.returns-in-Throw
 returns-in-Throw g c =
     let ts = c.args.names.now in
     let v = g.W.World.world c.args.names.now c.args.world.now in
-    throw-row ts c.args.table.now c.args.form c.args.values.now v c.args.context.now c.throw.new.context c.throw.result c.in-Throw.is c.throw.ensures
+    throw-row ts c.args.table.now c.args.form c.args.values.now v c.args.context.now c.throw.new.context c.throw.result
+    c.in-Throw.is c.throw.ensures
 
 pub returns-in-EnterDebugger : goal.returns-in-EnterDebugger
 returns-in-EnterDebugger g c =
     let ts = c.args.names.now in
     let v = g.W.World.world c.args.names.now c.args.world.now in
     λ outer before.
-    debugger-row ts c.args.table.now c.args.form c.args.values.now outer v c.args.context.now c.enter.new.context before c.enter.result c.in-EnterDebugger.is c.enter.ensures
+    debugger-row ts c.args.table.now c.args.form c.args.values.now outer v c.args.context.now c.enter.new.context before
+    c.enter.result c.in-EnterDebugger.is c.enter.ensures
 
 pub returns-in-Script : goal.returns-in-Script
 returns-in-Script g c =

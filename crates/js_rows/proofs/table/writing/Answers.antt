@@ -12,17 +12,21 @@ pub returns-in-UpdateMember : goal.returns-in-UpdateMember
 returns-in-UpdateMember g c =
     let ts = c.args.names.now in
     let v = g.W.World.world c.args.names.now c.args.world.now in
-    update-member-row ts c.args.table.now c.args.form c.args.values.now c.in-UpdateMember.kind c.operator_of.result c.is_prefix.result v
+    update-member-row ts c.args.table.now c.args.form c.args.values.now c.in-UpdateMember.kind c.operator_of.result
+    c.is_prefix.result v
     (g.W.World.world ts c.update_member.new.world)
-    c.args.context.now c.update_member.result c.in-UpdateMember.is c.operator_of.ensures c.is_prefix.ensures c.update_member.ensures
+    c.args.context.now c.update_member.result c.in-UpdateMember.is c.operator_of.ensures c.is_prefix.ensures
+    c.update_member.ensures
 
 pub returns-in-UpdateIndex : goal.returns-in-UpdateIndex
 returns-in-UpdateIndex g c =
     let ts = c.args.names.now in
     let v = g.W.World.world c.args.names.now c.args.world.now in
-    update-index-row ts c.args.table.now c.args.form c.args.values.now c.in-UpdateIndex.kind c.operator_of-in-UpdateIndex.result c.is_prefix-in-UpdateIndex.result v
+    update-index-row ts c.args.table.now c.args.form c.args.values.now c.in-UpdateIndex.kind
+    c.operator_of-in-UpdateIndex.result c.is_prefix-in-UpdateIndex.result v
     (g.W.World.world ts c.update_index.new.world)
-    c.args.context.now c.update_index.result c.in-UpdateIndex.is c.operator_of-in-UpdateIndex.ensures c.is_prefix-in-UpdateIndex.ensures c.update_index.ensures
+    c.args.context.now c.update_index.result c.in-UpdateIndex.is c.operator_of-in-UpdateIndex.ensures
+    c.is_prefix-in-UpdateIndex.ensures c.update_index.ensures
 
 pub returns-in-DeleteName : goal.returns-in-DeleteName
 returns-in-DeleteName g c =

@@ -11,7 +11,8 @@ returns-in-Some-stepped g c =
     member-updated ts c.args.operator c.args.object (name_of ts c.args.key.number)
     c.args.prefix c.in-Some.old c.in-Some-stepped.new c.update_value-given.result v c.put_member_value-written.result
     (g.W.World.world c.args.names.now c.put_member_value-written.new.world)
-    c.replied_with.result c.in-Some.ensures c.in-Some-stepped.ensures c.update_value-given.ensures c.put_member_value-written.ensures c.replied_with.ensures
+    c.replied_with.result c.in-Some.ensures c.in-Some-stepped.ensures c.update_value-given.ensures
+    c.put_member_value-written.ensures c.replied_with.ensures
 
 pub returns : goal.returns
 returns g c =

@@ -14,9 +14,11 @@ returns-in-Some-stepped g c =
     let n = name_of ts c.args.name.number in
     let p = found v c.args.scope n in
     let o = sym c.open_slot.ensures ∙ c.in-Some.is in
-    name-updated ts c.args.operator n p c.in-Some.slot.scope c.args.prefix c.in-Some-value.old c.in-Some-stepped.new c.update_value-given.result v c.bind_at-written.result
+    name-updated ts c.args.operator n p c.in-Some.slot.scope c.args.prefix c.in-Some-value.old c.in-Some-stepped.new
+    c.update_value-given.result v c.bind_at-written.result
     (g.W.World.world c.args.names.now c.bind_at-written.new.world) c.replied_with.result
-    (open-value n c.lookup-found.result p c.in-Some.slot c.in-Some-value.old c.lookup-found.ensures.value o c.in-Some-value.is)
+    (open-value n c.lookup-found.result p c.in-Some.slot c.in-Some-value.old c.lookup-found.ensures.value o
+    c.in-Some-value.is)
     c.in-Some-stepped.ensures c.update_value-given.ensures
     (open-written n c.lookup-found.result p c.in-Some.slot c.in-Some-stepped.new c.lookup-found.ensures.value o)
     c.bind_at-written.ensures c.replied_with.ensures

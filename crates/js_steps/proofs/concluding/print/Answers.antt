@@ -3,7 +3,8 @@ use Rattle.js_steps.proofs.concluding.print.Goals as goal
 
 pub returns-in-Ok-clause-told : goal.returns-in-Ok-clause-told
 returns-in-Ok-clause-told c =
-    λ ts root s. printed-told ts c.args.table.now root c.args.stack.now c.give.new.stack c.give.new.point c.args.printed s
+    λ ts root s. printed-told ts c.args.table.now root c.args.stack.now c.give.new.stack c.give.new.point c.args.printed
+    s
     (c.in-Ok.ensures.term ts)
 
 pub returns-in-Ok-clause-stands : goal.returns-in-Ok-clause-stands

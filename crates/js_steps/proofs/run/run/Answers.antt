@@ -44,12 +44,17 @@ returns-then-is_stop g c =
     let y = c.why_of.ensures in
     record {
       told =
-          λ taken. stop-runs ts t c.args.root c.args.stack.now c.args.point.now w c.args.context.now c.loop-steps.steps c.loop-steps.stack c.step-stepped.new.stack c.loop-steps.point c.step-stepped.new.point v x c.loop-steps.context c.step-stepped.new.context c.step-stepped.result c.why_of.result i.run going_on y taken
+          λ taken. stop-runs ts t c.args.root c.args.stack.now c.args.point.now w c.args.context.now c.loop-steps.steps
+          c.loop-steps.stack c.step-stepped.new.stack c.loop-steps.point c.step-stepped.new.point v x
+          c.loop-steps.context c.step-stepped.new.context c.step-stepped.result c.why_of.result i.run going_on y
+          taken
           (c.step-stepped.ensures.told taken);
       left =
-          more-left ts t c.args.root c.args.stack.now c.args.point.now w c.args.context.now c.loop-steps.steps c.loop-steps.stack c.loop-steps.point v c.loop-steps.context i.run going_on;
+          more-left ts t c.args.root c.args.stack.now c.args.point.now w c.args.context.now c.loop-steps.steps
+          c.loop-steps.stack c.loop-steps.point v c.loop-steps.context i.run going_on;
       stands =
-          stop-stands t c.args.root c.step-stepped.new.stack c.step-stepped.new.point c.step-stepped.result c.why_of.result y c.step-stepped.ensures.stands;
+          stop-stands t c.args.root c.step-stepped.new.stack c.step-stepped.new.point c.step-stepped.result
+          c.why_of.result y c.step-stepped.ensures.stands;
       within = omega (arith, c.loop-steps-test.true);
       counted = stop-counted c.step-stepped.result c.why_of.result c.loop-steps.steps c.args.most y;
       asked = λ taken. stop-asked (g.H.Asks.stops c.args.host.now) c.step-stepped.result c.why_of.result _ y;
@@ -57,7 +62,10 @@ returns-then-is_stop g c =
           λ taken. stop-passed (g.H.Asks.stops c.args.host.now)
           c.step-stepped.result c.why_of.result c.loop-steps.steps _ _ _ y (i.passed taken);
       values =
-          λ taken. stop-prints ts t c.args.root c.args.stack.now c.args.point.now w c.args.context.now c.loop-steps.steps c.loop-steps.stack c.step-stepped.new.stack c.loop-steps.point c.step-stepped.new.point v x c.loop-steps.context c.step-stepped.new.context c.step-stepped.result c.why_of.result i.run going_on y taken
+          λ taken. stop-prints ts t c.args.root c.args.stack.now c.args.point.now w c.args.context.now
+          c.loop-steps.steps c.loop-steps.stack c.step-stepped.new.stack c.loop-steps.point c.step-stepped.new.point
+          v x c.loop-steps.context c.step-stepped.new.context c.step-stepped.result c.why_of.result i.run going_on y
+          taken
           (c.step-stepped.ensures.told taken);
       silent = λ taken. silent-but-last c.loop-steps.steps _ _ _ (i.silent taken);
     }
@@ -72,7 +80,10 @@ returns-then-stops_at g c =
     let i = c.loop-steps.invariant in
     let going_on = going c.loop-steps.point c.in_default.not-Done in
     let none = goes-none c.step-stepped.result (sym c.is_stop.ensures ∙ c.if-is_stop.false) in
-    let n = next-runs ts t c.args.root c.args.stack.now c.args.point.now w c.args.context.now c.loop-steps.steps c.loop-steps.stack c.step-stepped.new.stack c.loop-steps.point c.step-stepped.new.point v x c.loop-steps.context c.step-stepped.new.context c.step-stepped.result i.run going_on none c.step-stepped.ensures.told c.step-stepped.ensures.stands in
+    let n = next-runs ts t c.args.root c.args.stack.now c.args.point.now w c.args.context.now c.loop-steps.steps
+    c.loop-steps.stack c.step-stepped.new.stack c.loop-steps.point c.step-stepped.new.point v x c.loop-steps.context
+    c.step-stepped.new.context c.step-stepped.result i.run going_on none c.step-stepped.ensures.told
+    c.step-stepped.ensures.stands in
     record {
       told = n.runs;
       left = n.left;
@@ -84,7 +95,9 @@ returns-then-stops_at g c =
           c.if-stops_at.true;
       passed = λ taken. passed-but-last (g.H.Asks.stops c.args.host.now) c.loop-steps.steps _ _ _ (i.passed taken);
       values =
-          λ taken. next-silent ts t c.args.root c.args.stack.now c.args.point.now w c.args.context.now c.loop-steps.steps c.loop-steps.stack c.step-stepped.new.stack c.loop-steps.point c.step-stepped.new.point v x c.loop-steps.context c.step-stepped.new.context c.step-stepped.result i.run going_on none taken
+          λ taken. next-silent ts t c.args.root c.args.stack.now c.args.point.now w c.args.context.now
+          c.loop-steps.steps c.loop-steps.stack c.step-stepped.new.stack c.loop-steps.point c.step-stepped.new.point
+          v x c.loop-steps.context c.step-stepped.new.context c.step-stepped.result i.run going_on none taken
           (c.step-stepped.ensures.told taken);
       silent = λ taken. silent-but-last c.loop-steps.steps _ _ _ (i.silent taken);
     }
@@ -99,7 +112,10 @@ loop-steps-preserved g c =
     let i = c.loop-steps.invariant in
     let going_on = going c.loop-steps.point c.in_default.not-Done in
     let none = goes-none c.step-stepped.result (sym c.is_stop.ensures ∙ c.if-is_stop.false) in
-    let n = next-runs ts t c.args.root c.args.stack.now c.args.point.now w c.args.context.now c.loop-steps.steps c.loop-steps.stack c.step-stepped.new.stack c.loop-steps.point c.step-stepped.new.point v x c.loop-steps.context c.step-stepped.new.context c.step-stepped.result i.run going_on none c.step-stepped.ensures.told c.step-stepped.ensures.stands in
+    let n = next-runs ts t c.args.root c.args.stack.now c.args.point.now w c.args.context.now c.loop-steps.steps
+    c.loop-steps.stack c.step-stepped.new.stack c.loop-steps.point c.step-stepped.new.point v x c.loop-steps.context
+    c.step-stepped.new.context c.step-stepped.result i.run going_on none c.step-stepped.ensures.told
+    c.step-stepped.ensures.stands in
     record {
       run = n;
       passed =
@@ -108,6 +124,8 @@ loop-steps-preserved g c =
           c.if-stops_at.false);
       silent =
           λ taken. more-silent c.loop-steps.steps _ _ _ (i.silent taken)
-          (next-silent ts t c.args.root c.args.stack.now c.args.point.now w c.args.context.now c.loop-steps.steps c.loop-steps.stack c.step-stepped.new.stack c.loop-steps.point c.step-stepped.new.point v x c.loop-steps.context c.step-stepped.new.context c.step-stepped.result i.run going_on none taken
+          (next-silent ts t c.args.root c.args.stack.now c.args.point.now w c.args.context.now c.loop-steps.steps
+          c.loop-steps.stack c.step-stepped.new.stack c.loop-steps.point c.step-stepped.new.point v x
+          c.loop-steps.context c.step-stepped.new.context c.step-stepped.result i.run going_on none taken
           (c.step-stepped.ensures.told taken));
     }

@@ -10,11 +10,13 @@ use Rattle.js_steps.proofs.settling.give.Goals as goal
 
 pub returns-in_default-clause-term : goal.returns-in_default-clause-term
 returns-in_default-clause-term c =
-    λ ts. out-done ts c.args.table.now c.args.stack.now c.args.value c.loop-task.stack c.loop-task.given c.loop-task.invariant c.in_default.ensures.none
+    λ ts. out-done ts c.args.table.now c.args.stack.now c.args.value c.loop-task.stack c.loop-task.given
+    c.loop-task.invariant c.in_default.ensures.none
 
 pub returns-in-Row-clause-term : goal.returns-in-Row-clause-term
 returns-in-Row-clause-term c =
-    λ ts. out-row ts c.args.table.now c.args.stack.now c.args.value c.loop-task.stack c.take.new.stack c.loop-task.given c.loop-task.invariant
+    λ ts. out-row ts c.args.table.now c.args.stack.now c.args.value c.loop-task.stack c.take.new.stack c.loop-task.given
+    c.loop-task.invariant
     (rw c.in-Row.is at c.in_ok-take.ensures)
 
 pub returns-in-Row-clause-scoped : goal.returns-in-Row-clause-scoped
@@ -22,7 +24,8 @@ returns-in-Row-clause-scoped c = λ root s. c.in_ok-take.ensures.scoped root (c.
 
 pub loop-task-preserved : goal.loop-task-preserved
 loop-task-preserved c =
-    out-next c.args.table.now c.args.stack.now c.args.value c.loop-task.stack c.take.new.stack c.loop-task.given c.in-Value.next c.loop-task.invariant
+    out-next c.args.table.now c.args.stack.now c.args.value c.loop-task.stack c.take.new.stack c.loop-task.given
+    c.in-Value.next c.loop-task.invariant
     (rw c.in-Value.is at c.in_ok-take.ensures)
 
 pub returns-in-Part-clause-scoped : goal.returns-in-Part-clause-scoped

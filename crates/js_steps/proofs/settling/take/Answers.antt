@@ -8,7 +8,8 @@ use Rattle.js_steps.proofs.settling.take.Goals as goal
 
 pub returns-in-Some : goal.returns-in-Some
 returns-in-Some c =
-    take-part c.args.table.now c.args.stack.now c.push_value.new.self c.next_part.new.stack c.args.value c.in-Some.part c.requires c.in_ok-push_value.ensures
+    take-part c.args.table.now c.args.stack.now c.push_value.new.self c.next_part.new.stack c.args.value c.in-Some.part
+    c.requires c.in_ok-push_value.ensures
     (rw c.in-Some.is at c.in_ok-part.ensures)
 
 pub returns-in-None : goal.returns-in-None
@@ -19,6 +20,7 @@ returns-in-None c =
     IfOk-weaker c.finish.result
     (Comes t c.next_part.new.stack c.finish.new.stack (λ ts. settled_row ts t c.next_part.new.stack))
     (Comes t old c.finish.new.stack (λ ts. resettled (gaps_of ts t old) (done v)))
-    (λ next. take-all t old c.push_value.new.self c.next_part.new.stack c.finish.new.stack v next c.requires c.in_ok-push_value.ensures
+    (λ next. take-all t old c.push_value.new.self c.next_part.new.stack c.finish.new.stack v next c.requires
+    c.in_ok-push_value.ensures
     (rw c.in-None.is at c.in_ok-part.ensures))
     c.finish.ensures

@@ -16,7 +16,8 @@ returns-in-Some-2-clause-term c =
     let i : IsNextPart t c.push.new.self c.next_part.new.stack (Some c.in-Some-2.part)
     = rw c.in-Some-2.is at c.in_ok-part.ensures in
     on_ok_weaker c.descend.result
-    (λ d. λ ts. uncovered-parts ts t c.args.stack.now c.push.new.self c.next_part.new.stack c.args.n c.in-Some.node c.args.inner
+    (λ d. λ ts. uncovered-parts ts t c.args.stack.now c.push.new.self c.next_part.new.stack c.args.n c.in-Some.node
+    c.args.inner
     (Some c.in-Some-2.part) c.requires.table (sym c.in-Some.ensures) c.requires.form c.in_ok-push.ensures i
     ∙ d ts)
     c.descend.ensures.term
@@ -26,7 +27,8 @@ returns-in-Some-2-clause-scoped c =
     let t = c.args.table.now in
     let i : IsNextPart t c.push.new.self c.next_part.new.stack (Some c.in-Some-2.part)
     = rw c.in-Some-2.is at c.in_ok-part.ensures in
-    let h : Inward t c.args.stack.now c.next_part.new.stack c.args.inner = uncovered-scoped t c.args.stack.now c.push.new.self c.next_part.new.stack c.args.n c.in-Some.node c.args.inner
+    let h : Inward t c.args.stack.now c.next_part.new.stack c.args.inner = uncovered-scoped t c.args.stack.now
+    c.push.new.self c.next_part.new.stack c.args.n c.in-Some.node c.args.inner
     (Some c.in-Some-2.part) c.requires.table (sym c.in-Some.ensures) c.in_ok-push.ensures i in
     on_ok_weaker c.descend.result (λ d. λ root e s. d root (h.scope root e) (h.scoped root e s))
     c.descend.ensures.scoped
@@ -36,7 +38,8 @@ returns-in-None-clause-term c =
     let t = c.args.table.now in
     let i : IsNextPart t c.push.new.self c.next_part.new.stack None = rw c.in-None.is at c.in_ok-part.ensures in
     on_ok_weaker c.settle_row.result
-    (λ d. λ ts. uncovered-parts ts t c.args.stack.now c.push.new.self c.next_part.new.stack c.args.n c.in-Some.node c.args.inner None c.requires.table
+    (λ d. λ ts. uncovered-parts ts t c.args.stack.now c.push.new.self c.next_part.new.stack c.args.n c.in-Some.node
+    c.args.inner None c.requires.table
     (sym c.in-Some.ensures) c.requires.form c.in_ok-push.ensures i
     ∙ d ts)
     c.settle_row.ensures.term
@@ -45,6 +48,7 @@ pub returns-in-None-clause-scoped : goal.returns-in-None-clause-scoped
 returns-in-None-clause-scoped c =
     let t = c.args.table.now in
     let i : IsNextPart t c.push.new.self c.next_part.new.stack None = rw c.in-None.is at c.in_ok-part.ensures in
-    let h : Inward t c.args.stack.now c.next_part.new.stack c.args.inner = uncovered-scoped t c.args.stack.now c.push.new.self c.next_part.new.stack c.args.n c.in-Some.node c.args.inner None c.requires.table
+    let h : Inward t c.args.stack.now c.next_part.new.stack c.args.inner = uncovered-scoped t c.args.stack.now
+    c.push.new.self c.next_part.new.stack c.args.n c.in-Some.node c.args.inner None c.requires.table
     (sym c.in-Some.ensures) c.in_ok-push.ensures i in
     on_ok_weaker c.settle_row.result (λ d. λ root e s. d root (h.scoped root e s)) c.settle_row.ensures.scoped

@@ -23,5 +23,6 @@ pub returns-in-Open : goal.returns-in-Open
 returns-in-Open c =
     let t = c.args.table.now in
     let task = c.args.task in
-    looped-part t c.args.stack.now c.restage.new.stack at_body task ops.LoopBody c.in-Open.part c.requires.task c.requires.loops refl c.restage.ensures c.in-Open.ensures.form
+    looped-part t c.args.stack.now c.restage.new.stack at_body task ops.LoopBody c.in-Open.part c.requires.task
+    c.requires.loops refl c.restage.ensures c.in-Open.ensures.form
     (λ ts. body-open ts t task c.in-Open.part (turn_scope task.info task.inner) c.in-Open.ensures)

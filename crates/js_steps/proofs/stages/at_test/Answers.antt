@@ -13,5 +13,6 @@ returns c =
     (Comes t c.restage.new.stack c.enter_kept.new.stack
     (λ ts. staged ts t c.restage.new.stack (test_of (trees ts t task.mid task.end))))
     (Comes t c.args.stack.now c.enter_kept.new.stack (λ ts. looped ts t c.args.stack.now at_test task))
-    (λ next. test-comes t c.args.stack.now c.restage.new.stack c.enter_kept.new.stack task next c.requires.task c.requires.loops c.restage.ensures)
+    (λ next. test-comes t c.args.stack.now c.restage.new.stack c.enter_kept.new.stack task next c.requires.task
+    c.requires.loops c.restage.ensures)
     c.enter_kept.ensures

@@ -9,5 +9,6 @@ pub returns : goal.returns
 returns c =
     let t = c.args.table.now in
     let task = c.args.task in
-    looped-row t c.args.stack.now c.restage.new.stack behind_first task ops.LoopFirst c.requires.task c.requires.loops refl c.restage.ensures
+    looped-row t c.args.stack.now c.restage.new.stack behind_first task ops.LoopFirst c.requires.task c.requires.loops
+    refl c.restage.ensures
     (λ ts. first-with task.info task.inner (kept_trees ts t task) c.if-task-eq0.false)

@@ -30,7 +30,8 @@ returns-in-Follows-clause-told g c = λ taken m h.
 pub returns-in-Follows-clause-stands : goal.returns-in-Follows-clause-stands
 returns-in-Follows-clause-stands g c =
     goes-on-weaker c.went_of.result (λ k. k c.requires.scoped)
-    (went-stands c.follow_leaf.result c.went_of.result c.args.table.now c.args.root c.args.stack.now c.follow_leaf.new.stack c.follow_leaf.new.point c.went_of.ensures c.follow_leaf.ensures.at
+    (went-stands c.follow_leaf.result c.went_of.result c.args.table.now c.args.root c.args.stack.now
+    c.follow_leaf.new.stack c.follow_leaf.new.point c.went_of.ensures c.follow_leaf.ensures.at
     (on_ok_weaker c.follow_leaf.result (λ k. k c.requires.inner) c.follow_leaf.ensures.scoped))
 
 pub returns-in-Raises-clause-told : goal.returns-in-Raises-clause-told
@@ -73,12 +74,14 @@ returns-in-Resumes-clause-told g c = λ taken m h.
     let a = answer_of r in
     let w = redex c.args.form [] None in
     let u = state_of (g.W.World.world ts c.args.world.now) c.args.context.now taken in
-    nothing-told ts t root old c.give.new.stack c.give.new.point m c.went_of-in-Resumes.result c.give.result u c.went_of-in-Resumes.ensures
+    nothing-told ts t root old c.give.new.stack c.give.new.point m c.went_of-in-Resumes.result c.give.result u
+    c.went_of-in-Resumes.ensures
     (says-as ts t w m r a kinds.Resumes u (sym c.answer_of.ensures ∙ c.in-Resumes.is) h) c.give.ensures.term
 
 pub returns-in-Resumes-clause-stands : goal.returns-in-Resumes-clause-stands
 returns-in-Resumes-clause-stands g c =
-    went-stood c.give.result c.went_of-in-Resumes.result c.args.table.now c.args.root c.args.stack.now c.give.new.stack c.give.new.point c.went_of-in-Resumes.ensures c.give.ensures.at c.give.ensures.scoped c.requires.scoped
+    went-stood c.give.result c.went_of-in-Resumes.result c.args.table.now c.args.root c.args.stack.now c.give.new.stack
+    c.give.new.point c.went_of-in-Resumes.ensures c.give.ensures.at c.give.ensures.scoped c.requires.scoped
 
 pub returns-in-Prints-clause-told : goal.returns-in-Prints-clause-told
 returns-in-Prints-clause-told g c = λ taken m h.

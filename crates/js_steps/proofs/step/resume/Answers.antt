@@ -22,5 +22,6 @@ returns-in-None-clause-told g c = λ taken.
 
 pub returns-in-None-clause-stands : goal.returns-in-None-clause-stands
 returns-in-None-clause-stands g c =
-    went-stood c.give.result c.went_of.result c.args.table.now c.args.root c.pop.new.self c.give.new.stack c.give.new.point c.went_of.ensures c.give.ensures.at c.give.ensures.scoped
+    went-stood c.give.result c.went_of.result c.args.table.now c.args.root c.pop.new.self c.give.new.stack
+    c.give.new.point c.went_of.ensures c.give.ensures.at c.give.ensures.scoped
     (scopes-popped c.args.table.now c.args.root c.args.stack.now c.pop.new.self c.pop.ensures.outer c.requires.scoped)

@@ -21,11 +21,13 @@ returns-in-Gives-clause-told g c = λ taken.
     c.went_of.result s u u c.requires.table (sym c.in-Some.ensures)
     c.requires.leaf c.scope.ensures c.requires.scoped refl
     (λ outer. c.reduce-reduced.ensures outer taken)
-    (λ m h. gives-told c.give.result c.went_of.result ts t root old c.give.new.stack c.give.new.point m w r c.in-Gives.value u c.went_of.ensures c.in-Gives.is h c.give.ensures.term)
+    (λ m h. gives-told c.give.result c.went_of.result ts t root old c.give.new.stack c.give.new.point m w r
+    c.in-Gives.value u c.went_of.ensures c.in-Gives.is h c.give.ensures.term)
 
 pub returns-in-Gives-clause-stands : goal.returns-in-Gives-clause-stands
 returns-in-Gives-clause-stands g c =
-    went-stood c.give.result c.went_of.result c.args.table.now c.args.root c.args.stack.now c.give.new.stack c.give.new.point c.went_of.ensures c.give.ensures.at c.give.ensures.scoped c.requires.scoped
+    went-stood c.give.result c.went_of.result c.args.table.now c.args.root c.args.stack.now c.give.new.stack
+    c.give.new.point c.went_of.ensures c.give.ensures.at c.give.ensures.scoped c.requires.scoped
 
 pub returns-in-Uncovers-clause-told : goal.returns-in-Uncovers-clause-told
 returns-in-Uncovers-clause-told g c = λ taken.
@@ -41,12 +43,16 @@ returns-in-Uncovers-clause-told g c = λ taken.
     (answer_of r) c.went_of-in-Uncovers.result s u u c.requires.table (sym c.in-Some.ensures)
     c.requires.leaf c.scope.ensures c.requires.scoped refl
     (λ outer. c.reduce-reduced.ensures outer taken)
-    (λ m h. uncovers-told c.uncover.result c.went_of-in-Uncovers.result ts t root old c.uncover.new.stack c.uncover.new.point m w r c.in-Uncovers.node u c.went_of-in-Uncovers.ensures c.in-Uncovers.is h c.uncover.ensures.term)
+    (λ m h. uncovers-told c.uncover.result c.went_of-in-Uncovers.result ts t root old c.uncover.new.stack
+    c.uncover.new.point m w r c.in-Uncovers.node u c.went_of-in-Uncovers.ensures c.in-Uncovers.is h
+    c.uncover.ensures.term)
 
 pub returns-in-Uncovers-clause-stands : goal.returns-in-Uncovers-clause-stands
 returns-in-Uncovers-clause-stands g c =
     goes-on-weaker c.went_of-in-Uncovers.result (λ k. k c.requires.scoped)
-    (went-stands c.uncover.result c.went_of-in-Uncovers.result c.args.table.now c.args.root c.args.stack.now c.uncover.new.stack c.uncover.new.point c.went_of-in-Uncovers.ensures c.uncover.ensures.at c.uncover.ensures.scoped)
+    (went-stands c.uncover.result c.went_of-in-Uncovers.result c.args.table.now c.args.root c.args.stack.now
+    c.uncover.new.stack c.uncover.new.point c.went_of-in-Uncovers.ensures c.uncover.ensures.at
+    c.uncover.ensures.scoped)
 
 pub leave_leaf-requires-clause-inner : goal.leave_leaf-requires-clause-inner
 leave_leaf-requires-clause-inner g c =
@@ -62,7 +68,8 @@ returns-in_default-reduced g c = record {
       let s = state_of (g.W.World.world ts c.args.world.now) c.args.context.now taken in
       let u = state_of (g.W.World.world ts c.reduce-reduced.new.world) c.reduce-reduced.new.context taken in
       let v = state_of (g.W.World.world ts c.leave_leaf.new.world) c.leave_leaf.new.context taken in
-      leaf-told ts t c.args.root c.args.stack.now c.leave_leaf.new.stack c.leave_leaf.new.point c.args.n c.in-Some.node c.scope.result r
+      leaf-told ts t c.args.root c.args.stack.now c.leave_leaf.new.stack c.leave_leaf.new.point c.args.n c.in-Some.node
+      c.scope.result r
       (answer_of r) c.leave_leaf.result s u v c.requires.table (sym c.in-Some.ensures)
       c.requires.leaf c.scope.ensures c.requires.scoped refl
       (λ outer. c.reduce-reduced.ensures outer taken)

@@ -19,9 +19,11 @@ returns-in-Gives-clause-told g c = λ taken.
     let v = reduced.Gives c.in-Gives.value in
     let s = state_of (g.W.World.world ts c.args.world.now) c.args.context.now taken in
     let u = state_of (g.W.World.world ts c.reduce-reduced.new.world) c.reduce-reduced.new.context taken in
-    row-told ts t root old c.follow_value.new.stack c.follow_value.new.point c.in-Some.task c.values.result.now c.extra-extra.result r
+    row-told ts t root old c.follow_value.new.stack c.follow_value.new.point c.in-Some.task c.values.result.now
+    c.extra-extra.result r
     (answer_of r)
-    c.went_of.result s u u c.in-Some.ensures.some c.requires.row c.requires.scoped c.values.ensures c.extra-extra.ensures refl
+    c.went_of.result s u u c.in-Some.ensures.some c.requires.row c.requires.scoped c.values.ensures
+    c.extra-extra.ensures refl
     (λ outer. c.reduce-reduced.ensures outer taken)
     (λ m h. went-follows c.follow_value.result c.went_of.result ts t root (outer_of old)
     c.follow_value.new.stack c.follow_value.new.point m (λ names. reduced_term names t (innermost old) v)
@@ -30,7 +32,9 @@ returns-in-Gives-clause-told g c = λ taken.
 pub returns-in-Gives-clause-stands : goal.returns-in-Gives-clause-stands
 returns-in-Gives-clause-stands g c =
     goes-on-weaker c.went_of.result (λ k. k c.requires.scoped)
-    (went-stands c.follow_value.result c.went_of.result c.args.table.now c.args.root c.args.stack.now c.follow_value.new.stack c.follow_value.new.point c.went_of.ensures c.follow_value.ensures.at c.follow_value.ensures.scoped)
+    (went-stands c.follow_value.result c.went_of.result c.args.table.now c.args.root c.args.stack.now
+    c.follow_value.new.stack c.follow_value.new.point c.went_of.ensures c.follow_value.ensures.at
+    c.follow_value.ensures.scoped)
 
 pub returns-in_default-reduced : goal.returns-in_default-reduced
 returns-in_default-reduced g c = record {
@@ -40,9 +44,11 @@ returns-in_default-reduced g c = record {
       let s = state_of (g.W.World.world ts c.args.world.now) c.args.context.now taken in
       let u = state_of (g.W.World.world ts c.reduce-reduced.new.world) c.reduce-reduced.new.context taken in
       let v = state_of (g.W.World.world ts c.leave_row.new.world) c.leave_row.new.context taken in
-      row-told ts c.args.table.now c.args.root c.args.stack.now c.leave_row.new.stack c.leave_row.new.point c.in-Some.task c.values.result.now c.extra-extra.result r
+      row-told ts c.args.table.now c.args.root c.args.stack.now c.leave_row.new.stack c.leave_row.new.point
+      c.in-Some.task c.values.result.now c.extra-extra.result r
       (answer_of r)
-      c.leave_row.result s u v c.in-Some.ensures.some c.requires.row c.requires.scoped c.values.ensures c.extra-extra.ensures refl
+      c.leave_row.result s u v c.in-Some.ensures.some c.requires.row c.requires.scoped c.values.ensures
+      c.extra-extra.ensures refl
       (λ outer. c.reduce-reduced.ensures outer taken)
       (λ m h. c.leave_row.ensures.told taken m h);
   stands = c.leave_row.ensures.stands;

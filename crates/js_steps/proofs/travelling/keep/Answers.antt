@@ -17,7 +17,8 @@ returns-clause-term c =
     let i : IsInnermost task None old = innermost-none old task c.in-Some.ensures.some c.in-Some.ensures.owned
     (ap (λ x. has_extra x task.info) op) in
     on_ok_weaker c.proceed.result
-    (λ h. λ ts. keep-term ts t old c.pop.new.self c.push_with.new.self task c.args.completion i c.pop.ensures.outer c.in_ok-push_with.ensures
+    (λ h. λ ts. keep-term ts t old c.pop.new.self c.push_with.new.self task c.args.completion i c.pop.ensures.outer
+    c.in_ok-push_with.ensures
     ∙ h ts)
     c.proceed.ensures.term
 
@@ -32,5 +33,6 @@ returns-clause-scoped c =
     (ap (λ x. has_extra x task.info) op) in
     on_ok_weaker c.proceed.result
     (λ h. λ root s. h root
-    (keep-scopes t old c.pop.new.self c.push_with.new.self task c.args.completion i op c.pop.ensures.outer c.in_ok-push_with.ensures root s))
+    (keep-scopes t old c.pop.new.self c.push_with.new.self task c.args.completion i op c.pop.ensures.outer
+    c.in_ok-push_with.ensures root s))
     c.proceed.ensures.scoped

@@ -11,12 +11,14 @@ returns-then-lacks_room-clause-value c =
 
 pub returns-then-len-before-clause-value : goal.returns-then-len-before-clause-value
 returns-then-len-before-clause-value c =
-    put-same c.args.properties.now c.put.new.self c.args.key.now c.args.value c.args.units_left c.in_ok-put.ensures.value
+    put-same c.args.properties.now c.put.new.self c.args.key.now c.args.value c.args.units_left
+    c.in_ok-put.ensures.value
     (grind arith)
 
 pub overflow_cast-result : goal.overflow_cast-result
 overflow_cast-result c =
-    let p = put-more c.args.properties.now c.put.new.self c.args.key.now c.args.value c.args.units_left c.in_ok-put.ensures.value
+    let p = put-more c.args.properties.now c.put.new.self c.args.key.now c.args.value c.args.units_left
+    c.in_ok-put.ensures.value
     (grind arith)
     (λ h. has-room c.args.units_left (8 + length c.args.key.now) (has_key c.args.properties.now c.args.key.now)
     c.lacks_room.result c.lacks_room.ensures c.if-lacks_room.false h)
@@ -25,7 +27,8 @@ overflow_cast-result c =
 
 pub overflow_sub-result : goal.overflow_sub-result
 overflow_sub-result c =
-    let p = put-more c.args.properties.now c.put.new.self c.args.key.now c.args.value c.args.units_left c.in_ok-put.ensures.value
+    let p = put-more c.args.properties.now c.put.new.self c.args.key.now c.args.value c.args.units_left
+    c.in_ok-put.ensures.value
     (grind arith)
     (λ h. has-room c.args.units_left (8 + length c.args.key.now) (has_key c.args.properties.now c.args.key.now)
     c.lacks_room.result c.lacks_room.ensures c.if-lacks_room.false h)
@@ -34,7 +37,8 @@ overflow_sub-result c =
 
 pub returns-clause-value : goal.returns-clause-value
 returns-clause-value c =
-    let p = put-more c.args.properties.now c.put.new.self c.args.key.now c.args.value c.args.units_left c.in_ok-put.ensures.value
+    let p = put-more c.args.properties.now c.put.new.self c.args.key.now c.args.value c.args.units_left
+    c.in_ok-put.ensures.value
     (grind arith)
     (λ h. has-room c.args.units_left (8 + length c.args.key.now) (has_key c.args.properties.now c.args.key.now)
     c.lacks_room.result c.lacks_room.ensures c.if-lacks_room.false h)

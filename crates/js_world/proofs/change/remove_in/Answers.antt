@@ -8,5 +8,6 @@ returns-then-len-before-clause-value c =
 
 pub returns-clause-value : goal.returns-clause-value
 returns-clause-value c =
-    without-less c.args.properties.now c.remove.new.self c.args.key.now c.args.units_left c.in_ok-more.more c.remove.ensures
+    without-less c.args.properties.now c.remove.new.self c.args.key.now c.args.units_left c.in_ok-more.more
+    c.remove.ensures
     (grind arith) (grind arith)

@@ -16,6 +16,7 @@ returns-clause-value c =
 
 pub returns-then-place-slots-clause-place : goal.returns-then-place-slots-clause-place
 returns-then-place-slots-clause-place c =
-    λ names differ. let p = place-there names c.args.slots.now c.slot_place-place.result c.args.name.number differ c.slot_place-place.ensures
+    λ names differ. let p = place-there names c.args.slots.now c.slot_place-place.result c.args.name.number differ
+    c.slot_place-place.ensures
     (grind arith) in
     (refl, p.0, p.1)

@@ -4,7 +4,8 @@ use Rattle.js_world.proofs.start.add_literals.Goals as goal
 
 pub loop-i-preserved : goal.loop-i-preserved
 loop-i-preserved c = λ names.
-    literals-step names _ c.loop-i.cells.items c.add_literal.new.cells.items c.args.literals.now c.loop-i.i c.as_slice.result.now
+    literals-step names _ c.loop-i.cells.items c.add_literal.new.cells.items c.args.literals.now c.loop-i.i
+    c.as_slice.result.now
     (c.loop-i.invariant names) (c.in_ok-add_literal.ensures names) c.loop-i-test.true (grind arith)
 
 pub returns : goal.returns

@@ -9,7 +9,8 @@ use Rattle.locations.proofs.locations.break_locations.Goals as goal
 pub returns-clause-exact : goal.returns-clause-exact
 returns-clause-exact c =
     IfOk-weaker c.spots_of.result _ _
-    (λ spots. λ e. located c.args.script.now c.as_slice.result.now c.deref.result.now c.in_ok-kinds.kinds.items c.deref-2.result.now c.as_slice.ensures
+    (λ spots. λ e. located c.args.script.now c.as_slice.result.now c.deref.result.now c.in_ok-kinds.kinds.items
+    c.deref-2.result.now c.as_slice.ensures
     (c.deref.ensures.value ∙ c.in_ok-marks.ensures)
     c.deref-2.ensures.value c.in_ok-kinds.ensures spots.items e)
     c.spots_of.ensures
@@ -25,7 +26,8 @@ pub returns-clause-covers : goal.returns-clause-covers
 returns-clause-covers c =
     IfOk-weaker c.spots_of.result _ _
     (λ spots. λ e. mark_found c.args.script.now spots.items
-    (located c.args.script.now c.as_slice.result.now c.deref.result.now c.in_ok-kinds.kinds.items c.deref-2.result.now c.as_slice.ensures
+    (located c.args.script.now c.as_slice.result.now c.deref.result.now c.in_ok-kinds.kinds.items c.deref-2.result.now
+    c.as_slice.ensures
     (c.deref.ensures.value ∙ c.in_ok-marks.ensures)
     c.deref-2.ensures.value c.in_ok-kinds.ensures spots.items e))
     c.spots_of.ensures

@@ -11,6 +11,7 @@ returns-in-None c =
 pub returns-in-Some : goal.returns-in-Some
 returns-in-Some c =
     let rest = take (length c.args.spots.now - c.count_before.result) (drop c.count_before.result c.args.spots.now) in
-    between_some c.args.start c.in-Some.end c.args.end c.args.spots.now rest c.count_before.result c.count_before-in-Some.result c.in-Some.is
+    between_some c.args.start c.in-Some.end c.args.end c.args.spots.now rest c.count_before.result
+    c.count_before-in-Some.result c.in-Some.is
     (slice_from c.args.spots.now c.count_before.result)
     c.count_before.ensures.split c.count_before-in-Some.ensures.split

@@ -90,7 +90,8 @@ pub make_elements-loop-item-preserved : goal.make_elements-loop-item-preserved
 make_elements-loop-item-preserved g t c = λ names.
     elements-next (g.W.World.world names c.args.world.now) (g.W.World.world names c.loop-item.world)
     (g.W.World.world names c.make_json.new.world)
-    c.as_slice-item-items.result.now c.loop-item.item-index c.item-item.result c.in_ok-value.value c.loop-item.values.items _
+    c.as_slice-item-items.result.now c.loop-item.item-index c.item-item.result c.in_ok-value.value
+    c.loop-item.values.items _
     (c.loop-item.invariant names) (omega arith) c.item-item.is (c.in_ok-value.ensures.made names)
     (c.in_ok-value.ensures.keeps names) c.in_ok-push.ensures.items
 
@@ -105,7 +106,8 @@ pub make_properties-loop-member-preserved : goal.make_properties-loop-member-pre
 make_properties-loop-member-preserved g t c = λ names.
     members-next (g.W.World.world names c.args.world.now) (g.W.World.world names c.loop-member.world)
     (g.W.World.world names c.make_json.new.world)
-    c.as_slice-member-items.result.now c.loop-member.member-index c.member-item.result c.in_ok-value.value c.loop-member.properties _
+    c.as_slice-member-items.result.now c.loop-member.member-index c.member-item.result c.in_ok-value.value
+    c.loop-member.properties _
     (c.loop-member.invariant names) (omega arith) c.member-item.is (c.in_ok-value.ensures.made names)
     (c.in_ok-value.ensures.keeps names)
     (c.in_ok-put.ensures.value

@@ -7,7 +7,8 @@ pub loop-argument-preserved : goal.loop-argument-preserved
 loop-argument-preserved g c = λ names.
     arguments-next (g.W.World.world names c.args.world.now) (g.W.World.world names c.loop-argument.world)
     (g.W.World.world names c.make_argument.new.world)
-    c.args.arguments.now c.loop-argument.argument-index c.argument-item.result c.in_ok-value.value c.loop-argument.values.items _
+    c.args.arguments.now c.loop-argument.argument-index c.argument-item.result c.in_ok-value.value
+    c.loop-argument.values.items _
     (c.loop-argument.invariant names) (omega arith) c.argument-item.is (c.in_ok-value.ensures.made names)
     (c.in_ok-value.ensures.keeps names) c.in_ok-push.ensures.items
 

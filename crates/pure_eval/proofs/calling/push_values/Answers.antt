@@ -4,7 +4,8 @@ use Rattle.pure_eval.proofs.calling.push_values.Goals as goal
 
 pub loop-value-preserved : goal.loop-value-preserved
 loop-value-preserved c =
-    values-next c.args.more.now c.loop-value.value-index _ c.args.stack.now c.loop-value.stack c.push_value.new.self c.loop-value.invariant
+    values-next c.args.more.now c.loop-value.value-index _ c.args.stack.now c.loop-value.stack c.push_value.new.self
+    c.loop-value.invariant
     (omega arith) c.in_ok-push_value.ensures
 
 pub returns : goal.returns

@@ -14,42 +14,51 @@ step-stepped-requires-clause-going g c = going c.loop-left.point c.in_default.no
 
 pub returns-in-Done : goal.returns-in-Done
 returns-in-Done g c =
-    callee-reduced c.args.names.now c.args.table.now c.args.root c.args.stack.now c.loop-left.stack c.args.point.now c.loop-left.point
+    callee-reduced c.args.names.now c.args.table.now c.args.root c.args.stack.now c.loop-left.stack c.args.point.now
+    c.loop-left.point
     (g.W.World.world c.args.names.now c.args.world.now) (g.W.World.world c.args.names.now c.loop-left.world)
-    c.args.context.now c.loop-left.context c.args.most c.loop-left.left c.in-Done.value c.loop-left.invariant c.in-Done.is
+    c.args.context.now c.loop-left.context c.args.most c.loop-left.left c.in-Done.value c.loop-left.invariant
+    c.in-Done.is
 
 pub returns-in-Some : goal.returns-in-Some
 returns-in-Some g c =
-    callee-ends c.args.names.now c.args.table.now c.args.root c.args.stack.now c.loop-left.stack c.step-stepped.new.stack c.args.point.now c.loop-left.point c.step-stepped.new.point
+    callee-ends c.args.names.now c.args.table.now c.args.root c.args.stack.now c.loop-left.stack
+    c.step-stepped.new.stack c.args.point.now c.loop-left.point c.step-stepped.new.point
     (g.W.World.world c.args.names.now c.args.world.now) (g.W.World.world c.args.names.now c.loop-left.world)
     (g.W.World.world c.args.names.now c.step-stepped.new.world)
-    c.args.context.now c.loop-left.context c.step-stepped.new.context c.args.most c.loop-left.left c.step-stepped.result c.in-Some.end c.loop-left.invariant
+    c.args.context.now c.loop-left.context c.step-stepped.new.context c.args.most c.loop-left.left c.step-stepped.result
+    c.in-Some.end c.loop-left.invariant
     (omega (arith, c.loop-left-test.true)) (going c.loop-left.point c.in_default.not-Done)
     c.step-stepped.ensures.told (sym c.end_with.ensures ∙ c.in-Some.is)
 
 pub loop-left-preserved : goal.loop-left-preserved
 loop-left-preserved g c =
-    callee-next c.args.names.now c.args.table.now c.args.root c.args.stack.now c.loop-left.stack c.step-stepped.new.stack c.args.point.now c.loop-left.point c.step-stepped.new.point
+    callee-next c.args.names.now c.args.table.now c.args.root c.args.stack.now c.loop-left.stack
+    c.step-stepped.new.stack c.args.point.now c.loop-left.point c.step-stepped.new.point
     (g.W.World.world c.args.names.now c.args.world.now) (g.W.World.world c.args.names.now c.loop-left.world)
     (g.W.World.world c.args.names.now c.step-stepped.new.world)
-    c.args.context.now c.loop-left.context c.step-stepped.new.context c.args.most c.loop-left.left c.step-stepped.result c.loop-left.invariant
+    c.args.context.now c.loop-left.context c.step-stepped.new.context c.args.most c.loop-left.left c.step-stepped.result
+    c.loop-left.invariant
     (omega (arith, c.loop-left-test.true)) (going c.loop-left.point c.in_default.not-Done)
     c.step-stepped.ensures.told c.step-stepped.ensures.stands
     (sym c.end_with.ensures ∙ no-end c.end_with.result c.in_default-end_with.not-Some)
 
 pub loop-left-preserved-in_default-end_with : goal.loop-left-preserved-in_default-end_with
 loop-left-preserved-in_default-end_with g c =
-    callee-next c.args.names.now c.args.table.now c.args.root c.args.stack.now c.loop-left.stack c.step-stepped.new.stack c.args.point.now c.loop-left.point c.step-stepped.new.point
+    callee-next c.args.names.now c.args.table.now c.args.root c.args.stack.now c.loop-left.stack
+    c.step-stepped.new.stack c.args.point.now c.loop-left.point c.step-stepped.new.point
     (g.W.World.world c.args.names.now c.args.world.now) (g.W.World.world c.args.names.now c.loop-left.world)
     (g.W.World.world c.args.names.now c.step-stepped.new.world)
-    c.args.context.now c.loop-left.context c.step-stepped.new.context c.args.most c.loop-left.left c.step-stepped.result c.loop-left.invariant
+    c.args.context.now c.loop-left.context c.step-stepped.new.context c.args.most c.loop-left.left c.step-stepped.result
+    c.loop-left.invariant
     (omega (arith, c.loop-left-test.true)) (going c.loop-left.point c.in_default.not-Done)
     c.step-stepped.ensures.told c.step-stepped.ensures.stands
     (sym c.end_with.ensures ∙ no-end c.end_with.result c.in_default-end_with.not-Some)
 
 pub returns : goal.returns
 returns g c =
-    callee-spent c.args.names.now c.args.table.now c.args.root c.args.stack.now c.loop-left.stack c.args.point.now c.loop-left.point
+    callee-spent c.args.names.now c.args.table.now c.args.root c.args.stack.now c.loop-left.stack c.args.point.now
+    c.loop-left.point
     (g.W.World.world c.args.names.now c.args.world.now) (g.W.World.world c.args.names.now c.loop-left.world)
     c.args.context.now c.loop-left.context c.args.most c.loop-left.left c.loop-left.invariant
     (omega (arith, c.loop-left-test.false))

@@ -8,7 +8,8 @@ pub returns-clause-end : goal.returns-clause-end
 returns-clause-end c = λ names.
     order-ends (heap_world names c.args.base.now) (over_world names c.over-overlay.result)
     (over_world names c.prepare-tried.new.overlay)
-    names c.args.scratch c.args.source.now c.in-Ok.kept c.args.order.now c.prepare-tried.result c.args.end c.end_behind-end.result
+    names c.args.scratch c.args.source.now c.in-Ok.kept c.args.order.now c.prepare-tried.result c.args.end
+    c.end_behind-end.result
     (c.in-Ok.ensures ∙ c.as_slice.ensures) (c.over-overlay.ensures.world names)
     (c.prepare-tried.ensures.placed names) c.end_behind-end.ensures
 

@@ -10,4 +10,6 @@ returns-clause-script g c =
 
 pub returns-clause-fault : goal.returns-clause-fault
 returns-clause-fault g c =
-    read_fault c.script_of.result _ c.in-Ok.bytes c.args.name.now c.deref.result.now c.args.declared.now c.args.earlier.now _ _ c.in-Ok.ensures.content c.deref.ensures.value c.requires c.in-Ok.ensures.faults c.script_of.ensures.fault
+    read_fault c.script_of.result _ c.in-Ok.bytes c.args.name.now c.deref.result.now c.args.declared.now
+    c.args.earlier.now _ _ c.in-Ok.ensures.content c.deref.ensures.value c.requires c.in-Ok.ensures.faults
+    c.script_of.ensures.fault

@@ -10,7 +10,8 @@ returns-in-Err-clause-fault g c =
     let names = c.args.names.now in
     fails_at c.in-Err.fault _ _ (map string_bytes names) (map string_bytes (take c.loop-name.name-index names))
     c.as_str-name.result.now c.loop-name.scripts.items _ _ _ i.files i.quiet
-    (stands_behind names c.loop-name.name-index c.name-item.result c.as_str-name.result.now c.loop-name-test.true c.name-item.is c.as_str-name.ensures.value)
+    (stands_behind names c.loop-name.name-index c.name-item.result c.as_str-name.result.now c.loop-name-test.true
+    c.name-item.is c.as_str-name.ensures.value)
     i.are c.in-Err.ensures.fault
 
 pub returns-in-Err-clause-one : goal.returns-in-Err-clause-one
@@ -29,7 +30,9 @@ loop-name-preserved g c =
     i.files e.script in
     record {
       are =
-          told_are_more _ c.args.names.now c.loop-name.name-index c.name-item.result c.loop-name.scripts.items c.add_script.new.scripts.items c.as_str-name.result.now c.loop-name-test.true c.name-item.is c.as_str-name.ensures.value i.are more;
+          told_are_more _ c.args.names.now c.loop-name.name-index c.name-item.result c.loop-name.scripts.items
+          c.add_script.new.scripts.items c.as_str-name.result.now c.loop-name-test.true c.name-item.is
+          c.as_str-name.ensures.value i.are more;
       declared = e.declared;
       files = e.files ∙ i.files;
       quiet = e.quiet ∙ i.quiet;

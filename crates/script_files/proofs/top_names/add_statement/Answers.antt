@@ -44,7 +44,8 @@ pub returns-in-ForLexical : goal.returns-in-ForLexical
 returns-in-ForLexical c =
     no_names c.args.names.now.items c.args.statement.now _
     (ap statement_view c.in-ForLexical.is
-    ∙ view_for_lexical_statement c.in-ForLexical.node c.in-ForLexical.constant c.in-ForLexical.declarators c.in-ForLexical.test c.in-ForLexical.update c.in-ForLexical.body)
+    ∙ view_for_lexical_statement c.in-ForLexical.node c.in-ForLexical.constant c.in-ForLexical.declarators
+    c.in-ForLexical.test c.in-ForLexical.update c.in-ForLexical.body)
     refl
 
 pub returns-in-ForOf : goal.returns-in-ForOf
@@ -88,4 +89,5 @@ returns-in-Debugger c =
 
 pub returns-in-If : goal.returns-in-If
 returns-in-If c =
-    if_declares_none c.args.names.now.items c.in-If.node c.in-If.test c.in-If.consequent c.in-If.alternate c.args.statement.now c.in-If.is
+    if_declares_none c.args.names.now.items c.in-If.node c.in-If.test c.in-If.consequent c.in-If.alternate
+    c.args.statement.now c.in-If.is

@@ -13,7 +13,8 @@ returns-in_err-put_text-clause-err g c =
 pub loop-text-preserved : goal.loop-text-preserved
 loop-text-preserved g c =
     let text : c.as_slice.result.now ≡ c.text-item.result = c.as_slice.ensures in
-    let more = lines-more c.args.texts.now c.loop-text.text-index c.text-item.result c.loop-text-test.true c.text-item.is in
+    let more = lines-more c.args.texts.now c.loop-text.text-index c.text-item.result c.loop-text-test.true
+    c.text-item.is in
     record {
       taken = gains-next _ _ _ _ _ _ c.loop-text.invariant.taken c.in_ok-put_text.ensures.ok (rw (← text) at more);
       quiet = c.in_ok-put_text.ensures.quiet ∙ c.loop-text.invariant.quiet;

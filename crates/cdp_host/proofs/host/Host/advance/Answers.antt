@@ -52,8 +52,10 @@ returns-in-Ok-clause-made c = λ taken.
     let after = taken ++ c.advance.new.printed.items in
     let seats : (with_items a.seats c.advance.new.seats).items ≡ c.advance.new.seats =
     with_items_is a.seats c.advance.new.seats (omega (arith, c.advance.auto.seats, c.as_mut_slice.ensures.len)) in
-    advanced _ c.args.self.now c.as_slice.result.now c.args.moment c.in-Ok.field-0.steps c.is_first.result c.as_mut_slice.result.now c.advance.new.seats
-    (with_items a.seats c.advance.new.seats).items before c.in-Ok.field-0.stopped c.pause_behind-self-inside.result c.stops_behind-self-inside.result
+    advanced _ c.args.self.now c.as_slice.result.now c.args.moment c.in-Ok.field-0.steps c.is_first.result
+    c.as_mut_slice.result.now c.advance.new.seats
+    (with_items a.seats c.advance.new.seats).items before c.in-Ok.field-0.stopped c.pause_behind-self-inside.result
+    c.stops_behind-self-inside.result
     (machine_run c.advance.new.machine c.advance.new.heap after)
     c.self.view_is (c.requires.ready before) c.as_slice.ensures.value c.is_first.ensures c.as_mut_slice.ensures.value
     c.pause_behind-self-inside.ensures c.stops_behind-self-inside.ensures seats (c.in-Ok.ensures.made taken)

@@ -19,7 +19,14 @@ returns-in_err-reserve-clause-err c =
     let V : Fallback → HostState = λ f. record {
       scripts = a.scripts.items;
       meaning =
-          record { program = record { machine = a.machine; heap = a.heap }; phase = a.phase; stop = a.stop; stops = a.stops; shut = a.shut; seats = a.seats.items };
+          record {
+            program = record { machine = a.machine; heap = a.heap };
+            phase = a.phase;
+            stop = a.stop;
+            stops = a.stops;
+            shut = a.shut;
+            seats = a.seats.items;
+          };
       broken = a.broken;
       fallback = f;
       fallen = a.fallen.items;
@@ -33,7 +40,8 @@ invariant_of-self-2 c =
     sound-more a.scripts.items a.lines.items a.spots a.machine a.broken a.seats.items c.push.new.self.items
     a.seats.len c.push.new.self.len
     a.fallback c.reserve.new.self a.fallen.items c.self.invariant c.if-self.false
-    (attach-fit a.scripts.items c.new-session.result _ _ a.seats.items c.push.new.self.items c.new-session.ensures c.in_ok-push.ensures.items c.self.invariant.fit)
+    (attach-fit a.scripts.items c.new-session.result _ _ a.seats.items c.push.new.self.items c.new-session.ensures
+    c.in_ok-push.ensures.items c.self.invariant.fit)
     (subst P (ap (λ n. n + 1) c.len.ensures ∙ sym c.in_ok-push.ensures.len) c.in_ok-reserve.ensures.room)
     c.in_ok-reserve.ensures.same
 

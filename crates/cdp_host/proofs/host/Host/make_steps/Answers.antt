@@ -22,7 +22,8 @@ loop-self-init c = record {
   flags = c.in-Ok.ensures ∙ c.len.ensures ∙ c.self.inside.seats.ok.0 ∙ ap (λ h. length h.meaning.seats) c.self.view_is;
   keeps = keeps-none c.args.self.now;
   made =
-      λ taken. ran-none c.args.self.now.scripts c.args.moment c.args.self.now c.args.n c.new-printed.result.items taken c.new-printed.ensures.items;
+      λ taken. ran-none c.args.self.now.scripts c.args.moment c.args.self.now c.args.n c.new-printed.result.items taken
+      c.new-printed.ensures.items;
 }
 
 pub advance-requires-clause-works : goal.advance-requires-clause-works

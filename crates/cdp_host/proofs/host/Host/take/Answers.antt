@@ -16,7 +16,8 @@ invariant_of-self c =
     c.self.invariant
     (works-at c.args.s a.broken a.seats.items c.self.invariant.alone held)
     (take-fit a.scripts.items c.args.s a.seats.items (take a.seats.len (c.take.new.seats ++ rest)) held
-    (take-back a.seats.len c.args.s a.seats.items c.as_mut_slice.result.now c.take.new.seats rest c.as_mut_slice.ensures.value
+    (take-back a.seats.len c.args.s a.seats.items c.as_mut_slice.result.now c.take.new.seats rest
+    c.as_mut_slice.ensures.value
     (sym c.as_mut_slice.ensures.len) c.take.ensures.seats)
     c.self.invariant.fit)
 
@@ -26,7 +27,8 @@ returns-clause-leaves c =
     let h : HostState = seen_as a in
     let rest = drop (length c.take.new.seats) a.seats.items in
     take-leaves h c.args.self.now c.args.s (take a.seats.len (c.take.new.seats ++ rest)) c.self.view_is c.requires
-    (take-back a.seats.len c.args.s a.seats.items c.as_mut_slice.result.now c.take.new.seats rest c.as_mut_slice.ensures.value
+    (take-back a.seats.len c.args.s a.seats.items c.as_mut_slice.result.now c.take.new.seats rest
+    c.as_mut_slice.ensures.value
     (sym c.as_mut_slice.ensures.len) c.take.ensures.seats)
 
 pub returns-clause-stands : goal.returns-clause-stands

@@ -11,14 +11,16 @@ pub returns-in-Kept-clause-kept : goal.returns-in-Kept-clause-kept
 returns-in-Kept-clause-kept c = λ _.
     let now = c.args.self.now in
     let it = whose (seat_of c.args.s now.meaning.seats) c.requires in
-    leaves-kept now c.answer.new.self c.follow.new.self c.args.s c.args.text.now it.0 c.in-Kept.asks it.1 c.in-Kept.ensures.same
+    leaves-kept now c.answer.new.self c.follow.new.self c.args.s c.args.text.now it.0 c.in-Kept.asks it.1
+    c.in-Kept.ensures.same
     (c.in-Kept.ensures.answers it.0 it.1)
     c.follow.ensures.scripts c.follow.ensures.works c.follow.ensures.fallen c.follow.ensures.stays
     c.follow.ensures.means
 
 pub returns-in-Kept-clause-refused : goal.returns-in-Kept-clause-refused
 returns-in-Kept-clause-refused c = λ _ x id refusal scripts input wait history stood had refused.
-    refused-told c.args.self.now c.answer.new.self c.follow.new.self c.args.s c.args.text.now c.in-Kept.asks x id refusal scripts input wait history
+    refused-told c.args.self.now c.answer.new.self c.follow.new.self c.args.s c.args.text.now c.in-Kept.asks x id
+    refusal scripts input wait history
     c.in-Kept.ensures.same c.in-Kept.ensures.works (c.in-Kept.ensures.answers x had)
     c.follow.ensures.quiet stood had refused
 

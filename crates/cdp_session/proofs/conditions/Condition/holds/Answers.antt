@@ -12,7 +12,8 @@ returns-in-Some-clause-holds g c =
     let a = c.self.inside in
     IfOk-weaker c.holds_at_top.result _ _
     (λ is h. h
-    ∙ some-holds s w a.text c.args.self.now a.expression c.in-Some.expression c.self.invariant c.in-Some.is c.self.view_is)
+    ∙ some-holds s w a.text c.args.self.now a.expression c.in-Some.expression c.self.invariant c.in-Some.is
+    c.self.view_is)
     c.holds_at_top.ensures.holds
 
 pub returns-in-None-clause-holds : goal.returns-in-None-clause-holds

@@ -8,7 +8,8 @@ use Rattle.cdp_session.proofs.session.Session.arguments_of.Goals as goal
 pub loop-argument-preserved : goal.loop-argument-preserved
 loop-argument-preserved c =
     let x = c.args.self.now in
-    behind-more x c.args.arguments.now c.loop-argument.argument-index c.argument-item.result c.loop-argument.given.items _ c.in-Some.passed
+    behind-more x c.args.arguments.now c.loop-argument.argument-index c.argument-item.result c.loop-argument.given.items
+    _ c.in-Some.passed
     (omega arith)
     (ap (option_map passed.argument_of) (sym c.in-Some.is)
     ∙ c.in_ok-passed.ensures

@@ -35,4 +35,5 @@ returns-in-Err-clause-made g c =
     c.in-Err.ensures.only)
     in
     fault-called s x c.args.receiver (arguments_of c.args.arguments.now)
-    c.args.showing.now source f c.refuse_text.result c.refuse_text.new.self none c.refuse_text.ensures.memory c.refuse_text.ensures.made
+    c.args.showing.now source f c.refuse_text.result c.refuse_text.new.self none c.refuse_text.ensures.memory
+    c.refuse_text.ensures.made

@@ -11,5 +11,6 @@ returns-in_err-tell_ending-clause-over g c = λ is.
     let told = ending_told s c.args.ending c.args.moment c.args.self.now in
     let unfit : fits told.outbox ≡ false = search rules in
     let more :
-    (ended s c.args.ending c.args.moment c.args.self.now).outbox ≡ told.outbox ++ context_destroyed_text ∷ [] = search rules in
+    (ended s c.args.ending c.args.moment c.args.self.now).outbox ≡ told.outbox ++ context_destroyed_text ∷ [] = search
+    rules in
     unfit-as _ _ _ more unfit

@@ -19,8 +19,11 @@ returns-clause-made g c =
     let n = c.evaluate-end.new.self in
     let result = c.answer_evaluation.result in
     let new = c.answer_evaluation.new.self in
-    let to = evaluated-from s.standing.world x.workspace c.args.scope c.args.receiver ex c.next_address-at.result c.in_ok-prepared.prepared c.evaluate-end.result c.in_ok-opened.opened n c.in_ok-opened.ensures.opened c.next_address-at.ensures c.in_ok-prepared.ensures c.evaluate-end.ensures in
-    made-answer s x c.args.showing.now e a c.evaluate-end.result c.in_ok-opened.opened n result new c.in_ok-opened.ensures.opened
+    let to = evaluated-from s.standing.world x.workspace c.args.scope c.args.receiver ex c.next_address-at.result
+    c.in_ok-prepared.prepared c.evaluate-end.result c.in_ok-opened.opened n c.in_ok-opened.ensures.opened
+    c.next_address-at.ensures c.in_ok-prepared.ensures c.evaluate-end.ensures in
+    made-answer s x c.args.showing.now e a c.evaluate-end.result c.in_ok-opened.opened n result new
+    c.in_ok-opened.ensures.opened
     (sym c.is_memory.ensures ∙ c.if-is_memory.false) to
     (λ world from.
     subst (λ u. Makes result new (row_of (outcome_of_answer s (with_workspace n.before u) c.args.showing.now e a)))
@@ -35,8 +38,11 @@ returns-clause-kept g c =
     let e = expression_source ex.tree in
     let a = definition x.workspace.program s.standing.world x.workspace.scratch c.args.scope c.args.receiver ex in
     let n = c.evaluate-end.new.self in
-    let to = evaluated-from s.standing.world x.workspace c.args.scope c.args.receiver ex c.next_address-at.result c.in_ok-prepared.prepared c.evaluate-end.result c.in_ok-opened.opened n c.in_ok-opened.ensures.opened c.next_address-at.ensures c.in_ok-prepared.ensures c.evaluate-end.ensures in
-    kept-answer x s.standing.world e a c.evaluate-end.result c.in_ok-opened.opened n c.answer_evaluation.result c.answer_evaluation.new.self c.in_ok-opened.ensures.opened
+    let to = evaluated-from s.standing.world x.workspace c.args.scope c.args.receiver ex c.next_address-at.result
+    c.in_ok-prepared.prepared c.evaluate-end.result c.in_ok-opened.opened n c.in_ok-opened.ensures.opened
+    c.next_address-at.ensures c.in_ok-prepared.ensures c.evaluate-end.ensures in
+    kept-answer x s.standing.world e a c.evaluate-end.result c.in_ok-opened.opened n c.answer_evaluation.result
+    c.answer_evaluation.new.self c.in_ok-opened.ensures.opened
     (sym c.is_memory.ensures ∙ c.if-is_memory.false) to
     (subst (λ u. KeepsIfRefused c.answer_evaluation.result (with_workspace n.before u) c.answer_evaluation.new.self)
     c.in_ok-opened.ensures.rest c.answer_evaluation.ensures.kept)

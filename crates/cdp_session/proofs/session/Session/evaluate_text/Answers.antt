@@ -33,4 +33,5 @@ returns-in-Err-clause-made g c =
     (expression_none {A = Expression} c.as_slice.result.now (λ e. expression_view e.tree) (Err f)
     c.in-Err.ensures.only)
     in
-    fault-answer s x c.args.scope c.args.receiver c.args.showing.now source f c.refuse_text.result c.refuse_text.new.self none c.refuse_text.ensures.memory c.refuse_text.ensures.made
+    fault-answer s x c.args.scope c.args.receiver c.args.showing.now source f c.refuse_text.result
+    c.refuse_text.new.self none c.refuse_text.ensures.memory c.refuse_text.ensures.made

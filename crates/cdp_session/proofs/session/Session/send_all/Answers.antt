@@ -16,7 +16,8 @@ returns-in_err-send-clause-over c = λ is.
     let many : into_iter_len c.into_iter-text-iterator.result ≡ length texts = search rules in
     let yields = YieldsList-from_vec texts left many in
     let first = YieldsList-so_far yields yielded _ c.loop-text.yielded_by in
-    let turn = YieldsList-turn yields yielded _ c.loop-text.yielded_by c.next.result c.next.new.self c.in-Some.text c.in-Some.is c.next.ensures.steps in
+    let turn = YieldsList-turn yields yielded _ c.loop-text.yielded_by c.next.result c.next.new.self c.in-Some.text
+    c.in-Some.is c.next.ensures.steps in
     let rest = drop (length yielded + 1) texts in
     let all : texts ≡ (yielded ++ c.in-Some.text ∷ []) ++ rest =
     sym (take-append-drop (length yielded + 1) texts)

@@ -11,7 +11,8 @@ returns-clause-term c =
     let task = c.in-Some.task in
     let compound = c.in-Some-compound_of.compound in
     on_ok_weaker c.proceed.result
-    (λ d. λ ts. operand-follows ts c.args.table.now old c.push_value.new.self task compound.assignment compound.operator c.args.old c.in_ok-kept_part.field-0 c.in-Some.ensures.some
+    (λ d. λ ts. operand-follows ts c.args.table.now old c.push_value.new.self task compound.assignment compound.operator
+    c.args.old c.in_ok-kept_part.field-0 c.in-Some.ensures.some
     (alone old task c.in-Some.ensures.some c.in-Some.ensures.owned
     (compound-owns task.op task.info c.in-Some-compound_of.ensures.2))
     c.in-Some-compound_of.ensures c.in_ok-kept_part.ensures.before c.in_ok-kept_part.ensures.part
@@ -30,7 +31,8 @@ returns-clause-scoped c =
     let compound = c.in-Some-compound_of.compound in
     on_ok_weaker c.proceed.result
     (λ d. λ s. d c.args.root
-    (operand-scopes c.args.table.now c.args.stack.now c.push_value.new.self c.in-Some.task compound.assignment compound.operator c.args.old c.in-Some.ensures.some c.in-Some-compound_of.ensures
+    (operand-scopes c.args.table.now c.args.stack.now c.push_value.new.self c.in-Some.task compound.assignment
+    compound.operator c.args.old c.in-Some.ensures.some c.in-Some-compound_of.ensures
     (c.in_ok-push_value.ensures
     ∙ ap (with_value c.args.old)
     (c.in_ok-push.ensures

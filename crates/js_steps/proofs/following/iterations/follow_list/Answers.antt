@@ -6,9 +6,18 @@ use Rattle.js_steps.proofs.following.iterations.follow_list.Goals as goal
 
 pub returns-clause-term : goal.returns-clause-term
 returns-clause-term c =
-    let at : At c.args.table.now c.args.stack.now c.in-Some.task ops.EnterForOf c.in_ok-list.list = record { is = c.in-Some.ensures.task.0; op = c.in-Some.ensures.task.1; owned = c.in-Some.ensures.owned; owns = λ info. refl; before = c.in_ok-list.ensures.before; part = c.in_ok-list.ensures.part } in
+    let at : At c.args.table.now c.args.stack.now c.in-Some.task ops.EnterForOf c.in_ok-list.list = record {
+      is = c.in-Some.ensures.task.0;
+      op = c.in-Some.ensures.task.1;
+      owned = c.in-Some.ensures.owned;
+      owns = λ info. refl;
+      before = c.in_ok-list.ensures.before;
+      part = c.in_ok-list.ensures.part;
+    } in
     on_ok_weaker c.go.result
-    (λ d. λ ts. list-follows ts c.args.table.now c.args.stack.now c.pop.new.self c.push.new.self c.push-2.new.self c.in-Some.task ops.EnterForOf c.args.scope c.in_ok-list.list at c.pop.ensures.outer c.in_ok-push.ensures c.in_ok-push-2.ensures
+    (λ d. λ ts. list-follows ts c.args.table.now c.args.stack.now c.pop.new.self c.push.new.self c.push-2.new.self
+    c.in-Some.task ops.EnterForOf c.args.scope c.in_ok-list.list at c.pop.ensures.outer c.in_ok-push.ensures
+    c.in_ok-push-2.ensures
     ∙ d ts)
     c.go.ensures.term
 
@@ -16,7 +25,8 @@ pub returns-clause-scoped : goal.returns-clause-scoped
 returns-clause-scoped c =
     on_ok_weaker c.go.result
     (λ d. λ s. d
-    (list-scopes c.args.table.now c.args.stack.now c.pop.new.self c.push.new.self c.push-2.new.self c.in-Some.task ops.EnterForOf c.args.scope
+    (list-scopes c.args.table.now c.args.stack.now c.pop.new.self c.push.new.self c.push-2.new.self c.in-Some.task
+    ops.EnterForOf c.args.scope
     (c.in-Some.task.mid + 1) c.in-Some.task.end c.in-Some.ensures.task.0 c.in-Some.ensures.task.1
     (λ info. refl) c.pop.ensures.outer c.in_ok-push.ensures c.in_ok-push-2.ensures c.args.root s))
     c.go.ensures.scoped

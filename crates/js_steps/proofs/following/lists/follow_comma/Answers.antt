@@ -7,9 +7,17 @@ use Rattle.js_steps.proofs.following.lists.follow_comma.Goals as goal
 
 pub returns-clause-term : goal.returns-clause-term
 returns-clause-term c =
-    let at : At c.args.table.now c.args.stack.now c.in-Some.task ops.Comma c.in_ok-next.next = record { is = c.in-Some.ensures.task.0; op = c.in-Some.ensures.task.1; owned = c.in-Some.ensures.owned; owns = λ info. refl; before = c.in_ok-next.ensures.before; part = c.in_ok-next.ensures.part } in
+    let at : At c.args.table.now c.args.stack.now c.in-Some.task ops.Comma c.in_ok-next.next = record {
+      is = c.in-Some.ensures.task.0;
+      op = c.in-Some.ensures.task.1;
+      owned = c.in-Some.ensures.owned;
+      owns = λ info. refl;
+      before = c.in_ok-next.ensures.before;
+      part = c.in_ok-next.ensures.part;
+    } in
     on_ok_weaker c.go.result
-    (λ d. λ ts. comma-follows ts c.args.table.now c.args.stack.now c.change.new.self c.in-Some.task ops.Comma c.in_ok-next.next at
+    (λ d. λ ts. comma-follows ts c.args.table.now c.args.stack.now c.change.new.self c.in-Some.task ops.Comma
+    c.in_ok-next.next at
     (c.change.ensures
     ∙ ap (changed ops.Comma c.in-Some.task.info (c.in-Some.task.mid + 1) (c.in-Some.task.mid + 1))
     c.clear_values.ensures)

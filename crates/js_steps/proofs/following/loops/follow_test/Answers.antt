@@ -16,7 +16,9 @@ take_up-requires-clause-comes c =
 pub returns-clause-term : goal.returns-clause-term
 returns-clause-term c =
     on_ok_weaker c.take_up.result
-    (λ d. λ ts. at-test-follows ts c.args.table.now c.args.stack.now c.turn_in-turned.new.stack c.in-Some.task c.turn_in-turned.result c.args.scope c.in-Some.ensures.0 c.turn_in-turned.ensures.same c.turn_in-turned.ensures.outer
+    (λ d. λ ts. at-test-follows ts c.args.table.now c.args.stack.now c.turn_in-turned.new.stack c.in-Some.task
+    c.turn_in-turned.result c.args.scope c.in-Some.ensures.0 c.turn_in-turned.ensures.same
+    c.turn_in-turned.ensures.outer
     ∙ c.in_ok-next.ensures.term ts
     ∙ d ts)
     c.take_up.ensures.term
@@ -28,7 +30,9 @@ returns-clause-scoped c =
     on_ok_weaker c.take_up.result
     (λ d. λ s. d c.args.root
     (turned-inner t mid c.at_test.new.stack (λ ts. looped ts t mid at_test c.turn_in-turned.result)
-    c.in_ok-next.next c.in-Some.task c.turn_in-turned.result c.args.scope c.turn_in-turned.ensures.task c.turn_in-turned.ensures.same c.in_ok-next.ensures c.args.root)
+    c.in_ok-next.next c.in-Some.task c.turn_in-turned.result c.args.scope c.turn_in-turned.ensures.task
+    c.turn_in-turned.ensures.same c.in_ok-next.ensures c.args.root)
     (c.in_ok-next.ensures.scoped c.args.root
-    (turned-scopes t c.args.stack.now mid c.in-Some.task c.turn_in-turned.result c.args.scope c.in-Some.ensures.1 c.turn_in-turned.ensures.task c.turn_in-turned.ensures.same c.turn_in-turned.ensures.outer c.args.root s)))
+    (turned-scopes t c.args.stack.now mid c.in-Some.task c.turn_in-turned.result c.args.scope c.in-Some.ensures.1
+    c.turn_in-turned.ensures.task c.turn_in-turned.ensures.same c.turn_in-turned.ensures.outer c.args.root s)))
     c.take_up.ensures.scoped

@@ -7,7 +7,8 @@ use Rattle.js_steps.proofs.stack.Stack.push_value.Goals as goal
 pub invariant_of-self-2 : goal.invariant_of-self-2
 invariant_of-self-2 c =
     let s = c.self.inside in
-    value-kept s.tasks.items s.values.items c.push.new.self.items c.args.value s.extras.items c.in_ok-push.ensures.items c.self.invariant
+    value-kept s.tasks.items s.values.items c.push.new.self.items c.args.value s.extras.items c.in_ok-push.ensures.items
+    c.self.invariant
 
 pub returns : goal.returns
 returns c =

@@ -6,7 +6,8 @@ pub returns-then-i-n-clause-some : goal.returns-then-i-n-clause-some
 returns-then-i-n-clause-some c =
     let s = c.self.inside in
     let e : c.len-n.result ≡ length s.tasks.items = omega arith in
-    view-at s.tasks.items s.values.items s.extras.items c.args.self.now c.args.i c.len-n.result c.index.result.now e c.if-i-n.true c.index.ensures c.self.view_is
+    view-at s.tasks.items s.values.items s.extras.items c.args.self.now c.args.i c.len-n.result c.index.result.now e
+    c.if-i-n.true c.index.ensures c.self.view_is
 
 pub returns-clause-none : goal.returns-clause-none
 returns-clause-none c =

@@ -5,7 +5,8 @@ use Rattle.js_world.proofs.overlay.Overlay.keep.Goals as goal
 
 pub invariant_of-self-2 : goal.invariant_of-self-2
 invariant_of-self-2 c = (
-  kept-fit c.self.inside.cells.items c.push_cell.new.cells.items c.args.source c.self.inside.ends c.self.inside.cells_left c.self.invariant.0 c.in_ok-push_cell.ensures.pushed
+  kept-fit c.self.inside.cells.items c.push_cell.new.cells.items c.args.source c.self.inside.ends
+      c.self.inside.cells_left c.self.invariant.0 c.in_ok-push_cell.ensures.pushed
       (grind (arith, c.self.invariant.0.places)),
   earlier-more c.self.inside.cells.items c.push_cell.new.cells.items (stored.Text c.args.source)
       c.self.inside.start c.self.inside.earlier_ends c.in_ok-push_cell.ensures.pushed c.self.invariant.1,
@@ -13,5 +14,6 @@ invariant_of-self-2 c = (
 
 pub returns-clause-source : goal.returns-clause-source
 returns-clause-source c =
-    kept-over _ c.args.self.now c.push_cell.new.cells.items c.args.source c.in_ok-left.left c.len-at.result c.self.view_is c.in_ok-push_cell.ensures.pushed
+    kept-over _ c.args.self.now c.push_cell.new.cells.items c.args.source c.in_ok-left.left c.len-at.result
+    c.self.view_is c.in_ok-push_cell.ensures.pushed
     (grind arith) (grind arith)

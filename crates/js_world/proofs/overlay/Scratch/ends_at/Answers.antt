@@ -12,5 +12,6 @@ returns-then-self-mark-clause-within c =
 
 pub returns-clause-within : goal.returns-clause-within
 returns-clause-within c =
-    before-mark _ c.args.self.now _ c.args.mark.now c.self.inside.earlier c.self.inside.earlier_ends c.self.view_is c.mark.view_is c.self.invariant.1
+    before-mark _ c.args.self.now _ c.args.mark.now c.self.inside.earlier c.self.inside.earlier_ends c.self.view_is
+    c.mark.view_is c.self.invariant.1
     (grind arith) (grind arith)

@@ -22,7 +22,8 @@ returns-in-Some-clause-added c =
 
 pub returns-clause-added : goal.returns-clause-added
 returns-clause-added c =
-    numbers-begun c.args.group.now c.in_ok-name.name.items c.args.self.now.sets c.get_mut.follows.lender-at-none c.insert-3.new.self c.insert-2.new.self c.args.number
+    numbers-begun c.args.group.now c.in_ok-name.name.items c.args.self.now.sets c.get_mut.follows.lender-at-none
+    c.insert-3.new.self c.insert-2.new.self c.args.number
     c.in_ok-name.ensures.items c.get_mut.follows.holds-at-none c.in_ok-insert-3.ensures.updates
     (c.in_ok-insert-2.ensures.keys ∙ ap (λ ns. insert_key nat_cmp ns c.args.number) c.new-numbers.ensures.empty)
     c.in_default.ensures.value

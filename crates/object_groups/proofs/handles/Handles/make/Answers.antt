@@ -13,7 +13,8 @@ invariant_of-self-2 c =
     let few = subst (λ s. s.made < MOST_MADE) (sym c.self.view_is)
     (more-may-be c.args.self.now (sym c.fault.ensures ∙ c.in_default.is)) in
     subst (λ hs. IsIndexed hs (c.self.inside.made + 1) c.hold.new.groups) (sym c.in_ok-hold.ensures.added)
-    (added-index c.self.inside.table _ c.self.inside.made c.self.inside.groups c.hold.new.groups c.self.invariant refl few
+    (added-index c.self.inside.table _ c.self.inside.made c.self.inside.groups c.hold.new.groups c.self.invariant refl
+    few
     (subst (λ hs. AreGroupsOf hs c.hold.new.groups) c.in_ok-hold.ensures.added c.in_ok-hold.ensures.grouped))
 
 pub returns-clause-unused : goal.returns-clause-unused

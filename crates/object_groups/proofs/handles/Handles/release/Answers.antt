@@ -28,19 +28,23 @@ returns-in_default-clause-one c =
 
 pub invariant_of-self-in-Some-group : goal.invariant_of-self-in-Some-group
 invariant_of-self-in-Some-group c =
-    let left = grouped-less c.args.number c.self.inside.table c.in-Some.handle c.as_slice.result.now c.self.inside.groups c.remove-in-Some-group.new.self c.self.invariant.ascending
+    let left = grouped-less c.args.number c.self.inside.table c.in-Some.handle c.as_slice.result.now
+    c.self.inside.groups c.remove-in-Some-group.new.self c.self.invariant.ascending
     (sym c.in-Some.is ∙ c.remove.ensures.handle)
     (c.in-Some-group.is ∙ ap (λ name. Some name) (sym c.as_slice.ensures))
     c.self.invariant.grouped c.remove-in-Some-group.ensures in
     subst (λ hs. IsIndexed hs c.self.inside.made c.remove-in-Some-group.new.self) (sym c.remove.ensures.rest)
-    (filtered-index _ c.self.inside.table c.self.inside.made c.self.inside.groups c.remove-in-Some-group.new.self c.self.invariant left)
+    (filtered-index _ c.self.inside.table c.self.inside.made c.self.inside.groups c.remove-in-Some-group.new.self
+    c.self.invariant left)
 
 pub invariant_of-self-in_default-group : goal.invariant_of-self-in_default-group
 invariant_of-self-in_default-group c =
-    let left = ungrouped-less c.args.number c.self.inside.table c.in-Some.handle c.self.inside.groups c.self.invariant.ascending
+    let left = ungrouped-less c.args.number c.self.inside.table c.in-Some.handle c.self.inside.groups
+    c.self.invariant.ascending
     (sym c.in-Some.is ∙ c.remove.ensures.handle) c.in_default-group.is c.self.invariant.grouped in
     subst (λ hs. IsIndexed hs c.self.inside.made c.self.inside.groups) (sym c.remove.ensures.rest)
-    (filtered-index _ c.self.inside.table c.self.inside.made c.self.inside.groups c.self.inside.groups c.self.invariant left)
+    (filtered-index _ c.self.inside.table c.self.inside.made c.self.inside.groups c.self.inside.groups c.self.invariant
+    left)
 
 pub returns-clause-had : goal.returns-clause-had
 returns-clause-had c =
@@ -50,7 +54,8 @@ returns-clause-had c =
 
 pub returns-clause-one : goal.returns-clause-one
 returns-clause-one c =
-    let less = length-less c.args.number c.self.inside.table c.remove.new.self c.in-Some.handle c.self.invariant.ascending
+    let less = length-less c.args.number c.self.inside.table c.remove.new.self c.in-Some.handle
+    c.self.invariant.ascending
     (sym c.in-Some.is ∙ c.remove.ensures.handle) c.remove.ensures.rest in
     let whole = less ∙ ap (λ s. length s.held) c.self.view_is in
     elim c.match-handle.branch [

@@ -6,5 +6,6 @@ use Rattle.object_groups.proofs.table.Table.get.Goals as goal
 
 pub returns : goal.returns
 returns c =
-    found-handle c.self.inside.by_number.entries [] c.self.inside.on_scratch c.args.number _ c.self.invariant c.get.ensures.value
+    found-handle c.self.inside.by_number.entries [] c.self.inside.on_scratch c.args.number _ c.self.invariant
+    c.get.ensures.value
     ∙ ap (find (has_number c.args.number)) c.self.view_is

@@ -9,33 +9,39 @@ use Rattle.object_groups.proofs.table.Table.remove.Goals as goal
 pub returns-in_err-handle-clause-handle : goal.returns-in_err-handle-clause-handle
 returns-in_err-handle-clause-handle c =
     c.from_residual.ensures ∙ sym c.in_err-handle.was
-    ∙ found-handle c.self.inside.by_number.entries c.remove.new.self.entries c.self.inside.on_scratch c.args.number _ c.self.invariant c.remove.ensures.value
+    ∙ found-handle c.self.inside.by_number.entries c.remove.new.self.entries c.self.inside.on_scratch c.args.number _
+    c.self.invariant c.remove.ensures.value
     ∙ ap (find (has_number c.args.number)) c.self.view_is
 
 pub returns-in_err-handle-clause-rest : goal.returns-in_err-handle-clause-rest
 returns-in_err-handle-clause-rest c =
-    left-values c.self.inside.by_number.entries c.remove.new.self.entries c.self.inside.on_scratch c.args.number c.self.invariant c.remove.ensures.entries
+    left-values c.self.inside.by_number.entries c.remove.new.self.entries c.self.inside.on_scratch c.args.number
+    c.self.invariant c.remove.ensures.entries
     ∙ ap (filter (has_another_number c.args.number)) c.self.view_is
 
 pub overflow_sub-self : goal.overflow_sub-self
 overflow_sub-self c =
-    taken-counted c.self.inside.by_number.entries c.remove.new.self.entries c.self.inside.on_scratch c.args.number c.from.result c.in_ok-handle.handle c.self.invariant
+    taken-counted c.self.inside.by_number.entries c.remove.new.self.entries c.self.inside.on_scratch c.args.number
+    c.from.result c.in_ok-handle.handle c.self.invariant
     (sym c.in_ok-handle.was ∙ c.remove.ensures.value) c.remove.ensures.entries
     (c.from.ensures ∙ ap from_bool c.is_on_scratch.ensures)
 
 pub invariant_of-self-2 : goal.invariant_of-self-2
 invariant_of-self-2 c =
-    left-table c.self.inside.by_number.entries c.remove.new.self.entries c.self.inside.on_scratch c.args.number c.from.result c.in_ok-handle.handle c.self.invariant
+    left-table c.self.inside.by_number.entries c.remove.new.self.entries c.self.inside.on_scratch c.args.number
+    c.from.result c.in_ok-handle.handle c.self.invariant
     (sym c.in_ok-handle.was ∙ c.remove.ensures.value) c.remove.ensures.entries
     (c.from.ensures ∙ ap from_bool c.is_on_scratch.ensures)
 
 pub returns-clause-handle : goal.returns-clause-handle
 returns-clause-handle c =
     sym c.in_ok-handle.was
-    ∙ found-handle c.self.inside.by_number.entries c.remove.new.self.entries c.self.inside.on_scratch c.args.number _ c.self.invariant c.remove.ensures.value
+    ∙ found-handle c.self.inside.by_number.entries c.remove.new.self.entries c.self.inside.on_scratch c.args.number _
+    c.self.invariant c.remove.ensures.value
     ∙ ap (find (has_number c.args.number)) c.self.view_is
 
 pub returns-clause-rest : goal.returns-clause-rest
 returns-clause-rest c =
-    left-values c.self.inside.by_number.entries c.remove.new.self.entries c.self.inside.on_scratch c.args.number c.self.invariant c.remove.ensures.entries
+    left-values c.self.inside.by_number.entries c.remove.new.self.entries c.self.inside.on_scratch c.args.number
+    c.self.invariant c.remove.ensures.entries
     ∙ ap (filter (has_another_number c.args.number)) c.self.view_is

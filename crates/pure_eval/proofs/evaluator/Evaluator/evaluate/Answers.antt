@@ -16,7 +16,8 @@ returns-clause-answer g c = λ p e runs made.
     evaluator-leaves old.names mid.names c.keep.new.self.names old.table mid.table old.next a.next a.node
     (term_view c.args.term.now) p (heap_world old.names c.args.base.now)
     c.args.scratch c.evaluate_known-outcome.result.scratch (next_of c.args.scratch)
-    c.args.work e c.args.source.now c.args.order.now c.args.literals.now c.evaluate_known-outcome.result.end runs refl has.behind has.source made
+    c.args.work e c.args.source.now c.args.order.now c.args.literals.now c.evaluate_known-outcome.result.end runs refl
+    has.behind has.source made
     (c.evaluate_known-outcome.ensures old.names has.source.goes_on has.base_known has.scratch_known)
     c.keep.ensures.names
 
@@ -32,18 +33,21 @@ returns-clause-program g c = λ p e runs made.
     e c.args.order.now c.args.literals.now runs refl has.behind has.source made in
     runs-after old.names mid.names old.table mid.table old.next mid.next a.node (term_view c.args.term.now) p more
     (next_of c.args.scratch)
-    a.mark a.next c.evaluate_known-outcome.result.end c.keep.new.self has.next runs has.source stands has.marked c.keep.ensures.names c.keep.ensures.kept c.keep.ensures.cut
+    a.mark a.next c.evaluate_known-outcome.result.end c.keep.new.self has.next runs has.source stands has.marked
+    c.keep.ensures.names c.keep.ensures.kept c.keep.ensures.cut
 
 pub returns-clause-goes_on : goal.returns-clause-goes_on
 returns-clause-goes_on g c =
-    went-after c.evaluate_known-outcome.result.end c.args.self.now c.add.new.self c.keep.new.self c.args.base.now c.args.scratch
+    went-after c.evaluate_known-outcome.result.end c.args.self.now c.add.new.self c.keep.new.self c.args.base.now
+    c.args.scratch
     (term_view c.args.term.now)
     c.in-Ok.added c.requires c.in-Ok.ensures c.keep.ensures.names c.keep.ensures.kept c.keep.ensures.cut
 
 pub returns-clause-came : goal.returns-clause-came
 returns-clause-came g c = λ m p came.
     came-after c.evaluate_known-outcome.result.end m p c.args.self.now c.keep.new.self
-    (went-after c.evaluate_known-outcome.result.end c.args.self.now c.add.new.self c.keep.new.self c.args.base.now c.args.scratch
+    (went-after c.evaluate_known-outcome.result.end c.args.self.now c.add.new.self c.keep.new.self c.args.base.now
+    c.args.scratch
     (term_view c.args.term.now)
     c.in-Ok.added c.requires c.in-Ok.ensures c.keep.ensures.names c.keep.ensures.kept c.keep.ensures.cut)
     came
@@ -59,6 +63,7 @@ evaluate_known-outcome-requires-clause-call g c = c.if-not-is_call.ensures refl
 
 pub returns-clause-code : goal.returns-clause-code
 returns-clause-code g c = λ code.
-    code-after c.evaluate_known-outcome.result.end c.args.self.now c.add.new.self c.keep.new.self c.args.base.now c.args.scratch
+    code-after c.evaluate_known-outcome.result.end c.args.self.now c.add.new.self c.keep.new.self c.args.base.now
+    c.args.scratch
     (term_view c.args.term.now)
     c.in-Ok.added code c.in-Ok.ensures c.keep.ensures.names c.keep.ensures.kept c.keep.ensures.cut

@@ -50,7 +50,12 @@ returns-clause-code c =
     → program_of us c.add_call.new.table ≡ program_from 1 (terms_view c.args.scripts.now)
     = λ us on. added.program whole us
     ∙ h.program us on in
-    code-of (record { names = c.code_of_scripts.new.names; table = c.add_call.new.table; next = 0; call = c.in_ok-call.call })
+    code-of (record {
+      names = c.code_of_scripts.new.names;
+      table = c.add_call.new.table;
+      next = 0;
+      call = c.in_ok-call.call;
+    })
     (program_from 1 (terms_view c.args.scripts.now)) (program_from 1 (terms_view c.args.scripts.now))
     (stands-first c.code_of_scripts.new.names c.add_call.new.table (terms_view c.args.scripts.now)
     (added.whole whole) program)

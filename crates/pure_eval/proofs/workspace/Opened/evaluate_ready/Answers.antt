@@ -11,7 +11,8 @@ pub invariant_of-self-2 : goal.invariant_of-self-2
 invariant_of-self-2 g c =
     let w = c.self.inside in
     let r = c.evaluate_ready-outcome in
-    open-on r.result.end w.evaluator r.new.self w.scripts w.start w.mark w.base.now r.result.scratch w.world c.over.result w.cells w.count w.next c.next_address-self-inside.result
+    open-on r.result.end w.evaluator r.new.self w.scripts w.start w.mark w.base.now r.result.scratch w.world
+    c.over.result w.cells w.count w.next c.next_address-self-inside.result
     (program_of w.evaluator.names w.evaluator.table)
     (kept_tree_at (next_of c.into_scratch-scratch.result) (term_view c.args.prepared.now.term))
     (sym c.is_given_up.ensures ∙ c.if-is_given_up.false) c.self.invariant r.ensures.goes_on
@@ -25,7 +26,9 @@ returns g c =
     let new : Opened = opened_of r.new.self w.scripts w.mark w.base.now c.over.result w.cells in
     let P : Opened → Type 0 = λ old. Evaluates r.result.end c.args.work c.args.prepared.now old new in
     subst P c.self.view_is
-    (evaluates-open r.result.end c.args.prepared.now c.args.work w.evaluator r.new.self w.scripts w.start w.mark w.base.now c.into_scratch-scratch.result r.result.scratch w.world c.over.result w.cells w.count c.number_of.result w.next
+    (evaluates-open r.result.end c.args.prepared.now c.args.work w.evaluator r.new.self w.scripts w.start w.mark
+    w.base.now c.into_scratch-scratch.result r.result.scratch w.world c.over.result w.cells w.count
+    c.number_of.result w.next
     (sym c.is_given_up.ensures ∙ c.if-is_given_up.false) c.self.invariant r.ensures.goes_on
     (r.ensures.code c.self.invariant.working.code) c.goes_on.ensures (grind arith) c.number_of.ensures
     (grind arith)

@@ -6,10 +6,13 @@ use Rattle.pure_eval.proofs.workspace.Opened.forget.Goals as goal
 pub invariant_of-result : goal.invariant_of-result
 invariant_of-result c =
     let w = c.self.inside in
-    forgotten-working w.evaluator c.cut.new.self w.scripts w.start w.mark w.base.now w.world w.cells w.count w.next c.self.invariant c.cut.ensures.back
+    forgotten-working w.evaluator c.cut.new.self w.scripts w.start w.mark w.base.now w.world w.cells w.count w.next
+    c.self.invariant c.cut.ensures.back
 
 pub returns : goal.returns
 returns c =
     let w = c.self.inside in
-    forgotten-is w.evaluator c.cut.new.self w.scripts w.start w.mark w.base.now c.into_scratch-scratch.result c.cut-2.new.self w.world w.cells w.count w.next c.self.invariant c.cut.ensures.back c.cut.ensures.names c.into_scratch-scratch.ensures.space c.cut-2.ensures.space
+    forgotten-is w.evaluator c.cut.new.self w.scripts w.start w.mark w.base.now c.into_scratch-scratch.result
+    c.cut-2.new.self w.world w.cells w.count w.next c.self.invariant c.cut.ensures.back c.cut.ensures.names
+    c.into_scratch-scratch.ensures.space c.cut-2.ensures.space
     ∙ ap (λ (o : Opened). o.before) c.self.view_is

@@ -5,7 +5,8 @@ use Rattle.pure_eval.proofs.workspace.Workspace.start.Goals as goal
 
 pub invariant_of-result : goal.invariant_of-result
 invariant_of-result c =
-    working-first c.in_ok-evaluator.evaluator c.mark-start.result.table.sources c.mark-start.result c.in_ok-evaluator.ensures.code.code c.mark-start.ensures.marked c.mark-start.ensures.marked.table.sources
+    working-first c.in_ok-evaluator.evaluator c.mark-start.result.table.sources c.mark-start.result
+    c.in_ok-evaluator.ensures.code.code c.mark-start.ensures.marked c.mark-start.ensures.marked.table.sources
 
 pub returns : goal.returns
 returns c =

@@ -21,14 +21,16 @@ pub put_element-returns : goal.put_element-returns
 put_element-returns g t c =
     let world = g.W.World.world c.args.self.now.names.now c.args.self.now.world.now in
     element-put world (value_given world c.args.deep)
-    c.args.value c.args.listed.now.items c.push.new.self.items c.in_ok-json.json c.element_of.result c.args.deep c.args.left.now c.value_given.new.left
+    c.args.value c.args.listed.now.items c.push.new.self.items c.in_ok-json.json c.element_of.result c.args.deep
+    c.args.left.now c.value_given.new.left
     c.in_ok-json.ensures c.element_of.ensures c.in_ok-push.ensures.items
 
 pub elements_given-loop-value-preserved : goal.elements_given-loop-value-preserved
 elements_given-loop-value-preserved g t c =
     let world = g.W.World.world c.args.self.now.names.now c.args.self.now.world.now in
     let each = element_given world (value_given world c.args.deep) in
-    element-goes each c.args.values.now c.loop-value.value-index values.Undefined c.args.deep c.args.left.now c.loop-value.left c.put_element.new.left
+    element-goes each c.args.values.now c.loop-value.value-index values.Undefined c.args.deep c.args.left.now
+    c.loop-value.left c.put_element.new.left
     (map json_view c.loop-value.listed.items) (map json_view c.put_element.new.listed.items)
     (all_given each c.args.values.now)
     c.loop-value-test.true c.in_ok-put_element.ensures c.loop-value.invariant
@@ -37,7 +39,9 @@ pub elements_given-returns-in_err-put_element : goal.elements_given-returns-in_e
 elements_given-returns-in_err-put_element g t c =
     let world = g.W.World.world c.args.self.now.names.now c.args.self.now.world.now in
     let each = element_given world (value_given world c.args.deep) in
-    element-stops json_view list_of each c.args.values.now c.loop-value.value-index values.Undefined c.from_residual.result c.in_err-put_element.field-0.0 c.args.deep c.args.left.now c.loop-value.left c.put_element.new.left
+    element-stops json_view list_of each c.args.values.now c.loop-value.value-index values.Undefined
+    c.from_residual.result c.in_err-put_element.field-0.0 c.args.deep c.args.left.now c.loop-value.left
+    c.put_element.new.left
     (map json_view c.loop-value.listed.items) (all_given each c.args.values.now)
     c.loop-value-test.true c.loop-value.invariant c.in_err-put_element.ensures c.from_residual.ensures.1
 
@@ -65,7 +69,8 @@ pub put_member-returns : goal.put_member-returns
 put_member-returns g t c =
     let world = g.W.World.world c.args.self.now.names.now c.args.self.now.world.now in
     member-put world (value_given world c.args.deep)
-    c.args.property.now c.args.listed.now.items c.push.new.self.items c.in_ok-json.json c.new.result c.args.deep c.args.left.now c.value_given.new.left
+    c.args.property.now c.args.listed.now.items c.push.new.self.items c.in_ok-json.json c.new.result c.args.deep
+    c.args.left.now c.value_given.new.left
     c.if-not-property.false (sym c.is_left_out.ensures ∙ c.if-is_left_out.false) c.in_ok-json.ensures (grind arith)
     c.in_ok-push.ensures.items
 
@@ -73,7 +78,8 @@ pub members_given-loop-place-preserved : goal.members_given-loop-place-preserved
 members_given-loop-place-preserved g t c =
     let world = g.W.World.world c.args.self.now.names.now c.args.self.now.world.now in
     let each = member_given world (value_given world c.args.deep) in
-    property-goes each c.args.properties.now c.loop-place.place c.in-Some.property.now c.args.deep c.args.left.now c.loop-place.left c.put_member.new.left
+    property-goes each c.args.properties.now c.loop-place.place c.in-Some.property.now c.args.deep c.args.left.now
+    c.loop-place.left c.put_member.new.left
     (map member_view c.loop-place.listed.items) (map member_view c.put_member.new.listed.items)
     (all_given each c.args.properties.now)
     c.in-Some.ensures c.in_ok-put_member.ensures c.loop-place.invariant
@@ -82,7 +88,9 @@ pub members_given-returns-in_err-put_member : goal.members_given-returns-in_err-
 members_given-returns-in_err-put_member g t c =
     let world = g.W.World.world c.args.self.now.names.now c.args.self.now.world.now in
     let each = member_given world (value_given world c.args.deep) in
-    property-stops json_view object_of each c.args.properties.now c.loop-place.place c.in-Some.property.now c.from_residual.result c.in_err-put_member.field-0.0 c.args.deep c.args.left.now c.loop-place.left c.put_member.new.left
+    property-stops json_view object_of each c.args.properties.now c.loop-place.place c.in-Some.property.now
+    c.from_residual.result c.in_err-put_member.field-0.0 c.args.deep c.args.left.now c.loop-place.left
+    c.put_member.new.left
     (map member_view c.loop-place.listed.items) (all_given each c.args.properties.now)
     c.in-Some.ensures c.loop-place.invariant c.in_err-put_member.ensures c.from_residual.ensures.1
 
@@ -104,7 +112,8 @@ object_given-returns-in_err-meet g t c =
 pub object_given-returns : goal.object_given-returns
 object_given-returns g t c =
     let world = g.W.World.world c.args.self.now.names.now c.args.self.now.world.now in
-    object-answers json_view world c.parts_given.result c.args.deep c.args.left.now c.meet.new.left c.parts_given.new.left c.args.a _
+    object-answers json_view world c.parts_given.result c.args.deep c.args.left.now c.meet.new.left
+    c.parts_given.new.left c.args.a _
     (omega arith) c.in_ok-meet.ensures (c.find.ensures c.args.self.now.names.now) c.parts_given.ensures
 
 pub object_given-returns-then-deep-eq0 : goal.object_given-returns-then-deep-eq0

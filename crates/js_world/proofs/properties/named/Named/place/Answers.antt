@@ -4,11 +4,13 @@ use Rattle.js_world.proofs.properties.named.Named.place.Goals as goal
 
 pub returns-in-Some : goal.returns-in-Some
 returns-in-Some c =
-    let e = keys-some c.self.inside.keys.keys c.self.inside.items.items c.args.key.now c.in-Some.place c.self.invariant c.in-Some.ensures.index in
+    let e = keys-some c.self.inside.keys.keys c.self.inside.items.items c.args.key.now c.in-Some.place c.self.invariant
+    c.in-Some.ensures.index in
     let low = place-le c.self.inside.items.items c.args.key.now in
     rw (← c.self.view_is) (record { place = e; small = grind (arith, e) })
 
 pub returns-in-None : goal.returns-in-None
 returns-in-None c =
-    let e = keys-none c.self.inside.keys.keys c.self.inside.items.items c.args.key.now c.self.invariant c.in-None.ensures.index in
+    let e = keys-none c.self.inside.keys.keys c.self.inside.items.items c.args.key.now c.self.invariant
+    c.in-None.ensures.index in
     rw (← c.self.view_is) (record { place = grind (arith, e); small = grind arith })

@@ -6,4 +6,5 @@ invariant_of-self-2 c =
     let e = rw (c.unwrap.ensures, c.reserve.ensures.items) at c.push.ensures.items in
     let f = rw (← c.self.view_is) at c.requires in
     let k = rw c.as_slice.ensures at c.in_ok-key.ensures.items in
-    rw e (keys-push c.self.inside.keys.keys c.insert_full.new.self.keys c.self.inside.items.items c.in_ok-key.key c.args.property c.self.invariant k f c.in_ok-insert_full.ensures.keys)
+    rw e (keys-push c.self.inside.keys.keys c.insert_full.new.self.keys c.self.inside.items.items c.in_ok-key.key
+    c.args.property c.self.invariant k f c.in_ok-insert_full.ensures.keys)
