@@ -533,7 +533,8 @@ pub offset_past_text : (u : List ℕ) (p : Pos) (i : ℕ) → (position u (lengt
 offset_past_text u p i past at =
     no_line u (line_starts u) p i (AreStarts-line_starts u) (omega (arith, (AreStarts-line_starts u).counted)) at
 
--- what the search for an offset promises: it finds the one there is, and nothing exactly where the position is past its line
+-- what the search for an offset promises: it finds the one there is, and nothing exactly where the position is past its
+-- line
 pub record Finds (u : List ℕ) (p : Pos) (o : Option ℕ) : Type 0 where
   pub found : IfSome o (λ i. IsOffset u p i)
   pub undoes : (i : ℕ) → IsOffset u p i → o ≡ Some i

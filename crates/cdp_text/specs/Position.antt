@@ -29,7 +29,8 @@ IsPlaceBefore p q = (p.script < q.script) ⊎ ((p.script ≡ q.script) × IsBefo
 abbrev pub origin : Pos
 origin = record { line = 0; col = 0 }
 
--- the position behind a unit: a unit that ends its line adds one to the line and sets the column to 0, each other unit adds one to the column
+-- the position behind a unit: a unit that ends its line adds one to the line and sets the column to 0, each other unit
+-- adds one to the column
 abbrev pub advanced : Pos → Bool → Pos
 advanced p ends = if ends then record { line = p.line + 1; col = 0 } else record { line = p.line; col = p.col + 1 }
 

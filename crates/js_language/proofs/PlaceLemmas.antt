@@ -37,146 +37,179 @@ use Rattle.js_tree.proofs.ViewLemmas.{Layer}
 -- the places of a tree are made of the places of its parts
 pub expression_turn : (x : Layer Expr-F)
     → expression_places (views.roll-Expr x) ≡ expression_pieces
-    (map-Expr Expr PropertyDefinition PropertyName Stmt Block Catch Declarator Declarators Exprs PropertyDefinitions Stmts
+    (map-Expr Expr PropertyDefinition PropertyName Stmt Block Catch Declarator Declarators Exprs PropertyDefinitions
+    Stmts
     (List Place) (List Place) (List Place) (List Place) (List Place) (List Place) (List Place) (List Place)
     (List Place) (List Place) (List Place)
-    expression_places property_places key_places statement_places block_places catch_places declarator_places declarators_places expressions_places properties_places statements_places x)
+    expression_places property_places key_places statement_places block_places catch_places declarator_places
+    declarators_places expressions_places properties_places statements_places x)
 unfolding expression_places property_places key_places statement_places block_places catch_places declarator_places
     declarators_places expressions_places properties_places statements_places
 expression_turn x =
     fold-roll-Expr (List Place) (List Place) (List Place) (List Place) (List Place) (List Place) (List Place)
     (List Place) (List Place) (List Place) (List Place)
-    expression_pieces property_pieces key_pieces statement_pieces block_pieces catch_pieces declarator_pieces declarators_pieces expressions_pieces properties_pieces statements_pieces x
+    expression_pieces property_pieces key_pieces statement_pieces block_pieces catch_pieces declarator_pieces
+    declarators_pieces expressions_pieces properties_pieces statements_pieces x
 
 pub property_turn : (x : Layer PropertyDefinition-F)
     → property_places (views.roll-PropertyDefinition x) ≡ property_pieces
-    (map-PropertyDefinition Expr PropertyDefinition PropertyName Stmt Block Catch Declarator Declarators Exprs PropertyDefinitions Stmts
+    (map-PropertyDefinition Expr PropertyDefinition PropertyName Stmt Block Catch Declarator Declarators Exprs
+    PropertyDefinitions Stmts
     (List Place) (List Place) (List Place) (List Place) (List Place) (List Place) (List Place) (List Place)
     (List Place) (List Place) (List Place)
-    expression_places property_places key_places statement_places block_places catch_places declarator_places declarators_places expressions_places properties_places statements_places x)
+    expression_places property_places key_places statement_places block_places catch_places declarator_places
+    declarators_places expressions_places properties_places statements_places x)
 unfolding expression_places property_places key_places statement_places block_places catch_places declarator_places
     declarators_places expressions_places properties_places statements_places
 property_turn x =
     fold-roll-PropertyDefinition (List Place) (List Place) (List Place) (List Place) (List Place) (List Place)
     (List Place) (List Place) (List Place) (List Place) (List Place)
-    expression_pieces property_pieces key_pieces statement_pieces block_pieces catch_pieces declarator_pieces declarators_pieces expressions_pieces properties_pieces statements_pieces x
+    expression_pieces property_pieces key_pieces statement_pieces block_pieces catch_pieces declarator_pieces
+    declarators_pieces expressions_pieces properties_pieces statements_pieces x
 
 pub key_turn : (x : Layer PropertyName-F)
     → key_places (views.roll-PropertyName x) ≡ key_pieces
-    (map-PropertyName Expr PropertyDefinition PropertyName Stmt Block Catch Declarator Declarators Exprs PropertyDefinitions Stmts
+    (map-PropertyName Expr PropertyDefinition PropertyName Stmt Block Catch Declarator Declarators Exprs
+    PropertyDefinitions Stmts
     (List Place) (List Place) (List Place) (List Place) (List Place) (List Place) (List Place) (List Place)
     (List Place) (List Place) (List Place)
-    expression_places property_places key_places statement_places block_places catch_places declarator_places declarators_places expressions_places properties_places statements_places x)
+    expression_places property_places key_places statement_places block_places catch_places declarator_places
+    declarators_places expressions_places properties_places statements_places x)
 unfolding expression_places property_places key_places statement_places block_places catch_places declarator_places
     declarators_places expressions_places properties_places statements_places
 key_turn x =
     fold-roll-PropertyName (List Place) (List Place) (List Place) (List Place) (List Place) (List Place) (List Place)
     (List Place) (List Place) (List Place) (List Place)
-    expression_pieces property_pieces key_pieces statement_pieces block_pieces catch_pieces declarator_pieces declarators_pieces expressions_pieces properties_pieces statements_pieces x
+    expression_pieces property_pieces key_pieces statement_pieces block_pieces catch_pieces declarator_pieces
+    declarators_pieces expressions_pieces properties_pieces statements_pieces x
 
 pub statement_turn : (x : Layer Stmt-F)
     → statement_places (views.roll-Stmt x) ≡ statement_pieces
-    (map-Stmt Expr PropertyDefinition PropertyName Stmt Block Catch Declarator Declarators Exprs PropertyDefinitions Stmts
+    (map-Stmt Expr PropertyDefinition PropertyName Stmt Block Catch Declarator Declarators Exprs PropertyDefinitions
+    Stmts
     (List Place) (List Place) (List Place) (List Place) (List Place) (List Place) (List Place) (List Place)
     (List Place) (List Place) (List Place)
-    expression_places property_places key_places statement_places block_places catch_places declarator_places declarators_places expressions_places properties_places statements_places x)
+    expression_places property_places key_places statement_places block_places catch_places declarator_places
+    declarators_places expressions_places properties_places statements_places x)
 unfolding expression_places property_places key_places statement_places block_places catch_places declarator_places
     declarators_places expressions_places properties_places statements_places
 statement_turn x =
     fold-roll-Stmt (List Place) (List Place) (List Place) (List Place) (List Place) (List Place) (List Place)
     (List Place) (List Place) (List Place) (List Place)
-    expression_pieces property_pieces key_pieces statement_pieces block_pieces catch_pieces declarator_pieces declarators_pieces expressions_pieces properties_pieces statements_pieces x
+    expression_pieces property_pieces key_pieces statement_pieces block_pieces catch_pieces declarator_pieces
+    declarators_pieces expressions_pieces properties_pieces statements_pieces x
 
 pub block_turn : (x : Layer Block-F)
     → block_places (views.roll-Block x) ≡ block_pieces
-    (map-Block Expr PropertyDefinition PropertyName Stmt Block Catch Declarator Declarators Exprs PropertyDefinitions Stmts
+    (map-Block Expr PropertyDefinition PropertyName Stmt Block Catch Declarator Declarators Exprs PropertyDefinitions
+    Stmts
     (List Place) (List Place) (List Place) (List Place) (List Place) (List Place) (List Place) (List Place)
     (List Place) (List Place) (List Place)
-    expression_places property_places key_places statement_places block_places catch_places declarator_places declarators_places expressions_places properties_places statements_places x)
+    expression_places property_places key_places statement_places block_places catch_places declarator_places
+    declarators_places expressions_places properties_places statements_places x)
 unfolding expression_places property_places key_places statement_places block_places catch_places declarator_places
     declarators_places expressions_places properties_places statements_places
 block_turn x =
     fold-roll-Block (List Place) (List Place) (List Place) (List Place) (List Place) (List Place) (List Place)
     (List Place) (List Place) (List Place) (List Place)
-    expression_pieces property_pieces key_pieces statement_pieces block_pieces catch_pieces declarator_pieces declarators_pieces expressions_pieces properties_pieces statements_pieces x
+    expression_pieces property_pieces key_pieces statement_pieces block_pieces catch_pieces declarator_pieces
+    declarators_pieces expressions_pieces properties_pieces statements_pieces x
 
 pub catch_turn : (x : Layer Catch-F)
     → catch_places (views.roll-Catch x) ≡ catch_pieces
-    (map-Catch Expr PropertyDefinition PropertyName Stmt Block Catch Declarator Declarators Exprs PropertyDefinitions Stmts
+    (map-Catch Expr PropertyDefinition PropertyName Stmt Block Catch Declarator Declarators Exprs PropertyDefinitions
+    Stmts
     (List Place) (List Place) (List Place) (List Place) (List Place) (List Place) (List Place) (List Place)
     (List Place) (List Place) (List Place)
-    expression_places property_places key_places statement_places block_places catch_places declarator_places declarators_places expressions_places properties_places statements_places x)
+    expression_places property_places key_places statement_places block_places catch_places declarator_places
+    declarators_places expressions_places properties_places statements_places x)
 unfolding expression_places property_places key_places statement_places block_places catch_places declarator_places
     declarators_places expressions_places properties_places statements_places
 catch_turn x =
     fold-roll-Catch (List Place) (List Place) (List Place) (List Place) (List Place) (List Place) (List Place)
     (List Place) (List Place) (List Place) (List Place)
-    expression_pieces property_pieces key_pieces statement_pieces block_pieces catch_pieces declarator_pieces declarators_pieces expressions_pieces properties_pieces statements_pieces x
+    expression_pieces property_pieces key_pieces statement_pieces block_pieces catch_pieces declarator_pieces
+    declarators_pieces expressions_pieces properties_pieces statements_pieces x
 
 pub declarator_turn : (x : Layer Declarator-F)
     → declarator_places (views.roll-Declarator x) ≡ declarator_pieces
-    (map-Declarator Expr PropertyDefinition PropertyName Stmt Block Catch Declarator Declarators Exprs PropertyDefinitions Stmts
+    (map-Declarator Expr PropertyDefinition PropertyName Stmt Block Catch Declarator Declarators Exprs
+    PropertyDefinitions Stmts
     (List Place) (List Place) (List Place) (List Place) (List Place) (List Place) (List Place) (List Place)
     (List Place) (List Place) (List Place)
-    expression_places property_places key_places statement_places block_places catch_places declarator_places declarators_places expressions_places properties_places statements_places x)
+    expression_places property_places key_places statement_places block_places catch_places declarator_places
+    declarators_places expressions_places properties_places statements_places x)
 unfolding expression_places property_places key_places statement_places block_places catch_places declarator_places
     declarators_places expressions_places properties_places statements_places
 declarator_turn x =
     fold-roll-Declarator (List Place) (List Place) (List Place) (List Place) (List Place) (List Place) (List Place)
     (List Place) (List Place) (List Place) (List Place)
-    expression_pieces property_pieces key_pieces statement_pieces block_pieces catch_pieces declarator_pieces declarators_pieces expressions_pieces properties_pieces statements_pieces x
+    expression_pieces property_pieces key_pieces statement_pieces block_pieces catch_pieces declarator_pieces
+    declarators_pieces expressions_pieces properties_pieces statements_pieces x
 
 pub declarators_turn : (x : Layer Declarators-F)
     → declarators_places (views.roll-Declarators x) ≡ declarators_pieces
-    (map-Declarators Expr PropertyDefinition PropertyName Stmt Block Catch Declarator Declarators Exprs PropertyDefinitions Stmts
+    (map-Declarators Expr PropertyDefinition PropertyName Stmt Block Catch Declarator Declarators Exprs
+    PropertyDefinitions Stmts
     (List Place) (List Place) (List Place) (List Place) (List Place) (List Place) (List Place) (List Place)
     (List Place) (List Place) (List Place)
-    expression_places property_places key_places statement_places block_places catch_places declarator_places declarators_places expressions_places properties_places statements_places x)
+    expression_places property_places key_places statement_places block_places catch_places declarator_places
+    declarators_places expressions_places properties_places statements_places x)
 unfolding expression_places property_places key_places statement_places block_places catch_places declarator_places
     declarators_places expressions_places properties_places statements_places
 declarators_turn x =
     fold-roll-Declarators (List Place) (List Place) (List Place) (List Place) (List Place) (List Place) (List Place)
     (List Place) (List Place) (List Place) (List Place)
-    expression_pieces property_pieces key_pieces statement_pieces block_pieces catch_pieces declarator_pieces declarators_pieces expressions_pieces properties_pieces statements_pieces x
+    expression_pieces property_pieces key_pieces statement_pieces block_pieces catch_pieces declarator_pieces
+    declarators_pieces expressions_pieces properties_pieces statements_pieces x
 
 pub expressions_turn : (x : Layer Exprs-F)
     → expressions_places (views.roll-Exprs x) ≡ expressions_pieces
-    (map-Exprs Expr PropertyDefinition PropertyName Stmt Block Catch Declarator Declarators Exprs PropertyDefinitions Stmts
+    (map-Exprs Expr PropertyDefinition PropertyName Stmt Block Catch Declarator Declarators Exprs PropertyDefinitions
+    Stmts
     (List Place) (List Place) (List Place) (List Place) (List Place) (List Place) (List Place) (List Place)
     (List Place) (List Place) (List Place)
-    expression_places property_places key_places statement_places block_places catch_places declarator_places declarators_places expressions_places properties_places statements_places x)
+    expression_places property_places key_places statement_places block_places catch_places declarator_places
+    declarators_places expressions_places properties_places statements_places x)
 unfolding expression_places property_places key_places statement_places block_places catch_places declarator_places
     declarators_places expressions_places properties_places statements_places
 expressions_turn x =
     fold-roll-Exprs (List Place) (List Place) (List Place) (List Place) (List Place) (List Place) (List Place)
     (List Place) (List Place) (List Place) (List Place)
-    expression_pieces property_pieces key_pieces statement_pieces block_pieces catch_pieces declarator_pieces declarators_pieces expressions_pieces properties_pieces statements_pieces x
+    expression_pieces property_pieces key_pieces statement_pieces block_pieces catch_pieces declarator_pieces
+    declarators_pieces expressions_pieces properties_pieces statements_pieces x
 
 pub properties_turn : (x : Layer PropertyDefinitions-F)
     → properties_places (views.roll-PropertyDefinitions x) ≡ properties_pieces
-    (map-PropertyDefinitions Expr PropertyDefinition PropertyName Stmt Block Catch Declarator Declarators Exprs PropertyDefinitions Stmts
+    (map-PropertyDefinitions Expr PropertyDefinition PropertyName Stmt Block Catch Declarator Declarators Exprs
+    PropertyDefinitions Stmts
     (List Place) (List Place) (List Place) (List Place) (List Place) (List Place) (List Place) (List Place)
     (List Place) (List Place) (List Place)
-    expression_places property_places key_places statement_places block_places catch_places declarator_places declarators_places expressions_places properties_places statements_places x)
+    expression_places property_places key_places statement_places block_places catch_places declarator_places
+    declarators_places expressions_places properties_places statements_places x)
 unfolding expression_places property_places key_places statement_places block_places catch_places declarator_places
     declarators_places expressions_places properties_places statements_places
 properties_turn x =
     fold-roll-PropertyDefinitions (List Place) (List Place) (List Place) (List Place) (List Place) (List Place)
     (List Place) (List Place) (List Place) (List Place) (List Place)
-    expression_pieces property_pieces key_pieces statement_pieces block_pieces catch_pieces declarator_pieces declarators_pieces expressions_pieces properties_pieces statements_pieces x
+    expression_pieces property_pieces key_pieces statement_pieces block_pieces catch_pieces declarator_pieces
+    declarators_pieces expressions_pieces properties_pieces statements_pieces x
 
 pub statements_turn : (x : Layer Stmts-F)
     → statements_places (views.roll-Stmts x) ≡ statements_pieces
-    (map-Stmts Expr PropertyDefinition PropertyName Stmt Block Catch Declarator Declarators Exprs PropertyDefinitions Stmts
+    (map-Stmts Expr PropertyDefinition PropertyName Stmt Block Catch Declarator Declarators Exprs PropertyDefinitions
+    Stmts
     (List Place) (List Place) (List Place) (List Place) (List Place) (List Place) (List Place) (List Place)
     (List Place) (List Place) (List Place)
-    expression_places property_places key_places statement_places block_places catch_places declarator_places declarators_places expressions_places properties_places statements_places x)
+    expression_places property_places key_places statement_places block_places catch_places declarator_places
+    declarators_places expressions_places properties_places statements_places x)
 unfolding expression_places property_places key_places statement_places block_places catch_places declarator_places
     declarators_places expressions_places properties_places statements_places
 statements_turn x =
     fold-roll-Stmts (List Place) (List Place) (List Place) (List Place) (List Place) (List Place) (List Place)
     (List Place) (List Place) (List Place) (List Place)
-    expression_pieces property_pieces key_pieces statement_pieces block_pieces catch_pieces declarator_pieces declarators_pieces expressions_pieces properties_pieces statements_pieces x
+    expression_pieces property_pieces key_pieces statement_pieces block_pieces catch_pieces declarator_pieces
+    declarators_pieces expressions_pieces properties_pieces statements_pieces x
 
 -- ---- each form
 

@@ -1,4 +1,5 @@
--- Small sources, each with the tree that makes it a source of the language, and trees that make none: what the definitions say of them, computed.
+-- Small sources, each with the tree that makes it a source of the language, and trees that make none: what the
+-- definitions say of them, computed.
 use Rattle.std.proofs.Common.{◌≡◌, ℕ, true, false, [], ◌∷◌, Some, None, refl, rules, arith}
 use lib.Chars.{codes}
 use Prim.Native.String.{String}
@@ -52,7 +53,8 @@ script_2 = record { well = search rules; spelled = search rules }
 
 -- do ; while (0) 1
 script_3 : IsScript []
-    (reserved k.Do "do" ∷ a k.Semicolon ∷ reserved k.While "while" ∷ a k.LeftParenthesis ∷ d 0 ∷ a k.RightParenthesis ∷ d 1 ∷ [])
+    (reserved k.Do "do" ∷ a k.Semicolon ∷ reserved k.While "while" ∷ a k.LeftParenthesis ∷ d 0 ∷ a k.RightParenthesis ∷
+    d 1 ∷ [])
     (statements (do_while empty (number 0) ∷ expression (number 1) ∷ []))
 script_3 = record { well = search rules; spelled = search rules }
 
@@ -110,26 +112,32 @@ script_9 = record { well = search rules; spelled = search rules }
 
 -- if (a) if (b) c; else d
 script_10 : IsScript []
-    (reserved k.If "if" ∷ a k.LeftParenthesis ∷ w "a" ∷ a k.RightParenthesis ∷ reserved k.If "if" ∷ a k.LeftParenthesis ∷ w "b" ∷ a k.RightParenthesis ∷ w "c" ∷ a k.Semicolon ∷ reserved k.Else "else" ∷ w "d" ∷ [])
+    (reserved k.If "if" ∷ a k.LeftParenthesis ∷ w "a" ∷ a k.RightParenthesis ∷ reserved k.If "if" ∷ a
+    k.LeftParenthesis ∷ w "b" ∷ a k.RightParenthesis ∷ w "c" ∷ a k.Semicolon ∷ reserved k.Else "else" ∷ w "d" ∷ [])
     (statements (if_then (v "a") (if_else (v "b") (expression (v "c")) (expression (v "d"))) ∷ []))
 script_10 = record { well = search rules; spelled = search rules }
 
 -- if (a) { if (b) c; } else d
 script_11 : IsScript []
-    (reserved k.If "if" ∷ a k.LeftParenthesis ∷ w "a" ∷ a k.RightParenthesis ∷ a k.LeftBrace ∷ reserved k.If "if" ∷ a k.LeftParenthesis ∷ w "b" ∷ a k.RightParenthesis ∷ w "c" ∷ a k.Semicolon ∷ a k.RightBrace ∷ reserved k.Else "else" ∷ w "d" ∷ [])
+    (reserved k.If "if" ∷ a k.LeftParenthesis ∷ w "a" ∷ a k.RightParenthesis ∷ a k.LeftBrace ∷ reserved k.If "if" ∷ a
+    k.LeftParenthesis ∷ w "b" ∷ a k.RightParenthesis ∷ w "c" ∷ a k.Semicolon ∷ a k.RightBrace ∷ reserved k.Else
+    "else" ∷ w "d" ∷ [])
     (statements
     (if_else (v "a") (block (statements (if_then (v "b") (expression (v "c")) ∷ []))) (expression (v "d")) ∷ []))
 script_11 = record { well = search rules; spelled = search rules }
 
 -- for (let of of of) ;
 script_12 : IsScript []
-    (reserved k.For "for" ∷ a k.LeftParenthesis ∷ reserved k.Let "let" ∷ w "of" ∷ w "of" ∷ w "of" ∷ a k.RightParenthesis ∷ a k.Semicolon ∷ [])
+    (reserved k.For "for" ∷ a k.LeftParenthesis ∷ reserved k.Let "let" ∷ w "of" ∷ w "of" ∷ w "of" ∷ a
+    k.RightParenthesis ∷ a k.Semicolon ∷ [])
     (statements (for_of false (codes "of") (v "of") empty ∷ []))
 script_12 = record { well = search rules; spelled = search rules }
 
 -- for (const a = 1, b = 2; a; a, b) { break }
 script_13 : IsScript []
-    (reserved k.For "for" ∷ a k.LeftParenthesis ∷ reserved k.Const "const" ∷ w "a" ∷ a k.Assign ∷ d 1 ∷ a k.Comma ∷ w "b" ∷ a k.Assign ∷ d 2 ∷ a k.Semicolon ∷ w "a" ∷ a k.Semicolon ∷ w "a" ∷ a k.Comma ∷ w "b" ∷ a k.RightParenthesis ∷ a k.LeftBrace ∷ reserved k.Break "break" ∷ a k.RightBrace ∷ [])
+    (reserved k.For "for" ∷ a k.LeftParenthesis ∷ reserved k.Const "const" ∷ w "a" ∷ a k.Assign ∷ d 1 ∷ a k.Comma ∷ w
+    "b" ∷ a k.Assign ∷ d 2 ∷ a k.Semicolon ∷ w "a" ∷ a k.Semicolon ∷ w "a" ∷ a k.Comma ∷ w "b" ∷ a
+    k.RightParenthesis ∷ a k.LeftBrace ∷ reserved k.Break "break" ∷ a k.RightBrace ∷ [])
     (statements
     (for_lexical true
     (declarators
@@ -140,20 +148,29 @@ script_13 = record { well = search rules; spelled = search rules }
 
 -- for (;;) { if (a) continue; else break }
 script_14 : IsScript []
-    (reserved k.For "for" ∷ a k.LeftParenthesis ∷ a k.Semicolon ∷ a k.Semicolon ∷ a k.RightParenthesis ∷ a k.LeftBrace ∷ reserved k.If "if" ∷ a k.LeftParenthesis ∷ w "a" ∷ a k.RightParenthesis ∷ reserved k.Continue "continue" ∷ a k.Semicolon ∷ reserved k.Else "else" ∷ reserved k.Break "break" ∷ a k.RightBrace ∷ [])
+    (reserved k.For "for" ∷ a k.LeftParenthesis ∷ a k.Semicolon ∷ a k.Semicolon ∷ a k.RightParenthesis ∷ a k.LeftBrace ∷
+    reserved k.If "if" ∷ a k.LeftParenthesis ∷ w "a" ∷ a k.RightParenthesis ∷ reserved k.Continue "continue" ∷ a
+    k.Semicolon ∷ reserved k.Else "else" ∷ reserved k.Break "break" ∷ a k.RightBrace ∷ [])
     (statements (for omitted omitted omitted (block (statements (if_else (v "a") continue break ∷ []))) ∷ []))
 script_14 = record { well = search rules; spelled = search rules }
 
 -- for (a; b; ) while (c) do d; while (e) ;
 script_15 : IsScript []
-    (reserved k.For "for" ∷ a k.LeftParenthesis ∷ w "a" ∷ a k.Semicolon ∷ w "b" ∷ a k.Semicolon ∷ a k.RightParenthesis ∷ reserved k.While "while" ∷ a k.LeftParenthesis ∷ w "c" ∷ a k.RightParenthesis ∷ reserved k.Do "do" ∷ w "d" ∷ a k.Semicolon ∷ reserved k.While "while" ∷ a k.LeftParenthesis ∷ w "e" ∷ a k.RightParenthesis ∷ a k.Semicolon ∷ [])
+    (reserved k.For "for" ∷ a k.LeftParenthesis ∷ w "a" ∷ a k.Semicolon ∷ w "b" ∷ a k.Semicolon ∷ a k.RightParenthesis ∷
+    reserved k.While "while" ∷ a k.LeftParenthesis ∷ w "c" ∷ a k.RightParenthesis ∷ reserved k.Do "do" ∷ w "d" ∷ a
+    k.Semicolon ∷ reserved k.While "while" ∷ a k.LeftParenthesis ∷ w "e" ∷ a k.RightParenthesis ∷ a k.Semicolon ∷
+    [])
     (statements
     (for (present (v "a")) (present (v "b")) omitted (while (v "c") (do_while (expression (v "d")) (v "e"))) ∷ []))
 script_15 = record { well = search rules; spelled = search rules }
 
 -- let a; { let a; } function f(b,) { { let b; } return; return b }
 script_16 : IsScript []
-    (reserved k.Let "let" ∷ w "a" ∷ a k.Semicolon ∷ a k.LeftBrace ∷ reserved k.Let "let" ∷ w "a" ∷ a k.Semicolon ∷ a k.RightBrace ∷ reserved k.Function "function" ∷ w "f" ∷ a k.LeftParenthesis ∷ w "b" ∷ a k.Comma ∷ a k.RightParenthesis ∷ a k.LeftBrace ∷ a k.LeftBrace ∷ reserved k.Let "let" ∷ w "b" ∷ a k.Semicolon ∷ a k.RightBrace ∷ reserved k.Return "return" ∷ a k.Semicolon ∷ reserved k.Return "return" ∷ w "b" ∷ a k.RightBrace ∷ [])
+    (reserved k.Let "let" ∷ w "a" ∷ a k.Semicolon ∷ a k.LeftBrace ∷ reserved k.Let "let" ∷ w "a" ∷ a k.Semicolon ∷ a
+    k.RightBrace ∷ reserved k.Function "function" ∷ w "f" ∷ a k.LeftParenthesis ∷ w "b" ∷ a k.Comma ∷ a
+    k.RightParenthesis ∷ a k.LeftBrace ∷ a k.LeftBrace ∷ reserved k.Let "let" ∷ w "b" ∷ a k.Semicolon ∷ a
+    k.RightBrace ∷ reserved k.Return "return" ∷ a k.Semicolon ∷ reserved k.Return "return" ∷ w "b" ∷ a
+    k.RightBrace ∷ [])
     (statements
     (lexical false (declarators (declarator (codes "a") omitted ∷ [])) ∷ block
     (statements (lexical false (declarators (declarator (codes "a") omitted ∷ [])) ∷ [])) ∷ declared_function
@@ -166,7 +183,11 @@ script_16 = record { well = search rules; spelled = search rules }
 
 -- try { throw a } catch (e) { { let e; } } finally {} try {} catch { debugger }
 script_17 : IsScript []
-    (reserved k.Try "try" ∷ a k.LeftBrace ∷ reserved k.Throw "throw" ∷ w "a" ∷ a k.RightBrace ∷ reserved k.Catch "catch" ∷ a k.LeftParenthesis ∷ w "e" ∷ a k.RightParenthesis ∷ a k.LeftBrace ∷ a k.LeftBrace ∷ reserved k.Let "let" ∷ w "e" ∷ a k.Semicolon ∷ a k.RightBrace ∷ a k.RightBrace ∷ reserved k.Finally "finally" ∷ a k.LeftBrace ∷ a k.RightBrace ∷ reserved k.Try "try" ∷ a k.LeftBrace ∷ a k.RightBrace ∷ reserved k.Catch "catch" ∷ a k.LeftBrace ∷ reserved k.Debugger "debugger" ∷ a k.RightBrace ∷ [])
+    (reserved k.Try "try" ∷ a k.LeftBrace ∷ reserved k.Throw "throw" ∷ w "a" ∷ a k.RightBrace ∷ reserved k.Catch
+    "catch" ∷ a k.LeftParenthesis ∷ w "e" ∷ a k.RightParenthesis ∷ a k.LeftBrace ∷ a k.LeftBrace ∷ reserved k.Let
+    "let" ∷ w "e" ∷ a k.Semicolon ∷ a k.RightBrace ∷ a k.RightBrace ∷ reserved k.Finally "finally" ∷ a k.LeftBrace ∷
+    a k.RightBrace ∷ reserved k.Try "try" ∷ a k.LeftBrace ∷ a k.RightBrace ∷ reserved k.Catch "catch" ∷ a
+    k.LeftBrace ∷ reserved k.Debugger "debugger" ∷ a k.RightBrace ∷ [])
     (statements
     (try (statements (throw (v "a") ∷ []))
     (catch (Some (codes "e"))
@@ -184,7 +205,11 @@ script_18 = record { well = search rules; spelled = search rules }
 
 -- (a) = delete a.b; (a.if)[0]++; ++f().x; a += b -= 1
 script_19 : IsScript []
-    (a k.LeftParenthesis ∷ w "a" ∷ a k.RightParenthesis ∷ a k.Assign ∷ reserved k.Delete "delete" ∷ w "a" ∷ a k.Dot ∷ w "b" ∷ a k.Semicolon ∷ a k.LeftParenthesis ∷ w "a" ∷ a k.Dot ∷ reserved k.If "if" ∷ a k.RightParenthesis ∷ a k.LeftBracket ∷ d 0 ∷ a k.RightBracket ∷ a k.Increment ∷ a k.Semicolon ∷ a k.Increment ∷ w "f" ∷ a k.LeftParenthesis ∷ a k.RightParenthesis ∷ a k.Dot ∷ w "x" ∷ a k.Semicolon ∷ w "a" ∷ a k.AddAssign ∷ w "b" ∷ a k.SubtractAssign ∷ d 1 ∷ [])
+    (a k.LeftParenthesis ∷ w "a" ∷ a k.RightParenthesis ∷ a k.Assign ∷ reserved k.Delete "delete" ∷ w "a" ∷ a k.Dot ∷ w
+    "b" ∷ a k.Semicolon ∷ a k.LeftParenthesis ∷ w "a" ∷ a k.Dot ∷ reserved k.If "if" ∷ a k.RightParenthesis ∷ a
+    k.LeftBracket ∷ d 0 ∷ a k.RightBracket ∷ a k.Increment ∷ a k.Semicolon ∷ a k.Increment ∷ w "f" ∷ a
+    k.LeftParenthesis ∷ a k.RightParenthesis ∷ a k.Dot ∷ w "x" ∷ a k.Semicolon ∷ w "a" ∷ a k.AddAssign ∷ w "b" ∷ a
+    k.SubtractAssign ∷ d 1 ∷ [])
     (statements
     (expression (assign assigns.Assign (parenthesized (v "a")) (unary unaries.Delete (member (v "a") (codes "b"))))
     ∷ expression (postfix updates.Increment (index (parenthesized (member (v "a") (codes "if"))) (number 0)))
@@ -194,7 +219,11 @@ script_19 = record { well = search rules; spelled = search rules }
 
 -- {a, if: 1, 'c': 2, [d]: 3, 4() {}, e(x, y,) { return this; }, }
 expression_1 : IsExpression
-    (a k.LeftBrace ∷ w "a" ∷ a k.Comma ∷ reserved k.If "if" ∷ a k.Colon ∷ d 1 ∷ a k.Comma ∷ s "c" ∷ a k.Colon ∷ d 2 ∷ a k.Comma ∷ a k.LeftBracket ∷ w "d" ∷ a k.RightBracket ∷ a k.Colon ∷ d 3 ∷ a k.Comma ∷ d 4 ∷ a k.LeftParenthesis ∷ a k.RightParenthesis ∷ a k.LeftBrace ∷ a k.RightBrace ∷ a k.Comma ∷ w "e" ∷ a k.LeftParenthesis ∷ w "x" ∷ a k.Comma ∷ w "y" ∷ a k.Comma ∷ a k.RightParenthesis ∷ a k.LeftBrace ∷ reserved k.Return "return" ∷ reserved k.This "this" ∷ a k.Semicolon ∷ a k.RightBrace ∷ a k.Comma ∷ a k.RightBrace ∷ [])
+    (a k.LeftBrace ∷ w "a" ∷ a k.Comma ∷ reserved k.If "if" ∷ a k.Colon ∷ d 1 ∷ a k.Comma ∷ s "c" ∷ a k.Colon ∷ d 2 ∷ a
+    k.Comma ∷ a k.LeftBracket ∷ w "d" ∷ a k.RightBracket ∷ a k.Colon ∷ d 3 ∷ a k.Comma ∷ d 4 ∷ a k.LeftParenthesis ∷
+    a k.RightParenthesis ∷ a k.LeftBrace ∷ a k.RightBrace ∷ a k.Comma ∷ w "e" ∷ a k.LeftParenthesis ∷ w "x" ∷ a
+    k.Comma ∷ w "y" ∷ a k.Comma ∷ a k.RightParenthesis ∷ a k.LeftBrace ∷ reserved k.Return "return" ∷ reserved
+    k.This "this" ∷ a k.Semicolon ∷ a k.RightBrace ∷ a k.Comma ∷ a k.RightBrace ∷ [])
     (object (properties
     (shorthand (codes "a") ∷ value (word_key (codes "if")) (number 1) ∷ value (string_key (codes "c")) (number 2)
     ∷ value (computed_key (v "d")) (number 3) ∷ method (number_key 4) [] (statements []) ∷ method
@@ -203,7 +232,9 @@ expression_1 = record { well = search rules; spelled = search rules }
 
 -- f(a, 'b', [null, true, false,],)(), g
 expression_2 : IsExpression
-    (w "f" ∷ a k.LeftParenthesis ∷ w "a" ∷ a k.Comma ∷ s "b" ∷ a k.Comma ∷ a k.LeftBracket ∷ reserved k.Null "null" ∷ a k.Comma ∷ reserved k.True "true" ∷ a k.Comma ∷ reserved k.False "false" ∷ a k.Comma ∷ a k.RightBracket ∷ a k.Comma ∷ a k.RightParenthesis ∷ a k.LeftParenthesis ∷ a k.RightParenthesis ∷ a k.Comma ∷ w "g" ∷ [])
+    (w "f" ∷ a k.LeftParenthesis ∷ w "a" ∷ a k.Comma ∷ s "b" ∷ a k.Comma ∷ a k.LeftBracket ∷ reserved k.Null "null" ∷ a
+    k.Comma ∷ reserved k.True "true" ∷ a k.Comma ∷ reserved k.False "false" ∷ a k.Comma ∷ a k.RightBracket ∷ a
+    k.Comma ∷ a k.RightParenthesis ∷ a k.LeftParenthesis ∷ a k.RightParenthesis ∷ a k.Comma ∷ w "g" ∷ [])
     (comma (expressions
     (call (call (v "f")
     (expressions
@@ -213,7 +244,9 @@ expression_2 = record { well = search rules; spelled = search rules }
 
 -- a || b && c | d ^ e & f == g < h << i + j * k
 expression_3 : IsExpression
-    (w "a" ∷ a k.LogicalOr ∷ w "b" ∷ a k.LogicalAnd ∷ w "c" ∷ a k.BitwiseOr ∷ w "d" ∷ a k.BitwiseXor ∷ w "e" ∷ a k.BitwiseAnd ∷ w "f" ∷ a k.Equal ∷ w "g" ∷ a k.LessThan ∷ w "h" ∷ a k.LeftShift ∷ w "i" ∷ a k.Plus ∷ w "j" ∷ a k.Multiply ∷ w "k" ∷ [])
+    (w "a" ∷ a k.LogicalOr ∷ w "b" ∷ a k.LogicalAnd ∷ w "c" ∷ a k.BitwiseOr ∷ w "d" ∷ a k.BitwiseXor ∷ w "e" ∷ a
+    k.BitwiseAnd ∷ w "f" ∷ a k.Equal ∷ w "g" ∷ a k.LessThan ∷ w "h" ∷ a k.LeftShift ∷ w "i" ∷ a k.Plus ∷ w "j" ∷ a
+    k.Multiply ∷ w "k" ∷ [])
     (binary binaries.LogicalOr (v "a")
     (binary binaries.LogicalAnd (v "b")
     (binary binaries.BitwiseOr (v "c")
@@ -227,14 +260,16 @@ expression_3 = record { well = search rules; spelled = search rules }
 
 -- a - b - c % (d, e)
 expression_4 : IsExpression
-    (w "a" ∷ a k.Minus ∷ w "b" ∷ a k.Minus ∷ w "c" ∷ a k.Remainder ∷ a k.LeftParenthesis ∷ w "d" ∷ a k.Comma ∷ w "e" ∷ a k.RightParenthesis ∷ [])
+    (w "a" ∷ a k.Minus ∷ w "b" ∷ a k.Minus ∷ w "c" ∷ a k.Remainder ∷ a k.LeftParenthesis ∷ w "d" ∷ a k.Comma ∷ w "e" ∷ a
+    k.RightParenthesis ∷ [])
     (binary binaries.Subtract (binary binaries.Subtract (v "a") (v "b"))
     (binary binaries.Remainder (v "c") (parenthesized (comma (expressions (v "d" ∷ v "e" ∷ []))))))
 expression_4 = record { well = search rules; spelled = search rules }
 
 -- - ! ~ typeof void a.b ++
 expression_5 : IsExpression
-    (a k.Minus ∷ a k.LogicalNot ∷ a k.BitwiseNot ∷ reserved k.Typeof "typeof" ∷ reserved k.Void "void" ∷ w "a" ∷ a k.Dot ∷ w "b" ∷ a k.Increment ∷ [])
+    (a k.Minus ∷ a k.LogicalNot ∷ a k.BitwiseNot ∷ reserved k.Typeof "typeof" ∷ reserved k.Void "void" ∷ w "a" ∷ a
+    k.Dot ∷ w "b" ∷ a k.Increment ∷ [])
     (unary unaries.Minus
     (unary unaries.LogicalNot
     (unary unaries.BitwiseNot
@@ -243,7 +278,8 @@ expression_5 = record { well = search rules; spelled = search rules }
 
 -- a ? b : c = d ? (e) : f => { }
 expression_6 : IsExpression
-    (w "a" ∷ a k.Question ∷ w "b" ∷ a k.Colon ∷ w "c" ∷ a k.Assign ∷ w "d" ∷ a k.Question ∷ a k.LeftParenthesis ∷ w "e" ∷ a k.RightParenthesis ∷ a k.Colon ∷ w "f" ∷ a k.Arrow ∷ a k.LeftBrace ∷ a k.RightBrace ∷ [])
+    (w "a" ∷ a k.Question ∷ w "b" ∷ a k.Colon ∷ w "c" ∷ a k.Assign ∷ w "d" ∷ a k.Question ∷ a k.LeftParenthesis ∷ w
+    "e" ∷ a k.RightParenthesis ∷ a k.Colon ∷ w "f" ∷ a k.Arrow ∷ a k.LeftBrace ∷ a k.RightBrace ∷ [])
     (conditional (v "a") (v "b")
     (assign assigns.Assign (v "c")
     (conditional (v "d") (parenthesized (v "e")) (arrow_block (one_name (codes "f")) (statements [])))))
@@ -251,13 +287,15 @@ expression_6 = record { well = search rules; spelled = search rules }
 
 -- x => () => (y, z) => x
 expression_7 : IsExpression
-    (w "x" ∷ a k.Arrow ∷ a k.LeftParenthesis ∷ a k.RightParenthesis ∷ a k.Arrow ∷ a k.LeftParenthesis ∷ w "y" ∷ a k.Comma ∷ w "z" ∷ a k.RightParenthesis ∷ a k.Arrow ∷ w "x" ∷ [])
+    (w "x" ∷ a k.Arrow ∷ a k.LeftParenthesis ∷ a k.RightParenthesis ∷ a k.Arrow ∷ a k.LeftParenthesis ∷ w "y" ∷ a
+    k.Comma ∷ w "z" ∷ a k.RightParenthesis ∷ a k.Arrow ∷ w "x" ∷ [])
     (arrow (one_name (codes "x")) (arrow (name_list []) (arrow (name_list ((codes "y") ∷ (codes "z") ∷ [])) (v "x"))))
 expression_7 = record { well = search rules; spelled = search rules }
 
 -- function f(a) { return f; }
 expression_8 : IsExpression
-    (reserved k.Function "function" ∷ w "f" ∷ a k.LeftParenthesis ∷ w "a" ∷ a k.RightParenthesis ∷ a k.LeftBrace ∷ reserved k.Return "return" ∷ w "f" ∷ a k.Semicolon ∷ a k.RightBrace ∷ [])
+    (reserved k.Function "function" ∷ w "f" ∷ a k.LeftParenthesis ∷ w "a" ∷ a k.RightParenthesis ∷ a k.LeftBrace ∷
+    reserved k.Return "return" ∷ w "f" ∷ a k.Semicolon ∷ a k.RightBrace ∷ [])
     (function (Some (codes "f")) ((codes "a") ∷ []) (statements (return (present (v "f")) ∷ [])))
 expression_8 = record { well = search rules; spelled = search rules }
 
@@ -318,7 +356,8 @@ no_script_7 h = cc
 
 -- let a = 1; let a = 2;
 no_script_8 : IsScript []
-    (reserved k.Let "let" ∷ w "a" ∷ a k.Assign ∷ d 1 ∷ a k.Semicolon ∷ reserved k.Let "let" ∷ w "a" ∷ a k.Assign ∷ d 2 ∷ a k.Semicolon ∷ [])
+    (reserved k.Let "let" ∷ w "a" ∷ a k.Assign ∷ d 1 ∷ a k.Semicolon ∷ reserved k.Let "let" ∷ w "a" ∷ a k.Assign ∷ d 2 ∷
+    a k.Semicolon ∷ [])
     (statements
     (lexical false (declarators (declarator (codes "a") (present (number 1)) ∷ [])) ∷ lexical false
     (declarators (declarator (codes "a") (present (number 2)) ∷ [])) ∷ []))
@@ -327,7 +366,8 @@ no_script_8 h = cc
 
 -- let a; function a() {}
 no_script_9 : IsScript []
-    (reserved k.Let "let" ∷ w "a" ∷ a k.Semicolon ∷ reserved k.Function "function" ∷ w "a" ∷ a k.LeftParenthesis ∷ a k.RightParenthesis ∷ a k.LeftBrace ∷ a k.RightBrace ∷ [])
+    (reserved k.Let "let" ∷ w "a" ∷ a k.Semicolon ∷ reserved k.Function "function" ∷ w "a" ∷ a k.LeftParenthesis ∷ a
+    k.RightParenthesis ∷ a k.LeftBrace ∷ a k.RightBrace ∷ [])
     (statements
     (lexical false (declarators (declarator (codes "a") omitted ∷ [])) ∷ declared_function (codes "a") []
     (statements []) ∷ []))
@@ -336,14 +376,16 @@ no_script_9 h = cc
 
 -- if (a) b else c
 no_script_10 : IsScript []
-    (reserved k.If "if" ∷ a k.LeftParenthesis ∷ w "a" ∷ a k.RightParenthesis ∷ w "b" ∷ reserved k.Else "else" ∷ w "c" ∷ [])
+    (reserved k.If "if" ∷ a k.LeftParenthesis ∷ w "a" ∷ a k.RightParenthesis ∷ w "b" ∷ reserved k.Else "else" ∷ w "c" ∷
+    [])
     (statements (if_else (v "a") (expression (v "b")) (expression (v "c")) ∷ []))
     → ⊥
 no_script_10 h = grind arith
 
 -- if (a) if (b) c; else d: the else goes with the nearest if
 no_script_11 : IsScript []
-    (reserved k.If "if" ∷ a k.LeftParenthesis ∷ w "a" ∷ a k.RightParenthesis ∷ reserved k.If "if" ∷ a k.LeftParenthesis ∷ w "b" ∷ a k.RightParenthesis ∷ w "c" ∷ a k.Semicolon ∷ reserved k.Else "else" ∷ w "d" ∷ [])
+    (reserved k.If "if" ∷ a k.LeftParenthesis ∷ w "a" ∷ a k.RightParenthesis ∷ reserved k.If "if" ∷ a
+    k.LeftParenthesis ∷ w "b" ∷ a k.RightParenthesis ∷ w "c" ∷ a k.Semicolon ∷ reserved k.Else "else" ∷ w "d" ∷ [])
     (statements (if_else (v "a") (if_then (v "b") (expression (v "c"))) (expression (v "d")) ∷ []))
     → ⊥
 no_script_11 h = cc
@@ -357,7 +399,8 @@ no_script_12 h = cc
 
 -- while (0) function f() {}
 no_script_13 : IsScript []
-    (reserved k.While "while" ∷ a k.LeftParenthesis ∷ d 0 ∷ a k.RightParenthesis ∷ reserved k.Function "function" ∷ w "f" ∷ a k.LeftParenthesis ∷ a k.RightParenthesis ∷ a k.LeftBrace ∷ a k.RightBrace ∷ [])
+    (reserved k.While "while" ∷ a k.LeftParenthesis ∷ d 0 ∷ a k.RightParenthesis ∷ reserved k.Function "function" ∷ w
+    "f" ∷ a k.LeftParenthesis ∷ a k.RightParenthesis ∷ a k.LeftBrace ∷ a k.RightBrace ∷ [])
     (statements (while (number 0) (declared_function (codes "f") [] (statements [])) ∷ []))
     → ⊥
 no_script_13 h = cc
@@ -378,14 +421,16 @@ no_script_15 h = cc
 
 -- for (const a;;) ;
 no_script_16 : IsScript []
-    (reserved k.For "for" ∷ a k.LeftParenthesis ∷ reserved k.Const "const" ∷ w "a" ∷ a k.Semicolon ∷ a k.Semicolon ∷ a k.RightParenthesis ∷ a k.Semicolon ∷ [])
+    (reserved k.For "for" ∷ a k.LeftParenthesis ∷ reserved k.Const "const" ∷ w "a" ∷ a k.Semicolon ∷ a k.Semicolon ∷ a
+    k.RightParenthesis ∷ a k.Semicolon ∷ [])
     (statements (for_lexical true (declarators (declarator (codes "a") omitted ∷ [])) omitted omitted empty ∷ []))
     → ⊥
 no_script_16 h = cc
 
 -- for (let a, a;;) ;
 no_script_17 : IsScript []
-    (reserved k.For "for" ∷ a k.LeftParenthesis ∷ reserved k.Let "let" ∷ w "a" ∷ a k.Comma ∷ w "a" ∷ a k.Semicolon ∷ a k.Semicolon ∷ a k.RightParenthesis ∷ a k.Semicolon ∷ [])
+    (reserved k.For "for" ∷ a k.LeftParenthesis ∷ reserved k.Let "let" ∷ w "a" ∷ a k.Comma ∷ w "a" ∷ a k.Semicolon ∷ a
+    k.Semicolon ∷ a k.RightParenthesis ∷ a k.Semicolon ∷ [])
     (statements
     (for_lexical false (declarators (declarator (codes "a") omitted ∷ declarator (codes "a") omitted ∷ []))
     omitted omitted empty ∷ []))
@@ -404,7 +449,9 @@ no_script_19 h = cc
 
 -- for (;;) { () => { break; } }: the loop is outside of the function
 no_script_20 : IsScript []
-    (reserved k.For "for" ∷ a k.LeftParenthesis ∷ a k.Semicolon ∷ a k.Semicolon ∷ a k.RightParenthesis ∷ a k.LeftBrace ∷ a k.LeftParenthesis ∷ a k.RightParenthesis ∷ a k.Arrow ∷ a k.LeftBrace ∷ reserved k.Break "break" ∷ a k.Semicolon ∷ a k.RightBrace ∷ a k.RightBrace ∷ [])
+    (reserved k.For "for" ∷ a k.LeftParenthesis ∷ a k.Semicolon ∷ a k.Semicolon ∷ a k.RightParenthesis ∷ a k.LeftBrace ∷
+    a k.LeftParenthesis ∷ a k.RightParenthesis ∷ a k.Arrow ∷ a k.LeftBrace ∷ reserved k.Break "break" ∷ a
+    k.Semicolon ∷ a k.RightBrace ∷ a k.RightBrace ∷ [])
     (statements
     (for omitted omitted omitted
     (block (statements (expression (arrow_block (name_list []) (statements (break ∷ []))) ∷ []))) ∷ []))
@@ -419,7 +466,8 @@ no_script_21 h = cc
 
 -- try {} catch (e) { let e; }
 no_script_22 : IsScript []
-    (reserved k.Try "try" ∷ a k.LeftBrace ∷ a k.RightBrace ∷ reserved k.Catch "catch" ∷ a k.LeftParenthesis ∷ w "e" ∷ a k.RightParenthesis ∷ a k.LeftBrace ∷ reserved k.Let "let" ∷ w "e" ∷ a k.Semicolon ∷ a k.RightBrace ∷ [])
+    (reserved k.Try "try" ∷ a k.LeftBrace ∷ a k.RightBrace ∷ reserved k.Catch "catch" ∷ a k.LeftParenthesis ∷ w "e" ∷ a
+    k.RightParenthesis ∷ a k.LeftBrace ∷ reserved k.Let "let" ∷ w "e" ∷ a k.Semicolon ∷ a k.RightBrace ∷ [])
     (statements
     (try (statements [])
     (catch (Some (codes "e"))
@@ -430,7 +478,8 @@ no_script_22 h = cc
 
 -- function f(a) { let a; }
 no_script_23 : IsScript []
-    (reserved k.Function "function" ∷ w "f" ∷ a k.LeftParenthesis ∷ w "a" ∷ a k.RightParenthesis ∷ a k.LeftBrace ∷ reserved k.Let "let" ∷ w "a" ∷ a k.Semicolon ∷ a k.RightBrace ∷ [])
+    (reserved k.Function "function" ∷ w "f" ∷ a k.LeftParenthesis ∷ w "a" ∷ a k.RightParenthesis ∷ a k.LeftBrace ∷
+    reserved k.Let "let" ∷ w "a" ∷ a k.Semicolon ∷ a k.RightBrace ∷ [])
     (statements
     (declared_function (codes "f") ((codes "a") ∷ [])
     (statements (lexical false (declarators (declarator (codes "a") omitted ∷ [])) ∷ [])) ∷ []))
@@ -445,7 +494,8 @@ no_script_24 h = cc
 
 -- function f() {}: a declaration, no expression
 no_script_25 : IsScript []
-    (reserved k.Function "function" ∷ w "f" ∷ a k.LeftParenthesis ∷ a k.RightParenthesis ∷ a k.LeftBrace ∷ a k.RightBrace ∷ [])
+    (reserved k.Function "function" ∷ w "f" ∷ a k.LeftParenthesis ∷ a k.RightParenthesis ∷ a k.LeftBrace ∷ a
+    k.RightBrace ∷ [])
     (statements (expression (function (Some (codes "f")) [] (statements [])) ∷ []))
     → ⊥
 no_script_25 h = cc

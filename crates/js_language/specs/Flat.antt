@@ -259,15 +259,19 @@ abbrev mutual
   flat_statement (if_then e s) =
       in_order (a kinds.If ∷ a kinds.LeftParenthesis ∷ flat e ∷ a kinds.RightParenthesis ∷ flat_statement s ∷ [])
   flat_statement (if_else e s t) =
-      in_order (a kinds.If ∷ a kinds.LeftParenthesis ∷ flat e ∷ a kinds.RightParenthesis ∷ flat_statement s ∷ a kinds.Else ∷ flat_statement t ∷ [])
+      in_order (a kinds.If ∷ a kinds.LeftParenthesis ∷ flat e ∷ a kinds.RightParenthesis ∷ flat_statement s ∷ a
+      kinds.Else ∷ flat_statement t ∷ [])
   flat_statement (do_while s e) =
-      in_order (a kinds.Do ∷ flat_statement s ∷ a kinds.While ∷ a kinds.LeftParenthesis ∷ flat e ∷ a kinds.RightParenthesis ∷ ends after_do ∷ [])
+      in_order (a kinds.Do ∷ flat_statement s ∷ a kinds.While ∷ a kinds.LeftParenthesis ∷ flat e ∷ a
+      kinds.RightParenthesis ∷ ends after_do ∷ [])
   flat_statement (while e s) =
       in_order (a kinds.While ∷ a kinds.LeftParenthesis ∷ flat e ∷ a kinds.RightParenthesis ∷ flat_statement s ∷ [])
   flat_statement (for i t u s) =
-      in_order (a kinds.For ∷ a kinds.LeftParenthesis ∷ flat_optional i ∷ a kinds.Semicolon ∷ flat_optional t ∷ a kinds.Semicolon ∷ flat_optional u ∷ a kinds.RightParenthesis ∷ flat_statement s ∷ [])
+      in_order (a kinds.For ∷ a kinds.LeftParenthesis ∷ flat_optional i ∷ a kinds.Semicolon ∷ flat_optional t ∷ a
+      kinds.Semicolon ∷ flat_optional u ∷ a kinds.RightParenthesis ∷ flat_statement s ∷ [])
   flat_statement (for_lexical c ds t u s) =
-      in_order (a kinds.For ∷ a kinds.LeftParenthesis ∷ let_or_const c ∷ flat_declarators ds ∷ a kinds.Semicolon ∷ flat_optional t ∷ a kinds.Semicolon ∷ flat_optional u ∷ a kinds.RightParenthesis ∷ flat_statement s ∷ [])
+      in_order (a kinds.For ∷ a kinds.LeftParenthesis ∷ let_or_const c ∷ flat_declarators ds ∷ a kinds.Semicolon ∷
+      flat_optional t ∷ a kinds.Semicolon ∷ flat_optional u ∷ a kinds.RightParenthesis ∷ flat_statement s ∷ [])
   flat_statement (for_of c n e s) =
       in_order (a kinds.For ∷ a kinds.LeftParenthesis ∷ let_or_const c ∷ an_identifier n ∷ an_identifier (codes "of")
       ∷ flat e ∷ a kinds.RightParenthesis ∷ flat_statement s ∷ [])

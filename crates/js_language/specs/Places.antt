@@ -246,77 +246,88 @@ unfoldable pub expression_places : Expr → List Place
 expression_places =
     fold-Expr (List Place) (List Place) (List Place) (List Place) (List Place) (List Place) (List Place) (List Place)
     (List Place) (List Place) (List Place)
-    expression_pieces property_pieces key_pieces statement_pieces block_pieces catch_pieces declarator_pieces declarators_pieces expressions_pieces properties_pieces statements_pieces
+    expression_pieces property_pieces key_pieces statement_pieces block_pieces catch_pieces declarator_pieces
+    declarators_pieces expressions_pieces properties_pieces statements_pieces
 
 -- the places of a member of an object literal
 unfoldable pub property_places : PropertyDefinition → List Place
 property_places =
     fold-PropertyDefinition (List Place) (List Place) (List Place) (List Place) (List Place) (List Place) (List Place)
     (List Place) (List Place) (List Place) (List Place)
-    expression_pieces property_pieces key_pieces statement_pieces block_pieces catch_pieces declarator_pieces declarators_pieces expressions_pieces properties_pieces statements_pieces
+    expression_pieces property_pieces key_pieces statement_pieces block_pieces catch_pieces declarator_pieces
+    declarators_pieces expressions_pieces properties_pieces statements_pieces
 
 -- the places of the key of a member
 unfoldable pub key_places : PropertyName → List Place
 key_places =
     fold-PropertyName (List Place) (List Place) (List Place) (List Place) (List Place) (List Place) (List Place)
     (List Place) (List Place) (List Place) (List Place)
-    expression_pieces property_pieces key_pieces statement_pieces block_pieces catch_pieces declarator_pieces declarators_pieces expressions_pieces properties_pieces statements_pieces
+    expression_pieces property_pieces key_pieces statement_pieces block_pieces catch_pieces declarator_pieces
+    declarators_pieces expressions_pieces properties_pieces statements_pieces
 
 -- the places of a statement or declaration
 unfoldable pub statement_places : Stmt → List Place
 statement_places =
     fold-Stmt (List Place) (List Place) (List Place) (List Place) (List Place) (List Place) (List Place) (List Place)
     (List Place) (List Place) (List Place)
-    expression_pieces property_pieces key_pieces statement_pieces block_pieces catch_pieces declarator_pieces declarators_pieces expressions_pieces properties_pieces statements_pieces
+    expression_pieces property_pieces key_pieces statement_pieces block_pieces catch_pieces declarator_pieces
+    declarators_pieces expressions_pieces properties_pieces statements_pieces
 
 -- the places of a block
 unfoldable pub block_places : Block → List Place
 block_places =
     fold-Block (List Place) (List Place) (List Place) (List Place) (List Place) (List Place) (List Place) (List Place)
     (List Place) (List Place) (List Place)
-    expression_pieces property_pieces key_pieces statement_pieces block_pieces catch_pieces declarator_pieces declarators_pieces expressions_pieces properties_pieces statements_pieces
+    expression_pieces property_pieces key_pieces statement_pieces block_pieces catch_pieces declarator_pieces
+    declarators_pieces expressions_pieces properties_pieces statements_pieces
 
 -- the places of a catch
 unfoldable pub catch_places : Catch → List Place
 catch_places =
     fold-Catch (List Place) (List Place) (List Place) (List Place) (List Place) (List Place) (List Place) (List Place)
     (List Place) (List Place) (List Place)
-    expression_pieces property_pieces key_pieces statement_pieces block_pieces catch_pieces declarator_pieces declarators_pieces expressions_pieces properties_pieces statements_pieces
+    expression_pieces property_pieces key_pieces statement_pieces block_pieces catch_pieces declarator_pieces
+    declarators_pieces expressions_pieces properties_pieces statements_pieces
 
 -- the places of a declarator
 unfoldable pub declarator_places : Declarator → List Place
 declarator_places =
     fold-Declarator (List Place) (List Place) (List Place) (List Place) (List Place) (List Place) (List Place)
     (List Place) (List Place) (List Place) (List Place)
-    expression_pieces property_pieces key_pieces statement_pieces block_pieces catch_pieces declarator_pieces declarators_pieces expressions_pieces properties_pieces statements_pieces
+    expression_pieces property_pieces key_pieces statement_pieces block_pieces catch_pieces declarator_pieces
+    declarators_pieces expressions_pieces properties_pieces statements_pieces
 
 -- the places of the declarators of a declaration
 unfoldable pub declarators_places : Declarators → List Place
 declarators_places =
     fold-Declarators (List Place) (List Place) (List Place) (List Place) (List Place) (List Place) (List Place)
     (List Place) (List Place) (List Place) (List Place)
-    expression_pieces property_pieces key_pieces statement_pieces block_pieces catch_pieces declarator_pieces declarators_pieces expressions_pieces properties_pieces statements_pieces
+    expression_pieces property_pieces key_pieces statement_pieces block_pieces catch_pieces declarator_pieces
+    declarators_pieces expressions_pieces properties_pieces statements_pieces
 
 -- the places of a list of expressions
 unfoldable pub expressions_places : Exprs → List Place
 expressions_places =
     fold-Exprs (List Place) (List Place) (List Place) (List Place) (List Place) (List Place) (List Place) (List Place)
     (List Place) (List Place) (List Place)
-    expression_pieces property_pieces key_pieces statement_pieces block_pieces catch_pieces declarator_pieces declarators_pieces expressions_pieces properties_pieces statements_pieces
+    expression_pieces property_pieces key_pieces statement_pieces block_pieces catch_pieces declarator_pieces
+    declarators_pieces expressions_pieces properties_pieces statements_pieces
 
 -- the places of the members of an object literal
 unfoldable pub properties_places : PropertyDefinitions → List Place
 properties_places =
     fold-PropertyDefinitions (List Place) (List Place) (List Place) (List Place) (List Place) (List Place) (List Place)
     (List Place) (List Place) (List Place) (List Place)
-    expression_pieces property_pieces key_pieces statement_pieces block_pieces catch_pieces declarator_pieces declarators_pieces expressions_pieces properties_pieces statements_pieces
+    expression_pieces property_pieces key_pieces statement_pieces block_pieces catch_pieces declarator_pieces
+    declarators_pieces expressions_pieces properties_pieces statements_pieces
 
 -- the places of a list of statements
 unfoldable pub statements_places : Stmts → List Place
 statements_places =
     fold-Stmts (List Place) (List Place) (List Place) (List Place) (List Place) (List Place) (List Place) (List Place)
     (List Place) (List Place) (List Place)
-    expression_pieces property_pieces key_pieces statement_pieces block_pieces catch_pieces declarator_pieces declarators_pieces expressions_pieces properties_pieces statements_pieces
+    expression_pieces property_pieces key_pieces statement_pieces block_pieces catch_pieces declarator_pieces
+    declarators_pieces expressions_pieces properties_pieces statements_pieces
 
 -- the places of an expression that may be left out
 abbrev pub optional_places : Option Expr → List Place

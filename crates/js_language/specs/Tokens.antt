@@ -3,7 +3,8 @@ use Rattle.std.specs.Prelude.{◌≡◌, ◌⊎◌, ℕ, Bool, true, false, not,
 use Rattle.js_lexer.specs.declared.token.TokenKind.{TokenKind}
 use Rattle.js_lexer.specs.declared.token.TokenKind.TheVariants as kinds
 
--- A token of a source. Its string value is that of a word or a string literal (ECMA-262, 13.1.2 and 12.9.4.2), its numeric value that of a number (12.9.3.3); it stands from start up to end.
+-- A token of a source. Its string value is that of a word or a string literal (ECMA-262, 13.1.2 and 12.9.4.2), its
+-- numeric value that of a number (12.9.3.3); it stands from start up to end.
 pub record Token : Type 0 where
   pub kind : TokenKind
   pub string_value : List ℕ
@@ -14,7 +15,8 @@ pub record Token : Type 0 where
 
 -- ---- symbols
 
--- The terminal symbols of the grammar. A fixed one is a punctuator or a reserved word; an identifier is a name that isn't reserved, an identifier name any name or reserved word (12.7).
+-- The terminal symbols of the grammar. A fixed one is a punctuator or a reserved word; an identifier is a name that
+-- isn't reserved, an identifier name any name or reserved word (12.7).
 pub data Symbol : Type 0 where
   fixed : TokenKind → Symbol
   identifier : List ℕ → Symbol
@@ -151,7 +153,9 @@ pub data End : Type 0 where
   -- the ) of a do
   after_do : End
 
--- A token that goes on with an expression which ends so, also on a new line. The project's own: of all tokens that ECMA-262 lets go on there, these are the ones that could begin a statement too. After an arrow function's braces none does (15.3), and neither call nor key follows a postfix operator (13.4).
+-- A token that goes on with an expression which ends so, also on a new line. The project's own: of all tokens that
+-- ECMA-262 lets go on there, these are the ones that could begin a statement too. After an arrow function's braces none
+-- does (15.3), and neither call nor key follows a postfix operator (13.4).
 abbrev pub continues : Edge → TokenKind → Bool
 continues plain kinds.LeftParenthesis = true
 continues plain kinds.LeftBracket = true
@@ -161,7 +165,8 @@ continues update kinds.Plus = true
 continues update kinds.Minus = true
 continues _ _ = false
 
--- Whether the semicolon of a statement that ends so may be absent before a token of this kind, with or without a line terminator between.
+-- Whether the semicolon of a statement that ends so may be absent before a token of this kind, with or without a line
+-- terminator between.
 abbrev pub absent_before : End → TokenKind → Bool → Bool
 -- the project's own: where a semicolon stands, it is the statement's
 absent_before end kinds.Semicolon line = false

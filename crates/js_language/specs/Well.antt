@@ -95,7 +95,8 @@ is_target (index e k) = true
 is_target (parenthesized e) = is_target e
 is_target _ = false
 
--- an operand that the operator takes: that of delete is a property; the project's own, ECMA-262 (13.5.1) also lets values through
+-- an operand that the operator takes: that of delete is a property; the project's own, ECMA-262 (13.5.1) also lets
+-- values through
 abbrev pub takes : UnaryOperator → Expression → Bool
 takes unaries.Delete e = is_property e
 takes _ e = true

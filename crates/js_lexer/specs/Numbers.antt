@@ -20,7 +20,8 @@ abbrev pub is_decimal : List ℕ → Bool
 is_decimal [] = false
 is_decimal (d ∷ ds) = are_digits 10 (d ∷ ds) && (not (d == 48) || (length ds == 0))
 
--- the base that the letter after a 0 names (12.9.3, HexIntegerLiteral, OctalIntegerLiteral, BinaryIntegerLiteral): x or X, o or O, b or B; 10 for any other unit
+-- the base that the letter after a 0 names (12.9.3, HexIntegerLiteral, OctalIntegerLiteral, BinaryIntegerLiteral): x or
+-- X, o or O, b or B; 10 for any other unit
 abbrev pub base_of : ℕ → ℕ
 base_of c =
     if (c == 120) || (c == 88) then 16

@@ -18,7 +18,8 @@ abbrev pub behind : (ℕ → ℕ) → ℕ → ℕ
 behind go zero = 0
 behind go (suc n) = suc (go n)
 
--- how long the run of pieces at the front is, where so many units of its first piece are still to be passed; `piece` says how long the piece at the front is, 0 for none
+-- how long the run of pieces at the front is, where so many units of its first piece are still to be passed; `piece`
+-- says how long the piece at the front is, 0 for none
 abbrev pub run : (List ℕ → ℕ) → ℕ → List ℕ → ℕ
 run piece k [] = 0
 run piece zero (u ∷ us) = behind (λ n. run piece n us) (piece (u ∷ us))

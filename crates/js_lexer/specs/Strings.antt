@@ -29,7 +29,8 @@ single_value c =
     else (if c == 114 then 13
     else c)))))
 
--- a character of a string literal in this quote (12.9.4, DoubleStringCharacter and SingleStringCharacter): its text, the code point that it stands for, if any, and what comes after it
+-- a character of a string literal in this quote (12.9.4, DoubleStringCharacter and SingleStringCharacter): its text,
+-- the code point that it stands for, if any, and what comes after it
 pub data IsCharacter (quote : ℕ) (text : List ℕ) (value : Option ℕ) (next : List ℕ) : Type 0 where
   -- a unit that stands for itself, also U+2028 and U+2029
   plain : (c : ℕ) → text ≡ c ∷ [] → value ≡ Some c → is_plain quote c ≡ true → IsCharacter quote text value next

@@ -55,7 +55,8 @@ pub record StandsAt (at : ℕ) (gap : List ℕ) (token : Lent) (more : List ℕ)
   pub newline_before : token.newline_before ≡ has_line_terminator gap
   pub longest : IsLongest token.kind token.text more
 
--- these tokens, or at last the place of a bad one, tile the units with the gaps between them; the units begin at this place of the source
+-- these tokens, or at last the place of a bad one, tile the units with the gaps between them; the units begin at this
+-- place of the source
 abbrev pub Tile : ℕ → List ℕ → List (Result Lent ℕ) → Type 0
 Tile at us [] = IsGap us []
 Tile at us (Ok t ∷ ts) =

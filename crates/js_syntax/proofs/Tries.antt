@@ -38,7 +38,8 @@ script_2 = refl
 
 -- do ; while (0) 1
 script_3 : p.parse_script 20 []
-    (reserved k.Do "do" ∷ a k.Semicolon ∷ reserved k.While "while" ∷ a k.LeftParenthesis ∷ d 0 ∷ a k.RightParenthesis ∷ d 1 ∷ [])
+    (reserved k.Do "do" ∷ a k.Semicolon ∷ reserved k.While "while" ∷ a k.LeftParenthesis ∷ d 0 ∷ a k.RightParenthesis ∷
+    d 1 ∷ [])
     ≡ Ok (statements (do_while empty (number 0) ∷ expression (number 1) ∷ []))
 unfolding p.parse_script p.parse_expression p.parse_function p.below p.item p.declaration_at p.lexical_at p.statement
     p.try_at p.finalizer_at p.handler_at p.for_at p.if_at p.expression p.assignment p.joined p.arrow_of_list
@@ -138,7 +139,8 @@ script_9 = refl
 
 -- if (a) if (b) c; else d
 script_10 : p.parse_script 20 []
-    (reserved k.If "if" ∷ a k.LeftParenthesis ∷ w "a" ∷ a k.RightParenthesis ∷ reserved k.If "if" ∷ a k.LeftParenthesis ∷ w "b" ∷ a k.RightParenthesis ∷ w "c" ∷ a k.Semicolon ∷ reserved k.Else "else" ∷ w "d" ∷ [])
+    (reserved k.If "if" ∷ a k.LeftParenthesis ∷ w "a" ∷ a k.RightParenthesis ∷ reserved k.If "if" ∷ a
+    k.LeftParenthesis ∷ w "b" ∷ a k.RightParenthesis ∷ w "c" ∷ a k.Semicolon ∷ reserved k.Else "else" ∷ w "d" ∷ [])
     ≡ Ok (statements (if_then (v "a") (if_else (v "b") (expression (v "c")) (expression (v "d"))) ∷ []))
 unfolding p.parse_script p.parse_expression p.parse_function p.below p.item p.declaration_at p.lexical_at p.statement
     p.try_at p.finalizer_at p.handler_at p.for_at p.if_at p.expression p.assignment p.joined p.arrow_of_list
@@ -150,7 +152,9 @@ script_10 = refl
 
 -- if (a) { if (b) c; } else d
 script_11 : p.parse_script 20 []
-    (reserved k.If "if" ∷ a k.LeftParenthesis ∷ w "a" ∷ a k.RightParenthesis ∷ a k.LeftBrace ∷ reserved k.If "if" ∷ a k.LeftParenthesis ∷ w "b" ∷ a k.RightParenthesis ∷ w "c" ∷ a k.Semicolon ∷ a k.RightBrace ∷ reserved k.Else "else" ∷ w "d" ∷ [])
+    (reserved k.If "if" ∷ a k.LeftParenthesis ∷ w "a" ∷ a k.RightParenthesis ∷ a k.LeftBrace ∷ reserved k.If "if" ∷ a
+    k.LeftParenthesis ∷ w "b" ∷ a k.RightParenthesis ∷ w "c" ∷ a k.Semicolon ∷ a k.RightBrace ∷ reserved k.Else
+    "else" ∷ w "d" ∷ [])
     ≡ Ok (statements
     (if_else (v "a") (block (statements (if_then (v "b") (expression (v "c")) ∷ []))) (expression (v "d")) ∷ []))
 unfolding p.parse_script p.parse_expression p.parse_function p.below p.item p.declaration_at p.lexical_at p.statement
@@ -163,7 +167,8 @@ script_11 = refl
 
 -- for (let of of of) ;
 script_12 : p.parse_script 20 []
-    (reserved k.For "for" ∷ a k.LeftParenthesis ∷ reserved k.Let "let" ∷ w "of" ∷ w "of" ∷ w "of" ∷ a k.RightParenthesis ∷ a k.Semicolon ∷ [])
+    (reserved k.For "for" ∷ a k.LeftParenthesis ∷ reserved k.Let "let" ∷ w "of" ∷ w "of" ∷ w "of" ∷ a
+    k.RightParenthesis ∷ a k.Semicolon ∷ [])
     ≡ Ok (statements (for_of false (codes "of") (v "of") empty ∷ []))
 unfolding p.parse_script p.parse_expression p.parse_function p.below p.item p.declaration_at p.lexical_at p.statement
     p.try_at p.finalizer_at p.handler_at p.for_at p.if_at p.expression p.assignment p.joined p.arrow_of_list
@@ -175,7 +180,9 @@ script_12 = refl
 
 -- for (const a = 1, b = 2; a; a, b) { break }
 script_13 : p.parse_script 20 []
-    (reserved k.For "for" ∷ a k.LeftParenthesis ∷ reserved k.Const "const" ∷ w "a" ∷ a k.Assign ∷ d 1 ∷ a k.Comma ∷ w "b" ∷ a k.Assign ∷ d 2 ∷ a k.Semicolon ∷ w "a" ∷ a k.Semicolon ∷ w "a" ∷ a k.Comma ∷ w "b" ∷ a k.RightParenthesis ∷ a k.LeftBrace ∷ reserved k.Break "break" ∷ a k.RightBrace ∷ [])
+    (reserved k.For "for" ∷ a k.LeftParenthesis ∷ reserved k.Const "const" ∷ w "a" ∷ a k.Assign ∷ d 1 ∷ a k.Comma ∷ w
+    "b" ∷ a k.Assign ∷ d 2 ∷ a k.Semicolon ∷ w "a" ∷ a k.Semicolon ∷ w "a" ∷ a k.Comma ∷ w "b" ∷ a
+    k.RightParenthesis ∷ a k.LeftBrace ∷ reserved k.Break "break" ∷ a k.RightBrace ∷ [])
     ≡ Ok (statements
     (for_lexical true
     (declarators
@@ -192,7 +199,9 @@ script_13 = refl
 
 -- for (;;) { if (a) continue; else break }
 script_14 : p.parse_script 20 []
-    (reserved k.For "for" ∷ a k.LeftParenthesis ∷ a k.Semicolon ∷ a k.Semicolon ∷ a k.RightParenthesis ∷ a k.LeftBrace ∷ reserved k.If "if" ∷ a k.LeftParenthesis ∷ w "a" ∷ a k.RightParenthesis ∷ reserved k.Continue "continue" ∷ a k.Semicolon ∷ reserved k.Else "else" ∷ reserved k.Break "break" ∷ a k.RightBrace ∷ [])
+    (reserved k.For "for" ∷ a k.LeftParenthesis ∷ a k.Semicolon ∷ a k.Semicolon ∷ a k.RightParenthesis ∷ a k.LeftBrace ∷
+    reserved k.If "if" ∷ a k.LeftParenthesis ∷ w "a" ∷ a k.RightParenthesis ∷ reserved k.Continue "continue" ∷ a
+    k.Semicolon ∷ reserved k.Else "else" ∷ reserved k.Break "break" ∷ a k.RightBrace ∷ [])
     ≡ Ok (statements (for omitted omitted omitted (block (statements (if_else (v "a") continue break ∷ []))) ∷ []))
 unfolding p.parse_script p.parse_expression p.parse_function p.below p.item p.declaration_at p.lexical_at p.statement
     p.try_at p.finalizer_at p.handler_at p.for_at p.if_at p.expression p.assignment p.joined p.arrow_of_list
@@ -204,7 +213,10 @@ script_14 = refl
 
 -- for (a; b; ) while (c) do d; while (e) ;
 script_15 : p.parse_script 20 []
-    (reserved k.For "for" ∷ a k.LeftParenthesis ∷ w "a" ∷ a k.Semicolon ∷ w "b" ∷ a k.Semicolon ∷ a k.RightParenthesis ∷ reserved k.While "while" ∷ a k.LeftParenthesis ∷ w "c" ∷ a k.RightParenthesis ∷ reserved k.Do "do" ∷ w "d" ∷ a k.Semicolon ∷ reserved k.While "while" ∷ a k.LeftParenthesis ∷ w "e" ∷ a k.RightParenthesis ∷ a k.Semicolon ∷ [])
+    (reserved k.For "for" ∷ a k.LeftParenthesis ∷ w "a" ∷ a k.Semicolon ∷ w "b" ∷ a k.Semicolon ∷ a k.RightParenthesis ∷
+    reserved k.While "while" ∷ a k.LeftParenthesis ∷ w "c" ∷ a k.RightParenthesis ∷ reserved k.Do "do" ∷ w "d" ∷ a
+    k.Semicolon ∷ reserved k.While "while" ∷ a k.LeftParenthesis ∷ w "e" ∷ a k.RightParenthesis ∷ a k.Semicolon ∷
+    [])
     ≡ Ok (statements
     (for (present (v "a")) (present (v "b")) omitted (while (v "c") (do_while (expression (v "d")) (v "e"))) ∷ []))
 unfolding p.parse_script p.parse_expression p.parse_function p.below p.item p.declaration_at p.lexical_at p.statement
@@ -217,7 +229,11 @@ script_15 = refl
 
 -- let a; { let a; } function f(b,) { { let b; } return; return b }
 script_16 : p.parse_script 20 []
-    (reserved k.Let "let" ∷ w "a" ∷ a k.Semicolon ∷ a k.LeftBrace ∷ reserved k.Let "let" ∷ w "a" ∷ a k.Semicolon ∷ a k.RightBrace ∷ reserved k.Function "function" ∷ w "f" ∷ a k.LeftParenthesis ∷ w "b" ∷ a k.Comma ∷ a k.RightParenthesis ∷ a k.LeftBrace ∷ a k.LeftBrace ∷ reserved k.Let "let" ∷ w "b" ∷ a k.Semicolon ∷ a k.RightBrace ∷ reserved k.Return "return" ∷ a k.Semicolon ∷ reserved k.Return "return" ∷ w "b" ∷ a k.RightBrace ∷ [])
+    (reserved k.Let "let" ∷ w "a" ∷ a k.Semicolon ∷ a k.LeftBrace ∷ reserved k.Let "let" ∷ w "a" ∷ a k.Semicolon ∷ a
+    k.RightBrace ∷ reserved k.Function "function" ∷ w "f" ∷ a k.LeftParenthesis ∷ w "b" ∷ a k.Comma ∷ a
+    k.RightParenthesis ∷ a k.LeftBrace ∷ a k.LeftBrace ∷ reserved k.Let "let" ∷ w "b" ∷ a k.Semicolon ∷ a
+    k.RightBrace ∷ reserved k.Return "return" ∷ a k.Semicolon ∷ reserved k.Return "return" ∷ w "b" ∷ a
+    k.RightBrace ∷ [])
     ≡ Ok (statements
     (lexical false (declarators (declarator (codes "a") omitted ∷ [])) ∷ block
     (statements (lexical false (declarators (declarator (codes "a") omitted ∷ [])) ∷ [])) ∷ declared_function
@@ -236,7 +252,11 @@ script_16 = refl
 
 -- try { throw a } catch (e) { { let e; } } finally {} try {} catch { debugger }
 script_17 : p.parse_script 20 []
-    (reserved k.Try "try" ∷ a k.LeftBrace ∷ reserved k.Throw "throw" ∷ w "a" ∷ a k.RightBrace ∷ reserved k.Catch "catch" ∷ a k.LeftParenthesis ∷ w "e" ∷ a k.RightParenthesis ∷ a k.LeftBrace ∷ a k.LeftBrace ∷ reserved k.Let "let" ∷ w "e" ∷ a k.Semicolon ∷ a k.RightBrace ∷ a k.RightBrace ∷ reserved k.Finally "finally" ∷ a k.LeftBrace ∷ a k.RightBrace ∷ reserved k.Try "try" ∷ a k.LeftBrace ∷ a k.RightBrace ∷ reserved k.Catch "catch" ∷ a k.LeftBrace ∷ reserved k.Debugger "debugger" ∷ a k.RightBrace ∷ [])
+    (reserved k.Try "try" ∷ a k.LeftBrace ∷ reserved k.Throw "throw" ∷ w "a" ∷ a k.RightBrace ∷ reserved k.Catch
+    "catch" ∷ a k.LeftParenthesis ∷ w "e" ∷ a k.RightParenthesis ∷ a k.LeftBrace ∷ a k.LeftBrace ∷ reserved k.Let
+    "let" ∷ w "e" ∷ a k.Semicolon ∷ a k.RightBrace ∷ a k.RightBrace ∷ reserved k.Finally "finally" ∷ a k.LeftBrace ∷
+    a k.RightBrace ∷ reserved k.Try "try" ∷ a k.LeftBrace ∷ a k.RightBrace ∷ reserved k.Catch "catch" ∷ a
+    k.LeftBrace ∷ reserved k.Debugger "debugger" ∷ a k.RightBrace ∷ [])
     ≡ Ok (statements
     (try (statements (throw (v "a") ∷ []))
     (catch (Some (codes "e"))
@@ -267,7 +287,11 @@ script_18 = refl
 
 -- (a) = delete a.b; (a.if)[0]++; ++f().x; a += b -= 1
 script_19 : p.parse_script 20 []
-    (a k.LeftParenthesis ∷ w "a" ∷ a k.RightParenthesis ∷ a k.Assign ∷ reserved k.Delete "delete" ∷ w "a" ∷ a k.Dot ∷ w "b" ∷ a k.Semicolon ∷ a k.LeftParenthesis ∷ w "a" ∷ a k.Dot ∷ reserved k.If "if" ∷ a k.RightParenthesis ∷ a k.LeftBracket ∷ d 0 ∷ a k.RightBracket ∷ a k.Increment ∷ a k.Semicolon ∷ a k.Increment ∷ w "f" ∷ a k.LeftParenthesis ∷ a k.RightParenthesis ∷ a k.Dot ∷ w "x" ∷ a k.Semicolon ∷ w "a" ∷ a k.AddAssign ∷ w "b" ∷ a k.SubtractAssign ∷ d 1 ∷ [])
+    (a k.LeftParenthesis ∷ w "a" ∷ a k.RightParenthesis ∷ a k.Assign ∷ reserved k.Delete "delete" ∷ w "a" ∷ a k.Dot ∷ w
+    "b" ∷ a k.Semicolon ∷ a k.LeftParenthesis ∷ w "a" ∷ a k.Dot ∷ reserved k.If "if" ∷ a k.RightParenthesis ∷ a
+    k.LeftBracket ∷ d 0 ∷ a k.RightBracket ∷ a k.Increment ∷ a k.Semicolon ∷ a k.Increment ∷ w "f" ∷ a
+    k.LeftParenthesis ∷ a k.RightParenthesis ∷ a k.Dot ∷ w "x" ∷ a k.Semicolon ∷ w "a" ∷ a k.AddAssign ∷ w "b" ∷ a
+    k.SubtractAssign ∷ d 1 ∷ [])
     ≡ Ok (statements
     (expression (assign assigns.Assign (parenthesized (v "a")) (unary unaries.Delete (member (v "a") (codes "b"))))
     ∷ expression (postfix updates.Increment (index (parenthesized (member (v "a") (codes "if"))) (number 0)))
@@ -283,7 +307,11 @@ script_19 = refl
 
 -- {a, if: 1, 'c': 2, [d]: 3, 4() {}, e(x, y,) { return this; }, }
 expression_1 : p.parse_expression 20
-    (a k.LeftBrace ∷ w "a" ∷ a k.Comma ∷ reserved k.If "if" ∷ a k.Colon ∷ d 1 ∷ a k.Comma ∷ s "c" ∷ a k.Colon ∷ d 2 ∷ a k.Comma ∷ a k.LeftBracket ∷ w "d" ∷ a k.RightBracket ∷ a k.Colon ∷ d 3 ∷ a k.Comma ∷ d 4 ∷ a k.LeftParenthesis ∷ a k.RightParenthesis ∷ a k.LeftBrace ∷ a k.RightBrace ∷ a k.Comma ∷ w "e" ∷ a k.LeftParenthesis ∷ w "x" ∷ a k.Comma ∷ w "y" ∷ a k.Comma ∷ a k.RightParenthesis ∷ a k.LeftBrace ∷ reserved k.Return "return" ∷ reserved k.This "this" ∷ a k.Semicolon ∷ a k.RightBrace ∷ a k.Comma ∷ a k.RightBrace ∷ [])
+    (a k.LeftBrace ∷ w "a" ∷ a k.Comma ∷ reserved k.If "if" ∷ a k.Colon ∷ d 1 ∷ a k.Comma ∷ s "c" ∷ a k.Colon ∷ d 2 ∷ a
+    k.Comma ∷ a k.LeftBracket ∷ w "d" ∷ a k.RightBracket ∷ a k.Colon ∷ d 3 ∷ a k.Comma ∷ d 4 ∷ a k.LeftParenthesis ∷
+    a k.RightParenthesis ∷ a k.LeftBrace ∷ a k.RightBrace ∷ a k.Comma ∷ w "e" ∷ a k.LeftParenthesis ∷ w "x" ∷ a
+    k.Comma ∷ w "y" ∷ a k.Comma ∷ a k.RightParenthesis ∷ a k.LeftBrace ∷ reserved k.Return "return" ∷ reserved
+    k.This "this" ∷ a k.Semicolon ∷ a k.RightBrace ∷ a k.Comma ∷ a k.RightBrace ∷ [])
     ≡ Ok (object
     (properties
     (shorthand (codes "a") ∷ value (word_key (codes "if")) (number 1) ∷ value (string_key (codes "c"))
@@ -300,7 +328,9 @@ expression_1 = refl
 
 -- f(a, 'b', [null, true, false,],)(), g
 expression_2 : p.parse_expression 20
-    (w "f" ∷ a k.LeftParenthesis ∷ w "a" ∷ a k.Comma ∷ s "b" ∷ a k.Comma ∷ a k.LeftBracket ∷ reserved k.Null "null" ∷ a k.Comma ∷ reserved k.True "true" ∷ a k.Comma ∷ reserved k.False "false" ∷ a k.Comma ∷ a k.RightBracket ∷ a k.Comma ∷ a k.RightParenthesis ∷ a k.LeftParenthesis ∷ a k.RightParenthesis ∷ a k.Comma ∷ w "g" ∷ [])
+    (w "f" ∷ a k.LeftParenthesis ∷ w "a" ∷ a k.Comma ∷ s "b" ∷ a k.Comma ∷ a k.LeftBracket ∷ reserved k.Null "null" ∷ a
+    k.Comma ∷ reserved k.True "true" ∷ a k.Comma ∷ reserved k.False "false" ∷ a k.Comma ∷ a k.RightBracket ∷ a
+    k.Comma ∷ a k.RightParenthesis ∷ a k.LeftParenthesis ∷ a k.RightParenthesis ∷ a k.Comma ∷ w "g" ∷ [])
     ≡ Ok (comma
     (expressions
     (call (call (v "f")
@@ -318,7 +348,9 @@ expression_2 = refl
 
 -- a || b && c | d ^ e & f == g < h << i + j * k
 expression_3 : p.parse_expression 20
-    (w "a" ∷ a k.LogicalOr ∷ w "b" ∷ a k.LogicalAnd ∷ w "c" ∷ a k.BitwiseOr ∷ w "d" ∷ a k.BitwiseXor ∷ w "e" ∷ a k.BitwiseAnd ∷ w "f" ∷ a k.Equal ∷ w "g" ∷ a k.LessThan ∷ w "h" ∷ a k.LeftShift ∷ w "i" ∷ a k.Plus ∷ w "j" ∷ a k.Multiply ∷ w "k" ∷ [])
+    (w "a" ∷ a k.LogicalOr ∷ w "b" ∷ a k.LogicalAnd ∷ w "c" ∷ a k.BitwiseOr ∷ w "d" ∷ a k.BitwiseXor ∷ w "e" ∷ a
+    k.BitwiseAnd ∷ w "f" ∷ a k.Equal ∷ w "g" ∷ a k.LessThan ∷ w "h" ∷ a k.LeftShift ∷ w "i" ∷ a k.Plus ∷ w "j" ∷ a
+    k.Multiply ∷ w "k" ∷ [])
     ≡ Ok (binary binaries.LogicalOr (v "a")
     (binary binaries.LogicalAnd (v "b")
     (binary binaries.BitwiseOr (v "c")
@@ -338,7 +370,8 @@ expression_3 = refl
 
 -- a - b - c % (d, e)
 expression_4 : p.parse_expression 20
-    (w "a" ∷ a k.Minus ∷ w "b" ∷ a k.Minus ∷ w "c" ∷ a k.Remainder ∷ a k.LeftParenthesis ∷ w "d" ∷ a k.Comma ∷ w "e" ∷ a k.RightParenthesis ∷ [])
+    (w "a" ∷ a k.Minus ∷ w "b" ∷ a k.Minus ∷ w "c" ∷ a k.Remainder ∷ a k.LeftParenthesis ∷ w "d" ∷ a k.Comma ∷ w "e" ∷ a
+    k.RightParenthesis ∷ [])
     ≡ Ok (binary binaries.Subtract (binary binaries.Subtract (v "a") (v "b"))
     (binary binaries.Remainder (v "c") (parenthesized (comma (expressions (v "d" ∷ v "e" ∷ []))))))
 unfolding p.parse_script p.parse_expression p.parse_function p.below p.item p.declaration_at p.lexical_at p.statement
@@ -351,7 +384,8 @@ expression_4 = refl
 
 -- - ! ~ typeof void a.b ++
 expression_5 : p.parse_expression 20
-    (a k.Minus ∷ a k.LogicalNot ∷ a k.BitwiseNot ∷ reserved k.Typeof "typeof" ∷ reserved k.Void "void" ∷ w "a" ∷ a k.Dot ∷ w "b" ∷ a k.Increment ∷ [])
+    (a k.Minus ∷ a k.LogicalNot ∷ a k.BitwiseNot ∷ reserved k.Typeof "typeof" ∷ reserved k.Void "void" ∷ w "a" ∷ a
+    k.Dot ∷ w "b" ∷ a k.Increment ∷ [])
     ≡ Ok (unary unaries.Minus
     (unary unaries.LogicalNot
     (unary unaries.BitwiseNot
@@ -366,7 +400,8 @@ expression_5 = refl
 
 -- a ? b : c = d ? (e) : f => { }
 expression_6 : p.parse_expression 20
-    (w "a" ∷ a k.Question ∷ w "b" ∷ a k.Colon ∷ w "c" ∷ a k.Assign ∷ w "d" ∷ a k.Question ∷ a k.LeftParenthesis ∷ w "e" ∷ a k.RightParenthesis ∷ a k.Colon ∷ w "f" ∷ a k.Arrow ∷ a k.LeftBrace ∷ a k.RightBrace ∷ [])
+    (w "a" ∷ a k.Question ∷ w "b" ∷ a k.Colon ∷ w "c" ∷ a k.Assign ∷ w "d" ∷ a k.Question ∷ a k.LeftParenthesis ∷ w
+    "e" ∷ a k.RightParenthesis ∷ a k.Colon ∷ w "f" ∷ a k.Arrow ∷ a k.LeftBrace ∷ a k.RightBrace ∷ [])
     ≡ Ok (conditional (v "a") (v "b")
     (assign assigns.Assign (v "c")
     (conditional (v "d") (parenthesized (v "e")) (arrow_block (one_name (codes "f")) (statements [])))))
@@ -380,7 +415,8 @@ expression_6 = refl
 
 -- x => () => (y, z) => x
 expression_7 : p.parse_expression 20
-    (w "x" ∷ a k.Arrow ∷ a k.LeftParenthesis ∷ a k.RightParenthesis ∷ a k.Arrow ∷ a k.LeftParenthesis ∷ w "y" ∷ a k.Comma ∷ w "z" ∷ a k.RightParenthesis ∷ a k.Arrow ∷ w "x" ∷ [])
+    (w "x" ∷ a k.Arrow ∷ a k.LeftParenthesis ∷ a k.RightParenthesis ∷ a k.Arrow ∷ a k.LeftParenthesis ∷ w "y" ∷ a
+    k.Comma ∷ w "z" ∷ a k.RightParenthesis ∷ a k.Arrow ∷ w "x" ∷ [])
     ≡ Ok (arrow (one_name (codes "x"))
     (arrow (name_list []) (arrow (name_list ((codes "y") ∷ (codes "z") ∷ [])) (v "x"))))
 unfolding p.parse_script p.parse_expression p.parse_function p.below p.item p.declaration_at p.lexical_at p.statement
@@ -393,7 +429,8 @@ expression_7 = refl
 
 -- function f(a) { return f; }
 expression_8 : p.parse_expression 20
-    (reserved k.Function "function" ∷ w "f" ∷ a k.LeftParenthesis ∷ w "a" ∷ a k.RightParenthesis ∷ a k.LeftBrace ∷ reserved k.Return "return" ∷ w "f" ∷ a k.Semicolon ∷ a k.RightBrace ∷ [])
+    (reserved k.Function "function" ∷ w "f" ∷ a k.LeftParenthesis ∷ w "a" ∷ a k.RightParenthesis ∷ a k.LeftBrace ∷
+    reserved k.Return "return" ∷ w "f" ∷ a k.Semicolon ∷ a k.RightBrace ∷ [])
     ≡ Ok (function (Some (codes "f")) ((codes "a") ∷ []) (statements (return (present (v "f")) ∷ [])))
 unfolding p.parse_script p.parse_expression p.parse_function p.below p.item p.declaration_at p.lexical_at p.statement
     p.try_at p.finalizer_at p.handler_at p.for_at p.if_at p.expression p.assignment p.joined p.arrow_of_list

@@ -170,7 +170,8 @@ joint (Some t) = joint_by t.kind
 abbrev pub is_arrow : Option Token → Bool
 is_arrow o = is_on_line o && is_kind kinds.Arrow o
 
--- How names in parentheses end, behind the first parenthesis: whether an arrow alone can follow, since there is no name or a comma behind the last one; and the tokens after the last parenthesis. None where other tokens stand there.
+-- How names in parentheses end, behind the first parenthesis: whether an arrow alone can follow, since there is no name
+-- or a comma behind the last one; and the tokens after the last parenthesis. None where other tokens stand there.
 abbrev pub past_names : Bool → List Token → Option (Bool × List Token)
 past_names at_name [] = None
 past_names true (t ∷ ts) =

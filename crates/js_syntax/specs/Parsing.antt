@@ -247,7 +247,8 @@ joined_by b n t no_joint ts = Ok (t, ts)
 unfoldable pub joined : Below → ℕ → Expression → Reader Expression
 joined b n t ts = joined_by b n t (joint (head_of ts)) ts
 
--- an arrow function where the tokens begin one, else an operation, whose operators bind as `||` at least (3, an_operation of the levels), with what goes on with it
+-- an arrow function where the tokens begin one, else an operation, whose operators bind as `||` at least (3,
+-- an_operation of the levels), with what goes on with it
 abbrev pub assignment_by : Below → ℕ → Head → Reader Expression
 assignment_by b n one_parameter ts = arrow_of_one b ts
 assignment_by b n (listed only) ts = arrow_of_list b only ts
@@ -310,14 +311,16 @@ while_items context =
 -- a `for` without a declaration, each part of which may be left out (14.7.4)
 abbrev pub for_items : Context → List Item
 for_items context =
-    tok kinds.For ∷ tok kinds.LeftParenthesis ∷ optional kinds.Semicolon ∷ optional kinds.Semicolon ∷ optional kinds.RightParenthesis ∷ a_statement
+    tok kinds.For ∷ tok kinds.LeftParenthesis ∷ optional kinds.Semicolon ∷ optional kinds.Semicolon ∷ optional
+    kinds.RightParenthesis ∷ a_statement
     (loop_body context) ∷ []
 
 -- a `for` with `let` or `const` (14.7.4)
 abbrev pub for_lexical_items : Context → Bool → List Item
 for_lexical_items context constant =
     tok kinds.For ∷ tok kinds.LeftParenthesis ∷ tok (let_kind constant)
-    ∷ declared constant [] ∷ tok kinds.Semicolon ∷ optional kinds.Semicolon ∷ optional kinds.RightParenthesis ∷ a_statement
+    ∷ declared constant [] ∷ tok kinds.Semicolon ∷ optional kinds.Semicolon ∷ optional kinds.RightParenthesis ∷
+    a_statement
     (loop_body context) ∷ []
 
 -- a `for .. of` with one name (14.7.5)

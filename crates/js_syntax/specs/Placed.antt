@@ -23,7 +23,8 @@ AreInOrder (t ∷ ts) = (t.start ≤ t.end) × Behind t.end ts × AreInOrder ts
 abbrev pub IsForward : Span → Type 0
 IsForward s = s.start ≤ s.end
 
--- The nodes of these places have the numbers from the first one on, one after another in the order in which they end, up to the one before the next.
+-- The nodes of these places have the numbers from the first one on, one after another in the order in which they end,
+-- up to the one before the next.
 abbrev pub AreNumbered : ℕ → List Place → ℕ → Type 0
 AreNumbered first [] next = first ≡ next
 AreNumbered first (opens n ∷ ps) next = AreNumbered first ps next
@@ -31,7 +32,10 @@ AreNumbered first (closes n ∷ ps) next = (n ≡ first) × AreNumbered (suc fir
 AreNumbered first (stands s ∷ ps) next = AreNumbered first ps next
 AreNumbered first (stands_maybe kind ∷ ps) next = AreNumbered first ps next
 
--- While the spans grew from `old` to `new`, these places were read from the tokens, with the others left: however the spans go on, the places are the first of the tokens, and each node's span goes from the start of its first token to the end of its last one. At least one token was read, if `some`. The nodes are the spans that came: each has one of their numbers, in the order in which they end.
+-- While the spans grew from `old` to `new`, these places were read from the tokens, with the others left: however the
+-- spans go on, the places are the first of the tokens, and each node's span goes from the start of its first token to
+-- the end of its last one. At least one token was read, if `some`. The nodes are the spans that came: each has one of
+-- their numbers, in the order in which they end.
 pub record InPlace (some : Bool) (old new : List Span) (places : List Place) (ts left : List Token) : Type 0 where
   pub grew : GoesOn old new
   pub fewer : IsTrue some → length left < length ts

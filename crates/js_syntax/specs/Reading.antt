@@ -7,7 +7,8 @@ use Rattle.js_language.specs.Tokens.{Token, End, head_of, tail_of, is_on_line, i
 use Rattle.js_language.specs.Well.{is_among}
 use Rattle.js_language.specs.Kinds.{is_kind}
 
--- Why a reader stops: so many tokens are left from the one that goes on with no source of the language; or a tree would be too deep, and so many are left behind those that show it.
+-- Why a reader stops: so many tokens are left from the one that goes on with no source of the language; or a tree would
+-- be too deep, and so many are left behind those that show it.
 pub data Fault : Type 0 where
   stuck : ℕ → Fault
   deep : ℕ → Fault
@@ -81,7 +82,8 @@ after_by false false = neither
 abbrev pub after : TokenKind → Option Token → After
 after closer o = after_by (is_kind closer o) (is_kind kinds.Comma o)
 
--- A list with commas between its elements and the token that ends it, before which a comma may stand. Each element is read with a state that the elements before it made. The bound on the turns, here and below, is never too small.
+-- A list with commas between its elements and the token that ends it, before which a comma may stand. Each element is
+-- read with a state that the elements before it made. The bound on the turns, here and below, is never too small.
 abbrev pub go_after : {A : Type 0} → Reader (List A) → After → Reader (List A)
 go_after go goes_on ts = go (tail_of ts)
 go_after go ends ts = Ok ([], tail_of ts)

@@ -39,91 +39,146 @@ Layer F = F Expr PropertyDefinition PropertyName Stmt Block Catch Declarator Dec
 -- the view of a tree is made of the views of its parts
 pub expression_roll : (x : Layer Expr-F)
     → expression_view (views.roll-Expr x) ≡ expression_step
-    (map-Expr Expr PropertyDefinition PropertyName Stmt Block Catch Declarator Declarators Exprs PropertyDefinitions Stmts Expression Property Key Statement Statements Handler trees.Declarator trees.Declarators Expressions Properties Statements expression_view property_view key_view statement_view block_view catch_view declarator_view declarators_view expressions_view properties_view statements_view x)
+    (map-Expr Expr PropertyDefinition PropertyName Stmt Block Catch Declarator Declarators Exprs PropertyDefinitions
+    Stmts Expression Property Key Statement Statements Handler trees.Declarator trees.Declarators Expressions
+    Properties Statements expression_view property_view key_view statement_view block_view catch_view
+    declarator_view declarators_view expressions_view properties_view statements_view x)
 unfolding expression_view property_view key_view statement_view block_view catch_view declarator_view declarators_view
     expressions_view properties_view statements_view
 expression_roll x =
-    fold-roll-Expr Expression Property Key Statement Statements Handler trees.Declarator trees.Declarators Expressions Properties Statements expression_step property_step key_step statement_step block_step catch_step declarator_step declarators_step expressions_step properties_step statements_step x
+    fold-roll-Expr Expression Property Key Statement Statements Handler trees.Declarator trees.Declarators Expressions
+    Properties Statements expression_step property_step key_step statement_step block_step catch_step
+    declarator_step declarators_step expressions_step properties_step statements_step x
 
 pub property_roll : (x : Layer PropertyDefinition-F)
     → property_view (views.roll-PropertyDefinition x) ≡ property_step
-    (map-PropertyDefinition Expr PropertyDefinition PropertyName Stmt Block Catch Declarator Declarators Exprs PropertyDefinitions Stmts Expression Property Key Statement Statements Handler trees.Declarator trees.Declarators Expressions Properties Statements expression_view property_view key_view statement_view block_view catch_view declarator_view declarators_view expressions_view properties_view statements_view x)
+    (map-PropertyDefinition Expr PropertyDefinition PropertyName Stmt Block Catch Declarator Declarators Exprs
+    PropertyDefinitions Stmts Expression Property Key Statement Statements Handler trees.Declarator
+    trees.Declarators Expressions Properties Statements expression_view property_view key_view statement_view
+    block_view catch_view declarator_view declarators_view expressions_view properties_view statements_view x)
 unfolding expression_view property_view key_view statement_view block_view catch_view declarator_view declarators_view
     expressions_view properties_view statements_view
 property_roll x =
-    fold-roll-PropertyDefinition Expression Property Key Statement Statements Handler trees.Declarator trees.Declarators Expressions Properties Statements expression_step property_step key_step statement_step block_step catch_step declarator_step declarators_step expressions_step properties_step statements_step x
+    fold-roll-PropertyDefinition Expression Property Key Statement Statements Handler trees.Declarator trees.Declarators
+    Expressions Properties Statements expression_step property_step key_step statement_step block_step catch_step
+    declarator_step declarators_step expressions_step properties_step statements_step x
 
 pub key_roll : (x : Layer PropertyName-F)
     → key_view (views.roll-PropertyName x) ≡ key_step
-    (map-PropertyName Expr PropertyDefinition PropertyName Stmt Block Catch Declarator Declarators Exprs PropertyDefinitions Stmts Expression Property Key Statement Statements Handler trees.Declarator trees.Declarators Expressions Properties Statements expression_view property_view key_view statement_view block_view catch_view declarator_view declarators_view expressions_view properties_view statements_view x)
+    (map-PropertyName Expr PropertyDefinition PropertyName Stmt Block Catch Declarator Declarators Exprs
+    PropertyDefinitions Stmts Expression Property Key Statement Statements Handler trees.Declarator
+    trees.Declarators Expressions Properties Statements expression_view property_view key_view statement_view
+    block_view catch_view declarator_view declarators_view expressions_view properties_view statements_view x)
 unfolding expression_view property_view key_view statement_view block_view catch_view declarator_view declarators_view
     expressions_view properties_view statements_view
 key_roll x =
-    fold-roll-PropertyName Expression Property Key Statement Statements Handler trees.Declarator trees.Declarators Expressions Properties Statements expression_step property_step key_step statement_step block_step catch_step declarator_step declarators_step expressions_step properties_step statements_step x
+    fold-roll-PropertyName Expression Property Key Statement Statements Handler trees.Declarator trees.Declarators
+    Expressions Properties Statements expression_step property_step key_step statement_step block_step catch_step
+    declarator_step declarators_step expressions_step properties_step statements_step x
 
 pub statement_roll : (x : Layer Stmt-F)
     → statement_view (views.roll-Stmt x) ≡ statement_step
-    (map-Stmt Expr PropertyDefinition PropertyName Stmt Block Catch Declarator Declarators Exprs PropertyDefinitions Stmts Expression Property Key Statement Statements Handler trees.Declarator trees.Declarators Expressions Properties Statements expression_view property_view key_view statement_view block_view catch_view declarator_view declarators_view expressions_view properties_view statements_view x)
+    (map-Stmt Expr PropertyDefinition PropertyName Stmt Block Catch Declarator Declarators Exprs PropertyDefinitions
+    Stmts Expression Property Key Statement Statements Handler trees.Declarator trees.Declarators Expressions
+    Properties Statements expression_view property_view key_view statement_view block_view catch_view
+    declarator_view declarators_view expressions_view properties_view statements_view x)
 unfolding expression_view property_view key_view statement_view block_view catch_view declarator_view declarators_view
     expressions_view properties_view statements_view
 statement_roll x =
-    fold-roll-Stmt Expression Property Key Statement Statements Handler trees.Declarator trees.Declarators Expressions Properties Statements expression_step property_step key_step statement_step block_step catch_step declarator_step declarators_step expressions_step properties_step statements_step x
+    fold-roll-Stmt Expression Property Key Statement Statements Handler trees.Declarator trees.Declarators Expressions
+    Properties Statements expression_step property_step key_step statement_step block_step catch_step
+    declarator_step declarators_step expressions_step properties_step statements_step x
 
 pub block_roll : (x : Layer Block-F)
     → block_view (views.roll-Block x) ≡ block_step
-    (map-Block Expr PropertyDefinition PropertyName Stmt Block Catch Declarator Declarators Exprs PropertyDefinitions Stmts Expression Property Key Statement Statements Handler trees.Declarator trees.Declarators Expressions Properties Statements expression_view property_view key_view statement_view block_view catch_view declarator_view declarators_view expressions_view properties_view statements_view x)
+    (map-Block Expr PropertyDefinition PropertyName Stmt Block Catch Declarator Declarators Exprs PropertyDefinitions
+    Stmts Expression Property Key Statement Statements Handler trees.Declarator trees.Declarators Expressions
+    Properties Statements expression_view property_view key_view statement_view block_view catch_view
+    declarator_view declarators_view expressions_view properties_view statements_view x)
 unfolding expression_view property_view key_view statement_view block_view catch_view declarator_view declarators_view
     expressions_view properties_view statements_view
 block_roll x =
-    fold-roll-Block Expression Property Key Statement Statements Handler trees.Declarator trees.Declarators Expressions Properties Statements expression_step property_step key_step statement_step block_step catch_step declarator_step declarators_step expressions_step properties_step statements_step x
+    fold-roll-Block Expression Property Key Statement Statements Handler trees.Declarator trees.Declarators Expressions
+    Properties Statements expression_step property_step key_step statement_step block_step catch_step
+    declarator_step declarators_step expressions_step properties_step statements_step x
 
 pub catch_roll : (x : Layer Catch-F)
     → catch_view (views.roll-Catch x) ≡ catch_step
-    (map-Catch Expr PropertyDefinition PropertyName Stmt Block Catch Declarator Declarators Exprs PropertyDefinitions Stmts Expression Property Key Statement Statements Handler trees.Declarator trees.Declarators Expressions Properties Statements expression_view property_view key_view statement_view block_view catch_view declarator_view declarators_view expressions_view properties_view statements_view x)
+    (map-Catch Expr PropertyDefinition PropertyName Stmt Block Catch Declarator Declarators Exprs PropertyDefinitions
+    Stmts Expression Property Key Statement Statements Handler trees.Declarator trees.Declarators Expressions
+    Properties Statements expression_view property_view key_view statement_view block_view catch_view
+    declarator_view declarators_view expressions_view properties_view statements_view x)
 unfolding expression_view property_view key_view statement_view block_view catch_view declarator_view declarators_view
     expressions_view properties_view statements_view
 catch_roll x =
-    fold-roll-Catch Expression Property Key Statement Statements Handler trees.Declarator trees.Declarators Expressions Properties Statements expression_step property_step key_step statement_step block_step catch_step declarator_step declarators_step expressions_step properties_step statements_step x
+    fold-roll-Catch Expression Property Key Statement Statements Handler trees.Declarator trees.Declarators Expressions
+    Properties Statements expression_step property_step key_step statement_step block_step catch_step
+    declarator_step declarators_step expressions_step properties_step statements_step x
 
 pub declarator_roll : (x : Layer Declarator-F)
     → declarator_view (views.roll-Declarator x) ≡ declarator_step
-    (map-Declarator Expr PropertyDefinition PropertyName Stmt Block Catch Declarator Declarators Exprs PropertyDefinitions Stmts Expression Property Key Statement Statements Handler trees.Declarator trees.Declarators Expressions Properties Statements expression_view property_view key_view statement_view block_view catch_view declarator_view declarators_view expressions_view properties_view statements_view x)
+    (map-Declarator Expr PropertyDefinition PropertyName Stmt Block Catch Declarator Declarators Exprs
+    PropertyDefinitions Stmts Expression Property Key Statement Statements Handler trees.Declarator
+    trees.Declarators Expressions Properties Statements expression_view property_view key_view statement_view
+    block_view catch_view declarator_view declarators_view expressions_view properties_view statements_view x)
 unfolding expression_view property_view key_view statement_view block_view catch_view declarator_view declarators_view
     expressions_view properties_view statements_view
 declarator_roll x =
-    fold-roll-Declarator Expression Property Key Statement Statements Handler trees.Declarator trees.Declarators Expressions Properties Statements expression_step property_step key_step statement_step block_step catch_step declarator_step declarators_step expressions_step properties_step statements_step x
+    fold-roll-Declarator Expression Property Key Statement Statements Handler trees.Declarator trees.Declarators
+    Expressions Properties Statements expression_step property_step key_step statement_step block_step catch_step
+    declarator_step declarators_step expressions_step properties_step statements_step x
 
 pub declarators_roll : (x : Layer Declarators-F)
     → declarators_view (views.roll-Declarators x) ≡ declarators_step
-    (map-Declarators Expr PropertyDefinition PropertyName Stmt Block Catch Declarator Declarators Exprs PropertyDefinitions Stmts Expression Property Key Statement Statements Handler trees.Declarator trees.Declarators Expressions Properties Statements expression_view property_view key_view statement_view block_view catch_view declarator_view declarators_view expressions_view properties_view statements_view x)
+    (map-Declarators Expr PropertyDefinition PropertyName Stmt Block Catch Declarator Declarators Exprs
+    PropertyDefinitions Stmts Expression Property Key Statement Statements Handler trees.Declarator
+    trees.Declarators Expressions Properties Statements expression_view property_view key_view statement_view
+    block_view catch_view declarator_view declarators_view expressions_view properties_view statements_view x)
 unfolding expression_view property_view key_view statement_view block_view catch_view declarator_view declarators_view
     expressions_view properties_view statements_view
 declarators_roll x =
-    fold-roll-Declarators Expression Property Key Statement Statements Handler trees.Declarator trees.Declarators Expressions Properties Statements expression_step property_step key_step statement_step block_step catch_step declarator_step declarators_step expressions_step properties_step statements_step x
+    fold-roll-Declarators Expression Property Key Statement Statements Handler trees.Declarator trees.Declarators
+    Expressions Properties Statements expression_step property_step key_step statement_step block_step catch_step
+    declarator_step declarators_step expressions_step properties_step statements_step x
 
 pub expressions_roll : (x : Layer Exprs-F)
     → expressions_view (views.roll-Exprs x) ≡ expressions_step
-    (map-Exprs Expr PropertyDefinition PropertyName Stmt Block Catch Declarator Declarators Exprs PropertyDefinitions Stmts Expression Property Key Statement Statements Handler trees.Declarator trees.Declarators Expressions Properties Statements expression_view property_view key_view statement_view block_view catch_view declarator_view declarators_view expressions_view properties_view statements_view x)
+    (map-Exprs Expr PropertyDefinition PropertyName Stmt Block Catch Declarator Declarators Exprs PropertyDefinitions
+    Stmts Expression Property Key Statement Statements Handler trees.Declarator trees.Declarators Expressions
+    Properties Statements expression_view property_view key_view statement_view block_view catch_view
+    declarator_view declarators_view expressions_view properties_view statements_view x)
 unfolding expression_view property_view key_view statement_view block_view catch_view declarator_view declarators_view
     expressions_view properties_view statements_view
 expressions_roll x =
-    fold-roll-Exprs Expression Property Key Statement Statements Handler trees.Declarator trees.Declarators Expressions Properties Statements expression_step property_step key_step statement_step block_step catch_step declarator_step declarators_step expressions_step properties_step statements_step x
+    fold-roll-Exprs Expression Property Key Statement Statements Handler trees.Declarator trees.Declarators Expressions
+    Properties Statements expression_step property_step key_step statement_step block_step catch_step
+    declarator_step declarators_step expressions_step properties_step statements_step x
 
 pub properties_roll : (x : Layer PropertyDefinitions-F)
     → properties_view (views.roll-PropertyDefinitions x) ≡ properties_step
-    (map-PropertyDefinitions Expr PropertyDefinition PropertyName Stmt Block Catch Declarator Declarators Exprs PropertyDefinitions Stmts Expression Property Key Statement Statements Handler trees.Declarator trees.Declarators Expressions Properties Statements expression_view property_view key_view statement_view block_view catch_view declarator_view declarators_view expressions_view properties_view statements_view x)
+    (map-PropertyDefinitions Expr PropertyDefinition PropertyName Stmt Block Catch Declarator Declarators Exprs
+    PropertyDefinitions Stmts Expression Property Key Statement Statements Handler trees.Declarator
+    trees.Declarators Expressions Properties Statements expression_view property_view key_view statement_view
+    block_view catch_view declarator_view declarators_view expressions_view properties_view statements_view x)
 unfolding expression_view property_view key_view statement_view block_view catch_view declarator_view declarators_view
     expressions_view properties_view statements_view
 properties_roll x =
-    fold-roll-PropertyDefinitions Expression Property Key Statement Statements Handler trees.Declarator trees.Declarators Expressions Properties Statements expression_step property_step key_step statement_step block_step catch_step declarator_step declarators_step expressions_step properties_step statements_step x
+    fold-roll-PropertyDefinitions Expression Property Key Statement Statements Handler trees.Declarator
+    trees.Declarators Expressions Properties Statements expression_step property_step key_step statement_step
+    block_step catch_step declarator_step declarators_step expressions_step properties_step statements_step x
 
 pub statements_roll : (x : Layer Stmts-F)
     → statements_view (views.roll-Stmts x) ≡ statements_step
-    (map-Stmts Expr PropertyDefinition PropertyName Stmt Block Catch Declarator Declarators Exprs PropertyDefinitions Stmts Expression Property Key Statement Statements Handler trees.Declarator trees.Declarators Expressions Properties Statements expression_view property_view key_view statement_view block_view catch_view declarator_view declarators_view expressions_view properties_view statements_view x)
+    (map-Stmts Expr PropertyDefinition PropertyName Stmt Block Catch Declarator Declarators Exprs PropertyDefinitions
+    Stmts Expression Property Key Statement Statements Handler trees.Declarator trees.Declarators Expressions
+    Properties Statements expression_view property_view key_view statement_view block_view catch_view
+    declarator_view declarators_view expressions_view properties_view statements_view x)
 unfolding expression_view property_view key_view statement_view block_view catch_view declarator_view declarators_view
     expressions_view properties_view statements_view
 statements_roll x =
-    fold-roll-Stmts Expression Property Key Statement Statements Handler trees.Declarator trees.Declarators Expressions Properties Statements expression_step property_step key_step statement_step block_step catch_step declarator_step declarators_step expressions_step properties_step statements_step x
+    fold-roll-Stmts Expression Property Key Statement Statements Handler trees.Declarator trees.Declarators Expressions
+    Properties Statements expression_step property_step key_step statement_step block_step catch_step
+    declarator_step declarators_step expressions_step properties_step statements_step x
 
 -- ---- each form
 
@@ -455,7 +510,9 @@ pub declarators_listed : (ds : Declarators)
 unfolding expression_view property_view key_view statement_view block_view catch_view declarator_view declarators_view
     expressions_view properties_view statements_view
 declarators_listed ds =
-    fold_out-Declarators Expression Property Key Statement Statements Handler trees.Declarator trees.Declarators Expressions Properties Statements expression_step property_step key_step statement_step block_step catch_step declarator_step declarators_step expressions_step properties_step statements_step ds
+    fold_out-Declarators Expression Property Key Statement Statements Handler trees.Declarator trees.Declarators
+    Expressions Properties Statements expression_step property_step key_step statement_step block_step catch_step
+    declarator_step declarators_step expressions_step properties_step statements_step ds
 
 pub block_of : (b : Block) → block_view b ≡ statements_view b.body
 block_of b = view_block b.node b.body

@@ -1,8 +1,10 @@
--- How deep a tree is: the greatest number of statements, expressions and methods on a path from its root. The project's own.
+-- How deep a tree is: the greatest number of statements, expressions and methods on a path from its root. The project's
+-- own.
 use Rattle.std.specs.Prelude.{ℕ, suc, max}
 use Rattle.js_tree.specs.Trees.{Expression, array, object, function, arrow, arrow_block, parenthesized, member, index, call, postfix, prefix, unary, binary, conditional, assign, comma, Expressions, no_expressions, an_expression, OptionalExpression, omitted, present, Key, computed_key, Property, shorthand, value, method, Properties, no_properties, a_property, Declarator, declarator, Declarators, no_declarators, a_declarator, Statement, block, lexical, expression, if_then, if_else, do_while, while, for, for_lexical, for_of, return, throw, try, declared_function, Handler, no_catch, catch, Finalizer, no_finally, finally, Statements, no_statements, a_statement}
 
--- Each statement, expression and method counts one over its parts. Lists, declarators, other members, names and a catch count nothing of their own; the blocks of a try are statements.
+-- Each statement, expression and method counts one over its parts. Lists, declarators, other members, names and a catch
+-- count nothing of their own; the blocks of a try are statements.
 abbrev mutual
   pub height : Expression → ℕ
   height (array es) = suc (height_of_expressions es)

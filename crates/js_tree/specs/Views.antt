@@ -65,7 +65,8 @@ abbrev pub Layer :
     (Type 0 → Type 0 → Type 0 → Type 0 → Type 0 → Type 0 → Type 0 → Type 0 → Type 0 → Type 0 → Type 0 → Type 0)
     → Type 0
 Layer F =
-    F Expression Property Key Statement Statements Handler trees.Declarator trees.Declarators Expressions Properties Statements
+    F Expression Property Key Statement Statements Handler trees.Declarator trees.Declarators Expressions Properties
+    Statements
 
 -- one level of an expression, with the clean trees of its parts
 abbrev pub expression_step : Layer Expr-F → Expression
@@ -157,57 +158,79 @@ statements_step ss = statements ss.items.items
 -- the clean tree of an expression
 unfoldable pub expression_view : Expr → Expression
 expression_view =
-    fold-Expr Expression Property Key Statement Statements Handler trees.Declarator trees.Declarators Expressions Properties Statements expression_step property_step key_step statement_step block_step catch_step declarator_step declarators_step expressions_step properties_step statements_step
+    fold-Expr Expression Property Key Statement Statements Handler trees.Declarator trees.Declarators Expressions
+    Properties Statements expression_step property_step key_step statement_step block_step catch_step
+    declarator_step declarators_step expressions_step properties_step statements_step
 
 -- the clean tree of a member of an object literal
 unfoldable pub property_view : PropertyDefinition → Property
 property_view =
-    fold-PropertyDefinition Expression Property Key Statement Statements Handler trees.Declarator trees.Declarators Expressions Properties Statements expression_step property_step key_step statement_step block_step catch_step declarator_step declarators_step expressions_step properties_step statements_step
+    fold-PropertyDefinition Expression Property Key Statement Statements Handler trees.Declarator trees.Declarators
+    Expressions Properties Statements expression_step property_step key_step statement_step block_step catch_step
+    declarator_step declarators_step expressions_step properties_step statements_step
 
 -- the clean tree of the key of a member
 unfoldable pub key_view : PropertyName → Key
 key_view =
-    fold-PropertyName Expression Property Key Statement Statements Handler trees.Declarator trees.Declarators Expressions Properties Statements expression_step property_step key_step statement_step block_step catch_step declarator_step declarators_step expressions_step properties_step statements_step
+    fold-PropertyName Expression Property Key Statement Statements Handler trees.Declarator trees.Declarators
+    Expressions Properties Statements expression_step property_step key_step statement_step block_step catch_step
+    declarator_step declarators_step expressions_step properties_step statements_step
 
 -- the clean tree of a statement or declaration
 unfoldable pub statement_view : Stmt → Statement
 statement_view =
-    fold-Stmt Expression Property Key Statement Statements Handler trees.Declarator trees.Declarators Expressions Properties Statements expression_step property_step key_step statement_step block_step catch_step declarator_step declarators_step expressions_step properties_step statements_step
+    fold-Stmt Expression Property Key Statement Statements Handler trees.Declarator trees.Declarators Expressions
+    Properties Statements expression_step property_step key_step statement_step block_step catch_step
+    declarator_step declarators_step expressions_step properties_step statements_step
 
 -- the clean tree of a block: its statements
 unfoldable pub block_view : Block → Statements
 block_view =
-    fold-Block Expression Property Key Statement Statements Handler trees.Declarator trees.Declarators Expressions Properties Statements expression_step property_step key_step statement_step block_step catch_step declarator_step declarators_step expressions_step properties_step statements_step
+    fold-Block Expression Property Key Statement Statements Handler trees.Declarator trees.Declarators Expressions
+    Properties Statements expression_step property_step key_step statement_step block_step catch_step
+    declarator_step declarators_step expressions_step properties_step statements_step
 
 -- the clean tree of a catch
 unfoldable pub catch_view : Catch → Handler
 catch_view =
-    fold-Catch Expression Property Key Statement Statements Handler trees.Declarator trees.Declarators Expressions Properties Statements expression_step property_step key_step statement_step block_step catch_step declarator_step declarators_step expressions_step properties_step statements_step
+    fold-Catch Expression Property Key Statement Statements Handler trees.Declarator trees.Declarators Expressions
+    Properties Statements expression_step property_step key_step statement_step block_step catch_step
+    declarator_step declarators_step expressions_step properties_step statements_step
 
 -- the clean tree of a declarator
 unfoldable pub declarator_view : Declarator → trees.Declarator
 declarator_view =
-    fold-Declarator Expression Property Key Statement Statements Handler trees.Declarator trees.Declarators Expressions Properties Statements expression_step property_step key_step statement_step block_step catch_step declarator_step declarators_step expressions_step properties_step statements_step
+    fold-Declarator Expression Property Key Statement Statements Handler trees.Declarator trees.Declarators Expressions
+    Properties Statements expression_step property_step key_step statement_step block_step catch_step
+    declarator_step declarators_step expressions_step properties_step statements_step
 
 -- the clean tree of the declarators of a declaration
 unfoldable pub declarators_view : Declarators → trees.Declarators
 declarators_view =
-    fold-Declarators Expression Property Key Statement Statements Handler trees.Declarator trees.Declarators Expressions Properties Statements expression_step property_step key_step statement_step block_step catch_step declarator_step declarators_step expressions_step properties_step statements_step
+    fold-Declarators Expression Property Key Statement Statements Handler trees.Declarator trees.Declarators Expressions
+    Properties Statements expression_step property_step key_step statement_step block_step catch_step
+    declarator_step declarators_step expressions_step properties_step statements_step
 
 -- the clean tree of a list of expressions
 unfoldable pub expressions_view : Exprs → Expressions
 expressions_view =
-    fold-Exprs Expression Property Key Statement Statements Handler trees.Declarator trees.Declarators Expressions Properties Statements expression_step property_step key_step statement_step block_step catch_step declarator_step declarators_step expressions_step properties_step statements_step
+    fold-Exprs Expression Property Key Statement Statements Handler trees.Declarator trees.Declarators Expressions
+    Properties Statements expression_step property_step key_step statement_step block_step catch_step
+    declarator_step declarators_step expressions_step properties_step statements_step
 
 -- the clean tree of the members of an object literal
 unfoldable pub properties_view : PropertyDefinitions → Properties
 properties_view =
-    fold-PropertyDefinitions Expression Property Key Statement Statements Handler trees.Declarator trees.Declarators Expressions Properties Statements expression_step property_step key_step statement_step block_step catch_step declarator_step declarators_step expressions_step properties_step statements_step
+    fold-PropertyDefinitions Expression Property Key Statement Statements Handler trees.Declarator trees.Declarators
+    Expressions Properties Statements expression_step property_step key_step statement_step block_step catch_step
+    declarator_step declarators_step expressions_step properties_step statements_step
 
 -- the clean tree of a list of statements
 unfoldable pub statements_view : Stmts → Statements
 statements_view =
-    fold-Stmts Expression Property Key Statement Statements Handler trees.Declarator trees.Declarators Expressions Properties Statements expression_step property_step key_step statement_step block_step catch_step declarator_step declarators_step expressions_step properties_step statements_step
+    fold-Stmts Expression Property Key Statement Statements Handler trees.Declarator trees.Declarators Expressions
+    Properties Statements expression_step property_step key_step statement_step block_step catch_step
+    declarator_step declarators_step expressions_step properties_step statements_step
 
 -- an expression that may be left out
 abbrev pub optional_view : Option Expr → OptionalExpression

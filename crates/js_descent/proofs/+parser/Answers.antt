@@ -44,12 +44,14 @@ lists::elements_before-elements-init t c = record {
   placed = rw c.new-items.ensures.items nothing;
 }
 
-pub lists::elements_before-returns-then-is_next-clause-gives : goal.lists::elements_before-returns-then-is_next-clause-gives
+pub lists::elements_before-returns-then-is_next-clause-gives :
+    goal.lists::elements_before-returns-then-is_next-clause-gives
 lists::elements_before-returns-then-is_next-clause-gives t c = rw c.tail.ensures
     (elements_none (one_of (below c.args.room).assignment)
     no_state c.args.closer _ _ tt _ c.elements.invariant.read.reads (sym c.is_next.ensures ∙ c.if-is_next.true))
 
-pub lists::elements_before-returns-in_err-item-clause-gives : goal.lists::elements_before-returns-in_err-item-clause-gives
+pub lists::elements_before-returns-in_err-item-clause-gives :
+    goal.lists::elements_before-returns-in_err-item-clause-gives
 lists::elements_before-returns-in_err-item-clause-gives t c =
     let p = err_from_is_err_and c.from_residual.result c.from_residual.ensures.1 in
     rw (p.1, p.2)
@@ -58,7 +60,8 @@ lists::elements_before-returns-in_err-item-clause-gives t c =
     (sym c.is_next.ensures ∙ c.if-is_next.false) c.in_err-item.ensures.gives)
 
 pub lists::elements_before-elements-smaller : goal.lists::elements_before-elements-smaller
-lists::elements_before-elements-smaller t c = less_by_view c.elements.rest.now c.in_ok-item.later.now c.tail-rest.result.now c.tail-rest.ensures
+lists::elements_before-elements-smaller t c = less_by_view c.elements.rest.now c.in_ok-item.later.now
+    c.tail-rest.result.now c.tail-rest.ensures
     (shorter (below c.args.room).assignment _ _ _ (short c.args.room).assignment c.in_ok-item.ensures.gives)
 
 pub lists::elements_before-elements-preserved : goal.lists::elements_before-elements-preserved
@@ -78,7 +81,8 @@ lists::elements_before-elements-preserved t c = record {
       _ c.elements.invariant.placed c.in_ok-item.ensures.placed g c.tail-rest.ensures);
 }
 
-pub lists::elements_before-returns-in-Some-Ends-clause-gives : goal.lists::elements_before-returns-in-Some-Ends-clause-gives
+pub lists::elements_before-returns-in-Some-Ends-clause-gives :
+    goal.lists::elements_before-returns-in-Some-Ends-clause-gives
 lists::elements_before-returns-in-Some-Ends-clause-gives t c =
     let g : after c.args.closer (head_of (tokens_view c.in_ok-item.later.now)) ≡ ends = search rules in
     rw (c.in_ok-push.ensures.items, c.into_inner.ensures, map_push, c.tail-in-Some-Ends.ensures)
@@ -86,10 +90,12 @@ lists::elements_before-returns-in-Some-Ends-clause-gives t c =
     no_state c.args.closer _ _ tt _ _ _ c.elements.invariant.read.reads
     (sym c.is_next.ensures ∙ c.if-is_next.false) c.in_ok-item.ensures.gives g)
 
-pub lists::elements_before-returns-in-Some-Ends-clause-height : goal.lists::elements_before-returns-in-Some-Ends-clause-height
+pub lists::elements_before-returns-in-Some-Ends-clause-height :
+    goal.lists::elements_before-returns-in-Some-Ends-clause-height
 lists::elements_before-returns-in-Some-Ends-clause-height t c = rw
     (c.in_ok-push.ensures.items, c.into_inner.ensures, c.deeper-height.ensures) (
-      last_height c.elements.items.items c.in_ok-item.item.value c.elements.height c.in_ok-item.item_height c.elements.invariant.read.is_height c.in_ok-item.ensures.height.0,
+      last_height c.elements.items.items c.in_ok-item.item.value c.elements.height c.in_ok-item.item_height
+          c.elements.invariant.read.is_height c.in_ok-item.ensures.height.0,
       omega (arith, c.elements.invariant.read.low, c.in_ok-item.ensures.height.1),
     )
 
@@ -105,12 +111,14 @@ objects::members_before-members-init t c = record {
   placed = rw c.new-members.ensures.items nothing;
 }
 
-pub objects::members_before-returns-then-is_next-clause-gives : goal.objects::members_before-returns-then-is_next-clause-gives
+pub objects::members_before-returns-then-is_next-clause-gives :
+    goal.objects::members_before-returns-then-is_next-clause-gives
 objects::members_before-returns-then-is_next-clause-gives t c = rw c.tail.ensures
     (elements_none (one_of (λ r. property_at (below c.args.room) c.args.room r))
     no_state kinds.RightBrace _ _ tt _ c.members.invariant.read.reads (sym c.is_next.ensures ∙ c.if-is_next.true))
 
-pub objects::members_before-returns-in_err-member-clause-gives : goal.objects::members_before-returns-in_err-member-clause-gives
+pub objects::members_before-returns-in_err-member-clause-gives :
+    goal.objects::members_before-returns-in_err-member-clause-gives
 objects::members_before-returns-in_err-member-clause-gives t c =
     let p = err_from_is_err_and c.from_residual.result c.from_residual.ensures.1 in
     rw (p.1, p.2)
@@ -119,7 +127,8 @@ objects::members_before-returns-in_err-member-clause-gives t c =
     (sym c.is_next.ensures ∙ c.if-is_next.false) c.in_err-member.ensures.gives)
 
 pub objects::members_before-members-smaller : goal.objects::members_before-members-smaller
-objects::members_before-members-smaller t c = less_by_view c.members.rest.now c.in_ok-member.later.now c.tail-rest.result.now c.tail-rest.ensures
+objects::members_before-members-smaller t c = less_by_view c.members.rest.now c.in_ok-member.later.now
+    c.tail-rest.result.now c.tail-rest.ensures
     (member_shorter c.args.room _ _ _ c.in_ok-member.ensures.gives)
 
 pub objects::members_before-members-preserved : goal.objects::members_before-members-preserved
@@ -139,7 +148,8 @@ objects::members_before-members-preserved t c = record {
       _ c.members.invariant.placed c.in_ok-member.ensures.placed g c.tail-rest.ensures);
 }
 
-pub objects::members_before-returns-in-Some-Ends-clause-gives : goal.objects::members_before-returns-in-Some-Ends-clause-gives
+pub objects::members_before-returns-in-Some-Ends-clause-gives :
+    goal.objects::members_before-returns-in-Some-Ends-clause-gives
 objects::members_before-returns-in-Some-Ends-clause-gives t c =
     let g : after kinds.RightBrace (head_of (tokens_view c.in_ok-member.later.now)) ≡ ends = search rules in
     rw (c.in_ok-push.ensures.items, map_push, c.tail-in-Some-Ends.ensures)
@@ -147,10 +157,12 @@ objects::members_before-returns-in-Some-Ends-clause-gives t c =
     no_state kinds.RightBrace _ _ tt _ _ _ c.members.invariant.read.reads
     (sym c.is_next.ensures ∙ c.if-is_next.false) c.in_ok-member.ensures.gives g)
 
-pub objects::members_before-returns-in-Some-Ends-clause-height : goal.objects::members_before-returns-in-Some-Ends-clause-height
+pub objects::members_before-returns-in-Some-Ends-clause-height :
+    goal.objects::members_before-returns-in-Some-Ends-clause-height
 objects::members_before-returns-in-Some-Ends-clause-height t c = rw
     (c.in_ok-push.ensures.items, c.deeper-height.ensures) (
-      last_property_height c.members.members.items c.in_ok-member.member c.members.height c.in_ok-member.member_height c.members.invariant.read.is_height c.in_ok-member.ensures.height.0,
+      last_property_height c.members.members.items c.in_ok-member.member c.members.height c.in_ok-member.member_height
+          c.members.invariant.read.is_height c.in_ok-member.ensures.height.0,
       omega (arith, c.members.invariant.read.low, c.in_ok-member.ensures.height.1),
     )
 
@@ -168,11 +180,13 @@ lists::more_assignments-others-init t c = record {
   placed = rw (c.new-items.ensures.items, c.nothing_read-height.ensures.tokens) nothing;
 }
 
-pub lists::more_assignments-returns-then-not-is_next-clause-gives : goal.lists::more_assignments-returns-then-not-is_next-clause-gives
+pub lists::more_assignments-returns-then-not-is_next-clause-gives :
+    goal.lists::more_assignments-returns-then-not-is_next-clause-gives
 lists::more_assignments-returns-then-not-is_next-clause-gives t c = others_none (one_of (below c.args.room).assignment)
     no_state _ _ tt _ c.others.invariant.read.reads (sym c.is_next.ensures ∙ c.if-not-is_next.true)
 
-pub lists::more_assignments-returns-in_err-item-clause-gives : goal.lists::more_assignments-returns-in_err-item-clause-gives
+pub lists::more_assignments-returns-in_err-item-clause-gives :
+    goal.lists::more_assignments-returns-in_err-item-clause-gives
 lists::more_assignments-returns-in_err-item-clause-gives t c =
     let p = err_from_is_err_and c.from_residual.result c.from_residual.ensures.1 in
     rw (p.1, p.2)
@@ -200,7 +214,8 @@ lists::more_assignments-others-preserved t c = record {
       c.tail.ensures c.in_ok-item.ensures.placed);
 }
 
-pub calls::links_at-returns-then-object_height-room-clause-gives : goal.calls::links_at-returns-then-object_height-room-clause-gives
+pub calls::links_at-returns-then-object_height-room-clause-gives :
+    goal.calls::links_at-returns-then-object_height-room-clause-gives
 calls::links_at-returns-then-object_height-room-clause-gives t c = rw (← length_view c.tail.result.now, c.tail.ensures)
     (links_deep (below c.args.room) c.args.room c.args.turns (expression_view c.args.object.value) c.in-Some.link
     (tokens_view c.args.tokens.now) c.in-Some.ensures (omega arith) (omega arith))
@@ -212,7 +227,8 @@ calls::links_at-returns-clause-gives t c = rw
     (tokens_view c.in_ok-tree.rest.now) c.in-Some.ensures (omega arith) c.in_ok-tree.ensures.gives (omega arith))
     c.links_at.ensures.gives
 
-pub operators::chain_at-returns-then-left_height-room-clause-gives : goal.operators::chain_at-returns-then-left_height-room-clause-gives
+pub operators::chain_at-returns-then-left_height-room-clause-gives :
+    goal.operators::chain_at-returns-then-left_height-room-clause-gives
 operators::chain_at-returns-then-left_height-room-clause-gives t c = rw
     (← length_view c.tail.result.now, c.tail.ensures)
     (chain_deep (below c.args.room) c.args.room c.args.least c.args.turns (expression_view c.args.left.value)
@@ -273,7 +289,8 @@ declarations::declarators_at-others-init t c = record {
   placed = rw (c.in_ok-push.ensures.items, c.new-items.ensures.items) (then c.in_ok-first.ensures.placed nothing);
 }
 
-pub declarations::declarators_at-returns-in_err-item-clause-gives : goal.declarations::declarators_at-returns-in_err-item-clause-gives
+pub declarations::declarators_at-returns-in_err-item-clause-gives :
+    goal.declarations::declarators_at-returns-in_err-item-clause-gives
 declarations::declarators_at-returns-in_err-item-clause-gives t c =
     let p = err_from_is_err_and c.from_residual-in_err-item.result c.from_residual-in_err-item.ensures.1 in
     rw (p.1, p.2)
@@ -332,7 +349,8 @@ exceptions::finalizer_at-returns-clause-gives t c =
     no_finalizer (below c.args.room) (context_view c.args.context) c.args.handler.now (tokens_view c.args.tokens.now)
     (rw c.if-is_none.false at c.is_none.ensures) (sym c.is_next.ensures ∙ c.if-is_next.false)
 
-pub statements::if_at-returns-in_err-alternate-clause-gives : goal.statements::if_at-returns-in_err-alternate-clause-gives
+pub statements::if_at-returns-in_err-alternate-clause-gives :
+    goal.statements::if_at-returns-in_err-alternate-clause-gives
 unfolding if_at
 statements::if_at-returns-in_err-alternate-clause-gives t c =
     let e = expect_found kinds.Else (tokens_view c.in_ok-consequent.rest.now)
@@ -346,13 +364,15 @@ statements::if_at-returns-then-is_next-clause-gives t c =
     (sym c.is_next.ensures ∙ c.if-is_next.true) in
     search (rules, e)
 
-pub statements::statement_at-returns-in-Debugger-clause-gives : goal.statements::statement_at-returns-in-Debugger-clause-gives
+pub statements::statement_at-returns-in-Debugger-clause-gives :
+    goal.statements::statement_at-returns-in-Debugger-clause-gives
 unfolding statement
 statements::statement_at-returns-in-Debugger-clause-gives t c =
     let e = c.debugger_at.ensures.gives c.args.room (context_view c.args.context) in
     search (rules, e)
 
-pub statements::return_at-returns-then-ends_return-clause-placed : goal.statements::return_at-returns-then-ends_return-clause-placed
+pub statements::return_at-returns-then-ends_return-clause-placed :
+    goal.statements::return_at-returns-then-ends_return-clause-placed
 statements::return_at-returns-then-ends_return-clause-placed t c = closed _
     (then (expected _ _ _ _ c.in_ok-rest.ensures) (ended_so _ _ _ _ c.in_ok-rest-2.ensures))
     c.in_ok-node.ensures.span c.in_ok-node.ensures.number c.return_statement.ensures.places
@@ -388,7 +408,8 @@ pub statements::ended_expression-returns-clause-placed : goal.statements::ended_
 statements::ended_expression-returns-clause-placed t c = (then c.in_ok-tree.ensures.placed
     (ended_so _ _ _ _ c.in_ok-rest.ensures))
 
-pub statements::optional_before-returns-then-is_next-clause-placed : goal.statements::optional_before-returns-then-is_next-clause-placed
+pub statements::optional_before-returns-then-is_next-clause-placed :
+    goal.statements::optional_before-returns-then-is_next-clause-placed
 statements::optional_before-returns-then-is_next-clause-placed t c = (tested _ _ _ _
     (sym c.is_next.ensures ∙ c.if-is_next.true) c.tail.ensures)
 
@@ -396,8 +417,10 @@ pub statements::optional_before-returns-clause-placed : goal.statements::optiona
 statements::optional_before-returns-clause-placed t c = (then c.in_ok-tree.ensures.placed
     (expected _ _ _ _ c.in_ok-rest.ensures))
 
-pub statements::expression_statement_at-returns-clause-placed : goal.statements::expression_statement_at-returns-clause-placed
-statements::expression_statement_at-returns-clause-placed t c = closed _ c.in_ok-tree.ensures.placed c.in_ok-node.ensures.span c.in_ok-node.ensures.number c.expression_statement.ensures.places
+pub statements::expression_statement_at-returns-clause-placed :
+    goal.statements::expression_statement_at-returns-clause-placed
+statements::expression_statement_at-returns-clause-placed t c = closed _ c.in_ok-tree.ensures.placed
+    c.in_ok-node.ensures.span c.in_ok-node.ensures.number c.expression_statement.ensures.places
 
 pub statements::throw_at-returns-clause-placed : goal.statements::throw_at-returns-clause-placed
 statements::throw_at-returns-clause-placed t c = closed _
@@ -407,11 +430,13 @@ statements::throw_at-returns-clause-placed t c = closed _
 pub statements::statement_below-returns-clause-placed : goal.statements::statement_below-returns-clause-placed
 statements::statement_below-returns-clause-placed t c = rw c.in_ok-boxed.ensures c.in_ok-tree.ensures.placed
 
-pub statements::statement_at-returns-in_ok-node-in-Semicolon-clause-placed : goal.statements::statement_at-returns-in_ok-node-in-Semicolon-clause-placed
+pub statements::statement_at-returns-in_ok-node-in-Semicolon-clause-placed :
+    goal.statements::statement_at-returns-in_ok-node-in-Semicolon-clause-placed
 statements::statement_at-returns-in_ok-node-in-Semicolon-clause-placed t c = rw c.empty_statement.ensures.places
     (c.in_ok-node-in-Semicolon.ensures.placed (fixed kinds.Semicolon) (first_semicolon _ (sym c.in-Semicolon.ensures)))
 
-pub statements::statement_at-returns-in-Block-clause-placed : goal.statements::statement_at-returns-in-Block-clause-placed
+pub statements::statement_at-returns-in-Block-clause-placed :
+    goal.statements::statement_at-returns-in-Block-clause-placed
 statements::statement_at-returns-in-Block-clause-placed t c = c.block_at.ensures.placed
 
 pub statements::statement_at-returns-in-If-clause-placed : goal.statements::statement_at-returns-in-If-clause-placed
@@ -420,31 +445,38 @@ statements::statement_at-returns-in-If-clause-placed t c = c.if_at.ensures.place
 pub statements::statement_at-returns-in-Do-clause-placed : goal.statements::statement_at-returns-in-Do-clause-placed
 statements::statement_at-returns-in-Do-clause-placed t c = c.do_at.ensures.placed
 
-pub statements::statement_at-returns-in-While-clause-placed : goal.statements::statement_at-returns-in-While-clause-placed
+pub statements::statement_at-returns-in-While-clause-placed :
+    goal.statements::statement_at-returns-in-While-clause-placed
 statements::statement_at-returns-in-While-clause-placed t c = c.while_at.ensures.placed
 
 pub statements::statement_at-returns-in-For-clause-placed : goal.statements::statement_at-returns-in-For-clause-placed
 statements::statement_at-returns-in-For-clause-placed t c = c.for_at.ensures.placed
 
-pub statements::statement_at-returns-in-Continue-clause-placed : goal.statements::statement_at-returns-in-Continue-clause-placed
+pub statements::statement_at-returns-in-Continue-clause-placed :
+    goal.statements::statement_at-returns-in-Continue-clause-placed
 statements::statement_at-returns-in-Continue-clause-placed t c = c.continue_at.ensures.placed
 
-pub statements::statement_at-returns-in-Break-clause-placed : goal.statements::statement_at-returns-in-Break-clause-placed
+pub statements::statement_at-returns-in-Break-clause-placed :
+    goal.statements::statement_at-returns-in-Break-clause-placed
 statements::statement_at-returns-in-Break-clause-placed t c = c.break_at.ensures.placed
 
-pub statements::statement_at-returns-in-Return-clause-placed : goal.statements::statement_at-returns-in-Return-clause-placed
+pub statements::statement_at-returns-in-Return-clause-placed :
+    goal.statements::statement_at-returns-in-Return-clause-placed
 statements::statement_at-returns-in-Return-clause-placed t c = c.return_at.ensures.placed
 
-pub statements::statement_at-returns-in-Throw-clause-placed : goal.statements::statement_at-returns-in-Throw-clause-placed
+pub statements::statement_at-returns-in-Throw-clause-placed :
+    goal.statements::statement_at-returns-in-Throw-clause-placed
 statements::statement_at-returns-in-Throw-clause-placed t c = c.throw_at.ensures.placed
 
 pub statements::statement_at-returns-in-Try-clause-placed : goal.statements::statement_at-returns-in-Try-clause-placed
 statements::statement_at-returns-in-Try-clause-placed t c = c.try_at.ensures.placed
 
-pub statements::statement_at-returns-in-Debugger-clause-placed : goal.statements::statement_at-returns-in-Debugger-clause-placed
+pub statements::statement_at-returns-in-Debugger-clause-placed :
+    goal.statements::statement_at-returns-in-Debugger-clause-placed
 statements::statement_at-returns-in-Debugger-clause-placed t c = c.debugger_at.ensures.placed
 
-pub statements::statement_at-returns-in-Expression-clause-placed : goal.statements::statement_at-returns-in-Expression-clause-placed
+pub statements::statement_at-returns-in-Expression-clause-placed :
+    goal.statements::statement_at-returns-in-Expression-clause-placed
 statements::statement_at-returns-in-Expression-clause-placed t c = c.expression_statement_at.ensures.placed
 
 pub loops::do_at-returns-clause-placed : goal.loops::do_at-returns-clause-placed
@@ -520,7 +552,8 @@ exceptions::try_at-returns-clause-placed t c = closed _
     (then c.in_ok-handler.ensures.placed (then c.in_ok-finalizer.ensures.placed nothing))))
     c.in_ok-node.ensures.span c.in_ok-node.ensures.number c.try_statement-tree.ensures.places
 
-pub exceptions::handler_at-returns-then-not-is_next-clause-placed : goal.exceptions::handler_at-returns-then-not-is_next-clause-placed
+pub exceptions::handler_at-returns-then-not-is_next-clause-placed :
+    goal.exceptions::handler_at-returns-then-not-is_next-clause-placed
 exceptions::handler_at-returns-then-not-is_next-clause-placed t c = nothing
 
 pub exceptions::handler_at-returns-clause-placed : goal.exceptions::handler_at-returns-clause-placed
@@ -528,7 +561,8 @@ exceptions::handler_at-returns-clause-placed t c = loosely
     (c.in_ok-handler.ensures.placed c.args.nodes.now (tokens_view c.args.tokens.now)
     (tested _ _ _ _ (sym c.is_next.ensures ∙ c.if-not-is_next.false) c.tail.ensures))
 
-pub exceptions::catch_at-returns-then-not-is_next-clause-placed : goal.exceptions::catch_at-returns-then-not-is_next-clause-placed
+pub exceptions::catch_at-returns-then-not-is_next-clause-placed :
+    goal.exceptions::catch_at-returns-then-not-is_next-clause-placed
 exceptions::catch_at-returns-then-not-is_next-clause-placed t c = λ old ts p. rw c.catch_clause.ensures.places
     (then p (then c.in_ok-block.ensures.placed nothing))
 
@@ -539,7 +573,8 @@ exceptions::catch_at-returns-clause-placed t c = λ old ts p. rw (c.catch_clause
     (then (named _ _ _ _ c.in_ok-text.ensures) (expected _ _ _ _ c.in_ok-rest-2.ensures)))
     (then c.in_ok-block-2.ensures.placed nothing)))
 
-pub exceptions::finalizer_at-returns-then-is_next-clause-placed : goal.exceptions::finalizer_at-returns-then-is_next-clause-placed
+pub exceptions::finalizer_at-returns-then-is_next-clause-placed :
+    goal.exceptions::finalizer_at-returns-then-is_next-clause-placed
 exceptions::finalizer_at-returns-then-is_next-clause-placed t c = loosely
     (then (expected _ _ _ _ c.in_ok-rest.ensures) c.in_ok-block.ensures.placed)
 
@@ -592,7 +627,8 @@ declarations::declaration_at-returns-clause-placed t c = λ h. closed _
     c.in_ok-node.ensures.span c.in_ok-node.ensures.number
     (rw c.in_ok-name.ensures at c.function_declaration-tree.ensures.places)
 
-pub declarations::declarator_at-returns-then-is_next-clause-placed : goal.declarations::declarator_at-returns-then-is_next-clause-placed
+pub declarations::declarator_at-returns-then-is_next-clause-placed :
+    goal.declarations::declarator_at-returns-then-is_next-clause-placed
 declarations::declarator_at-returns-then-is_next-clause-placed t c = rw
     (c.declarator.ensures.places, c.in_ok-name.ensures)
     (then (named_freshly _ _ _ _ _ c.in_ok-text.ensures)
@@ -609,17 +645,20 @@ pub declarations::item_at-returns-in-Lexical-clause-placed : goal.declarations::
 declarations::item_at-returns-in-Lexical-clause-placed t c = c.lexical_at.ensures.placed
     (first_lexical _ _ (sym c.in-Lexical.ensures))
 
-pub declarations::item_at-returns-in-Function-clause-placed : goal.declarations::item_at-returns-in-Function-clause-placed
+pub declarations::item_at-returns-in-Function-clause-placed :
+    goal.declarations::item_at-returns-in-Function-clause-placed
 declarations::item_at-returns-in-Function-clause-placed t c = c.declaration_at.ensures.placed
     (first_function _ (sym c.in-Function.ensures))
 
 pub declarations::item_at-returns-in-Block-clause-placed : goal.declarations::item_at-returns-in-Block-clause-placed
 declarations::item_at-returns-in-Block-clause-placed t c = c.statement_at.ensures.placed
 
-pub declarations::item_at-returns-in-Continue-clause-placed : goal.declarations::item_at-returns-in-Continue-clause-placed
+pub declarations::item_at-returns-in-Continue-clause-placed :
+    goal.declarations::item_at-returns-in-Continue-clause-placed
 declarations::item_at-returns-in-Continue-clause-placed t c = c.statement_at-in-Continue.ensures.placed
 
-pub declarations::item_at-returns-in-Debugger-clause-placed : goal.declarations::item_at-returns-in-Debugger-clause-placed
+pub declarations::item_at-returns-in-Debugger-clause-placed :
+    goal.declarations::item_at-returns-in-Debugger-clause-placed
 declarations::item_at-returns-in-Debugger-clause-placed t c = c.statement_at-in-Debugger.ensures.placed
 
 pub arrows::arrow_of_one-returns-clause-placed : goal.arrows::arrow_of_one-returns-clause-placed
@@ -663,7 +702,8 @@ pub calls::links_at-returns-clause-placed : goal.calls::links_at-returns-clause-
 calls::links_at-returns-clause-placed t c = λ old p. c.links_at.ensures.placed old
     (c.in_ok-tree.ensures.placed old c.in-Some.ensures p)
 
-pub calls::linked_at-returns-in_ok-tree-in-Dot-clause-placed : goal.calls::linked_at-returns-in_ok-tree-in-Dot-clause-placed
+pub calls::linked_at-returns-in_ok-tree-in-Dot-clause-placed :
+    goal.calls::linked_at-returns-in_ok-tree-in-Dot-clause-placed
 calls::linked_at-returns-in_ok-tree-in-Dot-clause-placed t c = λ old l p. closed _
     (then p (then (symbol _ (fixed kinds.Dot) _ _ (link_dot _ (sym (rw c.in-Dot.is at l))) c.tail.ensures)
     (worded _ _ _ _ c.in_ok-text-in-Dot.ensures)))
@@ -685,7 +725,8 @@ calls::indexed_at-returns-clause-placed t c = λ old p. closed _
 pub calls::called_at-returns-clause-placed : goal.calls::called_at-returns-clause-placed
 calls::called_at-returns-clause-placed t c = λ old p. closed_twice _ p
     (then (expected _ _ _ _ c.in_ok-rest.ensures) (c.in_ok-arguments.ensures.placed refl))
-    c.in_ok-node.ensures.span c.in_ok-node.ensures.number c.in_ok-parentheses.ensures.span c.in_ok-parentheses.ensures.number c.in_ok-tree.ensures.places
+    c.in_ok-node.ensures.span c.in_ok-node.ensures.number c.in_ok-parentheses.ensures.span
+    c.in_ok-parentheses.ensures.number c.in_ok-tree.ensures.places
 
 pub expressions::expression_below-returns-clause-placed : goal.expressions::expression_below-returns-clause-placed
 expressions::expression_below-returns-clause-placed t c = c.expression_at.ensures.placed
@@ -693,10 +734,13 @@ expressions::expression_below-returns-clause-placed t c = c.expression_at.ensure
 pub expressions::assignment_below-returns-clause-placed : goal.expressions::assignment_below-returns-clause-placed
 expressions::assignment_below-returns-clause-placed t c = c.assignment_at.ensures.placed
 
-pub expressions::expression_at-returns-then-is_next-clause-placed : goal.expressions::expression_at-returns-then-is_next-clause-placed
-expressions::expression_at-returns-then-is_next-clause-placed t c = c.comma_at.ensures.placed c.args.nodes.now c.in_ok-first.ensures.placed
+pub expressions::expression_at-returns-then-is_next-clause-placed :
+    goal.expressions::expression_at-returns-then-is_next-clause-placed
+expressions::expression_at-returns-then-is_next-clause-placed t c = c.comma_at.ensures.placed c.args.nodes.now
+    c.in_ok-first.ensures.placed
 
-pub expressions::expression_at-returns-else-is_next-clause-placed : goal.expressions::expression_at-returns-else-is_next-clause-placed
+pub expressions::expression_at-returns-else-is_next-clause-placed :
+    goal.expressions::expression_at-returns-else-is_next-clause-placed
 expressions::expression_at-returns-else-is_next-clause-placed t c = c.in_ok-first.ensures.placed
 
 pub expressions::comma_at-returns-clause-placed : goal.expressions::comma_at-returns-clause-placed
@@ -705,19 +749,25 @@ expressions::comma_at-returns-clause-placed t c = λ old p. closed _ (then (then
     (rw (c.expressions_of.ensures.places, c.in_ok-insert.ensures.items, c.into_inner.ensures)
     at c.in_ok-tree.ensures.places)
 
-pub expressions::assignment_at-returns-in-Some-Name-clause-placed : goal.expressions::assignment_at-returns-in-Some-Name-clause-placed
+pub expressions::assignment_at-returns-in-Some-Name-clause-placed :
+    goal.expressions::assignment_at-returns-in-Some-Name-clause-placed
 expressions::assignment_at-returns-in-Some-Name-clause-placed t c = c.arrow_of_one.ensures.placed
 
-pub expressions::assignment_at-returns-in-Some-List-clause-placed : goal.expressions::assignment_at-returns-in-Some-List-clause-placed
+pub expressions::assignment_at-returns-in-Some-List-clause-placed :
+    goal.expressions::assignment_at-returns-in-Some-List-clause-placed
 expressions::assignment_at-returns-in-Some-List-clause-placed t c = c.arrow_of_list.ensures.placed
 
-pub expressions::assignment_at-returns-in_ok-first-in-None-clause-placed : goal.expressions::assignment_at-returns-in_ok-first-in-None-clause-placed
-expressions::assignment_at-returns-in_ok-first-in-None-clause-placed t c = c.joined_at.ensures.placed c.args.nodes.now c.in_ok-first-in-None.ensures.placed
+pub expressions::assignment_at-returns-in_ok-first-in-None-clause-placed :
+    goal.expressions::assignment_at-returns-in_ok-first-in-None-clause-placed
+expressions::assignment_at-returns-in_ok-first-in-None-clause-placed t c = c.joined_at.ensures.placed c.args.nodes.now
+    c.in_ok-first-in-None.ensures.placed
 
-pub expressions::joined_at-returns-in-Some-Question-clause-placed : goal.expressions::joined_at-returns-in-Some-Question-clause-placed
+pub expressions::joined_at-returns-in-Some-Question-clause-placed :
+    goal.expressions::joined_at-returns-in-Some-Question-clause-placed
 expressions::joined_at-returns-in-Some-Question-clause-placed t c = λ old p. c.conditional_at.ensures.placed old p
 
-pub expressions::joined_at-returns-in-Some-Assigns-clause-placed : goal.expressions::joined_at-returns-in-Some-Assigns-clause-placed
+pub expressions::joined_at-returns-in-Some-Assigns-clause-placed :
+    goal.expressions::joined_at-returns-in-Some-Assigns-clause-placed
 expressions::joined_at-returns-in-Some-Assigns-clause-placed t c = λ old p. c.assigned_at.ensures.placed old p
 
 pub expressions::joined_at-returns-in-None-clause-placed : goal.expressions::joined_at-returns-in-None-clause-placed
@@ -736,12 +786,14 @@ expressions::assigned_at-returns-clause-placed t c = λ old p. closed _
     (then c.in_ok-value.ensures.placed nothing)))
     c.in_ok-node.ensures.span c.in_ok-node.ensures.number c.in_ok-tree.ensures.places
 
-pub lists::elements_before-returns-then-is_next-clause-placed : goal.lists::elements_before-returns-then-is_next-clause-placed
+pub lists::elements_before-returns-then-is_next-clause-placed :
+    goal.lists::elements_before-returns-then-is_next-clause-placed
 lists::elements_before-returns-then-is_next-clause-placed t c = λ apart. elements_over c.args.closer
     (map expression_places c.elements.items.items) _ c.elements.invariant.placed
     (sym c.is_next.ensures ∙ c.if-is_next.true) c.tail.ensures apart
 
-pub lists::elements_before-returns-in-Some-Ends-clause-placed : goal.lists::elements_before-returns-in-Some-Ends-clause-placed
+pub lists::elements_before-returns-in-Some-Ends-clause-placed :
+    goal.lists::elements_before-returns-in-Some-Ends-clause-placed
 lists::elements_before-returns-in-Some-Ends-clause-placed t c = λ apart. let g : after c.args.closer
     (head_of (tokens_view c.in_ok-item.later.now)) ≡ ends = search rules in
     rw (c.in_ok-push.ensures.items, c.into_inner.ensures, map_pushed)
@@ -749,12 +801,14 @@ lists::elements_before-returns-in-Some-Ends-clause-placed t c = λ apart. let g 
     (expression_places c.in_ok-item.item.value)
     _ c.elements.invariant.placed c.in_ok-item.ensures.placed g c.tail-in-Some-Ends.ensures apart)
 
-pub objects::members_before-returns-then-is_next-clause-placed : goal.objects::members_before-returns-then-is_next-clause-placed
+pub objects::members_before-returns-then-is_next-clause-placed :
+    goal.objects::members_before-returns-then-is_next-clause-placed
 objects::members_before-returns-then-is_next-clause-placed t c = elements_over kinds.RightBrace
     (map property_places c.members.members.items) _ c.members.invariant.placed
     (sym c.is_next.ensures ∙ c.if-is_next.true) c.tail.ensures refl
 
-pub objects::members_before-returns-in-Some-Ends-clause-placed : goal.objects::members_before-returns-in-Some-Ends-clause-placed
+pub objects::members_before-returns-in-Some-Ends-clause-placed :
+    goal.objects::members_before-returns-in-Some-Ends-clause-placed
 objects::members_before-returns-in-Some-Ends-clause-placed t c = let g : after kinds.RightBrace
     (head_of (tokens_view c.in_ok-member.later.now)) ≡ ends = search rules in
     rw (c.in_ok-push.ensures.items, map_pushed)
@@ -766,21 +820,25 @@ pub lists::arguments_before-returns-clause-placed : goal.lists::arguments_before
 lists::arguments_before-returns-clause-placed t c = λ apart. rw c.expressions_of.ensures.places
     (c.in_ok-items.ensures.placed apart)
 
-pub lists::more_assignments-returns-then-not-is_next-clause-placed : goal.lists::more_assignments-returns-then-not-is_next-clause-placed
+pub lists::more_assignments-returns-then-not-is_next-clause-placed :
+    goal.lists::more_assignments-returns-then-not-is_next-clause-placed
 lists::more_assignments-returns-then-not-is_next-clause-placed t c = c.others.invariant.placed
 
 pub objects::properties_at-returns-clause-placed : goal.objects::properties_at-returns-clause-placed
 objects::properties_at-returns-clause-placed t c = rw c.properties_of.ensures.places c.in_ok-members.ensures.placed
 
-pub objects::property_at-returns-then-is_shorthand-clause-placed : goal.objects::property_at-returns-then-is_shorthand-clause-placed
+pub objects::property_at-returns-then-is_shorthand-clause-placed :
+    goal.objects::property_at-returns-then-is_shorthand-clause-placed
 objects::property_at-returns-then-is_shorthand-clause-placed t c = rw
     (c.shorthand_property.ensures.places, c.in_ok-name.ensures) (named _ _ _ _ c.in_ok-text.ensures)
 
-pub objects::property_at-returns-in-Some-Colon-clause-placed : goal.objects::property_at-returns-in-Some-Colon-clause-placed
+pub objects::property_at-returns-in-Some-Colon-clause-placed :
+    goal.objects::property_at-returns-in-Some-Colon-clause-placed
 objects::property_at-returns-in-Some-Colon-clause-placed t c = c.valued_at.ensures.placed c.args.nodes.now _
     (rw c.in_ok-key-2.ensures c.in_ok-key.ensures.placed)
 
-pub objects::property_at-returns-in-Some-Parameters-clause-placed : goal.objects::property_at-returns-in-Some-Parameters-clause-placed
+pub objects::property_at-returns-in-Some-Parameters-clause-placed :
+    goal.objects::property_at-returns-in-Some-Parameters-clause-placed
 objects::property_at-returns-in-Some-Parameters-clause-placed t c = c.method_at.ensures.placed c.args.nodes.now
     (rw c.in_ok-key-2.ensures c.in_ok-key.ensures.placed)
 
@@ -792,12 +850,14 @@ pub objects::method_at-returns-clause-placed : goal.objects::method_at-returns-c
 objects::method_at-returns-clause-placed t c = λ old p. closed _ (then p c.in_ok-code.ensures.placed)
     c.in_ok-node.ensures.span c.in_ok-node.ensures.number c.method-tree.ensures.places
 
-pub objects::key_at-returns-in_ok-name-in-Some-Word-clause-placed : goal.objects::key_at-returns-in_ok-name-in-Some-Word-clause-placed
+pub objects::key_at-returns-in_ok-name-in-Some-Word-clause-placed :
+    goal.objects::key_at-returns-in_ok-name-in-Some-Word-clause-placed
 objects::key_at-returns-in_ok-name-in-Some-Word-clause-placed t c = rw
     (c.word_key.ensures.places, c.in_ok-name-in-Some-Word.ensures)
     (symbol _ _ _ _ (key_word _ _ (sym (rw c.in-Some-Word.field-0-is at c.in-Some-Word.ensures))) c.tail.ensures)
 
-pub objects::key_at-returns-in_ok-value-in-Some-String-clause-placed : goal.objects::key_at-returns-in_ok-value-in-Some-String-clause-placed
+pub objects::key_at-returns-in_ok-value-in-Some-String-clause-placed :
+    goal.objects::key_at-returns-in_ok-value-in-Some-String-clause-placed
 objects::key_at-returns-in_ok-value-in-Some-String-clause-placed t c = rw
     (c.string_key.ensures.places, c.in_ok-value-in-Some-String.ensures.value)
     (symbol _ _ _ _ (key_string _ _ (sym (rw c.in-Some-String.field-0-is at c.in-Some-String.ensures)))
@@ -808,7 +868,8 @@ objects::key_at-returns-in-Some-Number-clause-placed t c = rw c.number_key.ensur
     (symbol _ _ _ _ (key_number _ _ (sym (rw c.in-Some-Number.field-0-is at c.in-Some-Number.ensures)))
     c.tail-in-Some-Number.ensures)
 
-pub objects::key_at-returns-in_ok-rest-in-Some-Computed-2-clause-placed : goal.objects::key_at-returns-in_ok-rest-in-Some-Computed-2-clause-placed
+pub objects::key_at-returns-in_ok-rest-in-Some-Computed-2-clause-placed :
+    goal.objects::key_at-returns-in_ok-rest-in-Some-Computed-2-clause-placed
 objects::key_at-returns-in_ok-rest-in-Some-Computed-2-clause-placed t c = rw c.computed_key.ensures.places
     (then (expected _ _ _ _ c.in_ok-rest-in-Some-Computed.ensures)
     (then c.in_ok-key-in-Some-Computed.ensures.placed (expected _ _ _ _ c.in_ok-rest-in-Some-Computed-2.ensures)))
@@ -820,7 +881,8 @@ pub operators::unary_below-returns-clause-placed : goal.operators::unary_below-r
 operators::unary_below-returns-clause-placed t c = c.unary_at.ensures.placed
 
 pub operators::operation_at-returns-clause-placed : goal.operators::operation_at-returns-clause-placed
-operators::operation_at-returns-clause-placed t c = c.chain_at.ensures.placed c.args.nodes.now c.in_ok-left.ensures.placed
+operators::operation_at-returns-clause-placed t c = c.chain_at.ensures.placed c.args.nodes.now
+    c.in_ok-left.ensures.placed
 
 pub operators::chain_at-returns-in_default-clause-placed : goal.operators::chain_at-returns-in_default-clause-placed
 operators::chain_at-returns-in_default-clause-placed t c = λ old p. p
@@ -832,18 +894,22 @@ operators::chain_at-returns-clause-placed t c = λ old p. c.chain_at.ensures.pla
     (then c.in_ok-right.ensures.placed nothing)))
     c.in_ok-node.ensures.span c.in_ok-node.ensures.number c.in_ok-joined.ensures.places)
 
-pub operators::unary_at-returns-in-Some-Delete-clause-placed : goal.operators::unary_at-returns-in-Some-Delete-clause-placed
+pub operators::unary_at-returns-in-Some-Delete-clause-placed :
+    goal.operators::unary_at-returns-in-Some-Delete-clause-placed
 operators::unary_at-returns-in-Some-Delete-clause-placed t c = c.deleted_at.ensures.placed
     (prefix_delete _ (sym (rw c.in-Some-Delete.field-0-is at c.in-Some-Delete.ensures)))
 
-pub operators::unary_at-returns-in_ok-tree-in-Some-Unary-clause-placed : goal.operators::unary_at-returns-in_ok-tree-in-Some-Unary-clause-placed
+pub operators::unary_at-returns-in_ok-tree-in-Some-Unary-clause-placed :
+    goal.operators::unary_at-returns-in_ok-tree-in-Some-Unary-clause-placed
 operators::unary_at-returns-in_ok-tree-in-Some-Unary-clause-placed t c = closed _
     (then (symbol _ _ _ _ (prefix_unary _ _ (sym (rw c.in-Some-Unary.field-0-is at c.in-Some-Unary.ensures)))
     c.tail.ensures)
     (then c.in_ok-operand-in-Some-Unary.ensures.placed nothing))
-    c.in_ok-node-in-Some-Unary.ensures.span c.in_ok-node-in-Some-Unary.ensures.number c.in_ok-tree-in-Some-Unary.ensures.places
+    c.in_ok-node-in-Some-Unary.ensures.span c.in_ok-node-in-Some-Unary.ensures.number
+    c.in_ok-tree-in-Some-Unary.ensures.places
 
-pub operators::unary_at-returns-in-Some-Update-clause-placed : goal.operators::unary_at-returns-in-Some-Update-clause-placed
+pub operators::unary_at-returns-in-Some-Update-clause-placed :
+    goal.operators::unary_at-returns-in-Some-Update-clause-placed
 operators::unary_at-returns-in-Some-Update-clause-placed t c = c.updated_at.ensures.placed
     (prefix_update _ _ (sym (rw c.in-Some-Update.field-0-is at c.in-Some-Update.ensures)))
 
@@ -872,14 +938,16 @@ operators::postfix_at-returns-clause-placed t c = closed _
 pub primaries::primary_at-returns-in-Bracket-clause-placed : goal.primaries::primary_at-returns-in-Bracket-clause-placed
 primaries::primary_at-returns-in-Bracket-clause-placed t c = c.array_at.ensures.placed
 
-pub primaries::primary_at-returns-in-Parenthesis-clause-placed : goal.primaries::primary_at-returns-in-Parenthesis-clause-placed
+pub primaries::primary_at-returns-in-Parenthesis-clause-placed :
+    goal.primaries::primary_at-returns-in-Parenthesis-clause-placed
 primaries::primary_at-returns-in-Parenthesis-clause-placed t c = c.parenthesized_at.ensures.placed
 
 pub primaries::primary_at-returns-in-Brace-clause-placed : goal.primaries::primary_at-returns-in-Brace-clause-placed
 primaries::primary_at-returns-in-Brace-clause-placed t c = c.object_at.ensures.placed
     (start_brace _ (sym c.in-Brace.ensures))
 
-pub primaries::primary_at-returns-in-Function-clause-placed : goal.primaries::primary_at-returns-in-Function-clause-placed
+pub primaries::primary_at-returns-in-Function-clause-placed :
+    goal.primaries::primary_at-returns-in-Function-clause-placed
 primaries::primary_at-returns-in-Function-clause-placed t c = c.function_at.ensures.placed c.args.nodes.now
     (symbol _ (fixed kinds.Function) _ _ (start_function _ (sym c.in-Function.ensures)) c.tail.ensures)
 

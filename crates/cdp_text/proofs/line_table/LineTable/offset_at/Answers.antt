@@ -33,7 +33,8 @@ returns-else-offset-next_start c =
     let inside : c.in_ok-start.start + c.args.p.col < end_of_line c.args.u.now c.args.p.line
     → is_inside_cr_lf c.args.u.now (c.in_ok-start.start + c.args.p.col) ≡ true = λ below.
     elim c.else-offset-next_start.branch [
-      | else-offset-next_start-via-then-offset-next_start+else-not-is_inside_cr_lf w ↦ sym w.if-not-is_inside_cr_lf.ensures
+      | else-offset-next_start-via-then-offset-next_start+else-not-is_inside_cr_lf w ↦ sym
+          w.if-not-is_inside_cr_lf.ensures
       | else-offset-next_start-via-else-offset-next_start w ↦ absurd (omega arith)
     ] in
     let none = Finds-none c.args.u.now c.args.p
