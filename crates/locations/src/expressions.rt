@@ -83,7 +83,6 @@ pub fn function_marks(marks: &mut Vec<Marked>, node: u32, body: &Stmts) -> Resul
 
 /// An arrow's expression body.
 #[cycle(tree_marks)]
-#[tactic(auto, using(crate::proofs::WordLemmas::node_made))]
 fn returned_marks(marks: &mut Vec<Marked>, body: &Expr) -> Result<(), AllocError>
     ensures { OnOk result (marks.new.items ≡ marks.old.items ++ definitions.in_returned (expression_marks body.now)) }
 {

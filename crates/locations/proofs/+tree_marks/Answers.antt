@@ -9,10 +9,11 @@ use Rattle.js_tree.specs.declared.tree.Catch.{Catch}
 use Rattle.js_semantics.specs.Makers.{place_or}
 use Rattle.js_semantics.specs.Sources.{expression_source}
 use Rattle.js_semantics.specs.declared.form.Mark.{Mark}
+use Rattle.js_semantics.specs.declared.form.Mark.TheVariants.{Start as start}
 use Rattle.locations.specs.declared.spot.SpotKind.TheVariants as kinds
 use Rattle.locations.specs.Marks.{Marks, Marking, at, beginning, together, in_present, where_present, in_returned, expression_marks, property_marks, key_marks, statement_marks, catch_marks, block_marks, declarators_marks}
 use Rattle.locations.proofs.TreeLemmas.{marks_array, marks_arrow, marks_arrow_block, marks_assign, marks_binary, marks_block, marks_block_body, marks_boolean, marks_break, marks_call, marks_catch, marks_comma, marks_computed_key, marks_conditional, marks_continue, marks_debugger, marks_declarators, marks_do_while, marks_empty, marks_expression, marks_expressions, marks_for, marks_for_lexical, marks_for_of, marks_function, marks_function_declaration, marks_if, marks_index, marks_lexical, marks_member, marks_method, marks_name, marks_null, marks_number, marks_number_key, marks_object, marks_parenthesized, marks_postfix, marks_prefix, marks_properties, marks_return, marks_shorthand, marks_statements, marks_string, marks_string_key, marks_this, marks_throw, marks_try, marks_unary, marks_value, marks_while, marks_word_key}
-use Rattle.locations.proofs.WordLemmas.{word_made}
+use Rattle.locations.proofs.WordLemmas.{node_made, word_made}
 use Rattle.locations.proofs.WalkLemmas.{before, last, same, same_last, none, expression_last, part_last, all_over, in_all_together, declarators_together}
 use Rattle.locations.proofs.+tree_marks.Goals as goal
 
@@ -103,6 +104,12 @@ expressions::expression_marks-returns-in_ok-add-in-Call t c = expression_last c.
     ∙ ap (λ (w : Option Mark). place_or w c.in-Call.parentheses.0) (sym (word_made c.in-Call.callee.value)))
     _ _ c.in_ok-add-in-Call.ensures))
     c.expressions_marks-in-Call.ensures)
+
+pub expressions::returned_marks-returns : goal.expressions::returned_marks-returns
+expressions::returned_marks-returns t c = last _ _ _ _ _ _
+    (same (λ (m : Mark). at kinds.Return m) _ _ (ap start (c.node_of.ensures ∙ sym (node_made c.args.body.now))) _ _
+    c.in_ok-add.ensures)
+    c.expression_marks.ensures
 
 pub expressions::expression_marks-returns-in-Postfix : goal.expressions::expression_marks-returns-in-Postfix
 expressions::expression_marks-returns-in-Postfix t c = expression_last c.args.e.now _ _ _ _
