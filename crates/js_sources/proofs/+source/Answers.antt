@@ -414,9 +414,9 @@ expressions::expression_term-returns-in_ok-arguments-in-Call t c = made_tail c.a
     (of_three
     (λ (m : Mark) (f : semantics.Term) (a : semantics.Terms). makers.call_term m
     (context_of c.args.place).statement f a)
-    _ _ (c.place_or-mark.ensures
-    ∙ ap (λ w. makers.place_or w c.in-Call.parentheses.0)
-    (c.last_word.ensures ∙ ap (λ (a : Expr). (expression_source a).last_word) c.deref-in-Call.ensures))
+    _ _ (c.call_place-mark.ensures
+    ∙ ap (λ (a : Expr). makers.place_or (expression_source a).last_word c.in-Call.parentheses.0)
+    c.deref-in-Call.ensures)
     _ _ (plain_so _ _ c.deref-in-Call-2.ensures (context_of c.args.place) _ c.in_ok-callee-in-Call.ensures)
     _ _ c.in_ok-arguments-in-Call.ensures _ c.call_term.ensures)
 
