@@ -217,8 +217,7 @@ none-resume-by : (scripts : List Script) (m : Meaning Run) (b : Bool) → some f
     → some fell
     (if b then record m {
       stop = None;
-      seats = each (resumed_seat (protocol scripts))
-          m.seats;
+      seats = each (resumed_seat (protocol scripts)) m.seats;
     } else m).seats ≡ false
 none-resume-by scripts m true none = none-resumed (protocol scripts) m.seats none
 none-resume-by scripts m false none = none

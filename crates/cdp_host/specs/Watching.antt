@@ -40,8 +40,7 @@ step_held s t =
     record {
       standing = s;
       arrival = t.arrival;
-      values = option_map (λ vs. vs.items)
-          t.values;
+      values = option_map (λ vs. vs.items) t.values;
       ending = t.ending;
       first = t.first;
     }

@@ -129,8 +129,7 @@ rest-paused {C} {T} {Q} {X} P moment m well =
 settled-shut : {C T Q X : Type 0} → (P : Protocol C T Q X) (m : Meaning C Q X) (enabled paused : Bool)
     → (if enabled then m else if paused then record m {
       stop = None;
-      seats = each (resumed_seat P)
-          m.seats;
+      seats = each (resumed_seat P) m.seats;
     } else m).shut ≡ m.shut
 settled-shut P m true paused = refl
 settled-shut P m false true = refl
@@ -161,8 +160,7 @@ run-shut {C} {T} {Q} {X} P moment gone n m =
 settled-phase : {C T Q X : Type 0} → (P : Protocol C T Q X) (m : Meaning C Q X) (enabled paused : Bool)
     → (if enabled then m else if paused then record m {
       stop = None;
-      seats = each (resumed_seat P)
-          m.seats;
+      seats = each (resumed_seat P) m.seats;
     } else m).phase ≡ m.phase
 settled-phase P m true paused = refl
 settled-phase P m false true = refl
