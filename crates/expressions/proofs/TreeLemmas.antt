@@ -28,28 +28,3 @@ pub if_declared : (node : NodeId) (test : Expr) (consequent : Box Stmt) (alterna
     → declared_literals (statement_view (tree.If node test consequent alternate)) ≡ []
 if_declared node test consequent None = ap declared_literals (view_if_then node test consequent)
 if_declared node test consequent (Some s) = ap declared_literals (view_if_else node test consequent s)
-
-pub ruleset expression_laws = (
-  view_this,
-  view_name,
-  view_number,
-  view_string,
-  view_boolean,
-  view_null,
-  view_array,
-  view_object,
-  view_function,
-  view_arrow,
-  view_arrow_block,
-  view_parenthesized,
-  view_member,
-  view_index,
-  view_call,
-  view_postfix,
-  view_prefix,
-  view_unary,
-  view_binary,
-  view_conditional,
-  view_assign,
-  view_comma,
-)

@@ -4,7 +4,6 @@
 
 mod literals;
 mod preparing;
-mod targets;
 
 pub use literals::source_literals;
 pub use preparing::{prepare, prepare_function};

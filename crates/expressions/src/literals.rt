@@ -6,8 +6,8 @@ ghost use Rattle.js_semantics.specs.Literals as literals;
 ghost use Rattle.js_semantics.specs.Literals.{source_literals};
 ghost use Rattle.expressions.specs.Items.{alternate_literals, item_literals};
 
-use crate::targets::is_target;
 use cdp_text::units::Units;
+use js_tree::targets::is_target;
 use js_tree::tree::{
     Block, Catch, Declarator, Declarators, Expr, Exprs, PropertyDefinition, PropertyDefinitions,
     PropertyName, Stmt, Stmts,

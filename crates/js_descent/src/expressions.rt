@@ -27,8 +27,9 @@ use js_syntax::classes::arrows::{Head, arrow_head};
 use js_syntax::classes::expressions::{Joint, joint_of};
 use js_syntax::fault::ParseError;
 use js_syntax::nodes::Nodes;
-use js_syntax::targets::{assignment_kind, is_target};
+use js_syntax::targets::assignment_kind;
 use js_syntax::token::{expect, is_next, tail};
+use js_tree::targets::is_target;
 use js_tree::tree::Expr;
 
 /// An Expression, at most `room` high.

@@ -25,8 +25,9 @@ use js_operators::operator::{BinaryOperator, UnaryOperator, UpdateOperator};
 use js_syntax::classes::expressions::{Prefix, operator_of, prefix_of, update_near};
 use js_syntax::fault::ParseError;
 use js_syntax::nodes::Nodes;
-use js_syntax::targets::{above, is_property, is_target, strength};
+use js_syntax::targets::{above, is_property, strength};
 use js_syntax::token::tail;
+use js_tree::targets::is_target;
 use js_tree::tree::Expr;
 
 /// An operation of this strength at least, at most `room` high.

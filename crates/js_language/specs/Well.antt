@@ -8,6 +8,7 @@ use Rattle.js_operators.specs.declared.operator.UnaryOperator.TheVariants as una
 use Rattle.js_operators.specs.declared.operator.BinaryOperator.{BinaryOperator}
 use Rattle.js_operators.specs.declared.operator.BinaryOperator.TheVariants as binaries
 use Rattle.js_tree.specs.Trees.{Identifier, Parameters, one_name, name_list, Expression, name, array, object, function, arrow, arrow_block, parenthesized, member, index, call, postfix, prefix, unary, binary, conditional, assign, comma, Expressions, no_expressions, an_expression, OptionalExpression, omitted, present, Key, computed_key, Property, shorthand, value, method, Properties, no_properties, a_property, Declarator, declarator, Declarators, no_declarators, a_declarator, Statement, block, lexical, expression, if_then, if_else, do_while, while, for, for_lexical, for_of, continue, break, return, throw, try, declared_function, Handler, no_catch, catch, Finalizer, no_finally, finally, Statements, no_statements, a_statement}
+use Rattle.js_tree.specs.Targets.{is_target}
 use Rattle.js_language.specs.Tokens.{fixed, Mark, token}
 use Rattle.js_language.specs.Flat.{flat}
 
@@ -86,14 +87,6 @@ is_property (member e n) = true
 is_property (index e k) = true
 is_property (parenthesized e) = is_property e
 is_property _ = false
-
--- a name or a property, also in parentheses (13.15.1, AssignmentTargetType)
-abbrev pub is_target : Expression → Bool
-is_target (name n) = true
-is_target (member e n) = true
-is_target (index e k) = true
-is_target (parenthesized e) = is_target e
-is_target _ = false
 
 -- an operand that the operator takes: that of delete is a property; the project's own, ECMA-262 (13.5.1) also lets
 -- values through

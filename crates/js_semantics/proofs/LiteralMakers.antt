@@ -16,7 +16,8 @@ use Rattle.js_semantics.specs.Terms.{Mark, to_name, read, literal, Term, done, s
 use Rattle.js_semantics.specs.Run.{literals, literals_of}
 use Rattle.js_semantics.specs.Makers.{Context, Made, Items, unnamed, naming, within, plain, plains, assigned_to, compounded, updated, deleted, type_of, operator_of, assignment, unary_term, binary_term, comma_term, call_term, function_term, PropertyKey, fixed_key, computed_key, value_property, method_property, Parts, property_parts, properties_parts, block_term, initializer_terms, declarators_terms, optional_term, optional_terms, CatchMade, caught, finally_term}
 use Rattle.js_semantics.specs.Sources.{expression_source}
-use Rattle.js_semantics.specs.Literals.{is_target, expression_literals, expressions_literals, optional_literals, key_literals, property_literals, properties_literals, declarator_literals, declarators_literals, statement_literals, declared_literals, handler_literals, finalizer_literals, statements_literals}
+use Rattle.js_semantics.specs.Literals.{expression_literals, expressions_literals, optional_literals, key_literals, property_literals, properties_literals, declarator_literals, declarators_literals, statement_literals, declared_literals, handler_literals, finalizer_literals, statements_literals}
+use Rattle.js_tree.specs.Targets.{is_target}
 use Rattle.js_semantics.proofs.SourceFolds.{Relations, Keeps, expression-related}
 
 -- ---- the sum of a measure over some literals, and over those of a term

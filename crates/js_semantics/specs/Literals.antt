@@ -5,15 +5,8 @@ use Rattle.std.specs.Prelude.{ℕ, Bool, true, false, List, [], ◌∷◌, ◌++
 use Rattle.js_tree.specs.declared.tree.Expr.{Expr}
 use Rattle.js_tree.specs.Trees as trees
 use Rattle.js_tree.specs.Trees.{Expression, Expressions, OptionalExpression, Key, Property, Properties, Statement, Statements, Handler, Finalizer}
+use Rattle.js_tree.specs.Targets.{is_target}
 use Rattle.js_tree.specs.Views.{expression_view}
-
--- a name or a property, also in parentheses
-abbrev pub is_target : Expression → Bool
-is_target (trees.name x) = true
-is_target (trees.member e key) = true
-is_target (trees.index e k) = true
-is_target (trees.parenthesized e) = is_target e
-is_target _ = false
 
 -- the string literals of each type of tree, in order
 abbrev mutual

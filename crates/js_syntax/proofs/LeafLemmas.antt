@@ -7,7 +7,8 @@ use Rattle.js_language.specs.Tokens.{Token, End, after_word, absent, head_of, ta
 use Rattle.js_tree.specs.Trees as trees
 use Rattle.js_tree.specs.Trees.{Identifier, Expression, Parameters, Key, Handler, Statement}
 use Rattle.js_language.specs.Flat.{assign_kind}
-use Rattle.js_language.specs.Well.{function_body, Context, is_among, is_target, is_property, strength}
+use Rattle.js_language.specs.Well.{function_body, Context, is_among, is_property, strength}
+use Rattle.js_tree.specs.Targets.{is_target}
 use Rattle.js_operators.specs.declared.operator.UnaryOperator.TheVariants as unaries
 use Rattle.js_language.specs.Kinds.{is_kind}
 use Rattle.js_syntax.specs.Reading.{with_names, deep, Read, Reader, ◌>>=◌, expect, expect_near, name_at, fresh_name, word_at, is_word_next, semicolon_at, After, goes_on, ends, neither, after, go_after, elements, elements_by, others, others_by, items, items_by, ends_list, with_name, no_state}

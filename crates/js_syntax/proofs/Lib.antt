@@ -3,7 +3,6 @@ pub mod KindLemmas
 pub mod NameLemmas
 pub mod FreshLemmas
 pub mod SpanLemmas
-pub mod ViewLemmas
 pub mod LinkLemmas
 pub mod LoopStepLemmas
 pub mod LeafLemmas

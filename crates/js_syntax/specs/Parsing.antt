@@ -9,7 +9,8 @@ use Rattle.js_tree.specs.Trees as trees
 use Rattle.js_tree.specs.Trees.{Identifier, Parameters, Expression, Key, Property, Properties, Statement, Statements, Handler, Finalizer}
 use Rattle.js_language.specs.Tokens.{Token, after_word, after_do, head_of, tail_of, is_on_line}
 use Rattle.js_language.specs.Flat.{end_of_declarators, assign_kind}
-use Rattle.js_language.specs.Well.{Context, top, function_body, loop_body, strength, is_property, is_target, is_among}
+use Rattle.js_language.specs.Well.{Context, top, function_body, loop_body, strength, is_property, is_among}
+use Rattle.js_tree.specs.Targets.{is_target}
 use Rattle.js_tree.specs.Height.{height, height_of_key}
 use Rattle.js_tree.specs.Views.{properties}
 use Rattle.js_language.specs.Kinds.{is_kind}

@@ -36,7 +36,7 @@ pub fn semicolon_at<'t, 's>(
 }
 
 /// What the last token of an expression ends.
-#[tactic(auto, using(crate::proofs::ViewLemmas::expression_laws))]
+#[tactic(auto, using(js_tree::proofs::ViewLemmas::expression_laws))]
 pub fn edge_of(tree: &Expr) -> Edge
     ensures { edge_view result ≡ flat.edge (expression_view tree.now) }
 {

@@ -1,4 +1,4 @@
-//! What an operator may assign to or delete.
+//! What `delete` takes, and how tightly operators bind.
 
 ghost use Rattle.std.specs.Prelude.{◌≡◌, suc};
 ghost use Rattle.js_language.specs.Flat as flat;
@@ -10,7 +10,7 @@ use js_operators::operator::{AssignmentOperator, BinaryOperator};
 use js_tree::tree::Expr;
 
 /// Whether an expression is a property, also in parentheses.
-#[tactic(auto, using(crate::proofs::ViewLemmas::expression_laws))]
+#[tactic(auto, using(js_tree::proofs::ViewLemmas::expression_laws))]
 pub fn is_property(tree: &Expr) -> bool
     ensures { result ≡ well.is_property (expression_view tree.now) }
 {
@@ -18,24 +18,6 @@ pub fn is_property(tree: &Expr) -> bool
         Expr::Member { .. } | Expr::Index { .. } => true,
         Expr::Parenthesized { inner, .. } => is_property(inner),
         Expr::This { .. } | Expr::Name { .. } | Expr::Number { .. } | Expr::String { .. } => false,
-        Expr::Boolean { .. } | Expr::Null { .. } | Expr::Array { .. } => false,
-        Expr::Object { .. } | Expr::Function { .. } | Expr::Arrow { .. } => false,
-        Expr::ArrowBlock { .. } | Expr::Call { .. } | Expr::Postfix { .. } => false,
-        Expr::Prefix { .. } | Expr::Unary { .. } | Expr::Binary { .. } => false,
-        Expr::Conditional { .. } | Expr::Assign { .. } | Expr::Comma { .. } => false,
-    }
-}
-
-/// Whether an expression is a name or a property, also in parentheses (ECMA-262, 13.15.1,
-/// AssignmentTargetType).
-#[tactic(auto, using(crate::proofs::ViewLemmas::expression_laws))]
-pub fn is_target(tree: &Expr) -> bool
-    ensures { result ≡ well.is_target (expression_view tree.now) }
-{
-    match tree {
-        Expr::Name { .. } | Expr::Member { .. } | Expr::Index { .. } => true,
-        Expr::Parenthesized { inner, .. } => is_target(inner),
-        Expr::This { .. } | Expr::Number { .. } | Expr::String { .. } => false,
         Expr::Boolean { .. } | Expr::Null { .. } | Expr::Array { .. } => false,
         Expr::Object { .. } | Expr::Function { .. } | Expr::Arrow { .. } => false,
         Expr::ArrowBlock { .. } | Expr::Call { .. } | Expr::Postfix { .. } => false,

@@ -522,3 +522,28 @@ catch_of c = view_catch c.parameter c.block
 
 pub declarator_of : (d : Declarator) → declarator_view d ≡ trees.declarator d.name (optional_view d.initializer)
 declarator_of d = view_declarator d.name d.initializer
+
+pub ruleset expression_laws = (
+  view_this,
+  view_name,
+  view_number,
+  view_string,
+  view_boolean,
+  view_null,
+  view_array,
+  view_object,
+  view_function,
+  view_arrow,
+  view_arrow_block,
+  view_parenthesized,
+  view_member,
+  view_index,
+  view_call,
+  view_postfix,
+  view_prefix,
+  view_unary,
+  view_binary,
+  view_conditional,
+  view_assign,
+  view_comma,
+)

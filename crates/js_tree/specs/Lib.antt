@@ -4,3 +4,4 @@ pub mod Height
 pub mod Spans
 pub mod Kept
 pub mod Scripts
+pub mod Targets

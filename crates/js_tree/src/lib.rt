@@ -14,4 +14,5 @@ pub mod node;
 pub mod script;
 pub mod scripts;
 pub mod span;
+pub mod targets;
 pub mod tree;

@@ -7,7 +7,8 @@ use Rattle.js_operators.specs.declared.operator.BinaryOperator.TheVariants as bi
 use Rattle.js_tree.specs.Trees.{Expression, this, name, number, string, boolean, null, array, object, function, arrow, arrow_block, parenthesized, member, index, call, postfix, prefix, unary, binary, conditional, assign, comma}
 use Rattle.js_language.specs.Tokens.{Token, Edge, plain, braces, update, head_of}
 use Rattle.js_language.specs.Flat.{edge}
-use Rattle.js_language.specs.Well.{strength, level, is_property, is_target, Well}
+use Rattle.js_language.specs.Well.{strength, level, is_property, Well}
+use Rattle.js_tree.specs.Targets.{is_target}
 use Rattle.js_tree.specs.Height.{height}
 use Rattle.js_syntax.specs.Classes.{operator}
 use Rattle.js_syntax.specs.Parsing.{operator_from}

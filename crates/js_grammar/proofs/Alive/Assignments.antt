@@ -11,7 +11,8 @@ use Rattle.js_tree.specs.Trees.{Identifier, Parameters, Expression, Expressions}
 use Rattle.js_language.specs.Tokens.{Token, fixed, identifier, numeric_literal, Mark, token, beside, head_of, tail_of, IsNext, Matches}
 use Rattle.js_language.specs.Flat as flats
 use Rattle.js_language.specs.Flat.{assign_kind, flat, flat_expressions, more_expressions, flat_parameters, flat_arrow_parameters}
-use Rattle.js_language.specs.Well.{function_body, is_target, Well, AreAssignments, AreFresh, names_of_parameters, begins_with_brace, is_two_expressions, declared_names}
+use Rattle.js_language.specs.Well.{function_body, Well, AreAssignments, AreFresh, names_of_parameters, begins_with_brace, is_two_expressions, declared_names}
+use Rattle.js_tree.specs.Targets.{is_target}
 use Rattle.js_tree.specs.Height.{height}
 use Rattle.js_language.specs.Kinds.{is_kind}
 use Rattle.js_syntax.specs.Reading.{Fault, stuck, Read, ◌>>=◌, expect, expect_near, name_at, elements, no_state, with_names}

@@ -13,7 +13,8 @@ use Rattle.js_tree.specs.Trees.{Expression, Key, Property, Properties}
 use Rattle.js_language.specs.Tokens.{Token, fixed, identifier, identifier_name, numeric_literal, Mark, token, beside, head_of, tail_of, IsNext, Matches}
 use Rattle.js_language.specs.Flat as flats
 use Rattle.js_language.specs.Flat.{unary_kind, update_kind, binary_kind, flat, flat_parameters, flat_statements, flat_key, flat_property, flat_properties, trailing_property}
-use Rattle.js_language.specs.Well.{level, strength, is_property, is_target, WellKey, WellProperty, WellProperties, is_function}
+use Rattle.js_language.specs.Well.{level, strength, is_property, WellKey, WellProperty, WellProperties, is_function}
+use Rattle.js_tree.specs.Targets.{is_target}
 use Rattle.js_tree.specs.Height.{height, height_of_key}
 use Rattle.js_tree.specs.Views.{properties}
 use Rattle.js_syntax.specs.Reading.{Fault, stuck, deep, Read, Reader, ◌>>=◌, name_at, text_of, is_word_next, word_at, elements, no_state}

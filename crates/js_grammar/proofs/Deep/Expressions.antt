@@ -6,7 +6,8 @@ use Rattle.js_tree.specs.Trees as trees
 use Rattle.js_tree.specs.Trees.{Identifier, Parameters, Expression, Key}
 use Rattle.js_language.specs.Tokens.{head_of, tail_of}
 use Rattle.js_language.specs.Flat.{assign_kind}
-use Rattle.js_language.specs.Well.{function_body, is_target}
+use Rattle.js_language.specs.Well.{function_body}
+use Rattle.js_tree.specs.Targets.{is_target}
 use Rattle.js_tree.specs.Height.{height, height_of_key}
 use Rattle.js_tree.specs.Views.{properties}
 use Rattle.js_language.specs.Kinds.{is_kind}

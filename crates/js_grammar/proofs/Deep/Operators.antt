@@ -7,7 +7,8 @@ use Rattle.js_operators.specs.declared.operator.UnaryOperator.TheVariants as una
 use Rattle.js_tree.specs.Trees as trees
 use Rattle.js_tree.specs.Trees.{Expression}
 use Rattle.js_language.specs.Tokens.{head_of, tail_of}
-use Rattle.js_language.specs.Well.{strength, is_property, is_target}
+use Rattle.js_language.specs.Well.{strength, is_property}
+use Rattle.js_tree.specs.Targets.{is_target}
 use Rattle.js_tree.specs.Height.{height}
 use Rattle.js_language.specs.Kinds.{is_kind}
 use Rattle.js_syntax.specs.Reading.{stuck, deep, Read, Reader, ◌>>=◌, word_at}

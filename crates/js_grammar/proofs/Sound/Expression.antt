@@ -8,7 +8,8 @@ use Rattle.js_tree.specs.Trees.{Identifier, Parameters, Expression, Expressions}
 use Rattle.js_language.specs.Tokens.{Token, fixed, Mark, token, beside, head_of, Matches}
 use Rattle.js_language.specs.Flat as flats
 use Rattle.js_language.specs.Flat.{assign_kind, flat, more_expressions, flat_names, flat_parameters, flat_arrow_parameters, flat_statements}
-use Rattle.js_language.specs.Well.{function_body, is_target, is_among, AreFresh, names_of_parameters, is_two_expressions, is_function}
+use Rattle.js_language.specs.Well.{function_body, is_among, AreFresh, names_of_parameters, is_two_expressions, is_function}
+use Rattle.js_tree.specs.Targets.{is_target}
 use Rattle.js_tree.specs.Height.{height}
 use Rattle.js_language.specs.Kinds.{is_kind}
 use Rattle.js_syntax.specs.Reading.{stuck, ◌>>=◌, expect, expect_near, name_at, with_names}

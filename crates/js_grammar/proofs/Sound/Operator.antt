@@ -9,7 +9,8 @@ use Rattle.js_tree.specs.Trees as trees
 use Rattle.js_tree.specs.Trees.{Expression}
 use Rattle.js_language.specs.Tokens.{Token, fixed, token, beside, head_of, tail_of}
 use Rattle.js_language.specs.Flat.{flat, unary_kind, update_kind, binary_kind}
-use Rattle.js_language.specs.Well.{level, strength, is_property, is_target}
+use Rattle.js_language.specs.Well.{level, strength, is_property}
+use Rattle.js_tree.specs.Targets.{is_target}
 use Rattle.js_tree.specs.Height.{height}
 use Rattle.js_syntax.specs.Reading.{stuck, deep, Read, Reader, ◌>>=◌}
 use Rattle.js_syntax.specs.Classes.{update_near, Prefix, deletes, a_unary, an_update, no_prefix, prefix, operator}

@@ -1,5 +1,6 @@
 use Rattle.std.proofs.Common.{ap, refl, ◌∙◌}
 use Rattle.js_tree.specs.declared.tree.Expr.{Expr}
+use Rattle.js_tree.specs.Targets.{is_target}
 use Rattle.js_tree.specs.Views.{expression_view, statement_view, key_view, property_view, optional_view, handler_view, finalizer_view}
 use Rattle.js_tree.proofs.ViewLemmas.{view_this, view_name, view_number, view_string, view_boolean, view_null, view_array, view_object, view_function, view_arrow, view_arrow_block, view_parenthesized, view_member, view_index, view_call, view_postfix, view_prefix, view_unary, view_binary, view_conditional, view_assign, view_comma, view_lexical_declaration, view_empty_statement, view_expression_statement, view_do_while_statement, view_while_statement, view_for_statement, view_for_lexical_statement, view_for_of_statement, view_continue_statement, view_break_statement, view_return_statement, view_throw_statement, view_try_statement, view_debugger_statement, view_function_declaration, view_word_key, view_string_key, view_number_key, view_computed_key, view_shorthand_property, view_property, view_method, view_block_statement}
 use Rattle.js_semantics.specs.Literals as literals
@@ -158,7 +159,7 @@ add_expression-returns-in_ok-add_expression-in-Assign t c =
     (ap source_literals c.deref-in-Assign.ensures)
     (assigned _ _ _ _
     (c.is_target.ensures
-    ∙ ap (λ (e : Expr). literals.is_target (expression_view e)) c.deref-in-Assign-3.ensures)
+    ∙ ap (λ (e : Expr). is_target (expression_view e)) c.deref-in-Assign-3.ensures)
     c.deref-in-Assign-2.ensures)
 
 pub add_expression-returns-in-Comma : goal.add_expression-returns-in-Comma

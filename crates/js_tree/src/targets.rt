@@ -1,13 +1,14 @@
-//! What an assignment may be made to.
+//! What may be assigned to.
 
 ghost use Rattle.std.specs.Prelude.{◌≡◌};
+ghost use Rattle.js_tree.specs.Targets.{is_target};
 ghost use Rattle.js_tree.specs.Views.{expression_view};
-ghost use Rattle.js_semantics.specs.Literals.{is_target};
 
-use js_tree::tree::Expr;
+use crate::tree::Expr;
 
-/// Whether an expression is a name or a property, also in parentheses.
-#[tactic(auto, using(crate::proofs::TreeLemmas::expression_laws))]
+/// Whether an expression is a name or a property, also in parentheses (ECMA-262,
+/// 13.15.1, AssignmentTargetType).
+#[tactic(auto, using(crate::proofs::ViewLemmas::expression_laws))]
 pub fn is_target(e: &Expr) -> bool
     ensures { result ≡ is_target (expression_view e.now) }
 {
