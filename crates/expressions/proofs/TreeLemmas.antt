@@ -6,7 +6,7 @@ use Rattle.js_tree.specs.declared.tree.Expr.{Expr}
 use Rattle.js_tree.specs.declared.tree.Stmt.{Stmt}
 use Rattle.js_tree.specs.declared.tree.Expr.TheViews as tree
 use Rattle.js_tree.specs.Views.{expression_view, statement_view}
-use Rattle.js_tree.proofs.ViewLemmas.{view_if_then, view_if_else, view_this, view_name, view_number, view_string, view_boolean, view_null, view_array, view_object, view_function, view_arrow, view_arrow_block, view_parenthesized, view_member, view_index, view_call, view_postfix, view_prefix, view_unary, view_binary, view_conditional, view_assign, view_comma}
+use Rattle.js_tree.proofs.ViewLemmas.{view_if_then, view_if_else}
 use Rattle.js_semantics.specs.Literals.{expression_literals, statement_literals, declared_literals}
 use Rattle.expressions.specs.Items.{alternate_literals}
 

@@ -7,7 +7,7 @@ use Rattle.js_operators.specs.declared.operator.UnaryOperator.{UnaryOperator}
 use Rattle.js_operators.specs.declared.operator.UnaryOperator.TheVariants as unaries
 use Rattle.js_operators.specs.declared.operator.BinaryOperator.{BinaryOperator}
 use Rattle.js_operators.specs.declared.operator.BinaryOperator.TheVariants as binaries
-use Rattle.js_tree.specs.Trees.{Identifier, Parameters, one_name, name_list, Expression, name, array, object, function, arrow, arrow_block, parenthesized, member, index, call, postfix, prefix, unary, binary, conditional, assign, comma, Expressions, no_expressions, an_expression, OptionalExpression, omitted, present, Key, computed_key, Property, shorthand, value, method, Properties, no_properties, a_property, Declarator, declarator, Declarators, no_declarators, a_declarator, Statement, block, lexical, expression, if_then, if_else, do_while, while, for, for_lexical, for_of, continue, break, return, throw, try, declared_function, Handler, no_catch, catch, Finalizer, no_finally, finally, Statements, no_statements, a_statement}
+use Rattle.js_tree.specs.Trees.{Identifier, Parameters, one_name, name_list, Expression, array, object, function, arrow, arrow_block, parenthesized, member, index, call, postfix, prefix, unary, binary, conditional, assign, comma, Expressions, no_expressions, an_expression, OptionalExpression, omitted, present, Key, computed_key, Property, shorthand, value, method, Properties, no_properties, a_property, Declarator, declarator, Declarators, no_declarators, a_declarator, Statement, block, lexical, expression, if_then, if_else, do_while, while, for, for_lexical, for_of, continue, break, return, throw, try, declared_function, Handler, no_catch, catch, Finalizer, no_finally, finally, Statements, no_statements, a_statement}
 use Rattle.js_tree.specs.Targets.{is_target}
 use Rattle.js_language.specs.Tokens.{fixed, Mark, token}
 use Rattle.js_language.specs.Flat.{flat}

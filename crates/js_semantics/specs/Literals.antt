@@ -1,7 +1,7 @@
 -- The string literals of a tree in the order of its source. A key that is a string literal makes no cell, and is none
 -- of them. Nor are those of what the makers drop, which no source has: a function that is declared elsewhere than in a
 -- list of statements, and the value of an assignment to what is no target.
-use Rattle.std.specs.Prelude.{ℕ, Bool, true, false, List, [], ◌∷◌, ◌++◌, if◌then◌else◌}
+use Rattle.std.specs.Prelude.{ℕ, List, [], ◌∷◌, ◌++◌, if◌then◌else◌}
 use Rattle.js_tree.specs.declared.tree.Expr.{Expr}
 use Rattle.js_tree.specs.Trees as trees
 use Rattle.js_tree.specs.Trees.{Expression, Expressions, OptionalExpression, Key, Property, Properties, Statement, Statements, Handler, Finalizer}
