@@ -1,7 +1,6 @@
 -- Loops over scripts: from one script to those behind it.
-use Rattle.std.proofs.Common.{◌≡◌, ℕ, suc, ◌+◌, ◌<◌, List, [], ◌∷◌, ◌++◌, length, drop, get_or, map, Option, sym, ap, ◌∙◌, add-one, append_assoc}
+use Rattle.std.proofs.Common.{◌≡◌, ℕ, ◌+◌, ◌<◌, List, [], ◌∷◌, ◌++◌, length, drop, get_or, map, Option, sym, ap, ◌∙◌, append_assoc}
 use Rattle.std.specs.Prelude.{if◌then◌else◌, option_to_list}
-use Rattle.std.proofs.Math.Seq.{drop-cons}
 use Rattle.std.proofs.lemmas.Bool.{eq-eqb}
 use Rattle.std.proofs.lemmas.List.{map-append}
 use Rattle.std.specs.Global.{Vec}
@@ -12,12 +11,7 @@ use Rattle.locations.specs.declared.spot.Spot.{Spot}
 use Rattle.locations.specs.Locations.{break_locations}
 use Rattle.breakpoints.specs.Found.{spots_in}
 use Rattle.breakpoints.specs.Resolving.{resolved_in, resolved_of, resolved_at, resolved_by_url}
-
-pub from-here : {X : Type 0} (xs : List X) (i : ℕ) (x : X)
-    → i < length xs
-    → x ≡ get_or xs i x
-    → drop i xs ≡ x ∷ drop (i + 1) xs
-from-here xs i x h e = rw add-one (drop-cons xs i x h ∙ ap (λ y. y ∷ drop (suc i) xs) (sym e))
+use Rattle.cdp_text.proofs.ListLemmas.{from-here}
 
 -- the script of the number that is asked for
 pub resolved-here : (place : Place) (ss : List Script) (i : ℕ) (s : Script) (r : Option Place)

@@ -26,8 +26,9 @@ use Rattle.cdp_host.specs.declared.losses.SessionLost.{SessionLost}
 use Rattle.cdp_host.specs.declared.telling.Answered.{Answered}
 use Rattle.cdp_host.specs.declared.telling.Answered.TheVariants.{Kept, Overran, Failed}
 use Rattle.cdp_host.proofs.HistoryLemmas.{stands-call}
-use Rattle.cdp_host.proofs.PlacedLemmas.{fell-more, put-back}
+use Rattle.cdp_host.proofs.PlacedLemmas.{put-back}
 use Rattle.isolation.proofs.RoomLemmas.{put-fits, append-fits}
+use Rattle.isolation.proofs.StandingLemmas.{none-append}
 
 -- ---- who is attached
 
@@ -193,7 +194,7 @@ attach-here : (h : HostState) (news : List (Seat Session)) (x : Session)
 attach-here h news x is are =
     seats-leave h Attach news
     (λ taken. ap (λ ss. with_seats ss (meaning_with h taken)) (are ∙ ap (λ y. h.meaning.seats ++ Attached y ∷ []) is))
-    (λ none. subst (λ ss. some fell ss ≡ false) (sym are) (fell-more (Attached x) h.meaning.seats refl none))
+    (λ none. subst (λ ss. some fell ss ≡ false) (sym are) (none-append (Attached x) h.meaning.seats refl none))
 
 pub attach-leaves : (h old : HostState) (news : List (Seat Session)) (x : Session)
     → h ≡ old

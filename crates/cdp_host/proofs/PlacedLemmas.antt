@@ -1,8 +1,6 @@
 -- One seat among others: where it stands, and what a change of it keeps.
-use Rattle.std.proofs.Common.{◌≡◌, ℕ, zero, suc, ◌-◌, ◌<◌, ◌≤◌, List, [], ◌∷◌, ◌++◌, length, take, slice_index_or, slice_set, false, refl, ap, sym, ◌∙◌, arith}
-use Rattle.std.proofs.lemmas.Bool.{or_parts, or_from}
-use Rattle.isolation.specs.Seats.{put, put_in, seat_in, seat_of, some}
-use Rattle.isolation.specs.Standing.{fell}
+use Rattle.std.proofs.Common.{◌≡◌, ℕ, zero, suc, ◌-◌, ◌<◌, ◌≤◌, List, [], ◌∷◌, ◌++◌, length, take, slice_index_or, slice_set, refl, ap, sym, ◌∙◌, arith}
+use Rattle.isolation.specs.Seats.{put, put_in, seat_in, seat_of}
 use Rattle.isolation.specs.declared.seat.Seat.{Seat}
 use Rattle.isolation.specs.declared.seat.Seat.TheVariants.{Left}
 use Rattle.cdp_session.specs.Sessions.{Session}
@@ -83,14 +81,3 @@ put-back n s new seats news rest full is =
 -- ---- what fits
 
 -- ---- who fell
-
--- with one more that didn't fall
-pub fell-more : {X : Type 0}
-    → (new : Seat X) (seats : List (Seat X))
-    → fell new ≡ false
-    → some fell seats ≡ false
-    → some fell (seats ++ new ∷ []) ≡ false
-fell-more new [] stands none = rw stands refl
-fell-more new (seat ∷ seats) stands none =
-    let parts = or_parts (fell seat) (some fell seats) none in
-    or_from (fell seat) (some fell (seats ++ new ∷ [])) parts.0 (fell-more new seats stands parts.1)

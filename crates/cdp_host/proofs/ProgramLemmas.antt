@@ -1,12 +1,12 @@
 -- Programs: steps, what they print, and the end.
-use Rattle.std.proofs.Common.{◌≡◌, ℕ, zero, suc, ◌+◌, List, [], ◌++◌, true, ◌∙◌, refl, sym, ap, subst, arith, append_assoc, append-nil}
+use Rattle.std.proofs.Common.{◌≡◌, ℕ, zero, suc, ◌+◌, List, [], true, ◌∙◌, refl, sym, ap, subst, arith}
 use Rattle.js_tree.specs.declared.script.Script.{Script}
 use Rattle.js_heap.specs.BuiltIns.{script_scope}
 use Rattle.js_semantics.specs.Run as runs
 use Rattle.js_semantics.specs.Run.{Run, running, over}
 use Rattle.js_semantics.specs.Sources.{terms_of_scripts}
 use Rattle.js_semantics.specs.Laws.{IsPrefix}
-use Rattle.js_semantics.proofs.FollowLemmas.{steps-suc, step-follows, run_of-state}
+use Rattle.js_semantics.proofs.FollowLemmas.{steps-suc, step-follows, run_of-state, prefix-trans, prefix-same}
 use Rattle.cdp_host.specs.Programs.{code_of, start, next, plain, is_over, printed_of}
 
 -- ---- the plain run
@@ -27,15 +27,6 @@ plain-next k scripts input =
 pub start-prints : (scripts : List Script) (input : List (List ℕ)) → printed_of (start scripts input) ≡ []
 unfolding start
 start-prints scripts input = ap (λ s. s.printed) (run_of-state _ _)
-
-pub prefix-same : (part : List (List ℕ)) → IsPrefix part part
-prefix-same part = ([], sym (append-nil part))
-
-pub prefix-trans : (first second third : List (List ℕ))
-    → IsPrefix first second
-    → IsPrefix second third
-    → IsPrefix first third
-prefix-trans first second third h i = (h.0 ++ i.0, i.1 ∙ ap (λ xs. xs ++ i.0) h.1 ∙ append_assoc first h.0 i.0)
 
 pub next-prints : (scripts : List Script) (r : Run) → IsPrefix (printed_of r) (printed_of (next scripts r))
 unfolding next

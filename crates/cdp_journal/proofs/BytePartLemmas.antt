@@ -1,16 +1,16 @@
 -- The parts of bytes are those of texts.
-use Rattle.std.proofs.Common.{◌≡◌, ◌≢◌, ℕ, suc, ◌+◌, ◌-◌, ◌<◌, List, [], ◌∷◌, ◌++◌, length, take, drop, get_or, nat_eq, true, false, ◌==◌, ltb, Option, Some, None, refl, ap, sym, ◌∙◌, arith, Bor}
+use Rattle.std.proofs.Common.{◌≡◌, ◌≢◌, ℕ, ◌+◌, ◌-◌, ◌<◌, List, ◌∷◌, ◌++◌, length, take, drop, get_or, nat_eq, true, false, ◌==◌, ltb, Option, Some, None, ap, sym, ◌∙◌, arith, Bor}
 use Rattle.std.specs.Cmp.Lexicographic.{pointwise}
 use Rattle.std.specs.List.{position, position_or_len}
 use Rattle.std.specs.Option.{MatchOption, option_map}
-use Rattle.std.proofs.lemmas.Bool.{eqb-false, eqb-true, ltb-false, ne_eqb}
+use Rattle.std.proofs.lemmas.Bool.{eqb-false, eqb-true, ltb-false}
 use Rattle.std.proofs.lemmas.Bool.Decides.{Decides-eqb}
 use Rattle.std.proofs.lemmas.List.{drop_more, get_or-take, length-take, take-append-drop, take_rest}
 use Rattle.std.proofs.lemmas.List.Quantifiers.{position-Some}
 use Rattle.std.proofs.lemmas.List.Sums.{fails_before_first}
 use Rattle.std.proofs.lemmas.Slice.Eq.{strip_prefix_is}
 use Rattle.cdp_text.specs.Parts.{behind, halves}
-use Rattle.cdp_text.proofs.PartsLemmas.{behind-append, behind-some, halves-append, none_from_some}
+use Rattle.cdp_text.proofs.PartsLemmas.{behind-append, behind-some, halves-append, none_from_some, halves-none}
 use Rattle.cdp_text.proofs.LinesLemmas.{position-None}
 
 -- ---- a front
@@ -49,13 +49,6 @@ halves-found separator bytes end found =
     rw (get_or-take end bytes i 0 before) (eqb-false (get_or bytes i 0) separator (there.2 i before)) in
     sym (ap (halves separator) whole ∙ halves-append separator front back lacks)
 
-lacks-halves : (separator : ℕ) (bytes : List ℕ) → ((i : ℕ) → i < length bytes → get_or bytes i 0 ≢ separator)
-    → halves separator bytes ≡ None
-lacks-halves separator [] lacks = refl
-lacks-halves separator (byte ∷ bytes) lacks =
-    let others = lacks-halves separator bytes (λ i below. lacks (suc i) (omega (arith, below))) in
-    rw (ne_eqb byte separator (lacks 0 (omega arith)), others) refl
-
 -- with no separator there are none
 pub halves-lost : (separator : ℕ) (bytes : List ℕ) → position (λ byte. byte == separator) bytes ≡ None
     → None ≡ halves separator bytes
@@ -63,4 +56,4 @@ halves-lost separator bytes lost =
     let n : ℕ = position_or_len (λ byte. byte == separator) bytes in
     let far = ltb-false n (length bytes) (position-None (ltb n (length bytes)) n lost) in
     let fails = fails_before_first (λ byte. byte == separator) bytes in
-    sym (lacks-halves separator bytes (λ i below. eqb-false (get_or bytes i 0) separator (fails i 0 (omega arith))))
+    sym (halves-none separator bytes (λ i below. eqb-false (get_or bytes i 0) separator (fails i 0 (omega arith))))

@@ -9,6 +9,7 @@ use Rattle.std.proofs.lemmas.List.Sums.{sum_by_push}
 use Rattle.cdp_text.specs.Lines.{ended}
 use Rattle.cdp_journal.specs.Lines.{Line, line_text}
 use Rattle.cdp_journal.specs.Drills.{drill_closing, drill_journal, drill_opening, drill_source, drill_steps, drill_turn, evens, is_even}
+use Rattle.cdp_text.proofs.ListLemmas.{range-more}
 
 -- ---- the script
 
@@ -22,13 +23,6 @@ source-is n =
     (sym (append_assoc (decimal n) (codes "; i++) {") (codes "\n  f(i);\n}\nconsole.log(t);\n")))
 
 -- ---- how often it stops
-
--- the numbers from the first, one more
-range-more : (first n : ℕ) → range_with_len first (suc n) ≡ range_with_len first n ++ (first + n) ∷ []
-range-more first zero = ap (λ k. k ∷ []) (omega arith)
-range-more first (suc n) =
-    ap (λ rest. first ∷ rest)
-    (range-more (first + 1) n ∙ ap (λ k. range_with_len (first + 1) n ++ k ∷ []) (omega arith))
 
 half-more : (b : Bool) (n : ℕ) → (n % 2 == 0) ≡ b → (n + 1) / 2 + (if b then 1 else 0) ≡ (suc n + 1) / 2
 half-more true n is = let e = eqb-true (n % 2) 0 is in omega arith

@@ -11,6 +11,7 @@ use Rattle.std.proofs.lemmas.List.Sums.{fold-append}
 use Rattle.std.proofs.lemmas.Map.Views.{All-insert_key}
 use Rattle.std.specs.BTreeSet.{insert_key}
 use Rattle.cdp_json.specs.KeyOrder.{ascends, insert_by, in_order, key_at, order_of}
+use Rattle.cdp_text.proofs.ListLemmas.{range-more}
 
 -- ---- the order of what a function gives
 
@@ -89,11 +90,6 @@ pub still_placed : (keys : List (List ℕ)) (k : Bor (List ℕ) × ℕ) (xs : Li
 still_placed keys k xs is all =
     All-insert_key pair_cmp k (λ x. (x.0.now ≡ key_at keys x.1) × (x.1 < k.1 + 1)) xs
     (λ i d lt. let there = all i d lt in (there.0, omega (arith, there.1))) (is, omega arith)
-
-range-more : (a n : ℕ) → range_with_len a (suc n) ≡ range_with_len a n ++ (a + n) ∷ []
-range-more a zero = ap (λ i. i ∷ []) (omega arith)
-range-more a (suc n) =
-    ap (λ is. a ∷ is) (range-more (a + 1) n ∙ ap (λ i. range_with_len (a + 1) n ++ i ∷ []) (omega arith))
 
 pub in_order-place : (key : ℕ → List ℕ) (n : ℕ)
     → in_order key (range_with_len 0 (n + 1)) ≡ insert_by key n (in_order key (range_with_len 0 n))

@@ -5,3 +5,4 @@ pub mod PartsLemmas
 pub mod PositionLemmas
 pub mod UnitsLemmas
 pub mod TestLemmas
+pub mod ListLemmas

@@ -54,7 +54,7 @@ halves-append separator (byte ∷ front) back lacks =
     )
     refl
 
-halves-none : (separator : ℕ) (text : List ℕ)
+pub halves-none : (separator : ℕ) (text : List ℕ)
     → ((i : ℕ) → i < length text → get_or text i 0 ≢ separator)
     → halves separator text ≡ None
 halves-none separator [] lacks = refl

@@ -15,7 +15,8 @@ use Rattle.cdp_host.specs.Histories.{Meaning, apply}
 use Rattle.cdp_host.specs.Programs.{next, plain, printed_of}
 use Rattle.cdp_host.specs.Protocols.{protocol}
 use Rattle.cdp_host.specs.Rules.{printed_between}
-use Rattle.cdp_host.proofs.ProgramLemmas.{next-prints, plain-next, prefix-same, prefix-trans}
+use Rattle.cdp_host.proofs.ProgramLemmas.{next-prints, plain-next}
+use Rattle.js_semantics.proofs.FollowLemmas.{prefix-trans, prefix-same}
 
 -- ---- the program's way
 

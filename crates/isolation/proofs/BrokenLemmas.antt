@@ -10,14 +10,9 @@ use Rattle.isolation.specs.Standing.{BrokenAs, StandsAs, broken_seat, fallen_in,
 use Rattle.isolation.specs.declared.seat.Seat.{Seat}
 use Rattle.isolation.specs.declared.seat.Seat.TheVariants.{Attached, Lost, Left}
 use Rattle.isolation.proofs.FallenLemmas.{itself, mids-less, without-below}
+use Rattle.isolation.proofs.TextLemmas.{without-length}
 
 -- ---- how many there are
-
-without-length : {X : Type 0}
-    → (numbers : List ℕ) (s : ℕ) (seats : List (Seat X))
-    → length (without_from numbers s seats) ≡ length seats
-without-length numbers s [] = refl
-without-length numbers s (seat ∷ seats) = ap (λ n. suc n) (without-length numbers (s + 1) seats)
 
 pub less-length : {C Q X : Type 0}
     → (seats : List (Seat X)) (m : Meaning C Q X)

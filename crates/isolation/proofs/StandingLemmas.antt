@@ -1,9 +1,9 @@
 -- Hosts that stand for histories: they stand for what an entry, a detach and a run make of these too.
-use Rattle.std.proofs.Common.{◌≡◌, ℕ, zero, suc, ◌+◌, List, [], ◌∷◌, ◌++◌, length, Bool, true, false, not, fold, if◌then◌else◌, None, refl, ap, sym, subst, ◌∙◌, arith}
-use Rattle.std.proofs.lemmas.Bool.{and_parts, not-true, or_parts}
+use Rattle.std.proofs.Common.{◌≡◌, ℕ, zero, suc, ◌+◌, List, [], ◌∷◌, ◌++◌, length, Bool, true, false, fold, if◌then◌else◌, None, refl, ap, sym, subst, ◌∙◌, arith}
+use Rattle.std.proofs.lemmas.Bool.{or_parts}
 use Rattle.isolation.specs.Seats.{each, fallen, is_attached, put, put_in, reported, seat_in, seat_of, some, without}
 use Rattle.isolation.specs.Protocols.{Protocol}
-use Rattle.isolation.specs.Meanings.{Meaning, after_run, after_steps, begin, is_enabled_seat, is_held, is_paused, is_ready, resume, resumed_seat, settle, waits, with_seats, woken}
+use Rattle.isolation.specs.Meanings.{Meaning, after_run, after_steps, begin, is_enabled_seat, is_paused, is_ready, resume, resumed_seat, settle, with_seats, woken}
 use Rattle.isolation.specs.Histories.{Entry, Attach, Tell, Take, Detach, Ran, Shut, FitsEntry, apply, asked, detach, take, tell, whole, with_seat}
 use Rattle.isolation.specs.Standing.{IsHeld, LeavesAs, StandsAs, fallen_in, fell, less}
 use Rattle.isolation.specs.Runs.{HasMade, mid, mids}
@@ -11,7 +11,8 @@ use Rattle.isolation.specs.declared.seat.Loss.{Loss}
 use Rattle.isolation.specs.declared.seat.Loss.TheVariants.{Overrun, Memory}
 use Rattle.isolation.specs.declared.seat.Seat.{Seat}
 use Rattle.isolation.specs.declared.seat.Seat.TheVariants.{Attached, Lost, Left}
-use Rattle.isolation.proofs.FallenLemmas.{fallen-none, fallen-twice, fell-at, fell-put, less-self, mid-self, mids-less, none-fallen, waits-fallen, without-none}
+use Rattle.isolation.proofs.FallenLemmas.{fallen-none, fallen-twice, fell-at, fell-put, less-self, mid-self, mids-less, none-fallen, without-none}
+use Rattle.isolation.proofs.StepLemmas.{ready-none}
 
 -- ---- seats, some of which fell
 
@@ -431,18 +432,6 @@ none-settle P m none = none-settle-by P m (some (is_enabled_seat P) m.seats) non
 abbrev behind_run : {C T Q X : Type 0} → Protocol C T Q X → Meaning C Q X → Meaning C Q X
 behind_run P k = settle P (with_seats (each reported k.seats) k)
 
--- no seat of a host that is ready waits for a run that reports it
-ready-none : {C T Q X : Type 0}
-    → (P : Protocol C T Q X) (host : Meaning C Q X)
-    → is_ready P host ≡ true
-    → fallen_in host.seats ≡ []
-ready-none P host ready =
-    let held : is_held host ≡ false = not-true _
-    (and_parts (not (is_held host)) (not (P.is_over host.program)) ready).0 in
-    let second = (or_parts (is_paused host) _ held).1 in
-    let third = (or_parts (waits host.phase) _ second).1 in
-    waits-fallen host.seats (or_parts host.shut _ third).1
-
 -- what makes a step is all there
 ready-same : {C T Q X : Type 0}
     → (P : Protocol C T Q X) (host m : Meaning C Q X)
@@ -486,7 +475,7 @@ fits-ran P moment (suc n) host m k stands made j small =
 
 -- ---- a history tells of all who fell
 
-none-append : {X : Type 0} → (seat : Seat X) (seats : List (Seat X)) → fell seat ≡ false → some fell seats ≡ false
+pub none-append : {X : Type 0} → (seat : Seat X) (seats : List (Seat X)) → fell seat ≡ false → some fell seats ≡ false
     → some fell (seats ++ seat ∷ []) ≡ false
 none-append seat [] stays none = rw stays refl
 none-append seat (first ∷ seats) stays none =

@@ -422,7 +422,7 @@ pub put-length : {X : Type 0} → (s : ℕ) (new : Seat X) (seats : List (Seat X
 put-length zero new seats = refl
 put-length (suc i) new seats = put-in-length i new seats
 
-without-length : {X : Type 0} → (gone : List ℕ) (s : ℕ) (seats : List (Seat X))
+pub without-length : {X : Type 0} → (gone : List ℕ) (s : ℕ) (seats : List (Seat X))
     → length (without_from gone s seats) ≡ length seats
 without-length gone s [] = refl
 without-length gone s (seat ∷ seats) = ap (λ n. suc n) (without-length gone (s + 1) seats)

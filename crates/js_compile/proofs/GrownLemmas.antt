@@ -21,6 +21,7 @@ use Rattle.js_compile.specs.Added.{node_behind, IsNodeAdded}
 use Rattle.js_compile.specs.Grown.{IsEntryAt, IsPlacedAt, IsPlacedNode, HasPlaces, Begins, Extends, Keeps, Grows, HasForm, HasTree, HaveTrees}
 use Rattle.js_compile.proofs.NameLemmas.{goes_on_same}
 use Rattle.js_world.proofs.StartLemmas.{goes-then}
+use Rattle.cdp_text.proofs.ListLemmas.{last_there}
 
 -- ---- lists that go on
 
@@ -42,10 +43,6 @@ front [] ys i h = absurd (omega arith)
 front (x ∷ xs) ys zero h = refl
 front (x ∷ xs) ys (suc i) h = front xs ys i (omega arith)
 
-last_of : {X : Type 0} (xs : List X) (x : X) → slice_get (xs ++ x ∷ []) (length xs) ≡ Some x
-last_of [] x = refl
-last_of (y ∷ xs) x = last_of xs x
-
 past : {X : Type 0} (xs : List X) (x : X) (i : ℕ) → length xs < i → slice_get (xs ++ x ∷ []) i ≡ None
 past [] x zero h = absurd (omega arith)
 past [] x (suc i) h = refl
@@ -57,7 +54,7 @@ pub added_at : {X : Type 0} (xs ys : List X) (x : X) (n : ℕ)
     → ys ≡ xs ++ x ∷ []
     → n ≡ length xs
     → slice_get ys n ≡ Some x
-added_at xs ys x n e h = ap (slice_get ys) h ∙ ap (λ zs. slice_get zs (length xs)) e ∙ last_of xs x
+added_at xs ys x n e h = ap (slice_get ys) h ∙ ap (λ zs. slice_get zs (length xs)) e ∙ last_there xs x
 
 pub begins_at : {X : Type 0} (xs ys : List X) (i : ℕ) (x : X)
     → Begins xs ys
@@ -314,7 +311,7 @@ nodes_more t u node i b e new k (inr (inl h)) =
     let P : ℕ → Type 0 = λ j. IsNodeAt u j (slice_get u.nodes.items j) in
     subst P (sym h)
     (subst (λ (o : Option Node). IsNodeAt u (length t.nodes.items) o)
-    (sym (ap (λ ns. slice_get ns (length t.nodes.items)) e ∙ last_of t.nodes.items node)) new)
+    (sym (ap (λ ns. slice_get ns (length t.nodes.items)) e ∙ last_there t.nodes.items node)) new)
 nodes_more t u node i b e new k (inr (inr h)) =
     subst (λ (o : Option Node). IsNodeAt u k o) (sym (ap (λ ns. slice_get ns k) e ∙ past t.nodes.items node k h)) tt
 
@@ -334,7 +331,7 @@ places_more t u node h b e p k (inr (inl l)) =
     let P : ℕ → Type 0 = λ j. IsPlacedNode u j (slice_get u.nodes.items j) in
     subst P (sym l)
     (subst (λ (o : Option Node). IsPlacedNode u (length t.nodes.items) o)
-    (sym (ap (λ ns. slice_get ns (length t.nodes.items)) e ∙ last_of t.nodes.items node))
+    (sym (ap (λ ns. slice_get ns (length t.nodes.items)) e ∙ last_there t.nodes.items node))
     (placed_kept t u node.op node.info (length t.nodes.items) b p))
 places_more t u node h b e p k (inr (inr l)) =
     subst (λ (o : Option Node). IsPlacedNode u k o) (sym (ap (λ ns. slice_get ns k) e ∙ past t.nodes.items node k l)) tt

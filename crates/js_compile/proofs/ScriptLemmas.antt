@@ -43,7 +43,7 @@ count : semantics.Terms → ℕ
 count semantics.end = 0
 count (semantics.more x xs) = suc (count xs)
 
-sources_push : (us : List (List ℕ)) (v : NodeTable) (es : List SourceEntry) (e : SourceEntry)
+pub sources_push : (us : List (List ℕ)) (v : NodeTable) (es : List SourceEntry) (e : SourceEntry)
     → source_trees us v (es ++ e ∷ []) ≡ source_trees us v es ++ source_tree us v e ∷ []
 sources_push us v [] e = refl
 sources_push us v (d ∷ es) e = ap (λ xs. source_tree us v d ∷ xs) (sources_push us v es e)
@@ -71,7 +71,7 @@ take_length zero xs h = refl
 take_length (suc i) [] h = absurd (omega arith)
 take_length (suc i) (x ∷ xs) h = ap suc (take_length i xs (omega arith))
 
-tree_of : (ts us : List (List ℕ)) (t u : NodeTable) (n : ℕ) (x : semantics.Term)
+pub tree_of : (ts us : List (List ℕ)) (t u : NodeTable) (n : ℕ) (x : semantics.Term)
     → HasTree ts t n x
     → GoesOn ts us
     → Extends t u

@@ -11,7 +11,7 @@ use Rattle.js_lexer.specs.Tokens.{IsListed, IsToken}
 use Rattle.js_lexer.specs.Tokens.IsToken.{name, reserved, number, string, punctuator}
 use Rattle.js_lexer.proofs.TableLemmas.{all_listed}
 use Rattle.js_language.specs.Kinds.{is_same_kind}
-use Rattle.js_syntax.proofs.KindLemmas.{same_kind}
+use Rattle.js_language.proofs.KindLemmas.{same_kind}
 
 -- ---- tables
 

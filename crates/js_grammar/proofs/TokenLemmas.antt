@@ -7,7 +7,7 @@ use Rattle.js_language.specs.Tokens.{Token, fixed, identifier, identifier_name, 
 use Rattle.js_language.specs.Well.{is_among}
 use Rattle.js_language.specs.Kinds.{is_kind}
 use Rattle.js_syntax.specs.Reading.{Fault, stuck, Read, expect, expect_near, text_of, name_at, fresh_name, is_word_next, word_at, semicolon_at}
-use Rattle.js_syntax.proofs.KindLemmas.{next_is, next_again}
+use Rattle.js_language.proofs.KindLemmas.{next_is, next_again}
 use Rattle.js_syntax.proofs.PlacedTokenLemmas.{name_next, word_next}
 use Rattle.js_syntax.proofs.ShorterLemmas.{read_is}
 

@@ -4,7 +4,7 @@ use Rattle.std.specs.Prelude.{nat_eq, if◌then◌else◌}
 use Rattle.std.specs.List.{range_with_len}
 use Rattle.std.proofs.lemmas.Bool.{eqb-true, eqb-false, false_from_ne_true}
 use Rattle.std.proofs.lemmas.List.{get_or_past}
-use denote.Enum.Bare.{sameb, same_true, true_same}
+use denote.Enum.Bare.{sameb, same_true}
 use Rattle.js_lexer.specs.declared.token.TokenKind.{TokenKind}
 use Rattle.js_lexer.specs.contracts.token.TokenKind.{the_type}
 use Rattle.js_tree.specs.declared.node.Span.{Span}
@@ -16,12 +16,9 @@ use Rattle.js_language.specs.Kinds.{is_kind}
 use Rattle.js_numbered.specs.NodeSpans.{left_behind, end_behind, node_start, node_end, node_span}
 use Rattle.js_numbered.proofs.PlacingLemmas.{is_number, openings_of, AreOpened}
 use Rattle.js_numbered.proofs.NumberedPlaceLaws.{expression-stands}
+use Rattle.js_language.proofs.KindLemmas.{next_again}
 
 -- ---- a token that may be absent
-
-next_true : (kind : TokenKind) (next : Option Token) → IsNext (fixed kind) next → is_kind kind next ≡ true
-next_true kind None h = absurd h
-next_true kind (Some t) h = true_same the_type t.kind kind h
 
 next_false : (kind : TokenKind) (next : Option Token) → (IsNext (fixed kind) next → ⊥) → is_kind kind next ≡ false
 next_false kind None h = refl
@@ -29,7 +26,7 @@ next_false kind (Some t) h =
     false_from_ne_true (sameb the_type t.kind kind) (λ e. h (same_true the_type tt t.kind kind e))
 
 left_there : (kind : TokenKind) (ts : List Token) → IsNext (fixed kind) (head_of ts) → left_behind kind ts ≡ tail_of ts
-left_there kind ts h = rw (next_true kind (head_of ts) h) refl
+left_there kind ts h = rw (next_again kind (head_of ts) h) refl
 
 left_absent : (kind : TokenKind) (ts : List Token) → (IsNext (fixed kind) (head_of ts) → ⊥) → left_behind kind ts ≡ ts
 left_absent kind ts h = rw (next_false kind (head_of ts) h) refl
@@ -37,7 +34,7 @@ left_absent kind ts h = rw (next_false kind (head_of ts) h) refl
 end_there : (kind : TokenKind) (before : ℕ) (ts : List Token)
     → IsNext (fixed kind) (head_of ts)
     → end_behind kind before ts ≡ end_of (head_of ts)
-end_there kind before ts h = rw (next_true kind (head_of ts) h) refl
+end_there kind before ts h = rw (next_again kind (head_of ts) h) refl
 
 end_absent : (kind : TokenKind) (before : ℕ) (ts : List Token)
     → (IsNext (fixed kind) (head_of ts) → ⊥)

@@ -1,8 +1,8 @@
 -- Lemmas on lists as built-in functions read them.
-use Rattle.std.proofs.Common.{◌≡◌, ℕ, zero, suc, ◌+◌, ◌-◌, ◌<◌, ◌≤◌, Bool, true, false, List, [], ◌∷◌, ◌++◌, length, drop, get_or, Option, Some, None, refl, sym, ap, ◌∙◌, subst, arith, add-one, drop-cons, append_assoc}
+use Rattle.std.proofs.Common.{◌≡◌, ℕ, zero, suc, ◌+◌, ◌-◌, ◌<◌, ◌≤◌, Bool, true, false, List, [], ◌∷◌, ◌++◌, length, drop, get_or, Option, Some, None, refl, sym, ap, ◌∙◌, subst, arith, drop-cons, append_assoc}
 use Rattle.std.proofs.Math.Bool.{and-false}
 use Rattle.std.specs.Prelude.{nat_eq, take, ◌==◌, ◌&&◌}
-use Rattle.std.proofs.lemmas.List.{drop_all, take_all, length-drop}
+use Rattle.std.proofs.lemmas.List.{drop_all, take_all, length-drop, drop_more}
 use Rattle.js_heap.specs.declared.value.Value.{Value}
 use Rattle.js_heap.specs.declared.value.Value.TheVariants as values
 use Rattle.js_heap.specs.World.{World}
@@ -104,9 +104,6 @@ occurs-end us vs i b h e f = rw (drop_all i us h) (rw (not_begun vs b e f) refl)
 
 -- ---- indices
 
-pub cons_at : {A : Type 0} (xs : List A) (i : ℕ) (d : A) → i < length xs → drop i xs ≡ get_or xs i d ∷ drop (i + 1) xs
-cons_at xs i d h = rw add-one (drop-cons xs i d h)
-
 pub indices-step : (ks ns : List (List ℕ)) (vs : List Value) (i : ℕ) (t : List ℕ)
     → ns ≡ ks ++ t ∷ []
     → t ≡ decimal i
@@ -115,7 +112,7 @@ pub indices-step : (ks ns : List (List ℕ)) (vs : List Value) (i : ℕ) (t : Li
     → ns ++ indices_from (i + 1) (drop (i + 1) vs) ≡ indices_from 0 vs
 indices-step ks ns vs i t e f h k =
     let m : ns ≡ ks ++ decimal i ∷ [] = e ∙ ap (λ x. ks ++ x ∷ []) f in
-    let d : drop i vs ≡ get_or vs i values.Undefined ∷ drop (i + 1) vs = cons_at vs i values.Undefined h in
+    let d : drop i vs ≡ get_or vs i values.Undefined ∷ drop (i + 1) vs = drop_more vs i values.Undefined h in
     let s : ks ++ indices_from i (drop i vs) ≡ ks ++ (decimal i ∷ indices_from (i + 1) (drop (i + 1) vs)) = ap
     (λ xs. ks ++ indices_from i xs) d in
     let j : (ks ++ decimal i ∷ []) ++ indices_from (i + 1) (drop (i + 1) vs) ≡ ks ++
@@ -138,7 +135,7 @@ pub part-fails : (w : World) (ts : List (List ℕ)) (vs : List Value) (i : ℕ) 
 part-fails w ts vs i o all h l e n =
     sym (part-none w ts (get_or vs i values.Undefined) (drop (i + 1) vs)
     (none_of o (joined_part w (get_or vs i values.Undefined)) n e))
-    ∙ ap (λ xs. with_parts ts (joined_parts w xs)) (sym (cons_at vs i values.Undefined l))
+    ∙ ap (λ xs. with_parts ts (joined_parts w xs)) (sym (drop_more vs i values.Undefined l))
     ∙ h
 
 pub part-goes : (w : World) (ts ns : List (List ℕ)) (t : List ℕ) (vs : List Value) (i : ℕ) (o : Option (List ℕ))
@@ -152,7 +149,7 @@ pub part-goes : (w : World) (ts ns : List (List ℕ)) (t : List ℕ) (vs : List 
 part-goes w ts ns t vs i o all h l e n f =
     ap (λ xs. with_parts xs (joined_parts w (drop (i + 1) vs))) f
     ∙ part-some w ts t (get_or vs i values.Undefined) (drop (i + 1) vs) (sym n ∙ e)
-    ∙ ap (λ xs. with_parts ts (joined_parts w xs)) (sym (cons_at vs i values.Undefined l))
+    ∙ ap (λ xs. with_parts ts (joined_parts w xs)) (sym (drop_more vs i values.Undefined l))
     ∙ h
 
 pub part-ends : (w : World) (ts : List (List ℕ)) (vs : List Value) (i : ℕ) (all : Option (List (List ℕ)))

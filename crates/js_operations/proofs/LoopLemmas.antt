@@ -15,7 +15,7 @@ use Rattle.js_world.specs.Names.{name_of}
 use Rattle.js_operations.specs.declared.action_end.ActionEnd.{ActionEnd}
 use Rattle.js_operations.specs.Flow.{performed, Stops, Yields, Passes, Gives}
 use Rattle.js_operations.proofs.FlowLemmas.{yields-err, gives-err, passes-err}
-use Rattle.js_operations.proofs.ListLemmas.{cons_at}
+use Rattle.std.proofs.lemmas.List.{drop_more}
 
 -- ---- names
 
@@ -34,7 +34,7 @@ names_at : (a : Addr) (ts : List (List ℕ)) (ss : List Slot) (i : ℕ) (d : Slo
     (with_names a (bindings ts (drop (i + 1) ss)) k))
     (with_world s w)
 names_at a ts ss i d v w s k l h =
-    h s k ∙ ap (λ xs. performed (with_names a (bindings ts xs) k) (with_world s w)) (cons_at ss i d l)
+    h s k ∙ ap (λ xs. performed (with_names a (bindings ts xs) k) (with_world s w)) (drop_more ss i d l)
 
 pub names-step : (a : Addr) (ts : List (List ℕ)) (ss : List Slot) (i : ℕ) (d : Slot) (v w u : World)
     → i < length ss
@@ -79,7 +79,7 @@ texts_at : (ts : List (List ℕ)) (i : ℕ) (t : List ℕ) (made : List Value) (
     performed (make_texts ts k) (with_world s v) ≡ performed
     (make_text t (λ x. make_texts (drop (i + 1) ts) (λ vs. k (made ++ x ∷ vs)))) (with_world s w)
 texts_at ts i t made v w s k l e h =
-    let c : drop i ts ≡ t ∷ drop (i + 1) ts = cons_at ts i t l ∙ ap (λ x. x ∷ drop (i + 1) ts) (sym e) in
+    let c : drop i ts ≡ t ∷ drop (i + 1) ts = drop_more ts i t l ∙ ap (λ x. x ∷ drop (i + 1) ts) (sym e) in
     h s k ∙ ap (λ xs. performed (make_texts xs (λ vs. k (made ++ vs))) (with_world s w)) c
 
 pub texts-step : (ts : List (List ℕ)) (i : ℕ) (t : List ℕ) (made more : List Value) (x : Value) (v w u : World)
@@ -121,7 +121,7 @@ push_at : (a : Addr) (l : ℕ) (vs : List Value) (i : ℕ)
     → i < length vs
     → push_all a l (drop i vs) ≡ write a (changes.Element l (get_or vs i values.Undefined))
     (push_all a (l + 1) (drop (i + 1) vs))
-push_at a l vs i h = ap (λ xs. push_all a l xs) (cons_at vs i values.Undefined h)
+push_at a l vs i h = ap (λ xs. push_all a l xs) (drop_more vs i values.Undefined h)
 
 pub push-stop : (a : Addr) (first l : ℕ) (vs : List Value) (i : ℕ) (v w u : World) (r : Result Value ActionEnd)
     (e : ActionEnd)

@@ -10,9 +10,9 @@ use Rattle.js_code.specs.declared.table.NodeTable.{NodeTable}
 use Rattle.js_code.specs.Forms.{function_of}
 use Rattle.js_code.specs.Codes.{HasFunctions, code_of_parts, indexed_code}
 use Rattle.js_code.specs.Trees.{tree, kids_between, program_of, source_trees}
-use Rattle.js_operations.proofs.ListLemmas.{cons_at}
 use Rattle.js_rows.specs.Codes.{placed_code, code_placed}
 use Rattle.js_rows.proofs.OverLemmas.{first-kept}
+use Rattle.std.proofs.lemmas.List.{drop_more}
 
 -- ---- the code of a node
 
@@ -51,7 +51,7 @@ pub sources-found : (t : NodeTable) (source : Source) (node i : ℕ) (e : Source
     → same_source e.source source ≡ true
     → indexed_code ts t e node ≡ function_at (program_of ts t) source node
 sources-found t source node i e ts has inv l h g =
-    let c : drop i t.sources.items ≡ e ∷ drop (i + 1) t.sources.items = cons_at t.sources.items i e l
+    let c : drop i t.sources.items ≡ e ∷ drop (i + 1) t.sources.items = drop_more t.sources.items i e l
     ∙ ap (λ x. x ∷ drop (i + 1) t.sources.items) (sym h) in
     let s : slice_get t.sources.items i ≡ Some e = get_some t.sources.items i e l ∙ ap (λ x. Some x) (sym h) in
     sym (has.finds ts i e s node)

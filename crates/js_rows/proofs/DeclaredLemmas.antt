@@ -32,8 +32,8 @@ use Rattle.js_code.specs.Trees.{tree, terms}
 use Rattle.js_operations.specs.declared.action_end.ActionEnd.{ActionEnd}
 use Rattle.js_operations.specs.Flow.{performed, Stops, Passes}
 use Rattle.js_operations.proofs.FlowLemmas.{passes-err}
-use Rattle.js_operations.proofs.ListLemmas.{cons_at}
 use Rattle.js_rows.specs.Declaring.{is_function_op, declared_if}
+use Rattle.std.proofs.lemmas.List.{drop_more}
 
 -- ---- parts that are no functions
 
@@ -246,7 +246,7 @@ functions_at : (ts : List (List ℕ)) (t : NodeTable) (a : Addr) (ks : List ℕ)
     (with_world s w)
 functions_at ts t a ks i d v w s k l h =
     h s k
-    ∙ ap (λ xs. performed (with_functions a (terms (tree ts t) xs) k) (with_world s w)) (cons_at ks i d l)
+    ∙ ap (λ xs. performed (with_functions a (terms (tree ts t) xs) k) (with_world s w)) (drop_more ks i d l)
     ∙ ap (λ x. performed x (with_world s w))
     (with_first a (tree ts t (get_or ks i d)) (terms (tree ts t) (drop (i + 1) ks)) k)
 

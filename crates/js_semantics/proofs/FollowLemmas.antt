@@ -17,10 +17,10 @@ use Rattle.js_semantics.specs.Laws.{IsPrefix, Follows, MoveFollows, RunFollows}
 
 -- ---- later states
 
-prefix-same : (ts : List (List ℕ)) → IsPrefix ts ts
+pub prefix-same : (ts : List (List ℕ)) → IsPrefix ts ts
 prefix-same ts = ([], sym (append-nil ts))
 
-prefix-trans : (a b c : List (List ℕ)) → IsPrefix a b → IsPrefix b c → IsPrefix a c
+pub prefix-trans : (a b c : List (List ℕ)) → IsPrefix a b → IsPrefix b c → IsPrefix a c
 prefix-trans a b c h k = (h.0 ++ k.0, k.1 ∙ ap (λ x. x ++ k.0) h.1 ∙ append_assoc a h.0 k.0)
 
 pub follows-same : (s : State) → Follows s s

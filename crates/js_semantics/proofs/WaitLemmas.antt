@@ -27,7 +27,7 @@ use Rattle.js_semantics.specs.Functions.{code_here, Program, FunctionCode, first
 use Rattle.js_semantics.specs.Rows.{ending_row, only, script_row, enter_row, block_row, chosen, kept_or, otherwise, turn_or_end, loop_row, for_in, enter_for_of_row, list_row, elements_of, body_part, turn_row, type_of_found, comma_row, compound_row, update_row, assign_row, callee_this, callee_row, properties_from, object_or_fail, object_row, row, catch_row, taken}
 use Rattle.js_semantics.specs.Next.{Walked, all_values, moved, with_value, scope_in, around, next, walk}
 use Rattle.js_semantics.specs.Run.{literals, literals_of, with_literals, all_with_literals, placed_scripts, program_from, program_of, first_state, start as start_of, plain, Run, running, over, run_of, run_after, step_in, steps_in}
-use Rattle.js_semantics.proofs.Ready.{all_ready}
+use Rattle.js_semantics.proofs.Ready.{all_ready, joined-waits}
 use Rattle.js_semantics.specs.Waiting.{uncovers, ByCase, Waits, AllWait, PartsWait, RestWaits, ProgramWaits, ActionWaits, MoveWaits, RunWaits}
 use Rattle.js_semantics.proofs.GiveLemmas.{GivesValues, put-gives, remove-gives, built_in-gives, type_of-gives, update_row-gives, made-gives, function_row-gives}
 
@@ -133,10 +133,6 @@ settle-tight (part f now later) h = settled-tight f now later h.0 h.1
 
 scoped-tight : (t : Term) (a : Addr) → Tight t → Tight (settled (scoped a) (one t) end)
 scoped-tight t a h = settled-tight (scoped a) (one t) end (h, tt) tt
-
-joined-tight : (ts us : Terms) → Tights ts → Tights us → Tights (joined ts us)
-joined-tight end us h k = k
-joined-tight (more t ts) us h k = (h.0, joined-tight ts us h.1 k)
 
 dones-tight : (vs : List Value) → Tights (dones vs)
 dones-tight [] = tt
@@ -430,7 +426,7 @@ compound-waits w scope o r vs (more e ts) k =
     (λ old. go (part (assign r) (joined (dones vs) (one (part (binary o) (more (done old) (one e)) end))) end))
     (λ x. (
       λ q. refl,
-      joined-tight (dones vs) (one (part (binary o) (more (done x) (one e)) end)) (dones-tight vs)
+      joined-waits all_done (dones vs) (one (part (binary o) (more (done x) (one e)) end)) (dones-tight vs)
           ((λ q. refl, (tt, (k.0, tt)), tt), tt),
       tt,
     ))
@@ -453,7 +449,7 @@ object-waits w scope ms vs (more (part (method f) now later) ts) k =
     (λ key. make (function_cell f key scope values.Undefined)
     (λ a. go (part (object ms) (joined (dones vs) (more (done (values.Object a)) now)) ts)))
     (λ key a.
-    (λ e. refl, joined-tight (dones vs) (more (done (values.Object a)) now) (dones-tight vs) (tt, k.0.1), k.1))
+    (λ e. refl, joined-waits all_done (dones vs) (more (done (values.Object a)) now) (dones-tight vs) (tt, k.0.1), k.1))
 object-waits w scope ms vs (more _ ts) k = tt
 
 ending-waits : (o : Option Completion) → ActionWaits (ending_row o)

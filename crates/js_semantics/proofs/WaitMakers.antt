@@ -6,8 +6,8 @@ use Rattle.js_operators.specs.declared.operator.UpdateOperator.{UpdateOperator}
 use Rattle.js_operators.specs.declared.operator.BinaryOperator.{BinaryOperator}
 use Rattle.js_operators.specs.declared.operator.BinaryOperator.TheVariants as binaries
 use Rattle.js_heap.specs.declared.value.Value.TheVariants as values
-use Rattle.js_semantics.specs.Terms.{Mark, to_name, first, doing, read, return_, function, choose, loop, Term, done, standing, part, Terms, end, more, one, joined, enter_debugger, break_, continue_, throw_}
-use Rattle.js_semantics.proofs.Ready.{all_ready}
+use Rattle.js_semantics.specs.Terms.{Mark, to_name, first, doing, read, return_, function, choose, loop, Term, done, standing, part, Terms, end, more, one, enter_debugger, break_, continue_, throw_}
+use Rattle.js_semantics.proofs.Ready.{all_ready, joined-waits}
 use Rattle.js_semantics.specs.Waiting.{Waits, AllWait, PartsWait, RestWaits}
 use Rattle.js_semantics.specs.Makers.{parameter_names, Context, Made, Item, Items, untouched, lexical_item, if_item, while_item, do_while_item, for_item, for_lexical_item, for_of_item, return_item, try_item, function_item, unnamed, naming, within, plain, plains, assigned_to, compounded, updated, deleted, type_of, assignment, unary_term, binary_term, comma_term, call_term, form_of, body_terms, function_term, returned_body, PropertyKey, fixed_key, computed_key, PropertyMade, value_property, method_property, Parts, property_parts, properties_parts, object_term, and_items, block_term, DeclaratorMade, initializer_terms, declarators_terms, optional_term, optional_terms, for_parts, CatchMade, caught, finally_term, script_term, leaf, nothing, item}
 use Rattle.js_semantics.proofs.SourceFolds.{Relations, Keeps}
@@ -47,16 +47,12 @@ plains-waits : (es : List Made) (c : Context) → AllMadeWait es → AllWait all
 plains-waits [] c h = tt
 plains-waits (e ∷ es) c h = (h.0 (unnamed c), plains-waits es c h.1)
 
-joined-tight : (ts us : Terms) → Tights ts → Tights us → Tights (joined ts us)
-joined-tight end us h k = k
-joined-tight (more t ts) us h k = (h.0, joined-tight ts us h.1 k)
-
 -- ---- references and operators
 
 assigned-waits : (t e : Term) → Tight t → Tight e → Tight (assigned_to t e)
 assigned-waits (done v) e h k = h
 assigned-waits (standing v place) e h k = h
-assigned-waits (part (read r) now later) e h k = (λ q. refl, joined-tight now (one e) h.1 (k, tt), tt)
+assigned-waits (part (read r) now later) e h k = (λ q. refl, joined-waits all_ready now (one e) h.1 (k, tt), tt)
 assigned-waits (part f now later) e h k = h
 
 compounded-waits : (o : BinaryOperator) (t e : Term) → Tight t → Tight e → Tight (compounded o t e)
@@ -144,7 +140,7 @@ arrow-waits node n ps b c h = (λ q. refl, tt, body-waits b c h)
 
 and-waits : (i : Item) (is : Items) → ItemWaits i → ItemsWait is → ItemsWait (and_items i is)
 and-waits i is h k = record {
-  functions_wait = λ c. joined-tight (i.functions c) (is.functions c) (h.functions_wait c) (k.functions_wait c);
+  functions_wait = λ c. joined-waits all_ready (i.functions c) (is.functions c) (h.functions_wait c) (k.functions_wait c);
   terms_wait = λ c. (h.term_waits c, k.terms_wait c);
 }
 

@@ -8,6 +8,7 @@ use Rattle.js_steps.specs.declared.task.Task.{Task}
 use Rattle.js_steps.specs.declared.task.Extra.{Extra}
 use Rattle.js_steps.specs.Tasks.{Wide}
 use Rattle.js_steps.specs.Stacks.{has_extra, wide, with_value, OwnsAs, OwnsOnly, extra_of, turned_extra, first_extra, other_extras, next_turn, turned_extras, turned, owning, widened, widened_back, AreBased, AreKept, extras_count}
+use Rattle.cdp_text.proofs.ListLemmas.{last_there}
 
 -- ---- the last entry of a list
 
@@ -58,16 +59,11 @@ turns {A} xs n x y e h i =
     let P : List A → Type 0 = λ ys. x ≡ slice_index_or ys (n - 1) x → Turns ys (n - 1) x y in
     subst P (sym l.is) (λ j. turns_at l.front (n - 1) x y l.entry (seam xs l.front l.entry n l.is e) j) i
 
--- the last entry, read and taken away
-get_seam : {A : Type 0} (front : List A) (x : A) → slice_get (front ++ x ∷ []) (length front) ≡ Some x
-get_seam [] x = refl
-get_seam (y ∷ front) x = get_seam front x
-
 back-get : {A : Type 0} (xs front : List A) (x : A) → xs ≡ front ++ x ∷ [] → slice_get xs (length xs - 1) ≡ Some x
 back-get xs front x e =
     ap (λ n. slice_get xs n) (seam xs front x (length xs) e refl)
     ∙ ap (λ ys. slice_get ys (length front)) e
-    ∙ get_seam front x
+    ∙ last_there front x
 
 back-take : {A : Type 0} (xs front : List A) (x : A) → xs ≡ front ++ x ∷ [] → take (length xs - 1) xs ≡ front
 back-take xs front x e =

@@ -8,7 +8,7 @@ use Rattle.js_language.specs.Tokens.{head_of}
 use Rattle.js_language.specs.Kinds.{is_same_kind}
 use Rattle.js_syntax.specs.Classes.{is_name}
 use Rattle.js_syntax.specs.Views.{string_value_of, tokens_view}
-use Rattle.js_syntax.proofs.KindLemmas.{same_kind}
+use Rattle.js_language.proofs.KindLemmas.{same_kind}
 
 name_alone : (k : TokenKind) (text n : List ℕ)
     → k ≡ kinds.Name

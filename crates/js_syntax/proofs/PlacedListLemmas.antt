@@ -7,7 +7,7 @@ use Rattle.js_language.specs.Tokens.{Token, fixed, head_of, tail_of}
 use Rattle.js_language.specs.Places.{Place, stands, stands_maybe, opens, closes, in_turn, behind_commas, with_commas, end_of, AreSpans}
 use Rattle.js_language.specs.Kinds.{is_kind, is_same_kind}
 use Rattle.js_syntax.specs.Reading.{goes_on, ends, after, after_by}
-use Rattle.js_syntax.proofs.KindLemmas.{kind_not}
+use Rattle.js_language.proofs.KindLemmas.{kind_not}
 use Rattle.js_syntax.specs.Placed.{AreNumbered, Placed}
 use Rattle.js_syntax.proofs.PlacedLemmas.{same_spans, then, loosely}
 use Rattle.js_syntax.proofs.PlacedTokenLemmas.{tested, left_out}

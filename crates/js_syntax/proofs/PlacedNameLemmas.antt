@@ -9,7 +9,7 @@ use Rattle.js_language.specs.Places.{Place, stands, stands_maybe, place_of, plai
 use Rattle.js_language.specs.Kinds.{is_kind}
 use Rattle.js_syntax.specs.Reading.{Read, Reader, ◌>>=◌, After, goes_on, ends, neither, after, after_by, go_after, elements, elements_by, expect, name_at, fresh_name, no_state, with_name}
 use Rattle.js_syntax.specs.Productions.{one_of, names_before, parameters_at}
-use Rattle.js_syntax.proofs.KindLemmas.{kind_not}
+use Rattle.js_language.proofs.KindLemmas.{kind_not}
 use Rattle.js_syntax.specs.Placed.{Placed}
 use Rattle.js_syntax.proofs.PlacedLemmas.{then}
 use Rattle.js_syntax.proofs.PlacedTokenLemmas.{tested, expected, named, named_freshly, left_out, put_in}

@@ -13,7 +13,7 @@ use Rattle.js_syntax.specs.Reading.{Fault, stuck, text_of, expect, expect_near, 
 use Rattle.js_syntax.specs.Classes.{is_name}
 use Rattle.js_syntax.specs.Productions.{expect_name}
 use Rattle.js_syntax.specs.Parsing.{let_kind}
-use Rattle.js_syntax.proofs.KindLemmas.{next_is, next_again}
+use Rattle.js_language.proofs.KindLemmas.{next_is, next_again}
 use Rattle.js_syntax.specs.Placed.{Placed}
 use Rattle.js_syntax.proofs.PlacedLemmas.{same_spans}
 use Rattle.std.proofs.lemmas.Bool.{and_parts}

@@ -19,6 +19,7 @@ use Rattle.pure_eval.specs.Whole.{AreClosed, ArePlaced, IsWithin, IsWhole}
 use Rattle.pure_eval.specs.Adding.{kept_tree_at, IsAdded}
 use Rattle.pure_eval.proofs.StayLemmas.{Finds, finds-stay, sources-stay}
 use Rattle.pure_eval.proofs.WholeLemmas.{closed-more, placed-more, within-more, closed-end, placed-end}
+use Rattle.js_compile.proofs.ScriptLemmas.{sources_push, tree_of}
 
 -- ---- other sources
 
@@ -57,19 +58,6 @@ each_source P es fs e s h k i d g = by (last_or es e d i (ap (λ xs. slice_get x
     by : (slice_get es i ≡ Some d) ⊎ (e ≡ d) → P d
     by (inl f) = h i d f
     by (inr f) = subst P f k
-
-sources_push : (ts : List (List ℕ)) (u : NodeTable) (es : List SourceEntry) (e : SourceEntry)
-    → source_trees ts u (es ++ e ∷ []) ≡ source_trees ts u es ++ source_tree ts u e ∷ []
-sources_push ts u [] e = refl
-sources_push ts u (d ∷ es) e = ap (λ xs. source_tree ts u d ∷ xs) (sources_push ts u es e)
-
-tree_of : (ts us : List (List ℕ)) (t u : NodeTable) (n : ℕ) (x : Term)
-    → HasTree ts t n x
-    → GoesOn ts us
-    → Extends t u
-    → tree us u n ≡ x
-unfolding tree
-tree_of ts us t u n x h g e = h.is us u (suc n) (omega arith) g e
 
 -- ---- the table with one more source
 

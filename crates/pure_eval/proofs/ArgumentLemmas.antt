@@ -18,6 +18,7 @@ use Rattle.js_world.specs.declared.world.Refused.TheVariants.{Effect, Full, Memo
 use Rattle.js_world.specs.Calls.{Tries}
 use Rattle.pure_eval.specs.declared.arguments.Argument.{Argument}
 use Rattle.pure_eval.specs.Arguments.{json_of, jsons_of, members_of, argument_of, arguments_of, json_size, items_size, members_size}
+use Rattle.cdp_text.proofs.ListLemmas.{from-here}
 
 -- ---- a JSON value by what it looks like
 
@@ -57,16 +58,6 @@ member-within (y ∷ ms) (suc i) x h e =
 
 -- ---- one after another
 
-pub cons-at : {A : Type 0} (xs : List A) (i : ℕ) (x : A)
-    → i < length xs
-    → x ≡ get_or xs i x
-    → drop i xs ≡ x ∷ drop (i + 1) xs
-cons-at [] i x h e = absurd (omega arith)
-cons-at (y ∷ xs) zero x h e = ap (λ z. z ∷ xs) (sym e)
-cons-at (y ∷ xs) (suc i) x h e =
-    let f : suc i + 1 ≡ suc (i + 1) = omega arith in
-    cons-at xs i x (omega arith) e ∙ ap (λ n. x ∷ drop n (y ∷ xs)) (sym f)
-
 -- what is refused first is the whole that is refused
 pub refused-first : {A B : Type 0} (t : Tried A) (k : A → World → Tried B) (e : Refused) (u : World)
     → (let r : Result A Refused = Err e in Tries t r u)
@@ -100,7 +91,7 @@ elements_here : (w v : World) (js : List JsonCode) (i : ℕ) (x : JsonCode) (bef
     → after_try (make_jsons v (jsons_of (items_view (x ∷ drop (i + 1) js)))) (behind_values before) ≡ make_jsons w
     (jsons_of (items_view js))
 elements_here w v js i x before m h e =
-    ap (λ ys. after_try (make_jsons v (jsons_of (items_view ys))) (behind_values before)) (sym (cons-at js i x h e))
+    ap (λ ys. after_try (make_jsons v (jsons_of (items_view ys))) (behind_values before)) (sym (from-here js i x h e))
     ∙ m.rest
 
 pub elements-next : (w v u : World) (js : List JsonCode) (i : ℕ) (x : JsonCode) (y : Value) (before after : List Value)
@@ -156,7 +147,7 @@ members_here : (w v : World) (ms : List Member) (i : ℕ) (x : Member) (ps : Lis
     (members_of (members_view ms))
 members_here w v ms i x ps m h e =
     ap (λ p. member_made v ps p (members_view (drop (i + 1) ms))) (sym (member_parts x))
-    ∙ ap (λ ys. make_members v ps (members_of (members_view ys))) (sym (cons-at ms i x h e)) ∙ m.rest
+    ∙ ap (λ ys. make_members v ps (members_of (members_view ys))) (sym (from-here ms i x h e)) ∙ m.rest
 
 pub members-next : (w v u : World) (ms : List Member) (i : ℕ) (x : Member) (y : Value) (ps qs : List Property)
     → MembersMade w ms i ps v
@@ -215,7 +206,7 @@ arguments_here : (w v : World) (as_given : List Argument) (i : ℕ) (x : Argumen
     → after_try (make_arguments v (arguments_of (x ∷ drop (i + 1) as_given))) (behind_values before) ≡ make_arguments w
     (arguments_of as_given)
 arguments_here w v as_given i x before m h e =
-    ap (λ ys. after_try (make_arguments v (arguments_of ys)) (behind_values before)) (sym (cons-at as_given i x h e))
+    ap (λ ys. after_try (make_arguments v (arguments_of ys)) (behind_values before)) (sym (from-here as_given i x h e))
     ∙ m.rest
 
 pub arguments-next : (w v u : World) (as_given : List Argument) (i : ℕ) (x : Argument) (y : Value)

@@ -42,7 +42,7 @@ use Rattle.js_steps.specs.Stacks.{begun, with_value}
 use Rattle.js_steps.specs.Stepping.{finish_of, EndsSo, Tells, IfGoesOn, IsGoing, StandsIn}
 use Rattle.js_steps.specs.Tasks.{Wide, task_form, gaps_of}
 use Rattle.js_steps.proofs.GapLemmas.{next-within}
-use Rattle.js_steps.proofs.RunLemmas.{at-open}
+use Rattle.js_steps.proofs.RunLemmas.{at-open, done_at}
 use Rattle.pure_eval.specs.declared.calling.Callee.TheVariants as callees
 use Rattle.pure_eval.specs.declared.evaluated.Evaluated.{Evaluated}
 use Rattle.pure_eval.specs.declared.evaluated.Evaluated.TheVariants as ends
@@ -50,11 +50,11 @@ use Rattle.pure_eval.specs.Answering.{Answers, EndsIn, finished}
 use Rattle.pure_eval.specs.Calling.{called, KeepsTo, HasCall, IsCallAdded, end_with, ComesTo, with_values}
 use Rattle.pure_eval.specs.Leaving.{refused_end}
 use Rattle.pure_eval.specs.Whole.{IsWhole}
-use Rattle.pure_eval.proofs.ArgumentLemmas.{cons-at}
-use Rattle.pure_eval.proofs.EvaluatedLemmas.{over_answers, over_ends, answer_over, finished_ends, done_at, node-answers, node-world}
+use Rattle.pure_eval.proofs.EvaluatedLemmas.{over_answers, over_ends, answer_over, finished_ends, node-answers, node-world}
 use Rattle.pure_eval.proofs.LeavingLemmas.{world_keeps}
 use Rattle.pure_eval.proofs.StayLemmas.{finds-stay, sources-stay}
 use Rattle.pure_eval.proofs.WholeLemmas.{closed-more, placed-more, within-more, closed-end, placed-end}
+use Rattle.cdp_text.proofs.ListLemmas.{from-here, last_there}
 
 -- ---- the entry of a call
 
@@ -96,10 +96,6 @@ call_whole t cs e is h =
       placed = placed-more t u h.placed x (placed-end u (length t.functions.items) (omega arith));
       sources = λ i s g. within-more t u s x (h.sources i s g);
     }
-
-last_there : {A : Type 0} (xs : List A) (x : A) → slice_get (xs ++ x ∷ []) (length xs) ≡ Some x
-last_there [] x = refl
-last_there (y ∷ xs) x = last_there xs x
 
 pub call-added : (t : NodeTable) (cs : Vec CallEntry) (e : CallEntry) (n : ℕ)
     → cs.items ≡ t.calls.items ++ e ∷ []
@@ -368,7 +364,7 @@ values-next vs i d first old new h l pushed =
     let x : Value = get_or vs i d in
     ap (with_values (drop (i + 1) vs)) pushed
     ∙ sym (one_pushed x (drop (i + 1) vs) old)
-    ∙ ap (λ xs. with_values xs old) (sym (cons-at vs i x l (get_same vs i d x l)))
+    ∙ ap (λ xs. with_values xs old) (sym (from-here vs i x l (get_same vs i d x l)))
     ∙ h
 
 pub values-all : (vs : List Value) (i : ℕ) (first old : List Wide)

@@ -1,5 +1,5 @@
 -- The steps of an evaluation, one run after another.
-use Rattle.std.proofs.Common.{◌≡◌, ℕ, zero, suc, ◌+◌, ◌-◌, ◌≤◌, false, List, [], Option, None, Some, refl, sym, ap, subst, ◌∙◌, arith, zero-add}
+use Rattle.std.proofs.Common.{◌≡◌, ℕ, zero, suc, ◌+◌, ◌-◌, ◌≤◌, false, List, [], Option, None, Some, refl, sym, ap, subst, ◌∙◌, arith}
 use Rattle.js_heap.specs.declared.value.Addr.{Addr}
 use Rattle.js_heap.specs.declared.value.Value.{Value}
 use Rattle.js_heap.specs.World.{World}
@@ -7,7 +7,7 @@ use Rattle.js_semantics.specs.Terms.{Term, done, standing, part, is_done}
 use Rattle.js_semantics.specs.State.{State}
 use Rattle.js_semantics.specs.Functions.{Program}
 use Rattle.js_semantics.specs.Evaluation.{answer_of, budget, evaluation_state, evaluated}
-use Rattle.js_semantics.specs.Run.{Finish as AnyFinish, Run, over, run_of, step_in, steps_in}
+use Rattle.js_semantics.specs.Run.{Finish as AnyFinish, Run, over, run_of, steps_in}
 use Rattle.js_operations.specs.Contexts.{Context, state_of, bare_context}
 use Rattle.js_code.specs.declared.table.NodeTable.{NodeTable}
 use Rattle.js_code.specs.Trees.{program_of}
@@ -22,18 +22,13 @@ use Rattle.js_steps.specs.Tasks.{Wide, gaps_of}
 use Rattle.js_steps.specs.Points.{term_at, IsAt}
 use Rattle.js_steps.specs.Running.{RunsTo, IfGoes}
 use Rattle.js_steps.specs.Stepping.{finish_of, StandsIn}
-use Rattle.js_steps.proofs.RunLemmas.{at-open}
+use Rattle.js_steps.proofs.RunLemmas.{at-open, done_at}
 use Rattle.pure_eval.specs.declared.evaluated.Evaluated.{Evaluated}
 use Rattle.pure_eval.specs.declared.evaluated.Evaluated.TheVariants as ends
 use Rattle.pure_eval.specs.Answering.{Answers, EndsIn, finished, end_of, end_at}
+use Rattle.js_semantics.proofs.FollowLemmas.{steps-more}
 
 -- ---- runs one after another
-
-steps_add : (j k : ℕ) (p : Program) (a : Addr) (r : Run) → steps_in (j + k) p a r ≡ steps_in k p a (steps_in j p a r)
-steps_add zero k p a r = ap (λ n. steps_in n p a r) (zero-add k)
-steps_add (suc j) k p a r =
-    let e : suc j + k ≡ suc (j + k) = omega arith in
-    ap (λ n. steps_in n p a r) e ∙ steps_add j k p a (step_in p a r)
 
 over_stays : (k : ℕ) (p : Program) (a : Addr) (f : AnyFinish) (s : State) → steps_in k p a (over f s) ≡ over f s
 over_stays zero p a f s = refl
@@ -47,7 +42,7 @@ then_left : (j k m : ℕ) (p : Program) (a : Addr) (r s : Run)
     → steps_in k p a r ≡ steps_in m p a s
 then_left j k m p a r s h e f =
     let g : k ≡ j + m = omega arith in
-    ap (λ n. steps_in n p a r) g ∙ steps_add j m p a r ∙ ap (steps_in m p a) f
+    ap (λ n. steps_in n p a r) g ∙ steps-more j m p a r ∙ ap (steps_in m p a) f
 
 -- ---- ends
 
@@ -191,10 +186,6 @@ open_spent : (t : Term) (s : State) (w : _) → is_done t ≡ false → Answers 
 open_spent (done v) s w h = absurd cc
 open_spent (standing v place) s w h = refl
 open_spent (part f now later) s w h = refl
-
-pub done_at : (ts : List (List ℕ)) (table : NodeTable) (v : Value) → term_at ts table [] (points.Done v) ≡ done v
-unfolding term_at
-done_at ts table v = refl
 
 at_end : (ts : List (List ℕ)) (t : NodeTable) (ws : List Wide) (q : Point) (s : State)
     → IsAt t ws q

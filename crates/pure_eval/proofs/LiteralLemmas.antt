@@ -1,21 +1,12 @@
 -- Making the cells of string literals, one after another.
-use Rattle.std.proofs.Common.{◌≡◌, ℕ, zero, suc, ◌+◌, ◌<◌, List, [], ◌∷◌, length, drop, get_or, sym, ap, subst, ◌∙◌, arith}
+use Rattle.std.proofs.Common.{◌≡◌, ℕ, ◌+◌, ◌<◌, List, ◌∷◌, length, drop, get_or, sym, ap, subst, ◌∙◌}
 use Rattle.js_heap.specs.declared.value.Addr.{Addr}
 use Rattle.js_heap.specs.declared.cell.Cell.TheVariants as cells
 use Rattle.js_heap.specs.World.{World, Tried, fine, make_cell}
 use Rattle.js_heap.specs.Worlds.{Keeps, AfterFine}
 use Rattle.js_heap.proofs.KeepLemmas.{keeps-trans, making-keeps}
 use Rattle.js_semantics.specs.Evaluation.{after_try, make_literals}
-
-cons_at : (xs : List (List ℕ)) (i : ℕ) (x : List ℕ)
-    → i < length xs
-    → x ≡ get_or xs i x
-    → drop i xs ≡ x ∷ drop (i + 1) xs
-cons_at [] i x h e = absurd (omega arith)
-cons_at (y ∷ xs) zero x h e = ap (λ z. z ∷ xs) (sym e)
-cons_at (y ∷ xs) (suc i) x h e =
-    let f : suc i + 1 ≡ suc (i + 1) = omega arith in
-    cons_at xs i x (omega arith) e ∙ ap (λ n. x ∷ drop n (y ∷ xs)) (sym f)
+use Rattle.cdp_text.proofs.ListLemmas.{from-here}
 
 -- one more is made
 pub next-made : (xs : List (List ℕ)) (i : ℕ) (x : List ℕ) (a : Addr) (w v u : World)
@@ -27,7 +18,7 @@ pub next-made : (xs : List (List ℕ)) (i : ℕ) (x : List ℕ) (a : Addr) (w v 
 next-made xs i x a w v u h e inv m =
     let k : make_literals v (x ∷ drop (i + 1) xs) ≡ make_literals u (drop (i + 1) xs) = ap
     (λ t. after_try t (λ b z. make_literals z (drop (i + 1) xs))) m in
-    sym k ∙ ap (make_literals v) (sym (cons_at xs i x h e)) ∙ inv
+    sym k ∙ ap (make_literals v) (sym (from-here xs i x h e)) ∙ inv
 
 -- ---- the loop
 

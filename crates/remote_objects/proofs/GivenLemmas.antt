@@ -1,10 +1,9 @@
 -- Values that are given one after another: from one to those behind it.
 use Rattle.std.proofs.Common.{◌≡◌, ℕ, zero, suc, ◌+◌, ◌-◌, ◌<◌, ◌≤◌, inl, inr, List, [], ◌∷◌, ◌++◌, length, drop, get_or, Bool, true, false, ◌&&◌, Option, Some, None, if◌then◌else◌, Result, Ok, Err, IsErrAnd, refl, sym, ap, ap₂, ◌∙◌, subst, arith, add-one, append_assoc, drop_of_length-le}
 use Rattle.std.specs.Prelude.{map, max, nat_le, slice_get, codes}
-use Rattle.std.proofs.Math.Seq.{drop-cons}
 use Rattle.std.proofs.Math.Nat.{le-max_left, le-max_right, max-le}
 use Rattle.std.proofs.lemmas.Bool.{le-leb, lt-leb, and_right}
-use Rattle.std.proofs.lemmas.List.{map-append, append-nil}
+use Rattle.std.proofs.lemmas.List.{map-append, append-nil, drop_more}
 use Rattle.js_heap.specs.declared.cell.Cell.{Cell}
 use Rattle.js_heap.specs.declared.cell.Property.{Property}
 use Rattle.js_heap.specs.declared.value.Addr.{Addr}
@@ -119,9 +118,6 @@ fits-mapped f a b deep met left g here fits =
 
 -- ---- a list that is asked for each of its places
 
-here-so : {X : Type 0} (xs : List X) (i : ℕ) (d : X) → i < length xs → drop i xs ≡ get_or xs i d ∷ drop (i + 1) xs
-here-so xs i d h = rw add-one (drop-cons xs i d h)
-
 -- an element is put
 pub element-goes : {A B : Type 0} (f : A → Given (List B)) (xs : List A) (i : ℕ) (d : A) (deep met left more : ℕ)
     (done new : List B) (whole : Given (List B))
@@ -129,7 +125,7 @@ pub element-goes : {A B : Type 0} (f : A → Given (List B)) (xs : List A) (i : 
     → Goes deep met left done (all_given f (drop i xs)) whole
     → Goes deep met more new (all_given f (drop (i + 1) xs)) whole
 element-goes f xs i d deep met left more done new whole h fits inv =
-    goes f (drop i xs) (get_or xs i d) (drop (i + 1) xs) deep met left more done new whole (here-so xs i d h)
+    goes f (drop i xs) (get_or xs i d) (drop (i + 1) xs) deep met left more done new whole (drop_more xs i d h)
     fits.is fits.within fits.counted inv
 
 -- an element is too long
@@ -144,7 +140,7 @@ pub element-stops : {A B C D : Type 0} (view : C → D) (form : List B → D) (f
 element-stops view form f xs i d r fault deep met left more done whole h inv says is =
     stopped view r fault deep met more (mapped form whole) deep left
     (mapped (λ parts. done ++ parts) (f (get_or xs i d)))
-    (stops f (drop i xs) (get_or xs i d) (drop (i + 1) xs) deep met left done whole (here-so xs i d h) inv) is says
+    (stops f (drop i xs) (get_or xs i d) (drop (i + 1) xs) deep met left done whole (drop_more xs i d h) inv) is says
 
 -- a property is put
 pub property-goes : {A B : Type 0} (f : A → Given (List B)) (xs : List A) (i : ℕ) (x : A) (deep met left more : ℕ)

@@ -18,7 +18,7 @@ use Rattle.js_syntax.specs.Classes as classes
 use Rattle.js_syntax.specs.Classes.{start, link_by, no_link, update_by, operator_by, joint, no_joint, question, assigns_by, is_arrow}
 use Rattle.js_syntax.specs.Productions.{Below, tok, an_assignment, in_braces}
 use Rattle.js_syntax.specs.Parsing.{operation, arrow_rest, are_fresh, arrow_of_one, arrow_of_list, joined, assignment, expression, function_code_by}
-use Rattle.js_syntax.proofs.KindLemmas.{next_again}
+use Rattle.js_language.proofs.KindLemmas.{next_again}
 use Rattle.js_grammar.proofs.Claims.{AgainBelow, SeqAgain, Stops, StopsOperation, NoComma}
 use Rattle.js_grammar.proofs.MarkLemmas.{parts}
 use Rattle.js_grammar.proofs.TokenLemmas.{expect_again, expect_near_again, name_again}

@@ -14,7 +14,7 @@ use Rattle.js_syntax.specs.Classes as classes
 use Rattle.js_syntax.specs.Classes.{first, first_by, is_name, each, declares, plain_head, for_head, for_head_by}
 use Rattle.js_syntax.specs.Productions.{Below, Values}
 use Rattle.js_syntax.specs.Parsing.{let_kind, for_items, for_lexical_items, for_of_items, for_at, for_by}
-use Rattle.js_syntax.proofs.KindLemmas.{next_again, kind_not}
+use Rattle.js_language.proofs.KindLemmas.{next_again, kind_not}
 use Rattle.js_grammar.proofs.Claims.{Follows, AgainBelow, marks}
 use Rattle.js_grammar.proofs.MarkLemmas.{parts}
 use Rattle.js_grammar.proofs.TokenLemmas.{text_is}

@@ -15,7 +15,7 @@ use Rattle.js_language.specs.Well.{Context, Well, WellStatement, begins_with_bra
 use Rattle.js_language.specs.Kinds.{is_kind, is_same_kind}
 use Rattle.js_syntax.specs.Reading.{ends_list}
 use Rattle.js_syntax.specs.Classes.{link_by, no_link, update_by, operator_by, joint_by, no_joint, an_expression, first, first_by, ends_return}
-use Rattle.js_syntax.proofs.KindLemmas.{kind_is, kind_not, next_again}
+use Rattle.js_language.proofs.KindLemmas.{kind_is, kind_not, next_again}
 use Rattle.js_grammar.proofs.Claims.{Stops, NoComma, follows_by, follows_statement, closes}
 use Rattle.js_grammar.proofs.Again.List.{matches_shorter}
 use Rattle.js_syntax.proofs.PlacedTokenLemmas.{next_shorter}

@@ -13,7 +13,7 @@ use Rattle.js_language.specs.Tokens.{Token, fixed, identifier, numeric_literal, 
 use Rattle.js_language.specs.Flat.{update_kind, binary_kind, assign_kind}
 use Rattle.js_language.specs.Kinds.{is_kind, is_same_kind}
 use Rattle.js_syntax.specs.Classes.{Start, start_by, start, a_name, a_number, a_string, link_by, link, no_link, update_by, update_near, prefix_by, prefix, an_update, operator_by, operator, joint_by, joint, assigns_by, is_arrow}
-use Rattle.js_syntax.proofs.KindLemmas.{next_again, kind_not}
+use Rattle.js_language.proofs.KindLemmas.{next_again, kind_not}
 
 -- ---- a token of a kind
 

@@ -5,7 +5,7 @@ use Rattle.js_lexer.specs.declared.token.TokenKind.TheVariants as kinds
 use Rattle.js_language.specs.Tokens.{Token, fixed, Mark, token, beside, semicolon, trailing_comma, head_of, tail_of, Matches}
 use Rattle.js_language.specs.Kinds.{is_kind, is_same_kind}
 use Rattle.js_syntax.specs.Reading.{Reader, elements, others, items, ends_list}
-use Rattle.js_syntax.proofs.KindLemmas.{next_again, kind_not}
+use Rattle.js_language.proofs.KindLemmas.{next_again, kind_not}
 use Rattle.js_grammar.proofs.MarkLemmas.{parts}
 use Rattle.js_grammar.proofs.Sound.List.{behind_commas, with_commas, behind_last, in_a_row, AllGood}
 use Rattle.js_syntax.proofs.LoopStepLemmas.{tail_shorter}

@@ -16,7 +16,7 @@ use Rattle.js_tree.specs.Views.{expressions, statements, declarators}
 use Rattle.js_language.specs.Kinds.{is_kind}
 use Rattle.js_syntax.specs.Reading.{expect, name_at, fresh_name, elements, others, items, ends_list, no_state, with_name, with_names}
 use Rattle.js_syntax.specs.Productions.{Code, Below, one_of, arguments_before, more_assignments, names_before, parameters_at, with_declared, items_at, braces, code_at, declarator_at, name_of, with_declarator, declarators_at, optional_before, ended_expression}
-use Rattle.js_syntax.proofs.KindLemmas.{next_again, kind_not}
+use Rattle.js_language.proofs.KindLemmas.{next_again, kind_not}
 use Rattle.js_grammar.proofs.Claims.{Stops, NoComma, follows_statement, Follows, closes, AgainBelow}
 use Rattle.js_grammar.proofs.MarkLemmas.{parts}
 use Rattle.js_grammar.proofs.TokenLemmas.{expect_again, name_again, fresh_again, semicolon_again}

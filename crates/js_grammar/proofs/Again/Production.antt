@@ -9,7 +9,7 @@ use Rattle.js_language.specs.Flat.{edge}
 use Rattle.js_language.specs.Kinds.{is_kind}
 use Rattle.js_syntax.specs.Classes.{is_name}
 use Rattle.js_syntax.specs.Productions.{Below, Item, tok, near, a_name, the_name, an_assignment, an_expression, optional, arguments, ended, an_end, declared, a_statement, a_block, in_braces, code, Value, Values, expect_name, item, seq, made}
-use Rattle.js_syntax.proofs.KindLemmas.{next_again, kind_not}
+use Rattle.js_language.proofs.KindLemmas.{next_again, kind_not}
 use Rattle.js_grammar.proofs.Claims.{Stops, NoComma, follows_statement, Follows, AgainBelow, marks_of, marks, Sane, AllSane, height_at, height_all, EndsLast, fits, all_fit, SeqAgain}
 use Rattle.js_grammar.proofs.MarkLemmas.{parts}
 use Rattle.js_grammar.proofs.TokenLemmas.{expect_again, expect_near_again, name_again, text_is, semicolon_again}

@@ -19,7 +19,7 @@ use Rattle.js_syntax.specs.Classes as classes
 use Rattle.js_syntax.specs.Classes.{a_word_key, a_string_key, a_number_key, a_computed_key, no_key, key_start, key_start_by, AfterKey, after_key, after_key_by, is_shorthand, is_shorthand_by}
 use Rattle.js_syntax.specs.Productions.{Below, one_of, tok, an_assignment}
 use Rattle.js_syntax.specs.Parsing.{key_at, property_at, properties_at}
-use Rattle.js_syntax.proofs.KindLemmas.{kind_is}
+use Rattle.js_language.proofs.KindLemmas.{kind_is}
 use Rattle.js_grammar.proofs.Claims.{AgainBelow, SeqAgain, Stops}
 use Rattle.js_grammar.proofs.MarkLemmas.{parts}
 use Rattle.js_grammar.proofs.TokenLemmas.{name_again, text_is}

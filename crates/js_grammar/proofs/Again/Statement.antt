@@ -17,7 +17,7 @@ use Rattle.js_syntax.specs.Classes as classes
 use Rattle.js_syntax.specs.Classes.{First, first, ends_return}
 use Rattle.js_syntax.specs.Productions.{Code, Below, declarators_at, code_at, tok, a_name, ended, an_end, a_statement, a_block, in_braces, Values, seq}
 use Rattle.js_syntax.specs.Parsing.{if_items, if_at, do_items, while_items, return_by, throw_by, let_kind, handler_at, finalizer_by, finalizer_at, try_at, statement_by, statement, lexical_at, declaration_at, item_by, item}
-use Rattle.js_syntax.proofs.KindLemmas.{next_again, kind_not}
+use Rattle.js_language.proofs.KindLemmas.{next_again, kind_not}
 use Rattle.js_grammar.proofs.Claims.{follows_statement, NoElse, Follows, AgainBelow}
 use Rattle.js_grammar.proofs.MarkLemmas.{parts}
 use Rattle.js_grammar.proofs.TokenLemmas.{fresh_again, semicolon_again}

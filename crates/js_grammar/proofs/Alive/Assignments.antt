@@ -20,7 +20,7 @@ use Rattle.js_syntax.specs.Classes as classes
 use Rattle.js_syntax.specs.Classes.{Start, start, Joint, question, assigns_by, no_joint, joint_by, joint, is_arrow, past_names, Head, one_parameter, listed, no_arrow, listed_by, head_by, arrow_head}
 use Rattle.js_syntax.specs.Productions.{Below, one_of, more_assignments, names_before, parameters_at, tok, an_assignment, in_braces, seq, made}
 use Rattle.js_syntax.specs.Parsing.{if_low, operation, arrow_body_by, arrow_rest, are_fresh, arrow_of_names, arrow_of_one, arrow_of_list, joined_by, joined, assignment_by, assignment, comma_by, expression, function_code_by}
-use Rattle.js_syntax.proofs.KindLemmas.{kind_is, next_is}
+use Rattle.js_language.proofs.KindLemmas.{kind_is, next_is}
 use Rattle.js_grammar.proofs.Claims.{TakesExpression, SoundBelow}
 use Rattle.js_grammar.proofs.MarkLemmas.{joins}
 use Rattle.js_grammar.proofs.TokenLemmas.{faulty, ok_is, expect_sound, expect_again, expect_near_sound, name_again, name_sound}

@@ -6,7 +6,7 @@ use Rattle.js_lexer.specs.declared.token.TokenKind.TheVariants as kinds
 use Rattle.js_language.specs.Tokens.{Token, fixed, Mark, token, trailing_comma, head_of, tail_of, IsNext, Matches}
 use Rattle.js_language.specs.Kinds.{is_kind}
 use Rattle.js_syntax.specs.Reading.{Fault, Reader, ◌>>=◌, After, goes_on, ends, neither, after, go_after, elements_by, elements, others_by, others, ends_list, items_by, items}
-use Rattle.js_syntax.proofs.KindLemmas.{next_is}
+use Rattle.js_language.proofs.KindLemmas.{next_is}
 use Rattle.js_grammar.proofs.MarkLemmas.{joins}
 use Rattle.js_grammar.proofs.Sound.List.{behind_commas, up_to, in_a_row, AllGood, Reads, after_goes}
 use Rattle.js_grammar.proofs.Alive.Tools.{bind_err, Counts, stuck_counts, deep_counts, a_token, Anything, Starts, Softer, is_firm, firmly, Lives, fills, grows, from_nothing, anything, ends_in, around, around_softly, stopped, firm_behind}

@@ -18,7 +18,7 @@ use Rattle.js_language.specs.Kinds.{is_same_kind, is_kind}
 use Rattle.js_syntax.specs.Classes.{is_name}
 use Rattle.js_syntax.specs.Reading.{Fault, stuck, ◌>>=◌, expect, expect_near, name_at, fresh_name, text_of, semicolon_at, elements, others, items, no_state, with_name, with_names}
 use Rattle.js_syntax.specs.Productions.{Code, Below, one_of, arguments_before, more_assignments, parameters_at, with_declared, items_at, braces, code_at, initializer_by, declarator_at, name_of, with_declarator, declarators_at, optional_by, optional_before, ended_expression, Item, tok, near, a_name, the_name, an_assignment, an_expression, optional, arguments, ended, an_end, declared, a_statement, a_block, in_braces, code, Value, Values, expect_name, item, seq, made}
-use Rattle.js_syntax.proofs.KindLemmas.{same_kind, next_is}
+use Rattle.js_language.proofs.KindLemmas.{same_kind, next_is}
 use Rattle.js_grammar.proofs.Claims.{SoundBelow, marks_of, marks, Sane, AllSane}
 use Rattle.js_grammar.proofs.MarkLemmas.{joins}
 use Rattle.js_grammar.proofs.TokenLemmas.{expect_sound, expect_again, fresh_sound}

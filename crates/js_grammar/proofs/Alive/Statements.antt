@@ -15,7 +15,7 @@ use Rattle.js_syntax.specs.Classes.{First, first_by, first, ends_return, ForHead
 use Rattle.js_syntax.specs.Reading.{Fault, stuck, Read, ◌>>=◌, expect, fresh_name, semicolon_at}
 use Rattle.js_syntax.specs.Productions.{Below, braces, code_at, declarators_at, ended_expression, Item, tok, an_expression, ended, an_end, a_statement, a_block, in_braces, Values, seq, made}
 use Rattle.js_syntax.specs.Parsing.{else_by, if_items, if_at, let_kind, do_items, while_items, for_items, for_lexical_items, for_of_items, for_by, for_at, return_by, throw_by, catch_by, handler_by, handler_at, finalizer_by, finalizer_at, try_at, statement_by, statement, lexical_at, declaration_at, item_by, item}
-use Rattle.js_syntax.proofs.KindLemmas.{next_is}
+use Rattle.js_language.proofs.KindLemmas.{next_is}
 use Rattle.js_grammar.proofs.Claims.{SoundBelow, marks, AllSane, TakesAll}
 use Rattle.js_grammar.proofs.MarkLemmas.{joins, parts}
 use Rattle.js_grammar.proofs.TokenLemmas.{expect_sound, expect_again, fresh_sound}

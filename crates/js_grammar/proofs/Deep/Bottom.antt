@@ -12,7 +12,7 @@ use Rattle.js_syntax.specs.Classes as classes
 use Rattle.js_syntax.specs.Classes.{Start, start, is_arrow, past_names, no_arrow, listed_by}
 use Rattle.js_syntax.specs.Productions.{Below}
 use Rattle.js_syntax.specs.Parsing.{assignment, comma_by, expression, below}
-use Rattle.js_syntax.proofs.KindLemmas.{next_is}
+use Rattle.js_language.proofs.KindLemmas.{next_is}
 use Rattle.js_grammar.proofs.Claims.{SoundBelow}
 use Rattle.js_grammar.proofs.TokenLemmas.{faulty}
 use Rattle.js_grammar.proofs.Soundness.{sound_below}

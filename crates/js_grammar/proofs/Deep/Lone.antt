@@ -15,7 +15,7 @@ use Rattle.js_syntax.specs.Classes as classes
 use Rattle.js_syntax.specs.Classes.{Start, start, Link, dot, key, no_link, link, update_near, operator, Joint, question, assigns_by, no_joint, joint, is_arrow}
 use Rattle.js_syntax.specs.Productions.{Below}
 use Rattle.js_syntax.specs.Parsing.{links_by, links, updated_by, operator_from, chain_by, chain, joined_by, joined, assignment, below}
-use Rattle.js_syntax.proofs.KindLemmas.{kind_is}
+use Rattle.js_language.proofs.KindLemmas.{kind_is}
 use Rattle.js_grammar.proofs.Claims.{SoundBelow}
 use Rattle.js_grammar.proofs.TokenLemmas.{faulty}
 use Rattle.js_grammar.proofs.Again.Level.{height_positive}

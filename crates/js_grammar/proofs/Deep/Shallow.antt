@@ -14,7 +14,7 @@ use Rattle.js_syntax.specs.Classes as classes
 use Rattle.js_syntax.specs.Classes.{start, prefix, First, first}
 use Rattle.js_syntax.specs.Productions.{Code, Below}
 use Rattle.js_syntax.specs.Parsing.{below}
-use Rattle.js_syntax.proofs.KindLemmas.{next_is}
+use Rattle.js_language.proofs.KindLemmas.{next_is}
 use Rattle.js_grammar.proofs.Claims.{TakesExpression, SoundBelow}
 use Rattle.js_grammar.proofs.TokenLemmas.{faulty}
 use Rattle.js_grammar.proofs.Follows.Tools.{FollowsAt, Follows, Takes}

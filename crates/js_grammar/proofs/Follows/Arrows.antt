@@ -9,7 +9,7 @@ use Rattle.js_language.specs.Kinds.{is_kind}
 use Rattle.js_syntax.specs.Reading.{stuck, deep, Read, Reader, ◌>>=◌, expect, name_at, after, go_after, elements, others_by, others, no_state}
 use Rattle.js_syntax.specs.Classes.{is_arrow, past_names, listed, no_arrow, listed_by}
 use Rattle.js_syntax.specs.Productions.{one_of}
-use Rattle.js_syntax.proofs.KindLemmas.{kind_not}
+use Rattle.js_language.proofs.KindLemmas.{kind_not}
 use Rattle.js_grammar.proofs.Follows.Tools.{Seen, Clear, Follows, makes, shortens, same_left, same_count, head_past}
 use Rattle.js_grammar.proofs.Follows.Parts.{expect_follows, others_from}
 

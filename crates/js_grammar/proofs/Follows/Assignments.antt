@@ -15,7 +15,7 @@ use Rattle.js_syntax.specs.Classes as classes
 use Rattle.js_syntax.specs.Classes.{Start, start_by, start, link_by, link, no_link, update_by, update_near, no_prefix, prefix, operator_by, operator, joint_by, joint, no_joint, is_arrow, past_names, Head, one_parameter, listed, no_arrow, listed_by, head_by}
 use Rattle.js_syntax.specs.Productions.{Below, one_of, names_before, more_assignments, Item, tok, an_expression, Values, seq, made}
 use Rattle.js_syntax.specs.Parsing.{primary, links, call, updated_by, postfix, unary, chain, operation, arrow_rest, are_fresh, arrow_of_names, arrow_of_one, arrow_of_list, joined, assignment_by, assignment, comma_by, expression}
-use Rattle.js_syntax.proofs.KindLemmas.{kind_is}
+use Rattle.js_language.proofs.KindLemmas.{kind_is}
 use Rattle.js_grammar.proofs.TokenLemmas.{expect_again, name_again}
 use Rattle.js_grammar.proofs.Follows.Tools.{Seen, FollowsAt, Follows, gives, past, peeks, binds, makes, low_enough, alike, head_past}
 use Rattle.js_grammar.proofs.Follows.Parts.{Pair, more_assignments_follows, made_follows}

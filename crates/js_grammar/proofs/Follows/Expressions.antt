@@ -19,7 +19,7 @@ use Rattle.js_syntax.specs.Classes as classes
 use Rattle.js_syntax.specs.Classes.{start, Link, dot, key, no_link, link, update_near, deletes, a_unary, an_update, no_prefix, prefix, operator, Joint, question, assigns_by, no_joint, joint, key_start, AfterKey, after_key, is_shorthand_by}
 use Rattle.js_syntax.specs.Productions.{Below, one_of, tok, an_assignment, an_expression, arguments, a_name, code, in_braces, made}
 use Rattle.js_syntax.specs.Parsing.{key_by, key_at, member_by, property_by, property_at, properties_at, is_name_next, function_by, function_at, primary_by, primary, linked_by, links_by, links, call, updated_by, postfix, unary_by, unary, operator_from, chain_by, chain, operation, arrow_body_by, arrow_rest, joined_by, joined}
-use Rattle.js_syntax.proofs.KindLemmas.{kind_is}
+use Rattle.js_language.proofs.KindLemmas.{kind_is}
 use Rattle.js_grammar.proofs.Follows.Tools.{Follows, gives, sticks, deepens, past, peeks, binds, makes, tests, low_enough, alike, shortens}
 use Rattle.js_grammar.proofs.Follows.Parts.{Pair, on_right, expect_near_follows, word_follows, elements_follows, made_follows}
 

@@ -5,7 +5,7 @@ use Rattle.js_lexer.specs.declared.token.TokenKind.TheVariants as kinds
 use Rattle.js_language.specs.Tokens.{Token, fixed, Mark, token, trailing_comma, head_of, tail_of, IsNext, Matches}
 use Rattle.js_language.specs.Kinds.{is_kind}
 use Rattle.js_syntax.specs.Reading.{Reader, ◌>>=◌, After, goes_on, ends, neither, after_by, after, go_after, elements_by, elements, others_by, others, ends_list, items_by, items}
-use Rattle.js_syntax.proofs.KindLemmas.{next_is}
+use Rattle.js_language.proofs.KindLemmas.{next_is}
 use Rattle.js_grammar.proofs.MarkLemmas.{joins}
 use Rattle.js_grammar.proofs.TokenLemmas.{ok_is}
 use Rattle.js_syntax.proofs.ShorterLemmas.{bind_ok}

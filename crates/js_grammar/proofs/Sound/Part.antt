@@ -17,7 +17,7 @@ use Rattle.js_language.specs.Kinds.{is_kind}
 use Rattle.js_syntax.specs.Classes.{is_name}
 use Rattle.js_syntax.specs.Reading.{stuck, ◌>>=◌, expect, name_at, fresh_name, semicolon_at, elements, others, items, ends_list, no_state, with_name, with_names}
 use Rattle.js_syntax.specs.Productions.{Code, Below, one_of, arguments_before, more_assignments, names_before, parameters_at, with_declared, items_at, braces, code_at, initializer_by, declarator_at, name_of, with_declarator, declarators_at, optional_by, optional_before, ended_expression, Item, tok, near, a_name, the_name, an_assignment, an_expression, optional, arguments, ended, an_end, declared, a_statement, a_block, in_braces, code, Value, Values, expect_name, item, seq}
-use Rattle.js_syntax.proofs.KindLemmas.{next_is}
+use Rattle.js_language.proofs.KindLemmas.{next_is}
 use Rattle.js_grammar.proofs.Claims.{NoElse, TakesBlock, TakesCode, SoundBelow, marks_of, marks, Sane, height_at, LastNoElse, TakesAll, SeqSound}
 use Rattle.js_grammar.proofs.MarkLemmas.{joins}
 use Rattle.js_grammar.proofs.TokenLemmas.{ok_is, test_ok, expect_sound, expect_near_sound, name_sound, fresh_sound, semicolon_sound}

@@ -17,7 +17,7 @@ use Rattle.js_syntax.specs.Classes.{First, first, ends_return, ForHead, each, de
 use Rattle.js_syntax.specs.Reading.{stuck, ◌>>=◌, fresh_name, semicolon_at}
 use Rattle.js_syntax.specs.Productions.{Code, Below, braces, code_at, declarators_at, Item, tok, a_name, ended, an_end, a_statement, a_block, in_braces, Values, seq, made}
 use Rattle.js_syntax.specs.Parsing.{else_by, if_items, if_at, let_kind, do_items, while_items, for_items, for_lexical_items, for_of_items, for_by, for_at, return_by, throw_by, catch_by, handler_by, handler_at, finalizer_by, finalizer_at, try_at, statement_by, statement, lexical_at, declaration_at, item_by, item}
-use Rattle.js_syntax.proofs.KindLemmas.{next_is, next_again}
+use Rattle.js_language.proofs.KindLemmas.{next_is, next_again}
 use Rattle.js_grammar.proofs.Claims.{NoElse, TakesItem, TakesStatement, TakesBlock, TakesCode, SoundBelow, height_at, height_all, TakesAll}
 use Rattle.js_grammar.proofs.MarkLemmas.{joins, parts}
 use Rattle.js_grammar.proofs.TokenLemmas.{ok_is, test_ok, fresh_sound, semicolon_sound}
