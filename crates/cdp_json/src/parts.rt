@@ -61,8 +61,8 @@ fn coordinate(alloc: Global, key: &[u8], value: u32) -> Result<Member, AllocErro
     member(alloc, key, number(i64::from(value)))
 }
 
-/// The id of a script: its number.
-fn script_id(alloc: Global, script: u32) -> Result<Json, AllocError>
+/// The id of a script: its number as a decimal.
+pub fn script_id(alloc: Global, script: u32) -> Result<Json, AllocError>
     ensures { IfOk result (λ j. json_view j ≡ json.text (decimal script)) }
 {
     let digits = format!(in alloc; "{script}")?;

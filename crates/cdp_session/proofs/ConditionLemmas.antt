@@ -20,7 +20,7 @@ use Rattle.pure_eval.specs.Workspaces.{Opened, Workspace, opened, EvaluatesTo}
 use Rattle.pure_eval.specs.declared.evaluated.Evaluated.{Evaluated}
 use Rattle.pure_eval.specs.declared.prepared.Prepared.{Prepared}
 use Rattle.cdp_session.specs.Conditions.{IsParsed, IsParsedTo, comes_true, expression_holds, holds, is_met, top_scope, top_this, tree_holds}
-use Rattle.cdp_session.specs.Evaluations.{is_memory}
+use Rattle.pure_eval.specs.Answering.{is_memory}
 use Rattle.cdp_session.specs.Situations.{Standing}
 use Rattle.cdp_session.proofs.EvaluationLemmas.{evaluated-from, stays}
 

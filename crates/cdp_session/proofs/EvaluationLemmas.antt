@@ -22,7 +22,8 @@ use Rattle.pure_eval.specs.Workspaces.{Opened, Workspace, opened, EvaluatesTo}
 use Rattle.cdp_session.specs.declared.done.Done.{Done as Held}
 use Rattle.cdp_session.specs.declared.done.Fault.{Fault}
 use Rattle.cdp_session.specs.declared.showing.Showing.{Showing}
-use Rattle.cdp_session.specs.Evaluations.{Evaluates, is_memory, no_expression, outcome_of_answer, outcome_of_tree}
+use Rattle.cdp_session.specs.Evaluations.{Evaluates, no_expression, outcome_of_answer, outcome_of_tree}
+use Rattle.pure_eval.specs.Answering.{is_memory}
 use Rattle.cdp_session.specs.Made.{KeepsIfRefused, Makes}
 use Rattle.cdp_session.specs.Rows.{row_of}
 use Rattle.cdp_session.specs.Sessions.{Session, no_workspace, with_workspace}

@@ -18,8 +18,6 @@ use Rattle.js_numbered.specs.Numbered.{numbered_made}
 use Rattle.js_world.specs.Overlays.{Over, over_world, space_after}
 use Rattle.js_parser.specs.Expressions.{expression_of}
 use Rattle.js_parser.specs.NodeTexts.{node_text}
-use Rattle.pure_eval.specs.declared.evaluated.Evaluated.{Evaluated}
-use Rattle.pure_eval.specs.declared.evaluated.Evaluated.TheVariants as ends
 use Rattle.pure_eval.specs.Workspaces.{with_evaluated}
 use Rattle.call_frames.specs.Frames.{ShownFrame, ShownScope}
 use Rattle.object_groups.specs.Handles as handles
@@ -104,11 +102,6 @@ holds_on v h = false
 abbrev pub kept_by : Bool → Source → World → Session → Session
 kept_by true e w x = with_workspace (with_evaluated e w x.workspace) x
 kept_by false e w x = x
-
--- there was no memory for an evaluation
-abbrev pub is_memory : Evaluated → Bool
-is_memory ends.Memory = true
-is_memory end = false
 
 -- ---- outcomes
 

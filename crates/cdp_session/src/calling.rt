@@ -14,7 +14,6 @@ ghost use Rattle.cdp_session.specs.Rows.{row_of};
 ghost use Rattle.cdp_session.specs.Situations.{seen};
 
 use crate::done::{Done, Fault};
-use crate::evaluating::is_memory;
 use crate::program::Program;
 use crate::session::Session;
 use crate::showing::{Showing, detail_of};
@@ -29,7 +28,7 @@ use js_parser::parse::parse_function;
 use js_rows::table::Table;
 use js_tree::script::FunctionCode;
 use object_groups::{Handle, Target};
-use pure_eval::Argument;
+use pure_eval::{Argument, is_memory};
 use std::alloc::AllocError;
 
 /// The object for which a handle stands; a scope is none.

@@ -10,7 +10,7 @@ ghost use Rattle.js_semantics.specs.Makers.{Made as Source};
 ghost use Rattle.pure_eval.specs.Workspaces.{opened as just_opened, EvaluatesTo, Workspace as Kept};
 ghost use Rattle.cdp_session.specs.Conditions as conditions;
 ghost use Rattle.cdp_session.specs.Conditions.{IsParsed, expression_holds, hits};
-ghost use Rattle.cdp_session.specs.Evaluations.{is_memory};
+ghost use Rattle.pure_eval.specs.Answering.{is_memory};
 ghost use Rattle.cdp_session.specs.Sessions.{no_workspace};
 ghost use Rattle.cdp_session.specs.Situations.{seen};
 

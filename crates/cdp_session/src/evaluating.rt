@@ -44,7 +44,7 @@ use js_rows::table::Table;
 use js_syntax::fault::ParseFault;
 use js_tree::script::{Expression, Script};
 use object_groups::Handles;
-use pure_eval::{Evaluated, Opened, Workspace};
+use pure_eval::{Evaluated, Opened, Workspace, is_memory};
 use remote_objects::frame_id;
 use std::alloc::{AllocError, Global};
 
@@ -82,16 +82,6 @@ fn kept_or_forgotten(keeps: bool, opened: Opened<'_>) -> Workspace
         opened.keep()
     } else {
         opened.forget()
-    }
-}
-
-/// Whether there was no memory for an evaluation.
-pub(crate) fn is_memory(end: Evaluated) -> bool
-    ensures { result ≡ evaluations.is_memory end }
-{
-    match end {
-        Evaluated::Memory => true,
-        _ => false,
     }
 }
 

@@ -11,7 +11,7 @@ use crate::program::Program;
 use crate::situation::Situation;
 use breakpoints::ScriptSpots;
 use cdp_json::refusal::Refusal;
-use cdp_text::units::{Units, ascii};
+use cdp_text::units::{Units, decimal_units};
 use js_tree::script::Script;
 use std::alloc::{AllocError, Global};
 
@@ -19,8 +19,7 @@ use std::alloc::{AllocError, Global};
 fn is_id(alloc: Global, number: u32, id: &[u16]) -> Result<bool, AllocError>
     ensures { IfOk result (λ is. is ≡ bytes_eq (decimal number) id.now) }
 {
-    let digits = format!(in alloc; "{number}")?;
-    let text = ascii(alloc, digits.as_bytes())?;
+    let text = decimal_units(alloc, number as usize)?;
     Ok(text.as_slice() == id)
 }
 

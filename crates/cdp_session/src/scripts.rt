@@ -8,7 +8,7 @@ ghost use Rattle.cdp_session.specs.Scripts as parsed;
 
 use crate::members::numbered;
 use cdp_json::event_text;
-use cdp_json::parts::{ascii_text, copied_text, member};
+use cdp_json::parts::{ascii_text, copied_text, member, script_id};
 use cdp_json::value::{Json, Member, object};
 use cdp_text::position::{Pos, pos_at};
 use cdp_text::units::text_of;
@@ -34,14 +34,6 @@ fn end_of(source: &[u16]) -> Result<Pos, AllocError>
         return Err(AllocError);
     }
     Ok(pos_at(source, source.len()))
-}
-
-/// The id of a script: its number as a decimal.
-pub(crate) fn script_id(alloc: Global, number: u32) -> Result<Json, AllocError>
-    ensures { IfOk result (λ j. json_view j ≡ json.text (parsed.script_id number)) }
-{
-    let digits = format!(in alloc; "{number}")?;
-    ascii_text(alloc, digits.as_bytes())
 }
 
 /// The members that say where a script ends, in which context it runs, its hash, its id, where it starts, and its URL.

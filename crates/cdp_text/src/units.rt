@@ -1,5 +1,5 @@
 //! Texts of UTF-16 code units, the form in which ECMA-262 sees sources and strings, and their way from and to UTF-8.
-ghost use Rattle.std.specs.Prelude.{◌≡◌, ◌==◌, [], length, nat_eq, IfOk, IsTrue, ◌↔◌, string_bytes};
+ghost use Rattle.std.specs.Prelude.{◌≡◌, ◌==◌, [], length, nat_eq, decimal, IfOk, IsTrue, ◌↔◌, string_bytes};
 ghost use Rattle.std.specs.Cmp.Lexicographic.{pointwise};
 ghost use Rattle.std.specs.Cmp.Rules.{comparing};
 ghost use Rattle.std.proofs.Common.{rules};
@@ -101,6 +101,14 @@ pub fn ascii(alloc: Global, bytes: &[u8]) -> Result<Units, AllocError>
         items.push(u16::from(*byte))?;
     }
     Ok(Units::from_vec(items))
+}
+
+/// The decimal digits of a number.
+pub fn decimal_units(alloc: Global, number: usize) -> Result<Units, AllocError>
+    ensures { IfOk result (λ units. units ≡ decimal number) }
+{
+    let digits = format!(in alloc; "{number}")?;
+    ascii(alloc, digits.as_bytes())
 }
 
 /// The UTF-16 form of a text.

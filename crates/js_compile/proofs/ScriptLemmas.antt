@@ -19,6 +19,7 @@ use Rattle.js_code.specs.declared.table.NodeTable.{NodeTable}
 use Rattle.js_code.specs.Trees.{IsEmpty, tree, IsNodeAt, IsTable, source_tree, source_trees}
 use Rattle.js_compile.specs.Added.{IsNodeAdded}
 use Rattle.js_compile.specs.Grown.{IsPlacedNode, HasPlaces, Extends, HasTree, HaveTrees, Holds, HoldsAll}
+use Rattle.js_semantics.specs.Shapes.{size}
 use Rattle.js_compile.specs.Scripts.{Continues, IsSourceAdded, AddsSource, IsProgram, HasNodes}
 use Rattle.js_compile.proofs.GrownLemmas.{extends_same, extends_twice, node_extends, node_keeps, node_tree, no_trees}
 use Rattle.js_compile.proofs.EntryLemmas.{has_bare}
@@ -39,32 +40,26 @@ continues_twice ts us vs t u v g h =
 
 -- ---- one more source
 
-count : semantics.Terms → ℕ
-count semantics.end = 0
-count (semantics.more x xs) = suc (count xs)
-
 pub sources_push : (us : List (List ℕ)) (v : NodeTable) (es : List SourceEntry) (e : SourceEntry)
     → source_trees us v (es ++ e ∷ []) ≡ source_trees us v es ++ source_tree us v e ∷ []
 sources_push us v [] e = refl
 sources_push us v (d ∷ es) e = ap (λ xs. source_tree us v d ∷ xs) (sources_push us v es e)
 
 program_push : (n m : ℕ) (xs : semantics.Terms) (x : semantics.Term)
-    → m ≡ n + count xs
+    → m ≡ n + size xs
     → program_from n (semantics.joined xs (semantics.one x))
     ≡ program_from n xs ++ record { source = script_source m; tree = x } ∷ []
-unfolding count
 program_push n m semantics.end x e =
     let k : n ≡ m = omega arith in
     ap (λ j. let s : SourceTree = record { source = script_source j; tree = x } in s ∷ []) k
 program_push n m (semantics.more y xs) x e =
-    let k : m ≡ n + 1 + count xs = omega arith in
+    let k : m ≡ n + 1 + size xs = omega arith in
     ap (λ ps. let s : SourceTree = record { source = script_source n; tree = y } in s ∷ ps)
     (program_push (n + 1) m xs x k)
 
-count_listed : (xs : List Term) → count (listed_view xs) ≡ length xs
-unfolding count
-count_listed [] = refl
-count_listed (x ∷ xs) = ap suc (count_listed xs)
+size_listed : (xs : List Term) → size (listed_view xs) ≡ length xs
+size_listed [] = refl
+size_listed (x ∷ xs) = ap suc (size_listed xs)
 
 take_length : (i : ℕ) (xs : List Term) → i ≤ length xs → length (take i xs) ≡ i
 take_length zero xs h = refl
@@ -104,7 +99,7 @@ script_step ts us t u items i number root x o p g s k a n l is vs v h w =
     ap listed_view (take_more items i x l)
     ∙ listed_view-append (take i items) (get_or items i x ∷ [])
     ∙ ap (λ y. semantics.joined front (semantics.one (term_view y))) (sym is) in
-    let m : number ≡ 1 + count front = omega (arith, n, count_listed (take i items), take_length i items (omega arith))
+    let m : number ≡ 1 + size front = omega (arith, n, size_listed (take i items), take_length i items (omega arith))
     in
     ap (source_trees vs v) b.sources ∙ sources_push vs v t.sources.items b.entry
     ∙ ap (λ ps. ps ++ source_tree vs v b.entry ∷ [])

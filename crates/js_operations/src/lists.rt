@@ -1,12 +1,12 @@
 //! What built-in functions compute on lists and texts.
 
-ghost use Rattle.std.specs.Prelude.{◌≡◌, ◌≤◌, ◌-◌, ◌++◌, IfOk, IfSome, OnOk, List, ℕ, length, take, drop, decimal, option_copied};
+ghost use Rattle.std.specs.Prelude.{◌≡◌, ◌≤◌, ◌-◌, ◌++◌, IfOk, IfSome, OnOk, List, ℕ, length, take, drop, option_copied};
 ghost use Rattle.js_heap.specs.World.{read_cell};
 ghost use Rattle.js_semantics.specs.BuiltIns.{argument, last_of, keys_of_cell, enumerable_keys, indices_from, is_array_cell, is_array, first_same, joined_part, joined_parts, place, begins_with, first_occurrence};
 ghost use Rattle.js_world.specs.Cells.{cell_at};
 ghost use Rattle.js_operations.specs.Texts.{elements_at, elements_of_cell, both_places, unit_of, key_if};
 
-use cdp_text::units::{Units, ascii};
+use cdp_text::units::{Units, decimal_units};
 use js_heap::cell::Property;
 use js_heap::reading::Cells;
 use js_heap::value::{Addr, Value};
@@ -79,20 +79,13 @@ fn enumerable_keys(alloc: Global, properties: &PropertyMap) -> Result<Vec<Units>
     Ok(keys)
 }
 
-fn index_text(alloc: Global, index: usize) -> Result<Units, AllocError>
-    ensures { IfOk result (λ units. units ≡ decimal index) }
-{
-    let text = format!(in alloc; "{index}")?;
-    ascii(alloc, text.as_bytes())
-}
-
 /// The indices of a list as texts.
 fn indices(alloc: Global, values: &[Value]) -> Result<Vec<Units>, AllocError>
     ensures { IfOk result (λ keys. keys.items ≡ indices_from 0 values.now) }
 {
     let mut keys = Vec::new(alloc);
     for i in 0..values.len() {
-        keys.push(index_text(alloc, i)?)?;
+        keys.push(decimal_units(alloc, i)?)?;
     }
     Ok(keys)
 }

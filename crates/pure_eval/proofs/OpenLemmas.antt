@@ -30,7 +30,8 @@ use Rattle.pure_eval.specs.Evaluators.{Runs}
 use Rattle.pure_eval.specs.Leaving.{Leaves}
 use Rattle.pure_eval.specs.Preparing.{IsReady}
 use Rattle.pure_eval.specs.Returning.{WentOn, WentOnAfter, IsCode, CodeAfter}
-use Rattle.pure_eval.specs.Working.{IsWorking, IsOpen, is_given_up}
+use Rattle.pure_eval.specs.Answering.{is_memory}
+use Rattle.pure_eval.specs.Working.{IsWorking, IsOpen}
 use Rattle.pure_eval.specs.Workspaces.{Opened, opened_of, source_kept, EvaluatesTo}
 use Rattle.pure_eval.proofs.EvaluatorLemmas.{next-same, source_same, world-further, work-keeps}
 use Rattle.pure_eval.proofs.ReturnLemmas.{went-through}
@@ -38,7 +39,7 @@ use Rattle.pure_eval.proofs.WorkspaceLemmas.{space_over, made_open, program-firs
 
 -- ---- what holds behind an evaluation
 
-went_on : (end : Evaluated) (old new : Evaluator) → is_given_up end ≡ false → WentOnAfter end old new → WentOn old new
+went_on : (end : Evaluated) (old new : Evaluator) → is_memory end ≡ false → WentOnAfter end old new → WentOn old new
 went_on (ends.Value v) old new f g = g
 went_on (ends.Thrown v) old new f g = g
 went_on ends.Effect old new f g = g
@@ -47,7 +48,7 @@ went_on ends.Spent old new f g = g
 went_on ends.Memory old new f g = absurd cc
 
 code_on : (end : Evaluated) (new : Evaluator) (p : Program) (s : SourceTree)
-    → is_given_up end ≡ false
+    → is_memory end ≡ false
     → CodeAfter end new p s
     → IsCode new
 code_on (ends.Value v) new p s f c = c.code
@@ -73,7 +74,7 @@ working_on old new n m w g c = record {
 
 pub open-on : (end : Evaluated) (old new : Evaluator) (n : ℕ) (start m : EvaluatorMark) (base h : Heap) (o q : Over)
     (k : Marked) (count : ℕ) (next later : Addr) (p : Program) (s : SourceTree)
-    → is_given_up end ≡ false
+    → is_memory end ≡ false
     → IsOpen old n start m base o k count next
     → WentOnAfter end old new
     → CodeAfter end new p s
@@ -242,7 +243,7 @@ Evaluates end work x old new =
 
 pub evaluates-open : (end : Evaluated) (x : Prepared) (work : Work) (old new : Evaluator) (n : ℕ)
     (start m : EvaluatorMark) (base g h : Heap) (o q : Over) (k : Marked) (count from : ℕ) (next : Addr)
-    → is_given_up end ≡ false
+    → is_memory end ≡ false
     → IsOpen old n start m base o k count next
     → WentOnAfter end old new
     → CodeAfter end new (program_of old.names old.table) (kept_tree_at (next_of g) (term_view x.term))

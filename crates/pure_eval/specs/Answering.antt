@@ -1,5 +1,5 @@
 -- What an evaluation answers.
-use Rattle.std.specs.Prelude.{◌≡◌, Option, None, Some}
+use Rattle.std.specs.Prelude.{◌≡◌, Bool, true, false, Option, None, Some}
 use Rattle.js_heap.specs.World.{World}
 use Rattle.js_semantics.specs.Run.{Run, state_of}
 use Rattle.js_semantics.specs.Evaluation.{Answer, a_result, a_throw, an_effect, is_full_of, spent}
@@ -43,3 +43,8 @@ end_of why = None
 abbrev pub end_at : Point → Evaluated
 end_at (points.Done v) = ends.Value v
 end_at p = ends.Spent
+
+-- there was no memory for it
+abbrev pub is_memory : Evaluated → Bool
+is_memory ends.Memory = true
+is_memory end = false

@@ -1,13 +1,11 @@
 -- What holds of the code of a session's workspace.
-use Rattle.std.specs.Prelude.{◌≡◌, ◌≤◌, ℕ, Bool, true, false, List, length}
+use Rattle.std.specs.Prelude.{◌≡◌, ◌≤◌, ℕ, List, length}
 use Rattle.js_heap.specs.declared.value.Addr.{Addr}
 use Rattle.js_heap.specs.ScratchSpaces.{copied_world}
 use Rattle.js_semantics.specs.Evaluation.{next_kept}
 use Rattle.js_world.specs.Heaps.{Heap, heap_world}
 use Rattle.js_world.specs.Names.{GoesOn}
 use Rattle.js_world.specs.Overlays.{Over, Marked, over_world, space_after}
-use Rattle.pure_eval.specs.declared.evaluated.Evaluated.{Evaluated}
-use Rattle.pure_eval.specs.declared.evaluated.Evaluated.TheVariants as ends
 use Rattle.pure_eval.specs.declared.evaluator.Evaluator.{Evaluator}
 use Rattle.pure_eval.specs.declared.evaluator.EvaluatorMark.{EvaluatorMark}
 use Rattle.pure_eval.specs.Returning.{WentOn, IsMarked, IsCode}
@@ -40,8 +38,3 @@ pub record IsOpen (e : Evaluator) (scripts : ℕ) (start mark : EvaluatorMark) (
 pub record IsKnown (base : Heap) (names own : List (List ℕ)) : Type 0 where
   pub goes_on : GoesOn names own
   pub known : base.ends ≤ length names
-
--- whether an evaluator is given up behind an evaluation
-abbrev pub is_given_up : Evaluated → Bool
-is_given_up ends.Memory = true
-is_given_up e = false

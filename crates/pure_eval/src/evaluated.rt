@@ -1,7 +1,7 @@
 //! How evaluations end.
 
 ghost use Rattle.std.specs.Prelude.{◌≡◌};
-ghost use Rattle.pure_eval.specs.Answering.{finished, end_of, end_at};
+ghost use Rattle.pure_eval.specs.Answering.{finished, end_of, end_at, is_memory};
 
 use js_heap::change::Counted;
 use js_heap::value::Value;
@@ -59,5 +59,15 @@ pub fn end_at(point: Point) -> Evaluated
     match point {
         Point::Done(value) => Evaluated::Value(value),
         _ => Evaluated::Spent,
+    }
+}
+
+/// Whether there was no memory for an evaluation.
+pub fn is_memory(end: Evaluated) -> bool
+    ensures { result ≡ is_memory end }
+{
+    match end {
+        Evaluated::Memory => true,
+        _ => false,
     }
 }

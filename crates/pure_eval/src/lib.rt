@@ -30,6 +30,6 @@ mod work;
 mod workspace;
 
 pub use arguments::Argument;
-pub use evaluated::Evaluated;
+pub use evaluated::{Evaluated, is_memory};
 pub use prepared::Prepared;
 pub use workspace::{Opened, Seen, Workspace};

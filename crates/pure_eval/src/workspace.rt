@@ -18,11 +18,11 @@ ghost use Rattle.pure_eval.specs.Arguments.{arguments_of};
 ghost use Rattle.pure_eval.specs.Calling.{work_of};
 ghost use Rattle.pure_eval.specs.Preparing.{IsReady, IsPrepared, IsPreparedFunction};
 ghost use Rattle.pure_eval.specs.Returning.{IsCodeOf};
-ghost use Rattle.pure_eval.specs.Working.{IsKnown, is_given_up};
+ghost use Rattle.pure_eval.specs.Working.{IsKnown};
 ghost use Rattle.pure_eval.specs.Workspaces.{begun, emptied_workspace, opened, EvaluatesTo};
 
 use crate::arguments::Argument;
-use crate::evaluated::Evaluated;
+use crate::evaluated::{Evaluated, is_memory};
 use crate::evaluator::{Evaluator, EvaluatorMark};
 use crate::prepared::Prepared;
 use crate::session::Outcome;
@@ -151,16 +151,6 @@ fn number_of(at: Addr) -> u32
     match at {
         Addr::Scratch(number) => number,
         Addr::Base(_) => 0,
-    }
-}
-
-/// Whether an evaluator is given up behind an evaluation.
-fn is_given_up(end: Evaluated) -> bool
-    ensures { result ≡ is_given_up end }
-{
-    match end {
-        Evaluated::Memory => true,
-        _ => false,
     }
 }
 
@@ -297,7 +287,7 @@ impl<'b> Opened<'b> {
         let outcome = self
             .evaluator
             .evaluate_ready::<T>(alloc, base, scratch, work, prepared);
-        if is_given_up(outcome.end) {
+        if is_memory(outcome.end) {
             // nothing is known of the code that is left
             *self = given_up(alloc, base);
             return Evaluated::Memory;

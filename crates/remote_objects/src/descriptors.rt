@@ -14,9 +14,9 @@ use crate::describer::Describer;
 use crate::detail::Detail;
 use crate::function_sources::FunctionSources;
 use crate::members::text_members;
-use crate::slots::{Flags, descriptor_of, index_name, length_value};
+use crate::slots::{Flags, descriptor_of, length_value};
 use cdp_json::value::{Json, object};
-use cdp_text::units::{Units, ascii};
+use cdp_text::units::{Units, ascii, decimal_units};
 use js_heap::cell::Property;
 use js_heap::value::Value;
 use js_operations::seen::name_text;
@@ -86,7 +86,7 @@ impl<'w, W: World, S: FunctionSources> Describer<'w, W, S> {
         ensures made { IfOk result (λ j. json_view j ≡ (descriptors.descriptor (sight_of S.node_text (W.world self.now.names.now self.now.world.now) self.now.scripts.now self.now.session) detail (option_copied group.entry) (descriptors.element_slot index value) handles.old).made) }
         ensures handles { OnOk result (handles.new ≡ (descriptors.descriptor (sight_of S.node_text (W.world self.now.names.now self.now.world.now) self.now.scripts.now self.now.session) detail (option_copied group.entry) (descriptors.element_slot index value) handles.old).handles) }
     {
-        let name = index_name(self.alloc, index)?;
+        let name = decimal_units(self.alloc, index)?;
         let flags = Flags {
             writable: true,
             enumerable: true,

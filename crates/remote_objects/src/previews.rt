@@ -11,10 +11,9 @@ ghost use Rattle.remote_objects.specs.Views.{listed_view};
 use crate::describer::Describer;
 use crate::function_sources::FunctionSources;
 use crate::members::{array_text, put, truth_member};
-use crate::slots::index_name;
 use cdp_json::parts::{ascii_member, ascii_text, member};
 use cdp_json::value::{Json, Member, list, object, text};
-use cdp_text::units::{Units, ascii};
+use cdp_text::units::{Units, ascii, decimal_units};
 use js_heap::cell::Property;
 use js_heap::value::{Addr, Value};
 use js_operations::seen::Seen;
@@ -233,7 +232,7 @@ impl<'w, W: World, S: FunctionSources> Describer<'w, W, S> {
     fn element_preview(&self, index: usize, value: Value) -> Result<Json, AllocError>
         ensures { IfOk result (λ j. json_view j ≡ previews.property_preview (W.world self.now.names.now self.now.world.now) (previews.entry (decimal index) value)) }
     {
-        let name = index_name(self.alloc, index)?;
+        let name = decimal_units(self.alloc, index)?;
         self.property_preview(name.as_slice(), value)
     }
 

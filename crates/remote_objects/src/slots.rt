@@ -1,6 +1,6 @@
 //! Properties with their flags as descriptors (Chrome DevTools Protocol 1.3, `Runtime.PropertyDescriptor`).
 
-ghost use Rattle.std.specs.Prelude.{◌≡◌, decimal, pos, IfOk};
+ghost use Rattle.std.specs.Prelude.{◌≡◌, pos, IfOk};
 ghost use Rattle.cdp_json.specs.Views.{json_view};
 ghost use Rattle.js_heap.specs.declared.value.Value.TheVariants as values;
 ghost use Rattle.remote_objects.specs.Slots.{described};
@@ -8,7 +8,7 @@ ghost use Rattle.remote_objects.specs.Slots.{described};
 use crate::members::truth_member;
 use cdp_json::parts::member;
 use cdp_json::value::{Json, object, text};
-use cdp_text::units::{Units, ascii};
+use cdp_text::units::Units;
 use js_heap::value::Value;
 use std::alloc::{AllocError, Global};
 
@@ -36,14 +36,6 @@ pub(crate) fn descriptor_of(
     let value = member(alloc, b"value", value)?;
     let writable = truth_member(alloc, b"writable", flags.writable)?;
     Ok(object(vec![in alloc; configurable, enumerable, own, name, value, writable]?))
-}
-
-/// The name of an element of an array.
-pub(crate) fn index_name(alloc: Global, index: usize) -> Result<Units, AllocError>
-    ensures { IfOk result (λ name. name ≡ decimal index) }
-{
-    let digits = format!(in alloc; "{index}")?;
-    ascii(alloc, digits.as_bytes())
 }
 
 /// A length as a value. No memory holds a list whose length 63 bits don't count.

@@ -15,7 +15,7 @@ invariant_of-self-2 g c =
     c.over.result w.cells w.count w.next c.next_address-self-inside.result
     (program_of w.evaluator.names w.evaluator.table)
     (kept_tree_at (next_of c.into_scratch-scratch.result) (term_view c.args.prepared.now.term))
-    (sym c.is_given_up.ensures ∙ c.if-is_given_up.false) c.self.invariant r.ensures.goes_on
+    (sym c.is_memory.ensures ∙ c.if-is_memory.false) c.self.invariant r.ensures.goes_on
     (r.ensures.code c.self.invariant.working.code)
     c.over.ensures.world c.over.ensures.known.0 c.next_address-self-inside.ensures
 
@@ -29,7 +29,7 @@ returns g c =
     (evaluates-open r.result.end c.args.prepared.now c.args.work w.evaluator r.new.self w.scripts w.start w.mark
     w.base.now c.into_scratch-scratch.result r.result.scratch w.world c.over.result w.cells w.count
     c.number_of.result w.next
-    (sym c.is_given_up.ensures ∙ c.if-is_given_up.false) c.self.invariant r.ensures.goes_on
+    (sym c.is_memory.ensures ∙ c.if-is_memory.false) c.self.invariant r.ensures.goes_on
     (r.ensures.code c.self.invariant.working.code) c.goes_on.ensures (grind arith) c.number_of.ensures
     (grind arith)
     (λ ts. c.into_scratch-scratch.ensures.space ts
