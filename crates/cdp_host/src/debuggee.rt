@@ -1,13 +1,14 @@
 //! The program of a host, lent to its session where it stands still.
 
-ghost use Rattle.std.specs.Prelude.{◌≡◌, [], map, IfOk, None, option_map};
+ghost use Rattle.std.specs.Prelude.{◌≡◌, ℕ, List, [], map, IfOk, None, option_map};
 ghost use Rattle.js_heap.specs.BuiltIns.{script_scope};
 ghost use Rattle.js_frames.specs.Catchers.{standing_throw};
 ghost use Rattle.js_machine.specs.Machines.{IsKept, state_of, term_of};
-ghost use Rattle.js_world.specs.Heaps.{heap_world};
+ghost use Rattle.js_world.specs.Heaps.{Heap, heap_world};
 ghost use Rattle.call_frames.specs.Views.{frame_of};
 ghost use Rattle.frames_scopes.specs.Frames.{walk};
-ghost use Rattle.cdp_host.specs.Hosts.{AreLines};
+ghost use Rattle.cdp_host.specs.Hosts.{AreLines, machine_run};
+ghost use Rattle.cdp_host.specs.Programs.{is_over};
 ghost use Rattle.cdp_host.specs.Standings.{value_of, IsKept-prop};
 
 use call_frames::CallFrame;
@@ -42,6 +43,16 @@ fn value_of(thrown: Option<Thrown>) -> Option<Value>
     match thrown {
         Some(thrown) => Some(thrown.value),
         None => None,
+    }
+}
+
+/// Whether the run of a machine that wasn't given up is over, by itself or for want of memory.
+pub(crate) fn is_over(machine: &Machine) -> bool
+    ensures { IsKept machine.now.ended → (heap : Heap) (taken : List (List ℕ)) → result ≡ is_over (machine_run machine.now heap taken) }
+{
+    match machine.finished() {
+        Some(_) => true,
+        None => machine.end().is_some(),
     }
 }
 
@@ -93,10 +104,7 @@ impl Program for Debuggee<'_> {
     }
 
     fn is_over(&self) -> bool {
-        match self.machine.finished() {
-            Some(_) => true,
-            None => self.machine.end().is_some(),
-        }
+        is_over(self.machine)
     }
 
     fn prepared(

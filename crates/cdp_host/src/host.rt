@@ -23,7 +23,7 @@ ghost use Rattle.cdp_host.specs.Rules.{printed_between};
 ghost use Rattle.cdp_host.specs.Watching.{AnswersIn, loss_told, losses_from};
 
 use crate::advance::{Advanced, advance};
-use crate::debuggee::Debuggee;
+use crate::debuggee::{Debuggee, is_over};
 use crate::fallback::Fallback;
 use crate::lines::lines_of_all;
 use crate::losses::SessionLost;
@@ -698,10 +698,7 @@ impl Host {
     fn is_over(&self) -> bool
         ensures { self.now.broken ≡ false → (taken : List (List ℕ)) → result ≡ is_over (meaning_with self.now taken).program }
     {
-        match self.machine.finished() {
-            Some(_) => true,
-            None => self.machine.end().is_some(),
-        }
+        is_over(&self.machine)
     }
 
     /// Whether it is over by a throw that no `catch` took.
