@@ -6,9 +6,10 @@ ghost use Rattle.cdp_text.specs.Lines.{ended};
 ghost use Rattle.cdp_journal.specs.RanRead.{ran_held};
 ghost use Rattle.cdp_journal.specs.Summaries.{IsInRange, both, is_paused, ran_of, ran_tally, summary, tally_of, tally_text};
 
-use crate::parts::{behind, halves};
-use cdp_text::decimal::read_decimal_bytes;
+use crate::parts::behind;
+use cdp_text::decimal::read_decimal_units;
 use cdp_text::lines::cut_line;
+use cdp_text::parts::unit_halves;
 use std::alloc::{AllocError, Global};
 use std::marker::Model;
 
@@ -119,8 +120,8 @@ impl Tally {
 fn read_run(told: &[u8]) -> Option<Ran<'_>>
     ensures { option_map ran_held result ≡ ran_of told.now }
 {
-    let (steps, state) = halves(told, b' ')?;
-    let steps = read_decimal_bytes(steps)?;
+    let (steps, state) = unit_halves(told, b' ')?;
+    let steps = read_decimal_units(steps)?;
     Some(Ran { steps, state })
 }
 

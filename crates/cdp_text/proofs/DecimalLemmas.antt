@@ -1,11 +1,11 @@
 -- Lemmas on shortest decimal texts.
-use Rattle.std.proofs.Common.{◌≡◌, ◌≢◌, ℕ, ◌+◌, ◌*◌, ◌<◌, ◌≤◌, ◌^◌, List, [], ◌∷◌, length, Bool, true, false, cond, Option, Some, None, IfSome, IfNone, decimal, refl, inl, inr, nat_lt, ◌&&◌, arith, get_or, drop, sym}
+use Rattle.std.proofs.Common.{◌≡◌, ◌≢◌, ℕ, ◌+◌, ◌*◌, ◌<◌, ◌≤◌, ◌^◌, List, [], ◌∷◌, length, Bool, true, false, not, ◌==◌, cond, Option, Some, None, IfSome, IfNone, decimal, refl, inl, inr, nat_lt, ◌&&◌, arith, get_or, drop, map, sym, ap, ◌∙◌}
 use Rattle.std.specs.Str.{all_ascii_digits}
 use Rattle.std.specs.Str.Parse.{digits_value, digits_value_after}
 use Rattle.std.specs.Char.{digit_value}
 use Rattle.std.proofs.lemmas.Bool.{and_parts, cases_lt, lt-ltb}
 use Rattle.std.proofs.lemmas.Bool.Decides.{nat_tests}
-use Rattle.std.proofs.lemmas.List.{drop_more}
+use Rattle.std.proofs.lemmas.List.{at_drop_more}
 use Rattle.std.proofs.lemmas.Str.Parse.{IsNumeralModel, numerals_by_value, tells_all_ascii_digits}
 use Rattle.std.proofs.lemmas.Fmt.{digits_decimal, digits_value-decimal, decimal_nonempty, first_decimal, decimal_digit, decimal-digits_value}
 use Rattle.cdp_text.specs.Decimal.{decimal_value, digits_number, begins_shortest}
@@ -19,17 +19,44 @@ digits_value_after-ge : (n : ℕ) (digits : List ℕ) → n ≤ digits_value_aft
 digits_value_after-ge n [] = omega arith
 digits_value_after-ge n (digit ∷ digits) = omega (arith, digits_value_after-ge (n * 10 + digit_value digit) digits)
 
--- digits that have come past the limit
-pub digits_number_past : (digits : List ℕ) (i n : ℕ)
+-- digits that have come past the limit, of a text whose units have codes
+pub digits_number_past : {C : Type 0} (code : C → ℕ) (digits : List C) (i n : ℕ) (digit : C)
     → i < length digits
-    → digits_value_after 10 n (drop i digits) ≡ digits_value 10 digits
-    → 2 ^ 64 ≤ n * 10 + digit_value (get_or digits i 0) → digits_number digits ≡ None
-digits_number_past digits i n h e past =
-    let step : digits_value_after 10 n (drop i digits) ≡ digits_value_after 10
-    (n * 10 + digit_value (get_or digits i 0)) (drop (i + 1) digits) = rw (drop_more digits i 0 h) refl in
-    let ge = digits_value_after-ge (n * 10 + digit_value (get_or digits i 0)) (drop (i + 1) digits) in
-    let high : 2 ^ 64 ≤ digits_value 10 digits = omega arith in
+    → digit ≡ get_or digits i digit
+    → digits_value_after 10 n (map code (drop i digits)) ≡ digits_value 10 (map code digits)
+    → 2 ^ 64 ≤ n * 10 + digit_value (code digit) → digits_number (map code digits) ≡ None
+digits_number_past {C} code digits i n digit h is e past =
+    let after : List C → ℕ = λ ds. digits_value_after 10 n (map code ds) in
+    let step : after (drop i digits) ≡ after (digit ∷ drop (i + 1) digits) =
+    at_drop_more after digits i digit h ∙ ap (λ d. after (d ∷ drop (i + 1) digits)) (sym is) in
+    let ge = digits_value_after-ge (n * 10 + digit_value (code digit)) (map code (drop (i + 1) digits)) in
+    let high : 2 ^ 64 ≤ digits_value 10 (map code digits) = omega arith in
     grind (arith, nat_tests)
+
+-- how digits begin, of a text whose units have codes
+pub begins_none : {C : Type 0} (code : C → ℕ) (digits : List C)
+    → length digits ≡ 0
+    → begins_shortest (map code digits) ≡ false
+begins_none code [] h = refl
+begins_none code (digit ∷ digits) h = let no : ⊥ = omega (arith, h) in elim no [ ]
+
+pub begins_one : {C : Type 0} (code : C → ℕ) (digits : List C)
+    → length digits ≡ 1
+    → begins_shortest (map code digits) ≡ true
+begins_one code [] h = let no : ⊥ = omega (arith, h) in elim no [ ]
+begins_one code (digit ∷ []) h = refl
+begins_one code (digit ∷ more ∷ digits) h = let no : ⊥ = omega (arith, h) in elim no [ ]
+
+pub begins_more : {C : Type 0} (code : C → ℕ) (digits : List C) (first : C)
+    → 2 ≤ length digits
+    → first ≡ get_or digits 0 first
+    → begins_shortest (map code digits) ≡ not (code first == 48)
+begins_more code [] first h e = let no : ⊥ = omega (arith, h) in elim no [ ]
+begins_more code (digit ∷ []) first h e = let no : ⊥ = omega (arith, h) in elim no [ ]
+begins_more code (digit ∷ more ∷ digits) first h e =
+    let same : code first ≡ code digit = ap code e in grind (arith, nat_tests)
+
+pub ruleset begins_in = (begins_none, begins_one, begins_more)
 
 -- what a choice gave
 cond-some : (b : Bool) (o : Option ℕ) (n : ℕ) → cond b o None ≡ Some n → (b ≡ true) × (o ≡ Some n)

@@ -1,13 +1,17 @@
 -- Laws of the parts of a text.
-use Rattle.std.proofs.Common.{◌≡◌, ◌≢◌, ℕ, suc, ◌<◌, ◌+◌, ◌^◌, List, [], ◌∷◌, ◌++◌, length, get_or, drop, Bool, true, false, Option, Some, None, IfSome, IfNone, refl, sym, arith, eqb, decimal, if◌then◌else◌, Bor}
+use Rattle.std.proofs.Common.{◌≡◌, ◌≢◌, ℕ, suc, ◌<◌, ◌+◌, ◌-◌, ◌^◌, List, [], ◌∷◌, ◌++◌, length, length-drop, map, get_or, take, drop, Bool, true, false, Option, Some, None, IfSome, IfNone, refl, sym, ap, ◌∙◌, inl, inr, arith, eqb, decimal, if◌then◌else◌, Bor}
 use Rattle.std.specs.Option.{option_map, MatchOption}
 use Rattle.std.specs.Str.Pattern.{FindsTextPrefix}
-use Rattle.std.proofs.lemmas.Bool.{eqb-true, eq-eqb, ne_eqb}
+use Rattle.std.proofs.lemmas.Bool.{cases_lt, eqb-true, eq-eqb, ne_eqb}
+use Rattle.std.proofs.lemmas.Bool.Decides.{nat_tests}
+use Rattle.std.proofs.lemmas.Grind.{common_steps}
+use Rattle.std.proofs.lemmas.List.{get_or-map, get_or-take, map-append, take-append-drop, take-map, take_all}
 use Rattle.std.proofs.lemmas.Str.Pattern.{IsSplitOnceResult, split_parts}
 use Rattle.std.proofs.lemmas.Str.Parse.{numerals_by_value, tells_all_ascii_digits, not_in_digits}
 use Rattle.std.proofs.lemmas.Fmt.{digits_decimal}
 use Rattle.std.specs.Int.{IsInRange}
 use Rattle.cdp_text.specs.Parts.{behind, Halves, longer, halves}
+use Rattle.cdp_text.proofs.ListLemmas.{from-here}
 
 -- what was put behind a front stands there
 pub behind-append : (front rest : List ℕ) → behind front (front ++ rest) ≡ Some rest
@@ -132,3 +136,49 @@ pub halves-lacks : (separator : ℕ) (text : List ℕ) (r : Option (Bor (List �
     → IfNone r ((i : ℕ) → i < length text → get_or text i 0 ≢ separator)
 halves-lacks separator text None small found = split_parts separator text None found small
 halves-lacks separator text (Some x) small found = tt
+
+-- the halves of a text whose units have codes, around the first that is the separator
+pub halves-at : {C : Type 0} (code : C → ℕ) (separator : ℕ) (units : List C) (i : ℕ) (unit : C)
+    → i < length units
+    → ((k : ℕ) → k < i → get_or (map code units) k 0 ≢ separator)
+    → unit ≡ get_or units i unit
+    → code unit ≡ separator
+    → Some record {
+      front = map code (take i units);
+      back = map code (take (length units - (i + 1)) (drop (i + 1) units));
+    }
+    ≡ halves separator (map code units)
+halves-at {C} code separator units i unit h lacks is same =
+    let before : List ℕ = map code (take i units) in
+    let after : List C = drop (i + 1) units in
+    let rest : drop i units ≡ unit ∷ after = from-here units i unit h is in
+    let back : take (length units - (i + 1)) after ≡ after =
+    take_all (length units - (i + 1)) after (omega (arith, length-drop (i + 1) units)) in
+    let whole : units ≡ take i units ++ unit ∷ after =
+    sym (take-append-drop i units) ∙ ap (λ r. take i units ++ r) rest in
+    let codes : map code units ≡ before ++ separator ∷ map code after =
+    ap (map code) whole ∙ map-append code (take i units) (unit ∷ after)
+    ∙ ap (λ s. before ++ s ∷ map code after) same in
+    let front : (k : ℕ) → k < length before → get_or before k 0 ≢ separator = λ k below e.
+    let early : k < i = grind (arith, common_steps) in
+    let there : get_or before k 0 ≡ get_or (map code units) k 0 =
+    ap (λ xs. get_or xs k 0) (sym (take-map code i units)) ∙ get_or-take i (map code units) k 0 early in
+    lacks k early (sym there ∙ e) in
+    rw back (sym (ap (halves separator) codes ∙ halves-append separator before (map code after) front))
+
+-- no separator up to a unit, and it isn't one
+pub lacks-more : {C : Type 0} (code : C → ℕ) (separator : ℕ) (units : List C) (i : ℕ) (unit : C)
+    → i < length units
+    → ((k : ℕ) → k < i → get_or (map code units) k 0 ≢ separator)
+    → unit ≡ get_or units i unit
+    → code unit ≢ separator
+    → (k : ℕ) → k < i + 1 → get_or (map code units) k 0 ≢ separator
+lacks-more code separator units i unit h lacks is other k below same =
+    elim (cases_lt k i) [
+      | inl before ↦ lacks k before same
+      | inr after ↦
+          let here : k ≡ i = omega (arith, below, after) in
+          let there : get_or (map code units) k 0 ≡ code unit =
+          ap (λ n. get_or (map code units) n 0) here ∙ get_or-map code units i unit 0 h ∙ sym (ap code is) in
+          other (sym there ∙ same)
+    ]

@@ -1,6 +1,6 @@
 //! Texts: what their clauses say exactly is called once, with ample memory.
 
-use cdp_text::decimal::{read_decimal, read_decimal_bytes};
+use cdp_text::decimal::{read_decimal, read_decimal_units};
 use cdp_text::line_table::LineTable;
 use cdp_text::lines::cut_line;
 use cdp_text::parts::{behind, halves};
@@ -11,7 +11,7 @@ use std::test::Fail;
 #[test]
 fn parts_of_texts(rt: HostRuntime) {
     assert_eq!(rt; read_decimal("9007199254740992"), Some(0x20_0000_0000_0000));
-    assert_eq!(rt; read_decimal_bytes(b"01"), None);
+    assert_eq!(rt; read_decimal_units(b"01"), None);
     assert_eq!(rt;
         cut_line(b"a\r\nb\n"),
         Some((b"a\r".as_slice(), b"b\n".as_slice()))

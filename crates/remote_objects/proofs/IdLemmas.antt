@@ -13,28 +13,9 @@ use Rattle.cdp_text.proofs.DecimalLemmas.{decimal_value-some, decimal_value-deci
 use Rattle.cdp_text.proofs.PartsLemmas.{halves-append, halves-decimal, halves-some}
 use Rattle.remote_objects.specs.Ids.{IsObjectId, number_behind, number_in_id}
 
-pub no_point : (text : List ℕ) → ((k : ℕ) → k < length text → get_or text k 0 ≢ 46) → halves 46 text ≡ None
-no_point [] lacks = refl
-no_point (u ∷ us) lacks =
-    rw (ne_eqb u 46 (lacks 0 (omega arith)), no_point us (λ k below. lacks (suc k) (omega arith))) refl
-
--- the first point of a text
-pub halves-at : (text : List ℕ) (i : ℕ)
-    → i < length text
-    → ((k : ℕ) → k < i → get_or text k 0 ≢ 46)
-    → get_or text i 0 ≡ 46
-    → Some record { front = take i text; back = take (length text - (i + 1)) (drop (i + 1) text) } ≡ halves 46 text
-halves-at text i h lacks e =
-    let back : take (length text - (i + 1)) (drop (i + 1) text) ≡ drop (i + 1) text = take_all (length text - (i + 1))
-    (drop (i + 1) text) (omega (arith, length-drop (i + 1) text)) in
-    let len : length (take i text) ≡ i = grind (arith, common_steps) in
-    let front : (k : ℕ)
-    → k < length (take i text)
-    → get_or (take i text) k 0 ≢ 46 = λ k below same. lacks k (omega arith)
-    (sym (get_or-take i text k 0 (omega arith)) ∙ same) in
-    let whole : text ≡ take i text ++ 46 ∷ drop (i + 1) text = sym (take-append-drop i text)
-    ∙ ap (λ r. take i text ++ r) (drop_more text i 0 h ∙ ap (λ u. u ∷ drop (i + 1) text) e) in
-    rw back (sym (ap (halves 46) whole ∙ halves-append 46 (take i text) (drop (i + 1) text) front))
+-- the halves of units are those of their numbers
+pub units-halves : (text : List ℕ) (o : Option Halves) → o ≡ halves 46 (map (λ unit. unit) text) → halves 46 text ≡ o
+units-halves text o is = ap (halves 46) (sym (map-id text)) ∙ sym is
 
 -- an id has the two numbers around its point
 pub id_halves : (session : ℕ) (text : List ℕ) (number : ℕ) → session < 2 ^ 64 → IsObjectId session text number
