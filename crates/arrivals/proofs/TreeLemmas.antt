@@ -13,7 +13,7 @@ use Rattle.js_tree.specs.declared.tree.Expr.TheViews as views
 use Rattle.js_tree.specs.Views.{parameters_view}
 use Rattle.js_semantics.specs.Makers.{parameter_names, DeclaratorMade, items_of, operator_of, unnamed, naming}
 use Rattle.js_semantics.specs.Sources.{expression_source, property_source, key_source, statement_source, block_source, catch_source, declarator_source, declarators_source, expressions_source, properties_source, statements_source, expression_layer, property_layer, key_layer, statement_layer, block_layer, catch_layer, declarator_layer, declarators_layer, expressions_layer, properties_layer, statements_layer}
-use Rattle.js_tree.proofs.ViewLemmas.{Layer as Level}
+use Rattle.js_tree.proofs.ViewLemmas.{Layer}
 use Rattle.js_semantics.proofs.TreeFolds.{Former, Claims, Known, known_trees, Grows, every-statements}
 use Rattle.js_semantics.proofs.SourceFolds.{made_parts, expression_turn, property_turn, key_turn, statement_turn, block_turn, catch_turn, declarator_turn, declarators_turn, expressions_turn, properties_turn, statements_turn}
 use Rattle.locations.specs.declared.marks.Marked.{Marked}
@@ -176,7 +176,7 @@ statement-known P (Stmt-F.FunctionDeclaration node n ps body) = declaration-fits
 
 -- ---- parts of trees
 
-block-turn : (x : Level layers.Block-F)
+block-turn : (x : Layer layers.Block-F)
     → block_marks (views.roll-Block x) ≡ marks.block_layer (marks_of layers.Block-F map-Block x)
 unfolding expression_marks property_marks key_marks statement_marks block_marks catch_marks declarator_marks
     declarators_marks expressions_marks properties_marks statements_marks
@@ -186,7 +186,7 @@ block-turn x =
     marks.declarator_layer marks.declarators_layer marks.expressions_layer marks.properties_layer
     marks.statements_layer x
 
-catch-turn : (x : Level layers.Catch-F)
+catch-turn : (x : Layer layers.Catch-F)
     → catch_marks (views.roll-Catch x) ≡ marks.catch_layer (marks_of layers.Catch-F map-Catch x)
 unfolding expression_marks property_marks key_marks statement_marks block_marks catch_marks declarator_marks
     declarators_marks expressions_marks properties_marks statements_marks
@@ -196,7 +196,7 @@ catch-turn x =
     marks.declarator_layer marks.declarators_layer marks.expressions_layer marks.properties_layer
     marks.statements_layer x
 
-declarator-turn : (x : Level layers.Declarator-F)
+declarator-turn : (x : Layer layers.Declarator-F)
     → declarator_marks (views.roll-Declarator x) ≡ marks.declarator_layer
     (marks_of layers.Declarator-F map-Declarator x)
 unfolding expression_marks property_marks key_marks statement_marks block_marks catch_marks declarator_marks
@@ -207,7 +207,7 @@ declarator-turn x =
     marks.declarator_layer marks.declarators_layer marks.expressions_layer marks.properties_layer
     marks.statements_layer x
 
-declarators-turn : (x : Level layers.Declarators-F)
+declarators-turn : (x : Layer layers.Declarators-F)
     → declarators_marks (views.roll-Declarators x) ≡ marks.declarators_layer
     (marks_of layers.Declarators-F map-Declarators x)
 unfolding expression_marks property_marks key_marks statement_marks block_marks catch_marks declarator_marks
@@ -218,7 +218,7 @@ declarators-turn x =
     marks.declarator_layer marks.declarators_layer marks.expressions_layer marks.properties_layer
     marks.statements_layer x
 
-expressions-turn : (x : Level layers.Exprs-F)
+expressions-turn : (x : Layer layers.Exprs-F)
     → expressions_marks (views.roll-Exprs x) ≡ marks.expressions_layer (marks_of layers.Exprs-F map-Exprs x)
 unfolding expression_marks property_marks key_marks statement_marks block_marks catch_marks declarator_marks
     declarators_marks expressions_marks properties_marks statements_marks
@@ -228,7 +228,7 @@ expressions-turn x =
     marks.declarator_layer marks.declarators_layer marks.expressions_layer marks.properties_layer
     marks.statements_layer x
 
-properties-turn : (x : Level layers.PropertyDefinitions-F)
+properties-turn : (x : Layer layers.PropertyDefinitions-F)
     → properties_marks (views.roll-PropertyDefinitions x) ≡ marks.properties_layer
     (marks_of layers.PropertyDefinitions-F map-PropertyDefinitions x)
 unfolding expression_marks property_marks key_marks statement_marks block_marks catch_marks declarator_marks
@@ -239,7 +239,7 @@ properties-turn x =
     marks.catch_layer marks.declarator_layer marks.declarators_layer marks.expressions_layer marks.properties_layer
     marks.statements_layer x
 
-statements-turn : (x : Level layers.Stmts-F)
+statements-turn : (x : Layer layers.Stmts-F)
     → statements_marks (views.roll-Stmts x) ≡ marks.statements_layer (marks_of layers.Stmts-F map-Stmts x)
 unfolding expression_marks property_marks key_marks statement_marks block_marks catch_marks declarator_marks
     declarators_marks expressions_marks properties_marks statements_marks
@@ -301,7 +301,7 @@ statements-listed P (s ∷ ss) = and_items-fit P _ _ _ _ s.1 (statements-listed 
 grown-expression : (P : Marked → Type 0) (y : Parts P Expr-F)
     → (fits P).of_expression (views.roll-Expr (known_trees (fits P) Expr-F map-Expr y))
 grown-expression P y =
-    let x : Level Expr-F = known_trees (fits P) Expr-F map-Expr y in
+    let x : Layer Expr-F = known_trees (fits P) Expr-F map-Expr y in
     subst (λ m. ExpressionFits P m (expression_marks (views.roll-Expr x))) (sym (expression_turn x))
     (subst (λ k. ExpressionFits P (expression_layer (made_parts Expr-F map-Expr x)) k)
     (sym (laws.expression_turn x)) (expression-known P y))
@@ -310,7 +310,7 @@ grown-property : (P : Marked → Type 0) (y : Parts P PropertyDefinition-F)
     → (fits P).of_property
     (views.roll-PropertyDefinition (known_trees (fits P) PropertyDefinition-F map-PropertyDefinition y))
 grown-property P y =
-    let x : Level PropertyDefinition-F = known_trees (fits P) PropertyDefinition-F map-PropertyDefinition y in
+    let x : Layer PropertyDefinition-F = known_trees (fits P) PropertyDefinition-F map-PropertyDefinition y in
     subst (λ m. PropertyFits P m (property_marks (views.roll-PropertyDefinition x))) (sym (property_turn x))
     (subst (λ k. PropertyFits P (property_layer (made_parts PropertyDefinition-F map-PropertyDefinition x)) k)
     (sym (laws.property_turn x)) (property-known P y))
@@ -318,7 +318,7 @@ grown-property P y =
 grown-key : (P : Marked → Type 0) (y : Parts P PropertyName-F)
     → (fits P).of_key (views.roll-PropertyName (known_trees (fits P) PropertyName-F map-PropertyName y))
 grown-key P y =
-    let x : Level PropertyName-F = known_trees (fits P) PropertyName-F map-PropertyName y in
+    let x : Layer PropertyName-F = known_trees (fits P) PropertyName-F map-PropertyName y in
     subst (λ m. KeyFits P m (key_marks (views.roll-PropertyName x))) (sym (key_turn x))
     (subst (λ k. KeyFits P (key_layer (made_parts PropertyName-F map-PropertyName x)) k) (sym (laws.key_turn x))
     (key-known P y))
@@ -326,7 +326,7 @@ grown-key P y =
 grown-statement : (P : Marked → Type 0) (y : Parts P Stmt-F)
     → (fits P).of_statement (views.roll-Stmt (known_trees (fits P) Stmt-F map-Stmt y))
 grown-statement P y =
-    let x : Level Stmt-F = known_trees (fits P) Stmt-F map-Stmt y in
+    let x : Layer Stmt-F = known_trees (fits P) Stmt-F map-Stmt y in
     subst (λ m. ItemFits P m (statement_marks (views.roll-Stmt x))) (sym (statement_turn x))
     (subst (λ k. ItemFits P (statement_layer (made_parts Stmt-F map-Stmt x)) k) (sym (laws.statement_turn x))
     (statement-known P y))
@@ -334,7 +334,7 @@ grown-statement P y =
 grown-block : (P : Marked → Type 0) (y : Parts P layers.Block-F)
     → (fits P).of_block (views.roll-Block (known_trees (fits P) layers.Block-F map-Block y))
 grown-block P y =
-    let x : Level layers.Block-F = known_trees (fits P) layers.Block-F map-Block y in
+    let x : Layer layers.Block-F = known_trees (fits P) layers.Block-F map-Block y in
     subst (λ m. ItemsFit P m (block_marks (views.roll-Block x))) (sym (block_turn x))
     (subst (λ k. ItemsFit P (block_layer (made_parts layers.Block-F map-Block x)) k) (sym (block-turn x))
     (block-known P y))
@@ -342,7 +342,7 @@ grown-block P y =
 grown-catch : (P : Marked → Type 0) (y : Parts P layers.Catch-F)
     → (fits P).of_catch (views.roll-Catch (known_trees (fits P) layers.Catch-F map-Catch y))
 grown-catch P y =
-    let x : Level layers.Catch-F = known_trees (fits P) layers.Catch-F map-Catch y in
+    let x : Layer layers.Catch-F = known_trees (fits P) layers.Catch-F map-Catch y in
     subst (λ m. CatchFits P (Some m) (catch_marks (views.roll-Catch x))) (sym (catch_turn x))
     (subst (λ k. CatchFits P (Some (catch_layer (made_parts layers.Catch-F map-Catch x))) k) (sym (catch-turn x))
     (catch-known P y))
@@ -350,7 +350,7 @@ grown-catch P y =
 grown-declarator : (P : Marked → Type 0) (y : Parts P layers.Declarator-F)
     → (fits P).of_declarator (views.roll-Declarator (known_trees (fits P) layers.Declarator-F map-Declarator y))
 grown-declarator P y =
-    let x : Level layers.Declarator-F = known_trees (fits P) layers.Declarator-F map-Declarator y in
+    let x : Layer layers.Declarator-F = known_trees (fits P) layers.Declarator-F map-Declarator y in
     subst (λ m. InitializerFits P m.name m.initializer (declarator_marks (views.roll-Declarator x)))
     (sym (declarator_turn x))
     (subst (λ k. InitializerFits P (declarator_layer (made_parts layers.Declarator-F map-Declarator x)).name
@@ -360,7 +360,7 @@ grown-declarator P y =
 grown-declarators : (P : Marked → Type 0) (y : Parts P layers.Declarators-F)
     → (fits P).of_declarators (views.roll-Declarators (known_trees (fits P) layers.Declarators-F map-Declarators y))
 grown-declarators P y =
-    let x : Level layers.Declarators-F = known_trees (fits P) layers.Declarators-F map-Declarators y in
+    let x : Layer layers.Declarators-F = known_trees (fits P) layers.Declarators-F map-Declarators y in
     subst (λ m. DeclaratorsFit P m (declarators_marks (views.roll-Declarators x))) (sym (declarators_turn x))
     (subst (λ k. DeclaratorsFit P (declarators_layer (made_parts layers.Declarators-F map-Declarators x)) k)
     (sym (declarators-turn x)) (declarators-listed P y.items.items))
@@ -368,7 +368,7 @@ grown-declarators P y =
 grown-expressions : (P : Marked → Type 0) (y : Parts P layers.Exprs-F)
     → (fits P).of_expressions (views.roll-Exprs (known_trees (fits P) layers.Exprs-F map-Exprs y))
 grown-expressions P y =
-    let x : Level layers.Exprs-F = known_trees (fits P) layers.Exprs-F map-Exprs y in
+    let x : Layer layers.Exprs-F = known_trees (fits P) layers.Exprs-F map-Exprs y in
     subst (λ m. ExpressionsFit P m (expressions_marks (views.roll-Exprs x))) (sym (expressions_turn x))
     (subst (λ k. ExpressionsFit P (expressions_layer (made_parts layers.Exprs-F map-Exprs x)) k)
     (sym (expressions-turn x)) (expressions-listed P y.items.items))
@@ -377,7 +377,7 @@ grown-properties : (P : Marked → Type 0) (y : Parts P layers.PropertyDefinitio
     → (fits P).of_properties
     (views.roll-PropertyDefinitions (known_trees (fits P) layers.PropertyDefinitions-F map-PropertyDefinitions y))
 grown-properties P y =
-    let x : Level layers.PropertyDefinitions-F = known_trees (fits P)
+    let x : Layer layers.PropertyDefinitions-F = known_trees (fits P)
     layers.PropertyDefinitions-F map-PropertyDefinitions y in
     subst (λ m. PropertiesFit P m (properties_marks (views.roll-PropertyDefinitions x))) (sym (properties_turn x))
     (subst (λ k. PropertiesFit P
@@ -387,7 +387,7 @@ grown-properties P y =
 grown-statements : (P : Marked → Type 0) (y : Parts P layers.Stmts-F)
     → (fits P).of_statements (views.roll-Stmts (known_trees (fits P) layers.Stmts-F map-Stmts y))
 grown-statements P y =
-    let x : Level layers.Stmts-F = known_trees (fits P) layers.Stmts-F map-Stmts y in
+    let x : Layer layers.Stmts-F = known_trees (fits P) layers.Stmts-F map-Stmts y in
     subst (λ m. ItemsFit P m (statements_marks (views.roll-Stmts x))) (sym (statements_turn x))
     (subst (λ k. ItemsFit P (statements_layer (made_parts layers.Stmts-F map-Stmts x)) k) (sym (statements-turn x))
     (statements-listed P y.items.items))

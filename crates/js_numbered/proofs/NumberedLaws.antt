@@ -27,7 +27,7 @@ use Rattle.js_language.specs.Places.{Place, a_symbol, may_stand, in_braces, in_p
 use Rattle.js_language.proofs.PlaceLemmas as standing
 use Rattle.js_semantics.specs.Makers.{Made, CatchMade, items_of}
 use Rattle.js_semantics.specs.Sources.{expression_layer, property_layer, key_layer, statement_layer, block_layer, catch_layer, declarator_layer, declarators_layer, expressions_layer, properties_layer, statements_layer, expression_source, property_source, key_source, statement_source, block_source, catch_source, declarator_source, declarators_source, expressions_source, properties_source, statements_source}
-use Rattle.js_tree.proofs.ViewLemmas.{Layer as Level}
+use Rattle.js_tree.proofs.ViewLemmas.{Layer}
 use Rattle.js_semantics.proofs.TreeFolds.{Former, Mapper, Claims, Known, known_trees, Grows, every-expression}
 use Rattle.js_semantics.proofs.SourceFolds as sources
 use Rattle.js_semantics.proofs.SourceFolds.{made_parts, clean_parts}
@@ -66,7 +66,7 @@ PlaceLayer F =
     F (List Place) (List Place) (List Place) (List Place) (List Place) (List Place) (List Place) (List Place)
     (List Place) (List Place) (List Place)
 
-abbrev pub place_parts : (F : Former) → Mapper F → Level F → PlaceLayer F
+abbrev pub place_parts : (F : Former) → Mapper F → Layer F → PlaceLayer F
 place_parts F change =
     change Expr PropertyDefinition PropertyName Stmt Block Catch Declarator Declarators Exprs PropertyDefinitions Stmts
     (List Place) (List Place) (List Place) (List Place) (List Place) (List Place) (List Place) (List Place)
@@ -75,7 +75,7 @@ place_parts F change =
     declarators_places expressions_places properties_places statements_places
 
 -- trees of which it is known
-abbrev trees_of : (F : Former) → Mapper F → Known fits F → Level F
+abbrev trees_of : (F : Former) → Mapper F → Known fits F → Layer F
 trees_of F change = known_trees fits F change
 
 -- ---- each form

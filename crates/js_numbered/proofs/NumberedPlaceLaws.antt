@@ -20,7 +20,7 @@ use Rattle.js_language.specs.Tokens.{identifier_name, numeric_literal, string_li
 use Rattle.js_language.specs.Flat.{a, an_identifier, unary_kind, update_kind, binary_kind, assign_kind, flat_parameters, flat_arrow_parameters, flat_optional_name, flat_catch_parameter, flat_boolean, let_or_const}
 use Rattle.js_language.specs.Places.{Place, a_symbol, may_stand, in_braces, in_parentheses, numbers_of, if_some, finally_if_some, plain, node_of, expression_places, property_places, key_places, statement_places, block_places, catch_places, declarator_places, declarators_places, expressions_places, properties_places, statements_places, expression_pieces, property_pieces, key_pieces, statement_pieces, block_pieces, catch_pieces, declarator_pieces, declarators_pieces, expressions_pieces, properties_pieces, statements_pieces}
 use Rattle.js_language.proofs.PlaceLemmas as standing
-use Rattle.js_tree.proofs.ViewLemmas.{Layer as Level}
+use Rattle.js_tree.proofs.ViewLemmas.{Layer}
 use Rattle.js_semantics.proofs.TreeFolds.{Former, Mapper, Claims, Known, known_trees, Grows, every-expression}
 use Rattle.js_numbered.specs.Numbering.{Counted}
 use Rattle.js_numbered.specs.NumberedPlaces.{in_row, node_placed, braced, comma_separated, expression_placed, expressions_placed, key_placed, property_placed, properties_placed, declarator_placed, declarators_placed, statement_placed, handler_placed, statements_placed, numbered_places}
@@ -49,7 +49,7 @@ stands_so = record {
 -- ---- one level of each type
 
 -- trees of which it is known
-abbrev trees_of : (F : Former) → Mapper F → Known stands_so F → Level F
+abbrev trees_of : (F : Former) → Mapper F → Known stands_so F → Layer F
 trees_of F change = known_trees stands_so F change
 
 -- ---- each form

@@ -15,7 +15,7 @@ use Rattle.js_tree.specs.declared.tree.Expr.TheOpen as layers
 use Rattle.js_tree.specs.declared.tree.Expr.TheOpen.{Expr-F, Stmt-F, PropertyName-F, PropertyDefinition-F}
 use Rattle.js_tree.specs.declared.tree.Expr.TheFolds.{map-Expr, map-PropertyDefinition, map-PropertyName, map-Stmt, map-Block, map-Catch, map-Declarator, map-Declarators, map-Exprs, map-PropertyDefinitions, map-Stmts, ind-Expr, ind-Stmts}
 use Rattle.js_tree.specs.declared.tree.Expr.TheViews as views
-use Rattle.js_tree.proofs.ViewLemmas.{Layer as Level}
+use Rattle.js_tree.proofs.ViewLemmas.{Layer}
 
 -- ---- one level of each type of tree
 
@@ -25,20 +25,20 @@ Former = Type 0 → Type 0 → Type 0 → Type 0 → Type 0 → Type 0 → Type 
 -- its parts changed by one function for each type
 abbrev pub Mapper : Former → Type 1
 Mapper F =
-    (A B C D E G H I J K L A2 B2 C2 D2 E2 G2 H2 I2 J2 K2 L2 : Type 0)
-    → (A → A2)
-    → (B → B2)
-    → (C → C2)
-    → (D → D2)
-    → (E → E2)
-    → (G → G2)
-    → (H → H2)
-    → (I → I2)
-    → (J → J2)
-    → (K → K2)
-    → (L → L2)
+    (A B C D E G H I J K L A' B' C' D' E' G' H' I' J' K' L' : Type 0)
+    → (A → A')
+    → (B → B')
+    → (C → C')
+    → (D → D')
+    → (E → E')
+    → (G → G')
+    → (H → H')
+    → (I → I')
+    → (J → J')
+    → (K → K')
+    → (L → L')
     → F A B C D E G H I J K L
-    → F A2 B2 C2 D2 E2 G2 H2 I2 J2 K2 L2
+    → F A' B' C' D' E' G' H' I' J' K' L'
 
 -- ---- laws of trees
 
@@ -65,7 +65,7 @@ Known P F =
     ((x : Exprs) × P.of_expressions x) ((x : PropertyDefinitions) × P.of_properties x)
     ((x : Stmts) × P.of_statements x)
 
-abbrev pub known_trees : (P : Claims) (F : Former) → Mapper F → Known P F → Level F
+abbrev pub known_trees : (P : Claims) (F : Former) → Mapper F → Known P F → Layer F
 known_trees P F change =
     change ((x : Expr) × P.of_expression x) ((x : PropertyDefinition) × P.of_property x)
     ((x : PropertyName) × P.of_key x) ((x : Stmt) × P.of_statement x) ((x : Block) × P.of_block x)
@@ -102,87 +102,87 @@ pub record Grows (P : Claims) : Type 0 where
 
 expression-step : (P : Claims)
     → Grows P
-    → (x : Level Expr-F) (y : Known P Expr-F)
+    → (x : Layer Expr-F) (y : Known P Expr-F)
     → known_trees P Expr-F map-Expr y ≡ x
     → P.of_expression (views.roll-Expr x)
-expression-step P g x y is = subst (λ (z : Level Expr-F). P.of_expression (views.roll-Expr z)) is (g.grows_expression y)
+expression-step P g x y is = subst (λ (z : Layer Expr-F). P.of_expression (views.roll-Expr z)) is (g.grows_expression y)
 
 property-step : (P : Claims)
     → Grows P
-    → (x : Level PropertyDefinition-F) (y : Known P PropertyDefinition-F)
+    → (x : Layer PropertyDefinition-F) (y : Known P PropertyDefinition-F)
     → known_trees P PropertyDefinition-F map-PropertyDefinition y ≡ x
     → P.of_property (views.roll-PropertyDefinition x)
 property-step P g x y is =
-    subst (λ (z : Level PropertyDefinition-F). P.of_property (views.roll-PropertyDefinition z)) is (g.grows_property y)
+    subst (λ (z : Layer PropertyDefinition-F). P.of_property (views.roll-PropertyDefinition z)) is (g.grows_property y)
 
 key-step : (P : Claims)
     → Grows P
-    → (x : Level PropertyName-F) (y : Known P PropertyName-F)
+    → (x : Layer PropertyName-F) (y : Known P PropertyName-F)
     → known_trees P PropertyName-F map-PropertyName y ≡ x
     → P.of_key (views.roll-PropertyName x)
-key-step P g x y is = subst (λ (z : Level PropertyName-F). P.of_key (views.roll-PropertyName z)) is (g.grows_key y)
+key-step P g x y is = subst (λ (z : Layer PropertyName-F). P.of_key (views.roll-PropertyName z)) is (g.grows_key y)
 
 statement-step : (P : Claims)
     → Grows P
-    → (x : Level Stmt-F) (y : Known P Stmt-F)
+    → (x : Layer Stmt-F) (y : Known P Stmt-F)
     → known_trees P Stmt-F map-Stmt y ≡ x
     → P.of_statement (views.roll-Stmt x)
-statement-step P g x y is = subst (λ (z : Level Stmt-F). P.of_statement (views.roll-Stmt z)) is (g.grows_statement y)
+statement-step P g x y is = subst (λ (z : Layer Stmt-F). P.of_statement (views.roll-Stmt z)) is (g.grows_statement y)
 
 block-step : (P : Claims)
     → Grows P
-    → (x : Level layers.Block-F) (y : Known P layers.Block-F)
+    → (x : Layer layers.Block-F) (y : Known P layers.Block-F)
     → known_trees P layers.Block-F map-Block y ≡ x
     → P.of_block (views.roll-Block x)
-block-step P g x y is = subst (λ (z : Level layers.Block-F). P.of_block (views.roll-Block z)) is (g.grows_block y)
+block-step P g x y is = subst (λ (z : Layer layers.Block-F). P.of_block (views.roll-Block z)) is (g.grows_block y)
 
 catch-step : (P : Claims)
     → Grows P
-    → (x : Level layers.Catch-F) (y : Known P layers.Catch-F)
+    → (x : Layer layers.Catch-F) (y : Known P layers.Catch-F)
     → known_trees P layers.Catch-F map-Catch y ≡ x
     → P.of_catch (views.roll-Catch x)
-catch-step P g x y is = subst (λ (z : Level layers.Catch-F). P.of_catch (views.roll-Catch z)) is (g.grows_catch y)
+catch-step P g x y is = subst (λ (z : Layer layers.Catch-F). P.of_catch (views.roll-Catch z)) is (g.grows_catch y)
 
 declarator-step : (P : Claims)
     → Grows P
-    → (x : Level layers.Declarator-F) (y : Known P layers.Declarator-F)
+    → (x : Layer layers.Declarator-F) (y : Known P layers.Declarator-F)
     → known_trees P layers.Declarator-F map-Declarator y ≡ x
     → P.of_declarator (views.roll-Declarator x)
 declarator-step P g x y is =
-    subst (λ (z : Level layers.Declarator-F). P.of_declarator (views.roll-Declarator z)) is (g.grows_declarator y)
+    subst (λ (z : Layer layers.Declarator-F). P.of_declarator (views.roll-Declarator z)) is (g.grows_declarator y)
 
 declarators-step : (P : Claims)
     → Grows P
-    → (x : Level layers.Declarators-F) (y : Known P layers.Declarators-F)
+    → (x : Layer layers.Declarators-F) (y : Known P layers.Declarators-F)
     → known_trees P layers.Declarators-F map-Declarators y ≡ x
     → P.of_declarators (views.roll-Declarators x)
 declarators-step P g x y is =
-    subst (λ (z : Level layers.Declarators-F). P.of_declarators (views.roll-Declarators z)) is (g.grows_declarators y)
+    subst (λ (z : Layer layers.Declarators-F). P.of_declarators (views.roll-Declarators z)) is (g.grows_declarators y)
 
 expressions-step : (P : Claims)
     → Grows P
-    → (x : Level layers.Exprs-F) (y : Known P layers.Exprs-F)
+    → (x : Layer layers.Exprs-F) (y : Known P layers.Exprs-F)
     → known_trees P layers.Exprs-F map-Exprs y ≡ x
     → P.of_expressions (views.roll-Exprs x)
 expressions-step P g x y is =
-    subst (λ (z : Level layers.Exprs-F). P.of_expressions (views.roll-Exprs z)) is (g.grows_expressions y)
+    subst (λ (z : Layer layers.Exprs-F). P.of_expressions (views.roll-Exprs z)) is (g.grows_expressions y)
 
 properties-step : (P : Claims)
     → Grows P
-    → (x : Level layers.PropertyDefinitions-F) (y : Known P layers.PropertyDefinitions-F)
+    → (x : Layer layers.PropertyDefinitions-F) (y : Known P layers.PropertyDefinitions-F)
     → known_trees P layers.PropertyDefinitions-F map-PropertyDefinitions y ≡ x
     → P.of_properties (views.roll-PropertyDefinitions x)
 properties-step P g x y is =
-    subst (λ (z : Level layers.PropertyDefinitions-F). P.of_properties (views.roll-PropertyDefinitions z)) is
+    subst (λ (z : Layer layers.PropertyDefinitions-F). P.of_properties (views.roll-PropertyDefinitions z)) is
     (g.grows_properties y)
 
 statements-step : (P : Claims)
     → Grows P
-    → (x : Level layers.Stmts-F) (y : Known P layers.Stmts-F)
+    → (x : Layer layers.Stmts-F) (y : Known P layers.Stmts-F)
     → known_trees P layers.Stmts-F map-Stmts y ≡ x
     → P.of_statements (views.roll-Stmts x)
 statements-step P g x y is =
-    subst (λ (z : Level layers.Stmts-F). P.of_statements (views.roll-Stmts z)) is (g.grows_statements y)
+    subst (λ (z : Layer layers.Stmts-F). P.of_statements (views.roll-Stmts z)) is (g.grows_statements y)
 
 pub every-expression : (P : Claims) → Grows P → (e : Expr) → P.of_expression e
 every-expression P g =

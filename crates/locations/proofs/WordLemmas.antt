@@ -4,7 +4,7 @@ use Rattle.js_tree.specs.declared.tree.Expr.{Expr}
 use Rattle.js_tree.specs.declared.tree.Expr.TheOpen.{Expr-F}
 use Rattle.js_tree.specs.declared.tree.Expr.TheFolds.{map-Expr}
 use Rattle.js_tree.specs.declared.tree.Expr.TheViews as views
-use Rattle.js_tree.proofs.ViewLemmas.{Layer as Level}
+use Rattle.js_tree.proofs.ViewLemmas.{Layer}
 use Rattle.js_semantics.specs.Makers.{Made}
 use Rattle.js_semantics.specs.Sources as sources
 use Rattle.js_semantics.specs.Sources.{expression_source}
@@ -21,7 +21,7 @@ record SameHead (e : Made) (m : Marking) : Type 0 where
 
 -- ---- one level
 
-level-head : (x : Level Expr-F)
+level-head : (x : Layer Expr-F)
     → SameHead (sources.expression_layer (made_parts Expr-F map-Expr x)) (expression_layer (marks_of Expr-F map-Expr x))
 level-head (Expr-F.This node) = record { same_node = refl; same_word = refl }
 level-head (Expr-F.Name node n) = record { same_node = refl; same_word = refl }
@@ -64,7 +64,7 @@ heads = record {
   of_statements = λ x. Unit {0};
 }
 
-rolled-head : (x : Level Expr-F)
+rolled-head : (x : Layer Expr-F)
     → SameHead (expression_source (views.roll-Expr x)) (expression_marks (views.roll-Expr x))
 rolled-head x =
     subst (λ (e : Made). SameHead e (expression_marks (views.roll-Expr x))) (sym (made.expression_turn x))

@@ -1,16 +1,14 @@
 -- Ids that are read back.
-use Rattle.std.proofs.Common.{◌≡◌, ◌≢◌, ℕ, suc, ◌+◌, ◌-◌, ◌<◌, ◌^◌, List, [], ◌∷◌, ◌++◌, length, get_or, take, drop, Option, Some, None, decimal, refl, sym, ap, ◌∙◌, arith}
-use Rattle.std.proofs.Common.{length-drop, IfSome, IfNone}
+use Rattle.std.proofs.Common.{◌≡◌, ◌≢◌, ℕ, ◌<◌, ◌^◌, List, Option, Some, None, decimal, map, refl, sym, ap, ◌∙◌, arith}
+use Rattle.std.proofs.Common.{IfSome, IfNone}
 use Rattle.std.proofs.Common.{Bool, true, false, bytes_eq, if◌then◌else◌, option_and_then}
 use Rattle.std.proofs.lemmas.Slice.Eq.{bytes_eq-Decides}
-use Rattle.std.proofs.lemmas.Bool.{ne_eqb}
-use Rattle.std.proofs.lemmas.Grind.{common_steps}
-use Rattle.std.proofs.lemmas.List.{get_or-take, drop_more, take_all, take-append-drop}
+use Rattle.std.proofs.lemmas.List.{map-id}
 use Rattle.std.proofs.lemmas.Option.{same_Some}
 use Rattle.cdp_text.specs.Decimal.{decimal_value}
 use Rattle.cdp_text.specs.Parts.{Halves, halves}
 use Rattle.cdp_text.proofs.DecimalLemmas.{decimal_value-some, decimal_value-decimal}
-use Rattle.cdp_text.proofs.PartsLemmas.{halves-append, halves-decimal, halves-some}
+use Rattle.cdp_text.proofs.PartsLemmas.{halves-decimal, halves-some}
 use Rattle.remote_objects.specs.Ids.{IsObjectId, number_behind, number_in_id}
 
 -- the halves of units are those of their numbers

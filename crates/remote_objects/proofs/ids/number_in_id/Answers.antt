@@ -1,5 +1,4 @@
-use Rattle.std.proofs.Common.{◌≡◌, Some, map, sym, ap, ◌∙◌, arith}
-use Rattle.cdp_text.specs.Parts.{halves}
+use Rattle.std.proofs.Common.{◌≡◌, Some, sym, ap, ◌∙◌, arith}
 use Rattle.remote_objects.proofs.IdLemmas.{units-halves, no_halves, other_front, back_some, back_none, if_none}
 use Rattle.remote_objects.proofs.ids.number_in_id.Goals as goal
 
