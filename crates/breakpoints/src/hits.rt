@@ -1,7 +1,5 @@
 //! The breakpoints at a place.
 
-ghost use Rattle.std.specs.Prelude.{◌≡◌};
-
 use crate::breakpoint::Breakpoint;
 use cdp_text::position::Place;
 

@@ -4,9 +4,9 @@ ghost use Rattle.std.specs.Prelude.{◌≡◌, ◌++◌, ◌∷◌, ◌+◌, ◌
 ghost use Rattle.isolation.specs.Histories.{Entry, Attach, Tell, Take, Detach, Ran as RanEntry, Shut, asked, waiting, with_seat};
 ghost use Rattle.isolation.specs.Meanings.{is_enabled_seat, is_held, is_paused, is_ready, longest, resume, settle, waits};
 ghost use Rattle.isolation.specs.Runs.{HasMade, IsLongest};
-ghost use Rattle.isolation.specs.Seats.{is_attached, put, reported, each, fallen, seat_of, some, waits_for_report};
+ghost use Rattle.isolation.specs.Seats.{is_attached, each, fallen, seat_of, some, waits_for_report};
 ghost use Rattle.isolation.specs.Standing.{broken_seat, fell, less};
-ghost use Rattle.isolation.specs.declared.seat.Seat.TheVariants.{Attached, Left};
+ghost use Rattle.isolation.specs.declared.seat.Seat.TheVariants.{Attached};
 ghost use Rattle.js_tree.specs.declared.script.Script.{Script as AnyScript};
 ghost use Rattle.cdp_json.specs.Messages.{refusal_text};
 ghost use Rattle.cdp_json.specs.declared.refusal.Refusal.{Refusal};

@@ -1,7 +1,7 @@
 //! What one session is told, and what it hands out.
 
-ghost use Rattle.std.specs.Prelude.{◌≡◌, [], true, IfSome, IfNone, List, map, string_bytes};
-ghost use Rattle.isolation.specs.Seats.{is_attached, put, seat_of};
+ghost use Rattle.std.specs.Prelude.{◌≡◌, [], true, IfSome, IfNone, map, string_bytes};
+ghost use Rattle.isolation.specs.Seats.{put, seat_of};
 ghost use Rattle.isolation.specs.declared.seat.Seat.TheVariants.{Attached, Left};
 ghost use Rattle.cdp_session.specs.Replies.{answer_of};
 ghost use Rattle.cdp_session.specs.Sessions.{Session as Kept, emptied};

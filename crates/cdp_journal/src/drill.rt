@@ -3,7 +3,7 @@
 ghost use Rattle.std.specs.Prelude.{◌≡◌, ◌∷◌, ◌++◌, ◌+◌, ◌≤◌, ◌<◌, ◌^◌, [], map, OnOk, IfOk, string_bytes};
 ghost use Rattle.cdp_text.specs.Lines.{ended};
 ghost use Rattle.cdp_journal.specs.Lines.{Tell, line_text};
-ghost use Rattle.cdp_journal.specs.Drills.{breakpoint_told, command_told, drill_closing, drill_journal, drill_opening, drill_source, drill_turn, evens};
+ghost use Rattle.cdp_journal.specs.Drills.{command_told, drill_journal, drill_opening, drill_source, drill_turn, evens};
 
 use crate::escapes::escape;
 use std::alloc::{AllocError, Global};

@@ -1,9 +1,8 @@
 //! The lines of a journal.
 
-ghost use Rattle.std.specs.Prelude.{◌≡◌, ◌<◌, ℕ, Some, IfOk, IfSome, string_bytes};
+ghost use Rattle.std.specs.Prelude.{◌≡◌, ◌<◌, Some, IfOk, IfSome, string_bytes};
 ghost use Rattle.std.specs.Option.{option_map};
-ghost use Rattle.cdp_text.specs.Parts.{Halves};
-ghost use Rattle.cdp_journal.specs.Lines.{Line as Meant, IsLine, IsInForm, line_text, line_of, line_of_text, line_of_words, tell_rest, take_rest, detach_rest, run_rest, tell_at, tell_text};
+ghost use Rattle.cdp_journal.specs.Lines.{Line as Meant, IsLine, line_of, line_of_text, line_of_words, tell_rest, take_rest, detach_rest, run_rest, tell_at, tell_text};
 ghost use Rattle.cdp_journal.specs.LineRead.{line_held};
 
 use crate::escapes::unescape;

@@ -1,10 +1,10 @@
 //! The summary of a replay's output.
 
-ghost use Rattle.std.specs.Prelude.{◌≡◌, ◌+◌, ◌++◌, ◌∷◌, [], IfOk, OnOk, count_by, map, option_to_list, sum};
+ghost use Rattle.std.specs.Prelude.{◌≡◌, ◌+◌, ◌++◌, ◌∷◌, [], IfOk, OnOk, option_to_list};
 ghost use Rattle.std.specs.Option.{option_map};
 ghost use Rattle.cdp_text.specs.Lines.{ended};
 ghost use Rattle.cdp_journal.specs.RanRead.{ran_held};
-ghost use Rattle.cdp_journal.specs.Summaries.{IsInRange, both, is_paused, ran_of, ran_tally, summary, tally_of, tally_text};
+ghost use Rattle.cdp_journal.specs.Summaries.{IsInRange, both, ran_of, ran_tally, summary, tally_of, tally_text};
 
 use crate::parts::behind;
 use cdp_text::decimal::read_decimal_units;

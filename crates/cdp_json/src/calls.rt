@@ -2,14 +2,13 @@
 //!
 //! Each answers `None` where a parameter is missing or of another kind.
 
-ghost use Rattle.std.specs.Prelude.{◌≡◌, IfOk, codes, map, option_map};
+ghost use Rattle.std.specs.Prelude.{◌≡◌, IfOk, codes, option_map};
 ghost use Rattle.serde_json.specs.Find.{get};
 ghost use Rattle.serde_json.specs.View.{view, items_view};
 ghost use Rattle.cdp_json.specs.ArgumentViews.{argument_view};
 ghost use Rattle.cdp_json.specs.Arguments as spec;
 ghost use Rattle.cdp_json.specs.Arguments.{argument_of, arguments_from, arguments_of, is_serializable, object_or_value, value_from};
 ghost use Rattle.cdp_json.specs.Calls.{call_from, call_of};
-ghost use Rattle.cdp_json.specs.Members.{text_of};
 ghost use Rattle.cdp_json.specs.Views.{json_view};
 
 use crate::arguments::{Argument, Arguments};

@@ -3,7 +3,7 @@
 ghost use Rattle.std.specs.Prelude.{◌≡◌, ◌≢◌, Some};
 ghost use Rattle.serde_json.specs.Read.{read};
 ghost use Rattle.serde_json.specs.View.{view};
-ghost use Rattle.cdp_json.specs.Commands.{reading_of, value_reading, with_id, with_name, with_method, with_given, with_params, id_of, given_of};
+ghost use Rattle.cdp_json.specs.Commands.{reading_of, value_reading, with_id, with_name, with_given, with_params, id_of, given_of};
 ghost use Rattle.cdp_json.specs.Parameters.{params_of};
 ghost use Rattle.cdp_json.specs.declared.command.Reading.TheVariants.{Refused, Memory};
 

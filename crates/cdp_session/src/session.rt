@@ -2,7 +2,7 @@
 
 ghost use Rattle.std.specs.Prelude.{◌≡◌, ◌<◌, ◌≤◌, ◌^◌, ◌∷◌, [], ◌++◌, List, true, false, map, IfOk, OnOk, IsErrOf, option_to_list, string_bytes, if◌then◌else◌};
 ghost use Rattle.cdp_session.specs.Situations.{HasSpots, seen};
-ghost use Rattle.cdp_session.specs.Sessions.{emptied, fresh, holding, is_silent, sent, with_exception, with_handles, without_backtrace};
+ghost use Rattle.cdp_session.specs.Sessions.{emptied, fresh, holding, is_silent, sent, with_exception, with_handles};
 ghost use Rattle.cdp_session.specs.Outboxes.{fits};
 ghost use Rattle.breakpoints.specs.Breakpoints.{id_of};
 ghost use Rattle.breakpoints.specs.declared.breakpoint.Breakpoint.{Breakpoint};

@@ -1,6 +1,6 @@
 //! The program's one top call.
 
-ghost use Rattle.std.specs.Prelude.{◌≡◌, ◌≢◌, ◌⊎◌, ◌↔◌, ◌≤◌, ◌<◌, ℕ, List, [], None, Some};
+ghost use Rattle.std.specs.Prelude.{◌≡◌, ◌≢◌, ◌⊎◌, ◌↔◌, ◌<◌, ℕ, List, [], None, Some};
 ghost use Rattle.cdp_edge.specs.Blame.{Blames, Read};
 ghost use Rattle.cdp_edge.specs.Outside.{Rose, Told, GainsPrefix};
 ghost use Rattle.js_tree.specs.declared.script.Script.{Script};

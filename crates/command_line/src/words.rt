@@ -2,7 +2,7 @@
 
 ghost use Rattle.std.specs.Prelude.{◌≡◌, map, string_bytes};
 ghost use Rattle.std.specs.List.{list_any};
-ghost use Rattle.std.specs.Option.{option_and_then, option_map};
+ghost use Rattle.std.specs.Option.{option_map};
 ghost use Rattle.command_line.specs.Words.{asked, drill_numbered, drill_words, is_option, names_behind_input, names_of, replay_of, replay_words, run_of};
 ghost use Rattle.command_line.specs.RequestHeld.{command_held, names_held};
 

@@ -1,6 +1,6 @@
 //! Reading the table.
 
-ghost use Rattle.std.specs.Prelude.{◌≡◌, option_copied, slice_get};
+ghost use Rattle.std.specs.Prelude.{◌≡◌, slice_get};
 ghost use Rattle.js_code.specs.Trees.{kid_at, constant_at};
 
 use crate::node::Node;

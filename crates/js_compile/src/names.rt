@@ -1,6 +1,6 @@
 //! Numbers for the names of forms.
 
-ghost use Rattle.std.specs.Prelude.{◌≡◌, OnOk, IfOk};
+ghost use Rattle.std.specs.Prelude.{OnOk, IfOk};
 ghost use Rattle.js_world.specs.Names.{GoesOn};
 ghost use Rattle.js_compile.specs.Grown.{Known, IsBinding, AreBindings, AreTexts, IsMember, AreMembers};
 

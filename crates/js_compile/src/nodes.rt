@@ -1,6 +1,6 @@
 //! One more node.
 
-ghost use Rattle.std.specs.Prelude.{◌≡◌, ◌+◌, OnOk, IfOk};
+ghost use Rattle.std.specs.Prelude.{◌≡◌, ◌+◌, IfOk};
 ghost use Rattle.js_compile.specs.Added.{IsNodeAdded};
 
 use js_code::node::Node;

@@ -1,6 +1,6 @@
 //! The nodes of terms.
 
-ghost use Rattle.std.specs.Prelude.{◌≡◌, ◌<◌, length, false, OnOk, IfOk, Some, slice_get};
+ghost use Rattle.std.specs.Prelude.{◌<◌, length, OnOk, IfOk, Some};
 ghost use Rattle.js_semantics.specs.Terms as semantics;
 ghost use Rattle.js_code.specs.Trees.{EachBelow};
 ghost use Rattle.js_terms.specs.Views.{term_view, terms_view, listed_view};

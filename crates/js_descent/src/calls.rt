@@ -1,6 +1,6 @@
 //! Members and calls (ECMA-262, 13.3).
 
-ghost use Rattle.std.specs.Prelude.{◌≡◌, ◌≤◌, ◌<◌, ◌+◌, suc, max, Some, true, List};
+ghost use Rattle.std.specs.Prelude.{◌≡◌, ◌≤◌, ◌<◌, ◌+◌, Some, true, List};
 ghost use Rattle.js_tree.specs.Height.{height};
 ghost use Rattle.js_tree.specs.Views.{expression_view};
 ghost use Rattle.js_syntax.specs.Parsing as reading;

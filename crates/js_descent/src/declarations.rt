@@ -1,6 +1,6 @@
 //! Declarations, and statements with what they declare (ECMA-262, 14.3.1 and 15.2).
 
-ghost use Rattle.std.specs.Prelude.{◌≡◌, ◌≤◌, ◌<◌, ◌+◌, suc, IfOk, true};
+ghost use Rattle.std.specs.Prelude.{◌≡◌, ◌≤◌, ◌<◌, ◌+◌, IfOk, true};
 ghost use Rattle.js_tree.specs.Height.{height_of_declarator, height_of_declarators};
 ghost use Rattle.js_tree.specs.Views.{declarator_view, declarators_view, statement_view};
 ghost use Rattle.js_language.specs.Well as well;

@@ -1,6 +1,6 @@
 //! `try` (ECMA-262, 14.15).
 
-ghost use Rattle.std.specs.Prelude.{◌≡◌, ◌≤◌, ◌<◌, ◌+◌, suc, max, IfOk, true, false, List};
+ghost use Rattle.std.specs.Prelude.{◌≡◌, ◌≤◌, ◌<◌, ◌+◌, IfOk, true, false, List};
 ghost use Rattle.js_tree.specs.Height.{height_of_finalizer, height_of_handler};
 ghost use Rattle.js_tree.specs.Views.{catch_view, finalizer_view, handler_view};
 ghost use Rattle.js_syntax.specs.Giving.{Gives};

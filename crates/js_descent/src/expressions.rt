@@ -1,6 +1,6 @@
 //! Assignments, conditional expressions and comma lists (ECMA-262, 13.14 to 13.16).
 
-ghost use Rattle.std.specs.Prelude.{◌≡◌, ◌≤◌, ◌<◌, ◌+◌, suc, max, Some, List};
+ghost use Rattle.std.specs.Prelude.{◌≡◌, ◌≤◌, ◌<◌, ◌+◌, Some, List};
 ghost use Rattle.js_tree.specs.Height.{height};
 ghost use Rattle.js_tree.specs.Views.{expression_view};
 ghost use Rattle.js_syntax.specs.Parsing as reading;
@@ -8,7 +8,6 @@ ghost use Rattle.js_syntax.specs.Parsing.{below};
 ghost use Rattle.js_syntax.specs.Views.{tokens_view};
 ghost use Rattle.js_syntax.specs.Classes.{question, assigns_by};
 ghost use Rattle.std.specs.Prelude.{true};
-ghost use Rattle.js_syntax.specs.Heads.{joint_view};
 ghost use Rattle.js_language.specs.Places.{expression_places};
 ghost use Rattle.js_syntax.specs.Placed.{Placed};
 ghost use Rattle.js_tree.specs.declared.node.Span.{Span};

@@ -1,6 +1,6 @@
 //! Loops (ECMA-262, 14.7).
 
-ghost use Rattle.std.specs.Prelude.{◌≡◌, ◌≤◌, ◌<◌, ◌+◌, suc, max, Some, true};
+ghost use Rattle.std.specs.Prelude.{◌≡◌, ◌<◌, ◌+◌, Some};
 ghost use Rattle.js_syntax.specs.Classes as classes;
 ghost use Rattle.js_syntax.specs.Parsing as reading;
 ghost use Rattle.js_syntax.specs.Parsing.{below};
@@ -21,7 +21,6 @@ use js_lexer::token::{Token, TokenKind};
 use js_syntax::classes::statements::{End, ForHead, OF, for_head_of};
 use js_syntax::context::Context;
 use js_syntax::endings::semicolon_at;
-use js_syntax::fault::ParseError;
 use js_syntax::name_set::NameSet;
 use js_syntax::names::expect_name;
 use js_syntax::nodes::Nodes;

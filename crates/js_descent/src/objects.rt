@@ -2,14 +2,12 @@
 
 ghost use Rattle.std.specs.Prelude.{◌≡◌, ◌≤◌, ◌<◌, ◌+◌, suc, length, map, IfOk, [], ◌∷◌, true, List};
 ghost use Rattle.js_tree.specs.Height.{height};
-ghost use Rattle.js_tree.specs.Views.{expression_view};
 ghost use Rattle.js_syntax.specs.Giving.{Gives};
 ghost use Rattle.js_syntax.specs.Parsing as reading;
 ghost use Rattle.js_syntax.specs.Parsing.{below};
 ghost use Rattle.js_syntax.specs.Views.{tokens_view};
 ghost use Rattle.js_tree.specs.Height.{height_of_key, height_of_property, height_of_properties};
 ghost use Rattle.js_tree.specs.Views.{key_view, property_view, properties, properties_view};
-ghost use Rattle.js_language.specs.Tokens.{head_of};
 ghost use Rattle.js_syntax.specs.Classes as classes;
 ghost use Rattle.js_syntax.specs.Productions.{one_of};
 ghost use Rattle.js_syntax.specs.Reading.{elements, no_state};

@@ -1,6 +1,6 @@
 //! Operators, prefixes and postfixes (ECMA-262, 13.4 to 13.13).
 
-ghost use Rattle.std.specs.Prelude.{◌≡◌, ◌≤◌, ◌<◌, ◌+◌, suc, max, Some, true, List};
+ghost use Rattle.std.specs.Prelude.{◌≡◌, ◌≤◌, ◌<◌, ◌+◌, Some, true, List};
 ghost use Rattle.js_tree.specs.Height.{height};
 ghost use Rattle.js_tree.specs.Views.{expression_view};
 ghost use Rattle.js_syntax.specs.Parsing as reading;
@@ -8,7 +8,6 @@ ghost use Rattle.js_syntax.specs.Parsing.{below};
 ghost use Rattle.js_syntax.specs.Views.{tokens_view};
 ghost use Rattle.js_syntax.specs.Classes.{operator, deletes, an_update};
 ghost use Rattle.js_language.specs.Tokens.{head_of, IsNext, fixed};
-ghost use Rattle.js_syntax.specs.Heads.{prefix_view};
 ghost use Rattle.js_language.specs.Places.{expression_places};
 ghost use Rattle.js_syntax.specs.Placed.{Placed};
 ghost use Rattle.js_tree.specs.declared.node.Span.{Span};

@@ -1,13 +1,13 @@
 //! Primary expressions (ECMA-262, 13.2).
 
-ghost use Rattle.std.specs.Prelude.{◌≡◌, ◌≤◌, ◌<◌, ◌+◌, suc, max, Some, IfOk, true, List};
+ghost use Rattle.std.specs.Prelude.{◌≡◌, ◌≤◌, ◌<◌, ◌+◌, Some, IfOk, true, List};
 ghost use Rattle.js_tree.specs.Height.{height};
 ghost use Rattle.js_tree.specs.Views.{expression_view};
 ghost use Rattle.js_syntax.specs.Giving.{Gives};
 ghost use Rattle.js_syntax.specs.Parsing as reading;
 ghost use Rattle.js_syntax.specs.Parsing.{below};
 ghost use Rattle.js_syntax.specs.Views.{tokens_view};
-ghost use Rattle.js_syntax.specs.Classes.{bracket, brace, parenthesis, function_word, start};
+ghost use Rattle.js_syntax.specs.Classes.{bracket, brace, parenthesis, start};
 ghost use Rattle.js_descent.specs.Leaves.{leaf_by};
 ghost use Rattle.js_language.specs.Places.{expression_places, plain};
 ghost use Rattle.js_syntax.specs.Placed.{Placed};

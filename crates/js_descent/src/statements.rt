@@ -1,6 +1,6 @@
 //! Statements (ECMA-262, 14).
 
-ghost use Rattle.std.specs.Prelude.{◌≡◌, ◌≤◌, ◌<◌, ◌+◌, ◌∷◌, [], ℕ, suc, max, IfOk, true};
+ghost use Rattle.std.specs.Prelude.{◌≡◌, ◌≤◌, ◌<◌, ◌+◌, ◌∷◌, [], ℕ, IfOk, true};
 ghost use Rattle.js_tree.specs.Height.{height, height_of_optional, height_of_statement};
 ghost use Rattle.js_language.specs.Tokens.{head_of, is_on_line, tail_of};
 ghost use Rattle.js_tree.specs.Trees as trees;

@@ -1,6 +1,6 @@
 //! Throws that stand.
 
-ghost use Rattle.std.specs.Prelude.{◌≡◌, ℕ, List, option_map, slice_get};
+ghost use Rattle.std.specs.Prelude.{◌≡◌, ℕ, List, slice_get};
 ghost use Rattle.js_semantics.specs.Frames.{thrown};
 ghost use Rattle.js_code.specs.declared.table.NodeTable.{NodeTable};
 ghost use Rattle.js_steps.specs.Points.{term_at, IsAt};

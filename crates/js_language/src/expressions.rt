@@ -2,16 +2,15 @@
 //!
 //! Each function makes one form from its parts: `view` says which tree it is, `places` where its nodes stand.
 
-ghost use Rattle.std.specs.Prelude.{◌≡◌, ◌∷◌, [], ◌++◌, IfOk, map, suc, max, codes};
-ghost use Rattle.std.specs.Option.{option_map};
+ghost use Rattle.std.specs.Prelude.{◌≡◌, ◌∷◌, [], IfOk, suc, max};
 ghost use Rattle.js_lexer.specs.declared.token.TokenKind.TheVariants as kinds;
 ghost use Rattle.js_tree.specs.Trees as trees;
 ghost use Rattle.js_language.specs.Tokens.{identifier_name, numeric_literal, string_literal};
-ghost use Rattle.js_language.specs.Flat.{a, an_identifier, unary_kind, update_kind, binary_kind, assign_kind, flat_parameters, flat_arrow_parameters, flat_optional_name, flat_catch_parameter, flat_boolean, let_or_const};
-ghost use Rattle.js_tree.specs.Height.{height, height_of_expressions, height_of_statements, height_of_statement, height_of_optional, height_of_declarators, height_of_handler, height_of_finalizer, height_of_key, height_of_property};
-ghost use Rattle.js_tree.specs.Views.{parameters_view, optional_view, handler_view, finalizer_view, expressions, statements, properties, declarators, expression_view, property_view, key_view, statement_view, block_view, catch_view, declarator_view, declarators_view, expressions_view, properties_view, statements_view};
+ghost use Rattle.js_language.specs.Flat.{a, an_identifier, unary_kind, update_kind, binary_kind, assign_kind, flat_parameters, flat_arrow_parameters, flat_optional_name, flat_boolean};
+ghost use Rattle.js_tree.specs.Height.{height, height_of_expressions};
+ghost use Rattle.js_tree.specs.Views.{parameters_view, expressions, properties, expression_view, expressions_view, properties_view, statements_view};
 ghost use Rattle.js_language.specs.Boxes.{unboxed};
-ghost use Rattle.js_language.specs.Places.{in_turn, plain, a_symbol, may_stand, node_of, in_braces, in_parentheses, with_commas, assign_if_some, optional_places, handler_places, finalizer_places, expression_places, property_places, key_places, statement_places, block_places, catch_places, declarator_places, declarators_places, expressions_places, properties_places, statements_places};
+ghost use Rattle.js_language.specs.Places.{plain, a_symbol, may_stand, node_of, in_braces, expression_places, expressions_places, properties_places, statements_places};
 
 use cdp_text::units::Units;
 use js_operators::operator::{AssignmentOperator, BinaryOperator, UnaryOperator, UpdateOperator};

@@ -1,6 +1,6 @@
 //! The gap at the front: white space, line terminators and comments.
 
-ghost use Rattle.std.specs.Prelude.{◌≡◌, ◌≤◌, ◌<◌, not, length, drop};
+ghost use Rattle.std.specs.Prelude.{◌≡◌, ◌≤◌, ◌<◌, length};
 ghost use Rattle.js_lexer.specs.Scanning.{line_len, before_close, gap_piece, gap_len};
 ghost use Rattle.js_lexer.specs.Gaps as spec;
 

@@ -6,8 +6,6 @@ ghost use Rattle.js_lexer.specs.Numbers as spec;
 ghost use Rattle.js_lexer.specs.Numbers.{IsNumber};
 ghost use Rattle.js_lexer.specs.Scanning.{number_of};
 
-use crate::classes::is_digit;
-
 /// The greatest number, 2^53 - 1.
 pub const MAX_NUMBER: u64 = 0x1F_FFFF_FFFF_FFFF;
 

@@ -1,6 +1,6 @@
 //! String literals (ECMA-262, 12.9.4).
 
-ghost use Rattle.std.specs.Prelude.{◌≡◌, ◌≤◌, ◌<◌, ◌+◌, ◌++◌, ◌==◌, length, IfSome, IfOk, OnOk, Some, None, nat_lt};
+ghost use Rattle.std.specs.Prelude.{◌≡◌, ◌≤◌, ◌<◌, ◌+◌, ◌++◌, ◌==◌, length, IfSome, IfOk, OnOk, Some, None};
 ghost use Rattle.std.specs.Option.{ForSome};
 ghost use Rattle.js_lexer.specs.Classes as classes;
 ghost use Rattle.js_lexer.specs.Classes.{begins, leading};

@@ -1,6 +1,6 @@
 //! Plain runs: steps that nobody watches.
 
-ghost use Rattle.std.specs.Prelude.{◌≡◌, ℕ, List, [], false, IfOk};
+ghost use Rattle.std.specs.Prelude.{◌≡◌, [], false, IfOk};
 ghost use Rattle.js_semantics.specs.Run.{plain, program_of as program_of_terms, start, steps_taken};
 ghost use Rattle.js_semantics.specs.Sources.{terms_of_scripts};
 ghost use Rattle.js_world.specs.Heaps.{heap_world};

@@ -1,6 +1,5 @@
 //! Calls of the built-in functions that neither print nor read a line.
 
-ghost use Rattle.std.specs.Prelude.{◌≡◌};
 ghost use Rattle.js_semantics.specs.BuiltIns.{wrong_type, line_value, new_error, error_of, text_or_fail, string_of, make_texts, new_array, keys_of, built_in_call};
 ghost use Rattle.js_operations.specs.BuiltIns.{StaysInside};
 ghost use Rattle.js_operations.specs.Flow.{Ends, Yields, Gives};

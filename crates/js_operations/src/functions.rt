@@ -2,7 +2,6 @@
 
 ghost use Rattle.std.specs.Prelude.{◌≡◌, ◌∷◌, [], true, IfOk, List, ℕ, option_copied};
 ghost use Rattle.js_heap.specs.Cells.{declared};
-ghost use Rattle.js_heap.specs.declared.value.Value.TheVariants as values;
 ghost use Rattle.js_semantics.specs.Functions.{new_scope, with_names};
 ghost use Rattle.js_semantics.specs.Rows.{copied, copy_of};
 ghost use Rattle.js_semantics.specs.State.{make};

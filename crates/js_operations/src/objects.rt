@@ -1,6 +1,5 @@
 //! Object literals.
 
-ghost use Rattle.std.specs.Prelude.{◌≡◌};
 ghost use Rattle.js_semantics.specs.Rows.{object_or_fail};
 ghost use Rattle.js_operations.specs.Flow.{Gives};
 

@@ -1,6 +1,6 @@
 //! Functions that stand alone: a FunctionExpression or an ArrowFunction (ECMA-262, 15.2 and 15.3).
 
-ghost use Rattle.std.specs.Prelude.{◌≡◌, ◌≤◌, ◌<◌, ◌+◌, true};
+ghost use Rattle.std.specs.Prelude.{◌<◌, ◌+◌};
 ghost use Rattle.js_tree.specs.Height.{height};
 ghost use Rattle.js_language.specs.Tokens.{head_of};
 ghost use Rattle.js_syntax.specs.Classes.{parenthesis, start};

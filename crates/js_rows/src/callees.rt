@@ -1,7 +1,6 @@
 //! Rows that read a name or a property and go on with it: calls before their callee is read, and assignments with an operator.
 //! Where a value is wanting that a row needs there is no answer.
 
-ghost use Rattle.std.specs.Prelude.{◌≡◌};
 ghost use Rattle.js_semantics.specs.References.{found, value_of_found};
 ghost use Rattle.js_world.specs.Names.{name_of};
 ghost use Rattle.js_rows.specs.Does.{CallsIt, AssignsIt};

@@ -2,7 +2,7 @@
 
 ghost use Rattle.std.specs.Prelude.{◌≡◌, List, ℕ, slice_get};
 ghost use Rattle.js_semantics.specs.Functions.{same_source, function_at};
-ghost use Rattle.js_code.specs.Codes.{HasFunctions, code_of_node, code_of_entry, code_of_number, indexed_code};
+ghost use Rattle.js_code.specs.Codes.{HasFunctions, code_of_entry, indexed_code};
 ghost use Rattle.js_code.specs.Trees.{program_of};
 ghost use Rattle.js_rows.specs.Codes.{code_at, code_placed};
 

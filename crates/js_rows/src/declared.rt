@@ -3,7 +3,7 @@
 ghost use Rattle.std.specs.Prelude.{◌≡◌, List, ℕ, option_copied};
 ghost use Rattle.js_heap.specs.declared.value.Addr.{Addr as AnyAddr};
 ghost use Rattle.js_semantics.specs.State.{Action};
-ghost use Rattle.js_code.specs.Trees.{tree, trees, kids_between};
+ghost use Rattle.js_code.specs.Trees.{tree, trees};
 ghost use Rattle.js_semantics.specs.Functions.{with_functions};
 ghost use Rattle.js_semantics.specs.Terms.{one};
 ghost use Rattle.js_operations.specs.Flow.{Passes};

@@ -1,6 +1,6 @@
 //! Rows of array and object literals and of functions.
 
-ghost use Rattle.std.specs.Prelude.{◌≡◌, [], ◌∷◌, IfOk, List, ℕ, length, option_copied, slice_get};
+ghost use Rattle.std.specs.Prelude.{◌≡◌, [], IfOk, List, ℕ, length, option_copied, slice_get};
 ghost use Rattle.js_heap.specs.declared.cell.Cell.TheVariants as cells;
 ghost use Rattle.js_heap.specs.declared.value.Value.TheVariants as value;
 ghost use Rattle.js_heap.specs.Values.{key_of};

@@ -1,16 +1,13 @@
 //! Rows of loops.
 
-ghost use Rattle.std.specs.Prelude.{◌≡◌, ◌∷◌, [], List, ℕ, Some, None, option_copied, slice_get};
-ghost use Rattle.js_heap.specs.declared.cell.ScopeKind.TheVariants as scopes;
+ghost use Rattle.std.specs.Prelude.{◌≡◌, [], List, ℕ, Some, None, option_copied, slice_get};
 ghost use Rattle.js_heap.specs.declared.value.Value.{Value as AnyValue};
 ghost use Rattle.js_semantics.specs.declared.form.Stage.TheVariants as stages;
 ghost use Rattle.js_semantics.specs.Terms.{done, one};
-ghost use Rattle.js_semantics.specs.Functions.{new_scope};
 ghost use Rattle.js_semantics.specs.Rows.{only, loop_row, enter_for_row, enter_for_of_row, list_row, element_of, elements_of};
 ghost use Rattle.js_code.specs.declared.table.NodeTable.{NodeTable as AnyTable};
 ghost use Rattle.js_code.specs.Trees.{trees};
 ghost use Rattle.js_world.specs.Cells.{binding_at, bindings, cell_at};
-ghost use Rattle.js_operations.specs.Flow.{Yields};
 ghost use Rattle.js_steps.specs.declared.reduced.Reduced.TheVariants as reduced;
 ghost use Rattle.js_steps.specs.declared.task.Extra.TheVariants as extras;
 ghost use Rattle.js_steps.specs.Answers.{own_scope};

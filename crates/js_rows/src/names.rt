@@ -1,8 +1,7 @@
 //! Rows of names.
 
-ghost use Rattle.std.specs.Prelude.{◌≡◌, IfSome, [], ℕ};
+ghost use Rattle.std.specs.Prelude.{◌≡◌, IfSome, []};
 ghost use Rattle.js_heap.specs.declared.computed.Computed.TheVariants.{Value as a_value};
-ghost use Rattle.js_heap.specs.declared.value.Value.TheVariants as values;
 ghost use Rattle.js_semantics.specs.State.{give};
 ghost use Rattle.js_semantics.specs.References.{found, value_of_found, name_written, with_result, with_written};
 ghost use Rattle.js_semantics.specs.Rows.{type_of_found};

@@ -1,6 +1,6 @@
 //! Rows of properties. Where a value is wanting that a row needs there is no answer.
 
-ghost use Rattle.std.specs.Prelude.{◌≡◌, true};
+ghost use Rattle.std.specs.Prelude.{true};
 ghost use Rattle.js_heap.specs.declared.value.Value.TheVariants as value;
 ghost use Rattle.js_semantics.specs.State.{give};
 ghost use Rattle.js_semantics.specs.BuiltIns.{last_of};

@@ -1,6 +1,6 @@
 //! Rows that touch no cell.
 
-ghost use Rattle.std.specs.Prelude.{◌≡◌, List, ℕ};
+ghost use Rattle.std.specs.Prelude.{List, ℕ};
 ghost use Rattle.js_heap.specs.World.{World as AnyWorld};
 ghost use Rattle.js_heap.specs.declared.value.Value.TheVariants as value;
 ghost use Rattle.js_semantics.specs.BuiltIns.{argument, last_of};
@@ -8,7 +8,6 @@ ghost use Rattle.js_semantics.specs.State.{give, raise, leave, set_here, pop_fra
 ghost use Rattle.js_semantics.specs.declared.form.Mark.TheVariants.{Start as at_start};
 ghost use Rattle.js_semantics.specs.declared.form.Completion.TheVariants.{Returns as returning};
 ghost use Rattle.js_operations.specs.Contexts.{Context as AnyContext};
-ghost use Rattle.js_steps.specs.declared.reduced.Reduced.TheVariants as reduced;
 ghost use Rattle.js_rows.specs.Calls.{ActsAnywhere};
 ghost use Rattle.js_rows.specs.Simple.{CommaOf};
 

@@ -1,6 +1,6 @@
 //! Rows of scripts, statements, blocks, tests and catches.
 
-ghost use Rattle.std.specs.Prelude.{◌≡◌, List, ℕ, Some, None, OnOk, option_copied, slice_get};
+ghost use Rattle.std.specs.Prelude.{◌≡◌, Some, None, OnOk, slice_get};
 ghost use Rattle.js_heap.specs.declared.value.Value.{Value as AnyValue};
 ghost use Rattle.js_code.specs.Trees.{trees};
 ghost use Rattle.js_semantics.specs.Rows.{only, script_frame, script_row, enter_row, block_row, initialize_row, choose_row, both_row, either_row, catch_row};

@@ -2,7 +2,7 @@
 //!
 //! A term's view is the term of the definitions.
 
-ghost use Rattle.std.specs.Prelude.{◌≡◌, IfOk, OnOk};
+ghost use Rattle.std.specs.Prelude.{◌≡◌, IfOk};
 ghost use Rattle.js_semantics.specs.Terms as semantics;
 ghost use Rattle.js_terms.specs.Views.{term_view, terms_view, listed_view};
 

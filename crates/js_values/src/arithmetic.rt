@@ -2,13 +2,13 @@
 
 ghost use Rattle.std.specs.Prelude.{◌≡◌, ◌<◌, ◌^◌, nat_abs, IfOk, ◌*ℤ◌, ◌*◌, ◌%◌};
 ghost use Rattle.js_heap.specs.Values.{a_number};
-ghost use Rattle.js_heap.specs.Operators.{on_numbers, safe, to_unsigned, to_signed, shift_count, numeric, update_result};
+ghost use Rattle.js_heap.specs.Operators.{on_numbers, safe, to_unsigned, to_signed, shift_count};
 
 use crate::numbers::{shift_count, shifted_right, to_signed, to_unsigned};
 use crate::results::{not_numbers, not_safe, quotient, remainder, safe};
 use js_heap::computed::Computed;
 use js_heap::value::Value;
-use js_operators::operator::{BinaryOperator, UpdateOperator};
+use js_operators::operator::BinaryOperator;
 use std::alloc::{AllocError, Global};
 
 /// A product, where it is a safe integer.

@@ -1,6 +1,6 @@
 //! Operators on numbers: integers from -(2^53 - 1) to 2^53 - 1.
 
-ghost use Rattle.std.specs.Prelude.{◌≡◌, ◌<◌, ◌^◌, nat_abs};
+ghost use Rattle.std.specs.Prelude.{◌≡◌, ◌<◌};
 ghost use Rattle.js_heap.specs.Operators.{to_unsigned, to_signed, shift_count, shifted_right};
 
 /// A number modulo 2^32 (ECMA-262, 7.1.7).

@@ -1,6 +1,6 @@
 //! Operators on values.
 
-ghost use Rattle.std.specs.Prelude.{◌≡◌, ◌<◌, ◌^◌, nat_abs, IfOk, min};
+ghost use Rattle.std.specs.Prelude.{◌≡◌, ◌<◌, IfOk, min};
 ghost use Rattle.std.specs.Fmt.{signed_decimal};
 ghost use Rattle.js_heap.specs.Values.{text_of, key_of, units_at, bool_text};
 ghost use Rattle.js_heap.specs.Operators.{units_before, is_before, is_equal, answer_of, negated, numeric, joined_texts, sum_of, binary_result, number_result, unary_result, update_result};

@@ -1,6 +1,6 @@
 //! Results of operations on numbers, and the errors that operations may come to.
 
-ghost use Rattle.std.specs.Prelude.{◌≡◌, ◌<◌, ◌^◌, nat_abs, nat_lt, IfOk, ◌≤ℤ◌, ◌<ℤ◌, pos};
+ghost use Rattle.std.specs.Prelude.{◌≡◌, ◌<◌, ◌^◌, nat_abs, nat_lt, IfOk};
 ghost use Rattle.js_heap.specs.Operators.{safe, quotient, remainder, not_safe, not_numbers, not_a_text, not_comparable};
 
 use cdp_text::units::ascii;

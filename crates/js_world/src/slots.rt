@@ -1,6 +1,6 @@
 //! The names of a scope, by their numbers.
 
-ghost use Rattle.std.specs.Prelude.{◌≡◌, ◌<◌, ◌≤◌, [], ◌∷◌, ◌++◌, OnOk, OnErr, IfOk, IfSome, Option, List, ℕ, length, option_copied};
+ghost use Rattle.std.specs.Prelude.{◌≡◌, ◌<◌, [], ◌∷◌, ◌++◌, OnOk, OnErr, IfOk, Option, List, ℕ, option_copied};
 ghost use Rattle.js_heap.specs.Cells.{declared, bound, binding_of};
 ghost use Rattle.js_heap.specs.declared.value.Addr.{Addr as AnyAddr};
 ghost use Rattle.js_world.specs.Names.{name_of, Differ};

@@ -1,12 +1,11 @@
 //! The cells that each program begins with.
 
-ghost use Rattle.std.specs.Prelude.{◌≡◌, ◌<◌, ◌∷◌, ◌++◌, [], List, ℕ, Some, IfOk, OnOk, take, drop, length, slice_get};
+ghost use Rattle.std.specs.Prelude.{◌≡◌, ◌<◌, ◌∷◌, [], List, ℕ, Some, IfOk, OnOk, take, drop, length, slice_get};
 ghost use Rattle.js_heap.specs.declared.value.Addr.TheVariants.{Base as base};
 ghost use Rattle.js_heap.specs.declared.value.Value.TheVariants.{Object as object};
 ghost use Rattle.js_heap.specs.declared.built_in.BuiltIn.TheVariants.{MakeError as make_error};
 ghost use Rattle.js_heap.specs.BuiltIns.{global_of, built_in_function, built_in_cells, literal_cells};
 ghost use Rattle.js_world.specs.Names.{name_of, GoesOn};
-ghost use Rattle.js_world.specs.Cells.{cell_of};
 ghost use Rattle.js_world.specs.Start.{holder, IsCell, IsCellOf, GainsNames, GainsCells};
 
 use crate::heap::push_cell;

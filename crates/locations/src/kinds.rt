@@ -1,6 +1,6 @@
 //! What stands at each offset of a source.
 
-ghost use Rattle.std.specs.Prelude.{◌≡◌, ◌<◌, ◌≤◌, ℕ, None, IfOk, length};
+ghost use Rattle.std.specs.Prelude.{◌≡◌, ◌<◌, ℕ, None, IfOk, length};
 ghost use Rattle.locations.specs.Kinds.{stronger, with_mark, kind_of, AreKinds};
 
 use crate::marks::Marked;

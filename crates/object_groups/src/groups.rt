@@ -1,6 +1,6 @@
 //! The numbers of the handles of each group.
 
-ghost use Rattle.std.specs.Prelude.{◌≡◌, ◌++◌, ◌∷◌, [], List, ℕ, bytes_eq, if◌then◌else◌, OnErr, OnOk};
+ghost use Rattle.std.specs.Prelude.{◌≡◌, [], List, ℕ, bytes_eq, if◌then◌else◌, OnErr, OnOk};
 ghost use Rattle.std.specs.Set.{remove_key};
 ghost use Rattle.std.specs.Ordering.{nat_cmp};
 ghost use Rattle.std.specs.BTreeMap.{is_at};

@@ -1,6 +1,6 @@
 //! One source more.
 
-ghost use Rattle.std.specs.Prelude.{◌≡◌, IfOk, length, true};
+ghost use Rattle.std.specs.Prelude.{IfOk};
 ghost use Rattle.js_terms.specs.Views.{term_view};
 ghost use Rattle.pure_eval.specs.Whole.{IsWhole};
 ghost use Rattle.pure_eval.specs.Adding.{IsAdded};

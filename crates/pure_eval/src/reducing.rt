@@ -1,6 +1,6 @@
 //! The steps of an evaluation, in any world.
 
-ghost use Rattle.std.specs.Prelude.{◌≡◌, ℕ, List};
+ghost use Rattle.std.specs.Prelude.{ℕ, List};
 ghost use Rattle.js_semantics.specs.Evaluation.{answer_of, budget, evaluated, evaluation_state};
 ghost use Rattle.js_semantics.specs.Run.{steps_in, run_of};
 ghost use Rattle.js_semantics.specs.Terms.{settle};

@@ -1,6 +1,6 @@
 //! Values by value (Chrome DevTools Protocol 1.3, `returnByValue`): as JSON in place of a handle.
 
-ghost use Rattle.std.specs.Prelude.{◌≡◌, ◌+◌, ◌∷◌, [], ◌++◌, List, ℕ, map, option_copied, IfOk};
+ghost use Rattle.std.specs.Prelude.{◌≡◌, ◌∷◌, [], List, ℕ, map, option_copied, IfOk};
 ghost use Rattle.js_world.specs.Cells.{cell_at};
 ghost use Rattle.cdp_json.specs.Parts.{list_of, object_of};
 ghost use Rattle.cdp_json.specs.Views.{json_view, member_view};

@@ -1,6 +1,6 @@
 //! Active frames with handles on their scopes (Chrome DevTools Protocol 1.3, `Debugger.CallFrame` and `Debugger.Scope`).
 
-ghost use Rattle.std.specs.Prelude.{◌≡◌, ◌++◌, ◌∷◌, [], Some, map, option_copied, IfOk, OnOk};
+ghost use Rattle.std.specs.Prelude.{◌≡◌, ◌++◌, [], Some, map, option_copied, IfOk, OnOk};
 ghost use Rattle.cdp_json.specs.Views.{json_view, member_view};
 ghost use Rattle.call_frames.specs.Views as shown;
 ghost use Rattle.remote_objects.specs.CallFrames as listing;

@@ -1,7 +1,6 @@
 //! The lines of input that a file holds.
 
-ghost use Rattle.std.specs.Prelude.{◌≡◌, false, true, IfOk, IfErr, map};
-ghost use Rattle.std.specs.Str.{is_utf8};
+ghost use Rattle.std.specs.Prelude.{◌≡◌, IfOk, IfErr};
 ghost use Rattle.cdp_edge.specs.Outside.{Told};
 ghost use Rattle.script_files.specs.Input.{input_of, HoldsInput, FailsInput};
 

@@ -1,12 +1,11 @@
 //! Which rule stops the program.
 
 ghost use Rattle.std.specs.Prelude.{◌≡◌, ◌↔◌, IsTrue, IfNone, IfSome};
-ghost use Rattle.stepping.specs.Causes.{EndsAt, IsFirst, NoneHolds, StopsAtRaise, cause_there, ends_at, first_cause, is_place, step_ends, stops_at_raise};
+ghost use Rattle.stepping.specs.Causes.{EndsAt, IsFirst, NoneHolds, StopsAtRaise, ends_at, first_cause, stops_at_raise};
 
 use crate::arrival::Arrival;
 use crate::cause::Cause;
 use crate::rules::{Exceptions, Rules, StepKind, StepRequest};
-use cdp_text::position::Place;
 
 /// Whether a step that raised a throw, or none, stops the program for it.
 fn stops_at_raise(exceptions: Exceptions, raised: Option<bool>) -> bool

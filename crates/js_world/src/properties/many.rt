@@ -1,6 +1,6 @@
 //! The properties of an object that has many.
 
-ghost use Rattle.std.specs.Prelude.{◌≡◌, ◌<◌, [], ◌++◌, ◌^◌, false, length, slice_get, option_copied, remove, IfOk, OnOk, OnErr};
+ghost use Rattle.std.specs.Prelude.{◌≡◌, ◌<◌, [], ◌++◌, false, length, slice_get, option_copied, remove, IfOk, OnOk, OnErr};
 ghost use Rattle.js_heap.specs.Keys.{has_key, placed};
 ghost use Rattle.js_heap.specs.Places.{key_place};
 ghost use Rattle.js_world.specs.PropertyOrder.{with_value_at, AreInOrder};
