@@ -3,7 +3,7 @@
 ghost use Rattle.std.specs.Prelude.{◌≡◌, slice_get};
 ghost use Rattle.js_code.specs.Trees.{kid_at, constant_at};
 
-use crate::node::Node;
+use crate::node::{ForOfEntry, Node};
 use crate::table::NodeTable;
 use js_heap::value::Value;
 
@@ -31,6 +31,13 @@ impl NodeTable {
             Some(kid) => *kid,
             None => 0,
         }
+    }
+
+    /// The entry of a `for .. of`, if there is one.
+    pub fn for_of(&self, n: u32) -> Option<ForOfEntry>
+        ensures { result ≡ slice_get self.now.for_ofs.items n }
+    {
+        self.for_ofs.get(n as usize).copied()
     }
 
     /// The constant of a number; undefined where there is none.

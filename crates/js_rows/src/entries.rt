@@ -2,7 +2,7 @@
 
 ghost use Rattle.std.specs.Prelude.{◌≡◌, slice_get, option_copied};
 
-use js_code::node::{CallEntry, ForEntry, ForOfEntry, FunctionEntry, ScriptEntry};
+use js_code::node::{CallEntry, ForEntry, FunctionEntry, ScriptEntry};
 use js_code::table::NodeTable;
 use js_world::stored::Slots;
 
@@ -39,11 +39,4 @@ pub fn for_entry(table: &NodeTable, number: u32) -> Option<&ForEntry>
     ensures { option_copied result ≡ slice_get table.now.fors.items number }
 {
     table.fors.get(number as usize)
-}
-
-/// A `for .. of`.
-pub fn for_of_entry(table: &NodeTable, number: u32) -> Option<ForOfEntry>
-    ensures { result ≡ slice_get table.now.for_ofs.items number }
-{
-    table.for_ofs.get(number as usize).copied()
 }

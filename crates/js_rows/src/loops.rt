@@ -17,7 +17,7 @@ ghost use Rattle.js_rows.specs.Does.{DoesIn, DoesWith};
 ghost use Rattle.js_rows.specs.Over.{OfEntry, IsTurn, answered_by, tested};
 
 use crate::answers::stopped;
-use crate::entries::{for_entry, for_of_entry};
+use crate::entries::for_entry;
 use crate::parts::part_at;
 use crate::scopes::nameless_scope;
 use crate::statements::only;
@@ -210,7 +210,7 @@ pub fn enter_for_of<W: World>(
 ) -> Reduced
     ensures { OfEntry (slice_get table.now.for_ofs.items form.info) result (λ entry. (values : List AnyValue) → DoesWith names.now table.now (redex form values None) (enter_for_of_row form.inner entry.node (binding_at names.now entry.slot) (trees names.now table.now form.mid form.end)) (W.world names.now world.old) context.old result (W.world names.now world.new) context.new) }
 {
-    match for_of_entry(table, form.info) {
+    match table.for_of(form.info) {
         Some(entry) => enter_for_of_with(alloc, table, names, context, world, form, entry),
         None => Reduced::Memory,
     }
@@ -252,7 +252,7 @@ pub fn list_of<W: World>(
 ) -> Reduced
     ensures { OfEntry (slice_get table.now.for_ofs.items form.info) result (λ entry. (e : AnyWide) → e.info ≡ form.info → DoesIn names.now table.now e (list_row (W.world names.now world.old) (binding_at names.now entry.slot) (only values.now) (later_of names.now table.now e)) (W.world names.now world.old) result (W.world names.now world.new)) }
 {
-    match for_of_entry(table, form.info) {
+    match table.for_of(form.info) {
         Some(entry) => list_with(alloc, table, names, world, form, entry, values),
         None => Reduced::Memory,
     }
@@ -332,7 +332,7 @@ pub fn turn_of<W: World>(
 ) -> Reduced
     ensures { OfEntry (slice_get table.now.for_ofs.items form.info) result (λ entry. (values : List AnyValue) → IsTurn names.now table.now (redex form values (Some (extras.Turn list index))) (binding_at names.now entry.slot) (W.world names.now world.old) result (W.world names.now world.new)) }
 {
-    match for_of_entry(table, form.info) {
+    match table.for_of(form.info) {
         Some(entry) => turn_with(alloc, table, names, world, form, entry, list, index),
         None => Reduced::Memory,
     }

@@ -10,7 +10,7 @@ use crate::callees::{
     callee_of_index, callee_of_member, callee_of_name, old_of_index, old_of_member, old_of_name,
 };
 use crate::calls::call;
-use crate::entries::{call_entry, for_of_entry};
+use crate::entries::call_entry;
 use crate::literals::{array, function, object};
 use crate::loops::{enter_for, enter_for_of, list_of, loop_body, loop_first, loop_test, turn_of};
 use crate::names::{assign_name, read_name, typeof_name};
@@ -345,7 +345,7 @@ fn resumed(form: Redex, completion: Completion) -> Reduced
 fn turn_done(table: &NodeTable, form: Redex, values: &[Value]) -> Reduced
     ensures { IsTurnDone table.now form values.now result }
 {
-    match for_of_entry(table, form.info) {
+    match table.for_of(form.info) {
         Some(_) => last(values),
         None => Reduced::Memory,
     }

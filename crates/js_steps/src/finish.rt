@@ -1,6 +1,6 @@
 //! What becomes of a task whose parts all have their values.
 
-ghost use Rattle.std.specs.Prelude.{◌≡◌, Some, None, IfOk, is_some, slice_get};
+ghost use Rattle.std.specs.Prelude.{◌≡◌, Some, None, IfOk, is_some};
 ghost use Rattle.js_code.specs.declared.op.Op.TheVariants as ops;
 ghost use Rattle.js_semantics.specs.Terms.{last_value as last_of_terms, dones};
 ghost use Rattle.js_heap.specs.declared.value.Value.TheVariants.{Undefined as undefined};
@@ -14,7 +14,6 @@ use crate::parts::next_part;
 use crate::stack::Stack;
 use crate::stages::{at_body, at_test, behind_body, behind_first, restage};
 use crate::task::{Extra, Task};
-use js_code::node::ForOfEntry;
 use js_code::op::Op;
 use js_code::table::NodeTable;
 use js_heap::value::Value;
@@ -51,13 +50,6 @@ fn leave(stack: &mut Stack, value: Value) -> Next
     Next::Value(value)
 }
 
-/// The entry of a `for .. of`, if there is one.
-pub fn for_of_at(table: &NodeTable, n: u32) -> Option<ForOfEntry>
-    ensures { result ≡ slice_get table.now.for_ofs.items n }
-{
-    table.for_ofs.get(n as usize).copied()
-}
-
 /// A `for .. of` is behind a turn.
 fn finish_turn(table: &NodeTable, stack: &mut Stack, task: Task) -> Next
     requires task { IsInnermost task (extra_of stack.old) stack.old }
@@ -65,7 +57,7 @@ fn finish_turn(table: &NodeTable, stack: &mut Stack, task: Task) -> Next
     requires row { IsAtRow stack.old }
     ensures { Comes table.now stack.old stack.new (λ ts. settled_row ts table.now stack.old) result }
 {
-    match for_of_at(table, task.info) {
+    match table.for_of(task.info) {
         Some(_) => {
             restage(stack, Op::TurnOf);
             Next::Row

@@ -3,7 +3,6 @@
 ghost use Rattle.std.specs.Prelude.{◌≡◌};
 ghost use Rattle.js_steps.specs.Passing.{passing_try, passing_call, passing_turn, passing_of, TakesSo, HasPassedTasks};
 
-use crate::finish::for_of_at;
 use crate::stack::Stack;
 use js_code::op::Op;
 use js_code::table::NodeTable;
@@ -78,7 +77,7 @@ fn passing_of(table: &NodeTable, op: Op, info: u32, completion: Completion) -> P
         Op::Finishing => Passing::Takes(Taking::Keeps),
         Op::Frame => passing_call(completion),
         Op::LoopBody => passing_turn(completion),
-        Op::BodyOf => match for_of_at(table, info) {
+        Op::BodyOf => match table.for_of(info) {
             None => Passing::Lets,
             Some(_) => passing_turn(completion),
         },
