@@ -24,15 +24,13 @@ use Rattle.serde_json.proofs.Numbers.{number_of-decimal, number_of-negative}
 use Rattle.serde_json.proofs.Texts.{print-outline}
 use Rattle.cdp_text.specs.Units.{utf8_of}
 use Rattle.cdp_json.specs.Json.{Json, null, boolean, number, text, list, object, Items, no_items, item, Members, no_members, member, members_of}
+use Rattle.cdp_json.specs.Parts.{Pair}
 use Rattle.cdp_json.specs.KeyOrder.{insert_by, in_order}
 use Rattle.cdp_json.specs.Compact.{compact_text, string_text, with_commas, behind_commas, member_text, item_texts, member_texts}
 use Rattle.cdp_json.specs.ReadBack.{data_of, items_data, members_data, ordered, ordered_items, ordered_members, depth, items_depth, members_depth, FitsSixtyFourBits, NumbersFit, ItemsFit, MembersFit, WrittenIsReadBack}
 use Rattle.cdp_json.proofs.OrderLemmas.{in_order-map}
 
 -- ---- members as pairs, in any order
-
-abbrev Pair : Type 0
-Pair = List ℕ × Json
 
 abbrev pairs : Members → List Pair
 pairs no_members = []

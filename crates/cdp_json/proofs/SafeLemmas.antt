@@ -9,6 +9,7 @@ use Rattle.cdp_json.specs.Arguments as arguments
 use Rattle.cdp_json.specs.Arguments.{argument_of, arguments_from}
 use Rattle.cdp_json.specs.Json as json
 use Rattle.cdp_json.specs.Json.{items_of, members_of}
+use Rattle.cdp_json.specs.Parts.{Pair}
 use Rattle.cdp_json.specs.SafeValues.{both, safe_value_of, safe_items_of, safe_members_of}
 use Rattle.cdp_json.specs.Views.{json_view, member_view}
 use Rattle.cdp_json.specs.declared.arguments.Argument.{Argument}
@@ -68,9 +69,6 @@ items_all vs i done le = sym (ap (items_behind done) (drop_all i vs le) ∙ ap S
 
 abbrev Entry : Type 0
 Entry = String Global × Value
-
-abbrev Pair : Type 0
-Pair = List ℕ × json.Json
 
 abbrev put_pair : Pair → json.Members → json.Members
 put_pair m ms = json.member m.0 m.1 ms

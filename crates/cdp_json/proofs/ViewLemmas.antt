@@ -2,6 +2,7 @@
 use Rattle.std.proofs.Common.{◌≡◌, ℕ, ℤ, List, Bool, sym, ap, ◌∙◌}
 use Rattle.std.specs.Global.{Vec}
 use Rattle.cdp_json.specs.Json as json
+use Rattle.cdp_json.specs.Parts.{Pair}
 use Rattle.cdp_json.specs.declared.value.Json.{Json}
 use Rattle.cdp_json.specs.declared.value.JsonList.{JsonList}
 use Rattle.cdp_json.specs.declared.value.JsonObject.{JsonObject}
@@ -11,9 +12,6 @@ use Rattle.cdp_json.specs.declared.value.Json.TheFolds.{fold-roll-Json, fold-rol
 use Rattle.cdp_json.specs.declared.value.Json.TheVariants.{rolls-Null, rolls-Bool, rolls-Number, rolls-Text, rolls-List, rolls-Object}
 use Rattle.cdp_json.specs.declared.value.Json.TheViews as views
 use Rattle.cdp_json.specs.Views.{json_view, list_view, object_view, member_view, json_layer, list_layer, object_layer, member_layer, items_view, members_view}
-
-abbrev Pair : Type 0
-Pair = List ℕ × json.Json
 
 pub view_null : json_view Json.Null ≡ json.null
 unfolding json_view list_view object_view member_view

@@ -1,5 +1,5 @@
 -- JSON values as lists of words, each word behind those of its parts, by which two values are told apart.
-use Rattle.std.specs.Prelude.{◌≡◌, ℕ, ℤ, List, [], ◌∷◌, Bool, refl}
+use Rattle.std.specs.Prelude.{◌≡◌, ℕ, ℤ, List, [], ◌∷◌, Bool, refl, fold}
 use Rattle.std.proofs.Common.{ap, ◌∙◌}
 use Rattle.std.specs.Coded.{Coded, code_by, coded_list, codes}
 use Rattle.cdp_json.specs.Json.{Json, null, boolean, number, text, list, object, Items, no_items, item, Members, no_members, member}
@@ -76,11 +76,6 @@ read_word r an_item = read_item r
 read_word r end_of_members = members_read no_members r
 read_word r (a_member k) = read_member k r
 
--- words are read one after another
-abbrev pub read_words : Read → List Word → Read
-read_words r [] = r
-read_words r (w ∷ ws) = read_words (read_word r w) ws
-
 -- the value that was read last
 abbrev pub top_json : Read → Json
 top_json (json_read j r) = j
@@ -88,7 +83,8 @@ top_json r = null
 
 -- the words of a value are read as the value
 abbrev mutual
-  json_is_read : (j : Json) (ws : List Word) (r : Read) → read_words r (json_words j ws) ≡ read_words (json_read j r) ws
+  json_is_read : (j : Json) (ws : List Word) (r : Read)
+      → fold read_word r (json_words j ws) ≡ fold read_word (json_read j r) ws
   json_is_read null ws r = refl
   json_is_read (boolean b) ws r = refl
   json_is_read (number z) ws r = refl
@@ -97,13 +93,13 @@ abbrev mutual
   json_is_read (object ms) ws r = members_are_read ms (an_object ∷ ws) r
 
   items_are_read : (js : Items) (ws : List Word) (r : Read)
-      → read_words r (items_words js ws) ≡ read_words (items_read js r) ws
+      → fold read_word r (items_words js ws) ≡ fold read_word (items_read js r) ws
   items_are_read no_items ws r = refl
   items_are_read (item j js) ws r =
       json_is_read j (items_words js (an_item ∷ ws)) r ∙ items_are_read js (an_item ∷ ws) (json_read j r)
 
   members_are_read : (ms : Members) (ws : List Word) (r : Read)
-      → read_words r (members_words ms ws) ≡ read_words (members_read ms r) ws
+      → fold read_word r (members_words ms ws) ≡ fold read_word (members_read ms r) ws
   members_are_read no_members ws r = refl
   members_are_read (member k j ms) ws r =
       json_is_read j (members_words ms (a_member k ∷ ws)) r ∙ members_are_read ms (a_member k ∷ ws) (json_read j r)
@@ -115,5 +111,5 @@ word_coded = Prim.hlevel codes
 -- a value is kept as its words
 pub json_coded : Coded Json
 json_coded =
-    code_by (List Word) (coded_list word_coded) (λ j. json_words j []) (λ ws. top_json (read_words nothing_read ws))
+    code_by (List Word) (coded_list word_coded) (λ j. json_words j []) (λ ws. top_json (fold read_word nothing_read ws))
     (λ j. ap top_json (json_is_read j [] nothing_read))
