@@ -1,5 +1,5 @@
 -- Terms as lists of words, each word behind those of its parts, by which two terms are told apart.
-use Rattle.std.specs.Prelude.{◌≡◌, List, [], ◌∷◌, refl}
+use Rattle.std.specs.Prelude.{◌≡◌, List, [], ◌∷◌, refl, fold}
 use Rattle.std.proofs.Common.{ap, ◌∙◌}
 use Rattle.std.specs.Coded.{Coded, code_by, coded_list, codes}
 use Rattle.js_heap.specs.declared.value.Value.{Value}
@@ -52,11 +52,6 @@ read_word r (a_form f) = read_form f r
 read_word r no_parts = terms_read end r
 read_word r a_part = read_part r
 
--- words are read one after another
-abbrev pub read_words : Read → List Word → Read
-read_words r [] = r
-read_words r (w ∷ ws) = read_words (read_word r w) ws
-
 -- the term that was read last
 abbrev pub top_term : Read → Term
 top_term (term_read t r) = t
@@ -64,14 +59,15 @@ top_term r = done values.Undefined
 
 -- the words of a term are read as the term
 abbrev mutual
-  term_is_read : (t : Term) (ws : List Word) (r : Read) → read_words r (term_words t ws) ≡ read_words (term_read t r) ws
+  term_is_read : (t : Term) (ws : List Word) (r : Read)
+      → fold read_word r (term_words t ws) ≡ fold read_word (term_read t r) ws
   term_is_read (done v) ws r = refl
   term_is_read (standing v s) ws r = refl
   term_is_read (part f now later) ws r =
       terms_are_read now (terms_words later (a_form f ∷ ws)) r ∙ terms_are_read later (a_form f ∷ ws) (terms_read now r)
 
   terms_are_read : (ts : Terms) (ws : List Word) (r : Read)
-      → read_words r (terms_words ts ws) ≡ read_words (terms_read ts r) ws
+      → fold read_word r (terms_words ts ws) ≡ fold read_word (terms_read ts r) ws
   terms_are_read end ws r = refl
   terms_are_read (more t ts) ws r =
       term_is_read t (terms_words ts (a_part ∷ ws)) r ∙ terms_are_read ts (a_part ∷ ws) (term_read t r)
@@ -83,5 +79,5 @@ word_coded = Prim.hlevel codes
 -- a term is kept as its words
 pub term_coded : Coded Term
 term_coded =
-    code_by (List Word) (coded_list word_coded) (λ t. term_words t []) (λ ws. top_term (read_words nothing_read ws))
+    code_by (List Word) (coded_list word_coded) (λ t. term_words t []) (λ ws. top_term (fold read_word nothing_read ws))
     (λ t. ap top_term (term_is_read t [] nothing_read))

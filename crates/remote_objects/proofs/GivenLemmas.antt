@@ -203,9 +203,6 @@ chosen-is w way p b c on out = sym (ap₂ (λ x y. chosen x y p.key (way p.value
 low-none : (deep : ℕ) → 0 ≤ deep
 low-none deep = omega arith
 
-none-met : (met : ℕ) → met + 0 ≡ met
-none-met met = omega arith
-
 -- a property that isn't enumerable isn't met
 pub member-none : (w : World) (way : Value → Given json.Json) (p : Property) (done : List Pair) (deep met : ℕ)
     → p.enumerable ≡ false
@@ -213,7 +210,7 @@ pub member-none : (w : World) (way : Value → Given json.Json) (p : Property) (
 member-none w way p done deep met off =
     let P : Given (List Pair) → Type 0 = λ g. Fits done deep met met (mapped (λ parts. done ++ parts) g) in
     subst P (chosen-is w way p false (is_left_out w p.value) off refl)
-    (record { is = sym (append-nil done); within = low-none deep; counted = none-met met })
+    (record { is = sym (append-nil done); within = low-none deep; counted = omega arith })
 
 out-met : {A : Type 0} (r : Result A ByValueFault) (done : List Pair) (deep met left : ℕ)
     → Meets r met left
