@@ -2,9 +2,6 @@
 
 ghost use Rattle.std.specs.Prelude.{◌≡◌, ◌<◌, ◌≤◌, ◌++◌, ◌∷◌, ◌^◌, [], List, ℕ, IfOk, OnErr, OnOk, length, option_copied, slice_get};
 ghost use Rattle.js_heap.specs.BuiltIns.{first_world};
-ghost use Rattle.js_heap.specs.World.{write_cell};
-ghost use Rattle.js_world.specs.Calls.{Tries};
-ghost use Rattle.js_world.specs.Changes.{change_of, Distinguishes, ChangeWithin};
 ghost use Rattle.js_world.specs.Heaps.{all_below, is_below, is_within, value_in_cell, value_in_cells, heap_world, Fit, MakesRoom};
 
 use crate::change::{CellChange, change_in};
@@ -160,13 +157,6 @@ impl BaseHeap {
         self.cells.len()
     }
 
-    /// How many names of a table are known.
-    pub fn known(&self) -> usize
-        ensures { result ≡ self.now.ends }
-    {
-        self.ends
-    }
-
     /// A table that goes on behind the known names makes no other world.
     pub fn goes_on(&self)
         ensures { (names more : List (List ℕ)) → self.now.ends ≤ length names → heap_world (names ++ more) self.now ≡ heap_world names self.now }
@@ -184,26 +174,12 @@ impl BaseHeap {
             self.ends = ends;
         }
     }
-
-    /// Changes a cell, if it is one of the program's.
-    fn write(&mut self, a: Addr, change: CellChange<'_>) -> Result<(), Refused>
-        requires { ChangeWithin self.old.ends change }
-        ensures written { (names : List (List ℕ)) → Distinguishes names change.entry → Tries (write_cell (heap_world names self.old) a (change_of names change.entry)) result (heap_world names self.new) }
-        ensures kept { OnErr result (self.new ≡ self.old) }
-    {
-        let _ = &self.cells;
-        match a {
-            Addr::Base(i) => {
-                self.units_left = change_in(&mut self.cells, i as usize, change, self.units_left)?;
-                Ok(())
-            }
-            Addr::Scratch(_) => Ok(()),
-        }
-    }
 }
 
 impl World for BaseHeap {
     ghost world = { λ names h. heap_world names h };
+
+    ghost ends = { λ h. h.ends };
 
     fn find(&self, a: Addr) -> Option<&Stored> {
         let _ = &self.cells;
@@ -215,7 +191,11 @@ impl World for BaseHeap {
 
     #[tactic(auto, using(crate::proofs::HeapLemmas::heap_rules))]
     fn count(&self) -> usize {
-        self.cells.len()
+        self.len()
+    }
+
+    fn known(&self) -> usize {
+        self.ends
     }
 
     fn is_evaluation(&self) -> bool {
@@ -234,38 +214,15 @@ impl World for BaseHeap {
         Ok(Addr::Base(at))
     }
 
-    fn put(&mut self, a: Addr, key: &[u16], value: Value) -> Result<(), Refused> {
-        self.write(a, CellChange::Put { key, value })
-    }
-
-    fn remove(&mut self, a: Addr, key: &[u16]) -> Result<(), Refused> {
-        self.write(a, CellChange::Remove { key })
-    }
-
-    fn put_element(&mut self, a: Addr, index: u32, value: Value) -> Result<(), Refused> {
-        self.write(a, CellChange::Element { index, value })
-    }
-
-    fn cut(&mut self, a: Addr, length: u32) -> Result<(), Refused> {
-        self.write(a, CellChange::Length(length))
-    }
-
-    fn declare(&mut self, scope: Addr, name: NameId, constant: bool) -> Result<(), Refused> {
-        if name.number as usize >= self.ends {
-            return Err(Refused::Memory);
+    fn write(&mut self, a: Addr, change: CellChange<'_>) -> Result<(), Refused> {
+        let _ = &self.cells;
+        match a {
+            Addr::Base(i) => {
+                self.units_left = change_in(&mut self.cells, i as usize, change, self.units_left)?;
+                Ok(())
+            }
+            Addr::Scratch(_) => Ok(()),
         }
-        self.write(scope, CellChange::Declare { name, constant })
-    }
-
-    fn bind(
-        &mut self,
-        names: &Names,
-        scope: Addr,
-        name: NameId,
-        value: Value,
-    ) -> Result<(), Refused> {
-        let _ = names.len();
-        self.write(scope, CellChange::Bind { name, value })
     }
 
     fn bind_at(

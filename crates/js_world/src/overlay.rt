@@ -1,11 +1,9 @@
 //! The cells of evaluations over those of a program.
 
 ghost use Rattle.std.specs.Prelude.{◌≡◌, ◌≤◌, ◌⊎◌, ◌++◌, List, ℕ, OnErr, length, take};
-ghost use Rattle.js_heap.specs.World.{write_cell};
 ghost use Rattle.js_heap.specs.ScratchSpaces.{copied_world, keep_source};
 ghost use Rattle.js_world.specs.Calls.{Tries};
 ghost use Rattle.js_world.specs.Cells.{AllWithin};
-ghost use Rattle.js_world.specs.Changes.{change_of, Distinguishes, ChangeWithin};
 ghost use Rattle.js_world.specs.Heaps.{heap_world};
 ghost use Rattle.js_world.specs.Overlays.{over_world, space_of, first_space, space_after, next_of, mark_of, space_at};
 
@@ -236,29 +234,12 @@ impl<'a> Overlay<'a> {
         let _ = self.base.at(0);
         let _ = &self.cells;
     }
-
-    /// Changes a cell, if it is one of the evaluation's own.
-    fn write(&mut self, a: Addr, change: CellChange<'_>) -> Result<(), Refused>
-        requires { ChangeWithin self.old.ends change }
-        ensures written { (names : List (List ℕ)) → Distinguishes names change.entry → Tries (write_cell (over_world names self.old) a (change_of names change.entry)) result (over_world names self.new) }
-        ensures kept { OnErr result (self.new ≡ self.old) }
-    {
-        let _ = &self.cells;
-        match a {
-            Addr::Base(_) => Err(Refused::Effect),
-            Addr::Scratch(i) => {
-                if i < self.start {
-                    return Err(Refused::Effect);
-                }
-                self.units_left = change_in(&mut self.cells, i as usize, change, self.units_left)?;
-                Ok(())
-            }
-        }
-    }
 }
 
 impl<'a> World for Overlay<'a> {
     ghost world = { λ names o. over_world names o };
+
+    ghost ends = { λ o. o.ends };
 
     fn find(&self, a: Addr) -> Option<&Stored> {
         let _ = &self.cells;
@@ -271,6 +252,10 @@ impl<'a> World for Overlay<'a> {
     #[tactic(auto, using(crate::proofs::HeapLemmas::heap_rules))]
     fn count(&self) -> usize {
         self.base.len() + self.cells.len()
+    }
+
+    fn known(&self) -> usize {
+        self.ends
     }
 
     fn is_evaluation(&self) -> bool {
@@ -289,38 +274,18 @@ impl<'a> World for Overlay<'a> {
         Ok(Addr::Scratch(at))
     }
 
-    fn put(&mut self, a: Addr, key: &[u16], value: Value) -> Result<(), Refused> {
-        self.write(a, CellChange::Put { key, value })
-    }
-
-    fn remove(&mut self, a: Addr, key: &[u16]) -> Result<(), Refused> {
-        self.write(a, CellChange::Remove { key })
-    }
-
-    fn put_element(&mut self, a: Addr, index: u32, value: Value) -> Result<(), Refused> {
-        self.write(a, CellChange::Element { index, value })
-    }
-
-    fn cut(&mut self, a: Addr, length: u32) -> Result<(), Refused> {
-        self.write(a, CellChange::Length(length))
-    }
-
-    fn declare(&mut self, scope: Addr, name: NameId, constant: bool) -> Result<(), Refused> {
-        if name.number as usize >= self.ends {
-            return Err(Refused::Memory);
+    fn write(&mut self, a: Addr, change: CellChange<'_>) -> Result<(), Refused> {
+        let _ = &self.cells;
+        match a {
+            Addr::Base(_) => Err(Refused::Effect),
+            Addr::Scratch(i) => {
+                if i < self.start {
+                    return Err(Refused::Effect);
+                }
+                self.units_left = change_in(&mut self.cells, i as usize, change, self.units_left)?;
+                Ok(())
+            }
         }
-        self.write(scope, CellChange::Declare { name, constant })
-    }
-
-    fn bind(
-        &mut self,
-        names: &Names,
-        scope: Addr,
-        name: NameId,
-        value: Value,
-    ) -> Result<(), Refused> {
-        let _ = names.len();
-        self.write(scope, CellChange::Bind { name, value })
     }
 
     fn bind_at(

@@ -45,6 +45,7 @@ use js_terms::term::{Term, Terms};
 use js_world::heap::BaseHeap;
 use js_world::names::Names;
 use js_world::overlay::Scratch;
+use js_world::world::World;
 use std::alloc::{AllocError, Global};
 
 /// The code of a program, and of the sources that a session's evaluations keep, with its names.

@@ -35,6 +35,7 @@ use js_terms::term::Terms;
 use js_world::heap::BaseHeap;
 use js_world::names::{NameId, Names};
 use js_world::overlay::{Mark, Overlay, Scratch};
+use js_world::world::World;
 use std::alloc::{AllocError, Global};
 use std::marker::Model;
 

@@ -1,7 +1,7 @@
 use Rattle.std.proofs.Common.{arith, subst, sym}
 use Rattle.js_world.specs.Heaps.{Heap}
 use Rattle.js_world.specs.Changes.{ChangeWithin}
-use Rattle.js_world.proofs.heap.BaseHeap.write.Goals as goal
+use Rattle.js_world.proofs.heap.BaseHeapWorld.write.Goals as goal
 
 pub invariant_of-self-in-Base : goal.invariant_of-self-in-Base
 invariant_of-self-in-Base c =

@@ -2,7 +2,7 @@ use Rattle.std.proofs.Common.{arith, subst, sym}
 use Rattle.js_world.specs.Overlays.{Over}
 use Rattle.js_world.specs.Changes.{ChangeWithin}
 use Rattle.js_world.proofs.EarlierLemmas.{earlier-same}
-use Rattle.js_world.proofs.overlay.Overlay.write.Goals as goal
+use Rattle.js_world.proofs.overlay.OverlayWorld.write.Goals as goal
 
 pub invariant_of-self-in-Scratch : goal.invariant_of-self-in-Scratch
 invariant_of-self-in-Scratch c =
