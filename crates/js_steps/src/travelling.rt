@@ -3,7 +3,7 @@
 ghost use Rattle.std.specs.Prelude.{◌≡◌, ℕ, List, Some, OnOk};
 ghost use Rattle.js_heap.specs.declared.value.Addr.{Addr as AnyAddr};
 ghost use Rattle.js_semantics.specs.declared.form.Form.TheVariants.{Ending as ending};
-ghost use Rattle.js_semantics.specs.Terms.{done, end, settled};
+ghost use Rattle.js_semantics.specs.Terms.{end, settled};
 ghost use Rattle.js_semantics.specs.State.{travels};
 ghost use Rattle.js_operations.specs.Contexts.{state_of};
 ghost use Rattle.js_code.specs.Trees.{IsTable};
@@ -18,9 +18,10 @@ ghost use Rattle.js_steps.specs.Stepping.{TellsWithin, IfGoesOn, StandsIn};
 
 use crate::answer::{answer_of, finished_by, went_of};
 use crate::concluding::conclude;
+use crate::following::parts::follow_value;
 use crate::passing::{Taking, pass_outward};
 use crate::rows::Rows;
-use crate::settling::{give, proceed, settle_row};
+use crate::settling::{proceed, settle_row};
 use crate::stack::Stack;
 use crate::stepped::Stepped;
 use crate::task::{Extra, Point, Redex};
@@ -32,22 +33,6 @@ use js_semantics::form::Completion;
 use js_world::names::Names;
 use js_world::world::World;
 use std::alloc::{AllocError, Global};
-
-/// The innermost task gives way to a value.
-fn end_task(
-    table: &NodeTable,
-    stack: &mut Stack,
-    point: &mut Point,
-    value: Value,
-) -> Result<(), AllocError>
-    requires { IsTable table.now }
-    ensures term { OnOk result ((ts : List (List ℕ)) → resettled (gaps_of ts table.now (outer_of stack.old)) (done value) ≡ term_at ts table.now stack.new point.new) }
-    ensures at { OnOk result (IsAt table.now stack.new point.new) }
-    ensures scoped { OnOk result ((root : AnyAddr) → InScopes table.now root stack.old → InScopes table.now root stack.new) }
-{
-    stack.pop();
-    give(table, stack, point, value)
-}
 
 /// The `finally` of the innermost task runs, and keeps the completion (ECMA-262, 14.15.3).
 fn keep(
@@ -159,9 +144,9 @@ fn take<T: Rows, W: World>(
     match taking {
         Taking::Returns(value) => {
             context.pop_frame();
-            went_of(end_task(table, stack, point, value))
+            went_of(follow_value(table, root, stack, point, value))
         }
-        Taking::Breaks => went_of(end_task(table, stack, point, Value::Undefined)),
+        Taking::Breaks => went_of(follow_value(table, root, stack, point, Value::Undefined)),
         Taking::Turns => went_of(end_turn(table, stack, point)),
         Taking::Keeps => went_of(keep(table, stack, point, completion)),
         Taking::Catches(thrown) => catch_throw::<T, W>(

@@ -1,40 +1,47 @@
 use Rattle.js_operations.specs.Contexts.{state_of}
 use Rattle.js_steps.specs.declared.passing.Taking.TheVariants as takings
+use Rattle.js_steps.specs.Answers.{reduced_term}
+use Rattle.js_steps.proofs.ConcludeLemmas.{went-stands, goes-on-weaker}
 use Rattle.js_steps.proofs.TravelLemmas.{takes-as, returns-told, breaks-told, turns-told, keeps-told, went-stood}
 use Rattle.js_steps.proofs.travelling.take.Goals as goal
 
 pub returns-in-Returns-clause-told : goal.returns-in-Returns-clause-told
+unfolding reduced_term
 returns-in-Returns-clause-told g c = λ taken.
     let ts = c.args.names.now in
     let t = c.args.table.now in
     let w = g.W.World.world ts c.args.world.now in
     let k = takes-as t c.args.stack.now c.args.completion c.args.taking (takings.Returns c.in-Returns.value)
     c.in-Returns.is c.requires.takes in
-    returns-told ts t c.args.root c.args.stack.now c.end_task.new.stack c.end_task.new.point c.args.completion
-    c.in-Returns.value c.went_of.result c.end_task.result w c.args.context.now c.pop_frame.new.self taken k
-    c.pop_frame.ensures c.went_of.ensures c.end_task.ensures.term
+    returns-told ts t c.args.root c.args.stack.now c.follow_value.new.stack c.follow_value.new.point c.args.completion
+    c.in-Returns.value c.went_of.result c.follow_value.result w c.args.context.now c.pop_frame.new.self taken k
+    c.pop_frame.ensures c.went_of.ensures c.follow_value.ensures.term
 
 pub returns-in-Returns-clause-stands : goal.returns-in-Returns-clause-stands
 returns-in-Returns-clause-stands g c =
-    went-stood c.end_task.result c.went_of.result c.args.table.now c.args.root c.args.stack.now c.end_task.new.stack
-    c.end_task.new.point c.went_of.ensures c.end_task.ensures.at c.end_task.ensures.scoped c.requires.scoped
+    goes-on-weaker c.went_of.result (λ k. k c.requires.scoped)
+    (went-stands c.follow_value.result c.went_of.result c.args.table.now c.args.root c.args.stack.now
+    c.follow_value.new.stack c.follow_value.new.point c.went_of.ensures c.follow_value.ensures.at
+    c.follow_value.ensures.scoped)
 
 pub returns-in-Breaks-clause-told : goal.returns-in-Breaks-clause-told
+unfolding reduced_term
 returns-in-Breaks-clause-told g c = λ taken.
     let ts = c.args.names.now in
     let t = c.args.table.now in
     let w = g.W.World.world ts c.args.world.now in
     let k = takes-as t c.args.stack.now c.args.completion c.args.taking takings.Breaks c.in-Breaks.is c.requires.takes
     in
-    breaks-told ts t c.args.root c.args.stack.now c.end_task-in-Breaks.new.stack c.end_task-in-Breaks.new.point
-    c.args.completion c.went_of-in-Breaks.result c.end_task-in-Breaks.result
-    (state_of w c.args.context.now taken) k c.went_of-in-Breaks.ensures c.end_task-in-Breaks.ensures.term
+    breaks-told ts t c.args.root c.args.stack.now c.follow_value-in-Breaks.new.stack c.follow_value-in-Breaks.new.point
+    c.args.completion c.went_of-in-Breaks.result c.follow_value-in-Breaks.result
+    (state_of w c.args.context.now taken) k c.went_of-in-Breaks.ensures c.follow_value-in-Breaks.ensures.term
 
 pub returns-in-Breaks-clause-stands : goal.returns-in-Breaks-clause-stands
 returns-in-Breaks-clause-stands g c =
-    went-stood c.end_task-in-Breaks.result c.went_of-in-Breaks.result c.args.table.now c.args.root c.args.stack.now
-    c.end_task-in-Breaks.new.stack c.end_task-in-Breaks.new.point c.went_of-in-Breaks.ensures
-    c.end_task-in-Breaks.ensures.at c.end_task-in-Breaks.ensures.scoped c.requires.scoped
+    goes-on-weaker c.went_of-in-Breaks.result (λ k. k c.requires.scoped)
+    (went-stands c.follow_value-in-Breaks.result c.went_of-in-Breaks.result c.args.table.now c.args.root
+    c.args.stack.now c.follow_value-in-Breaks.new.stack c.follow_value-in-Breaks.new.point
+    c.went_of-in-Breaks.ensures c.follow_value-in-Breaks.ensures.at c.follow_value-in-Breaks.ensures.scoped)
 
 pub returns-in-Turns-clause-told : goal.returns-in-Turns-clause-told
 returns-in-Turns-clause-told g c = λ taken.
