@@ -22,9 +22,10 @@ use crate::expressions::assignment_below;
 use crate::limits::MOST_ROOM;
 use crate::parsed::{ParsedKey, ParsedMembers, ParsedProperties, ParsedProperty, deeper};
 use cdp_text::units::Units;
+use js_language::boxes::boxed;
 use js_language::parts::{
-    boxed_key, computed_key, method, number_key, properties_of, property, shorthand_property,
-    string_key, word_key,
+    computed_key, method, number_key, properties_of, property, shorthand_property, string_key,
+    word_key,
 };
 use js_lexer::strings::string_value;
 use js_lexer::token::{Token, TokenKind};
@@ -102,7 +103,7 @@ fn property_at<'t, 's>(
         return Ok((shorthand_property(name), 0, rest));
     }
     let (key, height, rest) = key_at(nodes, room, tokens)?;
-    let key = boxed_key(nodes.alloc(), key)?;
+    let key = boxed(nodes.alloc(), key)?;
     match after_key_of(rest) {
         Some(AfterKey::Colon) => valued_at(nodes, room, key, height, rest),
         Some(AfterKey::Parameters) => method_at(nodes, room, key, height, tokens, rest),

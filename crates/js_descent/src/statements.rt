@@ -26,11 +26,11 @@ use crate::expressions::expression_below;
 use crate::limits::MOST_ROOM;
 use crate::loops::{do_at, for_at, while_at};
 use crate::parsed::{Parsed, ParsedOptional, ParsedStatement, ParsedSubstatement, deeper};
+use js_language::boxes::boxed;
 use js_language::parts::block;
 use js_language::statements::{
-    block_statement, boxed, break_statement, continue_statement, debugger_statement,
-    empty_statement, expression_statement, if_else_statement, if_statement, return_statement,
-    throw_statement,
+    block_statement, break_statement, continue_statement, debugger_statement, empty_statement,
+    expression_statement, if_else_statement, if_statement, return_statement, throw_statement,
 };
 use js_lexer::token::{Token, TokenKind};
 use js_syntax::classes::statements::{End, First, ends_return, first_of};

@@ -12,6 +12,7 @@ ghost use Rattle.js_tree.specs.Views.{parameters_view, expressions, properties, 
 ghost use Rattle.js_language.specs.Boxes.{unboxed};
 ghost use Rattle.js_language.specs.Places.{plain, a_symbol, may_stand, node_of, in_braces, expression_places, expressions_places, properties_places, statements_places};
 
+use crate::boxes::boxed;
 use cdp_text::units::Units;
 use js_operators::operator::{AssignmentOperator, BinaryOperator, UnaryOperator, UpdateOperator};
 use js_tree::integer::SafeInteger;
@@ -19,13 +20,6 @@ use js_tree::names::Names;
 use js_tree::node::NodeId;
 use js_tree::tree::{ArrowParameters, Expr, Exprs, PropertyDefinitions, Stmts};
 use std::alloc::{AllocError, Global};
-
-/// An expression in memory of its own.
-pub fn boxed(alloc: Global, expression: Expr) -> Result<Box<Expr>, AllocError>
-    ensures { IfOk result (λ boxed. boxed.value ≡ expression) }
-{
-    Ok(Box::new(alloc, expression)?)
-}
 
 /// The expression in memory of its own, if there is one.
 pub(crate) fn value_of(boxed: Option<Box<Expr>>) -> Option<Expr>

@@ -11,6 +11,7 @@
 //!   nodes
 #![tactic(auto)]
 
+pub mod boxes;
 pub mod expressions;
 pub mod parts;
 pub mod statements;

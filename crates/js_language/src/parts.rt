@@ -2,7 +2,7 @@
 //!
 //! Each function makes one part: `view` says what it is, `places` where its nodes stand.
 
-ghost use Rattle.std.specs.Prelude.{◌≡◌, ◌∷◌, [], ◌++◌, IfOk, map, suc, max};
+ghost use Rattle.std.specs.Prelude.{◌≡◌, ◌∷◌, [], ◌++◌, map, suc, max};
 ghost use Rattle.std.specs.Option.{option_map};
 ghost use Rattle.js_lexer.specs.declared.token.TokenKind.TheVariants as kinds;
 ghost use Rattle.js_tree.specs.Trees as trees;
@@ -22,14 +22,6 @@ use js_tree::tree::{
     Block, Catch, Declarator, Declarators, Expr, Exprs, PropertyDefinition, PropertyDefinitions,
     PropertyName, Stmt, Stmts,
 };
-use std::alloc::{AllocError, Global};
-
-/// A key in memory of its own.
-pub fn boxed_key(alloc: Global, key: PropertyName) -> Result<Box<PropertyName>, AllocError>
-    ensures { IfOk result (λ boxed. boxed.value ≡ key) }
-{
-    Ok(Box::new(alloc, key)?)
-}
 
 /// A name or a reserved word.
 #[tactic(auto, using(js_tree::proofs::ViewLemmas::view_word_key, crate::proofs::PlaceLemmas::places_word_key))]

@@ -2,7 +2,7 @@
 //!
 //! Each function makes one form from its parts: `view` says which tree it is, `places` where its nodes stand.
 
-ghost use Rattle.std.specs.Prelude.{◌≡◌, ◌∷◌, [], IfOk, suc, max, codes};
+ghost use Rattle.std.specs.Prelude.{◌≡◌, ◌∷◌, [], suc, max, codes};
 ghost use Rattle.js_lexer.specs.declared.token.TokenKind.TheVariants as kinds;
 ghost use Rattle.js_tree.specs.Trees as trees;
 ghost use Rattle.js_language.specs.Flat.{a, an_identifier, flat_parameters, let_or_const};
@@ -16,14 +16,6 @@ use cdp_text::units::Units;
 use js_tree::names::Names;
 use js_tree::node::NodeId;
 use js_tree::tree::{Block, Catch, Declarators, Expr, Stmt, Stmts};
-use std::alloc::{AllocError, Global};
-
-/// A statement in memory of its own.
-pub fn boxed(alloc: Global, statement: Stmt) -> Result<Box<Stmt>, AllocError>
-    ensures { IfOk result (λ boxed. boxed.value ≡ statement) }
-{
-    Ok(Box::new(alloc, statement)?)
-}
 
 /// `{ body }`.
 #[tactic(auto, using(js_tree::proofs::ViewLemmas::view_block_statement, crate::proofs::PlaceLemmas::places_block_statement))]

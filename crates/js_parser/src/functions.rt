@@ -13,7 +13,7 @@ use js_descent::arrows::{arrow_of_one, arrow_rest};
 use js_descent::limits::MOST_ROOM;
 use js_descent::parsed::Parsed;
 use js_descent::primaries::function_at;
-use js_language::expressions::boxed;
+use js_language::boxes::boxed;
 use js_lexer::token::Token;
 use js_syntax::classes::expressions::{Start, start_of};
 use js_syntax::fault::ParseError;
