@@ -10,7 +10,7 @@ use crate::built_ins::{new_array, wrong_type};
 use crate::cells::{cut, make_text, put_element};
 use crate::errors::with_result;
 use crate::lists::{
-    Texts, elements_at, first_same, is_array, joined_parts, last_of, slice_places, values_between,
+    Texts, elements_at, first_same, is_array, items_between, joined_parts, last_of, slice_places,
 };
 use crate::seen::{Seen, units_at};
 use crate::shown::between;
@@ -148,7 +148,7 @@ fn array_slice<W: World>(
     let Some((from, to)) = slice_places(elements.len(), arguments) else {
         return Err(wrong_type(alloc, world, names));
     };
-    let part = Vec::from_slice(alloc, values_between(elements, from, to))?;
+    let part = Vec::from_slice(alloc, items_between(elements, from, to))?;
     new_array(world, names, Values::from_vec(part))
 }
 

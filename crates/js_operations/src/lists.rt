@@ -227,28 +227,16 @@ pub(crate) fn slice_places(count: usize, arguments: &[Value]) -> Option<(usize, 
     Some((from, to))
 }
 
-/// The values between two places.
-pub(crate) fn values_between(values: &[Value], from: usize, to: usize) -> &[Value]
-    requires first { from ≤ length values.now }
-    requires second { to ≤ length values.now }
-    ensures { result.now ≡ take (to - from) (drop from values.now) }
+/// The items between two places.
+pub(crate) fn items_between<T>(items: &[T], from: usize, to: usize) -> &[T]
+    requires first { from ≤ length items.now }
+    requires second { to ≤ length items.now }
+    ensures { result.now ≡ take (to - from) (drop from items.now) }
 {
     if to <= from {
         return &[];
     }
-    &values[from..to]
-}
-
-/// The units between two places.
-pub(crate) fn units_between(units: &[u16], from: usize, to: usize) -> &[u16]
-    requires first { from ≤ length units.now }
-    requires second { to ≤ length units.now }
-    ensures { result.now ≡ take (to - from) (drop from units.now) }
-{
-    if to <= from {
-        return &[];
-    }
-    &units[from..to]
+    &items[from..to]
 }
 
 /// Whether a text begins with another.

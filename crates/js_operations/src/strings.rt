@@ -8,7 +8,7 @@ use crate::action_end::ActionEnd;
 use crate::built_ins::wrong_type;
 use crate::cells::make_text;
 use crate::errors::with_result;
-use crate::lists::{first_occurrence, slice_places, unit_of, units_between};
+use crate::lists::{first_occurrence, items_between, slice_places, unit_of};
 use crate::seen::units_at;
 use cdp_text::units::Units;
 use js_heap::built_in::BuiltIn;
@@ -54,7 +54,7 @@ fn string_slice<W: World>(
     let Some((from, to)) = slice_places(units.len(), arguments) else {
         return Err(wrong_type(alloc, world, names));
     };
-    let part = Units::from_slice(alloc, units_between(units, from, to))?;
+    let part = Units::from_slice(alloc, items_between(units, from, to))?;
     make_text(world, names, part)
 }
 
