@@ -5,7 +5,7 @@ ghost use Rattle.js_semantics.specs.declared.form.Form.TheVariants as forms;
 ghost use Rattle.js_semantics.specs.declared.form.Reference.TheVariants as references;
 ghost use Rattle.js_world.specs.Names.{GoesOn};
 ghost use Rattle.js_compile.specs.Grown.{Keeps, Grows, HasForm, IsFunction};
-ghost use Rattle.js_compile.specs.Operations.{is_bare, bare_form, is_placed, placed_form, is_named, named_form};
+ghost use Rattle.js_compile.specs.Operations.{is_bare, bare_form, is_named, named_form};
 
 use crate::names::{members_of, number_of, parameters_of, slot_of, slots_of};
 use crate::nodes::{Entry, next_number};
@@ -34,14 +34,6 @@ pub fn bare(op: Op) -> Entry
     ensures { (ts : _) (t : _) → HasForm ts t result.op result.info (bare_form op) }
 {
     Entry { op, info: 0 }
-}
-
-/// What has the number of a node of its source.
-pub fn placed(op: Op, node: u32) -> Entry
-    requires { is_placed op ≡ true }
-    ensures { (ts : _) (t : _) → HasForm ts t result.op result.info (placed_form op node) }
-{
-    Entry { op, info: node }
 }
 
 /// What has the number of a name.

@@ -1,12 +1,9 @@
-//! What a world holds at an address.
+//! What a world holds at an address, as contracts say it, and the lists that it is made of.
 
-ghost use Rattle.std.specs.Prelude.{◌≡◌, ◌≤◌, [], ◌∷◌, ◌++◌, length, take, OnOk, OnErr};
-ghost use Rattle.js_heap.specs.Keys.{put_property, without_key};
-ghost use Rattle.js_heap.specs.Cells.{declared, bound, with_element};
+ghost use Rattle.std.specs.Prelude.{◌≡◌, ◌≤◌, [], length, take, OnOk, OnErr};
+ghost use Rattle.js_heap.specs.Cells.{with_element};
 
 use crate::built_in::{Code, ErrorClass};
-use crate::keys::index_of_key;
-use crate::properties::{key_place, name_place, new_place};
 use crate::value::{Addr, Value};
 use cdp_text::units::Units;
 use std::alloc::{AllocError, Global};
@@ -75,7 +72,7 @@ pub struct Property {
     pub configurable: bool,
 }
 
-/// The own properties of an object in order (ECMA-262, 10.1.11). Contracts see their list.
+/// The own properties of an object in order (ECMA-262, 10.1.11), in contracts: their list.
 #[derive(Debug, Drop)]
 pub struct Properties {
     items: Vec<Property>,
@@ -89,65 +86,6 @@ impl Model for Properties {
     ghost Value = { List Property };
 
     ghost view = { λ properties. properties.items.items };
-}
-
-impl Properties {
-    /// No property.
-    pub fn new(alloc: Global) -> Properties
-        ensures { result ≡ [] }
-    {
-        Properties {
-            items: Vec::new(alloc),
-        }
-    }
-
-    /// The properties in the memory of the vector, in its order.
-    pub fn from_vec(items: Vec<Property>) -> Properties
-        ensures { result ≡ items.items }
-    {
-        Properties { items }
-    }
-
-    /// The properties.
-    pub fn slice(&self) -> &[Property]
-        ensures { result.now ≡ self.now }
-    {
-        self.items.as_slice()
-    }
-
-    /// Gives the property of a key a value; a new one stands at its place in the order (ECMA-262, 10.1.9.2, 10.1.11).
-    #[tactic(auto, using(crate::proofs::PlaceLemmas::place_rules))]
-    pub fn put(&mut self, key: Units, value: Value) -> Result<(), AllocError>
-        ensures value { OnOk result (self.new ≡ put_property self.old key value) }
-        ensures kept { OnErr result (self.new ≡ self.old) }
-    {
-        let at = key_place(self.items.as_slice(), key.as_slice());
-        if at < self.items.len() {
-            self.items[at].value = value;
-            return Ok(());
-        }
-        let place = new_place(self.items.as_slice(), index_of_key(key.as_slice()));
-        let property = Property {
-            key,
-            value,
-            writable: true,
-            enumerable: true,
-            configurable: true,
-        };
-        self.items.insert(place, property)?;
-        Ok(())
-    }
-
-    /// Removes the property of a key, if there is one (10.1.10).
-    #[tactic(auto, using(crate::proofs::PlaceLemmas::place_rules))]
-    pub fn remove(&mut self, key: &[u16])
-        ensures { self.new ≡ without_key self.old key.now }
-    {
-        let at = key_place(self.items.as_slice(), key);
-        if at < self.items.len() {
-            self.items.remove(at);
-        }
-    }
 }
 
 /// A name of a scope, with its value once it is initialised (ECMA-262, 9.1.1.1).
@@ -196,30 +134,6 @@ impl Names {
     {
         self.items.as_slice()
     }
-
-    /// One more name, without a value.
-    pub fn declare(&mut self, name: Units, constant: bool) -> Result<(), AllocError>
-        ensures value { OnOk result (self.new ≡ self.old ++ declared name constant ∷ []) }
-        ensures kept { OnErr result (self.new ≡ self.old) }
-    {
-        self.items.push(Binding {
-            name,
-            constant,
-            value: None,
-        })?;
-        Ok(())
-    }
-
-    /// Gives a declared name a value (9.1.1.1.4).
-    #[tactic(auto, using(crate::proofs::PlaceLemmas::place_rules))]
-    pub fn bind(&mut self, name: &[u16], value: Value)
-        ensures { self.new ≡ bound self.old name.now value }
-    {
-        let at = name_place(self.items.as_slice(), name);
-        if at < self.items.len() {
-            self.items[at].value = Some(value);
-        }
-    }
 }
 
 /// What made a scope.
@@ -239,7 +153,7 @@ pub enum ScopeKind {
     Global,
 }
 
-/// What is at an address.
+/// What is at an address, in contracts. A running program keeps each cell in a form that is fast to reach.
 #[derive(Debug, Drop)]
 pub enum Cell {
     Object {

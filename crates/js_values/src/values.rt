@@ -1,10 +1,9 @@
 //! Values: their texts, types and truth.
 
-ghost use Rattle.std.specs.Prelude.{◌≡◌, option_copied};
-ghost use Rattle.js_heap.specs.Values.{units_at, type_text, object_type, is_truthy, is_same, same_address, class_text};
+ghost use Rattle.std.specs.Prelude.{◌≡◌};
+ghost use Rattle.js_heap.specs.Values.{units_at, type_text, is_truthy, is_same, same_address, class_text};
 
 use js_heap::built_in::ErrorClass;
-use js_heap::cell::Cell;
 use js_heap::keys::same_units;
 use js_heap::reading::Cells;
 use js_heap::value::{Addr, Value};
@@ -45,16 +44,6 @@ pub fn same_address(a: Addr, b: Addr) -> bool
         (Addr::Base(m), Addr::Base(n)) => m == n,
         (Addr::Scratch(m), Addr::Scratch(n)) => m == n,
         _ => false,
-    }
-}
-
-/// What `typeof` says of an object with this cell (13.5.3).
-pub fn object_type(cell: Option<&Cell>) -> &'static [u8]
-    ensures { result.now ≡ object_type (option_copied cell.entry) }
-{
-    match cell {
-        Some(Cell::Function { .. }) => b"function",
-        _ => b"object",
     }
 }
 

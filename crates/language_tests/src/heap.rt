@@ -2,8 +2,8 @@
 
 use crate::answers::{Question, answers};
 use cdp_text::units::{text_of, units_of};
-use js_heap::cell::Properties;
 use js_heap::value::Value;
+use js_world::properties::PropertyMap;
 use std::alloc::{AllocError, Global};
 use std::test::Fail;
 
@@ -16,18 +16,21 @@ const KEYS: [(&str, &str); 3] = [
 
 /// The keys of an object to which these were written, with a space behind each.
 pub(crate) fn keys_of(alloc: Global, written: &str) -> Result<String, AllocError> {
-    let mut properties = Properties::new(alloc);
+    let mut properties = PropertyMap::new(alloc);
     for key in written.split(' ') {
-        properties.put(units_of(alloc, key)?, Value::Null)?;
+        let units = units_of(alloc, key)?;
+        properties.put(units.as_slice(), Value::Null)?;
     }
     shown(alloc, &properties)
 }
 
-fn shown(alloc: Global, properties: &Properties) -> Result<String, AllocError> {
+fn shown(alloc: Global, properties: &PropertyMap) -> Result<String, AllocError> {
     let mut all = String::new(alloc);
-    for property in properties.slice() {
-        all.push_str(&text_of(alloc, property.key.as_slice())?)?;
-        all.push(' ')?;
+    for place in 0..properties.len() {
+        if let Some(property) = properties.get(place) {
+            all.push_str(&text_of(alloc, property.key.as_slice())?)?;
+            all.push(' ')?;
+        }
     }
     Ok(all)
 }

@@ -4,7 +4,7 @@ ghost use Rattle.std.specs.Prelude.{◌≡◌};
 ghost use Rattle.js_language.specs.Tokens.{head_of, is_word};
 ghost use Rattle.js_syntax.specs.Heads.{after_view};
 ghost use Rattle.js_syntax.specs.Parsing.{is_name_next};
-ghost use Rattle.js_syntax.specs.Reading.{after, ends_list, is_word_next};
+ghost use Rattle.js_syntax.specs.Reading.{after, ends_list};
 ghost use Rattle.js_syntax.specs.Views.{tokens_view};
 
 use crate::token::is_next;
@@ -68,16 +68,6 @@ pub(crate) fn is_word(kind: TokenKind) -> bool
         TokenKind::UnsignedRightShiftAssign | TokenKind::BitwiseAndAssign => false,
         TokenKind::BitwiseOrAssign | TokenKind::BitwiseXorAssign | TokenKind::Arrow => false,
         _ => true,
-    }
-}
-
-/// Whether the next token is a name or a reserved word.
-fn is_word_next(tokens: &[Token<'_>]) -> bool
-    ensures { result ≡ is_word_next (head_of (tokens_view tokens.now)) }
-{
-    match tokens {
-        [token, ..] => is_word(token.kind),
-        [] => false,
     }
 }
 

@@ -75,7 +75,7 @@ impl FewProperties {
     }
 
     /// One more property, at its place in the order.
-    #[tactic(auto, using(js_heap::proofs::PlaceLemmas::place_rules))]
+    #[tactic(auto, using(js_heap::proofs::PlaceLemmas::placed_place))]
     pub fn add(&mut self, property: Property) -> Result<(), AllocError>
         requires { has_key self.old property.key ≡ false }
         ensures value { OnOk result (self.new ≡ placed self.old property) }

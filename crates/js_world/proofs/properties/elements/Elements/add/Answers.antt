@@ -1,5 +1,5 @@
 use Rattle.std.proofs.Common.{◌∙◌, sym, ap, arith}
-use Rattle.js_heap.proofs.PlaceLemmas.{placed-place}
+use Rattle.js_heap.proofs.PlaceLemmas.{placed_place}
 use Rattle.js_heap.specs.Places.{new_place}
 use Rattle.std.specs.Prelude.{insert}
 use Rattle.js_world.proofs.PropertyKeyLemmas.{zip-insert}
@@ -41,5 +41,5 @@ returns-clause-value c =
     let place = ap (new_place c.self.inside.items.items) c.requires.index ∙ at in
     rw (← c.self.view_is)
     (e
-    ∙ sym (placed-place c.self.inside.items.items c.args.property
+    ∙ sym (placed_place c.self.inside.items.items c.args.property
     ∙ ap (λ i. insert c.self.inside.items.items i c.args.property) place))
