@@ -1,10 +1,9 @@
 //! Calls of the program: its words, files, faults, output and status.
 
-ghost use Rattle.std.specs.Prelude.{Some};
-
-use cdp_edge::{MemShelf, MemSink, Sink, SinkFault};
+use crate::piece_sink::PieceSink;
+use crate::rows::{each_call, shelf_of, words_of};
+use cdp_edge::MemSink;
 use command_line::debug_main;
-use std::alloc::{AllocError, Global};
 use std::process::Abort;
 use std::sync::Wait;
 use std::test::Fail;
@@ -609,61 +608,6 @@ const INPUTS: [(&str, &str, &str, &str, u8, &str, &str); 22] = [
     ("replay j a.js -", "", "", "", 2, "", USAGE),
 ];
 
-// The words of a text.
-pub(crate) fn words_of(alloc: Global, text: &str) -> Result<Vec<String>, AllocError> {
-    let mut words = Vec::new(alloc);
-    if text != "~" {
-        for word in text.split(' ') {
-            words.push(String::from_str(alloc, word)?)?;
-        }
-    }
-    Ok(words)
-}
-
-// The numbers that are digits of a text.
-fn digits_of(alloc: Global, text: &str) -> Result<Vec<u64>, AllocError> {
-    let mut numbers = Vec::new(alloc);
-    for digit in text.bytes() {
-        numbers.push(u64::from(digit.saturating_sub(b'0')))?;
-    }
-    Ok(numbers)
-}
-
-// A shelf of these files and one more.
-pub(crate) fn shelf_of(
-    alloc: Global,
-    files: &[(&str, &[u8])],
-    journal: &[u8],
-    fails: &str,
-) -> Result<MemShelf, AllocError> {
-    let mut all = Vec::new(alloc);
-    for (name, bytes) in files {
-        all.push((String::from_str(alloc, name)?, bytes.to_vec(alloc)?))?;
-    }
-    all.push((String::from_str(alloc, "refused")?, journal.to_vec(alloc)?))?;
-    Ok(MemShelf::new(all, digits_of(alloc, fails)?))
-}
-
-// Each call comes to its end, over these files and a journal of the name `refused`.
-pub(crate) fn each_call(
-    rt: &(impl Abort + Wait + AllocGlobal),
-    files: &[(&str, &[u8])],
-    journal: &[u8],
-    calls: &[(&str, &str, &str, &str, u8, &str, &str)],
-) -> Result<(), Fail> {
-    for (words, out_fails, err_fails, reads_fail, status, taken, said) in calls {
-        let list = words_of(rt.alloc(), words)?;
-        let mut shelf = shelf_of(rt.alloc(), files, journal, reads_fail)?;
-        let mut out = MemSink::new(digits_of(rt.alloc(), out_fails)?);
-        let mut err = MemSink::new(digits_of(rt.alloc(), err_fails)?);
-        let ended = debug_main(rt, rt.alloc(), &list, &mut shelf, &mut out, &mut err);
-        assert_eq!(rt; ended, *status, "of {words}");
-        assert_eq!(rt; out.taken(), taken.as_bytes(), "of {words}");
-        assert_eq!(rt; err.taken(), said.as_bytes(), "of {words}");
-    }
-    Ok(())
-}
-
 #[test]
 fn replays_come_to_their_ends(rt: HostRuntime) -> Result<(), Fail> {
     each_call(&rt, &FILES, b"", &REPLAYS)
@@ -758,35 +702,6 @@ fn each_refused(rt: &(impl Abort + Wait + AllocGlobal), lines: &[&[u8]]) -> Resu
 #[test]
 fn lines_are_refused(rt: HostRuntime) -> Result<(), Fail> {
     each_refused(&rt, &REFUSED)
-}
-
-// Takes at most so many bytes at each write, and counts the writes and the pieces that end with LF.
-#[derive(Drop)]
-pub(crate) struct PieceSink {
-    pub(crate) most: usize,
-    pub(crate) taken: Vec<u8>,
-    pub(crate) writes: u64,
-    pub(crate) lines: u64,
-}
-
-impl Sink for PieceSink {
-    ghost faults = { λ _. 0 };
-
-    ghost content = { λ sink. Some sink.taken.items };
-
-    fn write(&mut self, piece: &[u8]) -> Result<usize, SinkFault> {
-        let taken = piece.len().min(self.most).max(1).min(piece.len());
-        match self.taken.extend_from_slice(&piece[..taken]) {
-            Ok(()) => {
-                self.writes = self.writes.saturating_add(1);
-                if piece.last() == Some(&b'\n') {
-                    self.lines = self.lines.saturating_add(1);
-                }
-                Ok(taken)
-            }
-            Err(_) => Err(SinkFault::Memory),
-        }
-    }
 }
 
 #[test]

@@ -1,6 +1,6 @@
 //! The first messages of clients of a Node target, after their public sources, and a first look around.
 
-use crate::calls::{each_call, shelf_of, words_of};
+use crate::rows::{each_call, shelf_of, words_of};
 use cdp_edge::MemSink;
 use command_line::debug_main;
 use std::process::Abort;

@@ -1,6 +1,6 @@
 //! Breakpoints with conditions.
 
-use crate::calls::each_call;
+use crate::rows::each_call;
 use std::test::Fail;
 
 // ---- hits

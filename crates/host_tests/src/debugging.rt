@@ -1,6 +1,6 @@
 //! Debugged runs, replayed: breakpoints, steps, `debugger` statements, throws, and each command's answer.
 
-use crate::calls::each_call;
+use crate::rows::each_call;
 use std::test::Fail;
 
 // ---- breakpoints

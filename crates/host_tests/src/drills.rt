@@ -1,6 +1,6 @@
 //! Drills: a replay that is made from a number, and its summary.
 
-use crate::calls::each_call;
+use crate::rows::each_call;
 use std::test::Fail;
 
 const USAGE: &str = "usage: debug_host run/replay/serve/send/drill\n";

@@ -1,6 +1,6 @@
 //! Evaluations: values, texts that are no expression, effects, throws, and parameters.
 
-use crate::calls::each_call;
+use crate::rows::each_call;
 use std::test::Fail;
 
 // ---- values

@@ -1,6 +1,6 @@
 //! What a session with the domain Runtime is told of the run: prints, the throw that ended it, and its end.
 
-use crate::calls::each_call;
+use crate::rows::each_call;
 use std::test::Fail;
 
 // ---- prints

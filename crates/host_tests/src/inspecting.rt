@@ -1,6 +1,6 @@
 //! What a client is shown of values: by value, in previews, by calls of functions; and the domain Runtime.
 
-use crate::calls::each_call;
+use crate::rows::each_call;
 use std::test::Fail;
 
 // Its own step, 8 of the first statement and 3 of each function: the program arrives at the last line behind step 18.

@@ -1,6 +1,6 @@
 //! What a session holds of its evaluations, and their limits.
 
-use crate::calls::each_call;
+use crate::rows::each_call;
 use std::test::Fail;
 
 // ---- objects

@@ -2,6 +2,8 @@
 #![tactic(auto)]
 
 #[cfg(test)]
+mod bytes;
+#[cfg(test)]
 mod calls;
 #[cfg(test)]
 mod clients;
@@ -16,6 +18,8 @@ mod drills;
 #[cfg(test)]
 mod edges;
 #[cfg(test)]
+mod endings;
+#[cfg(test)]
 mod evaluations;
 #[cfg(test)]
 mod events;
@@ -28,7 +32,15 @@ mod limits;
 #[cfg(test)]
 mod objects;
 #[cfg(test)]
+mod overruns;
+#[cfg(test)]
+mod piece_sink;
+#[cfg(test)]
 mod refusals;
+#[cfg(test)]
+mod resumes;
+#[cfg(test)]
+mod rows;
 #[cfg(test)]
 mod runs;
 #[cfg(test)]

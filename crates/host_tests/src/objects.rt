@@ -1,6 +1,6 @@
 //! What a client sees of a program that stands still: frames with their scopes, and objects with their properties.
 
-use crate::calls::each_call;
+use crate::rows::each_call;
 use std::test::Fail;
 
 // A script with frames of two functions, a block and a `catch` in one another.

@@ -1,6 +1,6 @@
 //! The refusals of commands, once for each method that meets them, and which comes first where two hold.
 
-use crate::calls::each_call;
+use crate::rows::each_call;
 use std::alloc::{AllocError, Global};
 use std::test::Fail;
 

@@ -1,6 +1,7 @@
 //! Calls of the command `run`: words, files, faults, output and status.
 
-use crate::calls::{PieceSink, each_call, shelf_of, words_of};
+use crate::piece_sink::PieceSink;
+use crate::rows::{each_call, shelf_of, words_of};
 use cdp_edge::MemSink;
 use command_line::debug_main;
 use std::process::Abort;

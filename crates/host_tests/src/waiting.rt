@@ -1,6 +1,6 @@
 //! A program that waits until a client lets it begin, and where it stops then.
 
-use crate::calls::each_call;
+use crate::rows::each_call;
 use std::test::Fail;
 
 const USAGE: &str = "usage: debug_host run/replay/serve/send/drill\n";

@@ -1,6 +1,6 @@
 //! Evaluations in the frames of a program that stands still.
 
-use crate::calls::each_call;
+use crate::rows::each_call;
 use std::test::Fail;
 
 // ---- frames
