@@ -10,7 +10,7 @@ use cdp_text::position::Place;
 use cdp_text::units::Units;
 
 /// A breakpoint that a session has set.
-#[derive(Debug, Drop)]
+#[derive(Drop)]
 pub struct Breakpoint {
     /// Its id, `1:LINE:COLUMN:URL` or `4:LINE:COLUMN:SCRIPT`, with the position as it was asked for, counted from 0.
     pub id: Units,

@@ -26,7 +26,7 @@ use std::marker::Model;
 const MOST: usize = 1000;
 
 /// The breakpoints that a session has set, and whether they stop the program.
-#[derive(Debug, Drop)]
+#[derive(Drop)]
 pub struct Breakpoints {
     alloc: Global,
     list: Vec<Breakpoint>,

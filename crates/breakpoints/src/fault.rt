@@ -7,7 +7,7 @@ use cdp_text::units::Units;
 use std::alloc::{AllocError, AllocFailed};
 
 /// Why a breakpoint isn't set, in the order in which the causes are looked for.
-#[derive(Debug, Drop)]
+#[derive(Drop)]
 pub enum AddFault {
     /// No break location of the script is at the place or behind it.
     Unresolved,

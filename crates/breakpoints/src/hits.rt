@@ -4,7 +4,7 @@ use crate::breakpoint::Breakpoint;
 use cdp_text::position::Place;
 
 /// The breakpoints at a place that are still to come, in the order in which they were set.
-#[derive(Clone, Copy, Debug)]
+#[derive(Clone, Copy)]
 pub struct Hits<'b> {
     pub(crate) left: &'b [Breakpoint],
     pub(crate) place: Place,

@@ -11,7 +11,7 @@ use std::marker::Model;
 const GROUPS: usize = 4096;
 
 /// Groups of places. One that isn't marked has none of the places whose groups were marked.
-#[derive(Debug, Drop)]
+#[derive(Drop)]
 pub(crate) struct PlaceFilter {
     alloc: Global,
     // 1 for a group that is marked, else 0; none until one is marked

@@ -12,7 +12,7 @@ use std::marker::Model;
 
 /// Places among which one is found in logarithmic time; most that aren't among them are known by one look. Contracts see their
 /// list.
-#[derive(Debug, Drop)]
+#[derive(Drop)]
 pub(crate) struct PlaceIndex {
     places: BTreeSet<Place>,
     filter: PlaceFilter,

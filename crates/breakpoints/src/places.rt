@@ -6,7 +6,7 @@ use cdp_text::position::Place;
 use std::marker::Model;
 
 /// Places of scripts, in order. Contracts see their list.
-#[derive(Debug, Drop)]
+#[derive(Drop)]
 pub struct Places {
     items: Vec<Place>,
 }

@@ -11,7 +11,7 @@ use std::alloc::{AllocError, Global};
 use std::marker::Model;
 
 /// The break locations of scripts, a list for each, in the order of the scripts.
-#[derive(Debug, Drop)]
+#[derive(Drop)]
 pub struct ScriptSpots {
     lists: Vec<Vec<Spot>>,
 }

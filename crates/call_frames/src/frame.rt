@@ -5,7 +5,7 @@ use cdp_text::position::Place;
 use js_heap::value::Value;
 
 /// An active frame.
-#[derive(Debug, Drop)]
+#[derive(Drop)]
 pub struct CallFrame<'m> {
     /// The name of its function; the script in the bottom frame has the empty one.
     pub name: &'m [u16],

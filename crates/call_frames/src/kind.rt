@@ -1,7 +1,7 @@
 //! Kinds of scopes.
 
 /// How a scope of a frame is listed.
-#[derive(Clone, Copy, Debug, PartialEq, Eq)]
+#[derive(Clone, Copy, PartialEq, Eq)]
 pub enum ListedKind {
     /// A block or a loop.
     Block,

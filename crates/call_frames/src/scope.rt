@@ -4,7 +4,7 @@ use crate::kind::ListedKind;
 use js_heap::value::Addr;
 
 /// A scope of a frame.
-#[derive(Clone, Copy, Debug)]
+#[derive(Clone, Copy)]
 pub struct Scope<'m> {
     /// How it is listed.
     pub kind: ListedKind,

@@ -128,7 +128,7 @@ impl Watch<'_> {
 }
 
 /// How many steps were made, and how many calls were active where the last of them stopped the program, if it did.
-#[derive(Clone, Copy, Debug)]
+#[derive(Clone, Copy)]
 pub(crate) struct Advanced {
     pub(crate) steps: u64,
     pub(crate) stopped: Option<usize>,

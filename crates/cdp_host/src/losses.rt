@@ -3,7 +3,7 @@
 use isolation::Loss;
 
 /// A session that was lost, and why.
-#[derive(Clone, Copy, Debug, PartialEq, Eq)]
+#[derive(Clone, Copy, PartialEq, Eq)]
 pub struct SessionLost {
     /// Its number.
     pub session: u64,

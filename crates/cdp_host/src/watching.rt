@@ -18,7 +18,7 @@ use std::alloc::AllocError;
 use stepping::Arrival;
 
 /// What a step tells of its program.
-#[derive(Debug, Drop)]
+#[derive(Drop)]
 pub(crate) struct Step {
     /// Where the program arrived.
     pub(crate) arrival: Arrival,

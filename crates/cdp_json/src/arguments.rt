@@ -8,7 +8,7 @@ use cdp_text::units::Units;
 use std::marker::Model;
 
 /// What a function is called with.
-#[derive(Debug, Drop)]
+#[derive(Drop)]
 pub enum Argument {
     /// A value, whose numbers are integers from -(2^53-1) to 2^53-1. The members of its objects are in ascending order of
     /// the UTF-8 bytes of their names.
@@ -20,7 +20,7 @@ pub enum Argument {
 }
 
 /// The arguments of a call, in order.
-#[derive(Debug, Drop)]
+#[derive(Drop)]
 pub struct Arguments {
     items: Vec<Argument>,
 }

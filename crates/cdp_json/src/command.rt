@@ -17,7 +17,7 @@ use serde_json::Value;
 use std::alloc::Global;
 
 /// What a text is read as.
-#[derive(Debug, Drop)]
+#[derive(Drop)]
 pub enum Reading {
     /// A command with its parameters.
     Command {

@@ -5,7 +5,7 @@ use cdp_text::position::Pos;
 use cdp_text::units::Units;
 
 /// A position of a script, as a command names it.
-#[derive(Debug, Drop)]
+#[derive(Drop)]
 pub struct Location {
     /// The id of the script.
     pub script_id: Units,
@@ -14,7 +14,7 @@ pub struct Location {
 }
 
 /// At which throws a session wants the program to stop.
-#[derive(Clone, Copy, Debug, PartialEq, Eq)]
+#[derive(Clone, Copy, PartialEq, Eq)]
 pub enum ExceptionPauses {
     /// At none.
     Never,
@@ -27,7 +27,7 @@ pub enum ExceptionPauses {
 /// A text that is to be evaluated, the group of the objects that it comes to, and how its result is described. An absent
 /// `throwOnSideEffect` is true, the other flags are false where they are absent. `silent` must be a truth value where it
 /// is given, but has no effect, so it isn't kept.
-#[derive(Debug, Drop)]
+#[derive(Drop)]
 pub struct Evaluation {
     pub expression: Units,
     pub object_group: Option<Units>,
@@ -38,7 +38,7 @@ pub struct Evaluation {
 
 /// A function that is to be called with these arguments, the object that is its `this`, the group of the objects that the
 /// call comes to, and how its result is described. Absent arguments are none, and flags are read as an evaluation's.
-#[derive(Debug, Drop)]
+#[derive(Drop)]
 pub struct FunctionCall {
     pub function_declaration: Units,
     pub object_id: Option<Units>,
@@ -50,7 +50,7 @@ pub struct FunctionCall {
 }
 
 /// The parameters of a command, one variant for each method. An absent column is 0, and an empty condition is none.
-#[derive(Debug, Drop)]
+#[derive(Drop)]
 pub enum Params {
     DebuggerEnable,
     DebuggerDisable,

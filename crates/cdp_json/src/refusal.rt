@@ -7,7 +7,7 @@ use cdp_text::units::{Units, ascii};
 use std::alloc::{AllocError, Global};
 
 /// What the scratch heap of evaluations is limited in.
-#[derive(Clone, Copy, Debug, PartialEq, Eq)]
+#[derive(Clone, Copy, PartialEq, Eq)]
 pub enum ScratchLimit {
     /// The cells that evaluations made.
     Cells,
@@ -16,7 +16,7 @@ pub enum ScratchLimit {
 }
 
 /// Why a command is refused, with what its message names.
-#[derive(Debug, Drop)]
+#[derive(Drop)]
 pub enum Refusal {
     /// The text isn't JSON, or is nested too deep.
     NotJson,

@@ -7,7 +7,7 @@ ghost use Rattle.cdp_json.specs.Views.{json_view, list_view, object_view, member
 use cdp_text::units::Units;
 
 /// A JSON value. Its texts are UTF-16 units, its numbers integers.
-#[derive(Debug, Drop)]
+#[derive(Drop)]
 #[cycle(value)]
 pub enum Json {
     /// `null`.
@@ -25,21 +25,21 @@ pub enum Json {
 }
 
 /// The values of a list, in order.
-#[derive(Debug, Drop)]
+#[derive(Drop)]
 #[cycle(value)]
 pub struct JsonList {
     pub(crate) items: Vec<Json>,
 }
 
 /// The members of an object, in the order in which they were given.
-#[derive(Debug, Drop)]
+#[derive(Drop)]
 #[cycle(value)]
 pub struct JsonObject {
     pub(crate) members: Vec<Member>,
 }
 
 /// A key with its value.
-#[derive(Debug, Drop)]
+#[derive(Drop)]
 #[cycle(value)]
 pub struct Member {
     /// The key.

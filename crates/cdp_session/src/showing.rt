@@ -8,7 +8,7 @@ use remote_objects::Detail;
 
 /// How the value to which an evaluation comes is to be described: by value, or else with a handle in this group or in none, and
 /// with or without a preview.
-#[derive(Debug, Drop)]
+#[derive(Drop)]
 pub(crate) struct Showing {
     pub(crate) group: Option<Units>,
     pub(crate) by_value: bool,

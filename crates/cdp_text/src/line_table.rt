@@ -7,7 +7,7 @@ use std::alloc::{AllocError, Global};
 use std::marker::Model;
 
 /// Where the lines of one text begin. Each call takes the text that the table was made of.
-#[derive(Debug, Drop)]
+#[derive(Drop)]
 pub struct LineTable {
     starts: Vec<usize>,
 }

@@ -23,7 +23,7 @@ pub struct Pos {
 }
 
 /// A position in one of several scripts. Ordered by script, then position.
-#[derive(Clone, Copy, Debug, PartialEq, Eq, PartialOrd, Ord)]
+#[derive(Clone, Copy, PartialEq, Eq, PartialOrd, Ord)]
 pub struct Place {
     /// The number of the script.
     pub script: u32,

@@ -9,7 +9,7 @@ use std::alloc::{AllocError, Global};
 use std::marker::Model;
 
 /// A text of UTF-16 code units. It may hold surrogates that have no partner.
-#[derive(Debug, Drop)]
+#[derive(Drop)]
 pub struct Units {
     items: Vec<u16>,
 }

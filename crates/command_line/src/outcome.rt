@@ -3,7 +3,7 @@
 use script_files::Refusal;
 
 /// How a command ends, with the name of the file whose fault that is.
-#[derive(Debug, Drop)]
+#[derive(Drop)]
 pub(crate) enum Outcome<'w> {
     /// A run by its last script; a replay with its last line.
     Done,

@@ -1,7 +1,7 @@
 //! What became of a session.
 
 /// Why a session was lost. What wasn't taken of its texts is lost with it.
-#[derive(Clone, Copy, Debug, PartialEq, Eq)]
+#[derive(Clone, Copy, PartialEq, Eq)]
 pub enum Loss {
     /// More texts would have waited for its client than may, or more bytes of them.
     Overrun,
@@ -10,7 +10,7 @@ pub enum Loss {
 }
 
 /// What became of a session of some number, which no other session ever has.
-#[derive(Debug, Drop)]
+#[derive(Drop)]
 pub enum Seat<X> {
     /// It is attached.
     Attached(X),

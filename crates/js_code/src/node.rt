@@ -7,7 +7,7 @@ use js_world::names::NameId;
 use js_world::stored::{Slot, Slots};
 
 /// A node: what it does, and where its parts stand in the table's list of parts.
-#[derive(Clone, Copy, Debug, PartialEq, Eq)]
+#[derive(Clone, Copy, PartialEq, Eq)]
 pub struct Node {
     pub op: Op,
     /// The number of a name, of a node of the source, of a constant, or of an entry, as `op` says.
@@ -21,14 +21,14 @@ pub struct Node {
 }
 
 /// A script, by its number from 1 on, and its top-level names.
-#[derive(Debug, Drop)]
+#[derive(Drop)]
 pub struct ScriptEntry {
     pub number: u32,
     pub names: Slots,
 }
 
 /// A `for` with names: its node in the source, and whether the names are constant.
-#[derive(Debug, Drop)]
+#[derive(Drop)]
 pub struct ForEntry {
     pub node: u32,
     pub constant: bool,
@@ -36,14 +36,14 @@ pub struct ForEntry {
 }
 
 /// A `for .. of`: its node in the source, and its name.
-#[derive(Clone, Copy, Debug, PartialEq, Eq)]
+#[derive(Clone, Copy, PartialEq, Eq)]
 pub struct ForOfEntry {
     pub node: u32,
     pub slot: Slot,
 }
 
 /// A call: its place, the node of the statement that it stands in, and the name or key of its callee.
-#[derive(Clone, Copy, Debug, PartialEq, Eq)]
+#[derive(Clone, Copy, PartialEq, Eq)]
 pub struct CallEntry {
     pub place: Mark,
     pub statement: u32,
@@ -51,14 +51,14 @@ pub struct CallEntry {
 }
 
 /// A member of an object literal: a fixed key, or a key that is computed and stands before the value.
-#[derive(Clone, Copy, Debug, PartialEq, Eq)]
+#[derive(Clone, Copy, PartialEq, Eq)]
 pub enum MemberEntry {
     Keyed(NameId),
     Computed,
 }
 
 /// A function's code; its body and the functions that the body declares are the parts of its node.
-#[derive(Debug, Drop)]
+#[derive(Drop)]
 pub struct FunctionEntry {
     pub code: Code,
     /// Its node in the source.
@@ -74,7 +74,7 @@ pub struct FunctionEntry {
 }
 
 /// A source: the node of its tree, and by the numbers of its own nodes the functions' entries, counted from 1; 0 is none.
-#[derive(Debug, Drop)]
+#[derive(Drop)]
 pub struct SourceEntry {
     pub source: Source,
     pub root: u32,

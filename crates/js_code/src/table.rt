@@ -10,7 +10,7 @@ use js_world::stored::Slots;
 use std::alloc::Global;
 
 /// The nodes of all sources of a program, with the parts that they have and the entries that they name by number.
-#[derive(Debug, Drop)]
+#[derive(Drop)]
 pub struct NodeTable {
     pub nodes: Vec<Node>,
     /// Parts of nodes, by their numbers in `nodes`.

@@ -3,7 +3,7 @@
 use js_heap::value::Value;
 
 /// A throw that stands: its value, and whether no catch will take it.
-#[derive(Clone, Copy, Debug, PartialEq, Eq)]
+#[derive(Clone, Copy, PartialEq, Eq)]
 pub struct Thrown {
     pub value: Value,
     pub uncaught: bool,

@@ -10,7 +10,7 @@ use std::alloc::{AllocError, Global};
 use std::marker::Model;
 
 /// Values in order. Contracts see their list.
-#[derive(Debug, Drop)]
+#[derive(Drop)]
 pub struct Values {
     items: Vec<Value>,
 }
@@ -63,7 +63,7 @@ impl Values {
 }
 
 /// An own property (ECMA-262, 6.1.7.1).
-#[derive(Debug, Drop)]
+#[derive(Drop)]
 pub struct Property {
     pub key: Units,
     pub value: Value,
@@ -73,7 +73,7 @@ pub struct Property {
 }
 
 /// The own properties of an object in order (ECMA-262, 10.1.11), in contracts: their list.
-#[derive(Debug, Drop)]
+#[derive(Drop)]
 pub struct Properties {
     items: Vec<Property>,
 }
@@ -89,7 +89,7 @@ impl Model for Properties {
 }
 
 /// A name of a scope, with its value once it is initialised (ECMA-262, 9.1.1.1).
-#[derive(Debug, Drop)]
+#[derive(Drop)]
 pub struct Binding {
     pub name: Units,
     pub constant: bool,
@@ -97,7 +97,7 @@ pub struct Binding {
 }
 
 /// The names of a scope in order. Contracts see their list.
-#[derive(Debug, Drop)]
+#[derive(Drop)]
 pub struct Names {
     items: Vec<Binding>,
 }
@@ -137,7 +137,7 @@ impl Names {
 }
 
 /// What made a scope.
-#[derive(Clone, Copy, Debug, PartialEq, Eq)]
+#[derive(Clone, Copy, PartialEq, Eq)]
 pub enum ScopeKind {
     /// A block or a loop (ECMA-262, 14.2, 14.7).
     Block,
@@ -154,7 +154,7 @@ pub enum ScopeKind {
 }
 
 /// What is at an address, in contracts. A running program keeps each cell in a form that is fast to reach.
-#[derive(Debug, Drop)]
+#[derive(Drop)]
 pub enum Cell {
     Object {
         properties: Properties,

@@ -4,7 +4,7 @@ use crate::value::Value;
 use cdp_text::units::Units;
 
 /// A change of one cell.
-#[derive(Debug, Drop)]
+#[derive(Drop)]
 pub enum Change {
     /// Of an object or an error: the property of this key has this value.
     Put { key: Units, value: Value },

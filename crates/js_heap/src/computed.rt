@@ -6,7 +6,7 @@ use crate::value::{Addr, Value};
 use cdp_text::units::Units;
 
 /// The result of an operation: a value, a text whose cell isn't made yet, or an error that isn't made yet.
-#[derive(Debug, Drop)]
+#[derive(Drop)]
 pub enum Computed {
     Value(Value),
     Text(Units),
@@ -14,7 +14,7 @@ pub enum Computed {
 }
 
 /// What writing or deleting a property comes to: the change of one cell, or an error that isn't made yet.
-#[derive(Debug, Drop)]
+#[derive(Drop)]
 pub enum Written {
     Change(Addr, Change),
     Refused(ErrorClass, Units),

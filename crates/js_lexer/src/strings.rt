@@ -17,7 +17,7 @@ use std::alloc::{AllocError, Global};
 
 /// A character of a string literal: how many units it has, and the code point that it stands for.
 /// A line continuation stands for none.
-#[derive(Clone, Copy, Debug)]
+#[derive(Clone, Copy)]
 struct Character {
     len: usize,
     value: Option<u32>,

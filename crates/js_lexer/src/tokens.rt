@@ -82,7 +82,7 @@ fn token(units: &[u16]) -> Option<(TokenKind, usize)>
 }
 
 /// What is left of a source.
-#[derive(Clone, Copy, Debug)]
+#[derive(Clone, Copy)]
 pub struct Tokens<'s> {
     left: &'s [u16],
     at: usize,

@@ -7,7 +7,7 @@ use js_semantics::form::{Mark, Source};
 use std::marker::Model;
 
 /// An active call, or the script as the bottom one. Contracts see the definition's frame.
-#[derive(Debug, Drop)]
+#[derive(Drop)]
 pub struct Frame {
     function: Option<Addr>,
     source: Source,

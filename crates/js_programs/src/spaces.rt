@@ -6,7 +6,7 @@ ghost use Rattle.js_programs.specs.Spaces.{address};
 use js_heap::value::Addr;
 
 /// Where the cells of literals stand.
-#[derive(Clone, Copy, Debug)]
+#[derive(Clone, Copy)]
 pub enum Space {
     /// In the program's heap.
     Program,

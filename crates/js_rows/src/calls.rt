@@ -38,7 +38,7 @@ use js_world::world::World;
 use std::alloc::{AllocError, Global};
 
 /// What a call needs of a function's cell.
-#[derive(Debug, Drop)]
+#[derive(Drop)]
 pub struct Callee {
     pub code: Code,
     pub name: FunctionName,
@@ -135,7 +135,7 @@ fn callee_of(alloc: Global, cell: Option<&Stored>) -> Result<Option<Callee>, All
 // ---- entering
 
 /// A function of a source that is entered, with its `this`.
-#[derive(Debug, Drop)]
+#[derive(Drop)]
 pub struct Entry {
     pub source: Source,
     pub function: Addr,

@@ -39,7 +39,7 @@ use js_world::world::World;
 use std::alloc::Global;
 
 /// The table of steps: one row for each form (see [`Rows`]).
-#[derive(Clone, Copy, Debug)]
+#[derive(Clone, Copy)]
 pub struct Table;
 
 /// What is reduced most often.

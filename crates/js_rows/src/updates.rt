@@ -41,7 +41,7 @@ use js_world::world::World;
 use std::alloc::{AllocError, Global};
 
 /// The old value and the new one, or an error that isn't made yet.
-#[derive(Debug, Drop)]
+#[derive(Drop)]
 pub enum Update {
     To(Value, Value),
     Fails(ErrorClass, Units),

@@ -11,14 +11,14 @@ use js_tree::names::Names;
 use std::marker::Model;
 
 /// Which source: a script by its number, or one that an evaluation kept.
-#[derive(Clone, Copy, Debug, PartialEq, Eq)]
+#[derive(Clone, Copy, PartialEq, Eq)]
 pub enum Source {
     Script(u32),
     Kept(Addr),
 }
 
 /// A place in a source: its beginning, the start of a node, or so many units before the end of a node.
-#[derive(Clone, Copy, Debug, PartialEq, Eq)]
+#[derive(Clone, Copy, PartialEq, Eq)]
 pub enum Mark {
     Beginning,
     Start(u32),
@@ -26,14 +26,14 @@ pub enum Mark {
 }
 
 /// A place in one of the sources.
-#[derive(Clone, Copy, Debug, PartialEq, Eq)]
+#[derive(Clone, Copy, PartialEq, Eq)]
 pub struct Spot {
     pub source: Source,
     pub mark: Mark,
 }
 
 /// How a statement ends that doesn't end normally (ECMA-262, 6.2.4). A throw has the place of its fresh raise.
-#[derive(Clone, Copy, Debug, PartialEq, Eq)]
+#[derive(Clone, Copy, PartialEq, Eq)]
 pub enum Completion {
     Throws(Value, Spot),
     Returns(Value),
@@ -44,7 +44,7 @@ pub enum Completion {
 /// What a name, a property with a fixed key, or one with a computed key refers to (6.2.5).
 ///
 /// Its parts are none, the object, or the object and the key.
-#[derive(Debug, Drop)]
+#[derive(Drop)]
 pub enum Reference {
     Name(Units),
     Member(Units),
@@ -52,7 +52,7 @@ pub enum Reference {
 }
 
 /// A function's code but for its body and the functions that the body declares.
-#[derive(Debug, Drop)]
+#[derive(Drop)]
 pub struct FunctionForm {
     pub code: Code,
     pub node: u32,
@@ -64,14 +64,14 @@ pub struct FunctionForm {
 }
 
 /// A member of an object literal: a fixed key, or a key that is computed and stands before the value.
-#[derive(Debug, Drop)]
+#[derive(Drop)]
 pub enum Member {
     Keyed(Units),
     Computed,
 }
 
 /// The members of an object literal in order. Contracts see their list.
-#[derive(Debug, Drop)]
+#[derive(Drop)]
 pub struct Members {
     items: Vec<Member>,
 }
@@ -102,7 +102,7 @@ impl Members {
 }
 
 /// Where a loop is: before its initialiser's end, before the body of a `do`, at its test, in its body, at its update.
-#[derive(Clone, Copy, Debug, PartialEq, Eq)]
+#[derive(Clone, Copy, PartialEq, Eq)]
 pub enum Stage {
     First,
     Doing,
@@ -112,7 +112,7 @@ pub enum Stage {
 }
 
 /// What a part of a tree is, apart from its own parts.
-#[derive(Debug, Drop)]
+#[derive(Drop)]
 pub enum Form {
     /// The scripts one after another.
     Scripts,

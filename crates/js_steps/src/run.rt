@@ -44,7 +44,7 @@ pub trait Asks {
 }
 
 /// Why a run stops.
-#[derive(Debug, Drop)]
+#[derive(Drop)]
 pub enum Why {
     /// It was asked to.
     Asked,
@@ -65,7 +65,7 @@ pub enum Why {
 }
 
 /// How many steps a run made, and why it stops.
-#[derive(Debug, Drop)]
+#[derive(Drop)]
 pub struct Ran {
     pub steps: u64,
     pub why: Why,

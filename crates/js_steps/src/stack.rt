@@ -11,7 +11,7 @@ use std::alloc::{AllocError, Global};
 use std::marker::Model;
 
 /// Tasks, seen from the innermost one, each with its values and what it owns.
-#[derive(Debug, Drop)]
+#[derive(Drop)]
 pub struct Stack {
     /// From the outermost one.
     tasks: Vec<Task>,

@@ -5,14 +5,14 @@ use js_heap::value::Value;
 use js_semantics::form::Spot;
 
 /// How a run ended: with a value, or by a throw that no `catch` took.
-#[derive(Clone, Copy, Debug, PartialEq, Eq)]
+#[derive(Clone, Copy, PartialEq, Eq)]
 pub enum Finish {
     Ended(Value),
     Threw(Value, Spot),
 }
 
 /// What a step tells.
-#[derive(Debug, Drop)]
+#[derive(Drop)]
 pub enum Stepped {
     Went,
     /// A throw was raised, and stands.

@@ -6,7 +6,7 @@ ghost use Rattle.js_syntax.specs.Context.{context_view};
 
 /// What a statement stands in, which says where `continue` and `break` (ECMA-262, 14.8 and 14.9)
 /// and `return` (14.10) may stand.
-#[derive(Clone, Copy, Debug)]
+#[derive(Clone, Copy)]
 pub struct Context {
     /// In a loop of its function.
     pub in_loop: bool,

@@ -14,7 +14,7 @@ use std::marker::Model;
 
 /// The spans of the nodes made so far, by their numbers, and the memory that trees are made in.
 /// Contracts see a list of spans.
-#[derive(Debug, Drop)]
+#[derive(Drop)]
 pub struct Nodes {
     alloc: Global,
     spans: Vec<Span>,

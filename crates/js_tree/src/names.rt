@@ -6,7 +6,7 @@ use cdp_text::units::Units;
 use std::marker::Model;
 
 /// The names of parameters, in order. Contracts see a list of the names' code units.
-#[derive(Debug, Drop)]
+#[derive(Drop)]
 pub struct Names {
     items: Vec<Units>,
 }

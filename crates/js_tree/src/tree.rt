@@ -9,7 +9,7 @@ use cdp_text::units::Units;
 use js_operators::operator::{AssignmentOperator, BinaryOperator, UnaryOperator, UpdateOperator};
 
 /// The parameters of an arrow function (ECMA-262, 15.3, ArrowParameters).
-#[derive(Debug, Drop)]
+#[derive(Drop)]
 pub enum ArrowParameters {
     /// One name without parentheses.
     Name(Units),

@@ -18,7 +18,7 @@ use js_heap::change::Counted;
 use js_heap::value::Value;
 
 /// A change of one cell.
-#[derive(Clone, Copy, Debug)]
+#[derive(Clone, Copy)]
 pub enum CellChange<'a> {
     /// Of an object or an error: the property of this key has this value.
     Put { key: &'a [u16], value: Value },

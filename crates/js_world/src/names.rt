@@ -9,7 +9,7 @@ use std::collections::HashMap;
 use std::marker::Model;
 
 /// The number of a name in a table of names.
-#[derive(Clone, Copy, Debug, PartialEq, Eq)]
+#[derive(Clone, Copy, PartialEq, Eq)]
 pub struct NameId {
     pub number: u32,
 }

@@ -22,7 +22,7 @@ use std::marker::Model;
 /// The own properties of an object in order (ECMA-262, 10.1.11). Contracts see their list.
 ///
 /// To find a key, or to add a key that is no array index, takes as long in an object of many properties as in one of few.
-#[derive(Debug, Drop)]
+#[derive(Drop)]
 pub struct PropertyMap {
     alloc: Global,
     form: Form,
@@ -31,7 +31,7 @@ pub struct PropertyMap {
 /// Up to this many properties stand in a plain list, in which the keys are compared one after another.
 const FEW: usize = 8;
 
-#[derive(Debug, Drop)]
+#[derive(Drop)]
 enum Form {
     Few(FewProperties),
     Many(Box<ManyProperties>),

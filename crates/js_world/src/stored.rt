@@ -13,7 +13,7 @@ use std::alloc::AllocError;
 use std::marker::Model;
 
 /// A name of a scope, with its value once it is initialised (ECMA-262, 9.1.1.1).
-#[derive(Clone, Copy, Debug, PartialEq, Eq)]
+#[derive(Clone, Copy, PartialEq, Eq)]
 pub struct Slot {
     pub name: NameId,
     pub constant: bool,
@@ -21,7 +21,7 @@ pub struct Slot {
 }
 
 /// The names of a scope in order. Contracts see their list.
-#[derive(Debug, Drop)]
+#[derive(Drop)]
 pub struct Slots {
     items: Vec<Slot>,
 }
@@ -71,7 +71,7 @@ impl Slots {
 }
 
 /// The name of a function (ECMA-262, 20.2.4.2). A computed key may be a text that no table has.
-#[derive(Debug, Drop)]
+#[derive(Drop)]
 pub enum FunctionName {
     Empty,
     Known(NameId),
@@ -79,7 +79,7 @@ pub enum FunctionName {
 }
 
 /// A function; `this` is the enclosing one of an arrow function, else undefined.
-#[derive(Debug, Drop)]
+#[derive(Drop)]
 pub struct FunctionCell {
     pub code: Code,
     pub name: FunctionName,
@@ -89,7 +89,7 @@ pub struct FunctionCell {
 }
 
 /// What is at an address.
-#[derive(Debug, Drop)]
+#[derive(Drop)]
 pub enum Stored {
     Object {
         properties: PropertyMap,
@@ -115,7 +115,7 @@ pub enum Stored {
 }
 
 /// A name that was found: its scope, its place there, and its binding's flag and value.
-#[derive(Clone, Copy, Debug, PartialEq, Eq)]
+#[derive(Clone, Copy, PartialEq, Eq)]
 pub struct FoundSlot {
     pub scope: Addr,
     pub place: usize,

@@ -8,7 +8,7 @@ use js_semantics::form::Mark;
 use std::alloc::AllocError;
 
 /// A mark of a script's tree, and what stands there.
-#[derive(Clone, Copy, Debug, PartialEq, Eq)]
+#[derive(Clone, Copy, PartialEq, Eq)]
 pub struct Marked {
     pub mark: Mark,
     pub kind: SpotKind,

@@ -12,7 +12,7 @@ pub const MOST_HELD: usize = 100_000;
 pub const MOST_MADE: u64 = 1 << 62;
 
 /// Why no handle is made.
-#[derive(Debug, Drop)]
+#[derive(Drop)]
 pub enum HandleFault {
     /// As many handles are held, or else were made, as may be; `count` is how many that is.
     Full { count: u64 },

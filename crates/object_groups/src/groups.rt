@@ -11,7 +11,7 @@ use std::alloc::{AllocError, Global};
 use std::collections::{BTreeMap, BTreeSet};
 
 /// The numbers of the handles of each group by its name. A group without handles has no entry.
-#[derive(Debug, Drop)]
+#[derive(Drop)]
 pub struct Groups {
     sets: BTreeMap<Vec<u16>, BTreeSet<u64>>,
 }

@@ -7,7 +7,7 @@ use cdp_text::units::Units;
 use js_heap::value::Addr;
 
 /// What a handle stands for: an object, or a scope as an object of its bindings.
-#[derive(Clone, Copy, Debug, PartialEq, Eq)]
+#[derive(Clone, Copy, PartialEq, Eq)]
 pub enum Target {
     /// The object whose cell is at this address.
     Object(Addr),
@@ -28,7 +28,7 @@ impl Target {
 }
 
 /// A numbered target.
-#[derive(Debug, Drop)]
+#[derive(Drop)]
 pub struct Handle {
     /// Its number, counted from 1 in the order of making.
     pub number: u64,

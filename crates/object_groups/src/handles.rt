@@ -19,7 +19,7 @@ use std::marker::Model;
 
 /// The handles that a session has made and not released. It is seen as their list in the order of making, and how many
 /// were made.
-#[derive(Debug, Drop)]
+#[derive(Drop)]
 pub struct Handles {
     alloc: Global,
     table: Table,

@@ -13,7 +13,7 @@ use std::collections::BTreeMap;
 use std::marker::Model;
 
 /// Handles by number. It is seen as their list, in the order of their numbers.
-#[derive(Debug, Drop)]
+#[derive(Drop)]
 pub struct Table {
     by_number: BTreeMap<u64, Handle>,
     on_scratch: usize,

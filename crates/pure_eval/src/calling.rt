@@ -42,7 +42,7 @@ use js_world::world::World;
 use std::alloc::{AllocError, Global};
 
 /// What the steps of a callee come to: its value with the steps that are left, or the end of the evaluation.
-#[derive(Clone, Copy, Debug)]
+#[derive(Clone, Copy)]
 enum Callee {
     Reduced { value: Value, left: u64 },
     Ended(Evaluated),

@@ -10,7 +10,7 @@ ghost use Rattle.pure_eval.specs.Cutting.{IsMarkOf, IsCut, IsBack};
 use js_code::table::NodeTable;
 
 /// How long each list of a table was.
-#[derive(Clone, Copy, Debug)]
+#[derive(Clone, Copy)]
 pub struct TableMark {
     pub nodes: usize,
     pub kids: usize,

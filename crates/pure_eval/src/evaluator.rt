@@ -62,7 +62,7 @@ pub struct Evaluator {
 }
 
 /// Where an evaluator's code ended, and below which number its kept sources stood.
-#[derive(Clone, Copy, Debug)]
+#[derive(Clone, Copy)]
 pub struct EvaluatorMark {
     /// Where its code ended.
     pub table: TableMark,
@@ -71,7 +71,7 @@ pub struct EvaluatorMark {
 }
 
 /// A source that was added: its node, where the table ended before it, and the number behind its address.
-#[derive(Clone, Copy, Debug)]
+#[derive(Clone, Copy)]
 pub struct Added {
     /// Where the table ended before it.
     pub mark: TableMark,

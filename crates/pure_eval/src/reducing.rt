@@ -26,7 +26,7 @@ use js_world::world::World;
 use std::alloc::Global;
 
 /// Nobody asks an evaluation to stop.
-#[derive(Clone, Copy, Debug)]
+#[derive(Clone, Copy)]
 struct Nobody;
 
 impl Asks for Nobody {

@@ -96,7 +96,7 @@ fn has_preview(cell: Option<&Stored>) -> bool
 // ---- properties
 
 /// The first of what a preview lists, and whether there are more.
-#[derive(Debug, Drop)]
+#[derive(Drop)]
 pub(crate) struct Listed {
     pub first: Vec<Json>,
     pub more: bool,

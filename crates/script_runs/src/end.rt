@@ -1,7 +1,7 @@
 //! How a run ended.
 
 /// How a run of scripts ended.
-#[derive(Debug, Drop)]
+#[derive(Drop)]
 pub enum RunEnd {
     /// By its last script.
     Ended,

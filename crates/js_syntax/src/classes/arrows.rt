@@ -16,7 +16,7 @@ use js_lexer::token::{Token, TokenKind};
 use std::alloc::AllocError;
 
 /// What an arrow function begins with.
-#[derive(Clone, Copy, Debug)]
+#[derive(Clone, Copy)]
 pub enum Head {
     /// One name without parentheses.
     Name,

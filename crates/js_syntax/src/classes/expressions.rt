@@ -12,7 +12,7 @@ use js_operators::operator::{AssignmentOperator, BinaryOperator, UnaryOperator, 
 use js_tree::integer::SafeInteger;
 
 /// What begins a PrimaryExpression (ECMA-262, 13.2).
-#[derive(Clone, Copy, Debug)]
+#[derive(Clone, Copy)]
 pub enum Start<'s> {
     /// `this`
     This,
@@ -39,7 +39,7 @@ pub enum Start<'s> {
 }
 
 /// What goes on with a call or a member (ECMA-262, 13.3).
-#[derive(Clone, Copy, Debug)]
+#[derive(Clone, Copy)]
 pub enum Link {
     /// `.`
     Dot,
@@ -50,7 +50,7 @@ pub enum Link {
 }
 
 /// What stands before an operand (ECMA-262, 13.4 and 13.5).
-#[derive(Clone, Copy, Debug)]
+#[derive(Clone, Copy)]
 pub enum Prefix {
     /// `delete`
     Delete,
@@ -61,7 +61,7 @@ pub enum Prefix {
 }
 
 /// What goes on behind an operation (ECMA-262, 13.14 and 13.15).
-#[derive(Clone, Copy, Debug)]
+#[derive(Clone, Copy)]
 pub enum Joint {
     /// `?`
     Question,

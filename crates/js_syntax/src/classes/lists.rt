@@ -11,7 +11,7 @@ use crate::token::is_next;
 use js_lexer::token::{Token, TokenKind};
 
 /// What comes after an element of a list.
-#[derive(Clone, Copy, Debug)]
+#[derive(Clone, Copy)]
 pub enum After {
     /// A comma.
     GoesOn,

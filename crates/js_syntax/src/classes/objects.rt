@@ -13,7 +13,7 @@ use js_lexer::token::{Token, TokenKind};
 use js_tree::integer::SafeInteger;
 
 /// What begins the key of a property.
-#[derive(Clone, Copy, Debug)]
+#[derive(Clone, Copy)]
 pub enum KeyStart<'s> {
     /// A name or a reserved word, with its text.
     Word(&'s [u16]),
@@ -26,7 +26,7 @@ pub enum KeyStart<'s> {
 }
 
 /// What comes behind a key.
-#[derive(Clone, Copy, Debug)]
+#[derive(Clone, Copy)]
 pub enum AfterKey {
     /// `:`
     Colon,

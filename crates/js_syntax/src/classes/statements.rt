@@ -12,7 +12,7 @@ use crate::token::{is_next, tail};
 use js_lexer::token::{Token, TokenKind};
 
 /// What begins a statement or a declaration.
-#[derive(Clone, Copy, Debug)]
+#[derive(Clone, Copy)]
 pub enum First {
     /// `{`
     Block,
@@ -47,7 +47,7 @@ pub enum First {
 }
 
 /// What the head of a `for` begins with, behind its parenthesis (ECMA-262, 14.7.4 and 14.7.5).
-#[derive(Clone, Copy, Debug)]
+#[derive(Clone, Copy)]
 pub enum ForHead {
     /// `let` or `const`, a name and `of`.
     Each { constant: bool },
@@ -56,7 +56,7 @@ pub enum ForHead {
 }
 
 /// What the last token of an expression ends.
-#[derive(Clone, Copy, Debug)]
+#[derive(Clone, Copy)]
 pub enum Edge {
     /// Any other expression.
     Plain,
@@ -67,7 +67,7 @@ pub enum Edge {
 }
 
 /// What a statement ends in before its semicolon (ECMA-262, 12.10).
-#[derive(Clone, Copy, Debug)]
+#[derive(Clone, Copy)]
 pub enum End {
     /// An expression, whose last token ends this.
     Expression(Edge),

@@ -13,7 +13,7 @@ use std::alloc::{AllocError, Global};
 use std::marker::Model;
 
 /// Properties and, apart from them, the indices that their keys are. Contracts see the list of the properties.
-#[derive(Debug, Drop)]
+#[derive(Drop)]
 pub struct Elements {
     items: Vec<Property>,
     indices: Vec<u32>,

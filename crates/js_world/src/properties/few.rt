@@ -15,7 +15,7 @@ use std::alloc::{AllocError, Global};
 use std::marker::Model;
 
 /// Properties whose keys are compared one after another. Contracts see their list.
-#[derive(Debug, Drop)]
+#[derive(Drop)]
 pub struct FewProperties {
     items: Vec<Property>,
 }

@@ -15,7 +15,7 @@ use std::marker::Model;
 use std::mem;
 
 /// The properties whose keys are array indices, and behind them the others. Contracts see the list of all.
-#[derive(Debug, Drop)]
+#[derive(Drop)]
 pub struct ManyProperties {
     elements: Elements,
     named: Named,

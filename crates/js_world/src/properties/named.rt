@@ -13,7 +13,7 @@ use std::alloc::{AllocError, Global};
 use std::marker::Model;
 
 /// Properties and, apart from them, their keys with their places. Contracts see the list of the properties.
-#[derive(Debug, Drop)]
+#[derive(Drop)]
 pub struct Named {
     items: Vec<Property>,
     keys: IndexSet<Vec<u16>>,
