@@ -1,7 +1,7 @@
 //! Kinds of scopes.
 
 /// How a scope of a frame is listed.
-#[derive(Clone, Copy, PartialEq, Eq)]
+#[derive(Clone, Copy)]
 pub enum ListedKind {
     /// A block or a loop.
     Block,

@@ -123,7 +123,7 @@ struct Made {
 }
 
 /// What became of a command.
-#[derive(Clone, Copy, PartialEq, Eq)]
+#[derive(Clone, Copy, Debug, PartialEq, Eq)]
 pub enum Told {
     /// It was answered.
     Kept,

@@ -3,7 +3,7 @@
 use isolation::Loss;
 
 /// A session that was lost, and why.
-#[derive(Clone, Copy, PartialEq, Eq)]
+#[derive(Clone, Copy)]
 pub struct SessionLost {
     /// Its number.
     pub session: u64,

@@ -1,7 +1,7 @@
 //! The states of a host.
 
 /// What a host's program waits for, if anything. Where several hold, a host tells the first in this order.
-#[derive(Clone, Copy, PartialEq, Eq)]
+#[derive(Clone, Copy)]
 pub enum State {
     /// A run met want of memory: the host makes no further step and attaches nobody.
     Broken,

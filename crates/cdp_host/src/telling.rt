@@ -14,7 +14,7 @@ use isolation::{Loss, Seat};
 use std::alloc::Global;
 
 /// What became of a text.
-#[derive(Clone, Copy, PartialEq, Eq)]
+#[derive(Clone, Copy)]
 pub(crate) enum Answered {
     /// It was answered, and asks this of the program.
     Kept(Asks),

@@ -9,7 +9,7 @@ use serde_json::Value;
 
 /// How a text is evaluated or a function called, and its result described. An absent `throwOnSideEffect` is true, the others
 /// are false where they are absent.
-#[derive(Clone, Copy, PartialEq, Eq)]
+#[derive(Clone, Copy)]
 pub(crate) struct EvaluationFlags {
     pub return_by_value: bool,
     pub generate_preview: bool,

@@ -4,7 +4,7 @@ ghost use Rattle.std.specs.Prelude.{◌≡◌};
 ghost use Rattle.cdp_json.specs.Methods.{method_of};
 
 /// A method of the domains Debugger and Runtime.
-#[derive(Clone, Copy, PartialEq, Eq)]
+#[derive(Clone, Copy)]
 pub enum Method {
     DebuggerEnable,
     DebuggerDisable,

@@ -14,7 +14,7 @@ pub struct Location {
 }
 
 /// At which throws a session wants the program to stop.
-#[derive(Clone, Copy, PartialEq, Eq)]
+#[derive(Clone, Copy)]
 pub enum ExceptionPauses {
     /// At none.
     Never,

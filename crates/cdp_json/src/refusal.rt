@@ -7,7 +7,7 @@ use cdp_text::units::{Units, ascii};
 use std::alloc::{AllocError, Global};
 
 /// What the scratch heap of evaluations is limited in.
-#[derive(Clone, Copy, PartialEq, Eq)]
+#[derive(Clone, Copy)]
 pub enum ScratchLimit {
     /// The cells that evaluations made.
     Cells,

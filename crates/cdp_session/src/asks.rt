@@ -1,7 +1,7 @@
 //! What a command asks of the program.
 
 /// What a command asks of the program besides its answer.
-#[derive(Clone, Copy, PartialEq, Eq)]
+#[derive(Clone, Copy)]
 pub enum Asks {
     /// Nothing.
     Nothing,

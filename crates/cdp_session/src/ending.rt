@@ -4,7 +4,7 @@ use cdp_text::position::Place;
 use js_heap::value::Value;
 
 /// How a run ended.
-#[derive(Clone, Copy, PartialEq, Eq)]
+#[derive(Clone, Copy)]
 pub enum Ending {
     /// Behind its last script.
     Finished,

@@ -6,7 +6,7 @@ ghost use Rattle.cdp_session.specs.declared.session_end.SessionEnd.TheVariants.{
 use std::alloc::AllocError;
 
 /// Why a session is to be dropped. What wasn't taken of its texts is lost.
-#[derive(Clone, Copy, PartialEq, Eq)]
+#[derive(Clone, Copy)]
 pub enum SessionEnd {
     /// More than 65,536 texts, or more than 67,108,864 bytes of them, would have waited for its client.
     Overrun,

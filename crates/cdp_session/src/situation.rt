@@ -5,7 +5,7 @@ use breakpoints::ScriptSpots;
 use js_tree::script::Script;
 
 /// Where the program is paused.
-#[derive(Clone, Copy, PartialEq, Eq)]
+#[derive(Clone, Copy)]
 pub struct Pause {
     /// The number of the stop, from 1.
     pub number: u64,

@@ -23,7 +23,7 @@ use std::alloc::{AllocError, Global};
 use std::collections::VecDeque;
 
 /// How the replay of a journal ends.
-#[derive(Clone, Copy, PartialEq, Eq)]
+#[derive(Clone, Copy)]
 pub enum ReplayEnd {
     /// Every line was applied.
     Done,
@@ -37,7 +37,7 @@ pub enum ReplayEnd {
 }
 
 /// Why a line wasn't played.
-#[derive(Clone, Copy, PartialEq, Eq)]
+#[derive(Clone, Copy)]
 enum LineFault {
     Refused,
     Memory,

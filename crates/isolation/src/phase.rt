@@ -1,7 +1,7 @@
 //! How far a program has begun.
 
 /// How far a program has begun, where it may have to wait for a client.
-#[derive(Clone, Copy, PartialEq, Eq)]
+#[derive(Clone, Copy)]
 pub enum Phase {
     /// It waits for a client that lets it begin (`Runtime.runIfWaitingForDebugger`).
     Waiting,

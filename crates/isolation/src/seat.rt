@@ -1,7 +1,7 @@
 //! What became of a session.
 
 /// Why a session was lost. What wasn't taken of its texts is lost with it.
-#[derive(Clone, Copy, PartialEq, Eq)]
+#[derive(Clone, Copy)]
 pub enum Loss {
     /// More texts would have waited for its client than may, or more bytes of them.
     Overrun,

@@ -7,7 +7,7 @@ use js_world::names::NameId;
 use js_world::stored::{Slot, Slots};
 
 /// A node: what it does, and where its parts stand in the table's list of parts.
-#[derive(Clone, Copy, PartialEq, Eq)]
+#[derive(Clone, Copy)]
 pub struct Node {
     pub op: Op,
     /// The number of a name, of a node of the source, of a constant, or of an entry, as `op` says.
@@ -36,14 +36,14 @@ pub struct ForEntry {
 }
 
 /// A `for .. of`: its node in the source, and its name.
-#[derive(Clone, Copy, PartialEq, Eq)]
+#[derive(Clone, Copy)]
 pub struct ForOfEntry {
     pub node: u32,
     pub slot: Slot,
 }
 
 /// A call: its place, the node of the statement that it stands in, and the name or key of its callee.
-#[derive(Clone, Copy, PartialEq, Eq)]
+#[derive(Clone, Copy)]
 pub struct CallEntry {
     pub place: Mark,
     pub statement: u32,
@@ -51,7 +51,7 @@ pub struct CallEntry {
 }
 
 /// A member of an object literal: a fixed key, or a key that is computed and stands before the value.
-#[derive(Clone, Copy, PartialEq, Eq)]
+#[derive(Clone, Copy)]
 pub enum MemberEntry {
     Keyed(NameId),
     Computed,

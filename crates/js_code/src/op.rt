@@ -6,7 +6,7 @@ ghost use Rattle.js_code.specs.Ops.{is_literal, is_loop};
 use js_operators::operator::{BinaryOperator, UnaryOperator};
 
 /// `++` or `--` in front of its target or behind it (ECMA-262, 13.4).
-#[derive(Clone, Copy, PartialEq, Eq)]
+#[derive(Clone, Copy)]
 pub enum UpdateKind {
     PrefixIncrement,
     PrefixDecrement,
@@ -17,7 +17,7 @@ pub enum UpdateKind {
 /// What a node or a task does, apart from its parts and from what its number `info` says.
 ///
 /// `Scoped`, `Frame`, `ListOf`, `TurnOf`, `BodyOf`, `Ending` and `ObjectRest` come up in a run; no node has them.
-#[derive(Clone, Copy, PartialEq, Eq)]
+#[derive(Clone, Copy)]
 pub enum Op {
     /// A value, the constant of this number.
     Literal,

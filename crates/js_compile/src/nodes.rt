@@ -9,7 +9,7 @@ use js_code::table::NodeTable;
 use std::alloc::AllocError;
 
 /// What a node does, with the number that it does it with.
-#[derive(Clone, Copy, PartialEq, Eq)]
+#[derive(Clone, Copy)]
 pub struct Entry {
     pub op: Op,
     pub info: u32,

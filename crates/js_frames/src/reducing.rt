@@ -12,7 +12,7 @@ use js_steps::stack::Stack;
 use js_steps::task::Point;
 
 /// What a node or a task does that is about to be reduced, with its number.
-#[derive(Clone, Copy, PartialEq, Eq)]
+#[derive(Clone, Copy)]
 pub struct Reducing {
     pub op: Op,
     pub info: u32,

@@ -3,7 +3,7 @@
 use js_heap::value::Value;
 
 /// A throw that stands: its value, and whether no catch will take it.
-#[derive(Clone, Copy, PartialEq, Eq)]
+#[derive(Clone, Copy)]
 pub struct Thrown {
     pub value: Value,
     pub uncaught: bool,

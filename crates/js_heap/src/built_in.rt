@@ -6,7 +6,7 @@ ghost use Rattle.js_heap.specs.BuiltIns.{built_in_at, script_scope};
 use crate::value::Addr;
 
 /// The built-in functions.
-#[derive(Clone, Copy, PartialEq, Eq)]
+#[derive(Clone, Copy)]
 pub enum BuiltIn {
     /// `console.log`
     ConsoleLog,
@@ -39,7 +39,7 @@ pub enum BuiltIn {
 }
 
 /// The classes of errors (ECMA-262, 20.5).
-#[derive(Clone, Copy, PartialEq, Eq)]
+#[derive(Clone, Copy)]
 pub enum ErrorClass {
     Error,
     TypeError,
@@ -48,7 +48,7 @@ pub enum ErrorClass {
 }
 
 /// Where the code of a function is: a node of a script, or of a source that an evaluation kept at an address, or in no source.
-#[derive(Clone, Copy, PartialEq, Eq)]
+#[derive(Clone, Copy)]
 pub enum Code {
     Script { number: u32, node: u32 },
     Kept { at: Addr, node: u32 },

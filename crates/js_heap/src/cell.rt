@@ -137,7 +137,7 @@ impl Names {
 }
 
 /// What made a scope.
-#[derive(Clone, Copy, PartialEq, Eq)]
+#[derive(Clone, Copy)]
 pub enum ScopeKind {
     /// A block or a loop (ECMA-262, 14.2, 14.7).
     Block,

@@ -8,7 +8,7 @@ use thiserror::Error;
 
 /// What a token is: a name, a numeric literal, a string literal, one of the reserved words, or one
 /// of the punctuators (ECMA-262, 12.7.2 and 12.8).
-#[derive(Clone, Copy, Debug, PartialEq, Eq)]
+#[derive(Clone, Copy, Debug)]
 pub enum TokenKind {
     /// A word that isn't reserved.
     Name,
@@ -213,7 +213,7 @@ pub enum TokenKind {
 }
 
 /// A token, lent from its source.
-#[derive(Clone, Copy, Debug)]
+#[derive(Clone, Copy)]
 pub struct Token<'s> {
     /// What it is.
     pub kind: TokenKind,
@@ -228,7 +228,7 @@ pub struct Token<'s> {
 }
 
 /// No token begins here, nor white space, a line terminator, a comment or the end.
-#[derive(Clone, Copy, Debug, PartialEq, Eq, Error)]
+#[derive(Clone, Copy, Debug, Error)]
 #[error("no token begins at {at}")]
 pub struct BadToken {
     /// How many units of the source stand before this place.

@@ -4,7 +4,7 @@ use js_heap::change::Counted;
 use js_steps::stepped::Finish;
 
 /// How a run ended.
-#[derive(Clone, Copy, PartialEq, Eq)]
+#[derive(Clone, Copy)]
 pub enum End {
     /// With a value, or by a throw that no `catch` took.
     Finished(Finish),

@@ -8,7 +8,7 @@ use js_heap::value::Value;
 use std::alloc::{AllocError, AllocFailed};
 
 /// Why an action doesn't go on.
-#[derive(Clone, Copy, PartialEq, Eq)]
+#[derive(Clone, Copy)]
 pub enum ActionEnd {
     /// It raises a value.
     Raised(Value),

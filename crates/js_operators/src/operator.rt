@@ -1,7 +1,7 @@
 //! Operators.
 
 /// The operators of a UnaryExpression (ECMA-262, 13.5).
-#[derive(Clone, Copy, PartialEq, Eq)]
+#[derive(Clone, Copy)]
 pub enum UnaryOperator {
     /// `delete`
     Delete,
@@ -20,7 +20,7 @@ pub enum UnaryOperator {
 }
 
 /// The operators of an UpdateExpression (ECMA-262, 13.4).
-#[derive(Clone, Copy, PartialEq, Eq)]
+#[derive(Clone, Copy)]
 pub enum UpdateOperator {
     /// `++`
     Increment,
@@ -29,7 +29,7 @@ pub enum UpdateOperator {
 }
 
 /// The operators between two operands (ECMA-262, 13.7 to 13.13).
-#[derive(Clone, Copy, PartialEq, Eq)]
+#[derive(Clone, Copy)]
 pub enum BinaryOperator {
     /// `||`
     LogicalOr,
@@ -76,7 +76,7 @@ pub enum BinaryOperator {
 }
 
 /// The operators of an AssignmentExpression (ECMA-262, 13.15).
-#[derive(Clone, Copy, PartialEq, Eq)]
+#[derive(Clone, Copy)]
 pub enum AssignmentOperator {
     /// `=`
     Assign,

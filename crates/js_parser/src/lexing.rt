@@ -14,7 +14,7 @@ use js_syntax::fault::ParseFault;
 use std::alloc::{AllocError, Global};
 
 /// Why a source has no further tokens. A place counts the code units before it.
-#[derive(Clone, Copy, PartialEq, Eq)]
+#[derive(Clone, Copy)]
 pub enum Stop {
     /// No token begins here.
     Bad { at: usize },

@@ -14,7 +14,7 @@ use js_semantics::form::Source;
 use js_values::values::same_address;
 
 /// Where a function's code is: the number of its entry, its body, and where the functions begin and end that its body declares.
-#[derive(Clone, Copy, PartialEq, Eq)]
+#[derive(Clone, Copy)]
 pub struct Place {
     pub number: u32,
     pub body: u32,

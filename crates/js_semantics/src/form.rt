@@ -11,14 +11,14 @@ use js_tree::names::Names;
 use std::marker::Model;
 
 /// Which source: a script by its number, or one that an evaluation kept.
-#[derive(Clone, Copy, PartialEq, Eq)]
+#[derive(Clone, Copy)]
 pub enum Source {
     Script(u32),
     Kept(Addr),
 }
 
 /// A place in a source: its beginning, the start of a node, or so many units before the end of a node.
-#[derive(Clone, Copy, PartialEq, Eq)]
+#[derive(Clone, Copy)]
 pub enum Mark {
     Beginning,
     Start(u32),
@@ -26,14 +26,14 @@ pub enum Mark {
 }
 
 /// A place in one of the sources.
-#[derive(Clone, Copy, PartialEq, Eq)]
+#[derive(Clone, Copy)]
 pub struct Spot {
     pub source: Source,
     pub mark: Mark,
 }
 
 /// How a statement ends that doesn't end normally (ECMA-262, 6.2.4). A throw has the place of its fresh raise.
-#[derive(Clone, Copy, PartialEq, Eq)]
+#[derive(Clone, Copy)]
 pub enum Completion {
     Throws(Value, Spot),
     Returns(Value),
@@ -102,7 +102,7 @@ impl Members {
 }
 
 /// Where a loop is: before its initialiser's end, before the body of a `do`, at its test, in its body, at its update.
-#[derive(Clone, Copy, PartialEq, Eq)]
+#[derive(Clone, Copy)]
 pub enum Stage {
     First,
     Doing,

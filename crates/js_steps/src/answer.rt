@@ -11,7 +11,7 @@ use js_semantics::form::Completion;
 use std::alloc::AllocError;
 
 /// What a row's answer asks for.
-#[derive(Clone, Copy, PartialEq, Eq)]
+#[derive(Clone, Copy)]
 pub enum Answer {
     /// What it names stands in place of what was reduced.
     Follows,

@@ -7,7 +7,7 @@ use js_code::op::Op;
 use js_heap::value::Value;
 
 /// What a form does when all its parts have their values.
-#[derive(Clone, Copy, PartialEq, Eq)]
+#[derive(Clone, Copy)]
 pub enum Closing {
     /// It waits for its row.
     Waits,
@@ -32,7 +32,7 @@ pub enum Closing {
 }
 
 /// A kept part.
-#[derive(Clone, Copy, PartialEq, Eq)]
+#[derive(Clone, Copy)]
 pub enum Kept {
     Value(Value),
     /// A node that is no value.
@@ -40,7 +40,7 @@ pub enum Kept {
 }
 
 /// What comes next.
-#[derive(Clone, Copy, PartialEq, Eq)]
+#[derive(Clone, Copy)]
 pub enum Next {
     /// The row of the innermost task.
     Row,

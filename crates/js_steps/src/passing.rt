@@ -11,7 +11,7 @@ use js_operations::context::Context;
 use js_semantics::form::Completion;
 
 /// What a task makes of a completion that it takes.
-#[derive(Clone, Copy, PartialEq, Eq)]
+#[derive(Clone, Copy)]
 pub enum Taking {
     /// A `catch` takes the value that was thrown.
     Catches(Value),
@@ -26,7 +26,7 @@ pub enum Taking {
 }
 
 /// What a task makes of a completion that reaches it.
-#[derive(Clone, Copy, PartialEq, Eq)]
+#[derive(Clone, Copy)]
 pub enum Passing {
     /// It lets it pass.
     Lets,

@@ -4,7 +4,7 @@ use js_heap::change::Counted;
 use js_heap::value::{Addr, Value};
 
 /// What becomes of what was about to be reduced. Nodes are numbers of the table.
-#[derive(Clone, Copy, PartialEq, Eq)]
+#[derive(Clone, Copy)]
 pub enum Reduced {
     /// It is a value.
     Gives(Value),

@@ -20,7 +20,7 @@ use js_heap::value::{Addr, Value};
 use std::alloc::AllocError;
 
 /// What a node comes to on the way inward.
-#[derive(Clone, Copy, PartialEq, Eq)]
+#[derive(Clone, Copy)]
 pub enum Entered {
     /// It has no parts to reduce.
     Leaf,

@@ -5,7 +5,7 @@ use js_heap::value::Value;
 use js_semantics::form::Spot;
 
 /// How a run ended: with a value, or by a throw that no `catch` took.
-#[derive(Clone, Copy, PartialEq, Eq)]
+#[derive(Clone, Copy)]
 pub enum Finish {
     Ended(Value),
     Threw(Value, Spot),

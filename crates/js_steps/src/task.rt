@@ -5,7 +5,7 @@ use js_heap::value::{Addr, Value};
 use js_semantics::form::{Completion, Spot};
 
 /// A form of which a part is being reduced.
-#[derive(Clone, Copy, PartialEq, Eq)]
+#[derive(Clone, Copy)]
 pub struct Task {
     pub op: Op,
     pub info: u32,
@@ -23,7 +23,7 @@ pub struct Task {
 
 /// What a `finally` that runs keeps; the list of a `for .. of`, and the index of its next turn; where the kept parts of an
 /// object literal begin, behind a method with a computed key.
-#[derive(Clone, Copy, PartialEq, Eq)]
+#[derive(Clone, Copy)]
 pub enum Extra {
     Kept(Completion),
     Turn(Value, u32),
@@ -31,7 +31,7 @@ pub enum Extra {
 }
 
 /// Where a machine stands: what is about to be reduced.
-#[derive(Clone, Copy, PartialEq, Eq)]
+#[derive(Clone, Copy)]
 pub enum Point {
     /// The innermost task, whose parts have their values.
     Row,
@@ -44,7 +44,7 @@ pub enum Point {
 }
 
 /// What is about to be reduced: a form whose parts have their values. The scope is that in which its parts are.
-#[derive(Clone, Copy, PartialEq, Eq)]
+#[derive(Clone, Copy)]
 pub struct Redex {
     pub op: Op,
     pub info: u32,

@@ -7,7 +7,7 @@ use std::alloc::{AllocError, AllocFailed};
 use thiserror::Error;
 
 /// Why a source isn't parsed. A place counts the code units of the source before it.
-#[derive(Clone, Copy, Debug, PartialEq, Eq, Error)]
+#[derive(Clone, Copy, Debug, Error)]
 pub enum ParseFault {
     /// The source has so many code units, more than a script may have.
     #[error("the source is too long: {units} code units")]
@@ -32,7 +32,7 @@ pub enum ParseFault {
 }
 
 /// Why tokens aren't read.
-#[derive(Clone, Copy, Debug, PartialEq, Eq)]
+#[derive(Clone, Copy, Debug)]
 pub enum ParseError {
     /// No memory was left.
     Memory,

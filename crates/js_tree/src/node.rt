@@ -6,11 +6,11 @@ ghost use Rattle.js_tree.specs.Spans.{span_of};
 use std::marker::Model;
 
 /// The number of a statement, an expression, a method or the arguments of a call within its tree.
-#[derive(Clone, Copy, PartialEq, Eq)]
+#[derive(Clone, Copy)]
 pub struct NodeId(pub u32);
 
 /// A part of a source: the code units from `start` up to but not including `end`, counted from 0.
-#[derive(Clone, Copy, PartialEq, Eq)]
+#[derive(Clone, Copy)]
 pub struct Span {
     /// How many units stand before it.
     pub start: usize,

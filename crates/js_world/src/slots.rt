@@ -51,7 +51,7 @@ pub fn bind(slots: &mut Slots, name: NameId, value: Value)
 }
 
 /// What a scope says of a name.
-#[derive(Clone, Copy, PartialEq, Eq)]
+#[derive(Clone, Copy)]
 pub enum Looked {
     Here(FoundSlot),
     Outward(Addr),

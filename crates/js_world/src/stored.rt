@@ -13,7 +13,7 @@ use std::alloc::AllocError;
 use std::marker::Model;
 
 /// A name of a scope, with its value once it is initialised (ECMA-262, 9.1.1.1).
-#[derive(Clone, Copy, PartialEq, Eq)]
+#[derive(Clone, Copy)]
 pub struct Slot {
     pub name: NameId,
     pub constant: bool,
@@ -115,7 +115,7 @@ pub enum Stored {
 }
 
 /// A name that was found: its scope, its place there, and its binding's flag and value.
-#[derive(Clone, Copy, PartialEq, Eq)]
+#[derive(Clone, Copy)]
 pub struct FoundSlot {
     pub scope: Addr,
     pub place: usize,

@@ -8,7 +8,7 @@ use js_semantics::form::Mark;
 use std::alloc::AllocError;
 
 /// A mark of a script's tree, and what stands there.
-#[derive(Clone, Copy, PartialEq, Eq)]
+#[derive(Clone, Copy)]
 pub struct Marked {
     pub mark: Mark,
     pub kind: SpotKind,

@@ -9,7 +9,7 @@ ghost use Rattle.locations.specs.Search.{is_before, first_from, is_between};
 use cdp_text::position::Pos;
 
 /// What a break location is, from the weakest to the strongest: of several at one place the strongest stands.
-#[derive(Clone, Copy, PartialEq, Eq)]
+#[derive(Clone, Copy)]
 pub enum SpotKind {
     /// The start of a statement.
     Plain,
@@ -22,7 +22,7 @@ pub enum SpotKind {
 }
 
 /// A break location of a script: its line and column, both counted from 0, the column in UTF-16 code units.
-#[derive(Clone, Copy, PartialEq, Eq)]
+#[derive(Clone, Copy)]
 pub struct Spot {
     pub pos: Pos,
     pub kind: SpotKind,

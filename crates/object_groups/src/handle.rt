@@ -7,7 +7,7 @@ use cdp_text::units::Units;
 use js_heap::value::Addr;
 
 /// What a handle stands for: an object, or a scope as an object of its bindings.
-#[derive(Clone, Copy, PartialEq, Eq)]
+#[derive(Clone, Copy)]
 pub enum Target {
     /// The object whose cell is at this address.
     Object(Addr),

@@ -10,7 +10,7 @@ use js_steps::stepped::Finish;
 use js_steps::task::Point;
 
 /// How an evaluation ends.
-#[derive(Clone, Copy, PartialEq, Eq)]
+#[derive(Clone, Copy)]
 pub enum Evaluated {
     /// It came to this value.
     Value(Value),

@@ -30,7 +30,7 @@ pub const MOST_DEEP: u32 = 100;
 pub const MOST_MET: u32 = 100_000;
 
 /// Why a value isn't given by value.
-#[derive(Clone, Copy, PartialEq, Eq)]
+#[derive(Clone, Copy)]
 pub enum ByValueFault {
     /// It is too deep, or too many values are met.
     TooLong,

@@ -1,7 +1,7 @@
 //! How much is described.
 
 /// Whether objects are described with previews of their properties.
-#[derive(Clone, Copy, PartialEq, Eq)]
+#[derive(Clone, Copy)]
 pub enum Detail {
     /// Without.
     Plain,

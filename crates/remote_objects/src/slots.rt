@@ -13,7 +13,7 @@ use js_heap::value::Value;
 use std::alloc::{AllocError, Global};
 
 /// What may be done with a property (ECMA-262, 6.1.7.1).
-#[derive(Clone, Copy, PartialEq, Eq)]
+#[derive(Clone, Copy)]
 pub(crate) struct Flags {
     pub writable: bool,
     pub enumerable: bool,

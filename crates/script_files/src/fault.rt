@@ -4,7 +4,7 @@ use cdp_text::position::Pos;
 use thiserror::Error;
 
 /// Why a text isn't taken as a script, or as input.
-#[derive(Clone, Copy, Debug, PartialEq, Eq, Error)]
+#[derive(Clone, Copy, Debug, Error)]
 pub enum Refusal {
     /// Its bytes aren't UTF-8.
     #[error("not UTF-8")]
@@ -24,7 +24,7 @@ pub enum Refusal {
 }
 
 /// Why a file isn't taken.
-#[derive(Clone, Copy, Debug, PartialEq, Eq, Error)]
+#[derive(Clone, Copy, Debug, Error)]
 pub enum FileFault {
     /// The shelf doesn't give it, and is blamed.
     #[error("the file can't be read")]

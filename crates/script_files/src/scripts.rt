@@ -16,7 +16,7 @@ use js_tree::script::Script;
 use std::alloc::{AllocError, Global};
 
 /// Why a file isn't taken as a script, with its name.
-#[derive(Clone, Copy, PartialEq, Eq)]
+#[derive(Clone, Copy)]
 pub struct ScriptFault<'n> {
     /// The name of the file.
     pub name: &'n str,

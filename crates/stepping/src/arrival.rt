@@ -3,7 +3,7 @@
 use cdp_text::position::Place;
 
 /// Where a step leaves the program, as far as rules ask for it.
-#[derive(Clone, Copy, PartialEq, Eq)]
+#[derive(Clone, Copy)]
 pub struct Arrival {
     /// The break location that the next step enters, if it enters one: then the program has arrived there.
     pub place: Option<Place>,

@@ -1,7 +1,7 @@
 //! The rules by which a session stops the program.
 
 /// The rule by which a session stops the program, in the order in which they are tried.
-#[derive(Clone, Copy, PartialEq, Eq)]
+#[derive(Clone, Copy)]
 pub enum Cause {
     /// The step raised a throw of a kind that the session asks for.
     Exception,

@@ -6,7 +6,7 @@ ghost use Rattle.stepping.specs.Rules.{no_rules, without_requests};
 use cdp_text::position::Place;
 
 /// Which throws stop the program where they are raised.
-#[derive(Clone, Copy, PartialEq, Eq)]
+#[derive(Clone, Copy)]
 pub enum Exceptions {
     /// None.
     Never,
@@ -17,7 +17,7 @@ pub enum Exceptions {
 }
 
 /// How far a step goes.
-#[derive(Clone, Copy, PartialEq, Eq)]
+#[derive(Clone, Copy)]
 pub enum StepKind {
     /// To the next arrival, also in a function that is called.
     Into,
@@ -28,7 +28,7 @@ pub enum StepKind {
 }
 
 /// A step that was asked for while the program was stopped.
-#[derive(Clone, Copy, PartialEq, Eq)]
+#[derive(Clone, Copy)]
 pub struct StepRequest {
     /// How far it goes.
     pub kind: StepKind,
@@ -37,7 +37,7 @@ pub struct StepRequest {
 }
 
 /// What a session asks for: its flags, which throws it stops at, and its requests, each of which ends with the next stop.
-#[derive(Clone, Copy, PartialEq, Eq)]
+#[derive(Clone, Copy)]
 pub struct Rules {
     /// Whether the session debugs the program at all.
     pub enabled: bool,

@@ -42,7 +42,7 @@ fn first_of(values: &[Value]) -> Value
 }
 
 /// A compound assignment, as the assignment that follows the operator.
-#[derive(Clone, Copy, PartialEq, Eq)]
+#[derive(Clone, Copy)]
 struct Compound {
     assignment: Op,
     operator: BinaryOperator,
