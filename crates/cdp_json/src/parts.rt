@@ -1,6 +1,6 @@
 //! Parts of messages: members, objects, and places in scripts (Chrome DevTools Protocol 1.3, `Debugger.Location`).
 
-ghost use Rattle.std.specs.Prelude.{◌≡◌, ◌∷◌, [], pos, map, decimal, IfOk};
+ghost use Rattle.std.specs.Prelude.{◌≡◌, ◌∷◌, ◌++◌, [], pos, map, decimal, IfOk, OnOk, OnErr};
 ghost use Rattle.cdp_json.specs.Json as json;
 ghost use Rattle.cdp_json.specs.Parts as parts;
 ghost use Rattle.cdp_json.specs.Views.{json_view, member_view};
@@ -40,6 +40,50 @@ pub fn ascii_member(alloc: Global, key: &[u8], value: &[u8]) -> Result<Member, A
     member(alloc, key, value)
 }
 
+/// Puts a member behind others; its key is ASCII. Errors: there is no memory for it, and the others stay.
+pub fn put_value(
+    alloc: Global,
+    members: &mut Vec<Member>,
+    key: &[u8],
+    value: Json,
+) -> Result<(), AllocError>
+    ensures ok { OnOk result (map member_view members.new.items ≡ map member_view members.old.items ++ (key.now, json_view value) ∷ []) }
+    ensures kept { OnErr result (members.new.items ≡ members.old.items) }
+{
+    members.push(member(alloc, key, value)?)?;
+    Ok(())
+}
+
+/// Puts a member whose value is a text behind others; both it and the key are ASCII. Errors: there is no memory for it, and
+/// the others stay.
+pub fn put_ascii_text(
+    alloc: Global,
+    members: &mut Vec<Member>,
+    key: &[u8],
+    bytes: &[u8],
+) -> Result<(), AllocError>
+    ensures ok { OnOk result (map member_view members.new.items ≡ map member_view members.old.items ++ (key.now, json.text bytes.now) ∷ []) }
+    ensures kept { OnErr result (members.new.items ≡ members.old.items) }
+{
+    members.push(ascii_member(alloc, key, bytes)?)?;
+    Ok(())
+}
+
+/// Puts a member whose value is a copy of a text behind others; its key is ASCII. Errors: there is no memory for it, and the
+/// others stay.
+pub fn put_copied_text(
+    alloc: Global,
+    members: &mut Vec<Member>,
+    key: &[u8],
+    units: &[u16],
+) -> Result<(), AllocError>
+    ensures ok { OnOk result (map member_view members.new.items ≡ map member_view members.old.items ++ (key.now, json.text units.now) ∷ []) }
+    ensures kept { OnErr result (members.new.items ≡ members.old.items) }
+{
+    let copy = copied_text(alloc, units)?;
+    put_value(alloc, members, key, copy)
+}
+
 /// An object of one member.
 pub fn object_of_one(alloc: Global, only: Member) -> Result<Json, AllocError>
     ensures { IfOk result (λ j. json_view j ≡ parts.object_of (member_view only ∷ [])) }
@@ -54,11 +98,11 @@ pub fn nothing(alloc: Global) -> Json
     object(Vec::new(alloc))
 }
 
-/// A member whose value is a line or a column.
-fn coordinate(alloc: Global, key: &[u8], value: u32) -> Result<Member, AllocError>
-    ensures { IfOk result (λ m. member_view m ≡ (key.now, json.number (pos value))) }
+/// A line or a column.
+fn coordinate(value: u32) -> Json
+    ensures { json_view result ≡ json.number (pos value) }
 {
-    member(alloc, key, number(i64::from(value)))
+    number(i64::from(value))
 }
 
 /// The id of a script: its number as a decimal.
@@ -73,11 +117,22 @@ pub fn script_id(alloc: Global, script: u32) -> Result<Json, AllocError>
 pub fn place_members(alloc: Global, place: Place) -> Result<Vec<Member>, AllocError>
     ensures { IfOk result (λ ms. map member_view ms.items ≡ parts.place_pairs place) }
 {
+    let mut members = Vec::new(alloc);
+    put_value(
+        alloc,
+        &mut members,
+        b"columnNumber",
+        coordinate(place.pos.col),
+    )?;
+    put_value(
+        alloc,
+        &mut members,
+        b"lineNumber",
+        coordinate(place.pos.line),
+    )?;
     let id = script_id(alloc, place.script)?;
-    let script = member(alloc, b"scriptId", id)?;
-    let line = coordinate(alloc, b"lineNumber", place.pos.line)?;
-    let column = coordinate(alloc, b"columnNumber", place.pos.col)?;
-    Ok(vec![in alloc; column, line, script]?)
+    put_value(alloc, &mut members, b"scriptId", id)?;
+    Ok(members)
 }
 
 /// A place.
