@@ -5,7 +5,7 @@ use Rattle.cdp_host.specs.declared.host.Host.TheInside.{Inside}
 
 abbrev pub seen_as : Inside → HostState
 seen_as a = record {
-  scripts = a.scripts.items;
+  scripts = a.scripts.now;
   meaning = record {
     program = record { machine = a.machine; heap = a.heap };
     phase = a.phase;

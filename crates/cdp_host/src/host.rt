@@ -53,9 +53,9 @@ use std::mem;
 
 /// A program and the sessions that debug it.
 #[derive(Drop)]
-pub struct Host {
+pub struct Host<'p> {
     alloc: Global,
-    scripts: Vec<Script>,
+    scripts: &'p [Script],
     lines: Vec<LineTable>,
     spots: ScriptSpots,
     machine: Machine,
@@ -72,7 +72,7 @@ pub struct Host {
     fallen: Vec<SessionLost>,
 }
 
-impl Model for Host {
+impl<'p> Model for Host<'p> {
     ghost use Rattle.js_tree.specs.contracts.tree.Stmt as stmt;
     ghost use Rattle.std.specs.Coded.{codes};
     ghost use Rattle.pure_eval.specs.TermCodes.{term_coded};
@@ -84,14 +84,14 @@ impl Model for Host {
     ghost coded = { Prim.hlevel (codes, term_coded, stmt.the_row.coded) };
 
     ghost view = { λ a. record {
-      scripts = a.scripts.items;
+      scripts = a.scripts.now;
       meaning = record { program = record { machine = a.machine; heap = a.heap }; phase = a.phase; stop = a.stop; stops = a.stops; shut = a.shut; seats = a.seats.items };
       broken = a.broken;
       fallback = fallback_held a.fallback;
       fallen = a.fallen.items;
     } };
 
-    ghost invariant = { λ a. IsSound a.scripts.items a.lines.items a.spots a.machine a.broken a.seats.items a.seats.len a.fallback a.fallen.items };
+    ghost invariant = { λ a. IsSound a.scripts.now a.lines.items a.spots a.machine a.broken a.seats.items a.seats.len a.fallback a.fallen.items };
 }
 
 /// What the evaluations of a session begin with, for a program of these scripts and names.
@@ -144,7 +144,7 @@ fn unset_flags(alloc: Global, count: usize) -> Result<Vec<bool>, AllocError>
     Ok(flags)
 }
 
-impl Host {
+impl<'p> Host<'p> {
     /// A host whose program runs these scripts one after another with these lines of input, before its first step; no session
     /// is attached. With `wait` the program waits until a client lets it begin (`Runtime.runIfWaitingForDebugger`).
     ///
@@ -154,19 +154,19 @@ impl Host {
     /// too long for positions of 32 bits; no parsed script has one.
     pub fn start(
         alloc: Global,
-        scripts: Vec<Script>,
+        scripts: &'p [Script],
         input: VecDeque<Units>,
         wait: bool,
-    ) -> Result<Host, AllocError>
-        ensures host { IfOk result (λ host. meaning_with host [] ≡ begin scripts.items input.items wait) }
-        ensures scripts { IfOk result (λ host. host.scripts ≡ scripts.items) }
+    ) -> Result<Host<'p>, AllocError>
+        ensures host { IfOk result (λ host. meaning_with host [] ≡ begin scripts.now input.items wait) }
+        ensures scripts { IfOk result (λ host. host.scripts ≡ scripts.now) }
         ensures works { IfOk result (λ host. host.broken ≡ false) }
         ensures fallen { IfOk result (λ host. host.fallen ≡ []) }
-        ensures stands { IfOk result (λ host. Stands scripts.items input.items wait host []) }
+        ensures stands { IfOk result (λ host. Stands scripts.now input.items wait host []) }
     {
-        let lines = lines_of_all(alloc, scripts.as_slice())?;
-        let spots = ScriptSpots::of(alloc, scripts.as_slice())?;
-        let Started { machine, heap } = Machine::start(alloc, scripts.as_slice(), input)?;
+        let lines = lines_of_all(alloc, scripts)?;
+        let spots = ScriptSpots::of(alloc, scripts)?;
+        let Started { machine, heap } = Machine::start(alloc, scripts, input)?;
         Ok(Host {
             alloc,
             scripts,
@@ -259,7 +259,7 @@ impl Host {
         if self.broken {
             return Err(AllocError);
         }
-        let workspace = workspace_of(self.alloc, self.scripts.as_slice(), self.machine.names())?;
+        let workspace = workspace_of(self.alloc, self.scripts, self.machine.names())?;
         let number = self.sessions() + 1;
         let session = Session::new(self.alloc, number, workspace);
         self.fallback.reserve(self.seats.len() + 1)?;
@@ -356,7 +356,7 @@ impl Host {
     }
 }
 
-impl Host {
+impl<'p> Host<'p> {
     /// Answers a text of this session, and lets the program be.
     fn answer(&mut self, s: u64, text: &str) -> Answered
         requires { is_attached (seat_of s self.old.meaning.seats) ≡ true }
@@ -368,11 +368,11 @@ impl Host {
         let program = Debuggee {
             machine: &self.machine,
             heap: &self.heap,
-            scripts: self.scripts.as_slice(),
+            scripts: self.scripts,
             lines: self.lines.as_slice(),
         };
         let situation = Situation {
-            scripts: self.scripts.as_slice(),
+            scripts: self.scripts,
             spots: &self.spots,
             paused: self.stop,
             program: &program,
@@ -466,7 +466,7 @@ impl Host {
     }
 }
 
-impl Host {
+impl<'p> Host<'p> {
     /// Makes the longest run of at most `n` steps at a moment, in milliseconds since the epoch: it ends earlier only where the
     /// program isn't ready any more. It tells of the sessions that were lost. A run that makes no step needs no memory, but for
     /// the list of the sessions that were lost before it. After an error the host is broken and all sessions are lost: `fallen`
@@ -610,7 +610,7 @@ impl Host {
         match advance(
             &mut self.machine,
             &mut self.heap,
-            self.scripts.as_slice(),
+            self.scripts,
             self.lines.as_slice(),
             &self.spots,
             is_first(self.phase),

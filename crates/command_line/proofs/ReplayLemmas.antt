@@ -153,41 +153,46 @@ in-part told request old new journal scripts input holds part =
 
 -- the same, as the calls before the lines' replay tell of their shelves and bytes
 pub played : (e : ReplayEnd) (request : Request) (told mid_told : Option (List Named)) (before mid after : Faults)
-    (was now : ℕ) (old new : Option (List ℕ)) (bytes journal : List ℕ) (scripts : List Script) (input : List (List ℕ))
+    (was now : ℕ) (old new : Option (List ℕ)) (bytes journal : List ℕ) (scripts lent : List Script)
+    (input : List (List ℕ))
     → HasJournal told request bytes
     → mid ≡ before
     → mid_told ≡ told
     → Told mid_told (λ files. HoldsSources files request.sources scripts input)
     → after ≡ mid
     → journal ≡ bytes
-    → HasReplayed e scripts input request.wait journal was now old new
+    → lent ≡ scripts
+    → HasReplayed e lent input request.wait journal was now old new
     → BecauseReplay (outcome_of_replay e) request told before after was now old new
-played e request told mid_told before mid after was now old new bytes journal scripts input there quiet same sources
-    still is h =
+played e request told mid_told before mid after was now old new bytes journal scripts lent input there quiet same
+    sources still is are h =
     let held_all : HasHeld told request bytes scripts input =
     held told request bytes scripts input there
     (subst (λ (t : Option (List Named)). Told t (λ files. HoldsSources files request.sources scripts input))
     same sources)
     in
     because e request told before after was now old new bytes scripts input held_all (still ∙ quiet)
-    (subst (λ (j : List ℕ). HasReplayed e scripts input request.wait j was now old new) is h)
+    (subst (λ (j : List ℕ). HasReplayed e scripts input request.wait j was now old new) is
+    (subst (λ (ss : List Script). HasReplayed e ss input request.wait journal was now old new) are h))
 
 pub played-part : (request : Request) (told mid_told : Option (List Named)) (old new : Option (List ℕ))
-    (bytes journal : List ℕ) (scripts : List Script) (input : List (List ℕ))
+    (bytes journal : List ℕ) (scripts lent : List Script) (input : List (List ℕ))
     → HasJournal told request bytes
     → mid_told ≡ told
     → Told mid_told (λ files. HoldsSources files request.sources scripts input)
     → journal ≡ bytes
-    → WritesPart scripts input request.wait journal old new
+    → lent ≡ scripts
+    → WritesPart lent input request.wait journal old new
     → Told told (λ files. (new ≡ old) ⊎ ReplaysInPart files request old new)
-played-part request told mid_told old new bytes journal scripts input there same sources is part =
+played-part request told mid_told old new bytes journal scripts lent input there same sources is are part =
     let held_all : HasHeld told request bytes scripts input =
     held told request bytes scripts input there
     (subst (λ (t : Option (List Named)). Told t (λ files. HoldsSources files request.sources scripts input))
     same sources)
     in
     in-part told request old new bytes scripts input held_all
-    (subst (λ (j : List ℕ). WritesPart scripts input request.wait j old new) is part)
+    (subst (λ (j : List ℕ). WritesPart scripts input request.wait j old new) is
+    (subst (λ (ss : List Script). WritesPart ss input request.wait journal old new) are part))
 
 -- ---- the status that the files decide
 

@@ -15,6 +15,7 @@ use js_tree::script::Script;
 use script_files::script_of;
 use std::alloc::Global;
 use std::collections::VecDeque;
+use std::slice;
 
 /// The name of a drill's script.
 const SCRIPT_NAME: &str = "drill.js";
@@ -30,7 +31,7 @@ pub(crate) fn drill<O: Sink>(alloc: Global, number: u64, out: &mut O) -> Outcome
         Ok(script) => script,
         Err(end) => return end,
     };
-    let transcript = match replay_over(alloc, number, script) {
+    let transcript = match replay_over(alloc, number, &script) {
         Ok(transcript) => transcript,
         Err(end) => return end,
     };
@@ -59,21 +60,18 @@ fn read_script(alloc: Global, number: u64) -> Result<Script, Outcome<'static>>
 }
 
 /// What the replay of the journal of the drill of this number over its script writes.
-fn replay_over(alloc: Global, number: u64, script: Script) -> Result<Transcript, Outcome<'static>>
-    ensures output { IfOk result (λ transcript. IsDrilled number script None transcript.bytes.items) }
-    ensures fault { IfErr result (λ end. BecauseJournalOf end number script) }
+fn replay_over(alloc: Global, number: u64, script: &Script) -> Result<Transcript, Outcome<'static>>
+    ensures output { IfOk result (λ transcript. IsDrilled number script.now None transcript.bytes.items) }
+    ensures fault { IfErr result (λ end. BecauseJournalOf end number script.now) }
 {
     let Ok(journal) = drill_journal(alloc, number) else {
-        return Err(Outcome::OutOfMemory);
-    };
-    let Ok(scripts) = vec![in alloc; script] else {
         return Err(Outcome::OutOfMemory);
     };
     let mut transcript = Transcript::new(alloc);
     let lines = journal.as_bytes();
     match replay(
         alloc,
-        scripts,
+        slice::from_ref(script),
         VecDeque::new(alloc),
         false,
         lines,

@@ -137,16 +137,16 @@ fn play_lines<O: Sink>(alloc: Global, host: &mut Host, journal: &[u8], out: &mut
 /// refused.
 fn play<O: Sink>(
     alloc: Global,
-    scripts: Vec<Script>,
+    scripts: &[Script],
     input: VecDeque<Units>,
     wait: bool,
     journal: &[u8],
     out: &mut O,
 ) -> ReplayEnd
-    ensures end { IsCut result ⊎ (result ≡ end_of (refused scripts.items 1 (begin scripts.items input.items wait) (lines_of journal.now))) }
-    ensures whole { IsCut result ⊎ (O.content out.new ≡ gains (O.content out.old) (journal_output scripts.items (begin scripts.items input.items wait) (lines_of journal.now))) }
-    ensures part { GainsPrefix (O.content out.old) (O.content out.new) (journal_output scripts.items (begin scripts.items input.items wait) (lines_of journal.now)) }
-    ensures less { result ≡ ReplayEnd.WriteFault → GainsLess (O.content out.old) (O.content out.new) (journal_output scripts.items (begin scripts.items input.items wait) (lines_of journal.now)) }
+    ensures end { IsCut result ⊎ (result ≡ end_of (refused scripts.now 1 (begin scripts.now input.items wait) (lines_of journal.now))) }
+    ensures whole { IsCut result ⊎ (O.content out.new ≡ gains (O.content out.old) (journal_output scripts.now (begin scripts.now input.items wait) (lines_of journal.now))) }
+    ensures part { GainsPrefix (O.content out.old) (O.content out.new) (journal_output scripts.now (begin scripts.now input.items wait) (lines_of journal.now)) }
+    ensures less { result ≡ ReplayEnd.WriteFault → GainsLess (O.content out.old) (O.content out.new) (journal_output scripts.now (begin scripts.now input.items wait) (lines_of journal.now)) }
     ensures quiet { (result ≡ ReplayEnd.WriteFault) ⊎ (O.faults out.new ≡ O.faults out.old) }
     ensures failed { result ≡ ReplayEnd.WriteFault → Rose (O.faults out.old) (O.faults out.new) }
 {
@@ -166,18 +166,18 @@ fn play<O: Sink>(
 /// for `%`, LF and CR. What is written is `attached S`, `to S TEXT`, `out TEXT`, `overrun S` and `ran K STATE`.
 pub fn replay<O: Sink>(
     alloc: Global,
-    scripts: Vec<Script>,
+    scripts: &[Script],
     input: VecDeque<Units>,
     wait: bool,
     journal: &[u8],
     out: &mut O,
 ) -> ReplayEnd
     // every line was applied, or those before the one that is refused, and all of their output is written
-    ensures done { result ≡ ReplayEnd.Done → WritesReplay scripts.items input.items wait journal.now None (O.content out.old) (O.content out.new) }
-    ensures refused { (line : ℕ) → result ≡ ReplayEnd.Refused line → WritesReplay scripts.items input.items wait journal.now (Some line) (O.content out.old) (O.content out.new) }
+    ensures done { result ≡ ReplayEnd.Done → WritesReplay scripts.now input.items wait journal.now None (O.content out.old) (O.content out.new) }
+    ensures refused { (line : ℕ) → result ≡ ReplayEnd.Refused line → WritesReplay scripts.now input.items wait journal.now (Some line) (O.content out.old) (O.content out.new) }
     // at every end a first part of the replay's output is written, and where a write failed not all of it
-    ensures part { WritesPart scripts.items input.items wait journal.now (O.content out.old) (O.content out.new) }
-    ensures less { result ≡ ReplayEnd.WriteFault → WritesLess scripts.items input.items wait journal.now (O.content out.old) (O.content out.new) }
+    ensures part { WritesPart scripts.now input.items wait journal.now (O.content out.old) (O.content out.new) }
+    ensures less { result ≡ ReplayEnd.WriteFault → WritesLess scripts.now input.items wait journal.now (O.content out.old) (O.content out.new) }
     ensures quiet { (result ≡ ReplayEnd.WriteFault) ⊎ (O.faults out.new ≡ O.faults out.old) }
     ensures failed { result ≡ ReplayEnd.WriteFault → Rose (O.faults out.old) (O.faults out.new) }
 {

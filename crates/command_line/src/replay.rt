@@ -64,7 +64,7 @@ pub(crate) fn replay<'w, F: Shelf, O: Sink>(
         Ok(program) => {
             let end = journal::replay(
                 alloc,
-                program.scripts,
+                &program.scripts,
                 program.input,
                 request.wait,
                 &journal,

@@ -3,6 +3,7 @@
 use cdp_host::{Host, Told};
 use cdp_text::units::units_of;
 use js_parser::parse::parse_script;
+use js_tree::script::Script;
 use std::alloc::Global;
 use std::collections::VecDeque;
 use std::process::Abort;
@@ -67,13 +68,13 @@ fn command(letter: u8) -> &'static str {
     }
 }
 
-// A host of a script that prints twice.
-fn two_lines(alloc: Global) -> Result<Host, Fail> {
+// A script that prints twice.
+fn two_lines(alloc: Global) -> Result<Script, Fail> {
     let source = units_of(alloc, "console.log(7);\nconsole.log(8);\n")?;
     let Ok(script) = parse_script(alloc, source.as_slice(), "a.js", 1, &[]) else {
         return Err("no script".into());
     };
-    Ok(Host::start(alloc, vec![in alloc; script]?, VecDeque::new(alloc), false)?)
+    Ok(script)
 }
 
 // Does what the letters say.
@@ -115,8 +116,9 @@ fn holds(
 }
 
 fn each_row(rt: &(impl Abort + AllocGlobal), rows: &[(&str, &str, &str, u64)]) -> Result<(), Fail> {
+    let scripts = [two_lines(rt.alloc())?];
     for row in rows {
-        let mut host = two_lines(rt.alloc())?;
+        let mut host = Host::start(rt.alloc(), &scripts, VecDeque::new(rt.alloc()), false)?;
         holds(rt, &mut host, row)?;
     }
     Ok(())

@@ -1,4 +1,4 @@
-use Rattle.std.proofs.Common.{◌≡◌, [], ◌++◌, ap, ◌∙◌, arith}
+use Rattle.std.proofs.Common.{◌≡◌, [], ◌++◌, refl, ap, ◌∙◌, arith}
 use Rattle.std.specs.Vec.{with_items}
 use Rattle.std.proofs.lemmas.List.{with_items_is}
 use Rattle.isolation.specs.Seats.{is_attached, some, waits_for_report}
@@ -42,7 +42,7 @@ invariant_of-self-in-Err c =
       room = λ works. absurd cc;
       alone = λ _. none;
       gone = ap (λ ss. some is_attached ss) c.restore.ensures.gone;
-      fit = gone-fit (protocol a.scripts.items) c.restore.new.seats.items none;
+      fit = gone-fit (protocol a.scripts.now) c.restore.new.seats.items none;
     }
 
 pub returns-in-Ok-clause-made : goal.returns-in-Ok-clause-made
@@ -52,10 +52,10 @@ returns-in-Ok-clause-made c = λ taken.
     let after = taken ++ c.advance.new.printed.items in
     let seats : (with_items a.seats c.advance.new.seats).items ≡ c.advance.new.seats =
     with_items_is a.seats c.advance.new.seats (omega (arith, c.advance.auto.seats, c.as_mut_slice.ensures.len)) in
-    advanced _ c.args.self.now c.as_slice.result.now c.args.moment c.in-Ok.field-0.steps c.is_first.result
+    advanced _ c.args.self.now a.scripts.now c.args.moment c.in-Ok.field-0.steps c.is_first.result
     c.as_mut_slice.result.now c.advance.new.seats
     (with_items a.seats c.advance.new.seats).items before c.in-Ok.field-0.stopped c.pause_behind-self-inside.result
     c.stops_behind-self-inside.result
     (machine_run c.advance.new.machine c.advance.new.heap after)
-    c.self.view_is (c.requires.ready before) c.as_slice.ensures.value c.is_first.ensures c.as_mut_slice.ensures.value
+    c.self.view_is (c.requires.ready before) refl c.is_first.ensures c.as_mut_slice.ensures.value
     c.pause_behind-self-inside.ensures c.stops_behind-self-inside.ensures seats (c.in-Ok.ensures.made taken)

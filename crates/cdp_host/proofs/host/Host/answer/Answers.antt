@@ -1,7 +1,6 @@
 use Rattle.std.proofs.Common.{◌≡◌, ◌++◌, List, take, drop, length, true, ap, sym, subst, ◌∙◌}
 use Rattle.isolation.specs.Seats.{is_attached, seat_of}
 use Rattle.isolation.specs.declared.seat.Seat.TheVariants.{Attached}
-use Rattle.js_tree.specs.declared.script.Script.{Script}
 use Rattle.cdp_session.specs.Replies.{Answer, answer_of}
 use Rattle.cdp_session.specs.Sessions.{Session}
 use Rattle.cdp_host.specs.Hosts.{AreLines, HostState, machine_standing, parts_standing}
@@ -16,11 +15,9 @@ invariant_of-program c =
     let a = c.self.inside in
     let held : is_attached (seat_of c.args.s a.seats.items) ≡ true = subst
     (λ o. is_attached (seat_of c.args.s o.meaning.seats) ≡ true) (sym c.self.view_is) c.requires in
-    let P : List Script → Type 0 = λ ss. AreLines ss c.as_slice-2.result.now in
-    let Q : List (List _) → Type 0 = λ ls. AreLines a.scripts.items ls in
+    let Q : List (List _) → Type 0 = λ ls. AreLines a.scripts.now ls in
     record {
-      located =
-          subst P (sym c.as_slice.ensures.value) (subst Q (sym c.as_slice-2.ensures.value) c.self.invariant.lines);
+      located = subst Q (sym c.as_slice.ensures.value) c.self.invariant.lines;
       kept = c.self.invariant.kept (works-at c.args.s a.broken a.seats.items c.self.invariant.alone held);
     }
 
@@ -31,18 +28,16 @@ invariant_of-self c =
     (λ o. is_attached (seat_of c.args.s o.meaning.seats) ≡ true) (sym c.self.view_is) c.requires in
     let it = whose (seat_of c.args.s a.seats.items) held in
     let rest = drop (length c.answer.new.seats) a.seats.items in
-    let f : List Script
-    → List Script
-    → Answer = λ ss ts. answer_of
-    (record { scripts = ss; paused = a.stop; standing = machine_standing ts a.machine a.heap })
+    let answer : Answer = answer_of
+    (record { scripts = a.scripts.now; paused = a.stop; standing = machine_standing a.scripts.now a.machine a.heap })
     it.0 c.args.text.now in
-    sound-seats a.scripts.items a.lines.items a.spots a.machine a.broken a.seats.items
+    sound-seats a.scripts.now a.lines.items a.spots a.machine a.broken a.seats.items
     (take a.seats.len (c.answer.new.seats ++ rest)) a.seats.len a.fallback a.fallen.items
     c.self.invariant
     (works-at c.args.s a.broken a.seats.items c.self.invariant.alone held)
-    (answer-fit a.scripts.items c.answer.result (f c.as_slice-3.result.now c.as_slice.result.now) c.args.s a.seats.items
+    (answer-fit a.scripts.now c.answer.result answer c.args.s a.seats.items
     (take a.seats.len (c.answer.new.seats ++ rest))
-    (answers-back c.answer.result (f c.as_slice-3.result.now c.as_slice.result.now)
+    (answers-back c.answer.result answer
     a.seats.len c.args.s a.seats.items c.as_mut_slice.result.now c.answer.new.seats rest
     c.as_mut_slice.ensures.value (sym c.as_mut_slice.ensures.len)
     (c.answer.ensures it.0 (ap (seat_of c.args.s) c.as_mut_slice.ensures.value ∙ it.1)))
@@ -55,25 +50,18 @@ returns-clause-answers c =
     let rest = drop (length c.answer.new.seats) a.seats.items in
     let news = take a.seats.len (c.answer.new.seats ++ rest) in
     let f : Session
-    → List Script
-    → List Script
-    → Answer = λ x ss ts. answer_of
-    (record { scripts = ss; paused = a.stop; standing = machine_standing ts a.machine a.heap })
+    → Answer = λ x. answer_of
+    (record { scripts = a.scripts.now; paused = a.stop; standing = machine_standing a.scripts.now a.machine a.heap })
     x c.args.text.now in
-    let lent : (x : Session) → f x c.as_slice-3.result.now c.as_slice.result.now ≡ f x a.scripts.items a.scripts.items =
-    λ x. ap (λ ss. f x ss c.as_slice.result.now) c.as_slice-3.ensures.value
-    ∙ ap (f x a.scripts.items) c.as_slice.ensures.value in
     let A : HostState → Type 0 = λ o. (x : Session) → seat_of c.args.s o.meaning.seats ≡ Attached x
     → AnswersIn c.answer.result
     (answer_of (situation o.scripts o.meaning.stop (parts_standing o.scripts o.meaning.program)) x c.args.text.now)
     c.args.s o.meaning.seats news in
     let here : A h = λ x is.
-    let B : Answer → Type 0 = λ answer. AnswersIn c.answer.result answer c.args.s a.seats.items news in
-    subst B (lent x)
-    (answers-back c.answer.result (f x c.as_slice-3.result.now c.as_slice.result.now)
+    answers-back c.answer.result (f x)
     a.seats.len c.args.s a.seats.items c.as_mut_slice.result.now c.answer.new.seats rest
     c.as_mut_slice.ensures.value (sym c.as_mut_slice.ensures.len)
-    (c.answer.ensures x (ap (seat_of c.args.s) c.as_mut_slice.ensures.value ∙ is))) in
+    (c.answer.ensures x (ap (seat_of c.args.s) c.as_mut_slice.ensures.value ∙ is)) in
     subst A c.self.view_is here
 
 pub returns-clause-works : goal.returns-clause-works

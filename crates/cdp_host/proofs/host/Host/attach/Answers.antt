@@ -1,10 +1,9 @@
 use Rattle.std.proofs.Common.{◌+◌, ℕ, length, Result, Ok, Err, OnErr, ap, subst, sym, ◌∙◌}
 use Rattle.isolation.specs.Histories.{Attach}
-use Rattle.pure_eval.specs.Workspaces.{Workspace, begun}
+use Rattle.pure_eval.specs.Workspaces.{Workspace}
 use Rattle.cdp_session.specs.Sessions.{fresh}
 use Rattle.cdp_host.specs.Fallbacks.{Fallback, HasRoom}
 use Rattle.cdp_host.specs.Hosts.{HostState, Leaves}
-use Rattle.cdp_host.specs.Programs.{code_of}
 use Rattle.cdp_host.proofs.CallLemmas.{attach-fit, attach-leaves, attach-stands, sound-more}
 use Rattle.cdp_host.proofs.ViewLemmas.{seen_as}
 use Rattle.cdp_host.proofs.host.Host.attach.Goals as goal
@@ -17,7 +16,7 @@ pub returns-in_err-reserve-clause-err : goal.returns-in_err-reserve-clause-err
 returns-in_err-reserve-clause-err c =
     let a = c.self.inside in
     let V : Fallback → HostState = λ f. record {
-      scripts = a.scripts.items;
+      scripts = a.scripts.now;
       meaning =
           record {
             program = record { machine = a.machine; heap = a.heap };
@@ -37,10 +36,10 @@ pub invariant_of-self-2 : goal.invariant_of-self-2
 invariant_of-self-2 c =
     let a = c.self.inside in
     let P : ℕ → Type 0 = λ n. HasRoom n c.reserve.new.self in
-    sound-more a.scripts.items a.lines.items a.spots a.machine a.broken a.seats.items c.push.new.self.items
+    sound-more a.scripts.now a.lines.items a.spots a.machine a.broken a.seats.items c.push.new.self.items
     a.seats.len c.push.new.self.len
     a.fallback c.reserve.new.self a.fallen.items c.self.invariant c.if-self.false
-    (attach-fit a.scripts.items c.new-session.result _ _ a.seats.items c.push.new.self.items c.new-session.ensures
+    (attach-fit a.scripts.now c.new-session.result _ _ a.seats.items c.push.new.self.items c.new-session.ensures
     c.in_ok-push.ensures.items c.self.invariant.fit)
     (subst P (ap (λ n. n + 1) c.len.ensures ∙ sym c.in_ok-push.ensures.len) c.in_ok-reserve.ensures.room)
     c.in_ok-reserve.ensures.same
@@ -59,7 +58,7 @@ returns-clause-leaves c =
     ∙ ap (λ n. f (n + 1) c.in_ok-workspace.workspace)
     (c.sessions-number.ensures ∙ sym (ap (λ o. length o.meaning.seats) c.self.view_is))
     ∙ ap (f (length a.seats.items + 1))
-    (c.in_ok-workspace.ensures ∙ ap (λ ss. begun (code_of ss)) c.as_slice.ensures.value))
+    c.in_ok-workspace.ensures)
     c.in_ok-push.ensures.items)
 
 pub returns-clause-stands : goal.returns-clause-stands

@@ -20,5 +20,5 @@ invariant_of-self c =
       room = λ works. absurd cc;
       alone = λ _. none;
       gone = ap (λ ss. some is_attached ss) c.restore.ensures.gone;
-      fit = gone-fit (protocol a.scripts.items) c.restore.new.seats.items none;
+      fit = gone-fit (protocol a.scripts.now) c.restore.new.seats.items none;
     }

@@ -14,7 +14,7 @@ use Rattle.isolation.proofs.RoomLemmas.{put-fits}
 pub invariant_of-self : goal.invariant_of-self
 invariant_of-self c =
     let a = c.self.inside in
-    let P = protocol a.scripts.items in
+    let P = protocol a.scripts.now in
     let news = c.leave.new.seats in
     let rest = drop (length news) a.seats.items in
     let w = take a.seats.len (news ++ rest) in
@@ -24,7 +24,7 @@ invariant_of-self c =
     put-back a.seats.len c.args.s Left a.seats.items news rest
     (sym c.as_mut_slice.ensures.len ∙ ap length c.as_mut_slice.ensures.value)
     (c.leave.ensures ∙ ap (put c.args.s Left) c.as_mut_slice.ensures.value) in
-    sound-seats a.scripts.items a.lines.items a.spots a.machine a.broken a.seats.items w a.seats.len a.fallback
+    sound-seats a.scripts.now a.lines.items a.spots a.machine a.broken a.seats.items w a.seats.len a.fallback
     a.fallen.items
     c.self.invariant (works-at c.args.s a.broken a.seats.items c.self.invariant.alone held)
     (subst (AllFit P) (sym back) (put-fits P c.args.s Left a.seats.items tt c.self.invariant.fit))

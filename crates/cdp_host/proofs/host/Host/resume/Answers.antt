@@ -16,33 +16,33 @@ use Rattle.cdp_host.proofs.host.Host.resume.Goals as goal
 pub invariant_of-self : goal.invariant_of-self
 invariant_of-self c =
     let a = c.self.inside in
-    let P = protocol a.scripts.items in
+    let P = protocol a.scripts.now in
     let news = c.resume_all.new.seats in
     let rest = drop (length news) a.seats.items in
     let back = given-back a.seats.len news rest
     (sym c.as_mut_slice.ensures.len
-    ∙ sym (over-all-length (HearsOn P) c.as_mut_slice.result.now news (c.resume_all.ensures a.scripts.items)))
+    ∙ sym (over-all-length (HearsOn P) c.as_mut_slice.result.now news (c.resume_all.ensures a.scripts.now)))
     in
-    sound-seats a.scripts.items a.lines.items a.spots a.machine a.broken a.seats.items
+    sound-seats a.scripts.now a.lines.items a.spots a.machine a.broken a.seats.items
     (take a.seats.len (news ++ rest)) a.seats.len a.fallback a.fallen.items
     c.self.invariant (ap (λ h. h.broken) c.self.view_is ∙ c.requires)
-    (subst (AllFit P) (sym back) (on-each P c.as_mut_slice.result.now news (c.resume_all.ensures a.scripts.items)).1)
+    (subst (AllFit P) (sym back) (on-each P c.as_mut_slice.result.now news (c.resume_all.ensures a.scripts.now)).1)
 
 pub returns-then-is_some-clause-means : goal.returns-then-is_some-clause-means
 returns-then-is_some-clause-means c =
     let a = c.self.inside in
-    let P = protocol a.scripts.items in
+    let P = protocol a.scripts.now in
     let news = c.resume_all.new.seats in
     let rest = drop (length news) a.seats.items in
     let back = given-back a.seats.len news rest
     (sym c.as_mut_slice.ensures.len
-    ∙ sym (over-all-length (HearsOn P) c.as_mut_slice.result.now news (c.resume_all.ensures a.scripts.items)))
+    ∙ sym (over-all-length (HearsOn P) c.as_mut_slice.result.now news (c.resume_all.ensures a.scripts.now)))
     in
     let w = take a.seats.len (news ++ rest) in
     let h : HostState = seen_as a in
     let new : HostState = record h { meaning = record h.meaning { stop = None; seats = w } } in
     let over = subst (λ ss. OverAll (HearsOn P) a.seats.items ss) (sym back)
-    (subst (λ ss. OverAll (HearsOn P) ss news) c.as_mut_slice.ensures.value (c.resume_all.ensures a.scripts.items))
+    (subst (λ ss. OverAll (HearsOn P) ss news) c.as_mut_slice.ensures.value (c.resume_all.ensures a.scripts.now))
     in
     let Q : HostState
     → Type 0 = λ o. (taken : List (List ℕ))

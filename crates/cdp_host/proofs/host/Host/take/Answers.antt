@@ -11,11 +11,11 @@ invariant_of-self c =
     let held : is_attached (seat_of c.args.s a.seats.items) ≡ true = subst
     (λ o. is_attached (seat_of c.args.s o.meaning.seats) ≡ true) (sym c.self.view_is) c.requires in
     let rest = drop (length c.take.new.seats) a.seats.items in
-    sound-seats a.scripts.items a.lines.items a.spots a.machine a.broken a.seats.items
+    sound-seats a.scripts.now a.lines.items a.spots a.machine a.broken a.seats.items
     (take a.seats.len (c.take.new.seats ++ rest)) a.seats.len a.fallback a.fallen.items
     c.self.invariant
     (works-at c.args.s a.broken a.seats.items c.self.invariant.alone held)
-    (take-fit a.scripts.items c.args.s a.seats.items (take a.seats.len (c.take.new.seats ++ rest)) held
+    (take-fit a.scripts.now c.args.s a.seats.items (take a.seats.len (c.take.new.seats ++ rest)) held
     (take-back a.seats.len c.args.s a.seats.items c.as_mut_slice.result.now c.take.new.seats rest
     c.as_mut_slice.ensures.value
     (sym c.as_mut_slice.ensures.len) c.take.ensures.seats)

@@ -14,7 +14,7 @@ use Rattle.isolation.proofs.RoomLemmas.{put-fits}
 pub invariant_of-self : goal.invariant_of-self
 invariant_of-self c =
     let a = c.self.inside in
-    let P = protocol a.scripts.items in
+    let P = protocol a.scripts.now in
     let s = c.args.s in
     let news = c.tell_loss.new.seats in
     let rest = drop (length news) a.seats.items in
@@ -41,7 +41,7 @@ invariant_of-self c =
       fit =
           subst (AllFit P) (sym back)
           (put-fits P s (owner_told (seat_of s a.seats.items)) a.seats.items
-          (told-fits a.scripts.items (seat_of s a.seats.items) gone) c.self.invariant.fit);
+          (told-fits a.scripts.now (seat_of s a.seats.items) gone) c.self.invariant.fit);
     }
 
 pub returns-clause-stands : goal.returns-clause-stands

@@ -30,8 +30,8 @@ invariant_of-self c =
       alone = λ fails. absurd cc;
       gone = c.self.invariant.gone;
       fit =
-          subst (λ ss. AllFit (protocol a.scripts.items) ss) (sym seats)
-          (reported-fit (protocol a.scripts.items) a.seats.items c.self.invariant.fit);
+          subst (λ ss. AllFit (protocol a.scripts.now) ss) (sym seats)
+          (reported-fit (protocol a.scripts.now) a.seats.items c.self.invariant.fit);
     }
 
 pub settle-requires : goal.settle-requires
