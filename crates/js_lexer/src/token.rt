@@ -8,7 +8,7 @@ use thiserror::Error;
 
 /// What a token is: a name, a numeric literal, a string literal, one of the reserved words, or one
 /// of the punctuators (ECMA-262, 12.7.2 and 12.8).
-#[derive(Clone, Copy, Debug)]
+#[derive(Clone, Copy, Debug, PartialEq, Eq)]
 pub enum TokenKind {
     /// A word that isn't reserved.
     Name,
