@@ -16,17 +16,17 @@ use Rattle.pure_eval.specs.Workspaces.{Workspace, begun}
 use Rattle.session_messages.specs.Outboxes.{fits}
 use Rattle.cdp_session.specs.Replies.{Answer}
 use Rattle.cdp_session.specs.Sessions.{Session, emptied, fresh}
-use Rattle.cdp_host.specs.Fallbacks.{HasRoom, fallback_held}
+use Rattle.host_seats.specs.Fallbacks.{HasRoom, fallback_held}
+use Rattle.host_seats.specs.declared.fallback.Fallback.{Fallback}
+use Rattle.host_seats.specs.declared.losses.SessionLost.{SessionLost}
+use Rattle.host_seats.proofs.PlacedLemmas.{put-back}
 use Rattle.cdp_host.specs.Hosts.{CarriesOn, HostState, IsSound, Leaves, NoneAttached, meaning_with}
 use Rattle.cdp_host.specs.Programs.{code_of}
 use Rattle.cdp_host.specs.Protocols.{protocol}
 use Rattle.cdp_host.specs.Watching.{AnswersIn}
-use Rattle.cdp_host.specs.declared.fallback.Fallback.{Fallback}
-use Rattle.cdp_host.specs.declared.losses.SessionLost.{SessionLost}
 use Rattle.cdp_host.specs.declared.telling.Answered.{Answered}
 use Rattle.cdp_host.specs.declared.telling.Answered.TheVariants.{Kept, Overran, Failed}
 use Rattle.cdp_host.proofs.HistoryLemmas.{stands-call}
-use Rattle.cdp_host.proofs.PlacedLemmas.{put-back}
 use Rattle.isolation.proofs.RoomLemmas.{put-fits, append-fits}
 use Rattle.isolation.proofs.StandingLemmas.{none-append}
 
@@ -51,7 +51,7 @@ works-at s false seats alone held = refl
 
 pub sound-more : (scripts : List Script) (starts : List (List ℕ)) (found : List (List Spot)) (machine : Machine)
     (b : Bool)
-    → (seats news : List (Seat Session)) (count more : ℕ) (held wider : Fallback) (losses : List SessionLost)
+    → (seats news : List (Seat Session)) (count more : ℕ) (held wider : Fallback Session) (losses : List SessionLost)
     → IsSound scripts starts found machine b seats count held losses → b ≡ false → AllFit (protocol scripts) news
     → HasRoom more wider → fallback_held wider ≡ fallback_held held
     → IsSound scripts starts found machine b news more wider losses
@@ -70,7 +70,7 @@ sound-more scripts starts found machine b seats news count more held wider losse
 
 pub sound-seats : (scripts : List Script) (starts : List (List ℕ)) (found : List (List Spot)) (machine : Machine)
     (b : Bool)
-    → (seats news : List (Seat Session)) (count : ℕ) (held : Fallback) (losses : List SessionLost)
+    → (seats news : List (Seat Session)) (count : ℕ) (held : Fallback Session) (losses : List SessionLost)
     → IsSound scripts starts found machine b seats count held losses → b ≡ false → AllFit (protocol scripts) news
     → IsSound scripts starts found machine b news count held losses
 sound-seats scripts starts found machine b seats news count held losses sound works fit =

@@ -6,11 +6,11 @@ use Rattle.isolation.proofs.LongerLemmas.{call-program, fits-more, whole-more}
 use Rattle.isolation.proofs.StandingLemmas.{stands-more}
 use Rattle.js_tree.specs.declared.script.Script.{Script}
 use Rattle.js_semantics.specs.Run.{Run}
+use Rattle.host_seats.specs.declared.losses.SessionLost.{SessionLost}
 use Rattle.cdp_host.specs.Histories.{Meaning, apply, begin, whole}
 use Rattle.cdp_host.specs.Hosts.{HostState, Leaves, Stands, meaning_with}
 use Rattle.cdp_host.specs.Programs.{printed_of, start}
 use Rattle.cdp_host.specs.Protocols.{protocol}
-use Rattle.cdp_host.specs.declared.losses.SessionLost.{SessionLost}
 use Rattle.cdp_host.proofs.ProgramLemmas.{start-prints}
 
 -- a history with one more entry means what that entry makes of it

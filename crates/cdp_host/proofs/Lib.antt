@@ -11,7 +11,6 @@ pub mod StateLemmas
 pub mod StartLemmas
 pub mod AdvanceLemmas
 pub mod HistoryLemmas
-pub mod PlacedLemmas
 pub mod CallLemmas
 pub mod LeaveLemmas
 pub mod LossLemmas
@@ -22,5 +21,4 @@ pub mod RunLemmas
 pub mod NamingLemmas
 pub mod StepLemmas
 pub mod RefusalLemmas
-pub mod FallbackLemmas
 pub mod ViewLemmas

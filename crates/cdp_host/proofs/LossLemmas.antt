@@ -14,14 +14,14 @@ use Rattle.isolation.proofs.StandingLemmas.{fallen-attached, stands-detach-falle
 use Rattle.js_tree.specs.declared.script.Script.{Script}
 use Rattle.js_semantics.specs.Run.{Run}
 use Rattle.cdp_session.specs.Sessions.{Session}
+use Rattle.host_seats.specs.Losses.{owner_told}
+use Rattle.host_seats.proofs.PlacedLemmas.{put-same}
 use Rattle.cdp_host.specs.Histories.{Meaning, apply as applied, whole}
 use Rattle.cdp_host.specs.Hosts.{CarriesOn, HostState, meaning_with}
 use Rattle.cdp_host.specs.Programs.{printed_of, start}
 use Rattle.cdp_host.specs.Protocols.{protocol}
-use Rattle.cdp_host.specs.Watching.{owner_told}
 use Rattle.cdp_host.proofs.HistoryLemmas.{stands-behind, stands-broken}
 use Rattle.cdp_host.proofs.LeaveLemmas.{reseated}
-use Rattle.cdp_host.proofs.PlacedLemmas.{put-same}
 
 -- ---- one seat
 

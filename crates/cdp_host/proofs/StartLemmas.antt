@@ -10,14 +10,15 @@ use Rattle.js_machine.specs.declared.end.End.{End}
 use Rattle.js_machine.specs.declared.machine.Started.{Started}
 use Rattle.js_machine.specs.Machines.{IsKept}
 use Rattle.js_machine.specs.Starts.{IsStarted}
+use Rattle.host_seats.specs.Fallbacks.{HasRoom, fallback_held, fallback_of}
+use Rattle.host_seats.specs.declared.fallback.Fallback.{Fallback}
 use Rattle.cdp_host.specs.Programs.{code_of, start, printed_of}
 use Rattle.isolation.specs.Meanings.{phase_of}
 use Rattle.isolation.specs.Seats.{is_attached, some}
 use Rattle.cdp_host.specs.Histories.{Meaning, begin}
 use Rattle.pure_eval.specs.Workspaces.{Workspace, begun}
-use Rattle.cdp_host.specs.Fallbacks.{HasRoom, fallback_held, fallback_of}
+use Rattle.cdp_session.specs.Sessions.{Session}
 use Rattle.cdp_host.specs.Hosts.{Parts, AreLines, IsSound, machine_run}
-use Rattle.cdp_host.specs.declared.fallback.Fallback.{Fallback}
 use Rattle.cdp_host.proofs.ProgramLemmas.{start-prints}
 use Rattle.cdp_host.proofs.PartLemmas.{run-printed}
 
@@ -59,7 +60,7 @@ pub start-sound : (scripts : List Script) (input lines : List (List ℕ)) (spots
     → IsStarted (terms_of_scripts scripts) input s
     → AreLines scripts lines
     → spots ≡ map break_locations scripts
-    → (held : Fallback) → HasRoom 0 held → fallback_held held ≡ fallback_of []
+    → (held : Fallback Session) → HasRoom 0 held → fallback_held held ≡ fallback_of []
     → IsSound scripts lines spots s.machine false [] 0 held []
 unfolding code_of
 start-sound scripts input lines spots s is located found held room made =

@@ -23,8 +23,11 @@ use Rattle.cdp_session.specs.declared.situation.Pause.{Pause}
 use Rattle.cdp_session.specs.Sessions.{Session}
 use Rattle.cdp_session.specs.Situations.{Standing}
 use Rattle.frames_scopes.specs.Places.{starts_of}
+use Rattle.host_seats.specs.Fallbacks.{Fallback, HasRoom}
+use Rattle.host_seats.specs.Losses.{is_for_memory, losses_from}
+use Rattle.host_seats.specs.declared.fallback.Fallback.{Fallback as HeldFallback}
+use Rattle.host_seats.specs.declared.losses.SessionLost.{SessionLost}
 use Rattle.cdp_host.specs.Arrivals.{place_at, is_uncaught, IsShort}
-use Rattle.cdp_host.specs.Fallbacks.{Fallback, HasRoom}
 use Rattle.cdp_host.specs.Histories.{IsHistory, Meaning, whole}
 use Rattle.cdp_host.specs.Programs.{code_of, printed_of}
 use Rattle.cdp_host.specs.Protocols.{protocol}
@@ -32,9 +35,6 @@ use Rattle.cdp_host.specs.Rules.{printed_between}
 use Rattle.cdp_host.specs.Standings.{ending_of, standing_of}
 use Rattle.cdp_host.specs.States.{state_of}
 use Rattle.cdp_host.specs.Steps.{Step}
-use Rattle.cdp_host.specs.Watching.{is_for_memory, losses_from}
-use Rattle.cdp_host.specs.declared.fallback.Fallback.{Fallback as HeldFallback}
-use Rattle.cdp_host.specs.declared.losses.SessionLost.{SessionLost}
 use Rattle.cdp_host.specs.declared.state.State.{State}
 use Rattle.cdp_host.specs.declared.state.State.TheVariants.{Broken}
 
@@ -118,7 +118,7 @@ pub record HostState : Type 0 where
   pub scripts : List Script
   pub meaning : Meaning Parts
   pub broken : Bool
-  pub fallback : Fallback
+  pub fallback : Fallback Session
   pub fallen : List SessionLost
 
 -- what a host means, behind the texts that its runs have handed out
@@ -203,7 +203,7 @@ pub record FallsBack (old new : HostState) : Type 0 where
 -- up, no loss is to be handed out, and there is room for what it falls back to with so many seats; then it has no
 -- session, nor has what it falls back to. The texts that wait fit.
 pub record IsSound (scripts : List Script) (starts : List (List ℕ)) (found : List (List Spot)) (machine : Machine)
-    (broken : Bool) (seats : List (Seat Session)) (count : ℕ) (fallback : HeldFallback) (fallen : List SessionLost)
+    (broken : Bool) (seats : List (Seat Session)) (count : ℕ) (fallback : HeldFallback Session) (fallen : List SessionLost)
     : Type 0 where
   pub lines : AreLines scripts starts
   pub spots : found ≡ map break_locations scripts

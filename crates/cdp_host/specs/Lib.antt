@@ -9,6 +9,5 @@ pub mod States
 pub mod Ran
 pub mod Rules
 pub mod Watching
-pub mod Fallbacks
 pub mod Hosts
 pub mod Foreign

@@ -13,30 +13,31 @@ ghost use Rattle.cdp_json.specs.declared.refusal.Refusal.{Refusal};
 ghost use Rattle.cdp_session.specs.Replies.{answer_of, outcome_of, IsRefused};
 ghost use Rattle.cdp_session.specs.Sessions.{Session as Kept, sent};
 ghost use Rattle.pure_eval.specs.Workspaces.{begun};
-ghost use Rattle.cdp_host.specs.Fallbacks.{fallback_of};
+ghost use Rattle.host_seats.specs.Fallbacks.{fallback_of};
+ghost use Rattle.host_seats.specs.Losses.{loss_told, losses_from};
 ghost use Rattle.cdp_host.specs.Histories.{begin};
 ghost use Rattle.cdp_host.specs.Programs.{code_of, is_over, has_thrown};
 ghost use Rattle.cdp_host.specs.Protocols.{asks_to_resume, asks_to_wake, protocol, situation, texts_fit};
 ghost use Rattle.cdp_host.specs.Hosts.{CarriesOn, FallsBack, KeepsFallback, Leaves, NoneAttached, RunsTo, Stands, everybody, lost_for_memory, meaning_with, parts_standing, state_at};
 ghost use Rattle.cdp_host.specs.Ran.{IsStretch};
 ghost use Rattle.cdp_host.specs.Rules.{printed_between};
-ghost use Rattle.cdp_host.specs.Watching.{AnswersIn, loss_told, losses_from};
+ghost use Rattle.cdp_host.specs.Watching.{AnswersIn};
 
 use crate::advance::{Advanced, advance};
 use crate::debuggee::{Debuggee, is_over};
-use crate::fallback::Fallback;
 use crate::lines::lines_of_all;
-use crate::losses::SessionLost;
-use crate::seats::{
-    fell, is_attached, losses_of, report_all, resume_all, some_enabled, some_wait_for_report,
-};
+use crate::seats::{resume_all, some_enabled};
 use crate::state::State;
 use crate::stops::{is_first, pause_behind, phase_of, stops_behind, waits, woken};
-use crate::telling::{Answered, answer, leave, seat_index, take, tell_loss};
+use crate::telling::{Answered, answer, take};
 use breakpoints::ScriptSpots;
 use cdp_session::{Asks, Pause, Session, Situation};
 use cdp_text::line_table::LineTable;
 use cdp_text::units::Units;
+use host_seats::{
+    Fallback, SessionLost, fell, is_attached, leave, losses_of, report_all, seat_index,
+    some_wait_for_report, tell_loss,
+};
 use isolation::{Phase, Seat};
 use js_machine::machine::{Machine, Started};
 use js_machine::scripts::terms_of_scripts;
@@ -67,7 +68,7 @@ pub struct Host<'p> {
     // what became of the sessions, in the order of their numbers, which count from 1
     seats: Vec<Seat<Session>>,
     broken: bool,
-    fallback: Fallback,
+    fallback: Fallback<Session>,
     // the losses that want of memory in a run brought, until they are handed out
     fallen: Vec<SessionLost>,
 }
@@ -76,7 +77,7 @@ impl<'p> Model for Host<'p> {
     ghost use Rattle.js_tree.specs.contracts.tree.Stmt as stmt;
     ghost use Rattle.std.specs.Coded.{codes};
     ghost use Rattle.pure_eval.specs.TermCodes.{term_coded};
-    ghost use Rattle.cdp_host.specs.Fallbacks.{fallback_held};
+    ghost use Rattle.host_seats.specs.Fallbacks.{fallback_held};
     ghost use Rattle.cdp_host.specs.Hosts.{HostState, IsSound};
 
     ghost Value = { HostState };

@@ -15,11 +15,9 @@ mod advance;
 mod arrival;
 mod debuggee;
 mod endings;
-mod fallback;
 mod host;
 pub mod laws;
 mod lines;
-mod losses;
 mod seats;
 mod state;
 mod stops;
@@ -28,5 +26,5 @@ mod telling;
 mod watching;
 
 pub use host::{Host, Ran, Told};
-pub use losses::SessionLost;
+pub use host_seats::SessionLost;
 pub use state::State;

@@ -20,7 +20,8 @@ use Rattle.cdp_session.specs.Replies.{answer_of}
 use Rattle.cdp_session.specs.Sessions.{Session}
 use Rattle.cdp_session.specs.Situations.{Standing}
 use Rattle.cdp_session.specs.declared.situation.Pause.{Pause}
-use Rattle.cdp_host.specs.declared.losses.SessionLost.{SessionLost}
+use Rattle.host_seats.specs.declared.losses.SessionLost.{SessionLost}
+use Rattle.host_seats.specs.Losses.{losses_from}
 use Rattle.cdp_host.specs.declared.state.State.{State}
 use Rattle.cdp_host.specs.declared.state.State.TheVariants as states
 use Rattle.cdp_host.specs.Histories.{Meaning, apply, whole}
@@ -30,7 +31,6 @@ use Rattle.cdp_host.specs.Protocols.{protocol, situation, texts_fit}
 use Rattle.cdp_host.specs.Rules.{printed_between}
 use Rattle.cdp_host.specs.Standings.{standing_of}
 use Rattle.cdp_host.specs.States.{state_of}
-use Rattle.cdp_host.specs.Watching.{losses_from}
 use Rattle.cdp_host.proofs.HistoryLemmas.{longer}
 use Rattle.cdp_host.proofs.RunLemmas.{lost-fallen}
 use Rattle.cdp_host.proofs.StandingLemmas.{standing-taken}

@@ -1,9 +1,9 @@
 -- The losses that a run tells, one more of them: those that are written, and those for want of memory.
 use Rattle.std.proofs.Common.{◌≡◌, ◌<◌, ℕ, ◌+◌, List, [], ◌∷◌, ◌++◌, length, take, get_or, map, Bool, true, false, if◌then◌else◌, refl, ap, sym, ◌∙◌, append_assoc}
 use Rattle.std.proofs.lemmas.List.{map-append, take_more}
+use Rattle.host_seats.specs.Losses.{is_for_memory}
+use Rattle.host_seats.specs.declared.losses.SessionLost.{SessionLost}
 use Rattle.cdp_host.specs.Hosts.{lost_for_memory}
-use Rattle.cdp_host.specs.Watching.{is_for_memory}
-use Rattle.cdp_host.specs.declared.losses.SessionLost.{SessionLost}
 use Rattle.command_line.specs.Output.{Overran, output_text, overrun_in}
 
 -- ---- those that are written

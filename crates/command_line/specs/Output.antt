@@ -8,14 +8,14 @@ use Rattle.isolation.specs.declared.seat.Seat.TheVariants.{Attached as AttachedS
 use Rattle.js_tree.specs.declared.script.Script.{Script}
 use Rattle.js_semantics.specs.Run.{Run as Program}
 use Rattle.cdp_session.specs.Sessions.{Session}
-use Rattle.cdp_host.specs.declared.losses.SessionLost.{SessionLost}
+use Rattle.host_seats.specs.declared.losses.SessionLost.{SessionLost}
+use Rattle.host_seats.specs.Losses.{is_for_memory, losses_from}
 use Rattle.cdp_host.specs.declared.state.State.{State}
 use Rattle.cdp_host.specs.declared.state.State.TheVariants as states
 use Rattle.cdp_host.specs.Histories.{Meaning, apply}
 use Rattle.cdp_host.specs.Protocols.{protocol, replied, texts_fit}
 use Rattle.cdp_host.specs.Rules.{printed_between}
 use Rattle.cdp_host.specs.States.{state_of}
-use Rattle.cdp_host.specs.Watching.{is_for_memory, losses_from}
 use Rattle.cdp_journal.specs.Escapes.{escaped, printed_escaped}
 
 -- a line of output

@@ -1,8 +1,8 @@
 use Rattle.std.proofs.Common.{map, string_bytes}
 use Rattle.isolation.specs.declared.seat.Loss.TheVariants.{Overrun}
-use Rattle.cdp_host.specs.declared.losses.SessionLost.{SessionLost}
 use Rattle.command_line.proofs.LossLemmas.{overruns-more}
 use Rattle.command_line.proofs.output.push_overruns.Goals as goal
+use Rattle.host_seats.specs.declared.losses.SessionLost.{SessionLost}
 
 pub loop-lost-preserved : goal.loop-lost-preserved
 loop-lost-preserved c =

@@ -1,8 +1,8 @@
 use Rattle.std.proofs.Common.{◌+◌, ℕ, length, Result, Ok, Err, OnErr, ap, subst, sym, ◌∙◌}
 use Rattle.isolation.specs.Histories.{Attach}
 use Rattle.pure_eval.specs.Workspaces.{Workspace}
-use Rattle.cdp_session.specs.Sessions.{fresh}
-use Rattle.cdp_host.specs.Fallbacks.{Fallback, HasRoom}
+use Rattle.cdp_session.specs.Sessions.{Session, fresh}
+use Rattle.host_seats.specs.Fallbacks.{Fallback, HasRoom}
 use Rattle.cdp_host.specs.Hosts.{HostState, Leaves}
 use Rattle.cdp_host.proofs.CallLemmas.{attach-fit, attach-leaves, attach-stands, sound-more}
 use Rattle.cdp_host.proofs.ViewLemmas.{seen_as}
@@ -15,7 +15,7 @@ on-err (Err fault) P p = p
 pub returns-in_err-reserve-clause-err : goal.returns-in_err-reserve-clause-err
 returns-in_err-reserve-clause-err c =
     let a = c.self.inside in
-    let V : Fallback → HostState = λ f. record {
+    let V : Fallback Session → HostState = λ f. record {
       scripts = a.scripts.now;
       meaning =
           record {
@@ -49,7 +49,7 @@ returns-clause-leaves c =
     let a = c.self.inside in
     let h : HostState = seen_as a in
     let f : ℕ → Workspace → _ = λ n w. fresh n w in
-    let P : Fallback → Type 0 = λ held.
+    let P : Fallback Session → Type 0 = λ held.
     Leaves c.args.self.now Attach
     (record h { meaning = record h.meaning { seats = c.push.new.self.items }; fallback = held }) in
     subst P (sym c.in_ok-reserve.ensures.same)

@@ -5,11 +5,11 @@ use Rattle.isolation.specs.Runs.{AllFit}
 use Rattle.isolation.specs.Standing.{less}
 use Rattle.isolation.proofs.PassLemmas.{on-each}
 use Rattle.isolation.proofs.PassLoops.{over-all-length}
+use Rattle.host_seats.proofs.PlacedLemmas.{given-back}
 use Rattle.cdp_host.specs.Hosts.{HostState, meaning_with}
 use Rattle.cdp_host.specs.Protocols.{protocol}
 use Rattle.cdp_host.proofs.CallLemmas.{sound-seats}
 use Rattle.cdp_host.proofs.LeaveLemmas.{resumed-is, unresumed-is}
-use Rattle.cdp_host.proofs.PlacedLemmas.{given-back}
 use Rattle.cdp_host.proofs.ViewLemmas.{seen_as}
 use Rattle.cdp_host.proofs.host.Host.resume.Goals as goal
 

@@ -2,11 +2,11 @@ use Rattle.std.proofs.Common.{◌≡◌, ◌++◌, take, drop, length, false, re
 use Rattle.isolation.specs.Histories.{Detach}
 use Rattle.isolation.specs.Runs.{AllFit}
 use Rattle.isolation.specs.Seats.{is_attached, put, seat_of}
+use Rattle.host_seats.specs.Losses.{owner_told}
+use Rattle.host_seats.proofs.PlacedLemmas.{put-back}
 use Rattle.cdp_host.specs.Hosts.{CarriesOn, HostState, NoneAttached}
 use Rattle.cdp_host.specs.Protocols.{protocol}
-use Rattle.cdp_host.specs.Watching.{owner_told}
 use Rattle.cdp_host.proofs.LossLemmas.{loss-stands, put-gone, told-fits, told-gone}
-use Rattle.cdp_host.proofs.PlacedLemmas.{put-back}
 use Rattle.cdp_host.proofs.ViewLemmas.{seen_as}
 use Rattle.cdp_host.proofs.host.Host.tell_loss.Goals as goal
 use Rattle.isolation.proofs.RoomLemmas.{put-fits}

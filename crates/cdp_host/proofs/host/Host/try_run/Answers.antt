@@ -5,9 +5,9 @@ use Rattle.isolation.specs.Meanings.{longest}
 use Rattle.isolation.specs.Runs.{AllFit}
 use Rattle.isolation.specs.Seats.{each, reported, some, waits_for_report}
 use Rattle.isolation.specs.Standing.{fallen_in}
+use Rattle.host_seats.specs.Losses.{losses_from}
 use Rattle.cdp_host.specs.Hosts.{meaning_with}
 use Rattle.cdp_host.specs.Protocols.{protocol}
-use Rattle.cdp_host.specs.Watching.{losses_from}
 use Rattle.cdp_host.proofs.RunLemmas.{falls-from, listed-by, reported-fit, reported-none, settled-as}
 use Rattle.cdp_host.proofs.host.Host.try_run.Goals as goal
 use Rattle.cdp_text.proofs.TestLemmas.{on-err}

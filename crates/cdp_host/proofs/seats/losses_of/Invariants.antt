@@ -1,9 +1,0 @@
-use Rattle.std.proofs.Common.{◌≡◌, take}
-use Rattle.cdp_host.specs.Watching.{losses_from}
-use Rattle.cdp_host.proofs.seats.losses_of.Given as goal
-
-abbrev pub invariant-loop-seat : goal.invariant-loop-seat
-invariant-loop-seat l = record {
-  counted : l.session ≡ l.seat-index;
-  items : l.losses.items ≡ losses_from 1 (take l.seat-index l.seats);
-}

@@ -1,0 +1,3 @@
+pub mod PlacedLemmas
+pub mod ReportLemmas
+pub mod FallbackLemmas

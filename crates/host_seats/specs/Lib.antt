@@ -1,0 +1,3 @@
+pub mod Losses
+pub mod Places
+pub mod Fallbacks
