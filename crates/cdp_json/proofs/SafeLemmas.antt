@@ -90,21 +90,17 @@ member_more done k j (Some ms) = more put_pair done (k, j) (Some ms)
 abbrev pub members_behind : List Member → List Entry → Option json.Members
 members_behind done left = option_map (with_members (map member_view done)) (safe_members_of (members_view left))
 
-pub members_more : (e : Entry) (left : List Entry) (old new : List Member) (m : Member) (j : Json)
+pub members_more : (e : Entry) (left : List Entry) (old new : List Member) (j : Json)
     → Some (json_view j) ≡ safe_value_of (view e.1)
-    → member_view m ≡ (utf16_of (string_bytes e.0), json_view j)
-    → new ≡ old ++ m ∷ []
+    → map member_view new ≡ map member_view old ++ (utf16_of (string_bytes e.0), json_view j) ∷ []
     → members_behind new left ≡ members_behind old (e ∷ left)
-members_more e left old new m j is named pushed =
+members_more e left old new j is pushed =
     sym (ap (λ o. option_map (with_members (map member_view old))
     (both (json.member (utf16_of (string_bytes e.0))) o (safe_members_of (members_view left))))
     (sym is)
     ∙ member_more (map member_view old) (utf16_of (string_bytes e.0)) (json_view j)
     (safe_members_of (members_view left))
-    ∙ ap (λ p. option_map (with_members (map member_view old ++ p ∷ [])) (safe_members_of (members_view left)))
-    (sym named)
-    ∙ ap (λ ps. option_map (with_members ps) (safe_members_of (members_view left)))
-    (sym (ap (map member_view) pushed ∙ map-append member_view old (m ∷ []))))
+    ∙ ap (λ ps. option_map (with_members ps) (safe_members_of (members_view left))) (sym pushed))
 
 pub members_all : (done : List Member) → Some (members_of (map member_view done)) ≡ members_behind done []
 members_all done = sym (ap Some (all_members (map member_view done)))

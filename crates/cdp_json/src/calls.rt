@@ -8,11 +8,11 @@ ghost use Rattle.serde_json.specs.View.{view, items_view};
 ghost use Rattle.cdp_json.specs.ArgumentViews.{argument_view};
 ghost use Rattle.cdp_json.specs.Arguments as spec;
 ghost use Rattle.cdp_json.specs.Arguments.{argument_of, arguments_from, arguments_of, is_serializable, object_or_value, value_from};
-ghost use Rattle.cdp_json.specs.Calls.{call_from, call_of};
+ghost use Rattle.cdp_json.specs.Calls.{call_of};
 ghost use Rattle.cdp_json.specs.Views.{json_view};
 
 use crate::arguments::{Argument, Arguments};
-use crate::flags::{EvaluationFlags, flags};
+use crate::flags::flags;
 use crate::members::{optional_text_at, text, text_at};
 use crate::params::FunctionCall;
 use crate::safe_values::safe_value;
@@ -113,22 +113,26 @@ fn arguments(alloc: Global, value: &Value) -> Result<Option<Arguments>, AllocErr
     }
 }
 
-/// A call, where all of its parameters are there.
-fn made_call(
-    function_declaration: Option<Units>,
-    object_id: Option<Option<Units>>,
-    arguments: Option<Arguments>,
-    object_group: Option<Option<Units>>,
-    flags: Option<EvaluationFlags>,
-) -> Option<FunctionCall>
-    ensures { result ≡ call_from function_declaration object_id arguments object_group flags }
+/// `functionDeclaration, objectId?, arguments?, objectGroup?`, and the flags of an evaluation
+pub(crate) fn call(alloc: Global, value: &Value) -> Result<Option<FunctionCall>, AllocError>
+    ensures { IfOk result (λ call. call ≡ call_of (view value.now)) }
 {
-    let function_declaration = function_declaration?;
-    let object_id = object_id?;
-    let arguments = arguments?;
-    let object_group = object_group?;
-    let flags = flags?;
-    Some(FunctionCall {
+    let Some(function_declaration) = text_at(alloc, value, "functionDeclaration")? else {
+        return Ok(None);
+    };
+    let Some(object_id) = optional_text_at(alloc, value, "objectId")? else {
+        return Ok(None);
+    };
+    let Some(arguments) = arguments(alloc, value)? else {
+        return Ok(None);
+    };
+    let Some(object_group) = optional_text_at(alloc, value, "objectGroup")? else {
+        return Ok(None);
+    };
+    let Some(flags) = flags(value) else {
+        return Ok(None);
+    };
+    Ok(Some(FunctionCall {
         function_declaration,
         object_id,
         arguments,
@@ -136,22 +140,5 @@ fn made_call(
         return_by_value: flags.return_by_value,
         generate_preview: flags.generate_preview,
         throw_on_side_effect: flags.throw_on_side_effect,
-    })
-}
-
-/// `functionDeclaration, objectId?, arguments?, objectGroup?`, and the flags of an evaluation
-pub(crate) fn call(alloc: Global, value: &Value) -> Result<Option<FunctionCall>, AllocError>
-    ensures { IfOk result (λ call. call ≡ call_of (view value.now)) }
-{
-    let function_declaration = text_at(alloc, value, "functionDeclaration")?;
-    let object_id = optional_text_at(alloc, value, "objectId")?;
-    let arguments = arguments(alloc, value)?;
-    let object_group = optional_text_at(alloc, value, "objectGroup")?;
-    Ok(made_call(
-        function_declaration,
-        object_id,
-        arguments,
-        object_group,
-        flags(value),
-    ))
+    }))
 }

@@ -65,8 +65,8 @@ pub fn put_ascii_text(
     ensures ok { OnOk result (map member_view members.new.items ≡ map member_view members.old.items ++ (key.now, json.text bytes.now) ∷ []) }
     ensures kept { OnErr result (members.new.items ≡ members.old.items) }
 {
-    members.push(ascii_member(alloc, key, bytes)?)?;
-    Ok(())
+    let text = ascii_text(alloc, bytes)?;
+    put_value(alloc, members, key, text)
 }
 
 /// Puts a member whose value is a copy of a text behind others; its key is ASCII. Errors: there is no memory for it, and the

@@ -1,6 +1,6 @@
 //! JSON values whose numbers are safe integers, as the arguments of a call are.
 
-ghost use Rattle.std.specs.Prelude.{◌≡◌, IfOk, option_map};
+ghost use Rattle.std.specs.Prelude.{◌≡◌, ◌∷◌, ◌++◌, [], map, IfOk, OnOk, option_map};
 ghost use Rattle.cdp_text.specs.Units.{utf16_of};
 ghost use Rattle.serde_json.specs.View.{view, number_view};
 ghost use Rattle.serde_json.specs.View as read;
@@ -60,12 +60,18 @@ fn made_object(members: Option<Vec<Member>>) -> Option<Json>
     }
 }
 
-/// A member of this name.
-fn named(alloc: Global, name: &str, value: Json) -> Result<Member, AllocError>
-    ensures { IfOk result (λ made. member_view made ≡ (utf16_of name.now, json_view value)) }
+/// Puts a member of this name behind others.
+fn put_named(
+    alloc: Global,
+    members: &mut Vec<Member>,
+    name: &str,
+    value: Json,
+) -> Result<(), AllocError>
+    ensures { OnOk result (map member_view members.new.items ≡ map member_view members.old.items ++ (utf16_of name.now, json_view value) ∷ []) }
 {
     let key = units_of(alloc, name)?;
-    Ok(Member::new(key, value))
+    members.push(Member::new(key, value))?;
+    Ok(())
 }
 
 /// The value, where each of its numbers is a safe integer. Errors: there is no memory for it.
@@ -109,7 +115,7 @@ fn safe_members(
     let mut members = Vec::new(alloc);
     for (name, value) in pairs.iter() {
         match safe_value(alloc, value)? {
-            Some(value) => members.push(named(alloc, name.as_str(), value)?)?,
+            Some(value) => put_named(alloc, &mut members, name.as_str(), value)?,
             None => return Ok(None),
         }
     }

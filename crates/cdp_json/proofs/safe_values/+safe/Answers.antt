@@ -1,8 +1,8 @@
-use Rattle.std.proofs.Common.{option_map, ap, sym, ◌∙◌, arith}
+use Rattle.std.proofs.Common.{[], ◌∷◌, ◌++◌, map, option_map, ap, sym, ◌∙◌, arith}
 use Rattle.cdp_text.specs.Units.{utf16_of}
 use Rattle.serde_json.specs.View.{view, items_view}
 use Rattle.cdp_json.specs.SafeValues.{safe_value_of, safe_items_of}
-use Rattle.cdp_json.specs.Views.{json_view}
+use Rattle.cdp_json.specs.Views.{json_view, member_view}
 use Rattle.cdp_json.proofs.SafeLemmas.{items_more, items_all, members_behind, members_more, members_all}
 use Rattle.cdp_json.proofs.safe_values.+safe.Goals as goal
 
@@ -25,10 +25,11 @@ safe_items-returns t c =
 pub safe_members-loop-name-preserved : goal.safe_members-loop-name-preserved
 safe_members-loop-name-preserved t c =
     members_more (c.in-Some.name.now, c.in-Some.value.now)
-    c.next.new.self c.loop-name.members.items _ c.in_ok-named-in-Some-2.field-0 c.in-Some-2.value
+    c.next.new.self c.loop-name.members.items _ c.in-Some-2.value
     (ap (option_map json_view) (sym c.in-Some-2.is) ∙ c.in_ok-value.ensures)
-    (c.in_ok-named-in-Some-2.ensures ∙ ap (λ s. (utf16_of s, json_view c.in-Some-2.value)) c.as_str.ensures.value)
-    c.in_ok-push-in-Some-2.ensures.items
+    (c.in_ok-put_named-in-Some-2.ensures
+    ∙ ap (λ s. map member_view c.loop-name.members.items ++ (utf16_of s, json_view c.in-Some-2.value) ∷ [])
+    c.as_str.ensures.value)
     ∙ sym (ap (members_behind c.loop-name.members.items) c.in-Some.ensures.steps) ∙ c.loop-name.invariant
 
 pub safe_members-returns : goal.safe_members-returns
