@@ -13,7 +13,7 @@ use Rattle.js_tree.specs.declared.script.Script.{Script}
 use Rattle.js_machine.specs.Machines.{Machine}
 use Rattle.locations.specs.declared.spot.Spot.{Spot}
 use Rattle.pure_eval.specs.Workspaces.{Workspace, begun}
-use Rattle.cdp_session.specs.Outboxes.{fits}
+use Rattle.session_messages.specs.Outboxes.{fits}
 use Rattle.cdp_session.specs.Replies.{Answer}
 use Rattle.cdp_session.specs.Sessions.{Session, emptied, fresh}
 use Rattle.cdp_host.specs.Fallbacks.{HasRoom, fallback_held}

@@ -4,11 +4,11 @@ use Rattle.isolation.specs.Stops as stops_
 use Rattle.isolation.specs.Stops.{KeepsEnabled}
 use Rattle.isolation.specs.Texts.{AreSent, HasRoom}
 use Rattle.js_tree.specs.declared.script.Script.{Script}
-use Rattle.cdp_session.specs.Outboxes.{fits}
+use Rattle.session_messages.specs.Outboxes.{fits}
 use Rattle.cdp_session.specs.Sessions.{Session}
 use Rattle.cdp_session.specs.Stops.{stop_texts, stopped}
 use Rattle.cdp_session.proofs.OutboxLemmas.{answer-outbox}
-use Rattle.cdp_session.proofs.OutboxSizes.{unfit-as}
+use Rattle.session_messages.proofs.OutboxSizes.{unfit-as}
 use Rattle.cdp_host.specs.Programs.{plain, start}
 use Rattle.cdp_host.specs.Protocols.{protocol, situation, texts}
 use Rattle.cdp_host.specs.Standings.{standing_of}

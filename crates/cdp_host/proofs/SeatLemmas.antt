@@ -9,7 +9,7 @@ use Rattle.isolation.specs.Texts.{Fits}
 use Rattle.isolation.specs.declared.seat.Loss.TheVariants.{Overrun}
 use Rattle.isolation.specs.declared.seat.Seat.{Seat}
 use Rattle.isolation.specs.declared.seat.Seat.TheVariants.{Attached, Lost, Left}
-use Rattle.cdp_session.specs.Outboxes.{fits}
+use Rattle.session_messages.specs.Outboxes.{fits}
 use Rattle.cdp_session.specs.Sessions.{Session}
 use Rattle.cdp_session.specs.Stops.{resumed}
 use Rattle.js_tree.specs.declared.script.Script.{Script}

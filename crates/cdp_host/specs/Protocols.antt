@@ -7,9 +7,9 @@ use Rattle.js_semantics.specs.Run.{Run}
 use Rattle.cdp_session.specs.declared.asks.Asks.{Asks}
 use Rattle.cdp_session.specs.declared.asks.Asks.TheVariants.{Nothing, Wake, Resume, Leave}
 use Rattle.cdp_session.specs.declared.situation.Pause.{Pause}
-use Rattle.cdp_session.specs.Outboxes.{fits}
+use Rattle.session_messages.specs.Outboxes.{fits}
 use Rattle.cdp_session.specs.Replies.{Answer, answer_of, answer_texts, outcome_of}
-use Rattle.cdp_session.specs.Results.{resumed_text}
+use Rattle.session_messages.specs.Results.{resumed_text}
 use Rattle.cdp_session.specs.Sessions.{Session, emptied, fresh, if_enabled}
 use Rattle.cdp_session.specs.Situations.{Situation, Standing}
 use Rattle.cdp_session.specs.Stops.{resumed, stopped, stop_texts}

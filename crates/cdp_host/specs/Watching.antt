@@ -9,10 +9,10 @@ use Rattle.isolation.specs.declared.seat.Seat.TheVariants.{Attached, Lost, Left}
 use Rattle.js_heap.specs.declared.value.Value.{Value}
 use Rattle.js_tree.specs.declared.script.Script.{Script}
 use Rattle.js_semantics.specs.Run.{Run}
-use Rattle.cdp_session.specs.declared.session_end.SessionEnd.{SessionEnd}
-use Rattle.cdp_session.specs.declared.session_end.SessionEnd.TheVariants as ends
+use Rattle.session_messages.specs.declared.session_end.SessionEnd.{SessionEnd}
+use Rattle.session_messages.specs.declared.session_end.SessionEnd.TheVariants as ends
 use Rattle.cdp_session.specs.declared.situation.Situation.{Situation as Held}
-use Rattle.cdp_session.specs.Outboxes.{fits}
+use Rattle.session_messages.specs.Outboxes.{fits}
 use Rattle.cdp_session.specs.Replies.{Answer}
 use Rattle.cdp_session.specs.Sessions.{Session}
 use Rattle.cdp_session.specs.Situations.{Standing}

@@ -12,8 +12,9 @@ ghost use Rattle.cdp_host.specs.Protocols.{protocol};
 ghost use Rattle.cdp_host.specs.Watching.{loss_of, losses_from};
 
 use crate::losses::SessionLost;
-use cdp_session::{Session, SessionEnd};
+use cdp_session::Session;
 use isolation::{Loss, Seat};
+use session_messages::SessionEnd;
 use std::alloc::{AllocError, Global};
 
 /// Why a session is lost that ended so.

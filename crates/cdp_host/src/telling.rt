@@ -9,8 +9,9 @@ ghost use Rattle.cdp_session.specs.Situations.{HasSpots, seen};
 ghost use Rattle.cdp_host.specs.Watching.{AnswersAs, AnswersIn, IsPlace, is_forgotten, loss_told, owner_told};
 
 use crate::losses::SessionLost;
-use cdp_session::{Asks, Program, Session, SessionEnd, Situation};
+use cdp_session::{Asks, Program, Session, Situation};
 use isolation::{Loss, Seat};
+use session_messages::SessionEnd;
 use std::alloc::Global;
 
 /// What became of a text.

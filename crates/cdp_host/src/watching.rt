@@ -4,16 +4,17 @@ ghost use Rattle.std.specs.Prelude.{◌≡◌, ◌<◌, ◌^◌, length, true, f
 ghost use Rattle.isolation.specs.Passes.{Behind, HearsOf, Over, Watches, any_set};
 ghost use Rattle.isolation.specs.Runs.{AllFit};
 ghost use Rattle.isolation.specs.Texts.{Fits};
-ghost use Rattle.cdp_session.specs.Outboxes.{fits};
+ghost use Rattle.session_messages.specs.Outboxes.{fits};
 ghost use Rattle.cdp_session.specs.Situations.{seen};
 ghost use Rattle.cdp_host.specs.Protocols.{protocol};
 ghost use Rattle.cdp_host.specs.Steps.{end_told, is_started, names, print_told, session_behind, told};
 ghost use Rattle.cdp_host.specs.Watching.{step_seen};
 
 use crate::seats::lost_by;
-use cdp_session::{Ending, Program, Session, SessionEnd, Situation};
+use cdp_session::{Ending, Program, Session, Situation};
 use isolation::Seat;
 use js_heap::value::Value;
+use session_messages::SessionEnd;
 use std::alloc::AllocError;
 use stepping::Arrival;
 

@@ -1,8 +1,6 @@
 pub mod EvaluationLemmas
 pub mod OrderedLemmas
 pub mod OutboxLemmas
-pub mod PauseLemmas
 pub mod StopLemmas
 pub mod ConditionLemmas
 pub mod CallLemmas
-pub mod OutboxSizes

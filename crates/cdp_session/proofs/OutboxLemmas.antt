@@ -32,7 +32,8 @@ use Rattle.remote_objects.specs.Making.{Made}
 use Rattle.cdp_json.specs.declared.refusal.Refusal.TheVariants as refusals
 use Rattle.cdp_session.specs.Calls.{arguments_of, calls, calls_given, outcome_of_function, receiver_of, showing_for}
 use Rattle.cdp_session.specs.declared.showing.Showing.{Showing}
-use Rattle.cdp_session.specs.Evaluations.{Evaluates, Stops, Answers, answered_by, as_it_is, behind_value, described, evaluates, evaluates_in, evaluates_at, frame_of, keeps, kept_by, outcome_of_answer, outcome_of_tree, showing_of, thrown_result, value_result}
+use Rattle.session_messages.specs.Exceptions.{thrown_result, value_result}
+use Rattle.cdp_session.specs.Evaluations.{Evaluates, Stops, Answers, answered_by, as_it_is, behind_value, described, evaluates, evaluates_in, evaluates_at, frame_of, keeps, kept_by, outcome_of_answer, outcome_of_tree, showing_of}
 use Rattle.cdp_session.specs.Rows.{Row, Refuses, Does, does, row, row_of, step_from, in_script, continue_at, adds, adds_at, properties_of, releases}
 use Rattle.cdp_session.specs.Replies.{IsDone, refusal_of, comes_to, outcome_by, outcome_for, outcome_of, answer_by, answer_texts, answer_of}
 

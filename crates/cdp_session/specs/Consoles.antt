@@ -1,13 +1,12 @@
 -- How a session is told of what the program printed (Chrome DevTools Protocol 1.3, `Runtime.consoleAPICalled`).
-use Rattle.std.specs.Prelude.{ℕ, pos, List, [], ◌∷◌, codes, if◌then◌else◌, Some}
+use Rattle.std.specs.Prelude.{ℕ, List, [], ◌∷◌, codes, if◌then◌else◌, Some}
 use Rattle.js_heap.specs.declared.value.Value.{Value}
 use Rattle.object_groups.specs.Handles as handles
-use Rattle.cdp_json.specs.Json.{Json, number, text}
-use Rattle.cdp_json.specs.Messages.{event_text}
-use Rattle.cdp_json.specs.Parts.{object_of, list_of}
+use Rattle.cdp_json.specs.Json.{Json}
 use Rattle.remote_objects.specs.Making.{Made, made_all}
 use Rattle.remote_objects.specs.Remote.{remote}
 use Rattle.remote_objects.specs.Sights.{Sight}
+use Rattle.session_messages.specs.Prints.{print_text}
 use Rattle.cdp_session.specs.Pauses.{sight_of}
 use Rattle.cdp_session.specs.Sessions.{Session, sent, with_handles}
 use Rattle.cdp_session.specs.Situations.{Situation}
@@ -25,20 +24,6 @@ value_made sight v h = remote sight (Some console) v h
 -- values, in order
 abbrev pub values_made : Sight → List Value → handles.State → Made (List Json)
 values_made sight values h = made_all (value_made sight) values h
-
--- ---- the event
-
--- what is told of a print at a moment: its values, in which context, when, and by which call
-abbrev pub print_params : List Json → ℕ → Json
-print_params values moment = object_of (
-    (codes "args", list_of values)
-    ∷ (codes "executionContextId", number (pos 1))
-    ∷ (codes "timestamp", number (pos moment))
-    ∷ (codes "type", text (codes "log")) ∷ [])
-
--- the event of a print
-abbrev pub print_text : List Json → ℕ → List ℕ
-print_text values moment = event_text (codes "Runtime.consoleAPICalled") (print_params values moment)
 
 -- ---- what a print does to a session
 

@@ -1,6 +1,6 @@
 -- What an evaluation does to its session, and what it is answered with (Chrome DevTools Protocol 1.3,
 -- `Runtime.evaluate` and `Debugger.evaluateOnCallFrame`).
-use Rattle.std.specs.Prelude.{ℕ, pos, ◌+◌, Bool, true, false, not, is_some, List, [], ◌∷◌, ◌++◌, bytes_eq, codes, if◌then◌else◌, ◌&&◌, Option, Some, None, option_map}
+use Rattle.std.specs.Prelude.{ℕ, ◌+◌, Bool, true, false, not, is_some, List, [], ◌∷◌, bytes_eq, if◌then◌else◌, ◌&&◌, Option, Some, None, option_map}
 use Rattle.js_heap.specs.declared.value.Addr.{Addr}
 use Rattle.js_heap.specs.declared.value.Addr.TheVariants.{Scratch}
 use Rattle.js_heap.specs.declared.value.Value.{Value}
@@ -22,8 +22,7 @@ use Rattle.pure_eval.specs.Workspaces.{with_evaluated}
 use Rattle.call_frames.specs.Frames.{ShownFrame, ShownScope}
 use Rattle.object_groups.specs.Handles as handles
 use Rattle.object_groups.specs.Handles.{fault_of}
-use Rattle.cdp_json.specs.Json.{Json, number, text}
-use Rattle.cdp_json.specs.Parts.{Pair, object_of}
+use Rattle.cdp_json.specs.Json.{Json}
 use Rattle.cdp_json.specs.declared.params.Evaluation.{Evaluation}
 use Rattle.cdp_json.specs.declared.refusal.Refusal.{Refusal}
 use Rattle.cdp_json.specs.declared.refusal.Refusal.TheVariants as refusals
@@ -37,47 +36,11 @@ use Rattle.remote_objects.specs.declared.detail.Detail.TheVariants as previews
 use Rattle.remote_objects.specs.Sights.{Sight}
 use Rattle.remote_objects.specs.Views as views
 use Rattle.remote_objects.specs.declared.describer.Describer.{Describer}
-use Rattle.remote_objects.specs.Values.{object_pairs, subtyped, undefined_pairs}
+use Rattle.session_messages.specs.Exceptions.{effect_object, syntax_result, thrown_result, value_result}
 use Rattle.cdp_session.specs.Sessions.{Session, with_handles, with_workspace, with_exception}
 use Rattle.cdp_session.specs.Situations.{Situation}
 use Rattle.cdp_session.specs.declared.showing.Showing.{Showing}
 use Rattle.cdp_session.specs.declared.situation.Pause.{Pause}
-
--- ---- results
-
--- a value that was come to
-abbrev pub value_result : Json → Json
-value_result described = object_of ((codes "result", described) ∷ [])
-
--- what went wrong: the exception that was described, if one was, its number among those of the session, and a text
-abbrev pub details : List Pair → ℕ → List ℕ → Json
-details exception id shown = object_of (
-    (codes "columnNumber", number (pos 0))
-    ∷ exception
-    ++ (codes "exceptionId", number (pos id))
-    ∷ (codes "lineNumber", number (pos 0))
-    ∷ (codes "text", text shown) ∷ [])
-
--- the result that says what went wrong, beside the value that stands for it
-abbrev pub details_result : Json → Json → Json
-details_result says described = object_of ((codes "exceptionDetails", says) ∷ (codes "result", described) ∷ [])
-
--- a throw: its value is described once, and stands in both places
-abbrev pub thrown_result : ℕ → Json → Json
-thrown_result id described =
-    details_result (details ((codes "exception", described) ∷ []) id (codes "Uncaught")) described
-
--- what would have had an effect
-abbrev pub effect_object : Json
-effect_object =
-    object_of
-    (object_pairs (codes "EvalError") (codes "EvalError: Possible side-effect in debug-evaluate")
-    (subtyped (codes "error")) (codes "object"))
-
--- a text that is no expression
-abbrev pub syntax_result : ℕ → Json
-syntax_result id =
-    details_result (details [] id (codes "Uncaught SyntaxError: Unexpected token")) (object_of undefined_pairs)
 
 -- ---- what is kept
 

@@ -1,8 +1,5 @@
-pub mod Outboxes
 pub mod Situations
 pub mod Sessions
-pub mod Results
-pub mod Scripts
 pub mod Pauses
 pub mod Consoles
 pub mod Endings

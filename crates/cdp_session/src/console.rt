@@ -6,20 +6,19 @@ ghost use Rattle.cdp_session.specs.Consoles as consoles;
 ghost use Rattle.cdp_session.specs.Pauses.{described_by};
 ghost use Rattle.cdp_session.specs.Sessions.{with_handles};
 ghost use Rattle.cdp_session.specs.Situations.{seen};
+ghost use Rattle.session_messages.specs.Prints.{print_text};
 
-use crate::members::numbered;
 use crate::pausing::describer;
 use crate::program::Program;
 use crate::session::Session;
 use crate::situation::Situation;
 use crate::sources::EvaluatedTexts;
-use cdp_json::event_text;
-use cdp_json::parts::{ascii_member, member};
-use cdp_json::value::{Json, list, object};
+use cdp_json::value::Json;
 use js_heap::value::Value;
 use js_world::heap::BaseHeap;
 use object_groups::Handles;
 use remote_objects::Describer;
+use session_messages::print_text;
 use std::alloc::{AllocError, Global};
 
 /// `console`
@@ -62,29 +61,6 @@ fn values_made(
     Ok(listed)
 }
 
-// ---- the event
-
-/// What `Runtime.consoleAPICalled` says: the values, in which context they were printed, when, and by which call.
-fn print_params(alloc: Global, values: Vec<Json>, moment: u64) -> Result<Json, AllocError>
-    requires { moment < 2 ^ 53 }
-    ensures { IfOk result (λ j. json_view j ≡ consoles.print_params (map json_view values.items) moment) }
-{
-    let args = member(alloc, b"args", list(values))?;
-    let context = numbered(alloc, b"executionContextId", 1)?;
-    let timestamp = numbered(alloc, b"timestamp", moment)?;
-    let kind = ascii_member(alloc, b"type", b"log")?;
-    Ok(object(vec![in alloc; args, context, timestamp, kind]?))
-}
-
-/// The event `Runtime.consoleAPICalled`.
-fn print_text(alloc: Global, values: Vec<Json>, moment: u64) -> Result<String, AllocError>
-    requires { moment < 2 ^ 53 }
-    ensures { IfOk result (λ t. string_bytes t ≡ consoles.print_text (map json_view values.items) moment) }
-{
-    let params = print_params(alloc, values, moment)?;
-    event_text(alloc, "Runtime.consoleAPICalled", &params)
-}
-
 impl Session {
     /// The values that were printed. The objects among them are held from then on.
     fn values_told<P: Program>(
@@ -108,7 +84,7 @@ impl Session {
         moment: u64,
     ) -> Result<String, AllocError>
         requires { moment < 2 ^ 53 }
-        ensures made { IfOk result (λ text. string_bytes text ≡ consoles.print_text (consoles.values_told (seen P.standing situation.now) values.now self.old).made moment) }
+        ensures made { IfOk result (λ text. string_bytes text ≡ print_text (consoles.values_told (seen P.standing situation.now) values.now self.old).made moment) }
         ensures held { OnOk result (self.new ≡ with_handles (consoles.values_told (seen P.standing situation.now) values.now self.old).handles self.old) }
     {
         let made = self.values_told(situation, values)?;

@@ -23,7 +23,6 @@ ghost use Rattle.cdp_session.specs.Situations.{seen, Situation as Seen};
 
 use crate::describing::{given_of, value_of};
 use crate::done::{Done, Fault};
-use crate::exceptions::{effect_object, syntax_result, thrown_result, value_result};
 use crate::program::Program;
 use crate::rows::answering;
 use crate::session::Session;
@@ -45,6 +44,7 @@ use js_tree::script::{Expression, Script};
 use object_groups::Handles;
 use pure_eval::{Evaluated, Opened, Workspace, is_memory};
 use remote_objects::frame_id;
+use session_messages::{effect_object, syntax_result, thrown_result, value_result};
 use std::alloc::{AllocError, Global};
 
 /// The refusal for a limit of a session's cells that an evaluation would pass.

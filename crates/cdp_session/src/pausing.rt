@@ -6,7 +6,6 @@ ghost use Rattle.cdp_session.specs.Pauses.{data_made, described_by, enabling_tol
 ghost use Rattle.cdp_session.specs.Sessions.{with_handles};
 ghost use Rattle.cdp_session.specs.Situations.{seen};
 
-use crate::events::paused_text;
 use crate::program::Program;
 use crate::session::Session;
 use crate::situation::{Pause, Situation};
@@ -18,6 +17,7 @@ use js_heap::value::Value;
 use js_world::heap::BaseHeap;
 use object_groups::Handles;
 use remote_objects::{Describer, backtrace};
+use session_messages::paused_text;
 use std::alloc::{AllocError, Global};
 use stepping::Cause;
 

@@ -14,14 +14,9 @@ ghost use Rattle.cdp_session.specs.Rows.{end_of, throws_of};
 use crate::asks::Asks;
 use crate::describing::properties_of;
 use crate::done::{Done, Fault};
-use crate::events::context_created_text;
 use crate::finding::find_script;
 use crate::pausing::describer;
 use crate::program::Program;
-use crate::results::{
-    debugger_id, declared_names, properties, script_source, set_at, set_by_url, spot_locations,
-};
-use crate::scripts::scripts_told;
 use crate::session::Session;
 use crate::showing::detail_of;
 use crate::situation::{Pause, Situation};
@@ -37,6 +32,10 @@ use js_heap::built_in::script_scope;
 use locations::spot::{between, first_at_or_after};
 use object_groups::Handle;
 use remote_objects::{Detail, backtrace};
+use session_messages::{
+    context_created_text, debugger_id, declared_names, properties, script_source, scripts_told,
+    set_at, set_by_url, spot_locations,
+};
 use std::alloc::{AllocError, Global};
 use stepping::{Exceptions, Rules, StepKind, StepRequest};
 

@@ -3,12 +3,12 @@
 ghost use Rattle.std.specs.Prelude.{◌≡◌, ◌<◌, ◌≤◌, ◌^◌, ◌∷◌, [], ◌++◌, List, true, false, map, IfOk, OnOk, IsErrOf, option_to_list, string_bytes, if◌then◌else◌};
 ghost use Rattle.cdp_session.specs.Situations.{HasSpots, seen};
 ghost use Rattle.cdp_session.specs.Sessions.{emptied, fresh, holding, is_silent, sent, with_exception, with_handles};
-ghost use Rattle.cdp_session.specs.Outboxes.{fits};
+ghost use Rattle.session_messages.specs.Outboxes.{fits};
 ghost use Rattle.breakpoints.specs.Breakpoints.{id_of};
 ghost use Rattle.breakpoints.specs.declared.breakpoint.Breakpoint.{Breakpoint};
 ghost use Rattle.stepping.specs.Causes.{first_cause};
 ghost use Rattle.cdp_session.specs.Conditions.{is_some_hit};
-ghost use Rattle.cdp_session.specs.Results.{resumed_text};
+ghost use Rattle.session_messages.specs.Results.{resumed_text};
 ghost use Rattle.cdp_session.specs.Stops.{cause_of, hits_of, may_be_hit, may_name, resumed, stop_told, stopped};
 ghost use Rattle.cdp_session.specs.Consoles.{printed};
 ghost use Rattle.cdp_session.specs.Endings.{ended, ending_told};
@@ -19,12 +19,8 @@ use crate::asks::Asks;
 use crate::conditions::{Condition, ids_hit};
 use crate::done::{Done, Fault};
 use crate::ending::Ending;
-use crate::ends::context_destroyed_text;
-use crate::events::{RESUMED_SIZE, resumed_text};
-use crate::outbox::Outbox;
 use crate::program::Program;
 use crate::refusing::{wants_enabled, wants_pause};
-use crate::session_end::SessionEnd;
 use crate::situation::Situation;
 use breakpoints::Breakpoints;
 use cdp_json::command::Reading;
@@ -37,6 +33,7 @@ use js_heap::value::Value;
 use object_groups::Handles;
 use pure_eval::Workspace;
 use remote_objects::backtrace;
+use session_messages::{Outbox, RESUMED_SIZE, SessionEnd, context_destroyed_text, resumed_text};
 use std::alloc::{AllocError, Global};
 use std::marker::Model;
 use stepping::{Arrival, Cause, Rules, names};
@@ -257,7 +254,7 @@ impl Session {
     }
 
     /// Whether the event of a resume may wait behind the other texts.
-    #[tactic(auto, using(crate::proofs::OutboxSizes::resumed_size))]
+    #[tactic(auto, using(session_messages::proofs::OutboxSizes::resumed_size))]
     fn has_room_to_resume(&self) -> bool
         ensures { result ≡ fits (self.now.outbox ++ resumed_text ∷ []) }
     {
