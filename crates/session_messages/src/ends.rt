@@ -5,10 +5,12 @@ ghost use Rattle.std.specs.Prelude.{◌≡◌, ◌<◌, ◌≤◌, ◌^◌, map,
 ghost use Rattle.cdp_json.specs.Views.{json_view, member_view};
 ghost use Rattle.session_messages.specs.Ends as ends;
 
-use crate::members::numbered;
+use crate::members::put_number;
 use cdp_json::event_text;
-use cdp_json::parts::{ascii_member, copied_text, member, object_of_one, script_id};
-use cdp_json::value::{Json, Member, object};
+use cdp_json::parts::{
+    member, object_of_one, put_ascii_text, put_copied_text, put_value, script_id,
+};
+use cdp_json::value::{Json, Member, number, object};
 use cdp_text::position::Place;
 use js_tree::script::Script;
 use js_tree::scripts::script_numbered;
@@ -38,14 +40,26 @@ fn throw_members(
     requires { id ≤ 2 ^ 62 }
     ensures { IfOk result (λ ms. map member_view ms.items ≡ ends.throw_pairs place (json_view exception) id url.now) }
 {
-    let thrown = member(alloc, b"exception", exception)?;
-    let column = numbered(alloc, b"columnNumber", u64::from(place.pos.col))?;
-    let number = numbered(alloc, b"exceptionId", id)?;
-    let line = numbered(alloc, b"lineNumber", u64::from(place.pos.line))?;
-    let script = member(alloc, b"scriptId", script_id(alloc, place.script)?)?;
-    let shown = ascii_member(alloc, b"text", b"Uncaught")?;
-    let url = member(alloc, b"url", copied_text(alloc, url)?)?;
-    Ok(vec![in alloc; column, thrown, number, line, script, shown, url]?)
+    let mut members = Vec::new(alloc);
+    put_number(
+        alloc,
+        &mut members,
+        b"columnNumber",
+        u64::from(place.pos.col),
+    )?;
+    put_value(alloc, &mut members, b"exception", exception)?;
+    put_number(alloc, &mut members, b"exceptionId", id)?;
+    put_number(
+        alloc,
+        &mut members,
+        b"lineNumber",
+        u64::from(place.pos.line),
+    )?;
+    let script = script_id(alloc, place.script)?;
+    put_value(alloc, &mut members, b"scriptId", script)?;
+    put_ascii_text(alloc, &mut members, b"text", b"Uncaught")?;
+    put_copied_text(alloc, &mut members, b"url", url)?;
+    Ok(members)
 }
 
 /// What went wrong (`Runtime.ExceptionDetails`).
@@ -68,9 +82,10 @@ fn throw_params(alloc: Global, details: Json, moment: u64) -> Result<Json, Alloc
     requires { moment < 2 ^ 53 }
     ensures { IfOk result (λ j. json_view j ≡ ends.throw_params (json_view details) moment) }
 {
-    let first = member(alloc, b"exceptionDetails", details)?;
-    let second = numbered(alloc, b"timestamp", moment)?;
-    Ok(object(vec![in alloc; first, second]?))
+    let mut members = Vec::new(alloc);
+    put_value(alloc, &mut members, b"exceptionDetails", details)?;
+    put_number(alloc, &mut members, b"timestamp", moment)?;
+    Ok(object(members))
 }
 
 /// The event `Runtime.exceptionThrown`.
@@ -86,7 +101,7 @@ pub fn throw_text(alloc: Global, details: Json, moment: u64) -> Result<String, A
 fn context_params(alloc: Global) -> Result<Json, AllocError>
     ensures { IfOk result (λ j. json_view j ≡ ends.context_params) }
 {
-    object_of_one(alloc, numbered(alloc, b"executionContextId", 1)?)
+    object_of_one(alloc, member(alloc, b"executionContextId", number(1))?)
 }
 
 /// The event `Runtime.executionContextDestroyed`.

@@ -1,13 +1,14 @@
 //! The events that a session is sent (Chrome DevTools Protocol 1.3, domains Debugger and Runtime).
 
-ghost use Rattle.std.specs.Prelude.{◌≡◌, ◌++◌, ◌∷◌, [], map, IfOk, string_bytes, option_to_list};
+ghost use Rattle.std.specs.Prelude.{◌≡◌, map, IfOk, string_bytes, option_to_list};
 ghost use Rattle.cdp_json.specs.Json as json;
 ghost use Rattle.cdp_json.specs.Parts as parts;
 ghost use Rattle.cdp_json.specs.Views.{json_view, member_view};
 ghost use Rattle.session_messages.specs.Results as results;
 
+use crate::members::put_given;
 use cdp_json::event_text;
-use cdp_json::parts::{ascii_text, member, nothing, object_of_one};
+use cdp_json::parts::{member, nothing, object_of_one, put_ascii_text, put_value};
 use cdp_json::value::{Json, Member, list, number, object, text};
 use cdp_text::units::Units;
 use std::alloc::{AllocError, Global};
@@ -23,22 +24,6 @@ fn texts(alloc: Global, ids: Vec<Units>) -> Result<Json, AllocError>
     Ok(list(values))
 }
 
-/// The members of `Debugger.paused`: one of them is there only where the session is told of a value that was thrown.
-fn paused_members(
-    alloc: Global,
-    frames: Member,
-    thrown: Option<Member>,
-    hits: Member,
-    reason: Member,
-) -> Result<Vec<Member>, AllocError>
-    ensures { IfOk result (λ ms. map member_view ms.items ≡ member_view frames ∷ (map member_view (option_to_list thrown) ++ (member_view hits ∷ member_view reason ∷ []))) }
-{
-    match thrown {
-        Some(thrown) => Ok(vec![in alloc; frames, thrown, hits, reason]?),
-        None => Ok(vec![in alloc; frames, hits, reason]?),
-    }
-}
-
 /// What `Debugger.paused` says: the frames, the value that was thrown, where the session is told of one, the ids of the
 /// breakpoints that were hit, and why the program stopped.
 fn paused_params(
@@ -50,12 +35,12 @@ fn paused_params(
 ) -> Result<Json, AllocError>
     ensures { IfOk result (λ j. json_view j ≡ results.paused_params (map json_view frames.items) (map member_view (option_to_list thrown)) hits.items reason.now) }
 {
+    let mut members = Vec::new(alloc);
+    put_value(alloc, &mut members, b"callFrames", list(frames))?;
+    put_given(&mut members, thrown)?;
     let ids = texts(alloc, hits)?;
-    let hit = member(alloc, b"hitBreakpoints", ids)?;
-    let listed = member(alloc, b"callFrames", list(frames))?;
-    let why = ascii_text(alloc, reason)?;
-    let because = member(alloc, b"reason", why)?;
-    let members = paused_members(alloc, listed, thrown, hit, because)?;
+    put_value(alloc, &mut members, b"hitBreakpoints", ids)?;
+    put_ascii_text(alloc, &mut members, b"reason", reason)?;
     Ok(object(members))
 }
 
@@ -87,12 +72,11 @@ pub fn resumed_text(alloc: Global) -> Result<String, AllocError>
 fn context(alloc: Global) -> Result<Json, AllocError>
     ensures { IfOk result (λ j. json_view j ≡ results.context) }
 {
-    let id = member(alloc, b"id", number(1))?;
-    let shown = ascii_text(alloc, b"debug_host")?;
-    let name = member(alloc, b"name", shown)?;
-    let nowhere = ascii_text(alloc, b"")?;
-    let origin = member(alloc, b"origin", nowhere)?;
-    Ok(object(vec![in alloc; id, name, origin]?))
+    let mut members = Vec::new(alloc);
+    put_value(alloc, &mut members, b"id", number(1))?;
+    put_ascii_text(alloc, &mut members, b"name", b"debug_host")?;
+    put_ascii_text(alloc, &mut members, b"origin", b"")?;
+    Ok(object(members))
 }
 
 /// The event `Runtime.executionContextCreated`.

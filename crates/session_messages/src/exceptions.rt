@@ -1,12 +1,12 @@
 //! The results of evaluations as JSON values (Chrome DevTools Protocol 1.3, `Runtime.ExceptionDetails`).
 
-ghost use Rattle.std.specs.Prelude.{◌≡◌, ◌≤◌, ◌^◌, ◌++◌, ◌∷◌, [], map, IfOk, option_to_list};
+ghost use Rattle.std.specs.Prelude.{◌≡◌, ◌≤◌, ◌^◌, map, IfOk, option_to_list};
 ghost use Rattle.cdp_json.specs.Views.{json_view, member_view};
 ghost use Rattle.session_messages.specs.Exceptions as exceptions;
 
-use crate::members::numbered;
+use crate::members::{put_given, put_number};
 use cdp_json::copied;
-use cdp_json::parts::{ascii_member, member, object_of_one};
+use cdp_json::parts::{ascii_member, member, object_of_one, put_ascii_text, put_value};
 use cdp_json::value::{Json, Member, object};
 use std::alloc::{AllocError, Global};
 
@@ -15,23 +15,6 @@ pub fn value_result(alloc: Global, described: Json) -> Result<Json, AllocError>
     ensures { IfOk result (λ j. json_view j ≡ exceptions.value_result (json_view described)) }
 {
     object_of_one(alloc, member(alloc, b"result", described)?)
-}
-
-/// The members of what went wrong: the exception that was described, if one was, stands behind the column.
-fn detail_members(
-    alloc: Global,
-    column: Member,
-    exception: Option<Member>,
-    id: Member,
-    line: Member,
-    shown: Member,
-) -> Result<Vec<Member>, AllocError>
-    ensures { IfOk result (λ ms. map member_view ms.items ≡ member_view column ∷ (map member_view (option_to_list exception) ++ (member_view id ∷ member_view line ∷ member_view shown ∷ []))) }
-{
-    match exception {
-        Some(exception) => Ok(vec![in alloc; column, exception, id, line, shown]?),
-        None => Ok(vec![in alloc; column, id, line, shown]?),
-    }
 }
 
 /// What went wrong: the exception, if one was described, its number among those of the session, and a text.
@@ -44,11 +27,12 @@ fn details(
     requires { id ≤ 2 ^ 62 }
     ensures { IfOk result (λ j. json_view j ≡ exceptions.details (map member_view (option_to_list exception)) id shown.now) }
 {
-    let column = numbered(alloc, b"columnNumber", 0)?;
-    let number = numbered(alloc, b"exceptionId", id)?;
-    let line = numbered(alloc, b"lineNumber", 0)?;
-    let text = ascii_member(alloc, b"text", shown)?;
-    let members = detail_members(alloc, column, exception, number, line, text)?;
+    let mut members = Vec::new(alloc);
+    put_number(alloc, &mut members, b"columnNumber", 0)?;
+    put_given(&mut members, exception)?;
+    put_number(alloc, &mut members, b"exceptionId", id)?;
+    put_number(alloc, &mut members, b"lineNumber", 0)?;
+    put_ascii_text(alloc, &mut members, b"text", shown)?;
     Ok(object(members))
 }
 
@@ -56,9 +40,10 @@ fn details(
 fn details_result(alloc: Global, says: Json, described: Json) -> Result<Json, AllocError>
     ensures { IfOk result (λ j. json_view j ≡ exceptions.details_result (json_view says) (json_view described)) }
 {
-    let first = member(alloc, b"exceptionDetails", says)?;
-    let second = member(alloc, b"result", described)?;
-    Ok(object(vec![in alloc; first, second]?))
+    let mut members = Vec::new(alloc);
+    put_value(alloc, &mut members, b"exceptionDetails", says)?;
+    put_value(alloc, &mut members, b"result", described)?;
+    Ok(object(members))
 }
 
 /// The result of a throw, whose value was described once; the number is that of the exception among those of the session.
@@ -76,15 +61,13 @@ pub fn thrown_result(alloc: Global, id: u64, described: Json) -> Result<Json, Al
 pub fn effect_object(alloc: Global) -> Result<Json, AllocError>
     ensures { IfOk result (λ j. json_view j ≡ exceptions.effect_object) }
 {
-    let class = ascii_member(alloc, b"className", b"EvalError")?;
-    let shown = ascii_member(
-        alloc,
-        b"description",
-        b"EvalError: Possible side-effect in debug-evaluate",
-    )?;
-    let subtype = ascii_member(alloc, b"subtype", b"error")?;
-    let kind = ascii_member(alloc, b"type", b"object")?;
-    Ok(object(vec![in alloc; class, shown, subtype, kind]?))
+    let shown = b"EvalError: Possible side-effect in debug-evaluate";
+    let mut members = Vec::new(alloc);
+    put_ascii_text(alloc, &mut members, b"className", b"EvalError")?;
+    put_ascii_text(alloc, &mut members, b"description", shown)?;
+    put_ascii_text(alloc, &mut members, b"subtype", b"error")?;
+    put_ascii_text(alloc, &mut members, b"type", b"object")?;
+    Ok(object(members))
 }
 
 /// The result of a text that is no expression.

@@ -4,9 +4,9 @@ ghost use Rattle.std.specs.Prelude.{◌≡◌, ◌<◌, ◌^◌, map, string_byt
 ghost use Rattle.cdp_json.specs.Views.{json_view};
 ghost use Rattle.session_messages.specs.Prints as prints;
 
-use crate::members::numbered;
+use crate::members::put_number;
 use cdp_json::event_text;
-use cdp_json::parts::{ascii_member, member};
+use cdp_json::parts::{put_ascii_text, put_value};
 use cdp_json::value::{Json, list, object};
 use std::alloc::{AllocError, Global};
 
@@ -15,11 +15,12 @@ fn print_params(alloc: Global, values: Vec<Json>, moment: u64) -> Result<Json, A
     requires { moment < 2 ^ 53 }
     ensures { IfOk result (λ j. json_view j ≡ prints.print_params (map json_view values.items) moment) }
 {
-    let args = member(alloc, b"args", list(values))?;
-    let context = numbered(alloc, b"executionContextId", 1)?;
-    let timestamp = numbered(alloc, b"timestamp", moment)?;
-    let kind = ascii_member(alloc, b"type", b"log")?;
-    Ok(object(vec![in alloc; args, context, timestamp, kind]?))
+    let mut members = Vec::new(alloc);
+    put_value(alloc, &mut members, b"args", list(values))?;
+    put_number(alloc, &mut members, b"executionContextId", 1)?;
+    put_number(alloc, &mut members, b"timestamp", moment)?;
+    put_ascii_text(alloc, &mut members, b"type", b"log")?;
+    Ok(object(members))
 }
 
 /// The event `Runtime.consoleAPICalled`.

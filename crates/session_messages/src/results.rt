@@ -6,7 +6,10 @@ ghost use Rattle.cdp_json.specs.Json as json;
 ghost use Rattle.cdp_json.specs.Parts as parts;
 ghost use Rattle.session_messages.specs.Results as results;
 
-use cdp_json::parts::{ascii_text, copied_text, location, member, object_of_one, place_members};
+use cdp_json::parts::{
+    ascii_text, copied_text, location, member, object_of_one, place_members, put_ascii_text,
+    put_value,
+};
 use cdp_json::value::{Json, Member, list, object, text};
 use cdp_text::position::Place;
 use cdp_text::units::Units;
@@ -51,11 +54,10 @@ fn put_kind(members: &mut Vec<Member>, kind: SpotKind) -> Result<(), AllocError>
     ensures { OnOk result (map member_view members.new.items ≡ map member_view members.old.items ++ results.kind_pairs kind) }
 {
     let alloc = *members.allocator();
-    if let Some(name) = kind_name(kind) {
-        let value = ascii_text(alloc, name)?;
-        members.push(member(alloc, b"type", value)?)?;
+    match kind_name(kind) {
+        Some(name) => put_ascii_text(alloc, members, b"type", name),
+        None => Ok(()),
     }
-    Ok(())
 }
 
 /// A break location of the script of this number.
@@ -93,10 +95,11 @@ pub fn spot_locations(alloc: Global, script: u32, spots: &[Spot]) -> Result<Json
 pub fn set_by_url(alloc: Global, id: Units, places: &[Place]) -> Result<Json, AllocError>
     ensures { IfOk result (λ j. json_view j ≡ results.set_by_url id places.now) }
 {
+    let mut members = Vec::new(alloc);
+    put_value(alloc, &mut members, b"breakpointId", text(id))?;
     let listed = locations(alloc, places)?;
-    let second = member(alloc, b"locations", listed)?;
-    let first = member(alloc, b"breakpointId", text(id))?;
-    Ok(object(vec![in alloc; first, second]?))
+    put_value(alloc, &mut members, b"locations", listed)?;
+    Ok(object(members))
 }
 
 /// The result of setting a breakpoint at a location: where it resolved, and its id.
@@ -104,9 +107,10 @@ pub fn set_at(alloc: Global, id: Units, place: Place) -> Result<Json, AllocError
     ensures { IfOk result (λ j. json_view j ≡ results.set_at id place) }
 {
     let resolved = location(alloc, place)?;
-    let first = member(alloc, b"actualLocation", resolved)?;
-    let second = member(alloc, b"breakpointId", text(id))?;
-    Ok(object(vec![in alloc; first, second]?))
+    let mut members = Vec::new(alloc);
+    put_value(alloc, &mut members, b"actualLocation", resolved)?;
+    put_value(alloc, &mut members, b"breakpointId", text(id))?;
+    Ok(object(members))
 }
 
 // ---- sources

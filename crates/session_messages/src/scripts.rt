@@ -6,9 +6,9 @@ ghost use Rattle.cdp_json.specs.Json as json;
 ghost use Rattle.cdp_json.specs.Views.{json_view, member_view};
 ghost use Rattle.session_messages.specs.Scripts as parsed;
 
-use crate::members::numbered;
+use crate::members::put_number;
 use cdp_json::event_text;
-use cdp_json::parts::{ascii_text, copied_text, member, script_id};
+use cdp_json::parts::{ascii_text, put_copied_text, put_value, script_id};
 use cdp_json::value::{Json, Member, object};
 use cdp_text::position::{Pos, pos_at};
 use cdp_text::units::text_of;
@@ -42,15 +42,18 @@ fn script_members(alloc: Global, script: &Script) -> Result<Vec<Member>, AllocEr
 {
     let source = script.source.as_slice();
     let end = end_of(source)?;
-    let end_column = numbered(alloc, b"endColumn", u64::from(end.col))?;
-    let end_line = numbered(alloc, b"endLine", u64::from(end.line))?;
-    let context = numbered(alloc, b"executionContextId", 1)?;
-    let hash = member(alloc, b"hash", source_hash(alloc, source)?)?;
-    let id = member(alloc, b"scriptId", script_id(alloc, script.number)?)?;
-    let column = numbered(alloc, b"startColumn", 0)?;
-    let line = numbered(alloc, b"startLine", 0)?;
-    let url = member(alloc, b"url", copied_text(alloc, script.url.as_slice())?)?;
-    Ok(vec![in alloc; end_column, end_line, context, hash, id, column, line, url]?)
+    let mut members = Vec::new(alloc);
+    put_number(alloc, &mut members, b"endColumn", u64::from(end.col))?;
+    put_number(alloc, &mut members, b"endLine", u64::from(end.line))?;
+    put_number(alloc, &mut members, b"executionContextId", 1)?;
+    let hash = source_hash(alloc, source)?;
+    put_value(alloc, &mut members, b"hash", hash)?;
+    let id = script_id(alloc, script.number)?;
+    put_value(alloc, &mut members, b"scriptId", id)?;
+    put_number(alloc, &mut members, b"startColumn", 0)?;
+    put_number(alloc, &mut members, b"startLine", 0)?;
+    put_copied_text(alloc, &mut members, b"url", script.url.as_slice())?;
+    Ok(members)
 }
 
 /// What `Debugger.scriptParsed` says of a script.
