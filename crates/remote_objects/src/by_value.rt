@@ -10,8 +10,7 @@ ghost use Rattle.remote_objects.specs.declared.by_value.ByValueFault.TheVariants
 
 use crate::describer::Describer;
 use crate::function_sources::FunctionSources;
-use crate::members::put;
-use cdp_json::parts::{copied_text, nothing};
+use cdp_json::parts::{copied_text, nothing, put_value};
 use cdp_json::value::{Json, Member, boolean, list, null, number, object};
 use cdp_text::units::Units;
 use js_heap::cell::Property;
@@ -264,7 +263,7 @@ impl<'w, W: World, S: FunctionSources> Describer<'w, W, S> {
     {
         let json = self.by_value(Value::Object(a))?;
         let mut members = self.cell_members(a)?;
-        put(self.alloc, &mut members, b"value", json)?;
+        put_value(self.alloc, &mut members, b"value", json)?;
         Ok(object(members))
     }
 

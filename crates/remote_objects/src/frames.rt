@@ -9,10 +9,9 @@ ghost use Rattle.remote_objects.specs.Views.{sight_of, frame_front, frame_back};
 use crate::describer::Describer;
 use crate::function_sources::FunctionSources;
 use crate::ids::frame_id;
-use crate::members::put;
 use crate::remote::remote_scope;
 use call_frames::{CallFrame, ListedKind, Scope};
-use cdp_json::parts::{ascii_text, copied_text, location, member};
+use cdp_json::parts::{location, put_ascii_text, put_copied_text, put_value};
 use cdp_json::value::{Json, Member, list, object, text};
 use cdp_text::position::Place;
 use js_tree::script::Script;
@@ -51,12 +50,12 @@ fn kind_text(kind: ListedKind) -> &'static [u8]
 fn name_members(alloc: Global, name: &[u16]) -> Result<Vec<Member>, AllocError>
     ensures { IfOk result (λ ms. map member_view ms.items ≡ listing.name_pairs name.now) }
 {
+    let mut members = Vec::new(alloc);
     if name.is_empty() {
-        return Ok(Vec::new(alloc));
+        return Ok(members);
     }
-    let copy = copied_text(alloc, name)?;
-    let only = member(alloc, b"name", copy)?;
-    Ok(vec![in alloc; only]?)
+    put_copied_text(alloc, &mut members, b"name", name)?;
+    Ok(members)
 }
 
 /// A scope with what it is described as.
@@ -64,9 +63,8 @@ fn scope_of(alloc: Global, scope: &Scope<'_>, described: Json) -> Result<Json, A
     ensures { IfOk result (λ j. json_view j ≡ listing.scope_of (shown.scope_of scope.now) (json_view described)) }
 {
     let mut members = name_members(alloc, scope.name)?;
-    put(alloc, &mut members, b"object", described)?;
-    let kind = ascii_text(alloc, kind_text(scope.kind))?;
-    put(alloc, &mut members, b"type", kind)?;
+    put_value(alloc, &mut members, b"object", described)?;
+    put_ascii_text(alloc, &mut members, b"type", kind_text(scope.kind))?;
     Ok(object(members))
 }
 
@@ -84,7 +82,7 @@ fn put_function_place(
         None => Ok(()),
         Some(place) => {
             let value = location(alloc, place)?;
-            put(alloc, members, b"functionLocation", value)
+            put_value(alloc, members, b"functionLocation", value)
         }
     }
 }
@@ -109,14 +107,13 @@ fn front_members(
 ) -> Result<Vec<Member>, AllocError>
     ensures { IfOk result (λ ms. map member_view ms.items ≡ frame_front session stop depth (shown.frame_of frame.now)) }
 {
+    let mut members = Vec::new(alloc);
     let id = frame_id(alloc, session, stop, depth)?;
-    let first = member(alloc, b"callFrameId", text(id))?;
-    let mut members = vec![in alloc; first]?;
+    put_value(alloc, &mut members, b"callFrameId", text(id))?;
     put_function_place(alloc, &mut members, frame.function_place)?;
-    let name = copied_text(alloc, frame.name)?;
-    put(alloc, &mut members, b"functionName", name)?;
+    put_copied_text(alloc, &mut members, b"functionName", frame.name)?;
     let place = location(alloc, frame.place)?;
-    put(alloc, &mut members, b"location", place)?;
+    put_value(alloc, &mut members, b"location", place)?;
     Ok(members)
 }
 
@@ -130,10 +127,9 @@ fn put_back(
 ) -> Result<(), AllocError>
     ensures { OnOk result (map member_view members.new.items ≡ map member_view members.old.items ++ frame_back (map json_view scopes.items) (json_view receiver) url.now) }
 {
-    put(alloc, members, b"scopeChain", list(scopes))?;
-    put(alloc, members, b"this", receiver)?;
-    let url = copied_text(alloc, url)?;
-    put(alloc, members, b"url", url)
+    put_value(alloc, members, b"scopeChain", list(scopes))?;
+    put_value(alloc, members, b"this", receiver)?;
+    put_copied_text(alloc, members, b"url", url)
 }
 
 impl<'w, W: World, S: FunctionSources> Describer<'w, W, S> {

@@ -1,35 +1,14 @@
 //! Members of objects.
 
-ghost use Rattle.std.specs.Prelude.{◌≡◌, ◌∷◌, ◌++◌, [], map, codes, IfOk, OnOk};
-ghost use Rattle.cdp_json.specs.Json as json;
-ghost use Rattle.cdp_json.specs.Views.{json_view, member_view};
+ghost use Rattle.std.specs.Prelude.{◌≡◌, [], map, codes, IfOk};
+ghost use Rattle.cdp_json.specs.Views.{member_view};
 ghost use Rattle.remote_objects.specs.Values as values;
 
-use cdp_json::parts::{ascii_member, copied_text, member};
-use cdp_json::value::{Json, Member, boolean, null, number, text};
+use cdp_json::parts::{put_ascii_text, put_copied_text, put_value};
+use cdp_json::value::{Member, boolean, null, number, text};
 use cdp_text::units::{Units, ascii};
 use js_values::operators::number_text;
 use std::alloc::{AllocError, Global};
-
-/// A member whose value is a truth value.
-pub(crate) fn truth_member(alloc: Global, key: &[u8], value: bool) -> Result<Member, AllocError>
-    ensures { IfOk result (λ m. member_view m ≡ (key.now, json.boolean value)) }
-{
-    member(alloc, key, boolean(value))
-}
-
-/// Puts a member behind others.
-pub(crate) fn put(
-    alloc: Global,
-    members: &mut Vec<Member>,
-    key: &[u8],
-    value: Json,
-) -> Result<(), AllocError>
-    ensures { OnOk result (map member_view members.new.items ≡ map member_view members.old.items ++ (key.now, json_view value) ∷ []) }
-{
-    members.push(member(alloc, key, value)?)?;
-    Ok(())
-}
 
 // ---- objects
 
@@ -42,10 +21,11 @@ pub(crate) fn untyped_members(
 ) -> Result<Vec<Member>, AllocError>
     ensures { IfOk result (λ ms. map member_view ms.items ≡ values.object_pairs class.now shown [] kind.now) }
 {
-    let class = ascii_member(alloc, b"className", class)?;
-    let shown = member(alloc, b"description", text(shown))?;
-    let kind = ascii_member(alloc, b"type", kind)?;
-    Ok(vec![in alloc; class, shown, kind]?)
+    let mut members = Vec::new(alloc);
+    put_ascii_text(alloc, &mut members, b"className", class)?;
+    put_value(alloc, &mut members, b"description", text(shown))?;
+    put_ascii_text(alloc, &mut members, b"type", kind)?;
+    Ok(members)
 }
 
 /// The members of an object of a subtype: its class, what is shown of it, its subtype, and its type.
@@ -57,11 +37,12 @@ pub(crate) fn subtyped_members(
 ) -> Result<Vec<Member>, AllocError>
     ensures { IfOk result (λ ms. map member_view ms.items ≡ values.object_pairs class.now shown (values.subtyped subtype.now) (codes "object")) }
 {
-    let class = ascii_member(alloc, b"className", class)?;
-    let shown = member(alloc, b"description", text(shown))?;
-    let subtype = ascii_member(alloc, b"subtype", subtype)?;
-    let kind = ascii_member(alloc, b"type", b"object")?;
-    Ok(vec![in alloc; class, shown, subtype, kind]?)
+    let mut members = Vec::new(alloc);
+    put_ascii_text(alloc, &mut members, b"className", class)?;
+    put_value(alloc, &mut members, b"description", text(shown))?;
+    put_ascii_text(alloc, &mut members, b"subtype", subtype)?;
+    put_ascii_text(alloc, &mut members, b"type", b"object")?;
+    Ok(members)
 }
 
 /// Those of a plain object, a scope among them.
@@ -94,46 +75,50 @@ pub(crate) fn array_members(alloc: Global, len: usize) -> Result<Vec<Member>, Al
 pub(crate) fn undefined_members(alloc: Global) -> Result<Vec<Member>, AllocError>
     ensures { IfOk result (λ ms. map member_view ms.items ≡ values.undefined_pairs) }
 {
-    let kind = ascii_member(alloc, b"type", b"undefined")?;
-    Ok(vec![in alloc; kind]?)
+    let mut members = Vec::new(alloc);
+    put_ascii_text(alloc, &mut members, b"type", b"undefined")?;
+    Ok(members)
 }
 
 /// The members of `null`.
 pub(crate) fn null_members(alloc: Global) -> Result<Vec<Member>, AllocError>
     ensures { IfOk result (λ ms. map member_view ms.items ≡ values.null_pairs) }
 {
-    let subtype = ascii_member(alloc, b"subtype", b"null")?;
-    let kind = ascii_member(alloc, b"type", b"object")?;
-    let value = member(alloc, b"value", null())?;
-    Ok(vec![in alloc; subtype, kind, value]?)
+    let mut members = Vec::new(alloc);
+    put_ascii_text(alloc, &mut members, b"subtype", b"null")?;
+    put_ascii_text(alloc, &mut members, b"type", b"object")?;
+    put_value(alloc, &mut members, b"value", null())?;
+    Ok(members)
 }
 
 /// The members of a truth value.
 pub(crate) fn truth_members(alloc: Global, truth: bool) -> Result<Vec<Member>, AllocError>
     ensures { IfOk result (λ ms. map member_view ms.items ≡ values.truth_pairs truth) }
 {
-    let kind = ascii_member(alloc, b"type", b"boolean")?;
-    let value = truth_member(alloc, b"value", truth)?;
-    Ok(vec![in alloc; kind, value]?)
+    let mut members = Vec::new(alloc);
+    put_ascii_text(alloc, &mut members, b"type", b"boolean")?;
+    put_value(alloc, &mut members, b"value", boolean(truth))?;
+    Ok(members)
 }
 
 /// The members of a number.
 pub(crate) fn number_members(alloc: Global, z: i64) -> Result<Vec<Member>, AllocError>
     ensures { IfOk result (λ ms. map member_view ms.items ≡ values.number_pairs z) }
 {
+    let mut members = Vec::new(alloc);
     let shown = number_text(alloc, z)?;
-    let description = member(alloc, b"description", text(shown))?;
-    let kind = ascii_member(alloc, b"type", b"number")?;
-    let value = member(alloc, b"value", number(z))?;
-    Ok(vec![in alloc; description, kind, value]?)
+    put_value(alloc, &mut members, b"description", text(shown))?;
+    put_ascii_text(alloc, &mut members, b"type", b"number")?;
+    put_value(alloc, &mut members, b"value", number(z))?;
+    Ok(members)
 }
 
 /// The members of a text.
 pub(crate) fn text_members(alloc: Global, units: &[u16]) -> Result<Vec<Member>, AllocError>
     ensures { IfOk result (λ ms. map member_view ms.items ≡ values.text_pairs units.now) }
 {
-    let kind = ascii_member(alloc, b"type", b"string")?;
-    let copy = copied_text(alloc, units)?;
-    let value = member(alloc, b"value", copy)?;
-    Ok(vec![in alloc; kind, value]?)
+    let mut members = Vec::new(alloc);
+    put_ascii_text(alloc, &mut members, b"type", b"string")?;
+    put_copied_text(alloc, &mut members, b"value", units)?;
+    Ok(members)
 }

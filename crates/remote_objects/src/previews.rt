@@ -1,6 +1,6 @@
 //! Previews of objects (Chrome DevTools Protocol 1.3, `Runtime.ObjectPreview` and `Runtime.PropertyPreview`).
 
-ghost use Rattle.std.specs.Prelude.{◌≡◌, ◌++◌, ◌&&◌, List, ℕ, length, map, take, nat_eq, decimal, option_copied, IfOk, OnOk};
+ghost use Rattle.std.specs.Prelude.{◌≡◌, ◌++◌, ◌∷◌, [], ◌&&◌, List, ℕ, length, map, take, nat_eq, decimal, option_copied, IfOk, OnOk};
 ghost use Rattle.js_heap.specs.World.{read_cell};
 ghost use Rattle.js_world.specs.Cells.{cell_at};
 ghost use Rattle.cdp_json.specs.Json as json;
@@ -10,9 +10,9 @@ ghost use Rattle.remote_objects.specs.Views.{listed_view};
 
 use crate::describer::Describer;
 use crate::function_sources::FunctionSources;
-use crate::members::{array_text, put, truth_member};
-use cdp_json::parts::{ascii_member, ascii_text, member};
-use cdp_json::value::{Json, Member, list, object, text};
+use crate::members::array_text;
+use cdp_json::parts::{put_ascii_text, put_value};
+use cdp_json::value::{Json, Member, boolean, list, object, text};
 use cdp_text::units::{Units, ascii, decimal_units};
 use js_heap::cell::Property;
 use js_heap::value::{Addr, Value};
@@ -50,12 +50,17 @@ fn shortened(alloc: Global, units: &[u16]) -> Result<Units, AllocError>
     Ok(Units::from_vec(items))
 }
 
-/// A member whose value is a text that is cut where it is long.
-fn short_member(alloc: Global, key: &[u8], units: &[u16]) -> Result<Member, AllocError>
-    ensures { IfOk result (λ m. member_view m ≡ (key.now, json.text (previews.shortened units.now))) }
+/// Puts a text that is cut where it is long behind other members.
+fn put_short_text(
+    alloc: Global,
+    members: &mut Vec<Member>,
+    key: &[u8],
+    units: &[u16],
+) -> Result<(), AllocError>
+    ensures { OnOk result (map member_view members.new.items ≡ map member_view members.old.items ++ (key.now, json.text (previews.shortened units.now)) ∷ []) }
 {
     let short = shortened(alloc, units)?;
-    member(alloc, key, text(short))
+    put_value(alloc, members, key, text(short))
 }
 
 /// Puts a subtype behind other members, where there is one.
@@ -65,9 +70,7 @@ fn put_subtype(alloc: Global, members: &mut Vec<Member>, subtype: &[u8]) -> Resu
     if subtype.is_empty() {
         return Ok(());
     }
-    let name = ascii_text(alloc, subtype)?;
-    put(alloc, members, b"subtype", name)?;
-    Ok(())
+    put_ascii_text(alloc, members, b"subtype", subtype)
 }
 
 // ---- cells
@@ -134,11 +137,11 @@ fn preview_of(
     ensures { IfOk result (λ j. json_view j ≡ previews.preview_of description.now (listed_view listed) subtype.now) }
 {
     let Listed { first, more } = listed;
-    let description = short_member(alloc, b"description", description)?;
-    let overflow = truth_member(alloc, b"overflow", more)?;
-    let properties = member(alloc, b"properties", list(first))?;
-    let kind = ascii_member(alloc, b"type", b"object")?;
-    let mut members = vec![in alloc; description, overflow, properties, kind]?;
+    let mut members = Vec::new(alloc);
+    put_short_text(alloc, &mut members, b"description", description)?;
+    put_value(alloc, &mut members, b"overflow", boolean(more))?;
+    put_value(alloc, &mut members, b"properties", list(first))?;
+    put_ascii_text(alloc, &mut members, b"type", b"object")?;
     put_subtype(alloc, &mut members, subtype)?;
     Ok(object(members))
 }
@@ -191,11 +194,11 @@ impl<'w, W: World, S: FunctionSources> Describer<'w, W, S> {
             names: self.names,
             world: self.world,
         };
-        let units = self.value_text(value)?;
-        let name = short_member(self.alloc, b"name", name)?;
-        let kind = ascii_member(self.alloc, b"type", type_text(&seen, value))?;
-        let shown = short_member(self.alloc, b"value", units.as_slice())?;
-        let mut members = vec![in self.alloc; name, kind, shown]?;
+        let shown = self.value_text(value)?;
+        let mut members = Vec::new(self.alloc);
+        put_short_text(self.alloc, &mut members, b"name", name)?;
+        put_ascii_text(self.alloc, &mut members, b"type", type_text(&seen, value))?;
+        put_short_text(self.alloc, &mut members, b"value", shown.as_slice())?;
         put_subtype(self.alloc, &mut members, self.value_subtype(value))?;
         Ok(object(members))
     }
@@ -296,7 +299,6 @@ impl<'w, W: World, S: FunctionSources> Describer<'w, W, S> {
             return Ok(());
         }
         let preview = self.preview(a)?;
-        put(self.alloc, members, b"preview", preview)?;
-        Ok(())
+        put_value(self.alloc, members, b"preview", preview)
     }
 }

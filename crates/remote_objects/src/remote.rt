@@ -10,7 +10,8 @@ use crate::describer::Describer;
 use crate::detail::Detail;
 use crate::function_sources::FunctionSources;
 use crate::ids::object_id;
-use crate::members::{plain_members, put};
+use crate::members::plain_members;
+use cdp_json::parts::put_value;
 use cdp_json::value::{Json, Member, object, text};
 use js_heap::value::{Addr, Value};
 use js_world::world::World;
@@ -46,7 +47,7 @@ fn put_id(
         None => Ok(()),
         Some(number) => {
             let id = object_id(alloc, session, number)?;
-            put(alloc, members, b"objectId", text(id))
+            put_value(alloc, members, b"objectId", text(id))
         }
     }
 }

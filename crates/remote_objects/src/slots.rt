@@ -5,9 +5,8 @@ ghost use Rattle.cdp_json.specs.Views.{json_view};
 ghost use Rattle.js_heap.specs.declared.value.Value.TheVariants as values;
 ghost use Rattle.remote_objects.specs.Slots.{described};
 
-use crate::members::truth_member;
-use cdp_json::parts::member;
-use cdp_json::value::{Json, object, text};
+use cdp_json::parts::put_value;
+use cdp_json::value::{Json, boolean, object, text};
 use cdp_text::units::Units;
 use js_heap::value::Value;
 use std::alloc::{AllocError, Global};
@@ -29,13 +28,24 @@ pub(crate) fn descriptor_of(
 ) -> Result<Json, AllocError>
     ensures { IfOk result (λ j. json_view j ≡ described name flags (json_view value)) }
 {
-    let configurable = truth_member(alloc, b"configurable", flags.configurable)?;
-    let enumerable = truth_member(alloc, b"enumerable", flags.enumerable)?;
-    let own = truth_member(alloc, b"isOwn", true)?;
-    let name = member(alloc, b"name", text(name))?;
-    let value = member(alloc, b"value", value)?;
-    let writable = truth_member(alloc, b"writable", flags.writable)?;
-    Ok(object(vec![in alloc; configurable, enumerable, own, name, value, writable]?))
+    let mut members = Vec::new(alloc);
+    put_value(
+        alloc,
+        &mut members,
+        b"configurable",
+        boolean(flags.configurable),
+    )?;
+    put_value(
+        alloc,
+        &mut members,
+        b"enumerable",
+        boolean(flags.enumerable),
+    )?;
+    put_value(alloc, &mut members, b"isOwn", boolean(true))?;
+    put_value(alloc, &mut members, b"name", text(name))?;
+    put_value(alloc, &mut members, b"value", value)?;
+    put_value(alloc, &mut members, b"writable", boolean(flags.writable))?;
+    Ok(object(members))
 }
 
 /// A length as a value. No memory holds a list whose length 63 bits don't count.

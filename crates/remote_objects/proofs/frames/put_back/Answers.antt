@@ -1,4 +1,4 @@
-use Rattle.std.specs.Prelude.{codes, map}
+use Rattle.std.specs.Prelude.{codes, map, refl}
 use Rattle.std.proofs.lemmas.Result.{on_ok_weaker}
 use Rattle.cdp_json.specs.Json.{text}
 use Rattle.cdp_json.specs.Parts.{list_of}
@@ -8,9 +8,9 @@ use Rattle.remote_objects.proofs.frames.put_back.Goals as goal
 
 pub returns : goal.returns
 returns c =
-    on_ok_weaker c.put-3.result
-    (λ e. three_put (map member_view c.args.members.now.items) (map member_view c.put.new.members.items)
-    (map member_view c.put-2.new.members.items) (map member_view c.put-3.new.members.items)
+    on_ok_weaker c.put_copied_text.result
+    (λ e. three_put (map member_view c.args.members.now.items) (map member_view c.put_value.new.members.items)
+    (map member_view c.put_value-2.new.members.items) (map member_view c.put_copied_text.new.members.items)
     (codes "scopeChain") (codes "this") (codes "url") (json_view c.list.result) (json_view c.args.receiver)
-    (json_view c.in_ok-url.url) (list_of (map json_view c.args.scopes.items)) (text c.args.url.now)
-    c.list.ensures c.in_ok-url.ensures c.in_ok-put.ensures c.in_ok-put-2.ensures e) c.put-3.ensures
+    (text c.args.url.now) (list_of (map json_view c.args.scopes.items)) (text c.args.url.now)
+    c.list.ensures refl c.in_ok-put_value.ensures.ok c.in_ok-put_value-2.ensures.ok e) c.put_copied_text.ensures.ok

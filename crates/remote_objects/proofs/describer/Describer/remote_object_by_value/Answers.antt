@@ -22,6 +22,6 @@ returns g c =
     let world = g.W.World.world c.args.self.now.names.now c.args.self.now.world.now in
     let sight = sight_of g.S.FunctionSources.node_text world c.args.self.now.scripts.now c.args.self.now.session in
     value-put (cell_pairs sight (read_cell world c.args.a)) (map member_view c.in_ok-members.members.items)
-    (map member_view c.put.new.members.items) (json_view c.in_ok-json.json) (json_view c.object.result)
+    (map member_view c.put_value.new.members.items) (json_view c.in_ok-json.json) (json_view c.object.result)
     (by_value world (values.Object c.args.a))
-    c.in_ok-json.ensures c.in_ok-members.ensures c.in_ok-put.ensures c.object.ensures
+    c.in_ok-json.ensures c.in_ok-members.ensures c.in_ok-put_value.ensures.ok c.object.ensures
