@@ -42,14 +42,11 @@ const SCRIPTS: [(&str, &str); 35] = [
     ("a\n/* c */ b", "2 items"),
 ];
 
-/// Scripts behind others that declare `a` and `c`, and what they are parsed as.
-const LATER: [(&str, &str); 6] = [
+/// Scripts behind others that declare `a` and `c`, and how many items they have.
+const LATER: [(&str, &str); 3] = [
     ("let b, d;", "1 items"),
     ("a = c;", "1 items"),
     ("{ let a; }", "1 items"),
-    ("let a;", "a syntax error at 4"),
-    ("let b, c;", "a syntax error at 7"),
-    ("function c() {}", "a syntax error at 9"),
 ];
 
 #[test]

@@ -1,6 +1,6 @@
 //! That texts are answered as the rows of a table have it.
 
-use crate::{break_locations, heap, lexer, parser, runs};
+use crate::{full_heaps, lexer, parser};
 use cdp_text::units::units_of;
 use std::alloc::{AllocError, Global};
 use std::process::Abort;
@@ -9,8 +9,6 @@ use std::test::Fail;
 /// What a text is given to.
 #[derive(Clone, Copy)]
 pub(crate) enum Question {
-    /// Keys, and an object's order of them.
-    Keys,
     /// A source, and its tokens.
     Tokens,
     /// A number or a string, and its value.
@@ -19,22 +17,10 @@ pub(crate) enum Question {
     Script,
     /// The same behind scripts that declare `a` and `c`.
     Later,
-    /// The same of a text that stands many times.
-    Repeated,
     /// An expression, and what it is parsed as.
     Expression,
     /// A function, and what it is parsed as.
     Function,
-    /// A script, and its break locations.
-    Locations,
-    /// A script, and what its run comes to.
-    Run,
-    /// The same within so many steps.
-    RunWithin,
-    /// The same with lines of input.
-    RunWithInput,
-    /// The same of two scripts.
-    RunInOrder,
     /// What a script does again and again, and how often it can where few cells are left.
     FilledCells,
     /// The same where few units are left.
@@ -49,7 +35,6 @@ fn of_source(alloc: Global, question: Question, text: &str) -> Result<String, Al
         Question::Tokens => lexer::tokens_of(alloc, source),
         Question::Value => lexer::value_of(alloc, source),
         Question::Later => parser::later_of(alloc, source),
-        Question::Locations => break_locations::locations_of(alloc, source),
         Question::Expression => parser::expression_of(alloc, source),
         Question::Function => parser::function_of(alloc, source),
         _ => parser::script_of(alloc, source),
@@ -59,14 +44,8 @@ fn of_source(alloc: Global, question: Question, text: &str) -> Result<String, Al
 /// What a text is answered.
 fn answer(alloc: Global, question: Question, text: &str) -> Result<String, Fail> {
     match question {
-        Question::Keys => Ok(heap::keys_of(alloc, text)?),
-        Question::Repeated => Ok(parser::repeated_of(alloc, text)?),
-        Question::Run => runs::run_of(alloc, text),
-        Question::RunWithin => runs::run_within(alloc, text),
-        Question::RunWithInput => runs::run_with_input(alloc, text),
-        Question::RunInOrder => runs::run_in_order(alloc, text),
-        Question::FilledCells => runs::run_with_few_cells(alloc, text),
-        Question::FilledUnits => runs::run_with_few_units(alloc, text),
+        Question::FilledCells => full_heaps::run_with_few_cells(alloc, text),
+        Question::FilledUnits => full_heaps::run_with_few_units(alloc, text),
         _ => Ok(of_source(alloc, question, text)?),
     }
 }

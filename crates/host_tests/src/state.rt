@@ -1,7 +1,6 @@
 //! The room of a heap, the input and the output.
 
-use crate::runs::lines_of;
-use cdp_text::units::{Units, units_of};
+use cdp_text::units::{Units, text_of, units_of};
 use js_heap::change::Counted;
 use js_operations::context::Context;
 use js_world::heap::BaseHeap;
@@ -65,6 +64,16 @@ fn holds_so_many_cells(rt: HostRuntime) -> Result<(), Fail> {
         Some(Refused::Full(Counted::Cells))
     );
     Ok(())
+}
+
+/// Texts, each in a line.
+pub(crate) fn lines_of(alloc: Global, texts: &[Units]) -> Result<String, AllocError> {
+    let mut lines = String::new(alloc);
+    for units in texts {
+        lines.push_str(&text_of(alloc, units.as_slice())?)?;
+        lines.push('\n')?;
+    }
+    Ok(lines)
 }
 
 #[test]

@@ -4,15 +4,24 @@
 //! thing again and again until the heap is full, and prints how often that went well.
 
 use crate::answers::{Question, answers};
+use crate::state::lines_of;
+use cdp_text::units::{text_of, units_of};
+use js_machine::plain::{Outcome, run_scripts};
+use js_operations::shown::shown;
+use js_parser::parse::parse_script;
+use js_steps::stepped::Finish;
+use js_tree::script::Script;
+use std::alloc::{AllocError, Global};
+use std::collections::VecDeque;
 use std::test::Fail;
 
 /// All cells but 1,023 of 1,048,576: an object, and 1,023 times its 1,023 keys with the array of them.
-pub(super) const CELLS: &str =
+const CELLS: &str =
     "let o = {}; let i = 0; while (i < 1023) { o[i] = 0; i++; } i = 0; while (i < 1023) { Object.keys(o); i++; }";
 
 /// All units but 1,000 of 67,108,864, three names among them: texts of 2, 4, .. to 16,777,216 units, one more of that
 /// length, and one of 16,776,194.
-pub(super) const UNITS: &str =
+const UNITS: &str =
     "let s = 'x'; let i = 0; while (i < 24) { s = s + s; i++; } s.slice(0); s.slice(0, 16776194);";
 
 /// What is done again and again where 1,023 cells are left, behind what the script declares.
@@ -107,6 +116,56 @@ const UNITS_MADE: [(&str, &str); 24] = [
     ("#({}); if (n === 2000) throw 1;", "ended\n2000\n"),
     ("#(() => 1); if (n === 2000) throw 1;", "ended\n2000\n"),
 ];
+
+/// How a run ended, as a program tells it.
+fn end_of(alloc: Global, outcome: &Outcome) -> Result<String, AllocError> {
+    let value = match outcome.machine.finished() {
+        None => return String::from_str(alloc, "running"),
+        Some(Finish::Ended(_)) => return String::from_str(alloc, "ended"),
+        Some(Finish::Threw(value, _)) => value,
+    };
+    let units = shown(alloc, &outcome.heap, outcome.machine.names(), value)?;
+    format!(in alloc; "Uncaught {}", text_of(alloc, units.as_slice())?)
+}
+
+/// How a run ended, and in further lines what it printed.
+fn told_of_end(alloc: Global, outcome: &Outcome) -> Result<String, AllocError> {
+    let end = end_of(alloc, outcome)?;
+    let printed = lines_of(alloc, outcome.machine.printed())?;
+    format!(in alloc; "{end}\n{printed}")
+}
+
+/// The script of a source.
+fn parsed(alloc: Global, source: &str) -> Result<Script, Fail> {
+    let units = units_of(alloc, source)?;
+    match parse_script(alloc, units.as_slice(), "", 1, &[]) {
+        Ok(script) => Ok(script),
+        Err(_) => Err("no script".into()),
+    }
+}
+
+/// More steps than a script takes that fills the heap.
+const MOST_OF_FULL: u64 = 200_000;
+
+/// A run of a script that fills the heap so far and then does something again and again until it fails; behind what the
+/// script declares.
+fn run_full(alloc: Global, filling: &str, text: &str) -> Result<String, Fail> {
+    let (declared, done) = text.split_once('#').unwrap_or(("", text));
+    let source = format!(in alloc;
+        "{declared} {filling} let n = 0; try {{ while (true) {{ {done} n++; }} }} catch {{ }} console.log(n);"
+    )?;
+    let script = parsed(alloc, &source)?;
+    let outcome = run_scripts(alloc, &[script], VecDeque::new(alloc), MOST_OF_FULL)?;
+    Ok(told_of_end(alloc, &outcome)?)
+}
+
+pub(crate) fn run_with_few_cells(alloc: Global, text: &str) -> Result<String, Fail> {
+    run_full(alloc, CELLS, text)
+}
+
+pub(crate) fn run_with_few_units(alloc: Global, text: &str) -> Result<String, Fail> {
+    run_full(alloc, UNITS, text)
+}
 
 #[test]
 fn counts_cells(rt: HostRuntime) -> Result<(), Fail> {
