@@ -1,55 +1,24 @@
-//! Tests of the crates of the host, from texts to the command line. It holds nothing else.
+//! Tests of what no call of the program shows, or where it takes a sink of its own: tokens and trees, a full heap, where a
+//! machine stands, real files and writers. All else is a case of `cases`. It holds nothing else.
 #![tactic(auto)]
 
 #[cfg(test)]
-mod bytes;
-#[cfg(test)]
-mod calls;
-#[cfg(test)]
-mod clients;
-#[cfg(test)]
-mod commands;
-#[cfg(test)]
-mod conditions;
-#[cfg(test)]
-mod debugging;
-#[cfg(test)]
-mod drills;
+mod answers;
 #[cfg(test)]
 mod edges;
 #[cfg(test)]
-mod endings;
+mod full_heaps;
 #[cfg(test)]
-mod evaluations;
+mod lexer;
 #[cfg(test)]
-mod events;
-#[cfg(test)]
-mod inspecting;
-#[cfg(test)]
-mod kept;
-#[cfg(test)]
-mod limits;
-#[cfg(test)]
-mod objects;
-#[cfg(test)]
-mod overruns;
+mod parser;
 #[cfg(test)]
 mod piece_sink;
 #[cfg(test)]
-mod refusals;
-#[cfg(test)]
-mod resumes;
-#[cfg(test)]
-mod rows;
-#[cfg(test)]
-mod runs;
-#[cfg(test)]
-mod sessions;
+mod pieces;
 #[cfg(test)]
 mod standing;
 #[cfg(test)]
+mod state;
+#[cfg(test)]
 mod texts;
-#[cfg(test)]
-mod waiting;
-#[cfg(test)]
-mod watches;

@@ -1,0 +1,1 @@
+console.log("a%b\n\rc\uD800");

@@ -1,0 +1,3 @@
+try {
+  try { throw 1; } finally { 2; }
+} catch (e) { 3; }

@@ -1,0 +1,4 @@
+function f() {
+  try { throw 1; } finally { }
+}
+f();

@@ -1,0 +1,3 @@
+function f() { throw 1; }
+try { f(); }
+catch { 2; }

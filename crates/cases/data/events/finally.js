@@ -1,0 +1,5 @@
+function f() {
+  try { throw "t"; }
+  finally { 2; }
+}
+f();

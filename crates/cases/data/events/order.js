@@ -1,0 +1,3 @@
+console.log({});
+debugger;
+console.log(2);

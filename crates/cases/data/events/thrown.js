@@ -1,0 +1,5 @@
+function f() {
+  throw {code: 7};
+}
+console.log(1);
+f();

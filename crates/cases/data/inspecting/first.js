@@ -1,0 +1,3 @@
+let a;
+function f() {}
+const b = 2;

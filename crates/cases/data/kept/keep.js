@@ -1,0 +1,3 @@
+const base = {p: 1};
+debugger;
+console.log(base.p);

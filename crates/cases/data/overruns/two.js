@@ -1,0 +1,2 @@
+console.log(7);
+console.log(8);

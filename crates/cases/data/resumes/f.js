@@ -1,0 +1,5 @@
+function f() {
+  return 1;
+}
+f();
+console.log(2);

@@ -1,0 +1,1 @@
+try { throw "x"; } catch (e) { console.log("caught", e); }

@@ -1,0 +1,1 @@
+for (let i = 1; i < 4; i++) console.log(i);

@@ -1,0 +1,2 @@
+function f() { try { return 1; } finally { console.log("x"); } }
+console.log(f());

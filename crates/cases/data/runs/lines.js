@@ -1,0 +1,2 @@
+let l = readline();
+while (l !== null) { console.log(l); l = readline(); }

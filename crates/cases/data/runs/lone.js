@@ -1,0 +1,1 @@
+console.log("a\u{D800}b");

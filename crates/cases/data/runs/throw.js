@@ -1,0 +1,3 @@
+console.log(1);
+throw "x";
+console.log(2);

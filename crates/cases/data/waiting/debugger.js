@@ -1,0 +1,2 @@
+debugger;
+1;

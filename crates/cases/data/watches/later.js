@@ -1,0 +1,2 @@
+{ debugger; let a = 1; }
+for (let x of (() => { debugger; return []; })()) x;
