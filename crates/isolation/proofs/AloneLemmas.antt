@@ -282,7 +282,7 @@ mark-all : {C T Q X : Type 0} → (P : Protocol C T Q X) (s : ℕ) (m k : Meanin
 mark-all P s m k true is = record { goes = is; hands = refl }
 mark-all P s m k false is = record { goes = is; hands = refl }
 
-differ : (r s : ℕ) → (r == s) ≡ false → r ≢ s
+pub differ : (r s : ℕ) → (r == s) ≡ false → r ≢ s
 differ r s is same = grind (arith, nat_tests, is, same)
 
 tell-follows : {C T Q X : Type 0} → (P : Protocol C T Q X) (s r : ℕ) (text : List ℕ) (m : Meaning C Q X) (b : Bool)

@@ -13,3 +13,5 @@ pub mod BrokenLemmas
 pub mod TextLemmas
 pub mod SomeLemmas
 pub mod NamesLemmas
+pub mod MakerLemmas
+pub mod OwnerLemmas

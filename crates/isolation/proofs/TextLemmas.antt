@@ -333,7 +333,7 @@ step-silent : {C T Q X : Type 0} → (P : Protocol C T Q X) (E : Texts P) (momen
     → step_texts P E moment stops a a.seat ≡ []
 step-silent P E moment stops a is = ap (λ seat. step_texts P E moment stops a seat) is
 
-both-none : (xs ys : List (List ℕ)) → xs ≡ [] → ys ≡ [] → xs ++ ys ≡ []
+pub both-none : (xs ys : List (List ℕ)) → xs ≡ [] → ys ≡ [] → xs ++ ys ≡ []
 both-none xs ys none none_more = ap (λ l. l ++ ys) none ∙ none_more
 
 passing-silent : {C T Q X : Type 0} → (P : Protocol C T Q X) (E : Texts P) (moment n : ℕ) (a : Alone C Q X)
@@ -427,7 +427,7 @@ pub without-length : {X : Type 0} → (gone : List ℕ) (s : ℕ) (seats : List 
 without-length gone s [] = refl
 without-length gone s (seat ∷ seats) = ap (λ n. suc n) (without-length gone (s + 1) seats)
 
-append-length : {X : Type 0} → (new : Seat X) (seats : List (Seat X)) → length (seats ++ new ∷ []) ≡ suc (length seats)
+pub append-length : {X : Type 0} → (new : Seat X) (seats : List (Seat X)) → length (seats ++ new ∷ []) ≡ suc (length seats)
 append-length new [] = refl
 append-length new (seat ∷ seats) = ap (λ n. suc n) (append-length new seats)
 
@@ -463,7 +463,7 @@ told-length P s m resumes wakes y true =
     asked-length P (with_seat s (Attached y) m) resumes wakes ∙ put-length s (Attached y) m.seats
 told-length P s m resumes wakes y false = settle-length P (with_seat s Left m) ∙ put-length s Left m.seats
 
-tell-length : {C T Q X : Type 0} → (P : Protocol C T Q X) (s : ℕ) (text : List ℕ) (m : Meaning C Q X) (seat : Seat X)
+pub tell-length : {C T Q X : Type 0} → (P : Protocol C T Q X) (s : ℕ) (text : List ℕ) (m : Meaning C Q X) (seat : Seat X)
     → length (tell P s text m seat).seats ≡ length m.seats
 tell-length P s text m (Attached x) =
     let y = P.reply m.stop m.program text x in
@@ -471,13 +471,13 @@ tell-length P s text m (Attached x) =
 tell-length P s text m (Lost loss is_reported is_told) = refl
 tell-length P s text m Left = refl
 
-take-length : {C T Q X : Type 0} → (P : Protocol C T Q X) (s : ℕ) (m : Meaning C Q X) (seat : Seat X)
+pub take-length : {C T Q X : Type 0} → (P : Protocol C T Q X) (s : ℕ) (m : Meaning C Q X) (seat : Seat X)
     → length (take P s m seat).seats ≡ length m.seats
 take-length P s m (Attached x) = put-length s (Attached (P.emptied x)) m.seats
 take-length P s m (Lost loss is_reported is_told) = refl
 take-length P s m Left = refl
 
-detach-length : {C T Q X : Type 0} → (P : Protocol C T Q X) (s : ℕ) (m : Meaning C Q X) (seat : Seat X)
+pub detach-length : {C T Q X : Type 0} → (P : Protocol C T Q X) (s : ℕ) (m : Meaning C Q X) (seat : Seat X)
     → length (detach P s m seat).seats ≡ length m.seats
 detach-length P s m (Attached x) = settle-length P (with_seat s Left m) ∙ put-length s Left m.seats
 detach-length P s m (Lost loss is_reported is_told) = put-length s (Lost loss is_reported true) m.seats
@@ -501,7 +501,7 @@ run-length : {C T Q X : Type 0} → (P : Protocol C T Q X) (moment : ℕ) (gone 
 run-length P moment gone zero m = without-length gone 1 m.seats
 run-length P moment gone (suc n) m = step-length P moment gone (after_steps P moment n m) ∙ steps-length P moment n m
 
-ran-length : {C T Q X : Type 0} → (P : Protocol C T Q X) (n moment : ℕ) (gone : List ℕ) (m : Meaning C Q X)
+pub ran-length : {C T Q X : Type 0} → (P : Protocol C T Q X) (n moment : ℕ) (gone : List ℕ) (m : Meaning C Q X)
     → length (ran P n moment gone m).seats ≡ length m.seats
 ran-length P n moment gone m =
     let k = after_run P moment gone n m in
@@ -513,7 +513,7 @@ in-behind i [] below = refl
 in-behind zero (seat ∷ seats) below = absurd (omega (arith, below))
 in-behind (suc i) (seat ∷ seats) below = in-behind i seats (omega (arith, below))
 
-at-behind : {X : Type 0} → (s : ℕ) (seats : List (Seat X)) → length seats < s → seat_of s seats ≡ Left
+pub at-behind : {X : Type 0} → (s : ℕ) (seats : List (Seat X)) → length seats < s → seat_of s seats ≡ Left
 at-behind zero seats below = refl
 at-behind (suc i) seats below = in-behind i seats below
 

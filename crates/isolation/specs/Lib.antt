@@ -9,3 +9,4 @@ pub mod Standing
 pub mod Runs
 pub mod Passes
 pub mod Names
+pub mod Makers

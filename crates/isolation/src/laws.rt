@@ -1,9 +1,10 @@
 //! The laws of histories. Each function does nothing: its contract is the law, for every protocol and every history. Programs,
 //! pauses, sessions and what steps tell are numbers here; the lemmas below `proofs/` say the same of any types.
 
-ghost use Rattle.std.specs.Prelude.{◌≡◌, ℕ, List, Bool};
+ghost use Rattle.std.specs.Prelude.{◌≡◌, ℕ, List, [], ◌++◌, Bool};
 ghost use Rattle.isolation.specs.Alone.{solo, unborn, view};
 ghost use Rattle.isolation.specs.Histories.{Entry, FitsAll, handed_of, steps_made, whole};
+ghost use Rattle.isolation.specs.Makers.{AreOwned, Owns, TakesNone, by, entries_of};
 ghost use Rattle.isolation.specs.Meanings.{begin};
 ghost use Rattle.isolation.specs.Protocols.{Protocol};
 ghost use Rattle.isolation.specs.Seats.{seat_of};
@@ -48,4 +49,16 @@ pub fn texts_are_handed_out_in_order()
 /// Behind any history the texts that wait for a session are as many as may.
 pub fn texts_that_wait_fit()
     ensures { (P : Protocol ℕ ℕ ℕ ℕ) (s c : ℕ) (wait : Bool) (history : List Entry) → HasRoom P → Fits P (seat_of s (whole P c wait history).seats) }
+{}
+
+/// What a session was handed stays in each longer history, where its owner takes no more of its texts: nobody else takes any.
+pub fn owners_alone_take_texts()
+    ensures { (P : Protocol ℕ ℕ ℕ ℕ) (k s c : ℕ) (wait : Bool) (history more : List (ℕ × Entry)) → Owns k s history → AreOwned [] (history ++ more) → TakesNone s (by k more)
+        → handed_of P s (begin c wait) (entries_of (history ++ more)) ≡ handed_of P s (begin c wait) (entries_of history) }
+{}
+
+/// So entries of other makers change nothing of what a session was handed.
+pub fn entries_of_others_hand_out_nothing()
+    ensures { (P : Protocol ℕ ℕ ℕ ℕ) (k s c : ℕ) (wait : Bool) (history more : List (ℕ × Entry)) → Owns k s history → AreOwned [] (history ++ more) → by k more ≡ []
+        → handed_of P s (begin c wait) (entries_of (history ++ more)) ≡ handed_of P s (begin c wait) (entries_of history) }
 {}

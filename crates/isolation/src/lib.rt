@@ -9,6 +9,8 @@
 //! - *fell*, *fallen*: a session that was lost for want of memory, of which no run has told yet
 //! - *view*, *alone*: what of a history one session sees, and a host that has no other session; `solo` is what that one
 //!   is sent
+//! - *maker*, *owner*: of several workers that keep one history, the one that left an entry, and the one that attached
+//!   a session
 //! - `StandsAs`, `BrokenAs`: what a host is whose history means this, while it works, and behind want of memory in a run
 #![tactic(auto)]
 
