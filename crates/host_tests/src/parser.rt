@@ -1,9 +1,9 @@
 //! The grammar, against ECMA-262 and this project's own rules.
 
-mod expressions;
-mod functions;
-mod kept;
-mod scripts;
+mod kept_texts;
+mod read_expressions;
+mod read_functions;
+mod read_scripts;
 
 use cdp_text::units::{Units, units_of};
 use js_parser::parse::{parse_expression, parse_function, parse_script};
