@@ -32,7 +32,7 @@ import tempfile
 
 from programs import TOP, below, dependencies
 
-STAND_IN = "Err(ParseError::Memory)"
+STAND_IN = "Err(js_syntax::fault::ParseError::Memory)"
 
 FUNCTION = re.compile(r"((?:^(?://|#\[)[^\n]*\n)*)^((?:pub )?fn (\w+).*?)[ \n]\{\n(.*?)^\}\n", re.M | re.S)
 CYCLE = re.compile(r"^#\[cycle\((\w+)\)\]\n", re.M)
