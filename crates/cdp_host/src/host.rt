@@ -8,10 +8,12 @@ ghost use Rattle.isolation.specs.Seats.{is_attached, each, fallen, seat_of, some
 ghost use Rattle.isolation.specs.Standing.{broken_seat, fell, less};
 ghost use Rattle.isolation.specs.declared.seat.Seat.TheVariants.{Attached};
 ghost use Rattle.js_tree.specs.declared.script.Script.{Script as AnyScript};
+ghost use Rattle.locations.specs.Locations.{break_locations};
 ghost use Rattle.cdp_json.specs.Messages.{refusal_text};
 ghost use Rattle.cdp_json.specs.declared.refusal.Refusal.{Refusal};
 ghost use Rattle.cdp_session.specs.Replies.{answer_of, outcome_of, IsRefused};
 ghost use Rattle.cdp_session.specs.Sessions.{Session as Kept, sent};
+ghost use Rattle.cdp_session.specs.Situations.{HasSpots, seen};
 ghost use Rattle.pure_eval.specs.Workspaces.{begun};
 ghost use Rattle.host_seats.specs.Fallbacks.{fallback_of};
 ghost use Rattle.host_seats.specs.Losses.{loss_told, losses_from};
@@ -31,7 +33,7 @@ use crate::state::State;
 use crate::stops::{is_first, pause_behind, phase_of, stops_behind, waits, woken};
 use crate::telling::{Answered, answer, take};
 use breakpoints::ScriptSpots;
-use cdp_session::{Asks, Pause, Session, Situation};
+use cdp_session::{Asks, Pause, Program, Session, Situation};
 use cdp_text::line_table::LineTable;
 use cdp_text::units::Units;
 use host_seats::{
@@ -102,6 +104,25 @@ fn workspace_of(alloc: Global, scripts: &[Script], names: &Names) -> Result<Work
     let terms = terms_of_scripts(alloc, scripts)?;
     let placed = placed_scripts(alloc, &terms)?;
     Workspace::start(alloc, names, &placed)
+}
+
+/// What a command sees of a program that is paused there, if it is paused.
+fn situation_of<'d, P: Program>(
+    scripts: &'d [Script],
+    spots: &'d ScriptSpots,
+    paused: Option<Pause>,
+    program: &'d P,
+) -> Situation<'d, P>
+    requires { spots.now ≡ map break_locations scripts.now }
+    ensures seen { seen P.standing result ≡ record { scripts = scripts.now; paused = paused; standing = P.standing program.now } }
+    ensures spots { HasSpots result }
+{
+    Situation {
+        scripts,
+        spots,
+        paused,
+        program,
+    }
 }
 
 /// What a run did.
@@ -372,12 +393,7 @@ impl<'p> Host<'p> {
             scripts: self.scripts,
             lines: self.lines.as_slice(),
         };
-        let situation = Situation {
-            scripts: self.scripts,
-            spots: &self.spots,
-            paused: self.stop,
-            program: &program,
-        };
+        let situation = situation_of(self.scripts, &self.spots, self.stop, &program);
         answer(self.seats.as_mut_slice(), s, &situation, text)
     }
 

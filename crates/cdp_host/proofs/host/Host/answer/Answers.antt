@@ -3,6 +3,7 @@ use Rattle.isolation.specs.Seats.{is_attached, seat_of}
 use Rattle.isolation.specs.declared.seat.Seat.TheVariants.{Attached}
 use Rattle.cdp_session.specs.Replies.{Answer, answer_of}
 use Rattle.cdp_session.specs.Sessions.{Session}
+use Rattle.cdp_session.specs.Situations.{Situation}
 use Rattle.cdp_host.specs.Hosts.{AreLines, HostState, machine_standing, parts_standing}
 use Rattle.cdp_host.specs.Protocols.{situation}
 use Rattle.cdp_host.specs.Watching.{AnswersIn}
@@ -31,6 +32,9 @@ invariant_of-self c =
     let answer : Answer = answer_of
     (record { scripts = a.scripts.now; paused = a.stop; standing = machine_standing a.scripts.now a.machine a.heap })
     it.0 c.args.text.now in
+    let B : Situation → Type 0 = λ seen.
+    AnswersIn c.answer.result (answer_of seen it.0 c.args.text.now) c.args.s c.as_mut_slice.result.now
+    c.answer.new.seats in
     sound-seats a.scripts.now a.lines.items a.spots a.machine a.broken a.seats.items
     (take a.seats.len (c.answer.new.seats ++ rest)) a.seats.len a.fallback a.fallen.items
     c.self.invariant
@@ -40,7 +44,8 @@ invariant_of-self c =
     (answers-back c.answer.result answer
     a.seats.len c.args.s a.seats.items c.as_mut_slice.result.now c.answer.new.seats rest
     c.as_mut_slice.ensures.value (sym c.as_mut_slice.ensures.len)
-    (c.answer.ensures it.0 (ap (seat_of c.args.s) c.as_mut_slice.ensures.value ∙ it.1)))
+    (subst B c.situation_of-situation.ensures.seen
+    (c.answer.ensures it.0 (ap (seat_of c.args.s) c.as_mut_slice.ensures.value ∙ it.1))))
     c.self.invariant.fit)
 
 pub returns-clause-answers : goal.returns-clause-answers
@@ -58,10 +63,14 @@ returns-clause-answers c =
     (answer_of (situation o.scripts o.meaning.stop (parts_standing o.scripts o.meaning.program)) x c.args.text.now)
     c.args.s o.meaning.seats news in
     let here : A h = λ x is.
+    let B : Situation → Type 0 = λ seen.
+    AnswersIn c.answer.result (answer_of seen x c.args.text.now) c.args.s c.as_mut_slice.result.now
+    c.answer.new.seats in
     answers-back c.answer.result (f x)
     a.seats.len c.args.s a.seats.items c.as_mut_slice.result.now c.answer.new.seats rest
     c.as_mut_slice.ensures.value (sym c.as_mut_slice.ensures.len)
-    (c.answer.ensures x (ap (seat_of c.args.s) c.as_mut_slice.ensures.value ∙ is)) in
+    (subst B c.situation_of-situation.ensures.seen
+    (c.answer.ensures x (ap (seat_of c.args.s) c.as_mut_slice.ensures.value ∙ is))) in
     subst A c.self.view_is here
 
 pub returns-clause-works : goal.returns-clause-works
