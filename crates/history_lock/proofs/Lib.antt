@@ -1,0 +1,7 @@
+pub mod Facts
+pub mod Reserves
+pub mod Changes
+pub mod Knowing
+pub mod Passes
+pub mod Turns
+pub mod Waits

@@ -1,0 +1,24 @@
+-- Histories: lists of entries, each with the number of the pass that made it.
+use Rattle.std.specs.Prelude.{◌≡◌, ℕ, ◌==◌, List, [], ◌∷◌, ◌++◌, length, Bool, true, false, if◌then◌else◌, nat_lt}
+
+-- the greatest value of the ticket word: a history has no more entries
+abbrev pub limit : ℕ
+limit = 4611686018427387904
+
+-- a number is among these
+abbrev pub has : ℕ → List ℕ → Bool
+has x [] = false
+has x (y ∷ ys) = if y == x then true else has x ys
+
+-- the entries of one maker, in order
+abbrev pub by : {E : Type 0} → ℕ → List (ℕ × E) → List E
+by x [] = []
+by x (e ∷ es) = if e.0 == x then e.1 ∷ by x es else by x es
+
+-- a list is a beginning of another
+abbrev pub Begins : {A : Type 0} → List A → List A → Type 0
+Begins {A} xs ys = (rest : List A) × (ys ≡ xs ++ rest)
+
+-- the longer of two lists, the first where they are equally long
+abbrev pub longer : {A : Type 0} → List A → List A → List A
+longer xs ys = if nat_lt (length xs) (length ys) then ys else xs

@@ -1,0 +1,5 @@
+pub mod Histories
+pub mod Passes
+pub mod Rule
+pub mod Steps
+pub mod Views

@@ -1,0 +1,75 @@
+-- One history for all passes: what the lock keeps between any two steps.
+use Rattle.std.specs.Prelude.{◌≡◌, ◌⊎◌, ℕ, ◌+◌, ◌<◌, ◌≤◌, List, [], ◌∷◌, length, true, false, Some, Option as Opt}
+use mathlib.Core.Option.{Option, none, some}
+use lib.ListN.{get_elem?}
+use Rattle.atomic_table.specs.Table.{State}
+use Rattle.history_lock.specs.declared.view.View.{View}
+use Rattle.history_lock.specs.Histories.{limit, has, by, Begins}
+use Rattle.history_lock.specs.Views.{held, Reserved}
+
+-- the sum of f over a list
+abbrev pub total : {A : Type 0} → (A → ℕ) → List A → ℕ
+total f [] = 0
+total f (x ∷ xs) = f x + total f xs
+
+module _ {E : Type 0} where
+  -- what holds of one pass, where the lock began with n passes, this is the ticket word and this the history
+  pub record Fits (n ticket : ℕ) (log : List (ℕ × E)) (v : View E) : Type 0 where
+    -- it has seen a beginning, and so had the two that were joined into it
+    pub seen : Begins v.seen log
+    pub own_seen : Begins v.own_seen log
+    pub other_seen : Begins v.other_seen log
+    -- a ticket is drawn and not served yet
+    pub waits : v.has_ticket ≡ true → (length log ≤ v.ticket) × (v.ticket < ticket)
+    -- the turn is that of the ticket that is served, and all of the history is seen
+    pub turn : v.in_turn ≡ true → (v.has_ticket ≡ true) × (v.ticket ≡ length log) × (v.seen ≡ log)
+    -- each entry with a number that it answers for is in its own list
+    pub whole : (x : ℕ) → has x v.numbers ≡ true → by x log ≡ by x v.seen
+    pub own_whole : (x : ℕ) → has x v.own_numbers ≡ true → by x log ≡ by x v.own_seen
+    pub other_whole : (x : ℕ) → has x v.other_numbers ≡ true → by x log ≡ by x v.other_seen
+    pub own : (x : ℕ) → has x v.own_numbers ≡ true → has x v.numbers ≡ true
+    pub other : (x : ℕ) → has x v.other_numbers ≡ true → has x v.numbers ≡ true
+    pub disjoint : (x : ℕ) → has x v.own_numbers ≡ true → has x v.other_numbers ≡ true → ⊥
+    pub initial : (x : ℕ) → has x v.numbers ≡ true → v.initial ≡ n
+    pub named : v.has_ticket ≡ true → has v.number v.numbers ≡ true
+    -- the numbers that it may give have no entries, and those for a split are beyond the first n
+    pub unused : (x : ℕ) → Reserved v x → by x log ≡ []
+    pub beyond : 0 < v.stride → n ≤ v.base
+
+  -- all numbers are among the first n, those of the passes and those of the history
+  abbrev pub IsWithin : ℕ → List (View E) → List (ℕ × E) → Type 0
+  IsWithin n views log = ((i : ℕ) (v : View E) (x : ℕ) → get_elem? views i ≡ some v → has x v.numbers ≡ true → x < n) × ((x : ℕ) → n ≤ x → by x log ≡ [])
+
+  -- some pass that answers for one of the first n was split
+  abbrev pub WasSplit : ℕ → List (View E) → Type 0
+  WasSplit n views = (i : ℕ) × (v : View E) × (y : ℕ) × (get_elem? views i ≡ some v) × (y < n) × (has y v.numbers ≡ true) × (0 < v.splits)
+
+  -- where a number beyond the first n is there, a pass that answers for one of these was split
+  abbrev pub Accounts : ℕ → List (View E) → List (ℕ × E) → Type 0
+  Accounts n views log = IsWithin n views log ⊎ WasSplit n views
+
+module _ {S E : Type 0} (stands : S → List (ℕ × E) → Type 0) where
+  -- the slot has a state, which stands for the history, and nobody has the turn; or it is away, and somebody has
+  abbrev pub Holds : List (Option (Opt S)) → List (View E) → List (ℕ × E) → Type 0
+  Holds homes views log =
+      ((x : S) × (homes ≡ some (Some x) ∷ []) × stands x log × ((i : ℕ) (v : View E) → get_elem? views i ≡ some v → v.in_turn ≡ false))
+      ⊎ ((homes ≡ none ∷ []) × ((i : ℕ) × (v : View E) × (get_elem? views i ≡ some v) × (v.in_turn ≡ true)))
+
+  -- what is kept of this history
+  pub record KeptOf (n : ℕ) (log : List (ℕ × E)) (s : State (Opt S) (View E)) : Type 0 where
+    -- the ticket word is the number of tickets drawn, the serving word that of entries
+    pub words : s.words ≡ (length log + total held s.views) ∷ length log ∷ []
+    pub bound : length log + total held s.views ≤ limit
+    pub each : (i : ℕ) (v : View E) → get_elem? s.views i ≡ some v → Fits n (length log + total held s.views) log v
+    -- tickets differ
+    pub tickets : (i j : ℕ) (v w : View E) → get_elem? s.views i ≡ some v → get_elem? s.views j ≡ some w → v.has_ticket ≡ true → w.has_ticket ≡ true → v.ticket ≡ w.ticket → i ≡ j
+    -- no two passes answer for one number
+    pub apart : (i j : ℕ) (v w : View E) (x : ℕ) → get_elem? s.views i ≡ some v → get_elem? s.views j ≡ some w → has x v.numbers ≡ true → has x w.numbers ≡ true → i ≡ j
+    -- nor may two give one number, nor one that is answered for
+    pub reserves : (i j : ℕ) (v w : View E) (x : ℕ) → get_elem? s.views i ≡ some v → get_elem? s.views j ≡ some w → Reserved v x → Reserved w x → i ≡ j
+    pub fresh : (i j : ℕ) (v w : View E) (x : ℕ) → get_elem? s.views i ≡ some v → get_elem? s.views j ≡ some w → has x v.numbers ≡ true → Reserved w x → ⊥
+    pub slot : Holds s.homes s.views log
+
+  -- there is one history
+  abbrev pub Kept : ℕ → State (Opt S) (View E) → Type 0
+  Kept n s = (log : List (ℕ × E)) × KeptOf n log s × Accounts n s.views log

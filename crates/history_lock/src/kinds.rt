@@ -1,0 +1,91 @@
+//! The kinds of steps, each with what it tells.
+use crate::standing::Standing;
+use crate::view::View;
+use atomic_table::{Join, Play, Split};
+use std::marker::{Brand, PhantomData};
+
+/// A ticket is drawn.
+pub struct Draws;
+
+impl<S, E> Play<Option<S>, View<E>> for Draws {
+    ghost use Rattle.history_lock.specs.Steps.{Drawn};
+
+    ghost then = { Drawn };
+}
+
+/// A look at the ticket that is served.
+pub struct Looks<S, E, B> {
+    marker: PhantomData<(S, E, B)>,
+}
+
+impl<S: Standing<E, B>, E, B> Play<Option<S>, View<E>> for Looks<S, E, B> {
+    ghost use Rattle.history_lock.specs.Steps.{Looked};
+
+    ghost then = { λ _. Looked S.stands };
+}
+
+/// The entry that a turn ends with.
+pub trait Ending<E> {
+    ghost use Rattle.std.specs.Prelude.{Option};
+
+    ghost entry: { Option E };
+}
+
+impl<E> Ending<E> for Brand {
+    ghost use Rattle.std.specs.Prelude.{None};
+
+    ghost entry = { None };
+}
+
+/// The next ticket is served, and the history has the entry.
+pub struct Advances<X> {
+    marker: PhantomData<X>,
+}
+
+impl<S, E, X: Ending<E>> Play<Option<S>, View<E>> for Advances<X> {
+    ghost use Rattle.history_lock.specs.Steps.{Advanced};
+
+    ghost then = { Advanced X.entry };
+}
+
+/// One of the passes that a lock begins with is opened.
+pub struct Opens;
+
+impl<E> Split<View<E>> for Opens {
+    ghost use Rattle.history_lock.specs.Views.{opened, newly_opened};
+
+    ghost left = { opened };
+
+    ghost right = { newly_opened };
+}
+
+/// A pass is split off another.
+pub struct SplitsOff;
+
+impl<E> Split<View<E>> for SplitsOff {
+    ghost use Rattle.history_lock.specs.Views.{divided, split_off};
+
+    ghost left = { divided };
+
+    ghost right = { split_off };
+}
+
+/// Two passes become one.
+pub struct Joins;
+
+impl<E> Join<View<E>> for Joins {
+    ghost use Rattle.history_lock.specs.Views.{joined, nobody};
+
+    ghost both = { joined };
+
+    ghost spent = { nobody };
+}
+
+/// A load of the ticket word, by which a pass learns what it may rely on when it is split or joined.
+pub struct Recalls;
+
+impl<S, E> Play<Option<S>, View<E>> for Recalls {
+    ghost use Rattle.history_lock.specs.Steps.{Recalled};
+
+    ghost then = { Recalled };
+}

@@ -1,0 +1,21 @@
+//! A lock whose turns are the entries of one history.
+//!
+//! Threads share a state through a `HistoryLock`. Each has a `Pass`; between `enter` and `leave` it has the turn, and
+//! with it the state. What a turn did to the state is its entry, and the entries of all turns, in their order, are the
+//! history. Its words in contracts:
+//!
+//! - *history*: a list of entries, each with the number of the pass that made it, the maker
+//! - *seen*: the part of the history that a pass knows of, always a beginning of it
+//! - *stands*: the histories for which a state stands; a turn hands out a state that stands for what its pass has seen
+//! - *answers for*: a pass answers for its own number and for those of the passes that were joined into it, and has
+//!   seen all entries that have one of these numbers
+#![tactic(auto)]
+
+mod kinds;
+mod lock;
+mod rule;
+mod standing;
+mod view;
+
+pub use lock::{HistoryLock, Pass, Spent, Turn};
+pub use standing::Standing;

@@ -1,0 +1,336 @@
+//! The lock, its passes and turns.
+ghost use Rattle.std.specs.Prelude.{◌≡◌, ◌≢◌, ◌≤◌, ◌<◌, ◌+◌, ◌++◌, ℕ, List, [], ◌∷◌, true, false, length, IfOk, IfErr, OnOk, OnErr, IfSome, IfNone, Some, vec_len};
+ghost use Rattle.std.specs.Borrow.{Lends, sem};
+ghost use Rattle.history_lock.specs.Histories.{limit, has, by, longer, Begins};
+ghost use Rattle.history_lock.specs.Passes.{PassState, Follows, IsSamePass, IsNewNumber, HasInitialOnly, KeepsWhole, initial_pass, initial_passes, split_once, split_pass, joined_pass};
+ghost use Rattle.history_lock.specs.Views.{IsOpening, drawn, advanced};
+ghost use Rattle.history_lock.specs.Steps.{Looked, Comes, OnlyInitial};
+
+use crate::kinds::{Advances, Draws, Ending, Joins, Looks, Opens, Recalls, SplitsOff};
+use crate::rule::OneHistory;
+use crate::standing::Standing;
+use crate::view::View;
+use atomic_table::{Seat, Table};
+use std::alloc::{AllocError, Global};
+use std::hint::spin_loop;
+use std::marker::{Brand, Model, PhantomData};
+use std::sync::Wait;
+
+// The words of the table, and its one slot.
+const TICKET: usize = 0;
+
+const SERVING: usize = 1;
+
+const STATE: usize = 0;
+
+// No ticket is drawn from here on.
+const LIMIT: u64 = 1 << 62;
+
+// How often a thread looks before it sleeps.
+const LOOKS: u32 = 64;
+
+/// A lock over a state that stands for the history of its turns. Contracts see which lock it is.
+#[derive(Drop)]
+pub struct HistoryLock<S: Standing<E, B>, E, B> {
+    table: Table<Option<S>, View<E>, u64, OneHistory<S, E, B>, Global>,
+}
+
+impl<S: Standing<E, B>, E, B> Model for HistoryLock<S, E, B> {
+    ghost use Rattle.std.specs.Prelude.{◌≡◌};
+    ghost use Rattle.history_lock.specs.Passes.{LockId};
+
+    ghost Value = { LockId };
+
+    ghost view = { λ l. l.table.shared.table_id };
+
+    ghost invariant = { λ l. (l.table.shared.table_id.words ≡ 2) × (l.table.shared.table_id.slots ≡ 1) };
+}
+
+/// Leave to take turns of one lock. Contracts see it as a `PassState`.
+#[derive(Drop)]
+pub struct Pass<S, E, B> {
+    seat: Seat<Option<S>, View<E>>,
+    beginning: PhantomData<B>,
+}
+
+impl<S, E, B> Model for Pass<S, E, B> {
+    ghost use Rattle.history_lock.specs.Passes.{PassState};
+    ghost use Rattle.history_lock.specs.Views.{IsSeated, shown};
+
+    ghost Value = { PassState E };
+
+    ghost view = { λ p. shown p.seat.table_id p.seat.me.0 };
+
+    ghost invariant = { λ p. IsSeated p.seat.me };
+}
+
+/// The state, while a pass has the turn. It can't be dropped: `leave` alone ends it.
+pub struct Turn<S> {
+    state: S,
+}
+
+impl<S> Turn<S> {
+    ghost use Rattle.history_lock.specs.contracts.lock.Turn.{the_row};
+
+    /// Lends the state.
+    pub fn state(&mut self) -> &mut S
+        ensures* lends { sem 𝓛 (Lends (the_row S.row) S.row self.entry result (λ s. record { state = s })) }
+        ensures state { result.now ≡ self.old.state }
+    {
+        &mut self.state
+    }
+}
+
+/// No ticket is left.
+#[derive(Drop)]
+pub struct Spent {
+    /// The ticket word, which is 2^62.
+    pub ticket: u64,
+}
+
+impl<S: Standing<E, B>, E, B> HistoryLock<S, E, B> {
+    // Draws a ticket, unless none is left.
+    fn draw<R: Wait>(&self, rt: &R, seat: &mut Seat<Option<S>, View<E>>) -> Option<u64>
+        requires lock { seat.old.table_id ≡ self.now }
+        requires free { (seat.old.me.0.has_ticket ≡ false) × (seat.old.me.0.in_turn ≡ false) × (has seat.old.me.0.number seat.old.me.0.numbers ≡ true) }
+        ensures same { (seat.new.table_id ≡ seat.old.table_id) × (seat.new.id ≡ seat.old.id) × (seat.new.me.1 ≡ seat.old.me.1) }
+        ensures some { IfSome result (λ ticket. seat.new.me.0 ≡ drawn seat.old.me.0 ticket) }
+        ensures none { IfNone result (seat.new.me.0 ≡ seat.old.me.0) }
+    {
+        let mut old = self.table.shared.peek(TICKET);
+        for _ in rt.forever() {
+            let new = if old < LIMIT { old + 1 } else { old };
+            let found = self
+                .table
+                .shared
+                .compare_exchange::<Draws>(seat, TICKET, old, new);
+            if found == old {
+                return if found < LIMIT { Some(found) } else { None };
+            }
+            old = found;
+        }
+        unreachable!()
+    }
+
+    // Looks at the ticket that is served. Where it is the pass's own, the seat then holds the slot.
+    fn look(&self, seat: &mut Seat<Option<S>, View<E>>) -> u64
+        requires lock { seat.old.table_id ≡ self.now }
+        requires waits { (seat.old.me.0.has_ticket ≡ true) × (seat.old.me.0.in_turn ≡ false) × (seat.old.me.1 ≡ []) }
+        ensures same { (seat.new.table_id ≡ seat.old.table_id) × (seat.new.id ≡ seat.old.id) }
+        ensures looked { Looked S.stands seat.old.me result seat.new.me }
+    {
+        self.table.shared.load::<Looks<S, E, B>>(seat, SERVING)
+    }
+
+    // Looks again: soon, or after many looks asleep until another ticket is served. A wake goes to one sleeper, in the
+    // order in which they fell asleep, and one whose turn it isn't hands it on.
+    fn look_again<R: Wait>(
+        &self,
+        rt: &R,
+        seat: &mut Seat<Option<S>, View<E>>,
+        ticket: u64,
+        served: u64,
+        looks: u32,
+    ) -> u64
+        requires lock { seat.old.table_id ≡ self.now }
+        requires waits { (seat.old.me.0.has_ticket ≡ true) × (seat.old.me.0.in_turn ≡ false) × (seat.old.me.1 ≡ []) }
+        ensures same { (seat.new.table_id ≡ seat.old.table_id) × (seat.new.id ≡ seat.old.id) }
+        ensures looked { Looked S.stands seat.old.me result seat.new.me }
+    {
+        if looks < LOOKS {
+            spin_loop();
+            return self.look(seat);
+        }
+        self.table
+            .shared
+            .park(rt, SERVING, (served % (1 << 32)) as u32);
+        let found = self.look(seat);
+        if found != served && found != ticket {
+            self.table.shared.wake_one(SERVING);
+        }
+        found
+    }
+
+    // Waits until the ticket is served.
+    fn wait<R: Wait>(&self, rt: &R, seat: &mut Seat<Option<S>, View<E>>, ticket: u64)
+        requires lock { seat.old.table_id ≡ self.now }
+        requires waits { (seat.old.me.0.has_ticket ≡ true) × (seat.old.me.0.in_turn ≡ false) × (seat.old.me.0.ticket ≡ ticket) × (seat.old.me.1 ≡ []) }
+        ensures same { (seat.new.table_id ≡ seat.old.table_id) × (seat.new.id ≡ seat.old.id) }
+        ensures turn { Comes S.stands seat.old.me seat.new.me }
+    {
+        let mut served = self.look(seat);
+        let mut looks: u32 = 0;
+        for _ in rt.forever() {
+            if served == ticket {
+                return;
+            }
+            served = self.look_again(rt, seat, ticket, served, looks);
+            looks = looks.saturating_add(1);
+        }
+        unreachable!()
+    }
+
+    // Ends the turn with the entry, and wakes a sleeper if another pass has a ticket.
+    fn advance<X: Ending<E>>(&self, seat: &mut Seat<Option<S>, View<E>>, entry: &E)
+        requires lock { seat.old.table_id ≡ self.now }
+        requires turn { (seat.old.me.0.has_ticket ≡ true) × (seat.old.me.0.in_turn ≡ true) }
+        requires ending { X.entry ≡ Some entry.now }
+        requires stands { (state : S) × (seat.old.me.1 ≡ (0, Some state) ∷ []) × S.stands state (seat.old.me.0.seen ++ (seat.old.me.0.number, entry.now) ∷ []) }
+        ensures same { (seat.new.table_id ≡ seat.old.table_id) × (seat.new.id ≡ seat.old.id) }
+        ensures after { seat.new.me ≡ (advanced seat.old.me.0 entry.now, []) }
+        ensures only { OnlyInitial seat.new.me.0 }
+    {
+        let served = self.table.shared.fetch_add::<Advances<X>>(seat, SERVING, 1);
+        if self.table.shared.peek(TICKET) != served + 1 {
+            self.table.shared.wake_one(SERVING);
+        }
+    }
+}
+
+impl<S: Standing<E, B>, E, B> HistoryLock<S, E, B> {
+    // The lock, and the seat of the pass that opens the others.
+    fn build(
+        alloc: Global,
+        state: S,
+        passes: usize,
+    ) -> Result<(HistoryLock<S, E, B>, Seat<Option<S>, View<E>>), AllocError>
+        requires passes { 0 < passes }
+        requires stands { S.stands state [] }
+        ensures { IfOk result (λ r. (r.1.table_id ≡ r.0) × IsOpening passes 0 r.0 r.1.me) }
+    {
+        let mut slots = Vec::new(alloc);
+        slots.push(Some(state))?;
+        let Ok((table, seat)) = Table::new(alloc, &[0, 0], slots, &(passes as u64)) else {
+            return Err(AllocError);
+        };
+        Ok((HistoryLock { table }, seat))
+    }
+
+    // The next of the passes that the lock begins with.
+    fn open(&self, seat: &mut Seat<Option<S>, View<E>>) -> Pass<S, E, B>
+        requires lock { seat.old.table_id ≡ self.now }
+        requires more { seat.old.me.0.unopened + 1 < seat.old.me.0.initial }
+        requires opens { IsOpening seat.old.me.0.initial seat.old.me.0.unopened self.now seat.old.me }
+        ensures lock { seat.new.table_id ≡ self.now }
+        ensures opened { result ≡ initial_pass self.now seat.old.me.0.initial seat.old.me.0.unopened }
+        ensures opens { IsOpening seat.old.me.0.initial (seat.old.me.0.unopened + 1) self.now seat.new.me }
+    {
+        Pass {
+            seat: self.table.shared.split_seat::<Opens>(seat),
+            beginning: PhantomData,
+        }
+    }
+
+    // All passes that the lock begins with, in the order of their numbers.
+    fn open_all(
+        &self,
+        alloc: Global,
+        mut seat: Seat<Option<S>, View<E>>,
+        passes: usize,
+    ) -> Result<Vec<Pass<S, E, B>>, AllocError>
+        requires lock { seat.table_id ≡ self.now }
+        requires opens { (0 < passes) × IsOpening passes 0 self.now seat.me }
+        ensures { IfOk result (λ all. all.items ≡ initial_passes self.now passes passes) }
+    {
+        let mut all = Vec::new(alloc);
+        while all.len() + 1 < passes {
+            all.push(self.open(&mut seat))?;
+        }
+        all.push(Pass {
+            seat,
+            beginning: PhantomData,
+        })?;
+        Ok(all)
+    }
+}
+
+impl<S: Standing<E, B>, E, B> HistoryLock<S, E, B> {
+    /// A lock over a state that stands for the empty history, with so many passes, numbered from 0 on.
+    ///
+    /// It fails where memory is wanting.
+    pub fn new(
+        alloc: Global,
+        state: S,
+        passes: usize,
+    ) -> Result<(HistoryLock<S, E, B>, Vec<Pass<S, E, B>>), AllocError>
+        requires passes { 0 < passes }
+        requires stands { S.stands state [] }
+        ensures passes { IfOk result (λ r. r.1.items ≡ initial_passes r.0 passes passes) }
+    {
+        let (lock, seat) = HistoryLock::build(alloc, state, passes)?;
+        let all = lock.open_all(alloc, seat, passes)?;
+        Ok((lock, all))
+    }
+
+    /// Waits for a turn. The state stands for the history that the pass has then seen.
+    ///
+    /// `Spent` comes where the ticket word is 2^62; then no ticket is drawn.
+    pub fn enter<R: Wait>(&self, rt: &R, p: &mut Pass<S, E, B>) -> Result<Turn<S>, Spent>
+        requires lock { p.old.lock ≡ self.now }
+        requires free { p.old.in_turn ≡ false }
+        ensures state { IfOk result (λ turn. S.stands turn.state p.new.seen) }
+        ensures seen { OnOk result (Follows p.old p.new) }
+        ensures bound { OnOk result (length p.new.seen < limit) }
+        ensures turn { OnOk result (p.new.in_turn ≡ true) }
+        ensures only { OnOk result (HasInitialOnly p.new) }
+        ensures spent { IfErr result (λ e. e.ticket ≡ limit) }
+        ensures none { OnErr result (p.new ≡ p.old) }
+        ensures named { has p.new.number p.new.numbers ≡ true }
+        ensures same { IsSamePass p.old p.new }
+    {
+        let Some(ticket) = self.draw(rt, &mut p.seat) else {
+            return Err(Spent { ticket: LIMIT });
+        };
+        self.wait(rt, &mut p.seat, ticket);
+        let Some(state) = self.table.shared.exchange(&mut p.seat, STATE, None) else {
+            unreachable!()
+        };
+        Ok(Turn { state })
+    }
+
+    /// Ends a turn with its entry. The state stands for the history with it, and the pass has seen both.
+    pub fn leave(&self, p: &mut Pass<S, E, B>, turn: Turn<S>, entry: &E)
+        requires lock { p.old.lock ≡ self.now }
+        requires turn { p.old.in_turn ≡ true }
+        requires stands { S.stands turn.state (p.old.seen ++ (p.old.number, entry.now) ∷ []) }
+        ensures seen { p.new.seen ≡ p.old.seen ++ (p.old.number, entry.now) ∷ [] }
+        ensures free { p.new.in_turn ≡ false }
+        ensures only { HasInitialOnly p.new }
+        ensures same { IsSamePass p.old p.new }
+    {
+        let Turn { state } = turn;
+        self.table.shared.exchange(&mut p.seat, STATE, Some(state));
+        self.advance::<Brand>(&mut p.seat, entry);
+    }
+
+    /// A further pass with a new number, which has seen what this one has.
+    pub fn split(&self, p: &mut Pass<S, E, B>) -> Pass<S, E, B>
+        requires lock { p.old.lock ≡ self.now }
+        requires free { p.old.in_turn ≡ false }
+        ensures new { result ≡ split_pass p.old result.number }
+        ensures number { IsNewNumber p.old result.number }
+        ensures split { p.new ≡ split_once p.old }
+    {
+        self.table.shared.load::<Recalls>(&mut p.seat, TICKET);
+        Pass {
+            seat: self.table.shared.split_seat::<SplitsOff>(&mut p.seat),
+            beginning: PhantomData,
+        }
+    }
+
+    /// Joins another pass into this one, which then answers for the numbers of both and keeps the longer list.
+    pub fn join(&self, p: &mut Pass<S, E, B>, other: Pass<S, E, B>)
+        requires lock { (p.old.lock ≡ self.now) × (other.lock ≡ self.now) }
+        requires free { (p.old.in_turn ≡ false) × (other.in_turn ≡ false) }
+        ensures joined { p.new ≡ joined_pass p.old other }
+        ensures both { Begins p.old.seen p.new.seen × Begins other.seen p.new.seen }
+        ensures own { KeepsWhole p.old p.new.seen }
+        ensures others { KeepsWhole other p.new.seen }
+        ensures apart { (x : ℕ) → has x p.old.numbers ≡ true → has x other.numbers ≡ false }
+        ensures only { HasInitialOnly p.new }
+    {
+        let Pass { seat, beginning: _ } = other;
+        self.table.shared.join_seat::<Joins>(&mut p.seat, seat);
+        self.table.shared.load::<Recalls>(&mut p.seat, TICKET);
+    }
+}
