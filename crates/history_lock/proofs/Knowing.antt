@@ -1,11 +1,11 @@
 -- What a pass may rely on of the passes that were split.
-use Rattle.std.proofs.Common.{◌≡◌, ◌⊎◌, ℕ, ◌<◌, ◌≤◌, List, [], true, Option as Opt, refl, sym, ap, ◌∙◌, subst, ⊎_elim, arith}
-use mathlib.Core.Option.{Option, some, some-injective}
+use Rattle.std.proofs.Common.{◌≡◌, ℕ, ◌<◌, ◌≤◌, List, [], true, Option as Opt, sym, ap, ◌∙◌, ⊎_elim, arith}
+use mathlib.Core.Option.{some, some-injective}
 use lib.ListN.{get_elem?}
 use Rattle.atomic_table.specs.Table.{State}
 use Rattle.history_lock.specs.declared.view.View.{View}
 use Rattle.history_lock.specs.Histories.{has, by, Begins}
-use Rattle.history_lock.specs.Rule.{KeptOf, Accounts, IsWithin, WasSplit}
+use Rattle.history_lock.specs.Rule.{KeptOf, Accounts}
 use Rattle.history_lock.proofs.Facts.{by_none}
 
 module _ {S E : Type 0} (stands : S → List (ℕ × E) → Type 0) (n : ℕ) where

@@ -1,18 +1,18 @@
 -- Passes begin, are parted and joined.
-use Rattle.std.proofs.Common.{◌≡◌, ◌≢◌, ◌⊎◌, ℕ, zero, suc, ◌+◌, ◌-◌, ◌<◌, ◌≤◌, List, [], ◌∷◌, ◌++◌, length, set, get_or, Bool, true, false, true≢false, if◌then◌else◌, MatchBool, Some, None, Option as Opt, refl, sym, ap, ◌∙◌, subst, ⊎_elim, inl, inr, arith, le_refl, lt_of_not-le, nat_lt}
-use mathlib.Core.Option.{Option, some, none, some-ne-none, some-injective}
+use Rattle.std.proofs.Common.{◌≡◌, ◌≢◌, ℕ, zero, suc, ◌+◌, ◌-◌, ◌<◌, ◌≤◌, List, [], ◌∷◌, ◌++◌, length, set, get_or, Bool, true, false, true≢false, if◌then◌else◌, MatchBool, Some, None, Option as Opt, refl, sym, ap, ◌∙◌, subst, ⊎_elim, inl, inr, arith, le_refl, lt_of_not-le, nat_lt}
+use mathlib.Core.Option.{some, none, some-ne-none, some-injective}
 use mathlib.Core.Logic.{dite}
 use native.Mathlib.Decide.{ℕ_discrete, dec_le}
 use lib.ListN.{get_elem?}
 use Rattle.std.proofs.lemmas.Bool.Decides.{nat_tests}
 use Rattle.atomic_table.specs.Table.{State, Me, step, Act, Valid, homes_after, carried_after, keeps, Allows, Splits, Joins as Unites, opening as begun}
-use Rattle.atomic_table.proofs.Lists.{at_set, set_again, set_else, at_longer}
+use Rattle.atomic_table.proofs.Lists.{at_set, set_again, at_longer}
 use Rattle.history_lock.specs.declared.view.View.{View}
 use Rattle.history_lock.specs.Histories.{limit, has, by, Begins, longer}
 use Rattle.history_lock.specs.Passes.{LockId, PassState, initial_pass, initial_passes}
 use Rattle.history_lock.specs.Views.{IsSeated, IsOpening, shown, held, Reserved, term, plain, opening, nobody, thinned, newborn, opened, newly_opened, divided, split_off, joined}
-use Rattle.history_lock.specs.Rule.{total, Fits, Holds, KeptOf, Kept, Accounts, IsWithin, WasSplit}
-use Rattle.history_lock.specs.Steps.{Recalled, OnlyInitial}
+use Rattle.history_lock.specs.Rule.{total, Fits, KeptOf, Kept, Accounts, IsWithin, WasSplit}
+use Rattle.history_lock.specs.Steps.{Recalled}
 use Rattle.history_lock.proofs.Facts.{begins_same, begins_nil, begins_both, by_none, by_within, has_append, has_front, has_behind, has_one, has_same, total_set, total_snoc, each_set, each_snoc, set_there, set_other, set_swap, not_true}
 use Rattle.history_lock.proofs.Reserves.{nobody_reserves, thinned_within, newborn_within, parted, base_taken, base_not_kept, unopened_taken, unopened_not_kept, from_base, base_within}
 use Rattle.history_lock.proofs.Changes.{Alone, fits_later, changed, stays_alone, accounts_set, holds_on}

@@ -1,5 +1,5 @@
 -- The numbers that a pass may give: a split takes the first, and parts the others between two passes.
-use Rattle.std.proofs.Common.{◌≡◌, ◌⊎◌, ℕ, zero, suc, ◌+◌, ◌<◌, ◌≤◌, List, refl, sym, ap, ◌∙◌, ⊎_elim, inl, inr, arith, le_refl}
+use Rattle.std.proofs.Common.{◌≡◌, ℕ, zero, suc, ◌+◌, ◌<◌, ◌≤◌, refl, sym, ap, ◌∙◌, ⊎_elim, inl, inr, arith, le_refl}
 use Rattle.history_lock.specs.declared.view.View.{View}
 use Rattle.history_lock.specs.Views.{Reserved, term, thinned, newborn, nobody}
 

@@ -1,5 +1,5 @@
 -- The steps of a turn: a ticket is drawn, looks wait for it, and the turn ends with an entry.
-use Rattle.std.proofs.Common.{◌≡◌, ◌≢◌, ◌⊎◌, ℕ, zero, suc, ◌+◌, ◌%◌, ◌<◌, ◌≤◌, ◌==◌, List, [], ◌∷◌, ◌++◌, length, set, get_or, Bool, true, false, true≢false, if◌then◌else◌, Some, None, Option as Opt, refl, sym, ap, ◌∙◌, subst, ⊎_elim, inl, inr, arith, length-append, eqb, eq-eqb, ne_eqb, lt_of_not-le}
+use Rattle.std.proofs.Common.{◌≡◌, ◌≢◌, ℕ, ◌+◌, ◌%◌, ◌<◌, ◌≤◌, List, [], ◌∷◌, ◌++◌, length, set, get_or, Bool, true, false, true≢false, if◌then◌else◌, Some, None, Option as Opt, refl, sym, ap, ◌∙◌, subst, ⊎_elim, inl, inr, arith, length-append, eqb, eq-eqb, ne_eqb, lt_of_not-le}
 use mathlib.Core.Option.{Option, some, none, some-injective}
 use mathlib.Core.Logic.{dite}
 use native.Mathlib.Decide.{ℕ_discrete, dec_le}
@@ -9,9 +9,9 @@ use Rattle.atomic_table.specs.Table.{State, Me, step, Act, Valid, homes_after, c
 use Rattle.atomic_table.proofs.Lists.{set_again}
 use Rattle.history_lock.specs.declared.view.View.{View}
 use Rattle.history_lock.specs.Histories.{limit, has, by, Begins}
-use Rattle.history_lock.specs.Views.{held, Reserved, drawn, looked, advanced}
+use Rattle.history_lock.specs.Views.{held, drawn, looked, advanced}
 use Rattle.history_lock.specs.Rule.{total, Fits, Holds, KeptOf, Kept, Accounts, IsWithin}
-use Rattle.history_lock.specs.Steps.{Drawn, Looked, Advanced, SeesMore, OnlyInitial}
+use Rattle.history_lock.specs.Steps.{Drawn, Looked, Advanced, SeesMore}
 use Rattle.history_lock.proofs.Facts.{begins_same, begins_nil, begins_more, by_append, by_else, by_behind, append_nil, total_set, each_set, set_there, not_true}
 use Rattle.history_lock.proofs.Changes.{fits_later, changed, stays_alone, accounts_set, holds_on}
 use Rattle.history_lock.proofs.Knowing.{only_initial}

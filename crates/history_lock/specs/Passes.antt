@@ -1,7 +1,7 @@
 -- What contracts see of a lock and of its passes.
 use Rattle.std.specs.Prelude.{◌≡◌, ℕ, zero, suc, ◌+◌, ◌<◌, ◌≤◌, List, [], ◌∷◌, ◌++◌, Bool, true, false}
 use Rattle.atomic_table.specs.Seated.{TableId}
-use Rattle.history_lock.specs.Histories.{has, by, longer, Begins}
+use Rattle.history_lock.specs.Histories.{has, by, longer}
 
 -- which lock it is
 abbrev pub LockId : Type 0

@@ -1,10 +1,9 @@
 -- What each kind of step tells the pass that makes it.
-use Rattle.std.specs.Prelude.{◌≡◌, ◌≢◌, ℕ, ◌+◌, ◌<◌, ◌≤◌, List, [], ◌∷◌, ◌++◌, length, true, false, Some, Option as Opt}
+use Rattle.std.specs.Prelude.{◌≡◌, ◌≢◌, ℕ, ◌<◌, ◌≤◌, List, [], ◌∷◌, ◌++◌, length, true, false, Some, Option as Opt}
 use Rattle.atomic_table.specs.Table.{Me, Step}
 use Rattle.history_lock.specs.declared.view.View.{View}
 use Rattle.history_lock.specs.Histories.{limit, has, by, longer, Begins}
-use Rattle.history_lock.specs.Passes.{LockId, HasInitialOnly}
-use Rattle.history_lock.specs.Views.{drawn, looked, advanced, shown}
+use Rattle.history_lock.specs.Views.{drawn, looked, advanced}
 
 module _ {E : Type 0} where
   -- a view has the same and more behind it, of which nothing is its own

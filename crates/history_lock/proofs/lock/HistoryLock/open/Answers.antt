@@ -1,4 +1,4 @@
-use Rattle.std.proofs.Common.{◌≡◌, rules}
+use Rattle.std.proofs.Common.{rules}
 use Rattle.history_lock.proofs.Passes.{opens}
 use Rattle.history_lock.proofs.lock.HistoryLock.open.Goals as goal
 

@@ -1,4 +1,4 @@
-use Rattle.std.proofs.Common.{◌≡◌, ◌≢◌, rules}
+use Rattle.std.proofs.Common.{◌≢◌, rules}
 use Rattle.history_lock.proofs.Waits.{looks_again}
 use Rattle.history_lock.proofs.lock.HistoryLock.wait.Goals as goal
 
