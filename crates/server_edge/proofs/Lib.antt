@@ -1,0 +1,4 @@
+mod AnswerLemmas
+mod GivingLemmas
+mod HoldLemmas
+pub mod ToldLemmas

@@ -1,0 +1,9 @@
+pub mod AnswerLog
+pub mod Coming
+pub mod Contents
+pub mod Doors
+pub mod Heard
+pub mod MemDoor
+pub mod MemHarbor
+pub mod MemLink
+pub mod Scripts
