@@ -8,7 +8,7 @@ ghost use Rattle.command_line.specs.RunCauses.{IsUnbegun};
 
 use crate::journal::{self, ReplayEnd};
 use crate::outcome::Outcome;
-use crate::sources::read_sources;
+use crate::sources::{Program, read_sources};
 use crate::words::Request;
 use cdp_edge::{Shelf, ShelfFault, Sink};
 use std::alloc::Global;
@@ -62,14 +62,8 @@ pub(crate) fn replay<'w, F: Shelf, O: Sink>(
     };
     match read_sources(alloc, request.sources, shelf) {
         Ok(program) => {
-            let end = journal::replay(
-                alloc,
-                &program.scripts,
-                program.input,
-                request.wait,
-                &journal,
-                out,
-            );
+            let Program { scripts, input } = program;
+            let end = journal::replay(alloc, &scripts, input, request.wait, &journal, out);
             outcome_of_replay(end)
         }
         Err(end) => end,
