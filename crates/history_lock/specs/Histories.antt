@@ -1,4 +1,5 @@
 -- Histories: lists of entries, each with the number of the pass that made it.
+pub use Rattle.isolation.specs.Makers.{by}
 use Rattle.std.specs.Prelude.{◌≡◌, ℕ, ◌==◌, List, [], ◌∷◌, ◌++◌, length, Bool, true, false, if◌then◌else◌, nat_lt}
 
 -- the greatest value of the ticket word: a history has no more entries
@@ -9,11 +10,6 @@ limit = 4611686018427387904
 abbrev pub has : ℕ → List ℕ → Bool
 has x [] = false
 has x (y ∷ ys) = if y == x then true else has x ys
-
--- the entries of one maker, in order
-abbrev pub by : {E : Type 0} → ℕ → List (ℕ × E) → List E
-by x [] = []
-by x (e ∷ es) = if e.0 == x then e.1 ∷ by x es else by x es
 
 -- a list is a beginning of another
 abbrev pub Begins : {A : Type 0} → List A → List A → Type 0

@@ -1,0 +1,4 @@
+pub mod Debuggings
+pub mod Entries
+pub mod States
+pub mod Turns

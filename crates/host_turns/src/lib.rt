@@ -1,0 +1,23 @@
+//! The calls of a host, each as one turn of the history lock, over any host.
+//!
+//! Its words in contracts:
+//!
+//! - *debugging*: a program and the sessions that debug it, of any types; `meaning` is what a history of them means, and
+//!   `handed` what it hands out to a session
+//! - `IsHistory`: a list of entries with their makers is a history of the program, and each session is its owner's
+//! - `Acts`: a turn of a pass left an entry after what others left
+//! - *gone*: a session that was lost, or whose program was shut, before its turn
+#![tactic(auto)]
+
+mod answers;
+mod calls;
+mod entry;
+mod hosted;
+mod state;
+mod turns;
+
+pub use answers::{Attached, Gone, Progress, Taken, Told};
+pub use entry::Entry;
+pub use hosted::{Hosted, Ran};
+pub use state::State;
+pub use turns::{Lock, Worker, attach, detach, look, run, shut, take, tell};
