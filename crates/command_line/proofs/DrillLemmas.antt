@@ -9,8 +9,8 @@ use Rattle.command_line.specs.DrillCauses.{BecauseDrill, BecauseJournalOf, Drill
 use Rattle.command_line.specs.Replays.{IsReplay, WritesReplay}
 use Rattle.command_line.specs.declared.outcome.Outcome.{Outcome}
 use Rattle.command_line.specs.declared.outcome.Outcome.TheVariants as ends
-use Rattle.script_runs.proofs.PrintingLemmas.{less-part}
-use Rattle.script_runs.proofs.PrintingLemmas.{whole-part as gained}
+use Rattle.printing.proofs.PrintingLemmas.{less-part}
+use Rattle.printing.proofs.PrintingLemmas.{whole-part as gained}
 
 -- ---- the replay in memory
 

@@ -18,10 +18,10 @@ use Rattle.js_machine.specs.Machines.{Machine, program_of, run_at, state_of}
 use Rattle.js_machine.specs.Starts.{IsStarted}
 use Rattle.script_runs.specs.declared.end.RunEnd.{RunEnd}
 use Rattle.script_runs.specs.declared.end.RunEnd.TheVariants as ends
-use Rattle.script_runs.specs.Printing.{printed_lines}
+use Rattle.printing.specs.Printing.{printed_lines}
 use Rattle.script_runs.specs.Turns.{run_from, HasCome, IsCutFrom, IsLessFrom, IsOverBy}
 use Rattle.script_runs.specs.Runs.{output_after, IsCut, IsCutShort, ComesTo, IsFirstPart, EndsBy}
-use Rattle.script_runs.proofs.PrintingLemmas.{lines-append, less-part, part-longer, whole-part}
+use Rattle.printing.proofs.PrintingLemmas.{lines-append, less-part, part-longer, whole-part}
 
 -- ---- the start
 

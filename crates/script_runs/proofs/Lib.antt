@@ -1,3 +1,2 @@
-pub mod PrintingLemmas
 pub mod TurnLemmas
 pub mod EndLemmas

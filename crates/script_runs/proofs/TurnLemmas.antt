@@ -14,9 +14,9 @@ use Rattle.js_steps.specs.declared.run.Why.{Why}
 use Rattle.js_steps.specs.declared.run.Why.TheVariants as whys
 use Rattle.js_machine.specs.Machines.{Machine, program_of, term_of, run_by, run_at, IsKept, end_of_run, HasSameCode}
 use Rattle.js_machine.proofs.PlainLemmas.{still-kept, same-code, same_program}
-use Rattle.script_runs.specs.Printing.{printed_lines}
+use Rattle.printing.specs.Printing.{printed_lines}
 use Rattle.script_runs.specs.Turns.{run_from, HasTurned, HasCome, Prints, IsCutFrom, IsLessFrom}
-use Rattle.script_runs.proofs.PrintingLemmas.{lines-append}
+use Rattle.printing.proofs.PrintingLemmas.{lines-append}
 
 -- ---- one turn
 

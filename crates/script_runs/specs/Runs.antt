@@ -13,7 +13,7 @@ use Rattle.js_steps.specs.declared.stepped.Finish.{Finish}
 use Rattle.js_steps.specs.declared.stepped.Finish.TheVariants as finishes
 use Rattle.script_runs.specs.declared.end.RunEnd.{RunEnd}
 use Rattle.script_runs.specs.declared.end.RunEnd.TheVariants as ends
-use Rattle.script_runs.specs.Printing.{printed_lines}
+use Rattle.printing.specs.Printing.{printed_lines}
 
 -- the bytes that so many steps of scripts with an input print
 abbrev pub output_after : ℕ → Terms → List (List ℕ) → List ℕ

@@ -7,7 +7,7 @@ use Rattle.js_semantics.specs.Run.{Run, over, printed_of, steps_in}
 use Rattle.js_steps.specs.declared.stepped.Finish.{Finish}
 use Rattle.js_steps.specs.Stepping.{finish_of}
 use Rattle.js_machine.specs.Machines.{Machine, program_of, run_at, state_of, HasSameCode}
-use Rattle.script_runs.specs.Printing.{printed_lines}
+use Rattle.printing.specs.Printing.{printed_lines}
 
 -- so many steps from where a machine is with its cells, behind the texts that were taken
 abbrev pub run_from : Machine → World → List (List ℕ) → ℕ → Run

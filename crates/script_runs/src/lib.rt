@@ -10,6 +10,5 @@
 #![tactic(auto)]
 
 pub mod end;
-mod printing;
 pub mod run;
 mod turns;

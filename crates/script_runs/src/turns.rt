@@ -5,7 +5,6 @@ ghost use Rattle.cdp_edge.specs.Outside.{Rose};
 ghost use Rattle.js_world.specs.Heaps.{heap_world};
 ghost use Rattle.script_runs.specs.Turns.{HasTurned, HasCome, IsCutFrom, IsLessFrom, IsOverBy};
 
-use crate::printing::put_texts;
 use cdp_edge::{Sink, SinkFault};
 use cdp_text::units::Units;
 use js_machine::machine::Machine;
@@ -13,6 +12,7 @@ use js_machine::plain::Never;
 use js_steps::run::Why;
 use js_steps::stepped::Finish;
 use js_world::heap::BaseHeap;
+use printing::put_texts;
 use std::alloc::{AllocError, Global};
 use std::sync::Wait;
 

@@ -1,7 +1,7 @@
 use Rattle.std.proofs.Common.{◌≡◌, ◌∙◌}
 use Rattle.cdp_edge.proofs.Gains.{gains-next, OnErr-GainsLess-behind}
-use Rattle.script_runs.proofs.PrintingLemmas.{lines-more, lines-at}
-use Rattle.script_runs.proofs.printing.put_texts.Goals as goal
+use Rattle.printing.proofs.PrintingLemmas.{lines-more, lines-at}
+use Rattle.printing.proofs.put_texts.Goals as goal
 
 pub returns-in_err-put_text-clause-err : goal.returns-in_err-put_text-clause-err
 returns-in_err-put_text-clause-err g c =

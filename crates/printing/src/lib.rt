@@ -1,8 +1,9 @@
-//! Printed texts, one after another, to a sink.
+//! Printed texts, one after another, to a sink: each with LF in one write. `printed_lines` says which bytes they are.
+#![tactic(auto)]
 
 ghost use Rattle.std.specs.Prelude.{◌≡◌, IfOk, OnOk, OnErr, IsErrOf, string_bytes};
 ghost use Rattle.cdp_edge.specs.Outside.{Rose, gains, GainsLess};
-ghost use Rattle.script_runs.specs.Printing.{printed_line, printed_lines};
+ghost use Rattle.printing.specs.Printing.{printed_line, printed_lines};
 
 use cdp_edge::{Sink, SinkFault, put};
 use cdp_text::units::{Units, text_of};
@@ -36,7 +37,7 @@ fn put_text<O: Sink>(alloc: Global, out: &mut O, units: &[u16]) -> Result<(), Si
 /// # Errors
 ///
 /// Those of [`put`]; `Memory` also where there is none for a line.
-pub(crate) fn put_texts<O: Sink>(
+pub fn put_texts<O: Sink>(
     alloc: Global,
     out: &mut O,
     texts: &[Units],

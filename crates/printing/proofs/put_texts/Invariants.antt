@@ -1,7 +1,7 @@
 use Rattle.std.proofs.Common.{◌≡◌, take}
 use Rattle.cdp_edge.specs.Outside.{gains}
-use Rattle.script_runs.specs.Printing.{printed_lines}
-use Rattle.script_runs.proofs.printing.put_texts.Given as goal
+use Rattle.printing.specs.Printing.{printed_lines}
+use Rattle.printing.proofs.put_texts.Given as goal
 
 -- the texts so far are taken, and no write failed
 abbrev pub invariant-loop-text : goal.invariant-loop-text

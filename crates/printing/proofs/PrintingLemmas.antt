@@ -2,7 +2,7 @@
 use Rattle.std.proofs.Common.{◌≡◌, ℕ, ◌+◌, ◌<◌, List, [], ◌∷◌, ◌++◌, length, take, drop, get_or, Option, refl, ap, sym, ◌∙◌, append_assoc, append-nil}
 use Rattle.std.proofs.lemmas.List.{take_more, drop_more, take-append-drop}
 use Rattle.cdp_edge.specs.Outside.{gains, GainsPrefix, GainsLess}
-use Rattle.script_runs.specs.Printing.{printed_line, printed_lines}
+use Rattle.printing.specs.Printing.{printed_line, printed_lines}
 
 pub lines-append : (xs ys : List (List ℕ)) → printed_lines (xs ++ ys) ≡ printed_lines xs ++ printed_lines ys
 lines-append [] ys = refl
