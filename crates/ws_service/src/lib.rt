@@ -1,0 +1,14 @@
+//! Clients and the program, each by a pass of the lock of one history.
+//!
+//! Its words in contracts:
+//!
+//! - `Connection`: the answers of a link and the entries that its session left for them
+//! - `Session`: a session in a history, whose link was sent exactly what it would be sent with no other session there
+//! - `Goes`: the entries that a pass left by some turns; `Was`: at some time a history was so
+#![tactic(auto)]
+
+mod served;
+mod session;
+
+pub use served::Served;
+pub use session::serve_session;
