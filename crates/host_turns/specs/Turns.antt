@@ -1,6 +1,6 @@
 -- What a turn of a pass leaves.
 use Rattle.std.specs.Prelude.{◌≡◌, ◌≢◌, ◌+◌, ◌≤◌, ℕ, List, [], ◌∷◌, ◌++◌, length, map, string_bytes, Bool, true, false, Result, Ok, Err}
-use Rattle.isolation.specs.Histories.{Entry, Attach, Tell, Take, Detach, Ran, steps_made}
+use Rattle.isolation.specs.Histories.{Entry, Attach, Take, Detach, Ran, steps_made}
 use Rattle.isolation.specs.Makers.{Owns, by, entries_of}
 use Rattle.isolation.specs.Stops.{plain}
 use Rattle.history_lock.specs.Histories.{has}
@@ -16,7 +16,6 @@ use Rattle.host_turns.specs.declared.answers.Progress.{Progress}
 use Rattle.host_turns.specs.declared.answers.Progress.TheVariants as progress
 use Rattle.host_turns.specs.declared.answers.Taken.{Taken}
 use Rattle.host_turns.specs.declared.answers.Told.{Told}
-use Rattle.host_turns.specs.declared.state.State.{State}
 use Rattle.host_turns.specs.declared.state.State.TheVariants as states
 
 -- ---- calls of a host

@@ -97,11 +97,7 @@ fn entry_told(told: Told, session: u64, text: String) -> Entry
 }
 
 /// Answers a text of a session.
-pub fn tell<H: Hosted<B>, B>(
-    host: &mut H,
-    session: u64,
-    text: String,
-) -> Called<Result<Told, Gone>>
+pub fn tell<H: Hosted<B>, B>(host: &mut H, session: u64, text: String) -> Called<Result<Told, Gone>>
     ensures stands { (k : ℕ) (h : List (ℕ × AnyEntry)) → H.stands host.old h → Owns k session h → H.stands host.new (h ++ (k, result.entry) ∷ []) }
     ensures entry { TellsAs session (string_bytes text) result.answer result.entry }
     ensures shut { (h : List (ℕ × AnyEntry)) → H.stands host.old h → FindsShut H.debugs h result.answer }
@@ -146,11 +142,13 @@ fn make_steps<H: Hosted<B>, B>(host: &mut H, moment: u64) -> Called<Progress>
     ensures state { (h : List (ℕ × AnyEntry)) → H.stands host.new h → IsStateOf H.debugs result.answer h }
 {
     match host.run(STEPS, moment) {
-        Ok(Ran {
-            steps,
-            printed,
-            lost,
-        }) => Called {
+        Ok(
+            Ran {
+                steps,
+                printed,
+                lost,
+            },
+        ) => Called {
             answer: Progress::Ran(printed, host.state()),
             entry: Entry::ran(steps, moment, lost),
         },

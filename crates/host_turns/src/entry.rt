@@ -13,11 +13,18 @@ enum Event {
     /// A session was attached.
     Attach,
     /// A session was told a text.
-    Tell { session: u64, text: String },
+    Tell {
+        session: u64,
+        text: String,
+    },
     /// A session's texts were handed out.
-    Take { session: u64 },
+    Take {
+        session: u64,
+    },
     /// A session was detached.
-    Detach { session: u64 },
+    Detach {
+        session: u64,
+    },
     /// So many steps were made at a moment, in milliseconds since the epoch, and these sessions were lost.
     Ran {
         steps: u64,
