@@ -1,0 +1,3 @@
+pub mod PassingLemmas
+pub mod ConnectionLemmas
+pub mod SessionLemmas

@@ -4,6 +4,11 @@ use Rattle.isolation.specs.Histories.{Entry, Tell, Take, Detach}
 use Rattle.history_lock.specs.Histories.{Begins, limit}
 use Rattle.server_edge.specs.Heard as heard
 use Rattle.server_edge.specs.Heard.{Heard}
+use Rattle.isolation.specs.declared.seat.Loss.TheVariants.{Overrun, Memory}
+use Rattle.server_edge.specs.declared.link.LinkFault.{LinkFault}
+use Rattle.server_edge.specs.declared.link.LinkFault.TheVariants as faults
+use Rattle.host_turns.specs.declared.answers.Gone.{Gone}
+use Rattle.host_turns.specs.declared.answers.Gone.TheVariants as gone
 use Rattle.ws_service.specs.declared.served.Served.{Served}
 use Rattle.ws_service.specs.declared.served.Served.TheVariants as served
 
@@ -103,3 +108,16 @@ code_of served.Over = Some 1000
 code_of served.Fault = None
 code_of (served.Spent ticket) = None
 code_of served.Memory = None
+
+-- ---- causes
+
+-- the end of a session that was gone before its turn
+abbrev pub end_of : Gone → Served
+end_of (gone.Lost Overrun) = served.Overrun
+end_of (gone.Lost Memory) = served.Memory
+end_of gone.Shut = served.Shut
+
+-- the end of a session whose link answered so to a send
+abbrev pub end_at : LinkFault → Served
+end_at faults.Failed = served.Fault
+end_at faults.Memory = served.Memory

@@ -5,7 +5,7 @@ ghost use Rattle.cdp_edge.specs.Outside.{Rose};
 ghost use Rattle.history_lock.specs.Histories.{Begins};
 ghost use Rattle.isolation.specs.Makers.{Owns};
 ghost use Rattle.server_edge.specs.Contents.{adds};
-ghost use Rattle.ws_service.specs.Connections.{code_of};
+ghost use Rattle.ws_service.specs.Connections.{code_of, end_at, end_of};
 ghost use Rattle.ws_service.specs.Sessions.{Answers, HandsOut, Hears, IsClosedBy, IsEnded, IsServed, Waits};
 
 use crate::served::Served;
@@ -29,7 +29,9 @@ fn code_of(end: Served) -> Option<u16>
 }
 
 /// How a session ends that is gone.
-fn end_of(gone: Gone) -> Served {
+fn end_of(gone: Gone) -> Served
+    ensures { result ≡ end_of gone }
+{
     match gone {
         Gone::Lost(Loss::Overrun) => Served::Overrun,
         Gone::Lost(Loss::Memory) => Served::Memory,
@@ -38,7 +40,9 @@ fn end_of(gone: Gone) -> Served {
 }
 
 /// How a session ends whose link answered so to a send.
-fn end_at(fault: LinkFault) -> Served {
+fn end_at(fault: LinkFault) -> Served
+    ensures { result ≡ end_at fault }
+{
     match fault {
         LinkFault::Failed => Served::Fault,
         LinkFault::Memory => Served::Memory,
