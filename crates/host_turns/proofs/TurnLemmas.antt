@@ -7,9 +7,9 @@ use Rattle.isolation.proofs.MakerLemmas.{next-unowned, owned-front, owns-longer,
 use Rattle.isolation.proofs.OwnerLemmas.{handed-next, handed-stays, handed-take}
 use Rattle.history_lock.specs.Histories.{has}
 use Rattle.history_lock.specs.Passes.{Follows, IsSamePass, PassState}
-use Rattle.host_turns.specs.Debuggings.{Debugging, IsHistory, IsNew, handed, meaning}
+use Rattle.host_turns.specs.Debuggings.{Debugging, IsHistory, IsLongest, IsNew, handed, meaning}
 use Rattle.host_turns.specs.States.{HasState, IsShut, tells_over}
-use Rattle.host_turns.specs.Turns.{Acts, Attaches, AttachesAs, Finds, FindsShut, IsOverIf, IsStateOf, Leaves, Prints, Runs, RunsAs, TakesAs, Tells, TellsAs}
+use Rattle.host_turns.specs.Turns.{Acts, Attaches, AttachesAs, Finds, FindsShut, IsOverIf, IsStateOf, Leaves, Prints, Runs, RunsAs, Steps, TakesAs, Tells, TellsAs}
 use Rattle.host_turns.specs.declared.answers.Attached.{Attached}
 use Rattle.host_turns.specs.declared.answers.Attached.TheVariants as attached
 use Rattle.host_turns.specs.declared.answers.Gone.{Gone}
@@ -163,16 +163,22 @@ over-if d states.Ready h is = tt
 
 -- ---- the program
 
+steps-made : (d : Debugging) (most moment steps : ℕ) (lost : List ℕ) (texts : List (List ℕ)) (p m q : PassState Entry)
+    → Turn d p m q (Ran steps moment lost) → IsLongest d most moment m.seen steps lost → Prints d steps texts m.seen
+    → Steps d most moment p q texts
+unfolding finds acts
+steps-made d most moment steps lost texts p m q t longest prints = record {
+  steps = steps;
+  lost = lost;
+  act = finds d (Prints d steps texts) p m q (Ran steps moment lost) t prints;
+  longest = subst (λ l. IsLongest d most moment l steps lost) t.follows.1 longest;
+}
+
 pub runs : (d : Debugging) (most moment : ℕ) (p m q : PassState Entry) (answer : Progress) (entry : Entry)
     → Turn d p m q entry → RunsAs d most moment m.seen answer entry
     → IsStateOf d answer (m.seen ++ (m.number, entry) ∷ []) → Runs d most moment p q answer
 runs d most moment p m q (progress.Ran texts state) entry t did after = (
-  record {
-    steps = did.0;
-    lost = did.1;
-    within = did.2;
-    act = finds d (Prints d did.0 texts.items) p m q (Ran did.0 moment did.1) (subst (Turn d p m q) did.3 t) did.4;
-  },
+  steps-made d most moment did.0 did.1 texts.items p m q (subst (Turn d p m q) did.3 t) did.2 did.4,
   subst (HasState d state) (sym t.seen) after,
 )
 runs d most moment p m q (progress.Idle state) entry t did after =

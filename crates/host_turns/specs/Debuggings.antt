@@ -1,10 +1,11 @@
 -- A program that sessions debug, and what its histories mean.
-use Rattle.std.specs.Prelude.{ℕ, List, [], Bool}
+use Rattle.std.specs.Prelude.{◌≡◌, ◌≢◌, ◌⊎◌, ℕ, List, [], Bool}
 use Rattle.isolation.specs.Alone.{solo, unborn, view}
 use Rattle.isolation.specs.Histories.{Entry, FitsAll, handed_of, whole}
 use Rattle.isolation.specs.Makers.{AreOwned, Owns, entries_of}
 use Rattle.isolation.specs.Meanings.{Meaning, begin}
 use Rattle.isolation.specs.Protocols.{Protocol}
+use Rattle.isolation.specs.Runs as runs
 
 -- A program and its sessions, of any types: how the program begins, whether it is to wait for a client, what a program
 -- has printed, and whether one that is over ended by a throw.
@@ -39,3 +40,10 @@ sent_alone d s h = solo d.protocol s (unborn d.program d.wait) (view d.protocol 
 -- nobody has attached the session of this number
 abbrev pub IsNew : ℕ → List (ℕ × Entry) → Type 0
 IsNew s h = (k : ℕ) → Owns k s h → ⊥
+
+-- so many steps at a moment after a history are the longest run of at most so many; or there is none, since it tells of
+-- sessions that were lost for want of memory
+abbrev pub IsLongest : Debugging → ℕ → ℕ → List (ℕ × Entry) → ℕ → List ℕ → Type 0
+IsLongest d most moment h steps lost =
+    ((after : Meaning d.Program d.Pause d.Session) × runs.IsLongest d.protocol moment most (meaning d h) after steps)
+    ⊎ ((steps ≡ 0) × (lost ≢ []))

@@ -1,11 +1,11 @@
 -- What a turn of a pass leaves.
-use Rattle.std.specs.Prelude.{◌≡◌, ◌≢◌, ◌+◌, ◌≤◌, ℕ, List, [], ◌∷◌, ◌++◌, length, map, string_bytes, Bool, true, false, Result, Ok, Err}
+use Rattle.std.specs.Prelude.{◌≡◌, ◌≢◌, ◌+◌, ℕ, List, [], ◌∷◌, ◌++◌, length, map, string_bytes, Bool, true, false, Result, Ok, Err}
 use Rattle.isolation.specs.Histories.{Entry, Attach, Take, Detach, Ran, steps_made}
 use Rattle.isolation.specs.Makers.{Owns, by, entries_of}
 use Rattle.isolation.specs.Stops.{plain}
 use Rattle.history_lock.specs.Histories.{has}
 use Rattle.history_lock.specs.Passes.{PassState, IsSamePass}
-use Rattle.host_turns.specs.Debuggings.{Debugging, IsHistory, IsNew, handed, meaning}
+use Rattle.host_turns.specs.Debuggings.{Debugging, IsHistory, IsLongest, IsNew, handed, meaning}
 use Rattle.host_turns.specs.Entries.{told_entry}
 use Rattle.host_turns.specs.States.{HasState, IsOver, IsShut}
 use Rattle.host_turns.specs.declared.answers.Attached.{Attached}
@@ -53,7 +53,7 @@ Prints d n texts h = printed_by d (steps_made (entries_of h) + n) ≡ printed_by
 -- what a turn of the program does to a host after a history, and its entry: at most so many steps at a moment
 abbrev pub RunsAs : Debugging → ℕ → ℕ → List (ℕ × Entry) → Progress → Entry → Type 0
 RunsAs d most moment h (progress.Ran texts state) entry =
-    (steps : ℕ) × (lost : List ℕ) × (steps ≤ most) × (entry ≡ Ran steps moment lost) × Prints d steps texts.items h
+    (steps : ℕ) × (lost : List ℕ) × IsLongest d most moment h steps lost × (entry ≡ Ran steps moment lost) × Prints d steps texts.items h
 RunsAs d most moment h (progress.Idle state) entry = (entry ≡ Take 0) × HasState d state h × (state ≢ states.Ready)
 RunsAs d most moment h progress.Memory entry = (lost : List ℕ) × (entry ≡ Ran 0 moment lost)
 
@@ -111,12 +111,12 @@ Takes d s p q (Err why) = Leaves d s p q why
 
 -- ---- turns of the program
 
--- at most so many steps were made at a moment, and what they print is told
+-- the longest run of at most so many steps was made at a moment, and what it prints is told
 pub record Steps (d : Debugging) (most moment : ℕ) (p q : PassState Entry) (texts : List (List ℕ)) : Type 0 where
   pub steps : ℕ
   pub lost : List ℕ
-  pub within : steps ≤ most
   pub act : Finds d (Prints d steps texts) p q (Ran steps moment lost)
+  pub longest : IsLongest d most moment (p.seen ++ act.0.between) steps lost
 
 -- what a turn of the program leaves, which made at most so many steps at a moment
 abbrev pub Runs : Debugging → ℕ → ℕ → PassState Entry → PassState Entry → Progress → Type 0

@@ -136,7 +136,8 @@ pub fn take<H: Hosted<B>, B>(host: &mut H, session: u64) -> Called<Result<Vec<St
 
 /// Makes steps of a program that is ready.
 fn make_steps<H: Hosted<B>, B>(host: &mut H, moment: u64) -> Called<Progress>
-    requires { moment < 2 ^ 53 }
+    requires moment { moment < 2 ^ 53 }
+    requires ready { H.tells host.old ≡ State.Ready }
     ensures stands { (k : ℕ) (h : List (ℕ × AnyEntry)) → H.stands host.old h → H.stands host.new (h ++ (k, result.entry) ∷ []) }
     ensures runs { (h : List (ℕ × AnyEntry)) → H.stands host.old h → RunsAs H.debugs 256 moment h result.answer result.entry }
     ensures state { (h : List (ℕ × AnyEntry)) → H.stands host.new h → IsStateOf H.debugs result.answer h }

@@ -1,11 +1,11 @@
 //! What the turns ask of a host.
 
-ghost use Rattle.std.specs.Prelude.{◌≡◌, ◌<◌, ◌≤◌, ◌^◌, ◌+◌, ◌++◌, ◌∷◌, [], ℕ, List, length, map, string_bytes, IfOk, IfErr, OnOk, OnErr, Bool, true};
+ghost use Rattle.std.specs.Prelude.{◌≡◌, ◌<◌, ◌^◌, ◌+◌, ◌++◌, ◌∷◌, [], ℕ, List, length, map, string_bytes, IfOk, IfErr, OnOk, OnErr, Bool, true};
 ghost use Rattle.isolation.specs.Histories.{Entry as AnyEntry, Attach, Take, Detach, Ran as RanEntry, Shut, steps_made, waiting};
 ghost use Rattle.isolation.specs.Makers.{Owns, entries_of};
 ghost use Rattle.isolation.specs.Seats.{seat_of};
 ghost use Rattle.isolation.specs.Stops.{plain};
-ghost use Rattle.host_turns.specs.Debuggings.{IsHistory, meaning};
+ghost use Rattle.host_turns.specs.Debuggings.{IsHistory, IsLongest, meaning};
 ghost use Rattle.host_turns.specs.Entries.{lost_for_memory, told_entry};
 ghost use Rattle.host_turns.specs.States.{HasState};
 
@@ -34,6 +34,7 @@ pub struct Ran {
 pub trait Hosted<B>: Standing<Entry, B> {
     ghost use Rattle.std.specs.Prelude.{ℕ, Bool};
     ghost use Rattle.host_turns.specs.Debuggings.{Debugging};
+    ghost use Rattle.host_turns.specs.declared.state.State.{State};
 
     /// The program and its sessions, with what they began with.
     ghost debugs: { Debugging };
@@ -42,7 +43,11 @@ pub trait Hosted<B>: Standing<Entry, B> {
     ghost attached: { Self → ℕ → Bool };
 
     /// The first state that holds, in the order in which `State` lists them.
+    ghost tells: { Self → State };
+
+    /// Tells it.
     fn state(&self) -> State
+        ensures tells { result ≡ tells self.now }
         ensures history { (h : List (ℕ × AnyEntry)) → Self.stands self.now h → IsHistory Self.debugs h }
         ensures state { (h : List (ℕ × AnyEntry)) → Self.stands self.now h → HasState Self.debugs result h }
         // a turn may leave everything as it is: nobody is the session of the number 0
@@ -77,7 +82,9 @@ pub trait Hosted<B>: Standing<Entry, B> {
     fn detach(&mut self, session: u64) -> Option<SessionLost>
         ensures { (k : ℕ) (h : List (ℕ × AnyEntry)) → Self.stands self.old h → Owns k session h → Self.stands self.new (h ++ (k, Detach session) ∷ []) };
 
-    /// Makes the longest run of at most so many steps at a moment, in milliseconds since the epoch.
+    /// Makes the longest run of at most so many steps at a moment, in milliseconds since the epoch: it ends earlier only where
+    /// the program isn't ready any more. It makes no step where a session that was lost before for want of memory is to be
+    /// reported.
     ///
     /// # Errors
     ///
@@ -85,7 +92,7 @@ pub trait Hosted<B>: Standing<Entry, B> {
     fn run(&mut self, most: u64, moment: u64) -> Result<Ran, Vec<SessionLost>>
         requires { moment < 2 ^ 53 }
         ensures stands { IfOk result (λ ran. (k : ℕ) (h : List (ℕ × AnyEntry)) → Self.stands self.old h → Self.stands self.new (h ++ (k, RanEntry ran.steps moment (lost_for_memory ran.lost.items)) ∷ [])) }
-        ensures within { IfOk result (λ ran. ran.steps ≤ most) }
+        ensures longest { IfOk result (λ ran. tells self.old ≡ State.Ready → (h : List (ℕ × AnyEntry)) → Self.stands self.old h → IsLongest Self.debugs most moment h ran.steps (lost_for_memory ran.lost.items)) }
         ensures printed { IfOk result (λ ran. (h : List (ℕ × AnyEntry)) → Self.stands self.old h
             → Self.debugs.printed (plain Self.debugs.protocol (steps_made (entries_of h) + ran.steps) Self.debugs.program) ≡ Self.debugs.printed (plain Self.debugs.protocol (steps_made (entries_of h)) Self.debugs.program) ++ ran.printed.items) }
         ensures err { IfErr result (λ lost. (k : ℕ) (h : List (ℕ × AnyEntry)) → Self.stands self.old h → Self.stands self.new (h ++ (k, RanEntry 0 moment (lost_for_memory lost.items)) ∷ [])) };
