@@ -29,11 +29,12 @@ use Rattle.host_seats.specs.Fallbacks.{fallback_of}
 use Rattle.host_seats.specs.Losses.{losses_from}
 use Rattle.host_seats.specs.declared.losses.SessionLost.{SessionLost}
 use Rattle.cdp_host.specs.Histories.{Meaning, apply, whole}
-use Rattle.cdp_host.specs.Hosts.{CarriesOn, FallsBack, HostState, KeepsFallback, NoneAttached, Parts, RunsTo, Stands, beside, beside_behind, everybody, lost_for_memory, meaning_with, pause_behind, run_with}
+use Rattle.cdp_host.specs.Hosts.{CarriesOn, FallsBack, HostState, KeepsFallback, NoneAttached, Parts, RunsTo, Stands, beside, beside_behind, everybody, meaning_with, pause_behind, run_with}
+use Rattle.host_turns.specs.Entries.{lost_for_memory}
 use Rattle.cdp_host.specs.Programs.{printed_of}
 use Rattle.cdp_host.specs.Protocols.{protocol}
 use Rattle.cdp_host.specs.Rules.{printed_between}
-use Rattle.cdp_host.specs.declared.host.Ran.{Ran as Made}
+use Rattle.host_turns.specs.declared.hosted.Ran.{Ran as Made}
 use Rattle.cdp_host.proofs.AdvanceLemmas.{free-beside, free-shut, ready-parts}
 use Rattle.cdp_host.proofs.HistoryLemmas.{stands-behind, stands-broken}
 use Rattle.cdp_host.proofs.PartLemmas.{run-printed}

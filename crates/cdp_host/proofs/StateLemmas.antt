@@ -9,7 +9,7 @@ use Rattle.cdp_host.specs.Histories.{Meaning}
 use Rattle.cdp_host.specs.Protocols.{protocol}
 use Rattle.cdp_host.specs.States.{state_of}
 use Rattle.cdp_host.specs.Hosts.{HostState, meaning_with, state_at}
-use Rattle.cdp_host.specs.declared.state.State.TheVariants.{Broken, Shut, Threw, Ended, Paused, Waiting, Ready}
+use Rattle.host_turns.specs.declared.state.State.TheVariants.{Broken, Shut, Threw, Ended, Paused, Waiting, Ready}
 
 -- ---- states
 

@@ -24,7 +24,7 @@ use Rattle.cdp_session.specs.Sessions.{Session}
 use Rattle.cdp_session.specs.Situations.{Standing}
 use Rattle.frames_scopes.specs.Places.{starts_of}
 use Rattle.host_seats.specs.Fallbacks.{Fallback, HasRoom}
-use Rattle.host_seats.specs.Losses.{is_for_memory, losses_from}
+use Rattle.host_seats.specs.Losses.{losses_from}
 use Rattle.host_seats.specs.declared.fallback.Fallback.{Fallback as HeldFallback}
 use Rattle.host_seats.specs.declared.losses.SessionLost.{SessionLost}
 use Rattle.cdp_host.specs.Arrivals.{place_at, is_uncaught, IsShort}
@@ -35,8 +35,8 @@ use Rattle.cdp_host.specs.Rules.{printed_between}
 use Rattle.cdp_host.specs.Standings.{ending_of, standing_of}
 use Rattle.cdp_host.specs.States.{state_of}
 use Rattle.cdp_host.specs.Steps.{Step}
-use Rattle.cdp_host.specs.declared.state.State.{State}
-use Rattle.cdp_host.specs.declared.state.State.TheVariants.{Broken}
+use Rattle.host_turns.specs.declared.state.State.{State}
+use Rattle.host_turns.specs.declared.state.State.TheVariants.{Broken}
 
 -- a program as a host keeps it
 pub record Parts : Type 0 where
@@ -164,12 +164,6 @@ CarriesOn old entry new = (scripts : List Script) (input : List (List ℕ)) (wai
 -- the numbers of all sessions that a host ever had
 abbrev pub everybody : HostState → List ℕ
 everybody host = numbers_from 1 (length host.meaning.seats)
-
--- the numbers of those among these that were lost for want of memory
-abbrev pub lost_for_memory : List SessionLost → List ℕ
-lost_for_memory [] = []
-lost_for_memory (lost ∷ losses) =
-    if is_for_memory lost.loss then lost.session ∷ lost_for_memory losses else lost_for_memory losses
 
 -- What a run of at most so many steps at a moment does to a host that works: it makes the longest run, reports the
 -- losses, and goes on where no session is left that has the debugger enabled. That may lose sessions for want of

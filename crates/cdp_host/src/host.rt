@@ -20,7 +20,8 @@ ghost use Rattle.host_seats.specs.Losses.{loss_told, losses_from};
 ghost use Rattle.cdp_host.specs.Histories.{begin};
 ghost use Rattle.cdp_host.specs.Programs.{code_of, is_over, has_thrown};
 ghost use Rattle.cdp_host.specs.Protocols.{asks_to_resume, asks_to_wake, protocol, situation, texts_fit};
-ghost use Rattle.cdp_host.specs.Hosts.{CarriesOn, FallsBack, KeepsFallback, Leaves, NoneAttached, RunsTo, Stands, everybody, lost_for_memory, meaning_with, parts_standing, state_at};
+ghost use Rattle.cdp_host.specs.Hosts.{CarriesOn, FallsBack, KeepsFallback, Leaves, NoneAttached, RunsTo, Stands, everybody, meaning_with, parts_standing, state_at};
+ghost use Rattle.host_turns.specs.Entries.{lost_for_memory};
 ghost use Rattle.cdp_host.specs.Ran.{IsStretch};
 ghost use Rattle.cdp_host.specs.Rules.{printed_between};
 ghost use Rattle.cdp_host.specs.Watching.{AnswersIn};
@@ -29,7 +30,6 @@ use crate::advance::{Advanced, advance};
 use crate::debuggee::{Debuggee, is_over};
 use crate::lines::lines_of_all;
 use crate::seats::{resume_all, some_enabled};
-use crate::state::State;
 use crate::stops::{is_first, pause_behind, phase_of, stops_behind, waits, woken};
 use crate::telling::{Answered, answer, take};
 use breakpoints::ScriptSpots;
@@ -40,6 +40,7 @@ use host_seats::{
     Fallback, SessionLost, fell, is_attached, leave, losses_of, report_all, seat_index,
     some_wait_for_report, tell_loss,
 };
+use host_turns::{Ran, State, Told};
 use isolation::{Phase, Seat};
 use js_machine::machine::{Machine, Started};
 use js_machine::scripts::terms_of_scripts;
@@ -125,34 +126,11 @@ fn situation_of<'d, P: Program>(
     }
 }
 
-/// What a run did.
-#[derive(Drop)]
-pub struct Ran {
-    /// How many steps were made.
-    pub steps: u64,
-    /// The texts that they printed, in order.
-    pub printed: Vec<Units>,
-    /// The sessions that were lost, in the order of their numbers: at the last step, or before the run, by the event of a
-    /// resume.
-    pub lost: Vec<SessionLost>,
-}
-
 /// The steps that were made, and the texts that they printed.
 #[derive(Drop)]
 struct Made {
     steps: u64,
     printed: Vec<Units>,
-}
-
-/// What became of a command.
-#[derive(Clone, Copy, Debug, PartialEq, Eq)]
-pub enum Told {
-    /// It was answered.
-    Kept,
-    /// The texts of the answer don't fit behind those that wait (65,536 texts, 67,108,864 bytes), and the session is detached.
-    Overrun,
-    /// There was no memory for the answer, and the session is detached.
-    Memory,
 }
 
 /// So many flags, none of which is set.

@@ -19,12 +19,11 @@ mod host;
 pub mod laws;
 mod lines;
 mod seats;
-mod state;
 mod stops;
 mod stretch;
 mod telling;
 mod watching;
 
-pub use host::{Host, Ran, Told};
+pub use host::Host;
 pub use host_seats::SessionLost;
-pub use state::State;
+pub use host_turns::{Ran, State, Told};

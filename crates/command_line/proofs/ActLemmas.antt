@@ -22,10 +22,11 @@ use Rattle.cdp_session.specs.Situations.{Standing}
 use Rattle.cdp_session.specs.declared.situation.Pause.{Pause}
 use Rattle.host_seats.specs.declared.losses.SessionLost.{SessionLost}
 use Rattle.host_seats.specs.Losses.{losses_from}
-use Rattle.cdp_host.specs.declared.state.State.{State}
-use Rattle.cdp_host.specs.declared.state.State.TheVariants as states
+use Rattle.host_turns.specs.declared.state.State.{State}
+use Rattle.host_turns.specs.declared.state.State.TheVariants as states
 use Rattle.cdp_host.specs.Histories.{Meaning, apply, whole}
-use Rattle.cdp_host.specs.Hosts.{CarriesOn, HostState, Leaves, RunsTo, Stands, lost_for_memory, meaning_with, parts_standing, state_at}
+use Rattle.cdp_host.specs.Hosts.{CarriesOn, HostState, Leaves, RunsTo, Stands, meaning_with, parts_standing, state_at}
+use Rattle.host_turns.specs.Entries.{lost_for_memory}
 use Rattle.cdp_host.specs.Programs.{printed_of}
 use Rattle.cdp_host.specs.Protocols.{protocol, situation, texts_fit}
 use Rattle.cdp_host.specs.Rules.{printed_between}

@@ -26,8 +26,8 @@ use Rattle.cdp_host.specs.Histories.{IsHistory, Meaning, apply, begin, sent_to, 
 use Rattle.cdp_host.specs.Programs.{plain, is_over, has_thrown, printed_of, start}
 use Rattle.cdp_host.specs.Protocols.{protocol, texts}
 use Rattle.cdp_host.specs.States.{state_of}
-use Rattle.cdp_host.specs.declared.state.State.{State}
-use Rattle.cdp_host.specs.declared.state.State.TheVariants as states
+use Rattle.host_turns.specs.declared.state.State.{State}
+use Rattle.host_turns.specs.declared.state.State.TheVariants as states
 use Rattle.cdp_host.proofs.ProgramLemmas.{plain-start, start-prints}
 use Rattle.cdp_host.proofs.LawLemmas.{goes-plainly, plain-prints}
 use Rattle.cdp_host.proofs.ProtocolLemmas.{enabled-kept, sent}

@@ -3,7 +3,7 @@ use Rattle.std.proofs.Common.{◌≡◌, ◌<◌, ℕ, ◌+◌, List, [], ◌∷
 use Rattle.std.proofs.lemmas.List.{map-append, take_more}
 use Rattle.host_seats.specs.Losses.{is_for_memory}
 use Rattle.host_seats.specs.declared.losses.SessionLost.{SessionLost}
-use Rattle.cdp_host.specs.Hosts.{lost_for_memory}
+use Rattle.host_turns.specs.Entries.{lost_for_memory}
 use Rattle.command_line.specs.Output.{Overran, output_text, overrun_in}
 
 -- ---- those that are written

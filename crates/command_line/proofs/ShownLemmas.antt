@@ -6,7 +6,7 @@ use Rattle.std.proofs.lemmas.Option.{same_Some}
 use Rattle.cdp_text.specs.Lines.{lines_of}
 use Rattle.cdp_text.specs.Parts.{behind, halves}
 use Rattle.cdp_text.proofs.PartsLemmas.{behind-append, behind-some, halves-decimal}
-use Rattle.cdp_host.specs.declared.state.State.TheVariants.{Broken, Shut, Threw, Ended, Paused, Waiting, Ready}
+use Rattle.host_turns.specs.declared.state.State.TheVariants.{Broken, Shut, Threw, Ended, Paused, Waiting, Ready}
 use Rattle.cdp_journal.specs.Escapes.{escaped, printed_escaped}
 use Rattle.cdp_journal.specs.Fronts.{behind_each}
 use Rattle.cdp_text.specs.Units.{utf8_of}

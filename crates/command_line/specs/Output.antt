@@ -10,8 +10,8 @@ use Rattle.js_semantics.specs.Run.{Run as Program}
 use Rattle.cdp_session.specs.Sessions.{Session}
 use Rattle.host_seats.specs.declared.losses.SessionLost.{SessionLost}
 use Rattle.host_seats.specs.Losses.{is_for_memory, losses_from}
-use Rattle.cdp_host.specs.declared.state.State.{State}
-use Rattle.cdp_host.specs.declared.state.State.TheVariants as states
+use Rattle.host_turns.specs.declared.state.State.{State}
+use Rattle.host_turns.specs.declared.state.State.TheVariants as states
 use Rattle.cdp_host.specs.Histories.{Meaning, apply}
 use Rattle.cdp_host.specs.Protocols.{protocol, replied, texts_fit}
 use Rattle.cdp_host.specs.Rules.{printed_between}

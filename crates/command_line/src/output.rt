@@ -1,7 +1,7 @@
 //! The lines of output.
 
 ghost use Rattle.std.specs.Prelude.{◌≡◌, ◌++◌, ◌∷◌, [], IfOk, OnOk, map, string_bytes};
-ghost use Rattle.cdp_host.specs.declared.state.State.{State};
+ghost use Rattle.host_turns.specs.declared.state.State.{State};
 ghost use Rattle.command_line.specs.Output.{Attached, To, Out, Overran, RanTo, output_text, overrun_in, state_name};
 
 use cdp_host::{SessionLost, State};

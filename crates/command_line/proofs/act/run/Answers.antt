@@ -1,6 +1,6 @@
 use Rattle.std.proofs.Common.{◌≡◌, ◌∷◌, ◌++◌, [], map, string_bytes, ap, sym, ◌∙◌}
 use Rattle.std.proofs.lemmas.List.{map-append}
-use Rattle.cdp_host.specs.Hosts.{lost_for_memory}
+use Rattle.host_turns.specs.Entries.{lost_for_memory}
 use Rattle.command_line.specs.Output.{Out, Overran, output_text, overrun_in}
 use Rattle.command_line.proofs.ActLemmas.{run-done, run-texts}
 use Rattle.command_line.proofs.act.run.Goals as goal

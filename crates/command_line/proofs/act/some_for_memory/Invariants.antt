@@ -1,5 +1,5 @@
 use Rattle.std.proofs.Common.{◌≡◌, [], take}
-use Rattle.cdp_host.specs.Hosts.{lost_for_memory}
+use Rattle.host_turns.specs.Entries.{lost_for_memory}
 use Rattle.command_line.proofs.act.some_for_memory.Given as goal
 
 -- none of the losses so far is for want of memory

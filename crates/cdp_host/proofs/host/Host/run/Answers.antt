@@ -1,7 +1,8 @@
 use Rattle.std.proofs.Common.{◌≡◌, ◌<◌, ◌⊎◌, ◌++◌, ℕ, List, IfOk, OnErr, true, ap, sym, subst, ◌∙◌}
 use Rattle.isolation.specs.Meanings.{longest}
 use Rattle.isolation.specs.Seats.{some, waits_for_report}
-use Rattle.cdp_host.specs.Hosts.{FallsBack, HostState, RunsTo, lost_for_memory, meaning_with}
+use Rattle.cdp_host.specs.Hosts.{FallsBack, HostState, RunsTo, meaning_with}
+use Rattle.host_turns.specs.Entries.{lost_for_memory}
 use Rattle.cdp_host.specs.Protocols.{protocol}
 use Rattle.cdp_host.proofs.RunLemmas.{carries-none, carries-run, falls-alone, on-error, stands-none}
 use Rattle.cdp_host.proofs.host.Host.run.Goals as goal
