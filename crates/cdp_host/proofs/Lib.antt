@@ -22,3 +22,5 @@ pub mod NamingLemmas
 pub mod StepLemmas
 pub mod RefusalLemmas
 pub mod ViewLemmas
+pub mod HeldLemmas
+pub mod HostedLemmas

@@ -21,6 +21,7 @@ use Rattle.isolation.proofs.FallenLemmas.{fallen-none, without-none}
 use Rattle.isolation.proofs.MadeLemmas.{made-more, made-none}
 use Rattle.isolation.proofs.BrokenLemmas.{broken-alone, broken-ran, broken-stays}
 use Rattle.isolation.proofs.StandingLemmas.{fits-ran, none-reported, none-resumed, stands-ran}
+use Rattle.isolation.proofs.StopLemmas.{entry-program}
 use Rattle.js_tree.specs.declared.script.Script.{Script}
 use Rattle.js_semantics.specs.Run.{Run}
 use Rattle.cdp_session.specs.declared.situation.Pause.{Pause}
@@ -29,7 +30,7 @@ use Rattle.host_seats.specs.Fallbacks.{fallback_of}
 use Rattle.host_seats.specs.Losses.{losses_from}
 use Rattle.host_seats.specs.declared.losses.SessionLost.{SessionLost}
 use Rattle.cdp_host.specs.Histories.{Meaning, apply, whole}
-use Rattle.cdp_host.specs.Hosts.{CarriesOn, FallsBack, HostState, KeepsFallback, NoneAttached, Parts, RunsTo, Stands, beside, beside_behind, everybody, meaning_with, pause_behind, run_with}
+use Rattle.cdp_host.specs.Hosts.{CarriesOn, FallsBack, HostState, KeepsFallback, NoneAttached, Parts, PrintsOn, RunsTo, Stands, beside, beside_behind, everybody, meaning_with, pause_behind, run_with}
 use Rattle.host_turns.specs.Entries.{lost_for_memory}
 use Rattle.cdp_host.specs.Programs.{printed_of}
 use Rattle.cdp_host.specs.Protocols.{protocol}
@@ -278,6 +279,31 @@ runs-stand scripts moment most steps host m n printed lost stands r =
       all_there = r.all_there;
     }
 
+-- what the run prints, the host handed out
+pub ran-out : (scripts : List Script) (input : List (List ℕ)) (wait : Bool) (old new : HostState)
+    (history : List Entry)
+    → (moment most steps : ℕ) (printed : List (List ℕ)) (lost : List SessionLost)
+    → old.broken ≡ false
+    → new.meaning.program.machine.context.printed ≡ []
+    → ((taken : List (List ℕ))
+    → RunsTo old.scripts moment most (meaning_with old taken) steps printed lost
+    (meaning_with new (taken ++ printed)))
+    → Stands scripts input wait old history
+    → printed_of (apply scripts (whole scripts input wait history) (Ran steps moment (lost_for_memory lost))).program
+    ≡ printed_of (whole scripts input wait history).program ++ printed
+ran-out scripts input wait old new history moment most steps printed lost works handed runs stood =
+    let m : Meaning Run = whole scripts input wait history in
+    let taken : List (List ℕ) = printed_of m.program in
+    let host : Meaning Run = meaning_with old taken in
+    let n : Meaning Run = meaning_with new (taken ++ printed) in
+    let R : List Script → Type 0 = λ ss. RunsTo ss moment most host steps printed lost n in
+    let r : RunsTo scripts moment most host steps printed lost n = subst R stood.runs (runs taken) in
+    let behind = runs-stand scripts moment most steps host m n printed lost (stood.means works) r in
+    ap (λ q. printed_of q.program) (sym behind.is)
+    ∙ run-printed new.meaning.program (taken ++ printed)
+    ∙ ap (λ xs. (taken ++ printed) ++ xs) handed
+    ∙ append-nil (taken ++ printed)
+
 -- and so for the history with the run behind it
 pub stands-run : (scripts : List Script) (input : List (List ℕ)) (wait : Bool) (old new : HostState)
     (history : List Entry)
@@ -303,10 +329,7 @@ stands-run scripts input wait old new history moment most steps printed lost sam
     let behind = runs-stand scripts moment most steps host m n printed lost before r in
     let Q : List (List ℕ) → Type 0 = λ texts. StandsAs (meaning_with new texts) (apply scripts m entry) in
     let out : printed_of (apply scripts m entry).program ≡ taken ++ printed =
-    ap (λ q. printed_of q.program) (sym behind.is)
-    ∙ run-printed new.meaning.program (taken ++ printed)
-    ∙ ap (λ xs. (taken ++ printed) ++ xs) handed
-    ∙ append-nil (taken ++ printed) in
+    ran-out scripts input wait old new history moment most steps printed lost works handed runs stood in
     stands-behind scripts input wait old new history entry stood same still
     (fits-ran (protocol scripts) moment steps host m r.middle before r.longest.made)
     (subst Q (sym out) behind)
@@ -424,6 +447,23 @@ carries-run old new moment most (Ok ran) same works still handed runs = λ scrip
     stands-run scripts input wait old new history moment most ran.steps ran.printed.items ran.lost.items same works
     still handed runs stood
 carries-run old new moment most (Err error) same works still handed runs = tt
+
+-- and hands out what the run prints
+pub run-prints : (old new : HostState) (moment most : ℕ) (r : Result Made AllocError) → old.broken ≡ false
+    → OnOk r (new.meaning.program.machine.context.printed ≡ [])
+    → IfOk r (λ ran. (taken : List (List ℕ))
+    → RunsTo old.scripts moment most (meaning_with old taken) ran.steps ran.printed.items ran.lost.items
+    (meaning_with new (taken ++ ran.printed.items)))
+    → IfOk r (λ ran. PrintsOn old (Ran ran.steps moment (lost_for_memory ran.lost.items)) ran.printed.items)
+run-prints old new moment most (Ok ran) works handed runs = λ scripts input wait history stood.
+    ran-out scripts input wait old new history moment most ran.steps ran.printed.items ran.lost.items works handed runs stood
+run-prints old new moment most (Err error) works handed runs = tt
+
+-- a run of no step prints nothing
+pub none-prints : (host : HostState) (moment : ℕ) (gone : List ℕ) → PrintsOn host (Ran 0 moment gone) []
+none-prints host moment gone = λ scripts input wait history stood.
+    ap printed_of (entry-program (protocol scripts) (whole scripts input wait history) (Ran 0 moment gone))
+    ∙ sym (append-nil (printed_of (whole scripts input wait history).program))
 
 -- and with one that want of memory broke
 pub carries-none : (old new : HostState) (moment : ℕ) → new.scripts ≡ old.scripts → old.broken ≡ false

@@ -28,7 +28,7 @@ use Rattle.host_seats.specs.Losses.{losses_from}
 use Rattle.host_seats.specs.declared.fallback.Fallback.{Fallback as HeldFallback}
 use Rattle.host_seats.specs.declared.losses.SessionLost.{SessionLost}
 use Rattle.cdp_host.specs.Arrivals.{place_at, is_uncaught, IsShort}
-use Rattle.cdp_host.specs.Histories.{IsHistory, Meaning, whole}
+use Rattle.cdp_host.specs.Histories.{IsHistory, Meaning, apply, whole}
 use Rattle.cdp_host.specs.Programs.{code_of, printed_of}
 use Rattle.cdp_host.specs.Protocols.{protocol}
 use Rattle.cdp_host.specs.Rules.{printed_between}
@@ -160,6 +160,13 @@ pub record Leaves (old : HostState) (entry : Entry) (new : HostState) : Type 0 w
 abbrev pub CarriesOn : HostState → Entry → HostState → Type 0
 CarriesOn old entry new = (scripts : List Script) (input : List (List ℕ)) (wait : Bool) (history : List Entry)
     → Stands scripts input wait old history → Stands scripts input wait new (history ++ entry ∷ [])
+
+-- where a host stands for a history, this entry behind it prints these texts
+abbrev pub PrintsOn : HostState → Entry → List (List ℕ) → Type 0
+PrintsOn old entry printed = (scripts : List Script) (input : List (List ℕ)) (wait : Bool) (history : List Entry)
+    → Stands scripts input wait old history
+    → printed_of (apply scripts (whole scripts input wait history) entry).program
+    ≡ printed_of (whole scripts input wait history).program ++ printed
 
 -- the numbers of all sessions that a host ever had
 abbrev pub everybody : HostState → List ℕ

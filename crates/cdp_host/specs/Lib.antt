@@ -11,3 +11,4 @@ pub mod Rules
 pub mod Watching
 pub mod Hosts
 pub mod Foreign
+pub mod Debugged

@@ -20,7 +20,7 @@ ghost use Rattle.host_seats.specs.Losses.{loss_told, losses_from};
 ghost use Rattle.cdp_host.specs.Histories.{begin};
 ghost use Rattle.cdp_host.specs.Programs.{code_of, is_over, has_thrown};
 ghost use Rattle.cdp_host.specs.Protocols.{asks_to_resume, asks_to_wake, protocol, situation, texts_fit};
-ghost use Rattle.cdp_host.specs.Hosts.{CarriesOn, FallsBack, KeepsFallback, Leaves, NoneAttached, RunsTo, Stands, everybody, meaning_with, parts_standing, state_at};
+ghost use Rattle.cdp_host.specs.Hosts.{CarriesOn, FallsBack, KeepsFallback, Leaves, NoneAttached, PrintsOn, RunsTo, Stands, everybody, meaning_with, parts_standing, state_at};
 ghost use Rattle.host_turns.specs.Entries.{lost_for_memory};
 ghost use Rattle.cdp_host.specs.Ran.{IsStretch};
 ghost use Rattle.cdp_host.specs.Rules.{printed_between};
@@ -486,6 +486,8 @@ impl<'p> Host<'p> {
         ensures err_steps { OnErr result ((taken : List (List ℕ)) → (0 < longest (protocol self.old.scripts) moment n (meaning_with self.old taken)) ⊎ (some waits_for_report self.old.meaning.seats ≡ true)) }
         ensures stands { IfOk result (λ ran. CarriesOn self.old (RanEntry ran.steps moment (lost_for_memory ran.lost.items)) self.new) }
         ensures stands_err { OnErr result (CarriesOn self.old (RanEntry 0 moment (everybody self.old)) self.new) }
+        // what is answered is what these steps print
+        ensures prints { IfOk result (λ ran. PrintsOn self.old (RanEntry ran.steps moment (lost_for_memory ran.lost.items)) ran.printed.items) }
     {
         if self.broken {
             return Ok(Ran {

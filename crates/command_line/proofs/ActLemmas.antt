@@ -40,7 +40,7 @@ use Rattle.cdp_journal.specs.Lines.{line_of}
 use Rattle.command_line.specs.Journal.{entry_at, entry_of, is_there}
 use Rattle.command_line.specs.Output.{Output, Attached, To, Out, Overran, RanTo, joined, output_at, output_text, overrun_at, overrun_in, overruns, printed_at}
 use Rattle.command_line.specs.Played.{Acts, Plays, StandsBehind, line_output}
-use Rattle.command_line.proofs.SeatLemmas.{gone-seat, held-seat}
+use Rattle.cdp_host.proofs.HeldLemmas.{gone-seat, held-seat}
 
 -- ---- who is attached
 

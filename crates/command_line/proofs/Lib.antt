@@ -4,7 +4,6 @@ pub mod AppliedLemmas
 pub mod PlainLemmas
 pub mod PausedLemmas
 pub mod HeadlineLemmas
-pub mod SeatLemmas
 pub mod LossLemmas
 pub mod ActLemmas
 pub mod PlayLemmas

@@ -37,11 +37,7 @@ fn put_text<O: Sink>(alloc: Global, out: &mut O, units: &[u16]) -> Result<(), Si
 /// # Errors
 ///
 /// Those of [`put`]; `Memory` also where there is none for a line.
-pub fn put_texts<O: Sink>(
-    alloc: Global,
-    out: &mut O,
-    texts: &[Units],
-) -> Result<(), SinkFault>
+pub fn put_texts<O: Sink>(alloc: Global, out: &mut O, texts: &[Units]) -> Result<(), SinkFault>
     ensures ok { OnOk result (O.content out.new ≡ gains (O.content out.old) (printed_lines texts.now)) }
     ensures err { OnErr result (GainsLess (O.content out.old) (O.content out.new) (printed_lines texts.now)) }
     ensures quiet { OnOk result (O.faults out.new ≡ O.faults out.old) }

@@ -4,13 +4,17 @@ use Rattle.isolation.specs.Seats.{some, waits_for_report}
 use Rattle.cdp_host.specs.Hosts.{FallsBack, HostState, RunsTo, meaning_with}
 use Rattle.host_turns.specs.Entries.{lost_for_memory}
 use Rattle.cdp_host.specs.Protocols.{protocol}
-use Rattle.cdp_host.proofs.RunLemmas.{carries-none, carries-run, falls-alone, on-error, stands-none}
+use Rattle.cdp_host.proofs.RunLemmas.{carries-none, carries-run, falls-alone, none-prints, on-error, run-prints, stands-none}
 use Rattle.cdp_host.proofs.host.Host.run.Goals as goal
 
 pub returns-then-self-clause-stands : goal.returns-then-self-clause-stands
 returns-then-self-clause-stands c = λ scripts input wait history stood.
     stands-none scripts input wait c.args.self.now history c.args.moment (lost_for_memory c.new-then-self.result.items)
     (sym (ap (λ h. h.broken) c.self.view_is) ∙ c.if-self.true) stood
+
+pub returns-then-self-clause-prints : goal.returns-then-self-clause-prints
+returns-then-self-clause-prints c =
+    none-prints c.args.self.now c.args.moment (lost_for_memory c.new-then-self.result.items)
 
 -- ---- a host that works
 
@@ -41,6 +45,12 @@ returns-clause-stands c =
     let works = sym (ap (λ h. h.broken) c.self.view_is) ∙ c.if-self.false in
     carries-run c.args.self.now c.try_run.new.self c.args.moment c.args.n c.try_run.result
     (c.try_run.ensures.scripts ∙ ap (λ h. h.scripts) c.prepare.ensures) works c.try_run.ensures.same
+    c.try_run.ensures.handed (returns-clause-runs c works)
+
+pub returns-clause-prints : goal.returns-clause-prints
+returns-clause-prints c =
+    let works = sym (ap (λ h. h.broken) c.self.view_is) ∙ c.if-self.false in
+    run-prints c.args.self.now c.try_run.new.self c.args.moment c.args.n c.try_run.result works
     c.try_run.ensures.handed (returns-clause-runs c works)
 
 pub returns-clause-stands_err : goal.returns-clause-stands_err
