@@ -13,7 +13,7 @@ use Rattle.isolation.specs.declared.seat.Loss.TheVariants.{Overrun, Memory}
 use Rattle.isolation.specs.declared.seat.Seat.{Seat}
 use Rattle.isolation.specs.declared.seat.Seat.TheVariants.{Attached, Lost, Left}
 use Rattle.isolation.proofs.BrokenLemmas.{broken-ran, none-at, stands-length}
-use Rattle.isolation.proofs.FallenLemmas.{fallen-none, itself, mids-less, without-below, without-none}
+use Rattle.isolation.proofs.FallenLemmas.{itself, mids-less, without-below, without-none}
 use Rattle.isolation.proofs.LongerLemmas.{fits-more, whole-more}
 use Rattle.isolation.proofs.MakerLemmas.{owned-more, owner-may}
 use Rattle.isolation.proofs.StepLemmas.{ready-none}
@@ -88,7 +88,7 @@ attach-next scripts input wait old (Ok s) number works = λ h stood. by_works (o
   where
     by_works : (b : Bool) → old.broken ≡ b → (h : List (ℕ × Entry)) → StandsOwned scripts input wait old h
         → s ≡ length (meaning (debugging scripts input wait) h).seats + 1
-    by_works true is h stood = absurd (works is)
+    by_works true is h stood = let fails : false ≡ true = works is in absurd cc
     by_works false is h stood =
         let m : Meaning Run = whole scripts input wait (entries_of h) in
         number ∙ ap (λ n. n + 1) (stands-length (meaning_with old (printed_of m.program)) m (stood.stands.means is))
@@ -189,7 +189,7 @@ longest-by scripts moment most zero host m n printed lost (x ∷ xs) some_fell s
 )
 longest-by scripts moment most (suc steps) host m n printed lost (x ∷ xs) some_fell stands r =
     let ready : is_ready (protocol scripts) host ≡ true = r.longest.made.ready 0 (omega arith) in
-    let none : fallen_in host.seats ≡ [] = fallen-none host.seats (ready-none (protocol scripts) host ready) in
+    let none : fallen_in host.seats ≡ [] = ready-none (protocol scripts) host ready in
     let both : x ∷ xs ≡ [] = sym some_fell ∙ none in
     absurd cc
 

@@ -1,7 +1,8 @@
-use Rattle.std.proofs.Common.{◌≡◌, ◌<◌, ◌⊎◌, ◌++◌, ℕ, List, IfOk, OnErr, true, ap, sym, subst, ◌∙◌}
+use Rattle.std.proofs.Common.{rules, [], ◌≡◌, ◌<◌, ◌⊎◌, ◌++◌, ℕ, List, IfOk, OnErr, true, ap, sym, subst, ◌∙◌}
+use Rattle.isolation.specs.Histories.{Ran}
 use Rattle.isolation.specs.Meanings.{longest}
 use Rattle.isolation.specs.Seats.{some, waits_for_report}
-use Rattle.cdp_host.specs.Hosts.{FallsBack, HostState, RunsTo, meaning_with}
+use Rattle.cdp_host.specs.Hosts.{FallsBack, HostState, PrintsOn, RunsTo, meaning_with}
 use Rattle.host_turns.specs.Entries.{lost_for_memory}
 use Rattle.cdp_host.specs.Protocols.{protocol}
 use Rattle.cdp_host.proofs.RunLemmas.{carries-none, carries-run, falls-alone, none-prints, on-error, run-prints, stands-none}
@@ -14,7 +15,10 @@ returns-then-self-clause-stands c = λ scripts input wait history stood.
 
 pub returns-then-self-clause-prints : goal.returns-then-self-clause-prints
 returns-then-self-clause-prints c =
-    none-prints c.args.self.now c.args.moment (lost_for_memory c.new-then-self.result.items)
+    let empty : c.new.result.items ≡ [] = search rules in
+    subst (λ texts. PrintsOn c.args.self.now (Ran 0 c.args.moment (lost_for_memory c.new-then-self.result.items)) texts)
+    (sym empty)
+    (none-prints c.args.self.now c.args.moment (lost_for_memory c.new-then-self.result.items))
 
 -- ---- a host that works
 

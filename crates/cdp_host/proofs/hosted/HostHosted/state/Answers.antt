@@ -1,3 +1,4 @@
+use Rattle.std.proofs.Common.{[]}
 use Rattle.cdp_host.proofs.HostedLemmas.{owned-history, owned-idle, owned-state}
 use Rattle.cdp_host.proofs.hosted.HostHosted.state.Goals as goal
 
