@@ -1,12 +1,12 @@
 -- A pass goes on, turn after turn.
-use Rattle.std.proofs.Common.{◌≡◌, ℕ, List, [], ◌∷◌, ◌++◌, true, false, refl, ap, sym, subst, ◌∙◌, append_assoc, append-nil}
+use Rattle.std.proofs.Common.{◌≡◌, ℕ, List, [], ◌∷◌, ◌++◌, false, refl, ap, sym, subst, ◌∙◌, append_assoc, append-nil}
 use Rattle.isolation.specs.Histories.{Entry, Take}
 use Rattle.isolation.specs.Makers.{AreOwned, IsNoTake, Owns, by}
 use Rattle.isolation.proofs.MakerLemmas.{by-append, by-own, owned-front, owns-longer}
 use Rattle.isolation.proofs.OwnerLemmas.{handed-same, handed-stays}
 use Rattle.history_lock.specs.Histories.{Begins}
 use Rattle.history_lock.specs.Passes.{PassState, IsSamePass}
-use Rattle.host_turns.specs.Debuggings.{Debugging, IsHistory, handed}
+use Rattle.host_turns.specs.Debuggings.{Debugging, handed}
 use Rattle.host_turns.specs.Turns.{Acts, Finds}
 use Rattle.ws_service.specs.Passing.{Goes, Serves, Was}
 

@@ -1,8 +1,8 @@
 -- How a pass goes on by some turns.
-use Rattle.std.specs.Prelude.{◌≡◌, ℕ, List, ◌++◌, true, false}
+use Rattle.std.specs.Prelude.{◌≡◌, ℕ, List, ◌++◌, false}
 use Rattle.isolation.specs.Histories.{Entry}
 use Rattle.isolation.specs.Makers.{Owns, by}
-use Rattle.history_lock.specs.Histories.{has, Begins}
+use Rattle.history_lock.specs.Histories.{Begins}
 use Rattle.history_lock.specs.Passes.{PassState, IsSamePass}
 use Rattle.host_turns.specs.Debuggings.{Debugging, IsHistory, handed}
 

@@ -1,7 +1,7 @@
 -- What serving a link leaves, and what the link was sent.
-use Rattle.std.specs.Prelude.{◌≡◌, ◌⊎◌, ℕ, List, [], ◌∷◌, ◌++◌, Bool, true, false, Option, Some, None, Result, Ok, Err}
+use Rattle.std.specs.Prelude.{◌≡◌, ◌⊎◌, ℕ, List, [], ◌∷◌, Bool, true, false, Option, Some, None, Result, Ok, Err}
 use Rattle.isolation.specs.Histories.{Entry, Attach, Tell, Take, Detach}
-use Rattle.isolation.specs.Makers.{Owns, by}
+use Rattle.isolation.specs.Makers.{Owns}
 use Rattle.history_lock.specs.Histories.{limit}
 use Rattle.history_lock.specs.Passes.{PassState}
 use Rattle.server_edge.specs.Contents.{adds, becomes}

@@ -63,7 +63,9 @@ fn send_all<L: Link>(link: &mut L, texts: &[String]) -> Result<(), LinkFault>
     ensures failed { IsErrOf result LinkFault.Failed → Rose (L.faults link.old) (L.faults link.new) }
 {
     for text in texts {
-        link.send(text.as_str())?;
+        if let Err(fault) = link.send(text.as_str()) {
+            return Err(fault);
+        }
     }
     Ok(())
 }
@@ -139,7 +141,10 @@ fn answer<H: Hosted<B>, B, D: Bell, L: Link, R: Wait>(
     ensures fault { IfSome result (λ end. end ≡ Served.Fault → Rose (L.faults link.old) (L.faults link.new)) }
 {
     match tell(rt, lock, bell, p, session, text) {
-        Ok(Ok(Told::Kept)) => hand_out(rt, lock, bell, p, link, session).err(),
+        Ok(Ok(Told::Kept)) => match hand_out(rt, lock, bell, p, link, session) {
+            Ok(_) => None,
+            Err(end) => Some(end),
+        },
         Ok(Ok(Told::Overrun)) => Some(Served::Overrun),
         Ok(Ok(Told::Memory)) => Some(Served::Memory),
         Ok(Err(gone)) => Some(end_of(gone)),

@@ -1,0 +1,361 @@
+-- A session goes on, and what its link is sent.
+use Rattle.std.proofs.Common.{◌≡◌, ◌⊎◌, inl, inr, ℕ, List, [], ◌∷◌, ◌++◌, map, string_bytes, Bool, true, false, Option, Some, None, Ok, Err, refl, ap, sym, subst, ◌∙◌, append_assoc, append-nil}
+use Rattle.isolation.specs.Histories.{Entry, Attach, Tell, Take, Detach}
+use Rattle.isolation.specs.Makers.{Owns, entries_of}
+use Rattle.isolation.specs.declared.seat.Loss.TheVariants.{Overrun, Memory}
+use Rattle.isolation.proofs.AloneLemmas.{alone}
+use Rattle.history_lock.specs.Histories.{Begins, limit}
+use Rattle.history_lock.specs.Passes.{PassState}
+use Rattle.server_edge.specs.Contents.{adds}
+use Rattle.server_edge.specs.Heard as heard
+use Rattle.server_edge.specs.Heard.{Heard}
+use Rattle.server_edge.specs.declared.link.LinkFault.{LinkFault}
+use Rattle.server_edge.specs.declared.link.LinkFault.TheVariants as faults
+use Rattle.host_turns.specs.Debuggings.{Debugging, IsHistory, IsNew, handed, sent_alone}
+use Rattle.host_turns.specs.States.{IsOver, IsShut}
+use Rattle.host_turns.specs.Turns.{Acts, Finds, IsOverIf, Leaves, Takes}
+use Rattle.host_turns.specs.declared.answers.Gone.{Gone}
+use Rattle.host_turns.specs.declared.answers.Gone.TheVariants as gone
+use Rattle.host_turns.specs.declared.answers.Taken.{Taken}
+use Rattle.ws_service.specs.Connections.{AllGoOn, Ends, SentOf, end_at, end_of, turns, turns_at}
+use Rattle.ws_service.specs.Passing.{Serves}
+use Rattle.ws_service.specs.Sessions.{Answers, EndsTaking, HandsOut, HasCause, Hears, IsEnded, IsServed, Talk, Waits, WasOverIf, talks}
+use Rattle.ws_service.specs.declared.served.Served.{Served}
+use Rattle.ws_service.specs.declared.served.Served.TheVariants as served
+use Rattle.ws_service.proofs.PassingLemmas.{found-was, goes, goes-on, serves, serves-none, serves-on, serves-take, was-longer}
+use Rattle.ws_service.proofs.ConnectionLemmas.{connection-after, ends-here, go-on-more, gone-at-text, memory-at-text, over-spent, overrun-at-text, sent-after, spent-at, taking-after-text, taking-alone, turns-more}
+use Rattle.ws_service.proofs.SendLemmas.{adds-none, adds-on}
+
+-- ---- talks
+
+pub talks-on : (old : Talk) (a b : List Heard) (t u : List (List ℕ)) → talks (talks old a t) b u ≡ talks old (a ++ b) (t ++ u)
+talks-on old a b t u = λ i. record { answers = adds-on old.answers a b i; sent = adds-on old.sent t u i }
+
+pub talks-none : (old : Talk) → old ≡ talks old [] []
+talks-none old = λ i. record { answers = adds-none old.answers i; sent = adds-none old.sent i }
+
+-- ---- causes
+
+cause-longer : (d : Debugging) (end : Served) (h g : List (ℕ × Entry)) → Begins h g → HasCause d end h → HasCause d end g
+cause-longer d served.Closed h g b c = tt
+cause-longer d served.TooBig h g b c = tt
+cause-longer d served.Binary h g b c = tt
+cause-longer d served.Overrun h g b c = tt
+cause-longer d served.Shut h g b c = was-longer (IsShut d) h g b c
+cause-longer d served.Over h g b c = was-longer (IsOver d) h g b c
+cause-longer d served.Fault h g b c = tt
+cause-longer d (served.Spent ticket) h g b c = tt
+cause-longer d served.Memory h g b c = tt
+
+-- ---- a session that is gone
+
+-- what its turn left
+gone-serves : (d : Debugging) (s : ℕ) (p q : PassState Entry) (why : Gone) → Leaves d s p q why → Owns p.number s p.seen
+    → Serves d s p q (Detach s ∷ []) []
+gone-serves d s p q (gone.Lost loss) a owns = serves d s p q (Detach s) a owns tt
+gone-serves d s p q gone.Shut f owns = serves d s p q (Detach s) f.0 owns tt
+
+gone-cause : (d : Debugging) (s : ℕ) (p q : PassState Entry) (why : Gone) → Leaves d s p q why
+    → HasCause d (end_of why) q.seen
+gone-cause d s p q (gone.Lost Overrun) a = tt
+gone-cause d s p q (gone.Lost Memory) a = tt
+gone-cause d s p q gone.Shut f = found-was d (IsShut d) p q (Detach s) f
+
+gone-taking : (s : ℕ) (why : Gone) → EndsTaking s (end_of why) (Detach s ∷ []) false
+gone-taking s (gone.Lost Overrun) = (refl, refl)
+gone-taking s (gone.Lost Memory) = inl (refl, refl)
+gone-taking s gone.Shut = (refl, refl)
+
+-- ---- texts are handed out
+
+pub hands-gone : (d : Debugging) (s : ℕ) (p q : PassState Entry) (old new : Talk) (why : Gone) → Leaves d s p q why
+    → Owns p.number s p.seen → new ≡ old → HandsOut d s p q old new (Err (end_of why))
+hands-gone d s p q old new why l owns same =
+    (Detach s ∷ [], [], [], false, gone-serves d s p q why l owns, same ∙ talks-none old, refl, gone-taking s why, gone-cause d s p q why l)
+
+pub hands-spent : (d : Debugging) (s ticket : ℕ) (p q : PassState Entry) (old new : Talk) → ticket ≡ limit → q ≡ p
+    → p.in_turn ≡ false → Owns p.number s p.seen → new ≡ old → HandsOut d s p q old new (Err (served.Spent ticket))
+hands-spent d s ticket p q old new is stays free owns same = (
+  [],
+  [],
+  [],
+  false,
+  subst (λ (r : PassState Entry). Serves d s p r [] []) (sym stays) (serves-none d s p free owns),
+  same ∙ talks-none old,
+  refl,
+  (is, inl (refl, refl)),
+  tt,
+)
+
+over-was : (d : Debugging) (s : ℕ) (p q : PassState Entry) (b : Bool) → Finds d (IsOverIf d b) p q (Take s) → WasOverIf d b q.seen
+over-was d s p q true f = found-was d (IsOver d) p q (Take s) f
+over-was d s p q false f = tt
+
+-- all were sent
+pub hands-all : (d : Debugging) (s : ℕ) (p q : PassState Entry) (old new : Talk) (taken : Taken) → Takes d s p q (Ok taken)
+    → Owns p.number s p.seen → new.answers ≡ old.answers → new.sent ≡ adds old.sent (map string_bytes taken.texts.items)
+    → HandsOut d s p q old new (Ok taken.is_over)
+hands-all d s p q old new taken t owns answers sent = (
+  map string_bytes taken.texts.items,
+  serves-take d s p q (map string_bytes taken.texts.items) t.0.0 owns t.1,
+  (λ i. record { answers = (answers ∙ adds-none old.answers) i; sent = sent i }),
+  over-was d s p q taken.is_over t.0,
+)
+
+-- a send failed after some, and the session was detached, or no ticket was left for that
+pub hands-some : (d : Debugging) (s : ℕ) (p m q : PassState Entry) (old new : Talk) (taken : Taken) (part : List (List ℕ))
+    (fault : LinkFault) (end : Served) → Takes d s p m (Ok taken) → Owns p.number s p.seen → new.answers ≡ old.answers
+    → Begins part (map string_bytes taken.texts.items) → new.sent ≡ adds old.sent part
+    → IsEnded d s m q (end_at fault) end → HandsOut d s p q old new (Err end)
+hands-some d s p m q old new taken part fault end t owns answers begins sent (inl e) =
+    let texts = map string_bytes taken.texts.items in
+    let first = serves-take d s p m texts t.0.0 owns t.1 in
+    let both = serves-on d s p m q (Take s ∷ []) (Detach s ∷ []) texts [] first e.1 in
+    subst (λ (x : Served). HandsOut d s p q old new (Err x)) (sym e.0)
+    (by_fault fault both)
+  where
+    told : new ≡ talks old [] part
+    told = λ i. record { answers = (answers ∙ adds-none old.answers) i; sent = sent i }
+
+    by_fault : (f : LinkFault) → Serves d s p q (Take s ∷ Detach s ∷ []) (map string_bytes taken.texts.items ++ [])
+        → HandsOut d s p q old new (Err (end_at f))
+    by_fault faults.Failed both = (
+      Take s ∷ Detach s ∷ [],
+      map string_bytes taken.texts.items ++ [],
+      part,
+      true,
+      both,
+      told,
+      (begins.0 ++ [], ap (λ l. l ++ []) begins.1 ∙ append_assoc part begins.0 []),
+      (refl, refl),
+      tt,
+    )
+    by_fault faults.Memory both = (
+      Take s ∷ Detach s ∷ [],
+      map string_bytes taken.texts.items ++ [],
+      part,
+      true,
+      both,
+      told,
+      (begins.0 ++ [], ap (λ l. l ++ []) begins.1 ∙ append_assoc part begins.0 []),
+      inr (refl, refl),
+      tt,
+    )
+hands-some d s p m q old new taken part fault end t owns answers begins sent (inr (ticket, is, at, stays)) =
+    let texts = map string_bytes taken.texts.items in
+    let first = serves-take d s p m texts t.0.0 owns t.1 in
+    subst (λ (x : Served). HandsOut d s p q old new (Err x)) (sym is) (
+      Take s ∷ [],
+      texts,
+      part,
+      true,
+      subst (λ (r : PassState Entry). Serves d s p r (Take s ∷ []) texts) (sym stays) first,
+      (λ i. record { answers = (answers ∙ adds-none old.answers) i; sent = sent i }),
+      begins,
+      (at, inr (refl, refl)),
+      tt,
+    )
+
+-- ---- a text is told
+
+pub answers-on : (d : Debugging) (s : ℕ) (p m q : PassState Entry) (text : List ℕ) (old new : Talk) (is_over : Bool)
+    → Acts d p m (Tell s text) → Owns p.number s p.seen → HandsOut d s m q old new (Ok is_over) → Answers d s p q text old new None
+answers-on d s p m q text old new is_over a owns h =
+    (h.0, serves-on d s p m q (Tell s text ∷ []) (Take s ∷ []) [] h.0 (serves d s p m (Tell s text) a owns tt) h.1, h.2)
+
+pub answers-end : (d : Debugging) (s : ℕ) (p m q : PassState Entry) (text : List ℕ) (old new : Talk) (end : Served)
+    → Acts d p m (Tell s text) → Owns p.number s p.seen → HandsOut d s m q old new (Err end) → Answers d s p q text old new (Some end)
+answers-end d s p m q text old new end a owns h = (
+  Tell s text ∷ h.0,
+  h.1,
+  h.2,
+  h.3,
+  serves-on d s p m q (Tell s text ∷ []) h.0 [] h.1 (serves d s p m (Tell s text) a owns tt) h.4,
+  taking-after-text s text end h.0 h.3 h.7,
+  h.5,
+  h.6,
+  h.8,
+)
+
+pub answers-overrun : (d : Debugging) (s : ℕ) (p q : PassState Entry) (text : List ℕ) (old new : Talk) → Acts d p q (Tell s text)
+    → Owns p.number s p.seen → new ≡ old → Answers d s p q text old new (Some served.Overrun)
+answers-overrun d s p q text old new a owns same =
+    (Tell s text ∷ [], [], [], false, serves d s p q (Tell s text) a owns tt, overrun-at-text s text, same ∙ talks-none old, refl, tt)
+
+pub answers-memory : (d : Debugging) (s : ℕ) (p q : PassState Entry) (text : List ℕ) (old new : Talk) → Acts d p q (Detach s)
+    → Owns p.number s p.seen → new ≡ old → Answers d s p q text old new (Some served.Memory)
+answers-memory d s p q text old new a owns same =
+    (Detach s ∷ [], [], [], false, serves d s p q (Detach s) a owns tt, memory-at-text s text, same ∙ talks-none old, refl, tt)
+
+pub answers-gone : (d : Debugging) (s : ℕ) (p q : PassState Entry) (text : List ℕ) (old new : Talk) (why : Gone) → Leaves d s p q why
+    → Owns p.number s p.seen → new ≡ old → Answers d s p q text old new (Some (end_of why))
+answers-gone d s p q text old new why l owns same =
+    (Detach s ∷ [], [], [], false, gone-serves d s p q why l owns, gone-at-text s text why, same ∙ talks-none old, refl, gone-cause d s p q why l)
+
+pub answers-spent : (d : Debugging) (s ticket : ℕ) (p q : PassState Entry) (text : List ℕ) (old new : Talk) → ticket ≡ limit → q ≡ p
+    → p.in_turn ≡ false → Owns p.number s p.seen → new ≡ old → Answers d s p q text old new (Some (served.Spent ticket))
+answers-spent d s ticket p q text old new is stays free owns same = (
+  [],
+  [],
+  [],
+  false,
+  subst (λ (r : PassState Entry). Serves d s p r [] []) (sym stays) (serves-none d s p free owns),
+  spent-at s ticket (heard.Text text) false is,
+  same ∙ talks-none old,
+  refl,
+  tt,
+)
+
+-- ---- nothing is told
+
+pub waits-end : (d : Debugging) (s : ℕ) (p q : PassState Entry) (old new : Talk) (end : Served)
+    → HandsOut d s p q old new (Err end) → Waits d s p q old new (Some end)
+waits-end d s p q old new end h =
+    (h.0, h.1, h.2, h.3, h.4, taking-alone s end h.0 h.3 h.7, h.5, h.6, h.8)
+
+-- the program has ended, and so does the session
+pub waits-over : (d : Debugging) (s : ℕ) (p m q : PassState Entry) (old new : Talk) (end : Served)
+    → HandsOut d s p m old new (Ok true) → IsEnded d s m q served.Over end → Waits d s p q old new (Some end)
+waits-over d s p m q old new end h (inl e) =
+    subst (λ (x : Served). Waits d s p q old new (Some x)) (sym e.0) (
+      Take s ∷ Detach s ∷ [],
+      h.0 ++ [],
+      h.0,
+      false,
+      serves-on d s p m q (Take s ∷ []) (Detach s ∷ []) h.0 [] h.1 e.1,
+      ends-here s served.Over (heard.Quiet ∷ []) (Take s ∷ Detach s ∷ []) false (refl, refl, refl),
+      h.2,
+      sym (append-nil h.0),
+      was-longer (IsOver d) m.seen q.seen e.1.goes.longer h.3,
+    )
+waits-over d s p m q old new end h (inr (ticket, is, at, stays)) =
+    subst (λ (x : Served). Waits d s p q old new (Some x)) (sym is) (
+      Take s ∷ [],
+      h.0,
+      h.0,
+      false,
+      subst (λ (r : PassState Entry). Serves d s p r (Take s ∷ []) h.0) (sym stays) h.1,
+      over-spent s ticket at,
+      h.2,
+      refl,
+      tt,
+    )
+
+-- ---- an answer is heard
+
+heard-on : (old mid new : Talk) (answers : List Heard) (texts : List (List ℕ)) → mid ≡ talks old answers []
+    → new ≡ talks mid [] texts → new ≡ talks old (answers ++ []) texts
+heard-on old mid new answers texts before after =
+    after ∙ ap (λ (t : Talk). talks t [] texts) before ∙ talks-on old answers [] [] texts
+
+pub hears-text : (d : Debugging) (s : ℕ) (p q : PassState Entry) (text : List ℕ) (old mid new : Talk) (r : Option Served)
+    → mid ≡ talks old (heard.Text text ∷ []) [] → Answers d s p q text mid new r → Hears d s p q old new r
+hears-text d s p q text old mid new None is h =
+    (heard.Text text, h.0, tt, h.1, heard-on old mid new (heard.Text text ∷ []) h.0 is h.2)
+hears-text d s p q text old mid new (Some end) is h =
+    (heard.Text text ∷ [], h.0, h.1, h.2, h.3, h.4, h.5, heard-on old mid new (heard.Text text ∷ []) h.2 is h.6, h.7, h.8)
+
+pub hears-nothing : (d : Debugging) (s : ℕ) (p q : PassState Entry) (old mid new : Talk) (r : Option Served)
+    → mid ≡ talks old (heard.Quiet ∷ []) [] → Waits d s p q mid new r → Hears d s p q old new r
+hears-nothing d s p q old mid new None is h =
+    (heard.Quiet, h.0, tt, h.1, heard-on old mid new (heard.Quiet ∷ []) h.0 is h.2)
+hears-nothing d s p q old mid new (Some end) is h =
+    (heard.Quiet ∷ [], h.0, h.1, h.2, h.3, h.4, h.5, heard-on old mid new (heard.Quiet ∷ []) h.2 is h.6, h.7, h.8)
+
+-- the session ends at an answer, or at none
+pub hears-last : (d : Debugging) (s : ℕ) (p q : PassState Entry) (answers : List Heard) (old new : Talk) (end result : Served)
+    → new ≡ talks old answers [] → Ends s end answers (Detach s ∷ []) false → HasCause d end q.seen
+    → ((answers ≡ []) ⊎ ((answer : Heard) × (answers ≡ answer ∷ []))) → p.in_turn ≡ false → Owns p.number s p.seen
+    → IsEnded d s p q end result → Hears d s p q old new (Some result)
+hears-last d s p q answers old new end result is ends cause few free owns (inl e) =
+    subst (λ (x : Served). Hears d s p q old new (Some x)) (sym e.0)
+    (answers, Detach s ∷ [], [], [], false, e.1, ends-here s end answers (Detach s ∷ []) false ends, is, refl, cause)
+hears-last d s p q answers old new end result is ends cause few free owns (inr (ticket, same, at, stays)) =
+    subst (λ (x : Served). Hears d s p q old new (Some x)) (sym same) (
+      answers,
+      [],
+      [],
+      [],
+      false,
+      subst (λ (r : PassState Entry). Serves d s p r [] []) (sym stays) (serves-none d s p free owns),
+      ends-here s (served.Spent ticket) answers [] false (at, inl (refl, few)),
+      is,
+      refl,
+      tt,
+    )
+
+-- ---- answer after answer
+
+-- a session that goes on: after these answers, with these texts
+pub record Sits (d : Debugging) (s : ℕ) (p q : PassState Entry) (old new : Talk) : Type 0 where
+  pub answers : List Heard
+  pub texts : List (List ℕ)
+  pub go_on : AllGoOn answers
+  pub serves : Serves d s p q (turns s answers) texts
+  pub talk : new ≡ talks old answers texts
+
+pub sits-down : (d : Debugging) (s : ℕ) (p : PassState Entry) (old : Talk) → p.in_turn ≡ false → Owns p.number s p.seen
+    → Sits d s p p old old
+sits-down d s p old free owns =
+    record { answers = []; texts = []; go_on = tt; serves = serves-none d s p free owns; talk = talks-none old }
+
+pub sits-on : (d : Debugging) (s : ℕ) (p m q : PassState Entry) (old mid new : Talk) → Sits d s p m old mid
+    → Hears d s m q mid new None → Sits d s p q old new
+sits-on d s p m q old mid new i h = record {
+  answers = i.answers ++ h.0 ∷ [];
+  texts = i.texts ++ h.1;
+  go_on = go-on-more i.answers h.0 i.go_on h.2;
+  serves =
+      subst (λ (es : List Entry). Serves d s p q es (i.texts ++ h.1)) (sym (turns-more s i.answers h.0))
+      (serves-on d s p m q (turns s i.answers) (turns_at s h.0) i.texts h.1 i.serves h.3);
+  talk = h.4 ∙ ap (λ (t : Talk). talks t (h.0 ∷ []) h.1) i.talk ∙ talks-on old i.answers (h.0 ∷ []) i.texts h.1;
+}
+
+pub sits-end : (d : Debugging) (s : ℕ) (p m q : PassState Entry) (old mid new : Talk) (end : Served) → Sits d s p m old mid
+    → Hears d s m q mid new (Some end) → Hears d s p q old new (Some end)
+sits-end d s p m q old mid new end i h = (
+  i.answers ++ h.0,
+  turns s i.answers ++ h.1,
+  i.texts ++ h.2,
+  i.texts ++ h.3,
+  h.4,
+  serves-on d s p m q (turns s i.answers) h.1 i.texts h.2 i.serves h.5,
+  connection-after s i.answers end h.0 h.1 h.4 i.go_on h.6,
+  h.7 ∙ ap (λ (t : Talk). talks t h.0 h.3) i.talk ∙ talks-on old i.answers h.0 i.texts h.3,
+  sent-after h.4 i.texts h.3 h.2 h.8,
+  h.9,
+)
+
+-- ---- a link
+
+-- what is handed out is what a session is sent with no other there
+pub handed-alone : (d : Debugging) (s : ℕ) (h : List (ℕ × Entry)) → IsHistory d h → handed d s h ≡ sent_alone d s h
+handed-alone d s h is = alone d.protocol s d.program d.wait (entries_of h) is.fits
+
+pub served-session : (d : Debugging) (s : ℕ) (p m q : PassState Entry) (old new : Talk) (end : Served) → Acts d p m Attach
+    → Owns p.number s m.seen → IsNew s p.seen → handed d s m.seen ≡ [] → Hears d s m q old new (Some end)
+    → IsServed d p q old new end
+served-session d s p m q old new end a owns fresh none h = inr (
+  s,
+  h.0,
+  h.3,
+  record {
+    entries = h.1;
+    cut = h.4;
+    goes = goes-on d p m q (Attach ∷ []) h.1 (goes d p m Attach a) h.5.goes;
+    connection = h.6;
+    sent = subst (SentOf h.4 h.3) (sym (ap (λ l. l ++ h.2) none) ∙ sym h.5.handed_out ∙ handed-alone d s q.seen (h.5.goes.history a.history)) h.8;
+    owns = subst (λ (k : ℕ). Owns k s q.seen) a.same.1 h.5.owns;
+    new = fresh;
+    cause = h.9;
+  },
+  h.7,
+)
+
+pub served-shut : (d : Debugging) (p q : PassState Entry) (old : Talk) → Finds d (IsShut d) p q (Take 0)
+    → IsServed d p q old old served.Shut
+served-shut d p q old f = inl ((goes d p q (Take 0) f.0, found-was d (IsShut d) p q (Take 0) f), refl)
+
+pub served-memory : (d : Debugging) (p q : PassState Entry) (old : Talk) → Acts d p q (Take 0)
+    → IsServed d p q old old served.Memory
+served-memory d p q old a = inl (goes d p q (Take 0) a, refl)
