@@ -6,24 +6,24 @@ use Rattle.isolation.specs.Protocols.{Protocol}
 use Rattle.isolation.specs.Meanings.{Meaning, begin}
 use Rattle.isolation.specs.Histories.{Entry, Attach, Tell, Take, Detach, FitsAll, apply}
 use Rattle.isolation.specs.Makers.{IsNoTake, Owns, TakesNone, by, entries_of as unmade, entry_of}
-use Rattle.isolation.proofs.AloneLemmas.{alone}
 use Rattle.isolation.proofs.MakerLemmas.{by-append, owned-front, owns-longer}
 use Rattle.isolation.proofs.OwnerLemmas.{handed-keeps}
 use Rattle.history_lock.specs.Histories.{Begins}
 use Rattle.history_lock.specs.Passes.{PassState}
 use Rattle.server_edge.specs.Heard as heard
 use Rattle.server_edge.specs.Heard.{Heard}
-use Rattle.host_turns.specs.Debuggings.{Debugging, IsHistory, handed, sent_alone}
-use Rattle.host_turns.specs.States.{IsOver, IsShut}
+use Rattle.host_turns.specs.Debuggings.{Debugging, IsHistory, sent_alone}
+use Rattle.host_turns.specs.States.{IsShut}
 use Rattle.host_turns.specs.Turns.{Acts}
 use Rattle.ws_service.specs.Connections.{Connection, Ends, IsCutOff, IsToldLast, SentOf, turns, turns_at}
 use Rattle.ws_service.specs.Passing.{Goes}
-use Rattle.ws_service.specs.Sessions.{HasCause, IsRefused, Session}
+use Rattle.ws_service.specs.Sessions.{IsRefused, Session}
 use Rattle.ws_service.specs.Visits.{AreActs, AreNew, DoorAct, IsAct, IsUnattached, IsVisit, Looked, Refused, Speaks, Tends, Visit, Visited, entries_at, entries_of, link_at, links_of, sessions_of}
 use Rattle.ws_service.specs.declared.served.Served.{Served}
 use Rattle.ws_service.specs.declared.served.Served.TheVariants as served
 use Rattle.server_edge.specs.Contents.{Spoken}
 use Rattle.ws_service.proofs.PassingLemmas.{goes, goes-none, goes-on, was-longer}
+use Rattle.ws_service.proofs.SessionLemmas.{cause-longer, handed-alone}
 
 -- ---- the same over a longer history
 
@@ -41,9 +41,6 @@ history-front d h g is = record {
   owned = owned-front [] h g is.owned;
 }
 
-handed-alone : (d : Debugging) (s : ℕ) (h : List (ℕ × Entry)) → IsHistory d h → handed d s h ≡ sent_alone d s h
-handed-alone d s h is = alone d.protocol s d.program d.wait (unmade h) is.fits
-
 -- what a session would be sent alone stays, where its owner takes none of its texts
 pub alone-stays : (d : Debugging) (k s : ℕ) (h g : List (ℕ × Entry)) → Owns k s h → IsHistory d (h ++ g)
     → TakesNone s (by k g) → sent_alone d s (h ++ g) ≡ sent_alone d s h
@@ -51,17 +48,6 @@ alone-stays d k s h g owns is none =
     sym (handed-alone d s (h ++ g) is)
     ∙ handed-keeps d.protocol k s d.program d.wait h g owns is.owned none
     ∙ handed-alone d s h (history-front d h g is)
-
-cause-stays : (d : Debugging) (end : Served) (h g : List (ℕ × Entry)) → Begins h g → HasCause d end h → HasCause d end g
-cause-stays d served.Closed h g longer is = tt
-cause-stays d served.TooBig h g longer is = tt
-cause-stays d served.Binary h g longer is = tt
-cause-stays d served.Overrun h g longer is = tt
-cause-stays d served.Shut h g longer is = was-longer (IsShut d) h g longer is
-cause-stays d served.Over h g longer is = was-longer (IsOver d) h g longer is
-cause-stays d served.Fault h g longer is = tt
-cause-stays d (served.Spent ticket) h g longer is = tt
-cause-stays d served.Memory h g longer is = tt
 
 visit-stays : (d : Debugging) (k : ℕ) (h g : List (ℕ × Entry)) (visit : Visit) → IsHistory d (h ++ g)
     → ((s : ℕ) → Owns k s h → TakesNone s (by k g)) → IsVisit d k h visit → IsVisit d k (h ++ g) visit
@@ -71,7 +57,7 @@ visit-stays d k h g visit is none a = record {
   sent =
       subst (SentOf visit.cut visit.texts)
       (sym (alone-stays d k visit.session h g a.owns is (none visit.session a.owns))) a.sent;
-  cause = cause-stays d visit.end h (h ++ g) (g, refl) a.cause;
+  cause = cause-longer d visit.end h (h ++ g) (g, refl) a.cause;
   speaks = a.speaks;
 }
 
