@@ -88,12 +88,12 @@ received d p q old new end before after free unused (inr (s, answers, texts, a, 
 -- ---- looks
 
 finds-over : (d : Debugging) (p q : PassState Entry) (state : State) → Finds d (HasState d state) p q (Take 0)
-    → is_final state ≡ true → FindsOver d p.number q.seen
-finds-over d p q state found is = (p.seen ++ found.0.between, state, found.0.seen, found.1, is)
+    → is_final state ≡ true → FindsOver d p.number q.seen state
+finds-over d p q state found is = (p.seen ++ found.0.between, found.0.seen, found.1, is)
 
 -- the program goes on, or is over
 pub looks-by : (d : Debugging) (p q : PassState Entry) (state : State) (over : Bool) → over ≡ is_final state
-    → Finds d (HasState d state) p q (Take 0) → Looks d p q (then_some over ends.Over)
+    → Finds d (HasState d state) p q (Take 0) → Looks d p q (then_some over (ends.Over state))
 looks-by d p q state true is found =
     (tends-look d p q found.0, found.0.history, finds-over d p q state found (sym is))
 looks-by d p q state false is found = (tends-look d p q found.0, found.0.history)
@@ -132,7 +132,7 @@ asked-on (Looked ∷ xs) ys asked =
 
 questions-on : (end : DoorEnd) (xs ys : List DoorAct) (asked : ℕ)
     → asked_more (questions end ys) (asked_more (looks_of xs) asked) ≡ asked_more (questions end (xs ++ ys)) asked
-questions-on ends.Over xs ys asked = asked-on xs ys asked
+questions-on (ends.Over state) xs ys asked = asked-on xs ys asked
 questions-on ends.Fault xs ys asked = ap one_more (asked-on xs ys asked)
 questions-on (ends.Spent ticket) xs ys asked = ap one_more (asked-on xs ys asked)
 
@@ -143,7 +143,7 @@ looks-more (Refused refusal ∷ xs) ys = looks-more xs ys
 looks-more (Looked ∷ xs) ys = let more = looks-more xs ys in omega (arith, more)
 
 once-on : (end : DoorEnd) (xs ys : List DoorAct) → 1 ≤ questions end ys → 1 ≤ questions end (xs ++ ys)
-once-on ends.Over xs ys once = let more = looks-more xs ys in omega (arith, more, once)
+once-on (ends.Over state) xs ys once = let more = looks-more xs ys in omega (arith, more, once)
 once-on ends.Fault xs ys once = omega arith
 once-on (ends.Spent ticket) xs ys once = omega arith
 
@@ -165,7 +165,7 @@ tends-once d p m q acts old new None none a look links home asks quiet =
       asks = asks ∙ ap (λ (n : ℕ). asked_more n old.asked) (sym looked);
       quiet = quiet;
     }
-tends-once d p m q acts old new (Some ends.Over) none a look links home asks quiet =
+tends-once d p m q acts old new (Some (ends.Over state)) none a look links home asks quiet =
     let looked : looks_of (acts ++ Looked ∷ []) ≡ 1 = looks-look acts ∙ ap suc none in
     record {
       acts = acts ++ Looked ∷ [];
@@ -175,7 +175,7 @@ tends-once d p m q acts old new (Some ends.Over) none a look links home asks qui
       home = home;
       asks = asks ∙ ap (λ (n : ℕ). asked_more n old.asked) (sym looked);
       once = omega (arith, looked);
-      ends = (refl, quiet, subst (λ (k : ℕ). FindsOver d k q.seen) a.goes.same.1 look.2);
+      ends = (refl, quiet, subst (λ (k : ℕ). FindsOver d k q.seen state) a.goes.same.1 look.2);
     }
 tends-once d p m q acts old new (Some ends.Fault) none a look links home asks quiet = absurd look
 tends-once d p m q acts old new (Some (ends.Spent ticket)) none a look links home asks quiet = record {

@@ -24,10 +24,9 @@ is_final states.Waiting = false
 is_final states.Ready = false
 
 -- the last that a pass has seen is its own look, which found the program over, in this state
-abbrev pub FindsOver : Debugging → ℕ → List (ℕ × Entry) → Type 0
-FindsOver d k h =
-    (found : List (ℕ × Entry)) × (state : State) × (h ≡ found ++ (k, Take 0) ∷ []) × HasState d state found
-    × (is_final state ≡ true)
+abbrev pub FindsOver : Debugging → ℕ → List (ℕ × Entry) → State → Type 0
+FindsOver d k h state =
+    (found : List (ℕ × Entry)) × (h ≡ found ++ (k, Take 0) ∷ []) × HasState d state found × (is_final state ≡ true)
 
 -- the count of questions after so many more; it stays at the greatest u64
 abbrev pub asked_more : ℕ → ℕ → ℕ
@@ -36,14 +35,14 @@ asked_more (suc n) asked = one_more (asked_more n asked)
 
 -- how many questions there were: each led to a look, but the last one where it led to a shut, or to no turn at all
 abbrev pub questions : DoorEnd → List DoorAct → ℕ
-questions ends.Over acts = looks_of acts
+questions (ends.Over state) acts = looks_of acts
 questions ends.Fault acts = suc (looks_of acts)
 questions (ends.Spent ticket) acts = suc (looks_of acts)
 
 -- How serving a door ended, and what of the door's faults: it found the program over; or the door failed, and the
 -- program was shut, if a ticket was left for that; or no ticket was left.
 abbrev pub EndsDoor : Debugging → ℕ → List (ℕ × Entry) → DoorEnd → List Entry → ℕ → ℕ → Type 0
-EndsDoor d k h ends.Over last old new = (last ≡ []) × (new ≡ old) × FindsOver d k h
+EndsDoor d k h (ends.Over state) last old new = (last ≡ []) × (new ≡ old) × FindsOver d k h state
 EndsDoor d k h ends.Fault last old new = ((last ≡ Shut ∷ []) ⊎ (last ≡ [])) × Rose old new
 EndsDoor d k h (ends.Spent ticket) last old new = (last ≡ []) × (new ≡ old) × (ticket ≡ limit)
 
@@ -70,7 +69,8 @@ IsReceived d p q old new =
 -- one look: the program goes on, or is over, or no ticket was left
 abbrev pub Looks : Debugging → PassState Entry → PassState Entry → Option DoorEnd → Type 0
 Looks d p q None = Tends d p q (Looked ∷ []) [] × IsHistory d q.seen
-Looks d p q (Some ends.Over) = Tends d p q (Looked ∷ []) [] × IsHistory d q.seen × FindsOver d p.number q.seen
+Looks d p q (Some (ends.Over state)) =
+    Tends d p q (Looked ∷ []) [] × IsHistory d q.seen × FindsOver d p.number q.seen state
 Looks d p q (Some ends.Fault) = ⊥
 Looks d p q (Some (ends.Spent ticket)) = (q ≡ p) × (ticket ≡ limit)
 

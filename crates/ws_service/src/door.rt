@@ -14,8 +14,8 @@ use std::sync::Wait;
 /// How serving a door ended.
 #[derive(Clone, Copy)]
 pub enum DoorEnd {
-    /// The program is over: it has ended, or was shut, or its host is broken.
-    Over,
+    /// The program is over, in this state: it has ended, or was shut, or its host is broken.
+    Over(State),
     /// The door failed, and its count rose. The program was shut, if a ticket was left for that.
     Fault,
     /// No ticket is left: the ticket word is 2^62.
@@ -46,7 +46,7 @@ fn end_if_over<H: Hosted<B>, B, R: Wait>(
     ensures { Looks H.debugs p.old p.new result }
 {
     match look(rt, lock, p) {
-        Ok(state) => is_final(state).then_some(DoorEnd::Over),
+        Ok(state) => is_final(state).then_some(DoorEnd::Over(state)),
         Err(Spent { ticket }) => Some(DoorEnd::Spent { ticket }),
     }
 }
