@@ -2,3 +2,5 @@ pub mod PassingLemmas
 pub mod ConnectionLemmas
 pub mod SendLemmas
 pub mod SessionLemmas
+pub mod VisitLemmas
+pub mod DoorLemmas

@@ -36,7 +36,7 @@ talks-none old = λ i. record { answers = adds-none old.answers i; sent = adds-n
 
 -- ---- causes
 
-cause-longer : (d : Debugging) (end : Served) (h g : List (ℕ × Entry)) → Begins h g → HasCause d end h → HasCause d end g
+pub cause-longer : (d : Debugging) (end : Served) (h g : List (ℕ × Entry)) → Begins h g → HasCause d end h → HasCause d end g
 cause-longer d served.Closed h g b c = tt
 cause-longer d served.TooBig h g b c = tt
 cause-longer d served.Binary h g b c = tt

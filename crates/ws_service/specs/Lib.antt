@@ -1,3 +1,5 @@
 pub mod Connections
+pub mod Doors
 pub mod Passing
 pub mod Sessions
+pub mod Visits

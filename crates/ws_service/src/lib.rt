@@ -5,10 +5,13 @@
 //! - `Connection`: the answers of a link and the entries that its session left for them
 //! - `Session`: a session in a history, whose link was sent exactly what it would be sent with no other session there
 //! - `Goes`: the entries that a pass left by some turns; `Was`: at some time a history was so
+//! - *act*: what a pass does at a door: it serves a link that arrived (`Visit`), or looks whether the program is over
 #![tactic(auto)]
 
+mod door;
 mod served;
 mod session;
 
+pub use door::{DoorEnd, serve_door};
 pub use served::Served;
 pub use session::serve_session;
