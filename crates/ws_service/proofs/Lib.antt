@@ -1,3 +1,4 @@
 pub mod PassingLemmas
 pub mod ConnectionLemmas
 pub mod SessionLemmas
+pub mod ProgramLemmas

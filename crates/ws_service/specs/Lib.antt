@@ -1,3 +1,4 @@
 pub mod Connections
 pub mod Passing
+pub mod Programs
 pub mod Sessions
