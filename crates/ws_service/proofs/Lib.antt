@@ -4,3 +4,4 @@ pub mod SendLemmas
 pub mod SessionLemmas
 pub mod VisitLemmas
 pub mod DoorLemmas
+pub mod ProgramLemmas

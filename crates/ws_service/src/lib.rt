@@ -4,14 +4,17 @@
 //!
 //! - `Connection`: the answers of a link and the entries that its session left for them
 //! - `Session`: a session in a history, whose link was sent exactly what it would be sent with no other session there
+//! - `HasRun`: a pass ran the program by some turns, and a sink was given what they printed
 //! - `Goes`: the entries that a pass left by some turns; `Was`: at some time a history was so
 //! - *act*: what a pass does at a door: it serves a link that arrived (`Visit`), or looks whether the program is over
 #![tactic(auto)]
 
 mod door;
+mod program;
 mod served;
 mod session;
 
 pub use door::{DoorEnd, serve_door};
+pub use program::{RunEnd, run_program};
 pub use served::Served;
 pub use session::serve_session;

@@ -1,0 +1,545 @@
+-- A pass runs a program, turn after turn.
+use Rattle.std.proofs.Common.{◌≡◌, ◌≢◌, ◌⊎◌, inl, inr, ℕ, ◌+◌, List, [], ◌∷◌, ◌++◌, Bool, true, false, Option, Some, None, if◌then◌else◌, refl, ap, sym, subst, ◌∙◌, arith, append_assoc, append-nil}
+use Rattle.std.proofs.lemmas.Bool.{eq-eqb, ne_eqb}
+use Rattle.std.proofs.lemmas.List.{append_cancel_left, map-append}
+use mathlib.Core.Logic.{dite}
+use native.Mathlib.Decide.{ℕ_discrete}
+use Rattle.isolation.specs.Histories.{Entry, Attach, Tell, Take, Detach, Ran, Shut, steps_made, steps_of, whole}
+use Rattle.isolation.specs.Makers.{by, entries_of, entry_of}
+use Rattle.isolation.proofs.LongerLemmas.{call-program, whole-more}
+use Rattle.isolation.proofs.MakerLemmas.{by-append, by-own}
+use Rattle.history_lock.specs.Histories.{Begins, limit}
+use Rattle.history_lock.specs.Passes.{PassState}
+use Rattle.cdp_edge.specs.Outside.{GainsPrefix, Told, gains}
+use Rattle.cdp_edge.proofs.Gains.{GainsPrefix-behind, gains-nil, gains-next}
+use Rattle.cdp_edge.specs.declared.sink.SinkFault.{SinkFault}
+use Rattle.cdp_edge.specs.declared.sink.SinkFault.TheVariants as sink
+use Rattle.printing.specs.Printing.{printed_lines}
+use Rattle.printing.proofs.PrintingLemmas.{lines-append}
+use Rattle.host_turns.specs.Debuggings.{Debugging, meaning}
+use Rattle.host_turns.specs.States.{HasState}
+use Rattle.host_turns.specs.Turns.{Acts, Finds, Prints, Steps, printed_by}
+use Rattle.host_turns.specs.declared.state.State.{State}
+use Rattle.host_turns.specs.declared.state.State.TheVariants as states
+use Rattle.ws_service.specs.Programs.{AreLeft, AreTurns, Counts, FindsIdle, Finishes, GainsLines, HasReason, HasRun, IsIdle, IsLast, IsRunOf, IsShutAfter, IsTurn, OnlyRuns, Output, Writes, end_at, end_in, may_cut}
+use Rattle.ws_service.specs.declared.program.RunEnd.{RunEnd}
+use Rattle.ws_service.specs.declared.program.RunEnd.TheVariants as ends
+use Rattle.ws_service.proofs.PassingLemmas.{goes, goes-none, goes-on}
+
+-- ---- the makers of runs
+
+only-front : (k : ℕ) (h g : List (ℕ × Entry)) → OnlyRuns k (h ++ g) → OnlyRuns k h
+only-front k [] g only = tt
+only-front k (made ∷ h) g only = (only.0, only-front k h g only.1)
+
+only-after : (k : ℕ) (h g : List (ℕ × Entry)) → OnlyRuns k (h ++ g) → OnlyRuns k g
+only-after k [] g only = only
+only-after k (made ∷ h) g only = only-after k h g only.1
+
+-- an entry of another maker makes no steps
+no-steps : (k maker : ℕ) (entry : Entry) → IsRunOf k maker entry → maker ≢ k → steps_of entry ≡ 0
+no-steps k maker Attach only other = refl
+no-steps k maker (Tell s text) only other = refl
+no-steps k maker (Take s) only other = refl
+no-steps k maker (Detach s) only other = refl
+no-steps k maker (Ran n moment lost) only other = absurd (other only)
+no-steps k maker Shut only other = refl
+
+-- the steps of a history that goes on
+made-entries : (h g : List Entry) → steps_made (h ++ g) ≡ steps_made h + steps_made g
+made-entries [] g = omega arith
+made-entries (entry ∷ h) g = let rest = made-entries h g in omega (arith, rest)
+
+made-append : (h g : List (ℕ × Entry))
+    → steps_made (entries_of (h ++ g)) ≡ steps_made (entries_of h) + steps_made (entries_of g)
+made-append h g = ap steps_made (map-append entry_of h g) ∙ made-entries (entries_of h) (entries_of g)
+
+-- where this maker left none, none were made
+none-made : (k : ℕ) (g : List (ℕ × Entry)) → OnlyRuns k g → by k g ≡ [] → steps_made (entries_of g) ≡ 0
+none-made k [] only none = refl
+none-made k (made ∷ g) only none = dite (ℕ_discrete made.0 k)
+    (λ is.
+    let more : made.1 ∷ by k g ≡ [] =
+    sym (ap (λ (b : Bool). if b then made.1 ∷ by k g else by k g) (eq-eqb made.0 k is)) ∙ none in
+    absurd cc)
+    (λ other.
+    let less : by k g ≡ [] =
+    sym (ap (λ (b : Bool). if b then made.1 ∷ by k g else by k g) (ne_eqb made.0 k other)) ∙ none in
+    let here = no-steps k made.0 made.1 only.0 other in
+    let rest = none-made k g only.1 less in
+    omega (arith, here, rest))
+
+-- ---- a history that goes on twice
+
+-- where it goes on as a whole
+parts : (h m g a b more : List (ℕ × Entry)) → m ≡ h ++ a → g ≡ m ++ b → g ≡ h ++ more → more ≡ a ++ b
+parts h m g a b more first second whole =
+    append_cancel_left h more (a ++ b)
+    (sym whole ∙ second ∙ ap (λ l. l ++ b) first ∙ append_assoc h a b)
+
+same-head : {A : Type 0} → (x y : A) (xs ys : List A) → x ∷ xs ≡ y ∷ ys → x ≡ y
+same-head x y xs ys is = cc
+
+same-tail : {A : Type 0} → (x y : A) (xs ys : List A) → x ∷ xs ≡ y ∷ ys → xs ≡ ys
+same-tail x y xs ys is = cc
+
+some-after : {A : Type 0} → (front rest : List A) (x : A) → [] ≡ front ++ x ∷ rest → ⊥
+some-after [] rest x is = absurd cc
+some-after (y ∷ front) rest x is = absurd cc
+
+-- one entry alone
+alone : {A : Type 0} → (y x : A) (front rest : List A) → y ∷ [] ≡ front ++ x ∷ rest
+    → (front ≡ []) × (y ≡ x) × (rest ≡ [])
+alone y x [] rest is = (refl, same-head y x [] rest is, sym (same-tail y x [] rest is))
+alone y x (z ∷ front) rest is = absurd (some-after front rest x (same-tail y z [] (front ++ x ∷ rest) is))
+
+-- an entry falls into the first list, or after it
+abbrev Falls : {A : Type 0} → List A → List A → A → Type 0
+Falls {A} m front x = Begins m front ⊎ ((rest : List A) × (m ≡ front ++ x ∷ rest))
+
+falls-more : {A : Type 0} → (y z x : A) (m front : List A) → y ≡ z → Falls m front x → Falls (y ∷ m) (z ∷ front) x
+falls-more y z x m front same (inl b) = inl (b.0, λ i. sym same i ∷ b.1 i)
+falls-more y z x m front same (inr w) = inr (w.0, λ i. same i ∷ w.1 i)
+
+falls : {A : Type 0} → (m b front rest : List A) (x : A) → m ++ b ≡ front ++ x ∷ rest → Falls m front x
+falls [] b front rest x is = inl (front, refl)
+falls (y ∷ m) b [] rest x is = inr (m, ap (λ z. z ∷ m) (same-head y x (m ++ b) rest is))
+falls (y ∷ m) b (z ∷ front) rest x is =
+    falls-more y z x m front (same-head y z (m ++ b) (front ++ x ∷ rest) is)
+    (falls m b front rest x (same-tail y z (m ++ b) (front ++ x ∷ rest) is))
+
+-- ---- takings of nobody's texts
+
+idle-before : (d : Debugging) (front rest more : List (ℕ × Entry)) (end : Option RunEnd)
+    → IsIdle d front ⊎ IsLast None rest → IsIdle d front ⊎ IsLast end more
+idle-before d front rest more end (inl idle) = inl idle
+idle-before d front rest more end (inr last) = let none = last.0 in absurd cc
+
+idle-at : (d : Debugging) (k : ℕ) (h m g front rest : List (ℕ × Entry)) (end : Option RunEnd)
+    → FindsIdle d k h m None → FindsIdle d k m g end → Begins h front → g ≡ front ++ (k, Take 0) ∷ rest
+    → Falls m front (k, Take 0) → IsIdle d front ⊎ IsLast end rest
+idle-at d k h m g front rest end first second begins is (inl later) = second front rest later is
+idle-at d k h m g front rest end first second begins is (inr within) =
+    idle-before d front within.0 rest end (first front within.0 begins within.1)
+
+idle-on : (d : Debugging) (k : ℕ) (h m g : List (ℕ × Entry)) (end : Option RunEnd) → Begins m g
+    → FindsIdle d k h m None → FindsIdle d k m g end → FindsIdle d k h g end
+idle-on d k h m g end longer first second = λ front rest begins is.
+    idle-at d k h m g front rest end first second begins is
+    (falls m longer.0 front rest (k, Take 0) (sym longer.1 ∙ is))
+
+-- where nothing is left
+idle-none : (d : Debugging) (k : ℕ) (h : List (ℕ × Entry)) (end : Option RunEnd) → FindsIdle d k h h end
+idle-none d k h end = λ front rest begins is.
+    let all : h ++ [] ≡ h ++ (begins.0 ++ (k, Take 0) ∷ rest) =
+    append-nil h
+    ∙ is
+    ∙ ap (λ l. l ++ (k, Take 0) ∷ rest) begins.1
+    ∙ append_assoc h begins.0 ((k, Take 0) ∷ rest) in
+    absurd (some-after begins.0 rest (k, Take 0) (append_cancel_left h [] (begins.0 ++ (k, Take 0) ∷ rest) all))
+
+-- what a turn found that took nobody's texts
+abbrev FindsAt : Debugging → List (ℕ × Entry) → Entry → Option RunEnd → Type 0
+FindsAt d h entry end = entry ≡ Take 0 → IsIdle d h ⊎ (end ≡ Some ends.Memory)
+
+is-last : (d : Debugging) (h : List (ℕ × Entry)) (end : Option RunEnd) → IsIdle d h ⊎ (end ≡ Some ends.Memory)
+    → (rest : List (ℕ × Entry)) → rest ≡ [] → IsIdle d h ⊎ IsLast end rest
+is-last d h end (inl idle) rest none = inl idle
+is-last d h end (inr memory) rest none = inr (memory, none)
+
+same-entry : (j k : ℕ) (entry other : Entry) → ◌≡◌ {A = ℕ × Entry} (j, entry) (k, other) → entry ≡ other
+same-entry j k entry other is = ap (λ (made : ℕ × Entry). made.1) is
+
+idle-last : (d : Debugging) (k : ℕ) (h front rest : List (ℕ × Entry)) (entry : Entry) (end : Option RunEnd)
+    → FindsAt d h entry end → Begins h front → h ++ (k, entry) ∷ [] ≡ front ++ (k, Take 0) ∷ rest
+    → IsIdle d front ⊎ IsLast end rest
+idle-last d k h front rest entry end found begins is =
+    let all : (k, entry) ∷ [] ≡ begins.0 ++ (k, Take 0) ∷ rest =
+    append_cancel_left h ((k, entry) ∷ []) (begins.0 ++ (k, Take 0) ∷ rest)
+    (is ∙ ap (λ l. l ++ (k, Take 0) ∷ rest) begins.1 ∙ append_assoc h begins.0 ((k, Take 0) ∷ rest)) in
+    let one = alone (k, entry) (k, Take 0) begins.0 rest all in
+    let front-same : front ≡ h = begins.1 ∙ ap (λ l. h ++ l) one.0 ∙ append-nil h in
+    subst (λ l. IsIdle d l ⊎ IsLast end rest) (sym front-same)
+    (is-last d h end (found (same-entry k k entry (Take 0) one.1)) rest one.2)
+
+-- there is none where this maker left nothing
+none-between : (k : ℕ) (h between front rest : List (ℕ × Entry)) → by k between ≡ [] → Begins h front
+    → h ++ between ≡ front ++ (k, Take 0) ∷ rest → ⊥
+none-between k h between front rest nothing begins is =
+    let all : between ≡ begins.0 ++ (k, Take 0) ∷ rest =
+    append_cancel_left h between (begins.0 ++ (k, Take 0) ∷ rest)
+    (is ∙ ap (λ l. l ++ (k, Take 0) ∷ rest) begins.1 ∙ append_assoc h begins.0 ((k, Take 0) ∷ rest)) in
+    some-after (by k begins.0) (by k rest) (Take 0)
+    (sym nothing
+    ∙ ap (by k) all
+    ∙ by-append k begins.0 ((k, Take 0) ∷ rest)
+    ∙ ap (λ l. by k begins.0 ++ l) (by-own k (Take 0) rest))
+
+idle-act : (d : Debugging) (k : ℕ) (h between front rest : List (ℕ × Entry)) (entry : Entry) (end : Option RunEnd)
+    → by k between ≡ [] → FindsAt d (h ++ between) entry end → Begins h front
+    → (h ++ between) ++ (k, entry) ∷ [] ≡ front ++ (k, Take 0) ∷ rest → Falls (h ++ between) front (k, Take 0)
+    → IsIdle d front ⊎ IsLast end rest
+idle-act d k h between front rest entry end nothing found begins is (inl later) =
+    idle-last d k (h ++ between) front rest entry end found later is
+idle-act d k h between front rest entry end nothing found begins is (inr within) =
+    absurd (none-between k h between front within.0 nothing begins within.1)
+
+idle-turn : (d : Debugging) (p q : PassState Entry) (entry : Entry) (end : Option RunEnd) (act : Acts d p q entry)
+    → FindsAt d (p.seen ++ act.between) entry end → FindsIdle d p.number p.seen q.seen end
+idle-turn d p q entry end act found = λ front rest begins is.
+    idle-act d p.number p.seen act.between front rest entry end act.nothing found begins (sym act.seen ∙ is)
+    (falls (p.seen ++ act.between) ((p.number, entry) ∷ []) front rest (p.number, Take 0) (sym act.seen ∙ is))
+
+-- ---- output
+
+gains-on : (cut : Bool) (before mid after : Option (List ℕ)) (xs ys : List (List ℕ))
+    → mid ≡ gains before (printed_lines xs) → GainsLines cut mid after ys → GainsLines cut before after (xs ++ ys)
+gains-on false before mid after xs ys first second =
+    gains-next before mid after (printed_lines xs) (printed_lines ys) (printed_lines (xs ++ ys)) first second
+    (lines-append xs ys)
+gains-on true before mid after xs ys first second =
+    GainsPrefix-behind before mid after (printed_lines xs) (printed_lines ys) [] (printed_lines (xs ++ ys)) first
+    (lines-append xs ys ∙ sym (append-nil (printed_lines xs ++ printed_lines ys))) second
+
+gains-whole : (cut : Bool) (before after : Option (List ℕ)) (texts : List (List ℕ))
+    → after ≡ gains before (printed_lines texts) → GainsLines cut before after texts
+gains-whole false before after texts is = is
+gains-whole true before after texts is = (printed_lines texts, [], sym (append-nil (printed_lines texts)), is)
+
+gains-same : (cut : Bool) (content : Option (List ℕ)) → GainsLines cut content content []
+gains-same cut content = gains-whole cut content content [] (sym (gains-nil content))
+
+writes-on : (d : Debugging) (k : ℕ) (cut : Bool) (h m g : List (ℕ × Entry)) (before mid after : Option (List ℕ))
+    → Begins h m → Begins m g → Writes d k false h m before mid → Writes d k cut m g mid after
+    → Writes d k cut h g before after
+writes-on d k cut h m g before mid after a b first second = λ more is only.
+    let all = subst (OnlyRuns k) (parts h m g a.0 b.0 more a.1 b.1 is) only in
+    let x = first a.0 a.1 (only-front k a.0 b.0 all) in
+    let y = second b.0 b.1 (only-after k a.0 b.0 all) in (
+      x.0 ++ y.0,
+      y.1
+          ∙ ap (λ l. l ++ y.0) x.1
+          ∙ append_assoc (printed_by d (steps_made (entries_of h))) x.0 y.0,
+      gains-on cut before mid after x.0 y.0 x.2 y.2,
+    )
+
+-- where nothing is left
+writes-none : (d : Debugging) (k : ℕ) (cut : Bool) (h : List (ℕ × Entry)) (content : Option (List ℕ))
+    → Writes d k cut h h content content
+writes-none d k cut h content = λ more is only.
+    ([], sym (append-nil (printed_by d (steps_made (entries_of h)))), gains-same cut content)
+
+-- the steps of a turn
+steps-turn : (d : Debugging) (p q : PassState Entry) (entry : Entry) (act : Acts d p q entry)
+    → steps_made (entries_of q.seen) ≡ steps_made (entries_of (p.seen ++ act.between)) + steps_of entry
+steps-turn d p q entry act =
+    let here : steps_made (entries_of ((p.number, entry) ∷ [])) ≡ steps_of entry = omega arith in
+    ap (λ h. steps_made (entries_of h)) act.seen
+    ∙ made-append (p.seen ++ act.between) ((p.number, entry) ∷ [])
+    ∙ ap (λ n. steps_made (entries_of (p.seen ++ act.between)) + n) here
+
+-- those before it, where no other makes any
+steps-before : (k : ℕ) (h between : List (ℕ × Entry)) → OnlyRuns k between → by k between ≡ []
+    → steps_made (entries_of (h ++ between)) ≡ steps_made (entries_of h)
+steps-before k h between only nothing =
+    let none = none-made k between only nothing in
+    let all = made-append h between in
+    omega (arith, none, all)
+
+only-between : (d : Debugging) (p q : PassState Entry) (entry : Entry) (act : Acts d p q entry)
+    (more : List (ℕ × Entry)) → q.seen ≡ p.seen ++ more → OnlyRuns p.number more → OnlyRuns p.number act.between
+only-between d p q entry act more is only =
+    only-front p.number act.between ((p.number, entry) ∷ [])
+    (subst (OnlyRuns p.number)
+    (parts p.seen (p.seen ++ act.between) q.seen act.between ((p.number, entry) ∷ []) more refl act.seen is) only)
+
+writes-turn : (d : Debugging) (p q : PassState Entry) (entry : Entry) (act : Acts d p q entry) (cut : Bool)
+    (before after : Option (List ℕ)) (texts : List (List ℕ)) → Prints d (steps_of entry) texts (p.seen ++ act.between)
+    → GainsLines cut before after texts → Writes d p.number cut p.seen q.seen before after
+writes-turn d p q entry act cut before after texts prints gained = λ more is only.
+    let same = steps-before p.number p.seen act.between (only-between d p q entry act more is only) act.nothing in (
+      texts,
+      ap (printed_by d) (steps-turn d p q entry act) ∙ prints ∙ ap (λ n. printed_by d n ++ texts) same,
+      gained,
+    )
+
+-- no steps print nothing
+prints-none : (d : Debugging) (h : List (ℕ × Entry)) → Prints d 0 [] h
+prints-none d h =
+    let same : steps_made (entries_of h) + 0 ≡ steps_made (entries_of h) = omega arith in
+    ap (printed_by d) same ∙ sym (append-nil (printed_by d (steps_made (entries_of h))))
+
+-- a shut after it prints nothing
+writes-shut : (d : Debugging) (k : ℕ) (p m q : PassState Entry) (act : Acts d m q Shut) (cut : Bool)
+    (before after : Option (List ℕ)) → m.number ≡ k → Begins p.seen m.seen → Writes d k cut p.seen m.seen before after
+    → Writes d k cut p.seen q.seen before after
+writes-shut d k p m q act cut before after number a first = λ more is only.
+    let b = (goes d m q Shut act).longer in
+    let all = subst (OnlyRuns k) (parts p.seen m.seen q.seen a.0 b.0 more a.1 b.1 is) only in
+    let x = first a.0 a.1 (only-front k a.0 b.0 all) in
+    let later = subst (λ j. OnlyRuns j b.0) (sym number) (only-after k a.0 b.0 all) in
+    let before-it = steps-before m.number m.seen act.between (only-between d m q Shut act b.0 b.1 later) act.nothing in
+    let made = steps-turn d m q Shut act in
+    let same : steps_made (entries_of q.seen) ≡ steps_made (entries_of m.seen) = omega (arith, before-it, made) in
+    (x.0, ap (printed_by d) same ∙ x.1, x.2)
+
+-- ---- runs
+
+turns-on : (moment : Option ℕ) (es fs : List Entry) → AreTurns moment es → AreTurns moment fs
+    → AreTurns moment (es ++ fs)
+turns-on moment [] fs first second = second
+turns-on moment (e ∷ es) fs first second = (first.0, turns-on moment es fs first.1 second)
+
+left-cut : (moment : Option ℕ) (es fs : List Entry) → AreTurns moment es → AreLeft moment true fs
+    → AreLeft moment true (es ++ fs)
+left-cut moment es fs first (inl turns) = inl (turns-on moment es fs first turns)
+left-cut moment es fs first (inr shut) = inr (
+  es ++ shut.0,
+  ap (λ l. es ++ l) shut.1 ∙ sym (append_assoc es shut.0 (Shut ∷ [])),
+  turns-on moment es shut.0 first shut.2,
+)
+
+left-on : (moment : Option ℕ) (cut : Bool) (es fs : List Entry) → AreTurns moment es → AreLeft moment cut fs
+    → AreLeft moment cut (es ++ fs)
+left-on moment false es fs first second = turns-on moment es fs first second
+left-on moment true es fs first second = left-cut moment es fs first second
+
+left-turns : (moment : Option ℕ) (cut : Bool) (es : List Entry) → AreTurns moment es → AreLeft moment cut es
+left-turns moment false es turns = turns
+left-turns moment true es turns = inl turns
+
+-- no turn
+pub none-run : (d : Debugging) (moment : Option ℕ) (p : PassState Entry) (out : Output) (end : Option RunEnd)
+    → p.in_turn ≡ false → HasReason d end p.seen → Counts end out.faults out.faults → HasRun d moment p p out out end
+none-run d moment p out end free reason counts = record {
+  entries = [];
+  goes = goes-none d p free;
+  left = left-turns moment (may_cut end) [] tt;
+  idle = idle-none d p.number p.seen end;
+  writes = writes-none d p.number (may_cut end) p.seen out.content;
+  reason = reason;
+  counts = counts;
+}
+
+-- no ticket was left
+pub spent-run : (d : Debugging) (moment : Option ℕ) (p q : PassState Entry) (out : Output) (ticket : ℕ) → q ≡ p
+    → p.in_turn ≡ false → ticket ≡ limit → HasRun d moment p q out out (Some (ends.Spent ticket))
+spent-run d moment p q out ticket same free spent =
+    subst (λ (z : PassState Entry). HasRun d moment p z out out (Some (ends.Spent ticket))) (sym same)
+    (none-run d moment p out (Some (ends.Spent ticket)) free spent refl)
+
+-- turns, and more of them
+run-on : (d : Debugging) (moment : Option ℕ) (p m q : PassState Entry) (old mid new : Output) (end : Option RunEnd)
+    → HasRun d moment p m old mid None → HasRun d moment m q mid new end → HasRun d moment p q old new end
+run-on d moment p m q old mid new end a b = record {
+  entries = a.entries ++ b.entries;
+  goes = goes-on d p m q a.entries b.entries a.goes b.goes;
+  left = left-on moment (may_cut end) a.entries b.entries a.left b.left;
+  idle =
+      idle-on d p.number p.seen m.seen q.seen end b.goes.longer a.idle
+      (subst (λ (k : ℕ). FindsIdle d k m.seen q.seen end) a.goes.same.1 b.idle);
+  writes =
+      writes-on d p.number (may_cut end) p.seen m.seen q.seen old.content mid.content new.content a.goes.longer
+      b.goes.longer a.writes
+      (subst (λ (k : ℕ). Writes d k (may_cut end) m.seen q.seen mid.content new.content) a.goes.same.1 b.writes);
+  reason = b.reason;
+  counts = subst (λ (n : ℕ). Counts end n new.faults) a.counts b.counts;
+}
+
+-- the same, by a clock that tells as it did
+pub run-next : (d : Debugging) (moment now : Option ℕ) (p m q : PassState Entry) (old mid new : Output)
+    (end : Option RunEnd) → now ≡ moment → HasRun d moment p m old mid None → HasRun d now m q mid new end
+    → HasRun d moment p q old new end
+run-next d moment now p m q old mid new end same a b =
+    run-on d moment p m q old mid new end a
+    (subst (λ (told : Option ℕ). HasRun d told m q mid new end) same b)
+
+-- one turn
+turn-run : (d : Debugging) (moment : Option ℕ) (p q : PassState Entry) (old new : Output) (entry : Entry)
+    (texts : List (List ℕ)) (end : Option RunEnd) (act : Acts d p q entry) → IsTurn moment entry
+    → Prints d (steps_of entry) texts (p.seen ++ act.between) → FindsAt d (p.seen ++ act.between) entry end
+    → GainsLines (may_cut end) old.content new.content texts → HasReason d end q.seen
+    → Counts end old.faults new.faults → HasRun d moment p q old new end
+turn-run d moment p q old new entry texts end act turn prints found gained reason counts = record {
+  entries = entry ∷ [];
+  goes = goes d p q entry act;
+  left = left-turns moment (may_cut end) (entry ∷ []) (turn, tt);
+  idle = idle-turn d p q entry end act found;
+  writes = writes-turn d p q entry act (may_cut end) old.content new.content texts prints gained;
+  reason = reason;
+  counts = counts;
+}
+
+-- a run takes no texts
+ran-finds : (d : Debugging) (h : List (ℕ × Entry)) (steps at : ℕ) (lost : List ℕ) (end : Option RunEnd)
+    → FindsAt d h (Ran steps at lost) end
+ran-finds d h steps at lost end = λ is. absurd cc
+
+shut-finds : (d : Debugging) (h : List (ℕ × Entry)) (end : Option RunEnd) → FindsAt d h Shut end
+shut-finds d h end = λ is. absurd cc
+
+-- ---- a turn without steps
+
+idle-in : (d : Debugging) (state : State) (h : List (ℕ × Entry)) → HasState d state h → state ≢ states.Ready
+    → IsIdle d h ⊎ (end_in state ≡ Some ends.Memory)
+idle-in d states.Broken h is some = inr refl
+idle-in d states.Shut h is some = inl (inl is)
+idle-in d states.Threw h is some = inl (inr (inl is.1.0))
+idle-in d states.Ended h is some = inl (inr (inl is.1.0))
+idle-in d states.Paused h is some = inl (inr (inr (inl is)))
+idle-in d states.Waiting h is some = inl (inr (inr (inr is)))
+idle-in d states.Ready h is some = absurd (some refl)
+
+idle-finds : (d : Debugging) (state : State) (h : List (ℕ × Entry)) → HasState d state h → state ≢ states.Ready
+    → FindsAt d h (Take 0) (end_in state)
+idle-finds d state h is some = λ _. idle-in d state h is some
+
+-- the program is where it was
+stays : (d : Debugging) (p q : PassState Entry) (act : Acts d p q (Take 0))
+    → (meaning d q.seen).program ≡ (meaning d (p.seen ++ act.between)).program
+stays d p q act =
+    let h = p.seen ++ act.between in
+    ap (λ l. (meaning d l).program) act.seen
+    ∙ ap (λ es. (whole d.protocol d.program d.wait es).program) (map-append entry_of h ((p.number, Take 0) ∷ []))
+    ∙ ap (λ m. m.program) (whole-more d.protocol d.program d.wait (entries_of h) (Take 0))
+    ∙ call-program d.protocol (meaning d h) (Take 0) refl
+
+counts-in : (state : State) (old new : ℕ) → new ≡ old → Counts (end_in state) old new
+counts-in states.Broken old new is = is
+counts-in states.Shut old new is = is
+counts-in states.Threw old new is = is
+counts-in states.Ended old new is = is
+counts-in states.Paused old new is = is
+counts-in states.Waiting old new is = is
+counts-in states.Ready old new is = is
+
+-- what a state says of the end, of the history that was found
+reason-found : (d : Debugging) (p q : PassState Entry) (act : Acts d p q (Take 0)) (state : State)
+    → HasState d state (p.seen ++ act.between) → HasReason d (end_in state) q.seen
+reason-found d p q act states.Broken is = tt
+reason-found d p q act states.Shut is =
+    (p.seen ++ act.between, ((p.number, Take 0) ∷ [], act.seen), is)
+reason-found d p q act states.Threw is =
+    subst (λ c. (d.protocol.is_over c ≡ true) × (d.has_thrown c ≡ true)) (sym (stays d p q act)) is.1
+reason-found d p q act states.Ended is =
+    subst (λ c. (d.protocol.is_over c ≡ true) × (d.has_thrown c ≡ false)) (sym (stays d p q act)) is.1
+reason-found d p q act states.Paused is = tt
+reason-found d p q act states.Waiting is = tt
+reason-found d p q act states.Ready is = tt
+
+-- a turn that found the program idle
+pub idle-run : (d : Debugging) (moment : Option ℕ) (p q : PassState Entry) (out : Output) (state : State)
+    (end : Option RunEnd) → end ≡ end_in state → Finds d (HasState d state) p q (Take 0) → state ≢ states.Ready
+    → HasRun d moment p q out out end
+idle-run d moment p q out state end is found some =
+    let h = p.seen ++ found.0.between in
+    subst (λ (e : Option RunEnd). HasRun d moment p q out out e) (sym is)
+    (turn-run d moment p q out out (Take 0) [] (end_in state) found.0 refl (prints-none d h)
+    (idle-finds d state h found.1 some) (gains-same (may_cut (end_in state)) out.content)
+    (reason-found d p q found.0 state found.1) (counts-in state out.faults out.faults refl))
+
+-- a turn for which there was no memory
+pub memory-run : (d : Debugging) (moment : Option ℕ) (at : ℕ) (p q : PassState Entry) (out : Output) (lost : List ℕ)
+    → Told moment (λ ms. at ≡ ms) → Acts d p q (Ran 0 at lost) → HasRun d moment p q out out (Some ends.Memory)
+memory-run d moment at p q out lost told act =
+    let h = p.seen ++ act.between in
+    turn-run d moment p q out out (Ran 0 at lost) [] (Some ends.Memory) act (omega arith, told) (prints-none d h)
+    (ran-finds d h 0 at lost (Some ends.Memory)) (gains-same true out.content) tt refl
+
+-- ---- a turn with steps
+
+-- what a state says of the end, of the history that a turn left
+reason-left : (d : Debugging) (state : State) (h : List (ℕ × Entry)) → HasState d state h
+    → HasReason d (end_in state) h
+reason-left d states.Broken h is = tt
+reason-left d states.Shut h is = (h, ([], sym (append-nil h)), is)
+reason-left d states.Threw h is = is.1
+reason-left d states.Ended h is = is.1
+reason-left d states.Paused h is = tt
+reason-left d states.Waiting h is = tt
+reason-left d states.Ready h is = tt
+
+-- whose texts were written
+whole-run : (d : Debugging) (moment : Option ℕ) (at : ℕ) (p q : PassState Entry) (old new : Output)
+    (texts : List (List ℕ)) (state : State) → Told moment (λ ms. at ≡ ms) → Steps d 256 at p q texts
+    → HasState d state q.seen → new.content ≡ gains old.content (printed_lines texts) → new.faults ≡ old.faults
+    → HasRun d moment p q old new (end_in state)
+whole-run d moment at p q old new texts state told made is gained quiet =
+    let act = made.act.0 in
+    turn-run d moment p q old new (Ran made.steps at made.lost) texts (end_in state) act (made.within, told) made.act.1
+    (ran-finds d (p.seen ++ act.between) made.steps at made.lost (end_in state))
+    (gains-whole (may_cut (end_in state)) old.content new.content texts gained) (reason-left d state q.seen is)
+    (counts-in state old.faults new.faults quiet)
+
+-- whose texts weren't all written
+at-fault : (fault : SinkFault) → may_cut (Some (end_at fault)) ≡ true
+at-fault sink.Failed = refl
+at-fault sink.Memory = refl
+
+reason-fault : (d : Debugging) (fault : SinkFault) (h : List (ℕ × Entry)) → HasReason d (Some (end_at fault)) h
+reason-fault d sink.Failed h = tt
+reason-fault d sink.Memory h = tt
+
+part-run : (d : Debugging) (moment : Option ℕ) (at : ℕ) (p q : PassState Entry) (old new : Output)
+    (texts : List (List ℕ)) (fault : SinkFault) → Told moment (λ ms. at ≡ ms) → Steps d 256 at p q texts
+    → GainsPrefix old.content new.content (printed_lines texts) → Counts (Some (end_at fault)) old.faults new.faults
+    → HasRun d moment p q old new (Some (end_at fault))
+part-run d moment at p q old new texts fault told made gained counts =
+    let act = made.act.0 in
+    let end = Some (end_at fault) in
+    turn-run d moment p q old new (Ran made.steps at made.lost) texts end act (made.within, told) made.act.1
+    (ran-finds d (p.seen ++ act.between) made.steps at made.lost end)
+    (subst (λ (cut : Bool). GainsLines cut old.content new.content texts) (sym (at-fault fault)) gained)
+    (reason-fault d fault q.seen) counts
+
+-- and after which the program was shut
+shut-run : (d : Debugging) (moment : Option ℕ) (at : ℕ) (p m q : PassState Entry) (old new : Output)
+    (texts : List (List ℕ)) (fault : SinkFault) → Told moment (λ ms. at ≡ ms) → Steps d 256 at p m texts
+    → Acts d m q Shut → GainsPrefix old.content new.content (printed_lines texts)
+    → Counts (Some (end_at fault)) old.faults new.faults → HasRun d moment p q old new (Some (end_at fault))
+shut-run d moment at p m q old new texts fault told made act gained counts =
+    let end = Some (end_at fault) in
+    let ran = Ran made.steps at made.lost in
+    let first = goes d p m ran made.act.0 in
+    let second = goes d m q Shut act in record {
+      entries = ran ∷ Shut ∷ [];
+      goes = goes-on d p m q (ran ∷ []) (Shut ∷ []) first second;
+      left =
+          subst (λ (cut : Bool). AreLeft moment cut (ran ∷ Shut ∷ [])) (sym (at-fault fault))
+          (inr (ran ∷ [], refl, ((made.within, told), tt)));
+      idle =
+          idle-on d p.number p.seen m.seen q.seen end second.longer
+          (idle-turn d p m ran None made.act.0
+          (ran-finds d (p.seen ++ made.act.0.between) made.steps at made.lost None))
+          (subst (λ (k : ℕ). FindsIdle d k m.seen q.seen end) first.same.1
+          (idle-turn d m q Shut end act (shut-finds d (m.seen ++ act.between) end)));
+      writes =
+          writes-shut d p.number p m q act (may_cut end) old.content new.content first.same.1 first.longer
+          (part-run d moment at p m old new texts fault told made gained counts).writes;
+      reason = reason-fault d fault q.seen;
+      counts = counts;
+    }
+
+cut-run : (d : Debugging) (moment : Option ℕ) (at : ℕ) (p m q : PassState Entry) (old new : Output)
+    (texts : List (List ℕ)) (fault : SinkFault) → Told moment (λ ms. at ≡ ms) → Steps d 256 at p m texts
+    → IsShutAfter d m q → GainsPrefix old.content new.content (printed_lines texts)
+    → Counts (Some (end_at fault)) old.faults new.faults → HasRun d moment p q old new (Some (end_at fault))
+cut-run d moment at p m q old new texts fault told made (inl same) gained counts =
+    subst (λ (z : PassState Entry). HasRun d moment p z old new (Some (end_at fault))) (sym same)
+    (part-run d moment at p m old new texts fault told made gained counts)
+cut-run d moment at p m q old new texts fault told made (inr act) gained counts =
+    shut-run d moment at p m q old new texts fault told made act gained counts
+
+-- a turn with steps, after which a state says whether the run ends
+pub finish-run : (d : Debugging) (moment : Option ℕ) (at : ℕ) (p m q : PassState Entry) (old new : Output)
+    (texts : List (List ℕ)) (state : State) (end : Option RunEnd) → Told moment (λ ms. at ≡ ms)
+    → Steps d 256 at p m texts → HasState d state m.seen → Finishes d m q old new texts state end
+    → HasRun d moment p q old new end
+finish-run d moment at p m q old new texts state end told made is (inl all) =
+    subst (λ (z : PassState Entry × Option RunEnd). HasRun d moment p z.0 old new z.1)
+    (λ i. (sym all.1.0 i, sym all.0 i))
+    (whole-run d moment at p m old new texts state told made is all.1.1 all.1.2)
+finish-run d moment at p m q old new texts state end told made is (inr (e, same, (fault, at_fault, shut, gained, counts))) =
+    subst (λ (z : Option RunEnd). HasRun d moment p q old new z) (sym (same ∙ ap (λ (r : RunEnd). Some r) at_fault))
+    (cut-run d moment at p m q old new texts fault told made shut gained
+    (subst (λ (r : RunEnd). Counts (Some r) old.faults new.faults) at_fault counts))
