@@ -1,6 +1,6 @@
 //! A door over a listening socket.
 
-ghost use Rattle.std.specs.Prelude.{◌≡◌, ◌≢◌, None, IfOk};
+ghost use Rattle.std.specs.Prelude.{◌≡◌, None, IfOk};
 ghost use Rattle.socket_edge.specs.Counts.{IsNewDoor};
 
 use crate::handshakes::greet;

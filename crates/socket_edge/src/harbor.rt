@@ -1,6 +1,6 @@
 //! A harbor over the sockets of this machine.
 
-ghost use Rattle.std.specs.Prelude.{◌≡◌, ◌∷◌, [], None, length, map, All, IfOk};
+ghost use Rattle.std.specs.Prelude.{◌≡◌, None, length, All, IfOk};
 ghost use Rattle.server_edge.specs.Contents.{no_calls};
 ghost use Rattle.socket_edge.specs.Counts.{IsNewDoor, any_failed, after_shut};
 

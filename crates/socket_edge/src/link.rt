@@ -1,6 +1,6 @@
 //! A link over a socket.
 
-ghost use Rattle.std.specs.Prelude.{◌≡◌, ◌≢◌, None};
+ghost use Rattle.std.specs.Prelude.{◌≡◌, None};
 
 use crate::line::Line;
 use crate::waits::Waits;
