@@ -1,0 +1,62 @@
+//! What one thread waits with, for its sockets or for a ring of the bell.
+
+use mio::event::Source;
+use mio::{Events, Interest, Poll, Token, Waker};
+use std::alloc::Global;
+use std::io;
+use std::net::Net;
+use std::time::Duration;
+
+/// A socket that is watched.
+const SOCKET: Token = Token(0);
+
+/// The bell.
+const BELL: Token = Token(1);
+
+/// The sockets that are watched, and whether the bell was rung in a wait that was not for it.
+#[derive(Drop)]
+pub struct Waits {
+    poll: Poll,
+    events: Events,
+    is_rung: bool,
+}
+
+impl Waits {
+    /// Waits that watch no socket.
+    pub fn new<R: Net>(rt: &R, alloc: Global) -> io::Result<Waits> {
+        Ok(Waits {
+            poll: Poll::new(rt)?,
+            events: Events::with_capacity(alloc, 4)?,
+            is_rung: false,
+        })
+    }
+
+    /// What rings here. One is asked for.
+    pub fn waker(&self) -> io::Result<Waker> {
+        Waker::new(self.poll.registry(), BELL)
+    }
+
+    /// Watches a socket, both ways.
+    pub fn watch<S: Source>(&self, socket: &mut S) -> io::Result<()> {
+        let both = Interest::READABLE | Interest::WRITABLE;
+        self.poll.registry().register(socket, SOCKET, both)
+    }
+
+    /// Waits for a socket, this long. A ring ends the wait too, and is kept for `wait_or_ring`.
+    pub fn wait(&mut self, patience: Duration) -> io::Result<()> {
+        self.poll.poll(&mut self.events, Some(patience))?;
+        if self.events.iter().any(|event| event.token() == BELL) {
+            self.is_rung = true;
+        }
+        Ok(())
+    }
+
+    /// Waits for a socket or a ring, this long. A ring since the last such wait isn't lost.
+    pub fn wait_or_ring(&mut self, patience: Duration) -> io::Result<()> {
+        if !self.is_rung {
+            self.wait(patience)?;
+        }
+        self.is_rung = false;
+        Ok(())
+    }
+}
