@@ -21,7 +21,7 @@ use Rattle.host_turns.specs.States.{HasState}
 use Rattle.host_turns.specs.Turns.{Acts, Finds, Prints, Steps, printed_by}
 use Rattle.host_turns.specs.declared.state.State.{State}
 use Rattle.host_turns.specs.declared.state.State.TheVariants as states
-use Rattle.ws_service.specs.Programs.{AreLeft, AreTurns, Counts, FindsIdle, Finishes, GainsLines, HasReason, HasRun, IsIdle, IsLast, IsRunOf, IsShutAfter, IsTurn, OnlyRuns, Output, Writes, end_at, end_in, may_cut}
+use Rattle.ws_service.specs.Programs.{AreLeft, AreTurns, Counts, FindsDue, Finishes, GainsLines, HasReason, HasRun, IsDue, IsIdle, IsLast, IsRunOf, IsShutAfter, IsTurn, OnlyRuns, Output, Writes, end_at, end_in, may_cut}
 use Rattle.ws_service.specs.declared.program.RunEnd.{RunEnd}
 use Rattle.ws_service.specs.declared.program.RunEnd.TheVariants as ends
 use Rattle.ws_service.proofs.PassingLemmas.{goes, goes-none, goes-on}
@@ -108,87 +108,88 @@ falls (y ∷ m) b (z ∷ front) rest x is =
     falls-more y z x m front (same-head y z (m ++ b) (front ++ x ∷ rest) is)
     (falls m b front rest x (same-tail y z (m ++ b) (front ++ x ∷ rest) is))
 
--- ---- takings of nobody's texts
+-- ---- entries that were due
 
-idle-before : (d : Debugging) (front rest more : List (ℕ × Entry)) (end : Option RunEnd)
-    → IsIdle d front ⊎ IsLast None rest → IsIdle d front ⊎ IsLast end more
-idle-before d front rest more end (inl idle) = inl idle
-idle-before d front rest more end (inr last) = let none = last.0 in absurd cc
+due-before : (d : Debugging) (front rest more : List (ℕ × Entry)) (entry : Entry) (end : Option RunEnd)
+    → IsDue d front entry ⊎ IsLast None rest → IsDue d front entry ⊎ IsLast end more
+due-before d front rest more entry end (inl due) = inl due
+due-before d front rest more entry end (inr last) = let none = last.0 in absurd cc
 
-idle-at : (d : Debugging) (k : ℕ) (h m g front rest : List (ℕ × Entry)) (end : Option RunEnd)
-    → FindsIdle d k h m None → FindsIdle d k m g end → Begins h front → g ≡ front ++ (k, Take 0) ∷ rest
-    → Falls m front (k, Take 0) → IsIdle d front ⊎ IsLast end rest
-idle-at d k h m g front rest end first second begins is (inl later) = second front rest later is
-idle-at d k h m g front rest end first second begins is (inr within) =
-    idle-before d front within.0 rest end (first front within.0 begins within.1)
+due-at : (d : Debugging) (k : ℕ) (h m g front rest : List (ℕ × Entry)) (entry : Entry) (end : Option RunEnd)
+    → FindsDue d k h m None → FindsDue d k m g end → Begins h front → g ≡ front ++ (k, entry) ∷ rest
+    → Falls m front (k, entry) → IsDue d front entry ⊎ IsLast end rest
+due-at d k h m g front rest entry end first second begins is (inl later) = second front rest entry later is
+due-at d k h m g front rest entry end first second begins is (inr within) =
+    due-before d front within.0 rest entry end (first front within.0 entry begins within.1)
 
-idle-on : (d : Debugging) (k : ℕ) (h m g : List (ℕ × Entry)) (end : Option RunEnd) → Begins m g
-    → FindsIdle d k h m None → FindsIdle d k m g end → FindsIdle d k h g end
-idle-on d k h m g end longer first second = λ front rest begins is.
-    idle-at d k h m g front rest end first second begins is
-    (falls m longer.0 front rest (k, Take 0) (sym longer.1 ∙ is))
+due-on : (d : Debugging) (k : ℕ) (h m g : List (ℕ × Entry)) (end : Option RunEnd) → Begins m g
+    → FindsDue d k h m None → FindsDue d k m g end → FindsDue d k h g end
+due-on d k h m g end longer first second = λ front rest entry begins is.
+    due-at d k h m g front rest entry end first second begins is
+    (falls m longer.0 front rest (k, entry) (sym longer.1 ∙ is))
 
 -- where nothing is left
-idle-none : (d : Debugging) (k : ℕ) (h : List (ℕ × Entry)) (end : Option RunEnd) → FindsIdle d k h h end
-idle-none d k h end = λ front rest begins is.
-    let all : h ++ [] ≡ h ++ (begins.0 ++ (k, Take 0) ∷ rest) =
+due-none : (d : Debugging) (k : ℕ) (h : List (ℕ × Entry)) (end : Option RunEnd) → FindsDue d k h h end
+due-none d k h end = λ front rest entry begins is.
+    let all : h ++ [] ≡ h ++ (begins.0 ++ (k, entry) ∷ rest) =
     append-nil h
     ∙ is
-    ∙ ap (λ l. l ++ (k, Take 0) ∷ rest) begins.1
-    ∙ append_assoc h begins.0 ((k, Take 0) ∷ rest) in
-    absurd (some-after begins.0 rest (k, Take 0) (append_cancel_left h [] (begins.0 ++ (k, Take 0) ∷ rest) all))
+    ∙ ap (λ l. l ++ (k, entry) ∷ rest) begins.1
+    ∙ append_assoc h begins.0 ((k, entry) ∷ rest) in
+    absurd (some-after begins.0 rest (k, entry) (append_cancel_left h [] (begins.0 ++ (k, entry) ∷ rest) all))
 
--- what a turn found that took nobody's texts
+-- the entry of a turn was due, or there was no memory
 abbrev FindsAt : Debugging → List (ℕ × Entry) → Entry → Option RunEnd → Type 0
-FindsAt d h entry end = entry ≡ Take 0 → IsIdle d h ⊎ (end ≡ Some ends.Memory)
+FindsAt d h entry end = IsDue d h entry ⊎ (end ≡ Some ends.Memory)
 
-is-last : (d : Debugging) (h : List (ℕ × Entry)) (end : Option RunEnd) → IsIdle d h ⊎ (end ≡ Some ends.Memory)
-    → (rest : List (ℕ × Entry)) → rest ≡ [] → IsIdle d h ⊎ IsLast end rest
-is-last d h end (inl idle) rest none = inl idle
-is-last d h end (inr memory) rest none = inr (memory, none)
+is-last : (d : Debugging) (h : List (ℕ × Entry)) (entry : Entry) (end : Option RunEnd) → FindsAt d h entry end
+    → (rest : List (ℕ × Entry)) → rest ≡ [] → IsDue d h entry ⊎ IsLast end rest
+is-last d h entry end (inl due) rest none = inl due
+is-last d h entry end (inr memory) rest none = inr (memory, none)
 
 same-entry : (j k : ℕ) (entry other : Entry) → ◌≡◌ {A = ℕ × Entry} (j, entry) (k, other) → entry ≡ other
 same-entry j k entry other is = ap (λ (made : ℕ × Entry). made.1) is
 
-idle-last : (d : Debugging) (k : ℕ) (h front rest : List (ℕ × Entry)) (entry : Entry) (end : Option RunEnd)
-    → FindsAt d h entry end → Begins h front → h ++ (k, entry) ∷ [] ≡ front ++ (k, Take 0) ∷ rest
-    → IsIdle d front ⊎ IsLast end rest
-idle-last d k h front rest entry end found begins is =
-    let all : (k, entry) ∷ [] ≡ begins.0 ++ (k, Take 0) ∷ rest =
-    append_cancel_left h ((k, entry) ∷ []) (begins.0 ++ (k, Take 0) ∷ rest)
-    (is ∙ ap (λ l. l ++ (k, Take 0) ∷ rest) begins.1 ∙ append_assoc h begins.0 ((k, Take 0) ∷ rest)) in
-    let one = alone (k, entry) (k, Take 0) begins.0 rest all in
+due-last : (d : Debugging) (k : ℕ) (h front rest : List (ℕ × Entry)) (left entry : Entry) (end : Option RunEnd)
+    → FindsAt d h left end → Begins h front → h ++ (k, left) ∷ [] ≡ front ++ (k, entry) ∷ rest
+    → IsDue d front entry ⊎ IsLast end rest
+due-last d k h front rest left entry end found begins is =
+    let all : (k, left) ∷ [] ≡ begins.0 ++ (k, entry) ∷ rest =
+    append_cancel_left h ((k, left) ∷ []) (begins.0 ++ (k, entry) ∷ rest)
+    (is ∙ ap (λ l. l ++ (k, entry) ∷ rest) begins.1 ∙ append_assoc h begins.0 ((k, entry) ∷ rest)) in
+    let one = alone (k, left) (k, entry) begins.0 rest all in
     let front-same : front ≡ h = begins.1 ∙ ap (λ l. h ++ l) one.0 ∙ append-nil h in
-    subst (λ l. IsIdle d l ⊎ IsLast end rest) (sym front-same)
-    (is-last d h end (found (same-entry k k entry (Take 0) one.1)) rest one.2)
+    let same = same-entry k k left entry one.1 in
+    subst (λ l. IsDue d l entry ⊎ IsLast end rest) (sym front-same)
+    (is-last d h entry end (subst (λ (e : Entry). FindsAt d h e end) same found) rest one.2)
 
 -- there is none where this maker left nothing
-none-between : (k : ℕ) (h between front rest : List (ℕ × Entry)) → by k between ≡ [] → Begins h front
-    → h ++ between ≡ front ++ (k, Take 0) ∷ rest → ⊥
-none-between k h between front rest nothing begins is =
-    let all : between ≡ begins.0 ++ (k, Take 0) ∷ rest =
-    append_cancel_left h between (begins.0 ++ (k, Take 0) ∷ rest)
-    (is ∙ ap (λ l. l ++ (k, Take 0) ∷ rest) begins.1 ∙ append_assoc h begins.0 ((k, Take 0) ∷ rest)) in
-    some-after (by k begins.0) (by k rest) (Take 0)
+none-between : (k : ℕ) (h between front rest : List (ℕ × Entry)) (entry : Entry) → by k between ≡ [] → Begins h front
+    → h ++ between ≡ front ++ (k, entry) ∷ rest → ⊥
+none-between k h between front rest entry nothing begins is =
+    let all : between ≡ begins.0 ++ (k, entry) ∷ rest =
+    append_cancel_left h between (begins.0 ++ (k, entry) ∷ rest)
+    (is ∙ ap (λ l. l ++ (k, entry) ∷ rest) begins.1 ∙ append_assoc h begins.0 ((k, entry) ∷ rest)) in
+    some-after (by k begins.0) (by k rest) entry
     (sym nothing
     ∙ ap (by k) all
-    ∙ by-append k begins.0 ((k, Take 0) ∷ rest)
-    ∙ ap (λ l. by k begins.0 ++ l) (by-own k (Take 0) rest))
+    ∙ by-append k begins.0 ((k, entry) ∷ rest)
+    ∙ ap (λ l. by k begins.0 ++ l) (by-own k entry rest))
 
-idle-act : (d : Debugging) (k : ℕ) (h between front rest : List (ℕ × Entry)) (entry : Entry) (end : Option RunEnd)
-    → by k between ≡ [] → FindsAt d (h ++ between) entry end → Begins h front
-    → (h ++ between) ++ (k, entry) ∷ [] ≡ front ++ (k, Take 0) ∷ rest → Falls (h ++ between) front (k, Take 0)
-    → IsIdle d front ⊎ IsLast end rest
-idle-act d k h between front rest entry end nothing found begins is (inl later) =
-    idle-last d k (h ++ between) front rest entry end found later is
-idle-act d k h between front rest entry end nothing found begins is (inr within) =
-    absurd (none-between k h between front within.0 nothing begins within.1)
+due-act : (d : Debugging) (k : ℕ) (h between front rest : List (ℕ × Entry)) (left entry : Entry)
+    (end : Option RunEnd) → by k between ≡ [] → FindsAt d (h ++ between) left end → Begins h front
+    → (h ++ between) ++ (k, left) ∷ [] ≡ front ++ (k, entry) ∷ rest → Falls (h ++ between) front (k, entry)
+    → IsDue d front entry ⊎ IsLast end rest
+due-act d k h between front rest left entry end nothing found begins is (inl later) =
+    due-last d k (h ++ between) front rest left entry end found later is
+due-act d k h between front rest left entry end nothing found begins is (inr within) =
+    absurd (none-between k h between front within.0 entry nothing begins within.1)
 
-idle-turn : (d : Debugging) (p q : PassState Entry) (entry : Entry) (end : Option RunEnd) (act : Acts d p q entry)
-    → FindsAt d (p.seen ++ act.between) entry end → FindsIdle d p.number p.seen q.seen end
-idle-turn d p q entry end act found = λ front rest begins is.
-    idle-act d p.number p.seen act.between front rest entry end act.nothing found begins (sym act.seen ∙ is)
-    (falls (p.seen ++ act.between) ((p.number, entry) ∷ []) front rest (p.number, Take 0) (sym act.seen ∙ is))
+due-turn : (d : Debugging) (p q : PassState Entry) (left : Entry) (end : Option RunEnd) (act : Acts d p q left)
+    → FindsAt d (p.seen ++ act.between) left end → FindsDue d p.number p.seen q.seen end
+due-turn d p q left end act found = λ front rest entry begins is.
+    due-act d p.number p.seen act.between front rest left entry end act.nothing found begins (sym act.seen ∙ is)
+    (falls (p.seen ++ act.between) ((p.number, left) ∷ []) front rest (p.number, entry) (sym act.seen ∙ is))
 
 -- ---- output
 
@@ -315,7 +316,7 @@ none-run d moment p out end free reason counts = record {
   entries = [];
   goes = goes-none d p free;
   left = left-turns moment (may_cut end) [] tt;
-  idle = idle-none d p.number p.seen end;
+  due = due-none d p.number p.seen end;
   writes = writes-none d p.number (may_cut end) p.seen out.content;
   reason = reason;
   counts = counts;
@@ -335,9 +336,9 @@ run-on d moment p m q old mid new end a b = record {
   entries = a.entries ++ b.entries;
   goes = goes-on d p m q a.entries b.entries a.goes b.goes;
   left = left-on moment (may_cut end) a.entries b.entries a.left b.left;
-  idle =
-      idle-on d p.number p.seen m.seen q.seen end b.goes.longer a.idle
-      (subst (λ (k : ℕ). FindsIdle d k m.seen q.seen end) a.goes.same.1 b.idle);
+  due =
+      due-on d p.number p.seen m.seen q.seen end b.goes.longer a.due
+      (subst (λ (k : ℕ). FindsDue d k m.seen q.seen end) a.goes.same.1 b.due);
   writes =
       writes-on d p.number (may_cut end) p.seen m.seen q.seen old.content mid.content new.content a.goes.longer
       b.goes.longer a.writes
@@ -364,19 +365,11 @@ turn-run d moment p q old new entry texts end act turn prints found gained reaso
   entries = entry ∷ [];
   goes = goes d p q entry act;
   left = left-turns moment (may_cut end) (entry ∷ []) (turn, tt);
-  idle = idle-turn d p q entry end act found;
+  due = due-turn d p q entry end act found;
   writes = writes-turn d p q entry act (may_cut end) old.content new.content texts prints gained;
   reason = reason;
   counts = counts;
 }
-
--- a run takes no texts
-ran-finds : (d : Debugging) (h : List (ℕ × Entry)) (steps at : ℕ) (lost : List ℕ) (end : Option RunEnd)
-    → FindsAt d h (Ran steps at lost) end
-ran-finds d h steps at lost end = λ is. absurd cc
-
-shut-finds : (d : Debugging) (h : List (ℕ × Entry)) (end : Option RunEnd) → FindsAt d h Shut end
-shut-finds d h end = λ is. absurd cc
 
 -- ---- a turn without steps
 
@@ -389,10 +382,6 @@ idle-in d states.Ended h is some = inl (inr (inl is.1.0))
 idle-in d states.Paused h is some = inl (inr (inr (inl is)))
 idle-in d states.Waiting h is some = inl (inr (inr (inr is)))
 idle-in d states.Ready h is some = absurd (some refl)
-
-idle-finds : (d : Debugging) (state : State) (h : List (ℕ × Entry)) → HasState d state h → state ≢ states.Ready
-    → FindsAt d h (Take 0) (end_in state)
-idle-finds d state h is some = λ _. idle-in d state h is some
 
 -- the program is where it was
 stays : (d : Debugging) (p q : PassState Entry) (act : Acts d p q (Take 0))
@@ -435,7 +424,7 @@ idle-run d moment p q out state end is found some =
     let h = p.seen ++ found.0.between in
     subst (λ (e : Option RunEnd). HasRun d moment p q out out e) (sym is)
     (turn-run d moment p q out out (Take 0) [] (end_in state) found.0 refl (prints-none d h)
-    (idle-finds d state h found.1 some) (gains-same (may_cut (end_in state)) out.content)
+    (idle-in d state h found.1 some) (gains-same (may_cut (end_in state)) out.content)
     (reason-found d p q found.0 state found.1) (counts-in state out.faults out.faults refl))
 
 -- a turn for which there was no memory
@@ -443,8 +432,8 @@ pub memory-run : (d : Debugging) (moment : Option ℕ) (at : ℕ) (p q : PassSta
     → Told moment (λ ms. at ≡ ms) → Acts d p q (Ran 0 at lost) → HasRun d moment p q out out (Some ends.Memory)
 memory-run d moment at p q out lost told act =
     let h = p.seen ++ act.between in
-    turn-run d moment p q out out (Ran 0 at lost) [] (Some ends.Memory) act (omega arith, told) (prints-none d h)
-    (ran-finds d h 0 at lost (Some ends.Memory)) (gains-same true out.content) tt refl
+    turn-run d moment p q out out (Ran 0 at lost) [] (Some ends.Memory) act told (prints-none d h) (inr refl)
+    (gains-same true out.content) tt refl
 
 -- ---- a turn with steps
 
@@ -466,10 +455,9 @@ whole-run : (d : Debugging) (moment : Option ℕ) (at : ℕ) (p q : PassState En
     → HasRun d moment p q old new (end_in state)
 whole-run d moment at p q old new texts state told made is gained quiet =
     let act = made.act.0 in
-    turn-run d moment p q old new (Ran made.steps at made.lost) texts (end_in state) act (made.within, told) made.act.1
-    (ran-finds d (p.seen ++ act.between) made.steps at made.lost (end_in state))
-    (gains-whole (may_cut (end_in state)) old.content new.content texts gained) (reason-left d state q.seen is)
-    (counts-in state old.faults new.faults quiet)
+    turn-run d moment p q old new (Ran made.steps at made.lost) texts (end_in state) act told made.act.1
+    (inl made.longest) (gains-whole (may_cut (end_in state)) old.content new.content texts gained)
+    (reason-left d state q.seen is) (counts-in state old.faults new.faults quiet)
 
 -- whose texts weren't all written
 at-fault : (fault : SinkFault) → may_cut (Some (end_at fault)) ≡ true
@@ -487,8 +475,7 @@ part-run : (d : Debugging) (moment : Option ℕ) (at : ℕ) (p q : PassState Ent
 part-run d moment at p q old new texts fault told made gained counts =
     let act = made.act.0 in
     let end = Some (end_at fault) in
-    turn-run d moment p q old new (Ran made.steps at made.lost) texts end act (made.within, told) made.act.1
-    (ran-finds d (p.seen ++ act.between) made.steps at made.lost end)
+    turn-run d moment p q old new (Ran made.steps at made.lost) texts end act told made.act.1 (inl made.longest)
     (subst (λ (cut : Bool). GainsLines cut old.content new.content texts) (sym (at-fault fault)) gained)
     (reason-fault d fault q.seen) counts
 
@@ -506,13 +493,11 @@ shut-run d moment at p m q old new texts fault told made act gained counts =
       goes = goes-on d p m q (ran ∷ []) (Shut ∷ []) first second;
       left =
           subst (λ (cut : Bool). AreLeft moment cut (ran ∷ Shut ∷ [])) (sym (at-fault fault))
-          (inr (ran ∷ [], refl, ((made.within, told), tt)));
-      idle =
-          idle-on d p.number p.seen m.seen q.seen end second.longer
-          (idle-turn d p m ran None made.act.0
-          (ran-finds d (p.seen ++ made.act.0.between) made.steps at made.lost None))
-          (subst (λ (k : ℕ). FindsIdle d k m.seen q.seen end) first.same.1
-          (idle-turn d m q Shut end act (shut-finds d (m.seen ++ act.between) end)));
+          (inr (ran ∷ [], refl, (told, tt)));
+      due =
+          due-on d p.number p.seen m.seen q.seen end second.longer
+          (due-turn d p m ran None made.act.0 (inl made.longest))
+          (subst (λ (k : ℕ). FindsDue d k m.seen q.seen end) first.same.1 (due-turn d m q Shut end act (inl tt)));
       writes =
           writes-shut d p.number p m q act (may_cut end) old.content new.content first.same.1 first.longer
           (part-run d moment at p m old new texts fault told made gained counts).writes;

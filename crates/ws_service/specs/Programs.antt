@@ -1,5 +1,5 @@
 -- What running a program leaves in a history, and what its sink is given.
-use Rattle.std.specs.Prelude.{◌≡◌, ◌⊎◌, ◌≤◌, ℕ, List, [], ◌∷◌, ◌++◌, Bool, true, false, Option, Some, None}
+use Rattle.std.specs.Prelude.{◌≡◌, ◌⊎◌, ℕ, List, [], ◌∷◌, ◌++◌, Bool, true, false, Option, Some, None}
 use Rattle.isolation.specs.Histories.{Entry, Attach, Tell, Take, Detach, Ran, Shut, steps_made}
 use Rattle.isolation.specs.Makers.{entries_of}
 use Rattle.isolation.specs.Meanings.{is_paused, waits}
@@ -9,7 +9,7 @@ use Rattle.cdp_edge.specs.Outside.{GainsPrefix, Rose, Told, gains}
 use Rattle.cdp_edge.specs.declared.sink.SinkFault.{SinkFault}
 use Rattle.cdp_edge.specs.declared.sink.SinkFault.TheVariants as sink
 use Rattle.printing.specs.Printing.{printed_lines}
-use Rattle.host_turns.specs.Debuggings.{Debugging, meaning}
+use Rattle.host_turns.specs.Debuggings.{Debugging, IsLongest, meaning}
 use Rattle.host_turns.specs.States.{HasEnded, HasThrown, IsOver, IsShut}
 use Rattle.host_turns.specs.Turns.{Acts, printed_by}
 use Rattle.host_turns.specs.declared.state.State.{State}
@@ -57,13 +57,13 @@ HasReason d (Some ends.Memory) h = Unit {0}
 
 -- ---- entries
 
--- a turn of the program: at most 256 steps at this moment, where it is told, or a taking of nobody's texts
+-- a turn of the program: steps at this moment, where it is told, or a taking of nobody's texts
 abbrev pub IsTurn : Option ℕ → Entry → Type 0
 IsTurn moment Attach = ⊥
 IsTurn moment (Tell s text) = ⊥
 IsTurn moment (Take s) = s ≡ 0
 IsTurn moment (Detach s) = ⊥
-IsTurn moment (Ran steps at lost) = (steps ≤ 256) × Told moment (λ ms. at ≡ ms)
+IsTurn moment (Ran steps at lost) = Told moment (λ ms. at ≡ ms)
 IsTurn moment Shut = ⊥
 
 -- these are turns of the program
@@ -81,16 +81,25 @@ AreLeft moment true entries =
 abbrev pub IsIdle : Debugging → List (ℕ × Entry) → Type 0
 IsIdle d h = IsShut d h ⊎ IsOver d h ⊎ (is_paused (meaning d h) ≡ true) ⊎ (waits (meaning d h).phase ≡ true)
 
+-- an entry was due after a history: the longest run of at most 256 steps, or a taking where no step is to be made
+abbrev pub IsDue : Debugging → List (ℕ × Entry) → Entry → Type 0
+IsDue d front Attach = Unit {0}
+IsDue d front (Tell s text) = Unit {0}
+IsDue d front (Take s) = IsIdle d front
+IsDue d front (Detach s) = Unit {0}
+IsDue d front (Ran steps moment lost) = IsLongest d 256 moment front steps lost
+IsDue d front Shut = Unit {0}
+
 -- no entry follows, and the run ended for want of memory
 abbrev pub IsLast : Option RunEnd → List (ℕ × Entry) → Type 0
 IsLast end rest = (end ≡ Some ends.Memory) × (rest ≡ [])
 
--- A history goes on to a longer one: where this maker took nobody's texts, it found that no step was to be made, or
--- that was the last entry before an end for want of memory.
-abbrev pub FindsIdle : Debugging → ℕ → List (ℕ × Entry) → List (ℕ × Entry) → Option RunEnd → Type 0
-FindsIdle d k old new end =
-    (front rest : List (ℕ × Entry)) → Begins old front → new ≡ front ++ (k, Take 0) ∷ rest
-    → IsIdle d front ⊎ IsLast end rest
+-- A history goes on to a longer one: each entry of this maker was due after what came before it, or it was the last
+-- entry before an end for want of memory.
+abbrev pub FindsDue : Debugging → ℕ → List (ℕ × Entry) → List (ℕ × Entry) → Option RunEnd → Type 0
+FindsDue d k old new end =
+    (front rest : List (ℕ × Entry)) (entry : Entry) → Begins old front → new ≡ front ++ (k, entry) ∷ rest
+    → IsDue d front entry ⊎ IsLast end rest
 
 -- ---- output
 
@@ -150,7 +159,7 @@ pub record HasRun (d : Debugging) (moment : Option ℕ) (p q : PassState Entry) 
   pub entries : List Entry
   pub goes : Goes d p q entries
   pub left : AreLeft moment (may_cut end) entries
-  pub idle : FindsIdle d p.number p.seen q.seen end
+  pub due : FindsDue d p.number p.seen q.seen end
   pub writes : Writes d p.number (may_cut end) p.seen q.seen old.content new.content
   pub reason : HasReason d end q.seen
   pub counts : Counts end old.faults new.faults

@@ -3,7 +3,7 @@
 ghost use Rattle.std.specs.Prelude.{◌≡◌, List, Some, false};
 ghost use Rattle.isolation.specs.Histories.{Entry as AnyEntry};
 ghost use Rattle.ws_service.specs.Passing.{Goes};
-ghost use Rattle.ws_service.specs.Programs.{AreLeft, Counts, FindsIdle, Finishes, HasReason, HasRun, IsShutAfter, Puts, Writes, end_at, end_in, may_cut};
+ghost use Rattle.ws_service.specs.Programs.{AreLeft, Counts, FindsDue, Finishes, HasReason, HasRun, IsShutAfter, Puts, Writes, end_at, end_in, may_cut};
 
 use cdp_edge::{Sink, SinkFault};
 use cdp_text::units::Units;
@@ -160,8 +160,9 @@ pub fn run_program<H: Hosted<B>, B, D: Bell, O: Sink, C: Clock, R: Wait>(
     requires free { p.old.in_turn ≡ false }
     // The pass left turns of the program alone, and a shut at last only where output may be missing.
     ensures goes { (entries : List AnyEntry) × Goes H.debugs p.old p.new entries × AreLeft (C.moment clock.old) (may_cut (Some result)) entries }
-    // It left a turn without steps only where none were to be made.
-    ensures idle { FindsIdle H.debugs p.old.number p.old.seen p.new.seen (Some result) }
+    // Each turn made the longest run of at most 256 steps, or none where none were to be made. The last one before an
+    // end for want of memory may have made none.
+    ensures due { FindsDue H.debugs p.old.number p.old.seen p.new.seen (Some result) }
     // Where nobody else makes steps, the sink took exactly what the steps print, or a first part of it.
     ensures writes { Writes H.debugs p.old.number (may_cut (Some result)) p.old.seen p.new.seen (O.content out.old) (O.content out.new) }
     ensures reason { HasReason H.debugs (Some result) p.new.seen }

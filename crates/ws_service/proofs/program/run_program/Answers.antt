@@ -40,8 +40,8 @@ ended g c =
 pub returns-in-Some-advance-clause-goes : goal.returns-in-Some-advance-clause-goes
 returns-in-Some-advance-clause-goes g c = let r = ended g c in (r.entries, r.goes, r.left)
 
-pub returns-in-Some-advance-clause-idle : goal.returns-in-Some-advance-clause-idle
-returns-in-Some-advance-clause-idle g c = (ended g c).idle
+pub returns-in-Some-advance-clause-due : goal.returns-in-Some-advance-clause-due
+returns-in-Some-advance-clause-due g c = (ended g c).due
 
 pub returns-in-Some-advance-clause-writes : goal.returns-in-Some-advance-clause-writes
 returns-in-Some-advance-clause-writes g c = (ended g c).writes
