@@ -160,8 +160,8 @@ pub fn run_program<H: Hosted<B>, B, D: Bell, O: Sink, C: Clock, R: Wait>(
     requires free { p.old.in_turn ≡ false }
     // The pass left turns of the program alone, and a shut at last only where output may be missing.
     ensures goes { (entries : List AnyEntry) × Goes H.debugs p.old p.new entries × AreLeft (C.moment clock.old) (may_cut (Some result)) entries }
-    // Each turn made the longest run of at most 256 steps, or none where none were to be made. The last one before an
-    // end for want of memory may have made none.
+    // Each turn made the longest run of at most 256 steps, or none where none were to be made. Nothing is asked of the
+    // last one before an end for want of memory.
     ensures due { FindsDue H.debugs p.old.number p.old.seen p.new.seen (Some result) }
     // Where nobody else makes steps, the sink took exactly what the steps print, or a first part of it.
     ensures writes { Writes H.debugs p.old.number (may_cut (Some result)) p.old.seen p.new.seen (O.content out.old) (O.content out.new) }
