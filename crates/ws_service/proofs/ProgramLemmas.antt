@@ -111,13 +111,13 @@ falls (y ∷ m) b (z ∷ front) rest x is =
 -- ---- entries that were due
 
 due-before : (d : Debugging) (front rest more : List (ℕ × Entry)) (entry : Entry) (end : Option RunEnd)
-    → IsDue d front entry ⊎ IsLast None rest → IsDue d front entry ⊎ IsLast end more
+    → IsDue d front entry ⊎ IsLast None entry rest → IsDue d front entry ⊎ IsLast end entry more
 due-before d front rest more entry end (inl due) = inl due
 due-before d front rest more entry end (inr last) = let none = last.0 in absurd cc
 
 due-at : (d : Debugging) (k : ℕ) (h m g front rest : List (ℕ × Entry)) (entry : Entry) (end : Option RunEnd)
     → FindsDue d k h m None → FindsDue d k m g end → Begins h front → g ≡ front ++ (k, entry) ∷ rest
-    → Falls m front (k, entry) → IsDue d front entry ⊎ IsLast end rest
+    → Falls m front (k, entry) → IsDue d front entry ⊎ IsLast end entry rest
 due-at d k h m g front rest entry end first second begins is (inl later) = second front rest entry later is
 due-at d k h m g front rest entry end first second begins is (inr within) =
     due-before d front within.0 rest entry end (first front within.0 entry begins within.1)
@@ -138,21 +138,21 @@ due-none d k h end = λ front rest entry begins is.
     ∙ append_assoc h begins.0 ((k, entry) ∷ rest) in
     absurd (some-after begins.0 rest (k, entry) (append_cancel_left h [] (begins.0 ++ (k, entry) ∷ rest) all))
 
--- the entry of a turn was due, or there was no memory
+-- the entry of a turn was due, or there was no memory, and it made no step
 abbrev FindsAt : Debugging → List (ℕ × Entry) → Entry → Option RunEnd → Type 0
-FindsAt d h entry end = IsDue d h entry ⊎ (end ≡ Some ends.Memory)
+FindsAt d h entry end = IsDue d h entry ⊎ ((end ≡ Some ends.Memory) × (steps_of entry ≡ 0))
 
 is-last : (d : Debugging) (h : List (ℕ × Entry)) (entry : Entry) (end : Option RunEnd) → FindsAt d h entry end
-    → (rest : List (ℕ × Entry)) → rest ≡ [] → IsDue d h entry ⊎ IsLast end rest
+    → (rest : List (ℕ × Entry)) → rest ≡ [] → IsDue d h entry ⊎ IsLast end entry rest
 is-last d h entry end (inl due) rest none = inl due
-is-last d h entry end (inr memory) rest none = inr (memory, none)
+is-last d h entry end (inr memory) rest none = inr (memory.0, memory.1, none)
 
 same-entry : (j k : ℕ) (entry other : Entry) → ◌≡◌ {A = ℕ × Entry} (j, entry) (k, other) → entry ≡ other
 same-entry j k entry other is = ap (λ (made : ℕ × Entry). made.1) is
 
 due-last : (d : Debugging) (k : ℕ) (h front rest : List (ℕ × Entry)) (left entry : Entry) (end : Option RunEnd)
     → FindsAt d h left end → Begins h front → h ++ (k, left) ∷ [] ≡ front ++ (k, entry) ∷ rest
-    → IsDue d front entry ⊎ IsLast end rest
+    → IsDue d front entry ⊎ IsLast end entry rest
 due-last d k h front rest left entry end found begins is =
     let all : (k, left) ∷ [] ≡ begins.0 ++ (k, entry) ∷ rest =
     append_cancel_left h ((k, left) ∷ []) (begins.0 ++ (k, entry) ∷ rest)
@@ -160,7 +160,7 @@ due-last d k h front rest left entry end found begins is =
     let one = alone (k, left) (k, entry) begins.0 rest all in
     let front-same : front ≡ h = begins.1 ∙ ap (λ l. h ++ l) one.0 ∙ append-nil h in
     let same = same-entry k k left entry one.1 in
-    subst (λ l. IsDue d l entry ⊎ IsLast end rest) (sym front-same)
+    subst (λ l. IsDue d l entry ⊎ IsLast end entry rest) (sym front-same)
     (is-last d h entry end (subst (λ (e : Entry). FindsAt d h e end) same found) rest one.2)
 
 -- there is none where this maker left nothing
@@ -179,7 +179,7 @@ none-between k h between front rest entry nothing begins is =
 due-act : (d : Debugging) (k : ℕ) (h between front rest : List (ℕ × Entry)) (left entry : Entry)
     (end : Option RunEnd) → by k between ≡ [] → FindsAt d (h ++ between) left end → Begins h front
     → (h ++ between) ++ (k, left) ∷ [] ≡ front ++ (k, entry) ∷ rest → Falls (h ++ between) front (k, entry)
-    → IsDue d front entry ⊎ IsLast end rest
+    → IsDue d front entry ⊎ IsLast end entry rest
 due-act d k h between front rest left entry end nothing found begins is (inl later) =
     due-last d k (h ++ between) front rest left entry end found later is
 due-act d k h between front rest left entry end nothing found begins is (inr within) =
@@ -374,8 +374,8 @@ turn-run d moment p q old new entry texts end act turn prints found gained reaso
 -- ---- a turn without steps
 
 idle-in : (d : Debugging) (state : State) (h : List (ℕ × Entry)) → HasState d state h → state ≢ states.Ready
-    → IsIdle d h ⊎ (end_in state ≡ Some ends.Memory)
-idle-in d states.Broken h is some = inr refl
+    → FindsAt d h (Take 0) (end_in state)
+idle-in d states.Broken h is some = inr (refl, refl)
 idle-in d states.Shut h is some = inl (inl is)
 idle-in d states.Threw h is some = inl (inr (inl is.1.0))
 idle-in d states.Ended h is some = inl (inr (inl is.1.0))
@@ -432,7 +432,7 @@ pub memory-run : (d : Debugging) (moment : Option ℕ) (at : ℕ) (p q : PassSta
     → Told moment (λ ms. at ≡ ms) → Acts d p q (Ran 0 at lost) → HasRun d moment p q out out (Some ends.Memory)
 memory-run d moment at p q out lost told act =
     let h = p.seen ++ act.between in
-    turn-run d moment p q out out (Ran 0 at lost) [] (Some ends.Memory) act told (prints-none d h) (inr refl)
+    turn-run d moment p q out out (Ran 0 at lost) [] (Some ends.Memory) act told (prints-none d h) (inr (refl, refl))
     (gains-same true out.content) tt refl
 
 -- ---- a turn with steps

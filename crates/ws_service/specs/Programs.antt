@@ -1,6 +1,6 @@
 -- What running a program leaves in a history, and what its sink is given.
 use Rattle.std.specs.Prelude.{◌≡◌, ◌⊎◌, ℕ, List, [], ◌∷◌, ◌++◌, Bool, true, false, Option, Some, None}
-use Rattle.isolation.specs.Histories.{Entry, Attach, Tell, Take, Detach, Ran, Shut, steps_made}
+use Rattle.isolation.specs.Histories.{Entry, Attach, Tell, Take, Detach, Ran, Shut, steps_made, steps_of}
 use Rattle.isolation.specs.Makers.{entries_of}
 use Rattle.isolation.specs.Meanings.{is_paused, waits}
 use Rattle.history_lock.specs.Histories.{Begins, limit}
@@ -90,16 +90,16 @@ IsDue d front (Detach s) = Unit {0}
 IsDue d front (Ran steps moment lost) = IsLongest d 256 moment front steps lost
 IsDue d front Shut = Unit {0}
 
--- no entry follows, and the run ended for want of memory
-abbrev pub IsLast : Option RunEnd → List (ℕ × Entry) → Type 0
-IsLast end rest = (end ≡ Some ends.Memory) × (rest ≡ [])
+-- this entry made no step, none follows, and the run ended for want of memory
+abbrev pub IsLast : Option RunEnd → Entry → List (ℕ × Entry) → Type 0
+IsLast end entry rest = (end ≡ Some ends.Memory) × (steps_of entry ≡ 0) × (rest ≡ [])
 
 -- A history goes on to a longer one: each entry of this maker was due after what came before it, or it was the last
--- entry before an end for want of memory.
+-- entry before an end for want of memory, and made no step.
 abbrev pub FindsDue : Debugging → ℕ → List (ℕ × Entry) → List (ℕ × Entry) → Option RunEnd → Type 0
 FindsDue d k old new end =
     (front rest : List (ℕ × Entry)) (entry : Entry) → Begins old front → new ≡ front ++ (k, entry) ∷ rest
-    → IsDue d front entry ⊎ IsLast end rest
+    → IsDue d front entry ⊎ IsLast end entry rest
 
 -- ---- output
 
