@@ -1,9 +1,9 @@
 -- A host stands for histories in which each session is its owner's.
 use Rattle.std.specs.declared.alloc.AllocError.{AllocError}
-use Rattle.std.proofs.Common.{Result, Ok, Err, IfOk, IsErr, OnOk, ◌≡◌, ◌≢◌, ◌⊎◌, inl, inr, ℕ, zero, suc, ◌+◌, ◌<◌, List, [], ◌∷◌, ◌++◌, length, Bool, true, false, ◌||◌, if◌then◌else◌, refl, ap, sym, subst, ◌∙◌, append-nil, arith}
+use Rattle.std.proofs.Common.{Result, Ok, Err, IfOk, IsErr, OnOk, ◌≡◌, ◌≢◌, ◌⊎◌, inl, inr, ℕ, zero, suc, ◌+◌, List, [], ◌∷◌, ◌++◌, length, Bool, true, false, ◌||◌, if◌then◌else◌, refl, ap, sym, subst, ◌∙◌, arith}
 use Rattle.std.proofs.lemmas.List.{map-append}
-use Rattle.isolation.specs.Histories.{Entry, Attach, Tell, Take, Detach, Ran, apply as apply_any, steps_made, waiting}
-use Rattle.isolation.specs.Makers.{AreOwned, IsOwned, Owns, entries_of, entry_of, owners_from}
+use Rattle.isolation.specs.Histories.{Entry, Tell, Take, Detach, Ran, apply as apply_any, steps_made, waiting}
+use Rattle.isolation.specs.Makers.{IsOwned, Owns, entries_of, entry_of, owners_from}
 use Rattle.isolation.specs.Meanings.{is_paused, is_ready, settle, waits, with_seats}
 use Rattle.isolation.specs.Runs.{IsLongest, mid, mids}
 use Rattle.isolation.specs.Seats.{each, fallen, is_attached, is_listed, numbers_from, reported, seat_of, some, without, without_from}

@@ -1,4 +1,3 @@
-use Rattle.std.proofs.Common.{sym, ◌∙◌}
 use Rattle.isolation.specs.Histories.{Ran}
 use Rattle.host_turns.specs.Entries.{lost_for_memory}
 use Rattle.cdp_host.proofs.HostedLemmas.{owned-fails, owned-longest, owned-on, owned-prints}
