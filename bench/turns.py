@@ -142,7 +142,7 @@ def least(path, folder, threads, turns, seconds, times):
 def main():
     total = int(sys.argv[1]) if len(sys.argv) > 1 else 200000
     with tempfile.TemporaryDirectory() as folder:
-        lock, mutex = Program(folder, LOCK, ["history_lock"]).path, mutex_program(folder)
+        lock, mutex = Program(folder, LOCK, ["atomic_table", "isolation", "history_lock", "anyhow"]).path, mutex_program(folder)
         for threads in [1, 2, 4, 16]:
             ours, plain = (least(path, folder, threads, total // threads, 0, 5) for path in [lock, mutex])
             print(
