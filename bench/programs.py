@@ -41,7 +41,6 @@ def write_crate(folder, text, uses):
         open(os.path.join(crates, "bench", part, "Lib.antt"), "w").close()
     with open(os.path.join(crates, "bench", "src", "main.rt"), "w") as f:
         f.write(text)
-    shutil.copy(os.path.join(TOP, "HANDLES"), folder)
     with open(os.path.join(folder, "crates.txt"), "w") as f:
         f.writelines(f"{name}: {' '.join(lines[name])}\n" for name in below(uses, lines))
         f.write(f"bench: {' '.join(uses)}\n")
