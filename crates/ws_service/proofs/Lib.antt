@@ -4,4 +4,5 @@ pub mod SendLemmas
 pub mod SessionLemmas
 pub mod VisitLemmas
 pub mod DoorLemmas
+pub mod JoinLemmas
 pub mod ProgramLemmas

@@ -12,6 +12,7 @@
 mod beside;
 mod desk;
 mod door;
+mod join;
 mod program;
 mod served;
 mod session;
@@ -19,6 +20,7 @@ mod session;
 pub use beside::{Runner, run_beside};
 pub use desk::{Desk, Work, work_all};
 pub use door::{DoorEnd, serve_door};
+pub use join::join_all;
 pub use program::{RunEnd, run_program};
 pub use served::Served;
 pub use session::serve_session;
