@@ -4,4 +4,6 @@ pub mod SendLemmas
 pub mod SessionLemmas
 pub mod VisitLemmas
 pub mod DoorLemmas
+pub mod JoinLemmas
 pub mod ProgramLemmas
+pub mod OutputLemmas

@@ -1,5 +1,6 @@
 pub mod Connections
 pub mod Doors
+pub mod Joins
 pub mod Passing
 pub mod Programs
 pub mod Sessions

@@ -9,12 +9,18 @@
 //! - *act*: what a pass does at a door: it serves a link that arrived (`Visit`), or looks whether the program is over
 #![tactic(auto)]
 
+mod beside;
+mod desk;
 mod door;
+mod join;
 mod program;
 mod served;
 mod session;
 
+pub use beside::{Runner, run_beside};
+pub use desk::{Desk, Work, work_all};
 pub use door::{DoorEnd, serve_door};
+pub use join::join_all;
 pub use program::{RunEnd, run_program};
 pub use served::Served;
 pub use session::serve_session;

@@ -1,0 +1,191 @@
+-- A door that was served stays so in every history that goes on without its maker.
+use Rattle.std.proofs.Common.{◌≡◌, ℕ, List, All, [], ◌∷◌, ◌++◌, map, Bool, true, false, if◌then◌else◌, nat_lt, length, Option as Opt, Some, None, refl, ap, sym, subst, ◌∙◌, append_assoc, append-nil}
+use Rattle.std.proofs.lemmas.List.Elements.{All-nil, All-push, All-weaker}
+use Rattle.isolation.specs.Histories.{Entry}
+use Rattle.isolation.specs.Makers.{IsNoTake, Owns, TakesNone, by}
+use Rattle.cdp_edge.specs.Outside.{Told}
+use Rattle.history_lock.specs.Histories.{Begins, has, longer}
+use Rattle.history_lock.specs.Passes.{KeepsWhole, PassState, joined_pass}
+use Rattle.history_lock.proofs.Facts.{begins_same, by_behind, has_behind, has_front}
+use Rattle.server_edge.specs.Contents.{Tended, adds}
+use Rattle.host_turns.specs.Debuggings.{Debugging, IsHistory}
+use Rattle.ws_service.specs.Doors.{EndsDoor, IsTended, asked_more, questions}
+use Rattle.ws_service.specs.Joins.{HasServed, IsServedDoor, joined_passes}
+use Rattle.ws_service.specs.Visits.{AreActs, AreNew, entries_of, links_of, sessions_of}
+use Rattle.ws_service.specs.declared.door.DoorEnd.{DoorEnd}
+use Rattle.ws_service.proofs.PassingLemmas.{begins-on, was-longer}
+use Rattle.ws_service.proofs.VisitLemmas.{acts-stay}
+
+-- ---- one door
+
+told-added : {A : Type 0} (old new : Opt (List A)) (more : List A) → Told old (λ told. told ≡ []) → new ≡ adds old more
+    → Told new (λ told. told ≡ more)
+told-added None new more none is = subst (λ o. Told o (λ told. told ≡ more)) (sym is) tt
+told-added (Some old) new more none is =
+    subst (λ o. Told o (λ told. told ≡ more)) (sym is) (ap (λ l. l ++ more) none)
+
+-- a pass that has seen nothing goes on to a history
+pub history-of : (d : Debugging) (q : PassState Entry) (door : Tended) (ended : Opt DoorEnd) → HasServed d q door ended
+    → IsHistory d q.seen
+history-of d q door ended s =
+    s.tended.tends.goes.history (subst (IsHistory d) (sym s.start) (record { fits = tt; owned = tt }))
+
+-- over what the pass has seen
+served-at : (d : Debugging) (q : PassState Entry) (door : Tended) (ended : Opt DoorEnd) → HasServed d q door ended
+    → IsServedDoor d q.number q.seen door ended
+served-at d q door ended s =
+    let t = s.tended in
+    let k : s.first.number ≡ q.number = sym t.tends.goes.same.1 in
+    record {
+      acts = t.acts;
+      last = t.last;
+      end = s.end;
+      own =
+          subst (λ (n : ℕ). by n q.seen ≡ entries_of t.acts ++ t.last) k
+          (subst (λ h. by s.first.number q.seen ≡ by s.first.number h ++ (entries_of t.acts ++ t.last)) s.start
+          t.tends.goes.own);
+      are = subst (λ (n : ℕ). AreActs d n q.seen t.acts) k t.tends.are;
+      apart = subst (λ h. AreNew h (sessions_of t.acts)) s.start t.tends.new;
+      links = told-added s.unasked.served door.served (links_of t.acts) s.is_new.2 t.links;
+      home = t.home;
+      asks = t.asks ∙ ap (asked_more (questions s.end t.acts)) s.is_new.1;
+      once = t.once;
+      ends = (
+        q.seen,
+        begins_same q.seen,
+        subst (λ (n : ℕ). EndsDoor d n q.seen s.end t.last 0 door.faults) k
+            (subst (λ (n : ℕ). EndsDoor d s.first.number q.seen s.end t.last n door.faults) s.is_new.0 t.ends),
+      );
+      is_end = s.is_end;
+    }
+
+-- over a longer history without further entries of its maker
+served-longer : (d : Debugging) (k : ℕ) (h g : List (ℕ × Entry)) (door : Tended) (ended : Opt DoorEnd) → Begins h g
+    → by k g ≡ by k h → IsHistory d g → IsServedDoor d k h door ended → IsServedDoor d k g door ended
+served-longer d k h g door ended longer own is s = record {
+  acts = s.acts;
+  last = s.last;
+  end = s.end;
+  own = own ∙ s.own;
+  are =
+      subst (λ l. AreActs d k l s.acts) (sym longer.1)
+      (acts-stay d k h longer.0 s.acts (subst (IsHistory d) longer.1 is)
+      (λ r owns. subst (TakesNone r) (sym (by_behind k h longer.0 g longer.1 own)) (All-nil (IsNoTake r))) s.are);
+  apart = s.apart;
+  links = s.links;
+  home = s.home;
+  asks = s.asks;
+  once = s.once;
+  ends = was-longer (λ seen. EndsDoor d k seen s.end s.last 0 door.faults) h g longer s.ends;
+  is_end = s.is_end;
+}
+
+-- ---- passes joined, one after another
+
+either : {A : Type 0} (P : A → Type 0) (test : Bool) (x y : A) → P x → P y → P (if test then y else x)
+either P true x y a b = b
+either P false x y a b = a
+
+joined-push : (p : PassState Entry) (passes : List (PassState Entry)) (q : PassState Entry)
+    → joined_passes p (passes ++ q ∷ []) ≡ joined_pass (joined_passes p passes) q
+joined-push p [] q = refl
+joined-push p (r ∷ passes) q = joined-push (joined_pass p r) passes q
+
+map-push : {A B : Type 0} (f : A → B) (xs : List A) (x : A) → map f (xs ++ x ∷ []) ≡ map f xs ++ f x ∷ []
+map-push f [] x = refl
+map-push f (y ∷ xs) x = ap (λ l. f y ∷ l) (map-push f xs x)
+
+-- one more is handed back
+pub pushed : {X Y : Type 0} (f : X → Y) (old : List Y) (xs : List X) (x : X) (before after : List Y) (y : Y)
+    → after ≡ before ++ y ∷ [] → before ≡ old ++ map f xs → y ≡ f x → after ≡ old ++ map f (xs ++ x ∷ [])
+pushed f old xs x before after y is so at =
+    is
+    ∙ ap (λ l. l ++ y ∷ []) so
+    ∙ ap (λ z. (old ++ map f xs) ++ z ∷ []) at
+    ∙ append_assoc old (map f xs) (f x ∷ [])
+    ∙ ap (λ l. old ++ l) (sym (map-push f xs x))
+
+-- the passes of these desks were joined into one
+pub record Joining {X : Type 0} (d : Debugging) (pass : X → PassState Entry) (door : X → Tended)
+    (ended : X → Opt DoorEnd) (p q : PassState Entry) (desks : List X) : Type 0 where
+  pub joined : q ≡ joined_passes p (map pass desks)
+  pub lock : q.lock ≡ p.lock
+  pub free : q.in_turn ≡ false
+  pub history : IsHistory d q.seen
+  pub longer : Begins p.seen q.seen
+  pub own : KeepsWhole p q.seen
+  pub named : (x : ℕ) → has x p.numbers ≡ true → has x q.numbers ≡ true
+  pub served :
+      All (λ x. IsServedDoor d (pass x).number q.seen (door x) (ended x) × (has (pass x).number q.numbers ≡ true))
+      desks
+
+module _ {X : Type 0} (d : Debugging) (pass : X → PassState Entry) (door : X → Tended) (ended : X → Opt DoorEnd) where
+  pub joining-none : (p : PassState Entry) → p.in_turn ≡ false → IsHistory d p.seen → Joining d pass door ended p p []
+  joining-none p free is = record {
+    joined = refl;
+    lock = refl;
+    free = free;
+    history = is;
+    longer = begins_same p.seen;
+    own = λ x y. refl;
+    named = λ x y. y;
+    served =
+        All-nil
+        (λ x. IsServedDoor d (pass x).number p.seen (door x) (ended x) × (has (pass x).number p.numbers ≡ true));
+  }
+
+  number-named : (x : X) → HasServed d (pass x) (door x) (ended x) → has (pass x).number (pass x).numbers ≡ true
+  number-named x s =
+      let same = s.tended.tends.goes.same in
+      ap (λ l. has (pass x).number l) same.2 ∙ ap (λ (n : ℕ). has n s.first.numbers) same.1 ∙ s.named
+
+  pub joining-on : (p m q : PassState Entry) (desks : List X) (x : X) → Joining d pass door ended p m desks
+      → HasServed d (pass x) (door x) (ended x) → q ≡ joined_pass m (pass x) → Begins m.seen q.seen
+      → Begins (pass x).seen q.seen → KeepsWhole m q.seen → KeepsWhole (pass x) q.seen
+      → Joining d pass door ended p q (desks ++ x ∷ [])
+  joining-on p m q desks x j s is b c own others = record {
+    joined =
+        is
+        ∙ ap (λ z. joined_pass z (pass x)) j.joined
+        ∙ sym (joined-push p (map pass desks) (pass x))
+        ∙ ap (joined_passes p) (sym (map-push pass desks x));
+    lock = ap (λ z. z.lock) is ∙ j.lock;
+    free = ap (λ z. z.in_turn) is ∙ j.free;
+    history = history;
+    longer = begins-on p.seen m.seen q.seen j.longer b;
+    own = λ y at. own y (j.named y at) ∙ j.own y at;
+    named = λ y at. front y (j.named y at);
+    served =
+        All-push P desks x
+        (All-weaker
+        (λ y. IsServedDoor d (pass y).number m.seen (door y) (ended y) × (has (pass y).number m.numbers ≡ true)) P
+        (λ y at. (
+          served-longer d (pass y).number m.seen q.seen (door y) (ended y) b (own (pass y).number at.1) history at.0,
+          front (pass y).number at.1,
+        ))
+        desks j.served) (
+          served-longer d (pass x).number (pass x).seen q.seen (door x) (ended x) c
+              (others (pass x).number (number-named x s)) history (served-at d (pass x) (door x) (ended x) s),
+          ap (λ z. has (pass x).number z.numbers) is
+              ∙ has_behind (pass x).number m.numbers (pass x).numbers (number-named x s),
+        );
+  }
+    where
+      P : X → Type 0
+      P y = IsServedDoor d (pass y).number q.seen (door y) (ended y) × (has (pass y).number q.numbers ≡ true)
+
+      front : (y : ℕ) → has y m.numbers ≡ true → has y q.numbers ≡ true
+      front y at = ap (λ z. has y z.numbers) is ∙ has_front y m.numbers (pass x).numbers at
+
+      history : IsHistory d q.seen
+      history =
+          subst (λ z. IsHistory d z.seen) (sym is)
+          (either (IsHistory d) (nat_lt (length m.seen) (length (pass x).seen)) m.seen (pass x).seen j.history
+          (history-of d (pass x) (door x) (ended x) s))
+
+  -- each door is served over the joined history
+  pub served-in : (p q : PassState Entry) (desks : List X) → Joining d pass door ended p q desks
+      → All (λ x. IsServedDoor d (pass x).number q.seen (door x) (ended x)) desks
+  served-in p q desks j =
+      All-weaker (λ x. IsServedDoor d (pass x).number q.seen (door x) (ended x) × (has (pass x).number q.numbers ≡ true))
+      (λ x. IsServedDoor d (pass x).number q.seen (door x) (ended x)) (λ x at. at.0) desks j.served

@@ -1,0 +1,61 @@
+-- What doors leave in the one history of all passes.
+use Rattle.std.specs.Prelude.{◌≡◌, ◌≤◌, ℕ, List, [], ◌∷◌, ◌++◌, true, false, Option, Some}
+use Rattle.isolation.specs.Histories.{Entry, Attach, Tell, Take, Detach, Ran, Shut}
+use Rattle.cdp_edge.specs.Outside.{Told}
+use Rattle.history_lock.specs.Histories.{by, has}
+use Rattle.history_lock.specs.Passes.{PassState, joined_pass}
+use Rattle.server_edge.specs.Contents.{IsNew, Tended}
+use Rattle.host_turns.specs.Debuggings.{Debugging}
+use Rattle.ws_service.specs.Doors.{EndsDoor, IsTended, asked_more, questions}
+use Rattle.ws_service.specs.Passing.{Was}
+use Rattle.ws_service.specs.Visits.{AreActs, AreNew, DoorAct, entries_of, links_of, sessions_of}
+use Rattle.ws_service.specs.declared.door.DoorEnd.{DoorEnd}
+
+-- a pass that had seen nothing served a door that was new, which tells this now, and serving it ended so
+pub record HasServed (d : Debugging) (q : PassState Entry) (door : Tended)
+    (ended : Option DoorEnd) : Type 0 where
+  pub first : PassState Entry
+  pub unasked : Tended
+  pub end : DoorEnd
+  pub tended : IsTended d first q unasked door end
+  pub start : first.seen ≡ []
+  pub named : has first.number first.numbers ≡ true
+  pub is_new : IsNew unasked
+  pub is_end : ended ≡ Some end
+
+-- A door that was new was served by this maker, over a history: the maker's entries there are exactly those of what it
+-- did, each act is so over the whole history, and each link that was served had a session of its own. The door took
+-- back just these links, in order, has none out, and was asked so often. Serving it ended so, at some time.
+pub record IsServedDoor (d : Debugging) (k : ℕ) (h : List (ℕ × Entry)) (door : Tended)
+    (ended : Option DoorEnd) : Type 0 where
+  pub acts : List DoorAct
+  pub last : List Entry
+  pub end : DoorEnd
+  pub own : by k h ≡ entries_of acts ++ last
+  pub are : AreActs d k h acts
+  pub apart : AreNew [] (sessions_of acts)
+  pub links : Told door.served (λ links. links ≡ links_of acts)
+  pub home : Told door.is_out (λ out. out ≡ false)
+  pub asks : door.asked ≡ asked_more (questions end acts) 0
+  pub once : 1 ≤ questions end acts
+  pub ends : Was (λ seen. EndsDoor d k seen end last 0 door.faults) h
+  pub is_end : ended ≡ Some end
+
+-- passes joined into one, in order
+abbrev pub joined_passes : PassState Entry → List (PassState Entry) → PassState Entry
+joined_passes p [] = p
+joined_passes p (q ∷ passes) = joined_passes (joined_pass p q) passes
+
+-- an entry makes no steps of the program
+abbrev pub MakesNoSteps : Entry → Type 0
+MakesNoSteps Attach = Unit {0}
+MakesNoSteps (Tell s text) = Unit {0}
+MakesNoSteps (Take s) = Unit {0}
+MakesNoSteps (Detach s) = Unit {0}
+MakesNoSteps (Ran steps moment lost) = ⊥
+MakesNoSteps Shut = Unit {0}
+
+-- none of these entries does
+abbrev pub MakeNoSteps : List Entry → Type 0
+MakeNoSteps [] = Unit {0}
+MakeNoSteps (entry ∷ entries) = MakesNoSteps entry × MakeNoSteps entries
