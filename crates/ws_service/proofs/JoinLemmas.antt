@@ -1,15 +1,15 @@
 -- A door that was served stays so in every history that goes on without its maker.
-use Rattle.std.proofs.Common.{◌≡◌, ℕ, List, All, [], ◌∷◌, ◌++◌, map, Bool, true, false, if◌then◌else◌, nat_lt, length, Option as Opt, Some, None, refl, ap, sym, subst, ◌∙◌, append_assoc, append-nil}
+use Rattle.std.proofs.Common.{◌≡◌, ℕ, List, All, [], ◌∷◌, ◌++◌, map, Bool, true, false, if◌then◌else◌, nat_lt, length, Option as Opt, Some, None, refl, ap, sym, subst, ◌∙◌, append_assoc}
 use Rattle.std.proofs.lemmas.List.Elements.{All-nil, All-push, All-weaker}
 use Rattle.isolation.specs.Histories.{Entry}
-use Rattle.isolation.specs.Makers.{IsNoTake, Owns, TakesNone, by}
+use Rattle.isolation.specs.Makers.{IsNoTake, TakesNone, by}
 use Rattle.cdp_edge.specs.Outside.{Told}
 use Rattle.history_lock.specs.Histories.{Begins, has, longer}
 use Rattle.history_lock.specs.Passes.{KeepsWhole, PassState, joined_pass}
 use Rattle.history_lock.proofs.Facts.{begins_same, by_behind, has_behind, has_front}
 use Rattle.server_edge.specs.Contents.{Tended, adds}
 use Rattle.host_turns.specs.Debuggings.{Debugging, IsHistory}
-use Rattle.ws_service.specs.Doors.{EndsDoor, IsTended, asked_more, questions}
+use Rattle.ws_service.specs.Doors.{EndsDoor, asked_more, questions}
 use Rattle.ws_service.specs.Joins.{HasServed, IsServedDoor, joined_passes}
 use Rattle.ws_service.specs.Visits.{AreActs, AreNew, entries_of, links_of, sessions_of}
 use Rattle.ws_service.specs.declared.door.DoorEnd.{DoorEnd}

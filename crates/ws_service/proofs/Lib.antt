@@ -6,4 +6,3 @@ pub mod VisitLemmas
 pub mod DoorLemmas
 pub mod JoinLemmas
 pub mod ProgramLemmas
-pub mod OutputLemmas

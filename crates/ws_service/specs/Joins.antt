@@ -1,6 +1,6 @@
 -- What doors leave in the one history of all passes.
 use Rattle.std.specs.Prelude.{◌≡◌, ◌≤◌, ℕ, List, [], ◌∷◌, ◌++◌, true, false, Option, Some}
-use Rattle.isolation.specs.Histories.{Entry, Attach, Tell, Take, Detach, Ran, Shut}
+use Rattle.isolation.specs.Histories.{Entry}
 use Rattle.cdp_edge.specs.Outside.{Told}
 use Rattle.history_lock.specs.Histories.{by, has}
 use Rattle.history_lock.specs.Passes.{PassState, joined_pass}
@@ -45,17 +45,3 @@ pub record IsServedDoor (d : Debugging) (k : ℕ) (h : List (ℕ × Entry)) (doo
 abbrev pub joined_passes : PassState Entry → List (PassState Entry) → PassState Entry
 joined_passes p [] = p
 joined_passes p (q ∷ passes) = joined_passes (joined_pass p q) passes
-
--- an entry makes no steps of the program
-abbrev pub MakesNoSteps : Entry → Type 0
-MakesNoSteps Attach = Unit {0}
-MakesNoSteps (Tell s text) = Unit {0}
-MakesNoSteps (Take s) = Unit {0}
-MakesNoSteps (Detach s) = Unit {0}
-MakesNoSteps (Ran steps moment lost) = ⊥
-MakesNoSteps Shut = Unit {0}
-
--- none of these entries does
-abbrev pub MakeNoSteps : List Entry → Type 0
-MakeNoSteps [] = Unit {0}
-MakeNoSteps (entry ∷ entries) = MakesNoSteps entry × MakeNoSteps entries

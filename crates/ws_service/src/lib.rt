@@ -7,6 +7,7 @@
 //! - `HasRun`: a pass ran the program by some turns, and a sink was given what they printed
 //! - `Goes`: the entries that a pass left by some turns; `Was`: at some time a history was so
 //! - *act*: what a pass does at a door: it serves a link that arrived (`Visit`), or looks whether the program is over
+//! - `Work`: what a thread does to what it owns; `IsServedDoor`: a door that was served, over the one history of all passes
 #![tactic(auto)]
 
 mod beside;

@@ -2,7 +2,6 @@ use Rattle.std.proofs.Common.{◌<◌, ◌++◌, ℕ, length, map, sym, ap, subs
 use Rattle.std.proofs.lemmas.Iterator.Adapters.{YieldsList-from_vec}
 use Rattle.std.proofs.lemmas.Iterator.Consumers.{YieldsList-turn, YieldsList-end}
 use Rattle.std.proofs.lemmas.List.{length_push}
-use Rattle.history_lock.specs.Passes.{HasInitialOnly}
 use Rattle.ws_service.specs.Joins.{HasServed, joined_passes}
 use Rattle.ws_service.proofs.JoinLemmas.{joining-on, pushed}
 use Rattle.ws_service.proofs.join.join_all.Goals as goal

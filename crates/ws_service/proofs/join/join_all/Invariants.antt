@@ -1,4 +1,4 @@
-use Rattle.std.proofs.Common.{◌≡◌, ◌+◌, ◌<◌, ◌≤◌, ◌++◌, length, map, vec_capacity, vec_len}
+use Rattle.std.proofs.Common.{◌≡◌, ◌+◌, ◌<◌, ◌++◌, length, map, vec_capacity, vec_len}
 use Rattle.history_lock.specs.Passes.{HasInitialOnly}
 use Rattle.ws_service.proofs.JoinLemmas.{Joining}
 use Rattle.ws_service.proofs.join.join_all.Given as goal
