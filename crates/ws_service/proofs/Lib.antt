@@ -6,3 +6,4 @@ pub mod VisitLemmas
 pub mod DoorLemmas
 pub mod JoinLemmas
 pub mod ProgramLemmas
+pub mod OutputLemmas

@@ -28,11 +28,11 @@ use Rattle.ws_service.proofs.PassingLemmas.{goes, goes-none, goes-on}
 
 -- ---- the makers of runs
 
-only-front : (k : ℕ) (h g : List (ℕ × Entry)) → OnlyRuns k (h ++ g) → OnlyRuns k h
+pub only-front : (k : ℕ) (h g : List (ℕ × Entry)) → OnlyRuns k (h ++ g) → OnlyRuns k h
 only-front k [] g only = tt
 only-front k (made ∷ h) g only = (only.0, only-front k h g only.1)
 
-only-after : (k : ℕ) (h g : List (ℕ × Entry)) → OnlyRuns k (h ++ g) → OnlyRuns k g
+pub only-after : (k : ℕ) (h g : List (ℕ × Entry)) → OnlyRuns k (h ++ g) → OnlyRuns k g
 only-after k [] g only = only
 only-after k (made ∷ h) g only = only-after k h g only.1
 
@@ -72,7 +72,7 @@ none-made k (made ∷ g) only none = dite (ℕ_discrete made.0 k)
 -- ---- a history that goes on twice
 
 -- where it goes on as a whole
-parts : (h m g a b more : List (ℕ × Entry)) → m ≡ h ++ a → g ≡ m ++ b → g ≡ h ++ more → more ≡ a ++ b
+pub parts : (h m g a b more : List (ℕ × Entry)) → m ≡ h ++ a → g ≡ m ++ b → g ≡ h ++ more → more ≡ a ++ b
 parts h m g a b more first second whole =
     append_cancel_left h more (a ++ b)
     (sym whole ∙ second ∙ ap (λ l. l ++ b) first ∙ append_assoc h a b)
@@ -240,7 +240,7 @@ steps-turn d p q entry act =
     ∙ ap (λ n. steps_made (entries_of (p.seen ++ act.between)) + n) here
 
 -- those before it, where no other makes any
-steps-before : (k : ℕ) (h between : List (ℕ × Entry)) → OnlyRuns k between → by k between ≡ []
+pub steps-before : (k : ℕ) (h between : List (ℕ × Entry)) → OnlyRuns k between → by k between ≡ []
     → steps_made (entries_of (h ++ between)) ≡ steps_made (entries_of h)
 steps-before k h between only nothing =
     let none = none-made k between only nothing in

@@ -3,13 +3,21 @@ use Rattle.std.specs.Prelude.{◌≡◌, ◌≤◌, ℕ, List, [], ◌∷◌, �
 use Rattle.isolation.specs.Histories.{Entry}
 use Rattle.cdp_edge.specs.Outside.{Told}
 use Rattle.history_lock.specs.Histories.{by, has}
-use Rattle.history_lock.specs.Passes.{PassState, joined_pass}
+use Rattle.history_lock.specs.Passes.{LockId, PassState, joined_pass}
 use Rattle.server_edge.specs.Contents.{IsNew, Tended}
 use Rattle.host_turns.specs.Debuggings.{Debugging}
 use Rattle.ws_service.specs.Doors.{EndsDoor, IsTended, asked_more, questions}
 use Rattle.ws_service.specs.Passing.{Was}
 use Rattle.ws_service.specs.Visits.{AreActs, AreNew, DoorAct, entries_of, links_of, sessions_of}
 use Rattle.ws_service.specs.declared.door.DoorEnd.{DoorEnd}
+
+-- a pass of this lock that has seen nothing is to serve a door that is new
+pub record IsAtFirst (lock : LockId) (p : PassState Entry) (door : Tended) : Type 0 where
+  pub lock_is : p.lock ≡ lock
+  pub free : p.in_turn ≡ false
+  pub start : p.seen ≡ []
+  pub named : has p.number p.numbers ≡ true
+  pub is_new : IsNew door
 
 -- a pass that had seen nothing served a door that was new, which tells this now, and serving it ended so
 pub record HasServed (d : Debugging) (q : PassState Entry) (door : Tended)

@@ -47,14 +47,17 @@ pub fn run_beside<
     requires ready { All (λ work. W.can work) works.old }
     // The program was run, and the sink took what it prints.
     ensures runs { HasRun H.debugs (C.moment clock.old) runner.old.pass runner.new.pass (record { content = O.content out.old; faults = O.faults out.old }) (record { content = O.content out.new; faults = O.faults out.new }) (Some result) }
-    // Each work was done.
+    ensures lock { runner.new.lock.now ≡ runner.old.lock.now }
+    // Each work was done, in its place.
+    ensures length { length works.new ≡ length works.old }
     ensures works { (i : ℕ) (d : _) → i < length works.old → W.does (slice_index_or works.old i d) (slice_index_or works.new i d) }
 {
     let (end, _) = join_mut(
         rt,
         &mut || -> RunEnd
             requires { IsSync R.row × IsSend H.row × IsSend B.row × IsSync B.row × IsSync D.row × IsSend O.row × IsSend C.row × (runner.now.pass.lock ≡ runner.now.lock.now) × (runner.now.pass.in_turn ≡ false) }
-            ensures { HasRun H.debugs (C.moment clock.entry.now) runner.entry.now.pass runner.exit.now.pass (record { content = O.content out.entry.now; faults = O.faults out.entry.now }) (record { content = O.content out.exit.now; faults = O.faults out.exit.now }) (Some result) }
+            ensures lock { runner.exit.now.lock.now ≡ runner.entry.now.lock.now }
+            ensures runs { HasRun H.debugs (C.moment clock.entry.now) runner.entry.now.pass runner.exit.now.pass (record { content = O.content out.entry.now; faults = O.faults out.entry.now }) (record { content = O.content out.exit.now; faults = O.faults out.exit.now }) (Some result) }
         {
             run_program(
                 rt,
@@ -68,7 +71,8 @@ pub fn run_beside<
         },
         &mut ||
             requires { IsSync R.row × (0 < length works.now) × All (λ work. W.can work) works.now }
-            ensures { (i : ℕ) (d : _) → i < length works.entry.now → W.does (slice_index_or works.entry.now i d) (slice_index_or works.exit.now i d) }
+            ensures length { length works.exit.now ≡ length works.entry.now }
+            ensures works { (i : ℕ) (d : _) → i < length works.entry.now → W.does (slice_index_or works.entry.now i d) (slice_index_or works.exit.now i d) }
         { work_all(rt, works) },
     );
     end

@@ -27,7 +27,8 @@ pub trait Work: Send {
 pub fn work_all<W: Work, R: Threads + Wait + Sync>(rt: &R, works: &mut [W])
     requires some { 0 < length works.old }
     requires ready { All (λ work. W.can work) works.old }
-    ensures { (i : ℕ) (d : _) → i < length works.old → W.does (slice_index_or works.old i d) (slice_index_or works.new i d) }
+    ensures length { length works.new ≡ length works.old }
+    ensures works { (i : ℕ) (d : _) → i < length works.old → W.does (slice_index_or works.old i d) (slice_index_or works.new i d) }
 {
     let count = works.len();
     for_each_mut(
@@ -57,7 +58,10 @@ pub struct Desk<'a, H: Hosted<B>, B, D: Bell, O: Door> {
 }
 
 impl<'a, H: Hosted<B> + Send, B: Send + Sync, D: Bell + Sync, O: Door + Send> Work
-    for Desk<'a, H, B, D, O> {
+    for Desk<'a, H, B, D, O>
+where
+    O::Link: Send,
+{
     ghost use Rattle.std.specs.Prelude.{◌≡◌, Some, false};
     ghost use Rattle.cdp_edge.specs.Outside.{Told};
     ghost use Rattle.ws_service.specs.Doors.{IsTended};

@@ -16,6 +16,7 @@ mod door;
 mod join;
 mod program;
 mod served;
+mod serving;
 mod session;
 
 pub use beside::{Runner, run_beside};
@@ -24,4 +25,5 @@ pub use door::{DoorEnd, serve_door};
 pub use join::join_all;
 pub use program::{RunEnd, run_program};
 pub use served::Served;
+pub use serving::serve_all;
 pub use session::serve_session;
