@@ -7,3 +7,4 @@ pub mod TurnLemmas
 pub mod EndLemmas
 pub mod MetLemmas
 pub mod NumberLemmas
+pub mod OrderLemmas

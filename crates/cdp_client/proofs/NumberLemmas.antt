@@ -97,7 +97,7 @@ without-order (Some command) replies method lines are =
 -- ---- arrivals
 
 -- a reply is to the command that is awaited
-abbrev IsTo : Option Command → Arrival → Type 0
+abbrev pub IsTo : Option Command → Arrival → Type 0
 IsTo awaited (Reply command) = awaited ≡ Some command
 IsTo awaited (Event method) = Unit {0}
 IsTo awaited Other = Unit {0}
@@ -123,7 +123,7 @@ value-to (Some command) value =
     asked-by command (has_id command.id value) (unasked value)
     (unasked-by (Some command) (is_some (get (codes "id") value)) (get (codes "method") value))
 
-read-to : (awaited : Option Command) (value : Option Data) → IsTo awaited (read_arrival awaited value)
+pub read-to : (awaited : Option Command) (value : Option Data) → IsTo awaited (read_arrival awaited value)
 read-to awaited None = tt
 read-to awaited (Some value) = value-to awaited value
 

@@ -1,10 +1,10 @@
--- Commands are numbered, and replies counted.
+-- Commands are numbered and sent in order, and replies counted.
 use Rattle.std.specs.Prelude.{◌≡◌, ℕ, ◌+◌, List, [], ◌∷◌, Bool, true, false}
 use Rattle.server_edge.specs.Heard as heard
 use Rattle.server_edge.specs.Heard.{Heard}
 use Rattle.cdp_client.specs.Lines.{Line, Send, Wait}
 use Rattle.cdp_client.specs.Arrivals.{Arrival, Reply, Event, Other, arrival_of}
-use Rattle.cdp_client.specs.Talks.{Course, Talk, turns}
+use Rattle.cdp_client.specs.Talks.{Course, Talk, command_text, turns}
 use Rattle.cdp_client.specs.Waits.{one_if}
 
 -- the commands of these lines are numbered one after another from this number on
@@ -32,3 +32,9 @@ is_answered course heard.Failed = false
 abbrev pub replies_in : Talk → List Heard → ℕ
 replies_in talk [] = 0
 replies_in talk (answer ∷ answers) = one_if (is_answered talk.course answer) + replies_in (turns talk answer) answers
+
+-- the texts of the commands of these lines, in order
+abbrev pub texts_of : List Line → List (List ℕ)
+texts_of [] = []
+texts_of (Send command ∷ lines) = command_text command ∷ texts_of lines
+texts_of (Wait method ∷ lines) = texts_of lines
