@@ -1,0 +1,10 @@
+pub mod LineLemmas
+pub mod FileLemmas
+pub mod WaitLemmas
+pub mod TrafficLemmas
+pub mod TalkLemmas
+pub mod TurnLemmas
+pub mod EndLemmas
+pub mod MetLemmas
+pub mod NumberLemmas
+pub mod OrderLemmas
