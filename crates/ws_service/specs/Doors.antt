@@ -1,6 +1,6 @@
 -- How a door was served.
 use Rattle.std.specs.Prelude.{◌≡◌, ◌≤◌, ◌⊎◌, ℕ, zero, suc, List, [], ◌∷◌, ◌++◌, Bool, true, false, Option, Some, None}
-use Rattle.isolation.specs.Histories.{Entry, Shut, Take}
+use Rattle.isolation.specs.Histories.{Entry, Take}
 use Rattle.cdp_edge.specs.Outside.{Rose, Told, one_more}
 use Rattle.history_lock.specs.Histories.{limit}
 use Rattle.history_lock.specs.Passes.{PassState}
@@ -9,9 +9,11 @@ use Rattle.host_turns.specs.Debuggings.{Debugging, IsHistory}
 use Rattle.host_turns.specs.States.{HasState}
 use Rattle.host_turns.specs.declared.state.State.{State}
 use Rattle.host_turns.specs.declared.state.State.TheVariants as states
+use Rattle.ws_service.specs.Shutdowns.{HadNoTicket, shut_entries}
 use Rattle.ws_service.specs.Visits.{DoorAct, Looked, Tends, links_of, looks_of}
 use Rattle.ws_service.specs.declared.door.DoorEnd.{DoorEnd}
 use Rattle.ws_service.specs.declared.door.DoorEnd.TheVariants as ends
+use Rattle.ws_service.specs.declared.shutdown.NotShut.{NotShut}
 
 -- in this state a program makes no further step, whatever its sessions do
 abbrev pub is_final : State → Bool
@@ -36,14 +38,14 @@ asked_more (suc n) asked = one_more (asked_more n asked)
 -- how many questions there were: each led to a look, but the last one where it led to a shut, or to no turn at all
 abbrev pub questions : DoorEnd → List DoorAct → ℕ
 questions (ends.Over state) acts = looks_of acts
-questions ends.Fault acts = suc (looks_of acts)
+questions (ends.Fault unshut) acts = suc (looks_of acts)
 questions (ends.Spent ticket) acts = suc (looks_of acts)
 
 -- How serving a door ended, and what of the door's faults: it found the program over; or the door failed, and the
 -- program was shut, if a ticket was left for that; or no ticket was left.
 abbrev pub EndsDoor : Debugging → ℕ → List (ℕ × Entry) → DoorEnd → List Entry → ℕ → ℕ → Type 0
 EndsDoor d k h (ends.Over state) last old new = (last ≡ []) × (new ≡ old) × FindsOver d k h state
-EndsDoor d k h ends.Fault last old new = ((last ≡ Shut ∷ []) ⊎ (last ≡ [])) × Rose old new
+EndsDoor d k h (ends.Fault unshut) last old new = (last ≡ shut_entries unshut) × HadNoTicket unshut × Rose old new
 EndsDoor d k h (ends.Spent ticket) last old new = (last ≡ []) × (new ≡ old) × (ticket ≡ limit)
 
 -- How a pass served a door: what it did, that the door took back just the links of that, in order, and has none out,
@@ -71,12 +73,12 @@ abbrev pub Looks : Debugging → PassState Entry → PassState Entry → Option 
 Looks d p q None = Tends d p q (Looked ∷ []) [] × IsHistory d q.seen
 Looks d p q (Some (ends.Over state)) =
     Tends d p q (Looked ∷ []) [] × IsHistory d q.seen × FindsOver d p.number q.seen state
-Looks d p q (Some ends.Fault) = ⊥
+Looks d p q (Some (ends.Fault unshut)) = ⊥
 Looks d p q (Some (ends.Spent ticket)) = (q ≡ p) × (ticket ≡ limit)
 
--- the program was shut, or no ticket was left for that
-abbrev pub Shuts : Debugging → PassState Entry → PassState Entry → Type 0
-Shuts d p q = (last : List Entry) × Tends d p q [] last × ((last ≡ Shut ∷ []) ⊎ (last ≡ []))
+-- the program was shut, if a ticket was left for that
+abbrev pub Shuts : Debugging → PassState Entry → PassState Entry → Option NotShut → Type 0
+Shuts d p q unshut = Tends d p q [] (shut_entries unshut) × HadNoTicket unshut
 
 -- the door was asked so often and served so long, and serving it goes on
 pub record IsTendedOn (d : Debugging) (p q : PassState Entry) (old new : Tended) : Type 0 where

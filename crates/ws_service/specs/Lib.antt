@@ -4,4 +4,5 @@ pub mod Joins
 pub mod Passing
 pub mod Programs
 pub mod Sessions
+pub mod Shutdowns
 pub mod Visits

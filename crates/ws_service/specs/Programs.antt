@@ -1,7 +1,7 @@
 -- What running a program leaves in a history, and what its sink is given.
 use Rattle.std.specs.Prelude.{◌≡◌, ◌⊎◌, ℕ, List, [], ◌∷◌, ◌++◌, Bool, true, false, Option, Some, None}
 use Rattle.isolation.specs.Histories.{Entry, Attach, Tell, Take, Detach, Ran, Shut, steps_made, steps_of}
-use Rattle.isolation.specs.Makers.{entries_of}
+use Rattle.isolation.specs.Makers.{by, entries_of}
 use Rattle.isolation.specs.Meanings.{is_paused, waits}
 use Rattle.history_lock.specs.Histories.{Begins, limit}
 use Rattle.history_lock.specs.Passes.{PassState}
@@ -11,18 +11,20 @@ use Rattle.cdp_edge.specs.declared.sink.SinkFault.TheVariants as sink
 use Rattle.printing.specs.Printing.{printed_lines}
 use Rattle.host_turns.specs.Debuggings.{Debugging, IsLongest, meaning}
 use Rattle.host_turns.specs.States.{HasEnded, HasThrown, IsOver, IsShut}
-use Rattle.host_turns.specs.Turns.{Acts, printed_by}
+use Rattle.host_turns.specs.Turns.{printed_by}
 use Rattle.host_turns.specs.declared.state.State.{State}
 use Rattle.host_turns.specs.declared.state.State.TheVariants as states
 use Rattle.ws_service.specs.Passing.{Goes, Was}
+use Rattle.ws_service.specs.Shutdowns.{HadNoTicket, ShutsDown, shut_entries}
 use Rattle.ws_service.specs.declared.program.RunEnd.{RunEnd}
 use Rattle.ws_service.specs.declared.program.RunEnd.TheVariants as ends
+use Rattle.ws_service.specs.declared.shutdown.NotShut.{NotShut}
 
 -- ---- ends
 
 -- how a run ends in a state, if it does
 abbrev pub end_in : State → Option RunEnd
-end_in states.Broken = Some ends.Memory
+end_in states.Broken = Some ends.Broken
 end_in states.Shut = Some ends.Shut
 end_in states.Threw = Some ends.Threw
 end_in states.Ended = Some ends.Ended
@@ -30,30 +32,44 @@ end_in states.Paused = None
 end_in states.Waiting = None
 end_in states.Ready = None
 
--- how a run ends whose output isn't all written
-abbrev pub end_at : SinkFault → RunEnd
-end_at sink.Failed = ends.WriteFault
-end_at sink.Memory = ends.Memory
+-- how a run ends whose output isn't all written, and whose program was shut then, or wasn't
+abbrev pub end_at : SinkFault → Option NotShut → RunEnd
+end_at sink.Failed unshut = ends.WriteFault unshut
+end_at sink.Memory unshut = ends.Memory unshut
 
--- at this end some output may be missing, and the program may have been shut
+-- at this end some output may be missing
 abbrev pub may_cut : Option RunEnd → Bool
 may_cut None = false
 may_cut (Some ends.Ended) = false
 may_cut (Some ends.Threw) = false
 may_cut (Some ends.Shut) = false
-may_cut (Some ends.WriteFault) = true
+may_cut (Some ends.Broken) = false
+may_cut (Some (ends.WriteFault unshut)) = true
 may_cut (Some (ends.Spent ticket)) = false
-may_cut (Some ends.Memory) = true
+may_cut (Some (ends.Memory unshut)) = true
 
--- what an end says: the program has ended, by a throw or not; it was shut at some time; or no ticket is left
+-- the shut that a run leaves at its end, if any
+abbrev pub shuts_at : Option RunEnd → List Entry
+shuts_at None = []
+shuts_at (Some ends.Ended) = []
+shuts_at (Some ends.Threw) = []
+shuts_at (Some ends.Shut) = []
+shuts_at (Some ends.Broken) = []
+shuts_at (Some (ends.WriteFault unshut)) = shut_entries unshut
+shuts_at (Some (ends.Spent ticket)) = []
+shuts_at (Some (ends.Memory unshut)) = shut_entries unshut
+
+-- what an end says: the program has ended, by a throw or not; it was shut at some time; or no ticket is left, be it for
+-- a shut
 abbrev pub HasReason : Debugging → Option RunEnd → List (ℕ × Entry) → Type 0
 HasReason d None h = Unit {0}
 HasReason d (Some ends.Ended) h = HasEnded d h
 HasReason d (Some ends.Threw) h = HasThrown d h
 HasReason d (Some ends.Shut) h = Was (IsShut d) h
-HasReason d (Some ends.WriteFault) h = Unit {0}
+HasReason d (Some ends.Broken) h = Unit {0}
+HasReason d (Some (ends.WriteFault unshut)) h = HadNoTicket unshut
 HasReason d (Some (ends.Spent ticket)) h = ticket ≡ limit
-HasReason d (Some ends.Memory) h = Unit {0}
+HasReason d (Some (ends.Memory unshut)) h = HadNoTicket unshut
 
 -- ---- entries
 
@@ -71,11 +87,9 @@ abbrev pub AreTurns : Option ℕ → List Entry → Type 0
 AreTurns moment [] = Unit {0}
 AreTurns moment (entry ∷ entries) = IsTurn moment entry × AreTurns moment entries
 
--- the entries of a run: turns of the program, and at most one shut at last, if it may be cut
-abbrev pub AreLeft : Option ℕ → Bool → List Entry → Type 0
-AreLeft moment false entries = AreTurns moment entries
-AreLeft moment true entries =
-    AreTurns moment entries ⊎ ((turns : List Entry) × (entries ≡ turns ++ Shut ∷ []) × AreTurns moment turns)
+-- the entries of a run that goes on or ended so: turns of the program, and last the shut of its end, if any
+abbrev pub AreLeft : Option ℕ → Option RunEnd → List Entry → Type 0
+AreLeft moment end entries = (turns : List Entry) × AreTurns moment turns × (entries ≡ turns ++ shuts_at end)
 
 -- no step is to be made: the program was shut, or has ended, or is paused, or waits for a client
 abbrev pub IsIdle : Debugging → List (ℕ × Entry) → Type 0
@@ -90,16 +104,16 @@ IsDue d front (Detach s) = Unit {0}
 IsDue d front (Ran steps moment lost) = IsLongest d 256 moment front steps lost
 IsDue d front Shut = Unit {0}
 
--- this entry made no step, none follows, and the run ended for want of memory
-abbrev pub IsLast : Option RunEnd → Entry → List (ℕ × Entry) → Type 0
-IsLast end entry rest = (end ≡ Some ends.Memory) × (steps_of entry ≡ 0) × (rest ≡ [])
+-- this entry made no step, none of this maker follows, and the run ended with its host broken
+abbrev pub IsLast : ℕ → Option RunEnd → Entry → List (ℕ × Entry) → Type 0
+IsLast k end entry rest = (end ≡ Some ends.Broken) × (steps_of entry ≡ 0) × (by k rest ≡ [])
 
 -- A history goes on to a longer one: each entry of this maker was due after what came before it, or it was the last
--- entry before an end for want of memory, and made no step.
+-- entry before an end with the host broken, and made no step.
 abbrev pub FindsDue : Debugging → ℕ → List (ℕ × Entry) → List (ℕ × Entry) → Option RunEnd → Type 0
 FindsDue d k old new end =
     (front rest : List (ℕ × Entry)) (entry : Entry) → Begins old front → new ≡ front ++ (k, entry) ∷ rest
-    → IsDue d front entry ⊎ IsLast end entry rest
+    → IsDue d front entry ⊎ IsLast k end entry rest
 
 -- ---- output
 
@@ -146,9 +160,10 @@ Counts None old new = new ≡ old
 Counts (Some ends.Ended) old new = new ≡ old
 Counts (Some ends.Threw) old new = new ≡ old
 Counts (Some ends.Shut) old new = new ≡ old
-Counts (Some ends.WriteFault) old new = Rose old new
+Counts (Some ends.Broken) old new = new ≡ old
+Counts (Some (ends.WriteFault unshut)) old new = Rose old new
 Counts (Some (ends.Spent ticket)) old new = new ≡ old
-Counts (Some ends.Memory) old new = new ≡ old
+Counts (Some (ends.Memory unshut)) old new = new ≡ old
 
 -- ---- a run
 
@@ -158,23 +173,19 @@ pub record HasRun (d : Debugging) (moment : Option ℕ) (p q : PassState Entry) 
     (end : Option RunEnd) : Type 0 where
   pub entries : List Entry
   pub goes : Goes d p q entries
-  pub left : AreLeft moment (may_cut end) entries
+  pub left : AreLeft moment end entries
   pub due : FindsDue d p.number p.seen q.seen end
   pub writes : Writes d p.number (may_cut end) p.seen q.seen old.content new.content
   pub reason : HasReason d end q.seen
   pub counts : Counts end old.faults new.faults
 
--- the program was shut, or no ticket was left for that
-abbrev pub IsShutAfter : Debugging → PassState Entry → PassState Entry → Type 0
-IsShutAfter d p q = (q ≡ p) ⊎ Acts d p q Shut
-
--- texts were written; or not all of them, and the program was shut
+-- texts were written; or not all of them, and the program was shut, if a ticket was left for that
 abbrev pub Puts : Debugging → PassState Entry → PassState Entry → Output → Output → List (List ℕ) → Option RunEnd
     → Type 0
 Puts d p q old new texts None =
     (q ≡ p) × (new.content ≡ gains old.content (printed_lines texts)) × (new.faults ≡ old.faults)
 Puts d p q old new texts (Some end) =
-    (fault : SinkFault) × (end ≡ end_at fault) × IsShutAfter d p q
+    (fault : SinkFault) × (unshut : Option NotShut) × (end ≡ end_at fault unshut) × ShutsDown d p q unshut
     × GainsPrefix old.content new.content (printed_lines texts) × Counts (Some end) old.faults new.faults
 
 -- texts were written, and a state says whether the run ends; or not all of them were, and it ends so

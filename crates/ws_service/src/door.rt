@@ -6,8 +6,9 @@ ghost use Rattle.server_edge.specs.Contents.{IsUnused};
 ghost use Rattle.ws_service.specs.Doors.{IsReceived, IsTended, Looks, Shuts, TendsOnce, is_final};
 
 use crate::session::serve_session;
+use crate::shutdown::{NotShut, shut_down};
 use history_lock::Spent;
-use host_turns::{Hosted, Lock, State, Worker, look, shut};
+use host_turns::{Hosted, Lock, State, Worker, look};
 use server_edge::{Bell, Door, DoorAnswer};
 use std::sync::Wait;
 
@@ -17,7 +18,10 @@ pub enum DoorEnd {
     /// The program is over, in this state: it has ended, or was shut, or its host is broken.
     Over(State),
     /// The door failed, and its count rose. The program was shut, if a ticket was left for that.
-    Fault,
+    Fault {
+        /// Why the program was not shut, if it wasn't.
+        unshut: Option<NotShut>,
+    },
     /// No ticket is left: the ticket word is 2^62.
     Spent {
         /// The ticket word.
@@ -51,19 +55,18 @@ fn end_if_over<H: Hosted<B>, B, R: Wait>(
     }
 }
 
-/// Shuts the program, if a ticket is left for that.
+/// Shuts the program, if a ticket is left for that, as a door's act.
 fn shut_all<H: Hosted<B>, B, D: Bell, R: Wait>(
     rt: &R,
     lock: &Lock<H, B>,
     bell: &D,
     p: &mut Worker<H, B>,
-)
+) -> Option<NotShut>
     requires lock { p.old.lock ≡ lock.now }
     requires free { p.old.in_turn ≡ false }
-    ensures { Shuts H.debugs p.old p.new }
+    ensures { Shuts H.debugs p.old p.new result }
 {
-    // with no ticket left nobody takes a turn any more
-    let _ = shut(rt, lock, bell, p);
+    shut_down(rt, lock, bell, p)
 }
 
 /// Serves a link that arrived, and gives it back.
@@ -125,8 +128,8 @@ fn tend<H: Hosted<B>, B, D: Bell, O: Door, R: Wait>(
         }
         DoorAnswer::Quiet | DoorAnswer::Memory => end_if_over(rt, lock, p),
         DoorAnswer::Failed => {
-            shut_all(rt, lock, bell, p);
-            Some(DoorEnd::Fault)
+            let unshut = shut_all(rt, lock, bell, p);
+            Some(DoorEnd::Fault { unshut })
         }
     }
 }

@@ -18,6 +18,7 @@ mod program;
 mod served;
 mod serving;
 mod session;
+mod shutdown;
 
 pub use beside::{Runner, run_beside};
 pub use desk::{Desk, Work, work_all};
@@ -27,3 +28,4 @@ pub use program::{RunEnd, run_program};
 pub use served::Served;
 pub use serving::serve_all;
 pub use session::serve_session;
+pub use shutdown::NotShut;

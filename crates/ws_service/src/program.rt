@@ -3,12 +3,13 @@
 ghost use Rattle.std.specs.Prelude.{◌≡◌, List, Some, false};
 ghost use Rattle.isolation.specs.Histories.{Entry as AnyEntry};
 ghost use Rattle.ws_service.specs.Passing.{Goes};
-ghost use Rattle.ws_service.specs.Programs.{AreLeft, Counts, FindsDue, Finishes, HasReason, HasRun, IsShutAfter, Puts, Writes, end_at, end_in, may_cut};
+ghost use Rattle.ws_service.specs.Programs.{AreLeft, Counts, FindsDue, Finishes, HasReason, HasRun, Puts, Writes, end_at, end_in, may_cut};
 
 use cdp_edge::{Sink, SinkFault};
 use cdp_text::units::Units;
+use crate::shutdown::{NotShut, shut_down};
 use history_lock::Spent;
-use host_turns::{Hosted, Lock, Progress, State, Worker, run, shut};
+use host_turns::{Hosted, Lock, Progress, State, Worker, run};
 use printing::put_texts;
 use server_edge::{Bell, Clock};
 use std::alloc::Global;
@@ -23,24 +24,32 @@ pub enum RunEnd {
     Threw,
     /// The program was shut.
     Shut,
-    /// The sink refused a write, and its count rose; the program was shut.
-    WriteFault,
+    /// No memory was left for a run of the program, whose host is broken; all that it printed before was written.
+    Broken,
+    /// The sink refused a write, and its count rose. The program was shut, if a ticket was left for that.
+    WriteFault {
+        /// Why the program was not shut, if it wasn't.
+        unshut: Option<NotShut>,
+    },
     /// No ticket is left: the ticket word is 2^62.
     Spent {
         /// The ticket word.
         ticket: u64,
     },
-    /// No memory was left for the program or for its output.
-    Memory,
+    /// No memory was left for the lines that the program printed. It was shut, if a ticket was left for that.
+    Memory {
+        /// Why the program was not shut, if it wasn't.
+        unshut: Option<NotShut>,
+    },
 }
 
 /// How a run ends whose output isn't all written.
-fn end_at(fault: SinkFault) -> RunEnd
-    ensures { result ≡ end_at fault }
+fn end_at(fault: SinkFault, unshut: Option<NotShut>) -> RunEnd
+    ensures { result ≡ end_at fault unshut }
 {
     match fault {
-        SinkFault::Failed => RunEnd::WriteFault,
-        SinkFault::Memory => RunEnd::Memory,
+        SinkFault::Failed => RunEnd::WriteFault { unshut },
+        SinkFault::Memory => RunEnd::Memory { unshut },
     }
 }
 
@@ -49,7 +58,7 @@ fn end_in<D: Bell, R: Wait>(rt: &R, bell: &D, state: State) -> Option<RunEnd>
     ensures { result ≡ end_in state }
 {
     match state {
-        State::Broken => Some(RunEnd::Memory),
+        State::Broken => Some(RunEnd::Broken),
         State::Shut => Some(RunEnd::Shut),
         State::Threw => Some(RunEnd::Threw),
         State::Ended => Some(RunEnd::Ended),
@@ -59,20 +68,6 @@ fn end_in<D: Bell, R: Wait>(rt: &R, bell: &D, state: State) -> Option<RunEnd>
         }
         State::Ready => None,
     }
-}
-
-/// Shuts the program. Where no ticket is left, nobody takes a turn any more.
-fn shut_down<H: Hosted<B>, B, D: Bell, R: Wait>(
-    rt: &R,
-    lock: &Lock<H, B>,
-    bell: &D,
-    p: &mut Worker<H, B>,
-)
-    requires lock { p.old.lock ≡ lock.now }
-    requires free { p.old.in_turn ≡ false }
-    ensures { IsShutAfter H.debugs p.old p.new }
-{
-    let _ = shut(rt, lock, bell, p);
 }
 
 /// Writes texts. Where they can't be written the program is shut, and its run ends so.
@@ -92,8 +87,8 @@ fn write<H: Hosted<B>, B, D: Bell, O: Sink, R: Wait>(
     match put_texts(alloc, out, texts) {
         Ok(()) => None,
         Err(fault) => {
-            shut_down(rt, lock, bell, p);
-            Some(end_at(fault))
+            let unshut = shut_down(rt, lock, bell, p);
+            Some(end_at(fault, unshut))
         }
     }
 }
@@ -140,7 +135,7 @@ fn advance<H: Hosted<B>, B, D: Bell, O: Sink, C: Clock, R: Wait>(
             finish(rt, alloc, lock, bell, p, out, texts.as_slice(), state)
         }
         Ok(Progress::Idle(state)) => end_in(rt, bell, state),
-        Ok(Progress::Memory) => Some(RunEnd::Memory),
+        Ok(Progress::Memory) => Some(RunEnd::Broken),
         Err(Spent { ticket }) => Some(RunEnd::Spent { ticket }),
     }
 }
@@ -158,10 +153,10 @@ pub fn run_program<H: Hosted<B>, B, D: Bell, O: Sink, C: Clock, R: Wait>(
 ) -> RunEnd
     requires lock { p.old.lock ≡ lock.now }
     requires free { p.old.in_turn ≡ false }
-    // The pass left turns of the program alone, and a shut at last only where output may be missing.
-    ensures goes { (entries : List AnyEntry) × Goes H.debugs p.old p.new entries × AreLeft (C.moment clock.old) (may_cut (Some result)) entries }
+    // The pass left turns of the program alone, and a shut at last exactly where a write failed and a ticket was left.
+    ensures goes { (entries : List AnyEntry) × Goes H.debugs p.old p.new entries × AreLeft (C.moment clock.old) (Some result) entries }
     // Each turn made the longest run of at most 256 steps, or none where none were to be made. Nothing is asked of the
-    // last one before an end for want of memory.
+    // last one before an end with the host broken.
     ensures due { FindsDue H.debugs p.old.number p.old.seen p.new.seen (Some result) }
     // Where nobody else makes steps, the sink took exactly what the steps print, or a first part of it.
     ensures writes { Writes H.debugs p.old.number (may_cut (Some result)) p.old.seen p.new.seen (O.content out.old) (O.content out.new) }
