@@ -1,6 +1,5 @@
 -- A door is served, question after question.
-use Rattle.std.proofs.Common.{◌≡◌, ◌≢◌, ◌⊎◌, inl, inr, ℕ, zero, suc, ◌<◌, ◌≤◌, List, [], ◌∷◌, ◌++◌, Bool, true, false, Option, Some, None, refl, ap, sym, subst, ◌∙◌, append-nil, arith, Result, Ok, Err}
-use Rattle.std.specs.Result.{OnErr, OnOk}
+use Rattle.std.proofs.Common.{◌≡◌, ◌≢◌, ◌⊎◌, inl, inr, ℕ, zero, suc, ◌<◌, ◌≤◌, List, [], ◌∷◌, ◌++◌, Bool, true, false, Option, Some, None, refl, ap, sym, subst, ◌∙◌, append-nil, arith}
 use Rattle.isolation.specs.Histories.{Entry, Shut, Take}
 use Rattle.cdp_edge.specs.Outside.{Rose, Told, one_more}
 use Rattle.history_lock.specs.Passes.{PassState}
@@ -12,17 +11,19 @@ use Rattle.server_edge.specs.declared.door.DoorAnswer.TheVariants as answers
 use Rattle.server_edge.proofs.ToldLemmas.{adds-append, adds-nil, adds-told}
 use Rattle.host_turns.specs.Debuggings.{Debugging, IsHistory}
 use Rattle.host_turns.specs.States.{HasState}
-use Rattle.host_turns.specs.Turns.{Acts, Finds}
+use Rattle.host_turns.specs.Turns.{Finds}
 use Rattle.host_turns.specs.declared.state.State.{State}
 use Rattle.std.specs.Bool.{then_some}
 use Rattle.ws_service.specs.Connections.{code_of}
 use Rattle.ws_service.specs.Sessions.{IsClosedBy, IsServed, Talk}
 use Rattle.ws_service.specs.Visits.{DoorAct, Looked, Refused, Speaks, Tends, Visited, links_of, looks_of}
 use Rattle.ws_service.specs.Doors.{EndsDoor, FindsOver, IsReceived, IsTended, IsTendedOn, Looks, Shuts, TendsOnce, asked_more, is_final, questions}
+use Rattle.ws_service.specs.Shutdowns.{ShutsDown, shut_entries}
 use Rattle.ws_service.specs.declared.door.DoorEnd.{DoorEnd}
 use Rattle.ws_service.specs.declared.door.DoorEnd.TheVariants as ends
 use Rattle.ws_service.specs.declared.served.Served.{Served}
 use Rattle.ws_service.specs.declared.served.Served.TheVariants as served
+use Rattle.ws_service.specs.declared.shutdown.NotShut.{NotShut}
 use Rattle.ws_service.proofs.VisitLemmas.{links-append, tends-last, tends-look, tends-none, tends-on, tends-refusal, tends-visit}
 
 -- ---- what a link tells
@@ -98,17 +99,12 @@ looks-by d p q state true is found =
     (tends-look d p q found.0, found.0.history, finds-over d p q state found (sym is))
 looks-by d p q state false is found = (tends-look d p q found.0, found.0.history)
 
-shuts : (d : Debugging) (p q : PassState Entry) → Acts d p q Shut → Shuts d p q
-shuts d p q a = (Shut ∷ [], tends-last d p q Shut a (λ s. tt), inl refl)
-
-shuts-none : (d : Debugging) (p q : PassState Entry) → p.in_turn ≡ false → q ≡ p → Shuts d p q
-shuts-none d p q free same = ([], subst (λ z. Tends d p z [] []) (sym same) (tends-none d p free), inr refl)
-
 -- the program was shut, or no ticket was left
-pub shuts-if : {A E : Type 0} (d : Debugging) (p q : PassState Entry) (result : Result A E) → p.in_turn ≡ false
-    → OnOk result (Acts d p q Shut) → OnErr result (q ≡ p) → Shuts d p q
-shuts-if d p q (Ok done) free acts none = shuts d p q acts
-shuts-if d p q (Err why) free acts none = shuts-none d p q free none
+pub shuts-if : (d : Debugging) (p q : PassState Entry) (unshut : Option NotShut) → p.in_turn ≡ false
+    → ShutsDown d p q unshut → Shuts d p q unshut
+shuts-if d p q None free act = (tends-last d p q Shut act (λ s. tt), tt)
+shuts-if d p q (Some unshut) free none =
+    (subst (λ z. Tends d p z [] []) (sym none.0) (tends-none d p free), none.1)
 
 -- ---- counts
 
@@ -133,7 +129,7 @@ asked-on (Looked ∷ xs) ys asked =
 questions-on : (end : DoorEnd) (xs ys : List DoorAct) (asked : ℕ)
     → asked_more (questions end ys) (asked_more (looks_of xs) asked) ≡ asked_more (questions end (xs ++ ys)) asked
 questions-on (ends.Over state) xs ys asked = asked-on xs ys asked
-questions-on ends.Fault xs ys asked = ap one_more (asked-on xs ys asked)
+questions-on (ends.Fault unshut) xs ys asked = ap one_more (asked-on xs ys asked)
 questions-on (ends.Spent ticket) xs ys asked = ap one_more (asked-on xs ys asked)
 
 looks-more : (xs ys : List DoorAct) → looks_of ys ≤ looks_of (xs ++ ys)
@@ -144,7 +140,7 @@ looks-more (Looked ∷ xs) ys = let more = looks-more xs ys in omega (arith, mor
 
 once-on : (end : DoorEnd) (xs ys : List DoorAct) → 1 ≤ questions end ys → 1 ≤ questions end (xs ++ ys)
 once-on (ends.Over state) xs ys once = let more = looks-more xs ys in omega (arith, more, once)
-once-on ends.Fault xs ys once = omega arith
+once-on (ends.Fault unshut) xs ys once = omega arith
 once-on (ends.Spent ticket) xs ys once = omega arith
 
 -- ---- one question
@@ -177,7 +173,7 @@ tends-once d p m q acts old new (Some (ends.Over state)) none a look links home 
       once = omega (arith, looked);
       ends = (refl, quiet, subst (λ (k : ℕ). FindsOver d k q.seen state) a.goes.same.1 look.2);
     }
-tends-once d p m q acts old new (Some ends.Fault) none a look links home asks quiet = absurd look
+tends-once d p m q acts old new (Some (ends.Fault unshut)) none a look links home asks quiet = absurd look
 tends-once d p m q acts old new (Some (ends.Spent ticket)) none a look links home asks quiet = record {
   acts = acts;
   last = [];
@@ -221,18 +217,19 @@ tends-link d p m q old mid new result a look links home asks then_asked quiet th
     (a.3 ∙ ap (λ l. adds l (links_of (a.0 ∷ []))) links) home (then_asked ∙ asks) (then_quiet ∙ quiet)
 
 -- the door failed
-pub tends-fault : (d : Debugging) (p q : PassState Entry) (old new : Tended) → Shuts d p q → new.served ≡ old.served
+pub tends-fault : (d : Debugging) (p q : PassState Entry) (old new : Tended) (unshut : Option NotShut)
+    → Shuts d p q unshut → new.served ≡ old.served
     → Told old.is_out (λ out. out ≡ false) → new.is_out ≡ old.is_out → new.asked ≡ one_more old.asked
-    → Rose old.faults new.faults → IsTended d p q old new ends.Fault
-tends-fault d p q old new a links home out asks rose = record {
+    → Rose old.faults new.faults → IsTended d p q old new (ends.Fault unshut)
+tends-fault d p q old new unshut a links home out asks rose = record {
   acts = [];
-  last = a.0;
-  tends = a.1;
+  last = shut_entries unshut;
+  tends = a.0;
   links = links ∙ sym (adds-nil old.served);
   home = subst (λ o. Told o (λ out. out ≡ false)) (sym out) home;
   asks = asks;
   once = omega arith;
-  ends = (a.2, rose);
+  ends = (refl, a.1, rose);
 }
 
 -- ---- question after question

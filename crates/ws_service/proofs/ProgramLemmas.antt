@@ -21,9 +21,11 @@ use Rattle.host_turns.specs.States.{HasState}
 use Rattle.host_turns.specs.Turns.{Acts, Finds, Prints, Steps, printed_by}
 use Rattle.host_turns.specs.declared.state.State.{State}
 use Rattle.host_turns.specs.declared.state.State.TheVariants as states
-use Rattle.ws_service.specs.Programs.{AreLeft, AreTurns, Counts, FindsDue, Finishes, GainsLines, HasReason, HasRun, IsDue, IsLast, IsRunOf, IsShutAfter, IsTurn, OnlyRuns, Output, Writes, end_at, end_in, may_cut}
+use Rattle.ws_service.specs.Programs.{AreLeft, AreTurns, Counts, FindsDue, Finishes, GainsLines, HasReason, HasRun, IsDue, IsLast, IsRunOf, IsTurn, OnlyRuns, Output, Writes, end_at, end_in, may_cut, shuts_at}
+use Rattle.ws_service.specs.Shutdowns.{HadNoTicket, ShutsDown, shut_entries}
 use Rattle.ws_service.specs.declared.program.RunEnd.{RunEnd}
 use Rattle.ws_service.specs.declared.program.RunEnd.TheVariants as ends
+use Rattle.ws_service.specs.declared.shutdown.NotShut.{NotShut}
 use Rattle.ws_service.proofs.PassingLemmas.{goes, goes-none, goes-on}
 
 -- ---- the makers of runs
@@ -110,17 +112,17 @@ falls (y ∷ m) b (z ∷ front) rest x is =
 
 -- ---- entries that were due
 
-due-before : (d : Debugging) (front rest more : List (ℕ × Entry)) (entry : Entry) (end : Option RunEnd)
-    → IsDue d front entry ⊎ IsLast None entry rest → IsDue d front entry ⊎ IsLast end entry more
-due-before d front rest more entry end (inl due) = inl due
-due-before d front rest more entry end (inr last) = let none = last.0 in absurd cc
+due-before : (d : Debugging) (k : ℕ) (front rest more : List (ℕ × Entry)) (entry : Entry) (end : Option RunEnd)
+    → IsDue d front entry ⊎ IsLast k None entry rest → IsDue d front entry ⊎ IsLast k end entry more
+due-before d k front rest more entry end (inl due) = inl due
+due-before d k front rest more entry end (inr last) = let none = last.0 in absurd cc
 
 due-at : (d : Debugging) (k : ℕ) (h m g front rest : List (ℕ × Entry)) (entry : Entry) (end : Option RunEnd)
     → FindsDue d k h m None → FindsDue d k m g end → Begins h front → g ≡ front ++ (k, entry) ∷ rest
-    → Falls m front (k, entry) → IsDue d front entry ⊎ IsLast end entry rest
+    → Falls m front (k, entry) → IsDue d front entry ⊎ IsLast k end entry rest
 due-at d k h m g front rest entry end first second begins is (inl later) = second front rest entry later is
 due-at d k h m g front rest entry end first second begins is (inr within) =
-    due-before d front within.0 rest entry end (first front within.0 entry begins within.1)
+    due-before d k front within.0 rest entry end (first front within.0 entry begins within.1)
 
 due-on : (d : Debugging) (k : ℕ) (h m g : List (ℕ × Entry)) (end : Option RunEnd) → Begins m g
     → FindsDue d k h m None → FindsDue d k m g end → FindsDue d k h g end
@@ -138,21 +140,21 @@ due-none d k h end = λ front rest entry begins is.
     ∙ append_assoc h begins.0 ((k, entry) ∷ rest) in
     absurd (some-after begins.0 rest (k, entry) (append_cancel_left h [] (begins.0 ++ (k, entry) ∷ rest) all))
 
--- the entry of a turn was due, or there was no memory, and it made no step
+-- the entry of a turn was due, or the host was broken, and it made no step
 abbrev FindsAt : Debugging → List (ℕ × Entry) → Entry → Option RunEnd → Type 0
-FindsAt d h entry end = IsDue d h entry ⊎ ((end ≡ Some ends.Memory) × (steps_of entry ≡ 0))
+FindsAt d h entry end = IsDue d h entry ⊎ ((end ≡ Some ends.Broken) × (steps_of entry ≡ 0))
 
-is-last : (d : Debugging) (h : List (ℕ × Entry)) (entry : Entry) (end : Option RunEnd) → FindsAt d h entry end
-    → (rest : List (ℕ × Entry)) → rest ≡ [] → IsDue d h entry ⊎ IsLast end entry rest
-is-last d h entry end (inl due) rest none = inl due
-is-last d h entry end (inr memory) rest none = inr (memory.0, memory.1, none)
+is-last : (d : Debugging) (k : ℕ) (h : List (ℕ × Entry)) (entry : Entry) (end : Option RunEnd)
+    → FindsAt d h entry end → (rest : List (ℕ × Entry)) → rest ≡ [] → IsDue d h entry ⊎ IsLast k end entry rest
+is-last d k h entry end (inl due) rest none = inl due
+is-last d k h entry end (inr broken) rest none = inr (broken.0, broken.1, ap (by k) none)
 
 same-entry : (j k : ℕ) (entry other : Entry) → ◌≡◌ {A = ℕ × Entry} (j, entry) (k, other) → entry ≡ other
 same-entry j k entry other is = ap (λ (made : ℕ × Entry). made.1) is
 
 due-last : (d : Debugging) (k : ℕ) (h front rest : List (ℕ × Entry)) (left entry : Entry) (end : Option RunEnd)
     → FindsAt d h left end → Begins h front → h ++ (k, left) ∷ [] ≡ front ++ (k, entry) ∷ rest
-    → IsDue d front entry ⊎ IsLast end entry rest
+    → IsDue d front entry ⊎ IsLast k end entry rest
 due-last d k h front rest left entry end found begins is =
     let all : (k, left) ∷ [] ≡ begins.0 ++ (k, entry) ∷ rest =
     append_cancel_left h ((k, left) ∷ []) (begins.0 ++ (k, entry) ∷ rest)
@@ -160,8 +162,8 @@ due-last d k h front rest left entry end found begins is =
     let one = alone (k, left) (k, entry) begins.0 rest all in
     let front-same : front ≡ h = begins.1 ∙ ap (λ l. h ++ l) one.0 ∙ append-nil h in
     let same = same-entry k k left entry one.1 in
-    subst (λ l. IsDue d l entry ⊎ IsLast end entry rest) (sym front-same)
-    (is-last d h entry end (subst (λ (e : Entry). FindsAt d h e end) same found) rest one.2)
+    subst (λ l. IsDue d l entry ⊎ IsLast k end entry rest) (sym front-same)
+    (is-last d k h entry end (subst (λ (e : Entry). FindsAt d h e end) same found) rest one.2)
 
 -- there is none where this maker left nothing
 none-between : (k : ℕ) (h between front rest : List (ℕ × Entry)) (entry : Entry) → by k between ≡ [] → Begins h front
@@ -179,7 +181,7 @@ none-between k h between front rest entry nothing begins is =
 due-act : (d : Debugging) (k : ℕ) (h between front rest : List (ℕ × Entry)) (left entry : Entry)
     (end : Option RunEnd) → by k between ≡ [] → FindsAt d (h ++ between) left end → Begins h front
     → (h ++ between) ++ (k, left) ∷ [] ≡ front ++ (k, entry) ∷ rest → Falls (h ++ between) front (k, entry)
-    → IsDue d front entry ⊎ IsLast end entry rest
+    → IsDue d front entry ⊎ IsLast k end entry rest
 due-act d k h between front rest left entry end nothing found begins is (inl later) =
     due-last d k (h ++ between) front rest left entry end found later is
 due-act d k h between front rest left entry end nothing found begins is (inr within) =
@@ -291,31 +293,29 @@ turns-on : (moment : Option ℕ) (es fs : List Entry) → AreTurns moment es →
 turns-on moment [] fs first second = second
 turns-on moment (e ∷ es) fs first second = (first.0, turns-on moment es fs first.1 second)
 
-left-cut : (moment : Option ℕ) (es fs : List Entry) → AreTurns moment es → AreLeft moment true fs
-    → AreLeft moment true (es ++ fs)
-left-cut moment es fs first (inl turns) = inl (turns-on moment es fs first turns)
-left-cut moment es fs first (inr shut) = inr (
-  es ++ shut.0,
-  ap (λ l. es ++ l) shut.1 ∙ sym (append_assoc es shut.0 (Shut ∷ [])),
-  turns-on moment es shut.0 first shut.2,
+left-on : (moment : Option ℕ) (end : Option RunEnd) (es fs : List Entry) → AreLeft moment None es
+    → AreLeft moment end fs → AreLeft moment end (es ++ fs)
+left-on moment end es fs first second = (
+  es ++ second.0,
+  turns-on moment es second.0 (left-all moment es first) second.1,
+  ap (λ l. es ++ l) second.2 ∙ sym (append_assoc es second.0 (shuts_at end)),
 )
+  where
+    left-all : (moment : Option ℕ) (es : List Entry) → AreLeft moment None es → AreTurns moment es
+    left-all moment es left = subst (AreTurns moment) (sym (left.2 ∙ sym (append-nil left.0))) left.1
 
-left-on : (moment : Option ℕ) (cut : Bool) (es fs : List Entry) → AreTurns moment es → AreLeft moment cut fs
-    → AreLeft moment cut (es ++ fs)
-left-on moment false es fs first second = turns-on moment es fs first second
-left-on moment true es fs first second = left-cut moment es fs first second
-
-left-turns : (moment : Option ℕ) (cut : Bool) (es : List Entry) → AreTurns moment es → AreLeft moment cut es
-left-turns moment false es turns = turns
-left-turns moment true es turns = inl turns
+left-turns : (moment : Option ℕ) (end : Option RunEnd) (es : List Entry) → shuts_at end ≡ [] → AreTurns moment es
+    → AreLeft moment end es
+left-turns moment end es none turns = (es, turns, append-nil es ∙ ap (λ l. es ++ l) (sym none))
 
 -- no turn
 pub none-run : (d : Debugging) (moment : Option ℕ) (p : PassState Entry) (out : Output) (end : Option RunEnd)
-    → p.in_turn ≡ false → HasReason d end p.seen → Counts end out.faults out.faults → HasRun d moment p p out out end
-none-run d moment p out end free reason counts = record {
+    → p.in_turn ≡ false → shuts_at end ≡ [] → HasReason d end p.seen → Counts end out.faults out.faults
+    → HasRun d moment p p out out end
+none-run d moment p out end free unshut reason counts = record {
   entries = [];
   goes = goes-none d p free;
-  left = left-turns moment (may_cut end) [] tt;
+  left = left-turns moment end [] unshut tt;
   due = due-none d p.number p.seen end;
   writes = writes-none d p.number (may_cut end) p.seen out.content;
   reason = reason;
@@ -327,7 +327,7 @@ pub spent-run : (d : Debugging) (moment : Option ℕ) (p q : PassState Entry) (o
     → p.in_turn ≡ false → ticket ≡ limit → HasRun d moment p q out out (Some (ends.Spent ticket))
 spent-run d moment p q out ticket same free spent =
     subst (λ (z : PassState Entry). HasRun d moment p z out out (Some (ends.Spent ticket))) (sym same)
-    (none-run d moment p out (Some (ends.Spent ticket)) free spent refl)
+    (none-run d moment p out (Some (ends.Spent ticket)) free refl spent refl)
 
 -- turns, and more of them
 run-on : (d : Debugging) (moment : Option ℕ) (p m q : PassState Entry) (old mid new : Output) (end : Option RunEnd)
@@ -335,7 +335,7 @@ run-on : (d : Debugging) (moment : Option ℕ) (p m q : PassState Entry) (old mi
 run-on d moment p m q old mid new end a b = record {
   entries = a.entries ++ b.entries;
   goes = goes-on d p m q a.entries b.entries a.goes b.goes;
-  left = left-on moment (may_cut end) a.entries b.entries a.left b.left;
+  left = left-on moment end a.entries b.entries a.left b.left;
   due =
       due-on d p.number p.seen m.seen q.seen end b.goes.longer a.due
       (subst (λ (k : ℕ). FindsDue d k m.seen q.seen end) a.goes.same.1 b.due);
@@ -357,14 +357,14 @@ run-next d moment now p m q old mid new end same a b =
 
 -- one turn
 turn-run : (d : Debugging) (moment : Option ℕ) (p q : PassState Entry) (old new : Output) (entry : Entry)
-    (texts : List (List ℕ)) (end : Option RunEnd) (act : Acts d p q entry) → IsTurn moment entry
-    → Prints d (steps_of entry) texts (p.seen ++ act.between) → FindsAt d (p.seen ++ act.between) entry end
-    → GainsLines (may_cut end) old.content new.content texts → HasReason d end q.seen
-    → Counts end old.faults new.faults → HasRun d moment p q old new end
-turn-run d moment p q old new entry texts end act turn prints found gained reason counts = record {
+    (texts : List (List ℕ)) (end : Option RunEnd) (act : Acts d p q entry)
+    → AreLeft moment end (entry ∷ []) → Prints d (steps_of entry) texts (p.seen ++ act.between)
+    → FindsAt d (p.seen ++ act.between) entry end → GainsLines (may_cut end) old.content new.content texts
+    → HasReason d end q.seen → Counts end old.faults new.faults → HasRun d moment p q old new end
+turn-run d moment p q old new entry texts end act left prints found gained reason counts = record {
   entries = entry ∷ [];
   goes = goes d p q entry act;
-  left = left-turns moment (may_cut end) (entry ∷ []) (turn, tt);
+  left = left;
   due = due-turn d p q entry end act found;
   writes = writes-turn d p q entry act (may_cut end) old.content new.content texts prints gained;
   reason = reason;
@@ -382,6 +382,16 @@ idle-in d states.Ended h is some = inl (inr (inl is.1.0))
 idle-in d states.Paused h is some = inl (inr (inr (inl is)))
 idle-in d states.Waiting h is some = inl (inr (inr (inr is)))
 idle-in d states.Ready h is some = absurd (some refl)
+
+-- a state ends a run without a shut
+unshut-in : (state : State) → shuts_at (end_in state) ≡ []
+unshut-in states.Broken = refl
+unshut-in states.Shut = refl
+unshut-in states.Threw = refl
+unshut-in states.Ended = refl
+unshut-in states.Paused = refl
+unshut-in states.Waiting = refl
+unshut-in states.Ready = refl
 
 -- the program is where it was
 stays : (d : Debugging) (p q : PassState Entry) (act : Acts d p q (Take 0))
@@ -423,17 +433,18 @@ pub idle-run : (d : Debugging) (moment : Option ℕ) (p q : PassState Entry) (ou
 idle-run d moment p q out state end is found some =
     let h = p.seen ++ found.0.between in
     subst (λ (e : Option RunEnd). HasRun d moment p q out out e) (sym is)
-    (turn-run d moment p q out out (Take 0) [] (end_in state) found.0 refl (prints-none d h)
-    (idle-in d state h found.1 some) (gains-same (may_cut (end_in state)) out.content)
+    (turn-run d moment p q out out (Take 0) [] (end_in state) found.0
+    (left-turns moment (end_in state) (Take 0 ∷ []) (unshut-in state) (refl, tt)) (prints-none d h) (idle-in d state h found.1 some) (gains-same (may_cut (end_in state)) out.content)
     (reason-found d p q found.0 state found.1) (counts-in state out.faults out.faults refl))
 
 -- a turn for which there was no memory
-pub memory-run : (d : Debugging) (moment : Option ℕ) (at : ℕ) (p q : PassState Entry) (out : Output) (lost : List ℕ)
-    → Told moment (λ ms. at ≡ ms) → Acts d p q (Ran 0 at lost) → HasRun d moment p q out out (Some ends.Memory)
-memory-run d moment at p q out lost told act =
+pub broken-run : (d : Debugging) (moment : Option ℕ) (at : ℕ) (p q : PassState Entry) (out : Output) (lost : List ℕ)
+    → Told moment (λ ms. at ≡ ms) → Acts d p q (Ran 0 at lost) → HasRun d moment p q out out (Some ends.Broken)
+broken-run d moment at p q out lost told act =
     let h = p.seen ++ act.between in
-    turn-run d moment p q out out (Ran 0 at lost) [] (Some ends.Memory) act told (prints-none d h) (inr (refl, refl))
-    (gains-same true out.content) tt refl
+    turn-run d moment p q out out (Ran 0 at lost) [] (Some ends.Broken) act
+    (left-turns moment (Some ends.Broken) (Ran 0 at lost ∷ []) refl (told, tt)) (prints-none d h) (inr (refl, refl))
+    (gains-same false out.content) tt refl
 
 -- ---- a turn with steps
 
@@ -455,64 +466,80 @@ whole-run : (d : Debugging) (moment : Option ℕ) (at : ℕ) (p q : PassState En
     → HasRun d moment p q old new (end_in state)
 whole-run d moment at p q old new texts state told made is gained quiet =
     let act = made.act.0 in
-    turn-run d moment p q old new (Ran made.steps at made.lost) texts (end_in state) act told made.act.1
+    turn-run d moment p q old new (Ran made.steps at made.lost) texts (end_in state) act
+    (left-turns moment (end_in state) (Ran made.steps at made.lost ∷ []) (unshut-in state) (told, tt)) made.act.1
     (inl made.longest) (gains-whole (may_cut (end_in state)) old.content new.content texts gained)
     (reason-left d state q.seen is) (counts-in state old.faults new.faults quiet)
 
 -- whose texts weren't all written
-at-fault : (fault : SinkFault) → may_cut (Some (end_at fault)) ≡ true
-at-fault sink.Failed = refl
-at-fault sink.Memory = refl
+at-fault : (fault : SinkFault) (unshut : Option NotShut) → may_cut (Some (end_at fault unshut)) ≡ true
+at-fault sink.Failed unshut = refl
+at-fault sink.Memory unshut = refl
 
-reason-fault : (d : Debugging) (fault : SinkFault) (h : List (ℕ × Entry)) → HasReason d (Some (end_at fault)) h
-reason-fault d sink.Failed h = tt
-reason-fault d sink.Memory h = tt
+shuts-fault : (fault : SinkFault) (unshut : Option NotShut)
+    → shuts_at (Some (end_at fault unshut)) ≡ shut_entries unshut
+shuts-fault sink.Failed unshut = refl
+shuts-fault sink.Memory unshut = refl
 
-part-run : (d : Debugging) (moment : Option ℕ) (at : ℕ) (p q : PassState Entry) (old new : Output)
-    (texts : List (List ℕ)) (fault : SinkFault) → Told moment (λ ms. at ≡ ms) → Steps d 256 at p q texts
-    → GainsPrefix old.content new.content (printed_lines texts) → Counts (Some (end_at fault)) old.faults new.faults
-    → HasRun d moment p q old new (Some (end_at fault))
-part-run d moment at p q old new texts fault told made gained counts =
-    let act = made.act.0 in
-    let end = Some (end_at fault) in
-    turn-run d moment p q old new (Ran made.steps at made.lost) texts end act told made.act.1 (inl made.longest)
-    (subst (λ (cut : Bool). GainsLines cut old.content new.content texts) (sym (at-fault fault)) gained)
-    (reason-fault d fault q.seen) counts
+reason-fault : (d : Debugging) (fault : SinkFault) (unshut : Option NotShut) (h : List (ℕ × Entry))
+    → HadNoTicket unshut → HasReason d (Some (end_at fault unshut)) h
+reason-fault d sink.Failed unshut h spent = spent
+reason-fault d sink.Memory unshut h spent = spent
 
--- and after which the program was shut
+gains-fault : (fault : SinkFault) (unshut : Option NotShut) (before after : Option (List ℕ)) (texts : List (List ℕ))
+    → GainsPrefix before after (printed_lines texts)
+    → GainsLines (may_cut (Some (end_at fault unshut))) before after texts
+gains-fault fault unshut before after texts gained =
+    subst (λ (cut : Bool). GainsLines cut before after texts) (sym (at-fault fault unshut)) gained
+
+-- and no ticket was left for a shut
+unshut-run : (d : Debugging) (moment : Option ℕ) (at : ℕ) (p q : PassState Entry) (old new : Output)
+    (texts : List (List ℕ)) (fault : SinkFault) (unshut : NotShut) → unshut.ticket ≡ limit
+    → Told moment (λ ms. at ≡ ms) → Steps d 256 at p q texts → GainsPrefix old.content new.content (printed_lines texts)
+    → Counts (Some (end_at fault (Some unshut))) old.faults new.faults
+    → HasRun d moment p q old new (Some (end_at fault (Some unshut)))
+unshut-run d moment at p q old new texts fault unshut spent told made gained counts =
+    let end = Some (end_at fault (Some unshut)) in
+    let ran = Ran made.steps at made.lost in
+    turn-run d moment p q old new ran texts end made.act.0
+    (left-turns moment end (ran ∷ []) (shuts-fault fault (Some unshut)) (told, tt)) made.act.1 (inl made.longest)
+    (gains-fault fault (Some unshut) old.content new.content texts gained) (reason-fault d fault (Some unshut) q.seen spent)
+    counts
+
+-- or the program was shut
 shut-run : (d : Debugging) (moment : Option ℕ) (at : ℕ) (p m q : PassState Entry) (old new : Output)
     (texts : List (List ℕ)) (fault : SinkFault) → Told moment (λ ms. at ≡ ms) → Steps d 256 at p m texts
     → Acts d m q Shut → GainsPrefix old.content new.content (printed_lines texts)
-    → Counts (Some (end_at fault)) old.faults new.faults → HasRun d moment p q old new (Some (end_at fault))
+    → Counts (Some (end_at fault None)) old.faults new.faults → HasRun d moment p q old new (Some (end_at fault None))
 shut-run d moment at p m q old new texts fault told made act gained counts =
-    let end = Some (end_at fault) in
+    let end = Some (end_at fault None) in
     let ran = Ran made.steps at made.lost in
     let first = goes d p m ran made.act.0 in
     let second = goes d m q Shut act in record {
       entries = ran ∷ Shut ∷ [];
       goes = goes-on d p m q (ran ∷ []) (Shut ∷ []) first second;
-      left =
-          subst (λ (cut : Bool). AreLeft moment cut (ran ∷ Shut ∷ [])) (sym (at-fault fault))
-          (inr (ran ∷ [], refl, (told, tt)));
+      left = (ran ∷ [], (told, tt), ap (λ l. ran ∷ l) (sym (shuts-fault fault None)));
       due =
           due-on d p.number p.seen m.seen q.seen end second.longer
           (due-turn d p m ran None made.act.0 (inl made.longest))
           (subst (λ (k : ℕ). FindsDue d k m.seen q.seen end) first.same.1 (due-turn d m q Shut end act (inl tt)));
       writes =
           writes-shut d p.number p m q act (may_cut end) old.content new.content first.same.1 first.longer
-          (part-run d moment at p m old new texts fault told made gained counts).writes;
-      reason = reason-fault d fault q.seen;
+          (writes-turn d p m ran made.act.0 (may_cut end) old.content new.content texts made.act.1
+          (gains-fault fault None old.content new.content texts gained));
+      reason = reason-fault d fault None q.seen tt;
       counts = counts;
     }
 
 cut-run : (d : Debugging) (moment : Option ℕ) (at : ℕ) (p m q : PassState Entry) (old new : Output)
-    (texts : List (List ℕ)) (fault : SinkFault) → Told moment (λ ms. at ≡ ms) → Steps d 256 at p m texts
-    → IsShutAfter d m q → GainsPrefix old.content new.content (printed_lines texts)
-    → Counts (Some (end_at fault)) old.faults new.faults → HasRun d moment p q old new (Some (end_at fault))
-cut-run d moment at p m q old new texts fault told made (inl same) gained counts =
-    subst (λ (z : PassState Entry). HasRun d moment p z old new (Some (end_at fault))) (sym same)
-    (part-run d moment at p m old new texts fault told made gained counts)
-cut-run d moment at p m q old new texts fault told made (inr act) gained counts =
+    (texts : List (List ℕ)) (fault : SinkFault) (unshut : Option NotShut) → Told moment (λ ms. at ≡ ms)
+    → Steps d 256 at p m texts → ShutsDown d m q unshut → GainsPrefix old.content new.content (printed_lines texts)
+    → Counts (Some (end_at fault unshut)) old.faults new.faults
+    → HasRun d moment p q old new (Some (end_at fault unshut))
+cut-run d moment at p m q old new texts fault (Some unshut) told made none gained counts =
+    subst (λ (z : PassState Entry). HasRun d moment p z old new (Some (end_at fault (Some unshut)))) (sym none.0)
+    (unshut-run d moment at p m old new texts fault unshut none.1 told made gained counts)
+cut-run d moment at p m q old new texts fault None told made act gained counts =
     shut-run d moment at p m q old new texts fault told made act gained counts
 
 -- a turn with steps, after which a state says whether the run ends
@@ -524,7 +551,7 @@ finish-run d moment at p m q old new texts state end told made is (inl all) =
     subst (λ (z : PassState Entry × Option RunEnd). HasRun d moment p z.0 old new z.1)
     (λ i. (sym all.1.0 i, sym all.0 i))
     (whole-run d moment at p m old new texts state told made is all.1.1 all.1.2)
-finish-run d moment at p m q old new texts state end told made is (inr (e, same, (fault, at_fault, shut, gained, counts))) =
+finish-run d moment at p m q old new texts state end told made is (inr (e, same, (fault, unshut, at_fault, shut, gained, counts))) =
     subst (λ (z : Option RunEnd). HasRun d moment p q old new z) (sym (same ∙ ap (λ (r : RunEnd). Some r) at_fault))
-    (cut-run d moment at p m q old new texts fault told made shut gained
+    (cut-run d moment at p m q old new texts fault unshut told made shut gained
     (subst (λ (r : RunEnd). Counts (Some r) old.faults new.faults) at_fault counts))

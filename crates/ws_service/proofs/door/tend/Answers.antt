@@ -31,6 +31,6 @@ returns-in-Quiet g c =
 
 pub returns-in-Failed : goal.returns-in-Failed
 returns-in-Failed g c =
-    tends-fault g.H.Hosted.debugs c.args.p.now c.shut_all.new.p _ _
-    c.shut_all.ensures c.in-Failed.ensures.served c.requires.none_out c.in-Failed.ensures.out
+    tends-fault g.H.Hosted.debugs c.args.p.now c.shut_all-unshut.new.p _ _
+    c.shut_all-unshut.result c.shut_all-unshut.ensures c.in-Failed.ensures.served c.requires.none_out c.in-Failed.ensures.out
     c.in-Failed.ensures.asked (c.in-Failed.ensures.failed refl)

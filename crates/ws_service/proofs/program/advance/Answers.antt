@@ -1,7 +1,7 @@
 use Rattle.std.proofs.Common.{List, ℕ, subst, sym}
 use Rattle.host_turns.specs.Turns.{Steps}
 use Rattle.ws_service.specs.Programs.{Output}
-use Rattle.ws_service.proofs.ProgramLemmas.{finish-run, idle-run, memory-run, spent-run}
+use Rattle.ws_service.proofs.ProgramLemmas.{finish-run, idle-run, broken-run, spent-run}
 use Rattle.ws_service.proofs.program.advance.Goals as goal
 
 pub returns-in-Ok-Ran-clause-runs : goal.returns-in-Ok-Ran-clause-runs
@@ -29,7 +29,7 @@ pub returns-in-Ok-Memory-clause-runs : goal.returns-in-Ok-Memory-clause-runs
 returns-in-Ok-Memory-clause-runs g c =
     let out : Output = record { content = g.O.Sink.content c.args.out.now; faults = g.O.Sink.faults c.args.out.now } in
     let broke = rw c.in-Ok-Memory.field-0-is at c.in-Ok-Memory.ensures.runs in
-    memory-run g.H.Hosted.debugs (g.C.Clock.moment c.args.clock.now) c.now_ms-moment.result c.args.p.now c.run.new.p
+    broken-run g.H.Hosted.debugs (g.C.Clock.moment c.args.clock.now) c.now_ms-moment.result c.args.p.now c.run.new.p
     out broke.0 c.now_ms-moment.ensures.told broke.1
 
 pub returns-in-Err-clause-runs : goal.returns-in-Err-clause-runs

@@ -8,7 +8,7 @@ pub loop-init : goal.loop-init
 loop-init g c =
     let out : Output = record { content = g.O.Sink.content c.args.out.now; faults = g.O.Sink.faults c.args.out.now } in
     let moment = g.C.Clock.moment c.args.clock.now in
-    record { runs = none-run g.H.Hosted.debugs moment c.args.p.now out None c.requires.free tt refl; clock = refl }
+    record { runs = none-run g.H.Hosted.debugs moment c.args.p.now out None c.requires.free refl tt refl; clock = refl }
 
 pub loop-preserved : goal.loop-preserved
 loop-preserved g c =
