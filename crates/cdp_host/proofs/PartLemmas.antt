@@ -39,7 +39,7 @@ use Rattle.cdp_session.specs.Situations.{Standing}
 use Rattle.cdp_session.proofs.StopLemmas.{never-causes}
 use Rattle.cdp_host.specs.Arrivals.{arrival_at, at_the_end, is_uncaught, place_at}
 use Rattle.cdp_host.specs.Standings.{standing_of}
-use Rattle.cdp_host.specs.Programs.{arrival_of, code_of, next, nexts, is_over, has_thrown, printed_of, prints_next}
+use Rattle.cdp_host.specs.Programs.{arrival_of, code_of, next, nexts, is_over, has_thrown, printed_of, prints_next, uncaught_text}
 use Rattle.cdp_host.specs.Hosts.{Parts, machine_run, machine_arrival, run_with}
 use Rattle.cdp_host.specs.Ran.{Advances, may_stop, may_stop_seat, stops_at, stops_seat}
 use Rattle.cdp_host.specs.Watching.{prints_last}
@@ -238,6 +238,14 @@ pub unfinished-thrown : (m : Machine) (h : Heap) (taken : List (List ℕ))
     → finish_at m.ended m.point ≡ None
     → has_thrown (machine_run m h taken) ≡ false
 unfinished-thrown m h taken kept goes none = not_thrown m h taken m.ended refl kept goes none
+
+-- a run that no throw ended has no text of one
+pub no-text : (r : Run) → has_thrown r ≡ false → uncaught_text r ≡ None
+no-text (running t s) none = refl
+no-text (over (runs.ended v) s) none = refl
+no-text (over (runs.threw v place) s) none = absurd cc
+no-text (over runs.by_effect s) none = refl
+no-text (over (runs.by_full what) s) none = refl
 
 -- ---- steps
 

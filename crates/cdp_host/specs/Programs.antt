@@ -1,7 +1,9 @@
 -- What a host's definitions need of a program.
-use Rattle.std.specs.Prelude.{ℕ, zero, suc, List, Bool, true, false, Option}
+use Rattle.std.specs.Prelude.{ℕ, zero, suc, List, Bool, true, false, Option, Some, None}
+use Rattle.cdp_text.specs.Units.{utf8_of}
 use Rattle.js_tree.specs.declared.script.Script.{Script}
 use Rattle.js_heap.specs.BuiltIns.{script_scope}
+use Rattle.js_heap.specs.Values.{shown}
 use Rattle.js_heap.specs.declared.value.Value.{Value}
 use Rattle.js_semantics.specs.Functions.{Program}
 use Rattle.js_semantics.specs.Run as runs
@@ -53,6 +55,14 @@ has_thrown (over (ended v) s) = false
 has_thrown (over (threw v place) s) = true
 has_thrown (over by_effect s) = false
 has_thrown (over (by_full what) s) = false
+
+-- how the value is shown whose throw ended it, if one did that no `catch` took
+abbrev pub uncaught_text : Run → Option (List ℕ)
+uncaught_text (running t s) = None
+uncaught_text (over (ended v) s) = None
+uncaught_text (over (threw v place) s) = Some (utf8_of (shown s.world v))
+uncaught_text (over by_effect s) = None
+uncaught_text (over (by_full what) s) = None
 
 -- the texts that it has printed
 abbrev pub printed_of : Run → List (List ℕ)

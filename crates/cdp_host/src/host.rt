@@ -18,7 +18,8 @@ ghost use Rattle.pure_eval.specs.Workspaces.{begun};
 ghost use Rattle.host_seats.specs.Fallbacks.{fallback_of};
 ghost use Rattle.host_seats.specs.Losses.{loss_told, losses_from};
 ghost use Rattle.cdp_host.specs.Histories.{begin};
-ghost use Rattle.cdp_host.specs.Programs.{code_of, is_over, has_thrown};
+ghost use Rattle.std.specs.Option.{option_map};
+ghost use Rattle.cdp_host.specs.Programs.{code_of, is_over, has_thrown, uncaught_text};
 ghost use Rattle.cdp_host.specs.Protocols.{asks_to_resume, asks_to_wake, protocol, situation, texts_fit};
 ghost use Rattle.cdp_host.specs.Hosts.{CarriesOn, FallsBack, KeepsFallback, Leaves, NoneAttached, PrintsOn, RunsTo, Stands, everybody, meaning_with, parts_standing, state_at};
 ghost use Rattle.host_turns.specs.Entries.{lost_for_memory};
@@ -35,7 +36,7 @@ use crate::telling::{Answered, answer, take};
 use breakpoints::ScriptSpots;
 use cdp_session::{Asks, Pause, Program, Session, Situation};
 use cdp_text::line_table::LineTable;
-use cdp_text::units::Units;
+use cdp_text::units::{Units, text_of};
 use host_seats::{
     Fallback, SessionLost, fell, is_attached, leave, losses_of, report_all, seat_index,
     some_wait_for_report, tell_loss,
@@ -44,6 +45,7 @@ use host_turns::{Ran, State, Told};
 use isolation::{Phase, Seat};
 use js_machine::machine::{Machine, Started};
 use js_machine::scripts::terms_of_scripts;
+use js_operations::shown::shown;
 use js_programs::literals::placed_scripts;
 use js_steps::stepped::Finish;
 use js_tree::script::Script;
@@ -696,6 +698,23 @@ impl<'p> Host<'p> {
         ensures { self.now.broken ≡ false → (taken : List (List ℕ)) → result ≡ is_over (meaning_with self.now taken).program }
     {
         is_over(&self.machine)
+    }
+
+    /// The value whose throw ended the program, as `console.log` shows it, if one did that no `catch` took.
+    ///
+    /// It fails where no memory is left for the text.
+    pub fn uncaught_text(&self) -> Result<Option<String>, AllocError>
+        ensures { IfOk result (λ text. self.now.broken ≡ false → (taken : List (List ℕ)) → option_map string_bytes text ≡ uncaught_text (meaning_with self.now taken).program) }
+    {
+        match self.machine.finished() {
+            Some(Finish::Threw(value, _)) => {
+                let units = shown(self.alloc, &self.heap, self.machine.names(), value)?;
+                let text = text_of(self.alloc, units.as_slice())?;
+                Ok(Some(text))
+            }
+            Some(Finish::Ended(_)) => Ok(None),
+            None => Ok(None),
+        }
     }
 
     /// Whether it is over by a throw that no `catch` took.

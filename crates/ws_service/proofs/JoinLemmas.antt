@@ -1,6 +1,9 @@
 -- A door that was served stays so in every history that goes on without its maker.
-use Rattle.std.proofs.Common.{◌≡◌, ℕ, List, All, [], ◌∷◌, ◌++◌, map, Bool, true, false, if◌then◌else◌, nat_lt, length, Option as Opt, Some, None, refl, ap, sym, subst, ◌∙◌, append_assoc}
-use Rattle.std.proofs.lemmas.List.Elements.{All-nil, All-push, All-weaker}
+use Rattle.std.proofs.Common.{◌≡◌, ◌⊎◌, ◌<◌, ◌≤◌, inl, inr, ℕ, suc, List, All, [], ◌∷◌, ◌++◌, map, Bool, true, false, if◌then◌else◌, nat_lt, length, slice_index_or, Option as Opt, Some, None, refl, ap, sym, subst, ◌∙◌, append_assoc, arith}
+use Rattle.std.proofs.lemmas.Bool.{ne_eqb}
+use Rattle.std.proofs.lemmas.List.Elements.{All-head, All-nil, All-push, All-tail, All-weaker}
+use mathlib.Core.Logic.{dite}
+use native.Mathlib.Decide.{ℕ_discrete}
 use Rattle.isolation.specs.Histories.{Entry}
 use Rattle.isolation.specs.Makers.{IsNoTake, TakesNone, by}
 use Rattle.cdp_edge.specs.Outside.{Told}
@@ -10,7 +13,7 @@ use Rattle.history_lock.proofs.Facts.{begins_same, by_behind, has_behind, has_fr
 use Rattle.server_edge.specs.Contents.{Tended, adds}
 use Rattle.host_turns.specs.Debuggings.{Debugging, IsHistory}
 use Rattle.ws_service.specs.Doors.{EndsDoor, asked_more, questions}
-use Rattle.ws_service.specs.Joins.{HasServed, IsServedDoor, joined_passes}
+use Rattle.ws_service.specs.Joins.{AnswersForAll, AreAll, HasServed, IsServedDoor, joined_passes}
 use Rattle.ws_service.specs.Visits.{AreActs, AreNew, entries_of, links_of, sessions_of}
 use Rattle.ws_service.specs.declared.door.DoorEnd.{DoorEnd}
 use Rattle.ws_service.proofs.PassingLemmas.{begins-on, was-longer}
@@ -28,7 +31,7 @@ told-added (Some old) new more none is =
 pub history-of : (d : Debugging) (q : PassState Entry) (door : Tended) (ended : Opt DoorEnd) → HasServed d q door ended
     → IsHistory d q.seen
 history-of d q door ended s =
-    s.tended.tends.goes.history (subst (IsHistory d) (sym s.start) (record { fits = tt; owned = tt }))
+    s.tended.tends.goes.history (subst (IsHistory d) (sym s.unstarted.start) (record { fits = tt; owned = tt }))
 
 -- over what the pass has seen
 served-at : (d : Debugging) (q : PassState Entry) (door : Tended) (ended : Opt DoorEnd) → HasServed d q door ended
@@ -42,10 +45,10 @@ served-at d q door ended s =
       end = s.end;
       own =
           subst (λ (n : ℕ). by n q.seen ≡ entries_of t.acts ++ t.last) k
-          (subst (λ h. by s.first.number q.seen ≡ by s.first.number h ++ (entries_of t.acts ++ t.last)) s.start
+          (subst (λ h. by s.first.number q.seen ≡ by s.first.number h ++ (entries_of t.acts ++ t.last)) s.unstarted.start
           t.tends.goes.own);
       are = subst (λ (n : ℕ). AreActs d n q.seen t.acts) k t.tends.are;
-      apart = subst (λ h. AreNew h (sessions_of t.acts)) s.start t.tends.new;
+      apart = subst (λ h. AreNew h (sessions_of t.acts)) s.unstarted.start t.tends.new;
       links = told-added s.unasked.served door.served (links_of t.acts) s.is_new.2 t.links;
       home = t.home;
       asks = t.asks ∙ ap (asked_more (questions s.end t.acts)) s.is_new.1;
@@ -91,7 +94,7 @@ joined-push : (p : PassState Entry) (passes : List (PassState Entry)) (q : PassS
 joined-push p [] q = refl
 joined-push p (r ∷ passes) q = joined-push (joined_pass p r) passes q
 
-map-push : {A B : Type 0} (f : A → B) (xs : List A) (x : A) → map f (xs ++ x ∷ []) ≡ map f xs ++ f x ∷ []
+pub map-push : {A B : Type 0} (f : A → B) (xs : List A) (x : A) → map f (xs ++ x ∷ []) ≡ map f xs ++ f x ∷ []
 map-push f [] x = refl
 map-push f (y ∷ xs) x = ap (λ l. f y ∷ l) (map-push f xs x)
 
@@ -105,11 +108,34 @@ pushed f old xs x before after y is so at =
     ∙ append_assoc old (map f xs) (f x ∷ [])
     ∙ ap (λ l. old ++ l) (sym (map-push f xs x))
 
+-- where each of the second list has the number of the first in its place, the numbers are the same
+pub alike : {X : Type 0} (f : X → ℕ) (xs ys : List X) → length ys ≡ length xs
+    → ((k : ℕ) (x : X) → k < length xs → f (slice_index_or ys k x) ≡ f (slice_index_or xs k x)) → map f ys ≡ map f xs
+alike f [] [] same at = refl
+alike f [] (y ∷ ys) same at = absurd (omega (arith, same))
+alike f (x ∷ xs) [] same at = absurd (omega (arith, same))
+alike f (x ∷ xs) (y ∷ ys) same at =
+    ap (λ (n : ℕ). n ∷ map f ys) (at 0 x (omega arith))
+    ∙ ap (λ l. f x ∷ l) (alike f xs ys (omega (arith, same)) (λ k z lt. at (suc k) z (omega (arith, lt))))
+
+-- what is so for the number of each desk is so for each of these numbers
+pub among : {X : Type 0} (P : ℕ → Type 0) (number : X → ℕ) (desks : List X) (x : ℕ) → All (λ y. P (number y)) desks
+    → has x (map number desks) ≡ true → P x
+among P number [] x all is = absurd cc
+among P number (desk ∷ desks) x all is = dite (ℕ_discrete (number desk) x)
+    (λ same. subst P same (All-head (λ y. P (number y)) desk desks all))
+    (λ other.
+    among P number desks x (All-tail (λ y. P (number y)) desk desks all)
+    (sym (ap (λ (b : Bool). if b then true else has x (map number desks)) (ne_eqb (number desk) x other)) ∙ is))
+
 -- the passes of these desks were joined into one
 pub record Joining {X : Type 0} (d : Debugging) (pass : X → PassState Entry) (door : X → Tended)
     (ended : X → Opt DoorEnd) (p q : PassState Entry) (desks : List X) : Type 0 where
   pub joined : q ≡ joined_passes p (map pass desks)
   pub lock : q.lock ≡ p.lock
+  pub number : q.number ≡ p.number
+  pub initial : q.initial ≡ p.initial
+  pub unsplit : q.splits ≡ p.splits
   pub free : q.in_turn ≡ false
   pub history : IsHistory d q.seen
   pub longer : Begins p.seen q.seen
@@ -124,6 +150,9 @@ module _ {X : Type 0} (d : Debugging) (pass : X → PassState Entry) (door : X �
   joining-none p free is = record {
     joined = refl;
     lock = refl;
+    number = refl;
+    initial = refl;
+    unsplit = refl;
     free = free;
     history = is;
     longer = begins_same p.seen;
@@ -137,7 +166,7 @@ module _ {X : Type 0} (d : Debugging) (pass : X → PassState Entry) (door : X �
   number-named : (x : X) → HasServed d (pass x) (door x) (ended x) → has (pass x).number (pass x).numbers ≡ true
   number-named x s =
       let same = s.tended.tends.goes.same in
-      ap (λ l. has (pass x).number l) same.2 ∙ ap (λ (n : ℕ). has n s.first.numbers) same.1 ∙ s.named
+      ap (λ l. has (pass x).number l) same.2 ∙ ap (λ (n : ℕ). has n s.first.numbers) same.1 ∙ s.unstarted.named
 
   pub joining-on : (p m q : PassState Entry) (desks : List X) (x : X) → Joining d pass door ended p m desks
       → HasServed d (pass x) (door x) (ended x) → q ≡ joined_pass m (pass x) → Begins m.seen q.seen
@@ -150,6 +179,9 @@ module _ {X : Type 0} (d : Debugging) (pass : X → PassState Entry) (door : X �
         ∙ sym (joined-push p (map pass desks) (pass x))
         ∙ ap (joined_passes p) (sym (map-push pass desks x));
     lock = ap (λ z. z.lock) is ∙ j.lock;
+    number = ap (λ z. z.number) is ∙ j.number;
+    initial = ap (λ z. z.initial) is ∙ j.initial;
+    unsplit = unsplit;
     free = ap (λ z. z.in_turn) is ∙ j.free;
     history = history;
     longer = begins-on p.seen m.seen q.seen j.longer b;
@@ -174,6 +206,12 @@ module _ {X : Type 0} (d : Debugging) (pass : X → PassState Entry) (door : X �
       P : X → Type 0
       P y = IsServedDoor d (pass y).number q.seen (door y) (ended y) × (has (pass y).number q.numbers ≡ true)
 
+      unsplit : q.splits ≡ p.splits
+      unsplit =
+          let none = s.tended.tends.goes.same.3 ∙ s.unstarted.unsplit in
+          let sum = ap (λ z. z.splits) is in
+          let before = j.unsplit in omega (arith, none, sum, before)
+
       front : (y : ℕ) → has y m.numbers ≡ true → has y q.numbers ≡ true
       front y at = ap (λ z. has y z.numbers) is ∙ has_front y m.numbers (pass x).numbers at
 
@@ -189,3 +227,19 @@ module _ {X : Type 0} (d : Debugging) (pass : X → PassState Entry) (door : X �
   served-in p q desks j =
       All-weaker (λ x. IsServedDoor d (pass x).number q.seen (door x) (ended x) × (has (pass x).number q.numbers ≡ true))
       (λ x. IsServedDoor d (pass x).number q.seen (door x) (ended x)) (λ x at. at.0) desks j.served
+
+  -- where all passes of a lock were joined, the one that is left answers for all
+  pub answers-for-all : (p q : PassState Entry) (desks : List X) → Joining d pass door ended p q desks
+      → AreAll p (map (λ x. (pass x).number) desks) → AnswersForAll q
+  answers-for-all p q desks j are =
+      (j.unsplit ∙ are.0, λ y lt. covered y (are.1 y (subst (λ (n : ℕ). y < n) j.initial lt)))
+    where
+      covered : (y : ℕ) → (has y p.numbers ≡ true) ⊎ (has y (map (λ x. (pass x).number) desks) ≡ true)
+          → has y q.numbers ≡ true
+      covered y (inl own) = j.named y own
+      covered y (inr desk) =
+          among (λ z. has z q.numbers ≡ true) (λ x. (pass x).number) desks y
+          (All-weaker
+          (λ x. IsServedDoor d (pass x).number q.seen (door x) (ended x) × (has (pass x).number q.numbers ≡ true))
+          (λ x. has (pass x).number q.numbers ≡ true) (λ x at. at.1) desks j.served)
+          desk

@@ -7,3 +7,5 @@ pub mod DoorLemmas
 pub mod JoinLemmas
 pub mod ProgramLemmas
 pub mod OutputLemmas
+pub mod ClientLemmas
+pub mod ServingLemmas

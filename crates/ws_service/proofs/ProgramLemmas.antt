@@ -52,12 +52,12 @@ made-entries : (h g : List Entry) → steps_made (h ++ g) ≡ steps_made h + ste
 made-entries [] g = omega arith
 made-entries (entry ∷ h) g = let rest = made-entries h g in omega (arith, rest)
 
-made-append : (h g : List (ℕ × Entry))
+pub made-append : (h g : List (ℕ × Entry))
     → steps_made (entries_of (h ++ g)) ≡ steps_made (entries_of h) + steps_made (entries_of g)
 made-append h g = ap steps_made (map-append entry_of h g) ∙ made-entries (entries_of h) (entries_of g)
 
 -- where this maker left none, none were made
-none-made : (k : ℕ) (g : List (ℕ × Entry)) → OnlyRuns k g → by k g ≡ [] → steps_made (entries_of g) ≡ 0
+pub none-made : (k : ℕ) (g : List (ℕ × Entry)) → OnlyRuns k g → by k g ≡ [] → steps_made (entries_of g) ≡ 0
 none-made k [] only none = refl
 none-made k (made ∷ g) only none = dite (ℕ_discrete made.0 k)
     (λ is.
@@ -82,7 +82,7 @@ parts h m g a b more first second whole =
 same-head : {A : Type 0} → (x y : A) (xs ys : List A) → x ∷ xs ≡ y ∷ ys → x ≡ y
 same-head x y xs ys is = cc
 
-same-tail : {A : Type 0} → (x y : A) (xs ys : List A) → x ∷ xs ≡ y ∷ ys → xs ≡ ys
+pub same-tail : {A : Type 0} → (x y : A) (xs ys : List A) → x ∷ xs ≡ y ∷ ys → xs ≡ ys
 same-tail x y xs ys is = cc
 
 some-after : {A : Type 0} → (front rest : List A) (x : A) → [] ≡ front ++ x ∷ rest → ⊥
@@ -96,14 +96,14 @@ alone y x [] rest is = (refl, same-head y x [] rest is, sym (same-tail y x [] re
 alone y x (z ∷ front) rest is = absurd (some-after front rest x (same-tail y z [] (front ++ x ∷ rest) is))
 
 -- an entry falls into the first list, or after it
-abbrev Falls : {A : Type 0} → List A → List A → A → Type 0
+abbrev pub Falls : {A : Type 0} → List A → List A → A → Type 0
 Falls {A} m front x = Begins m front ⊎ ((rest : List A) × (m ≡ front ++ x ∷ rest))
 
 falls-more : {A : Type 0} → (y z x : A) (m front : List A) → y ≡ z → Falls m front x → Falls (y ∷ m) (z ∷ front) x
 falls-more y z x m front same (inl b) = inl (b.0, λ i. sym same i ∷ b.1 i)
 falls-more y z x m front same (inr w) = inr (w.0, λ i. same i ∷ w.1 i)
 
-falls : {A : Type 0} → (m b front rest : List A) (x : A) → m ++ b ≡ front ++ x ∷ rest → Falls m front x
+pub falls : {A : Type 0} → (m b front rest : List A) (x : A) → m ++ b ≡ front ++ x ∷ rest → Falls m front x
 falls [] b front rest x is = inl (front, refl)
 falls (y ∷ m) b [] rest x is = inr (m, ap (λ z. z ∷ m) (same-head y x (m ++ b) rest is))
 falls (y ∷ m) b (z ∷ front) rest x is =
@@ -166,7 +166,7 @@ due-last d k h front rest left entry end found begins is =
     (is-last d k h entry end (subst (λ (e : Entry). FindsAt d h e end) same found) rest one.2)
 
 -- there is none where this maker left nothing
-none-between : (k : ℕ) (h between front rest : List (ℕ × Entry)) (entry : Entry) → by k between ≡ [] → Begins h front
+pub none-between : (k : ℕ) (h between front rest : List (ℕ × Entry)) (entry : Entry) → by k between ≡ [] → Begins h front
     → h ++ between ≡ front ++ (k, entry) ∷ rest → ⊥
 none-between k h between front rest entry nothing begins is =
     let all : between ≡ begins.0 ++ (k, entry) ∷ rest =

@@ -1,5 +1,5 @@
 -- What doors leave in the one history of all passes.
-use Rattle.std.specs.Prelude.{◌≡◌, ◌≤◌, ℕ, List, [], ◌∷◌, ◌++◌, true, false, Option, Some}
+use Rattle.std.specs.Prelude.{◌≡◌, ◌⊎◌, ◌+◌, ◌<◌, ◌≤◌, ℕ, List, [], ◌∷◌, ◌++◌, true, false, Option, Some}
 use Rattle.isolation.specs.Histories.{Entry}
 use Rattle.cdp_edge.specs.Outside.{Told}
 use Rattle.history_lock.specs.Histories.{by, has}
@@ -11,12 +11,17 @@ use Rattle.ws_service.specs.Passing.{Was}
 use Rattle.ws_service.specs.Visits.{AreActs, AreNew, DoorAct, entries_of, links_of, sessions_of}
 use Rattle.ws_service.specs.declared.door.DoorEnd.{DoorEnd}
 
--- a pass of this lock that has seen nothing is to serve a door that is new
-pub record IsAtFirst (lock : LockId) (p : PassState Entry) (door : Tended) : Type 0 where
+-- a pass of this lock out of turn, which has seen nothing and of which none was split
+pub record IsUnstarted (lock : LockId) (p : PassState Entry) : Type 0 where
   pub lock_is : p.lock ≡ lock
   pub free : p.in_turn ≡ false
   pub start : p.seen ≡ []
   pub named : has p.number p.numbers ≡ true
+  pub unsplit : p.splits ≡ 0
+
+-- such a pass is to serve a door that is new
+pub record IsAtFirst (lock : LockId) (p : PassState Entry) (door : Tended) : Type 0 where
+  pub pass : IsUnstarted lock p
   pub is_new : IsNew door
 
 -- a pass that had seen nothing served a door that was new, which tells this now, and serving it ended so
@@ -26,8 +31,7 @@ pub record HasServed (d : Debugging) (q : PassState Entry) (door : Tended)
   pub unasked : Tended
   pub end : DoorEnd
   pub tended : IsTended d first q unasked door end
-  pub start : first.seen ≡ []
-  pub named : has first.number first.numbers ≡ true
+  pub unstarted : IsUnstarted q.lock first
   pub is_new : IsNew unasked
   pub is_end : ended ≡ Some end
 
@@ -48,6 +52,19 @@ pub record IsServedDoor (d : Debugging) (k : ℕ) (h : List (ℕ × Entry)) (doo
   pub once : 1 ≤ questions end acts
   pub ends : Was (λ seen. EndsDoor d k seen end last 0 door.faults) h
   pub is_end : ended ≡ Some end
+
+-- a pass answers for all passes with which its lock began, and none was split off any of these
+abbrev pub AnswersForAll : PassState Entry → Type 0
+AnswersForAll p = (p.splits ≡ 0) × ((x : ℕ) → x < p.initial → has x p.numbers ≡ true)
+
+-- the pass of the program, whose number is this, into which the passes with the numbers below were joined
+abbrev pub IsLastPass : LockId → ℕ → PassState Entry → Type 0
+IsLastPass lock n q =
+    (q.lock ≡ lock) × (q.in_turn ≡ false) × (q.number ≡ n) × (q.initial ≡ n + 1) × AnswersForAll q
+
+-- a pass and the passes of these numbers are all with which their lock began, and none was split off the first
+abbrev pub AreAll : PassState Entry → List ℕ → Type 0
+AreAll p numbers = (p.splits ≡ 0) × ((x : ℕ) → x < p.initial → (has x p.numbers ≡ true) ⊎ (has x numbers ≡ true))
 
 -- passes joined into one, in order
 abbrev pub joined_passes : PassState Entry → List (PassState Entry) → PassState Entry

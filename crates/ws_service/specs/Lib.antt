@@ -3,6 +3,7 @@ pub mod Doors
 pub mod Joins
 pub mod Passing
 pub mod Programs
+pub mod Serving
 pub mod Sessions
 pub mod Shutdowns
 pub mod Visits

@@ -4,9 +4,11 @@ ghost use Rattle.std.specs.Prelude.{◌≡◌, ◌+◌, ◌<◌, ◌≤◌, ◌+
 ghost use Rattle.history_lock.specs.Histories.{Begins};
 ghost use Rattle.history_lock.specs.Passes.{HasInitialOnly, KeepsWhole, joined_pass};
 ghost use Rattle.host_turns.specs.Debuggings.{IsHistory};
-ghost use Rattle.ws_service.specs.Joins.{HasServed, IsServedDoor, joined_passes};
+ghost use Rattle.ws_service.specs.Joins.{AnswersForAll, AreAll, HasServed, IsServedDoor, joined_passes};
+ghost use Rattle.ws_service.specs.Serving.{IsEndOfDoors};
 
 use crate::desk::Desk;
+use crate::ends::{DoorsEnd, with_door};
 use host_turns::{Hosted, Lock, Worker};
 use server_edge::{Bell, Door};
 
@@ -36,13 +38,14 @@ fn join_desk<H: Hosted<B>, B, D: Bell, O: Door>(
     door
 }
 
-/// Joins the passes of all desks into one, and hands their doors back, in the order of the desks. It takes no memory.
+/// Joins the passes of all desks into one, and hands their doors back, in the order of the desks. Answers how the doors
+/// ended together. It takes no memory.
 pub fn join_all<H: Hosted<B>, B, D: Bell, O: Door>(
     lock: &Lock<H, B>,
     p: &mut Worker<H, B>,
     desks: Vec<Desk<'_, H, B, D, O>>,
     doors: &mut Vec<O>,
-)
+) -> DoorsEnd
     requires lock { (p.old.lock ≡ lock.now) × All (λ desk. desk.pass.lock ≡ lock.now) desks.items }
     requires free { p.old.in_turn ≡ false }
     requires history { IsHistory H.debugs p.old.seen }
@@ -66,9 +69,15 @@ pub fn join_all<H: Hosted<B>, B, D: Bell, O: Door>(
       is_out = O.is_out desk.door;
     }) desk.end) desks.entry.items }
     ensures only { 0 < length desks.entry.items → HasInitialOnly p.new }
+    ensures same { (p.new.number ≡ p.old.number) × (p.new.initial ≡ p.old.initial) }
+    ensures whole { AreAll p.old (map (λ desk. desk.pass.number) desks.entry.items) → AnswersForAll p.new }
+    ensures ended { IsEndOfDoors result (map (λ desk. desk.end) desks.entry.items) }
 {
+    let mut ends = DoorsEnd::Over;
     for desk in desks {
+        ends = with_door(ends, desk.end);
         let door = join_desk(lock, p, desk);
         doors.push_reserved(door);
     }
+    ends
 }

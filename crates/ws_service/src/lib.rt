@@ -8,24 +8,27 @@
 //! - `Goes`: the entries that a pass left by some turns; `Was`: at some time a history was so
 //! - *act*: what a pass does at a door: it serves a link that arrived (`Visit`), or looks whether the program is over
 //! - `Work`: what a thread does to what it owns; `IsServedDoor`: a door that was served, over the one history of all passes
+//! - `IsServing`: the program and all doors of a port, over that history
 #![tactic(auto)]
 
 mod beside;
 mod desk;
 mod door;
+mod ends;
 mod join;
+mod port;
 mod program;
 mod served;
 mod serving;
 mod session;
 mod shutdown;
 
-pub use beside::{Runner, run_beside};
+pub use beside::Runner;
 pub use desk::{Desk, Work, work_all};
 pub use door::{DoorEnd, serve_door};
-pub use join::join_all;
+pub use ends::{DoorsEnd, Ends};
+pub use port::serve_port;
 pub use program::{RunEnd, run_program};
 pub use served::Served;
-pub use serving::serve_all;
 pub use session::serve_session;
 pub use shutdown::NotShut;

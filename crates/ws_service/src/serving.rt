@@ -1,14 +1,14 @@
 //! The program and all doors, to the end, and the one history of it.
 
-ghost use Rattle.std.specs.Prelude.{◌≡◌, ◌+◌, ◌<◌, ◌≤◌, [], length, All, Some, vec_capacity, vec_len, false, true};
-ghost use Rattle.history_lock.specs.Histories.{has};
-ghost use Rattle.server_edge.specs.Contents.{IsNew};
-ghost use Rattle.host_turns.specs.Debuggings.{IsHistory};
-ghost use Rattle.ws_service.specs.Joins.{HasServed, IsAtFirst};
-ghost use Rattle.ws_service.specs.Programs.{HasRun, Writes, may_cut};
+ghost use Rattle.std.specs.Prelude.{◌≡◌, ◌+◌, ◌<◌, ◌≤◌, [], List, length, map, All, Some, vec_capacity, false};
+ghost use Rattle.history_lock.specs.Passes.{initial_pass};
+ghost use Rattle.ws_service.specs.Joins.{HasServed, IsAtFirst, IsLastPass};
+ghost use Rattle.ws_service.specs.Programs.{HasRun};
+ghost use Rattle.ws_service.specs.Serving.{IsServing, ServedDoor, numbers_below};
 
 use crate::beside::{Runner, run_beside};
 use crate::desk::Desk;
+use crate::ends::Ends;
 use crate::join::join_all;
 use crate::program::RunEnd;
 use cdp_edge::Sink;
@@ -49,6 +49,7 @@ where
     ensures runs { HasRun H.debugs (C.moment clock.old) runner.old.pass runner.new.pass (record { content = S.content out.old; faults = S.faults out.old }) (record { content = S.content out.new; faults = S.faults out.new }) (Some result) }
     ensures lock { runner.new.lock.now ≡ runner.old.lock.now }
     ensures length { length desks.new ≡ length desks.old }
+    ensures numbers { map (λ desk. desk.pass.number) desks.new ≡ map (λ desk. desk.pass.number) desks.old }
     ensures locks { All (λ desk. desk.pass.lock ≡ runner.old.lock.now) desks.new }
     ensures served { All (λ desk. HasServed H.debugs desk.pass (record {
       faults = O.faults desk.door;
@@ -78,10 +79,10 @@ pub fn serve_all<
     clock: &mut C,
     mut desks: Vec<Desk<'_, H, B, D, O>>,
     doors: &mut Vec<O>,
-) -> RunEnd
+) -> Ends
 where
     O::Link: Send,
-    requires runner { (runner.old.pass.lock ≡ runner.old.lock.now) × (runner.old.pass.in_turn ≡ false) × (runner.old.pass.seen ≡ []) × (has runner.old.pass.number runner.old.pass.numbers ≡ true) }
+    requires runner { runner.old.pass ≡ initial_pass runner.old.lock.now (length desks.items + 1) (length desks.items) }
     requires some { 0 < length desks.items }
     requires lock { All (λ desk. desk.lock.now ≡ runner.old.lock.now) desks.items }
     requires desks { All (λ desk. IsAtFirst runner.old.lock.now desk.pass (record {
@@ -90,13 +91,21 @@ where
       served = O.served desk.door;
       is_out = O.is_out desk.door;
     })) desks.items }
-    requires room { vec_len doors.old + length desks.items ≤ vec_capacity doors.old }
-    // What the runner's pass has seen at the end is the one history.
-    ensures history { IsHistory H.debugs runner.new.pass.seen }
-    // Where nobody else makes steps in it, the sink took exactly what the steps print, or a first part of it.
-    ensures writes { Writes H.debugs runner.old.pass.number (may_cut (Some result)) [] runner.new.pass.seen (S.content out.old) (S.content out.new) }
+    requires numbers { map (λ desk. desk.pass.number) desks.items ≡ numbers_below (length desks.items) }
+    requires none { doors.old.items ≡ [] }
+    requires room { length desks.items ≤ vec_capacity doors.old }
+    // What the runner's pass has seen at the end is the one history, in which the program ran and the doors were served
+    // that are handed back.
+    ensures serves { (served : List ServedDoor) × IsServing H.debugs (length desks.items) (C.moment clock.old) (record { content = S.content out.old; faults = S.faults out.old }) (record { content = S.content out.new; faults = S.faults out.new }) result runner.new.pass.seen served × (map (λ door. record {
+      faults = O.faults door;
+      asked = O.asked door;
+      served = O.served door;
+      is_out = O.is_out door;
+    }) doors.new.items ≡ map (λ (door : ServedDoor). door.door) served) }
+    ensures lock { runner.new.lock.now ≡ runner.old.lock.now }
+    ensures last { IsLastPass runner.old.lock.now (length desks.items) runner.new.pass }
 {
-    let end = serve_desks(rt, alloc, runner, out, clock, desks.as_mut_slice());
-    join_all(runner.lock, &mut runner.pass, desks, doors);
-    end
+    let run = serve_desks(rt, alloc, runner, out, clock, desks.as_mut_slice());
+    let ended = join_all(runner.lock, &mut runner.pass, desks, doors);
+    Ends { run, doors: ended }
 }

@@ -1,5 +1,6 @@
 use Rattle.std.proofs.Common.{◌≡◌, ◌+◌, ◌<◌, ◌++◌, length, map, vec_capacity, vec_len}
 use Rattle.history_lock.specs.Passes.{HasInitialOnly}
+use Rattle.ws_service.specs.Serving.{IsEndOfDoors}
 use Rattle.ws_service.proofs.JoinLemmas.{Joining}
 use Rattle.ws_service.proofs.join.join_all.Given as goal
 
@@ -17,3 +18,4 @@ invariant-loop-desk g l =
     × (vec_len l.doors ≡ vec_len l.fn.doors + length l.yielded)
     × (vec_capacity l.doors ≡ vec_capacity l.fn.doors)
     × (0 < length l.yielded → HasInitialOnly l.p)
+    × IsEndOfDoors l.ends (map (λ desk. desk.end) l.yielded)

@@ -1,0 +1,120 @@
+//! A port: its doors are opened, served beside the program, and given back.
+
+ghost use Rattle.std.specs.Prelude.{◌≡◌, ◌⊎◌, ◌+◌, ◌<◌, ◌≤◌, List, [], length, map, All, IfOk, IfErr, OnOk, OnErr, IsErrOf, vec_capacity};
+ghost use Rattle.cdp_edge.specs.Outside.{Rose};
+ghost use Rattle.history_lock.specs.Passes.{initial_pass, initial_passes};
+ghost use Rattle.server_edge.specs.Contents.{IsNew, RisesAt, adds, any_fault, called};
+ghost use Rattle.ws_service.specs.Joins.{IsAtFirst, IsLastPass, IsUnstarted};
+ghost use Rattle.ws_service.specs.Serving.{IsServing, ServedDoor};
+
+use crate::beside::Runner;
+use crate::desk::Desk;
+use crate::ends::Ends;
+use crate::serving::serve_all;
+use cdp_edge::Sink;
+use host_turns::{Hosted, Lock, Worker};
+use server_edge::{Bell, Clock, Door, Harbor, HarborFault};
+use std::alloc::Global;
+use std::sync::Wait;
+use std::thread::Threads;
+
+/// Gives a door to each pass, as long as there are doors, the last door first.
+fn sit_down<'a, H: Hosted<B>, B, D: Bell, O: Door>(
+    lock: &'a Lock<H, B>,
+    bell: &'a D,
+    passes: Vec<Worker<H, B>>,
+    mut doors: Vec<O>,
+    desks: &mut Vec<Desk<'a, H, B, D, O>>,
+)
+    requires as_many { length doors.items ≡ length passes.items }
+    requires none { desks.old.items ≡ [] }
+    requires room { length passes.items ≤ vec_capacity desks.old }
+    requires passes { All (λ pass. IsUnstarted lock.now pass) passes.items }
+    requires doors { All (λ door. IsNew (record {
+      faults = O.faults door;
+      asked = O.asked door;
+      served = O.served door;
+      is_out = O.is_out door;
+    })) doors.items }
+    ensures passes { map (λ desk. desk.pass) desks.new.items ≡ passes.entry.items }
+    ensures locks { All (λ desk. desk.lock.now ≡ lock.now) desks.new.items }
+    ensures desks { All (λ desk. IsAtFirst lock.now desk.pass (record {
+      faults = O.faults desk.door;
+      asked = O.asked desk.door;
+      served = O.served desk.door;
+      is_out = O.is_out desk.door;
+    })) desks.new.items }
+{
+    for pass in passes {
+        if let Some(door) = doors.pop() {
+            desks.push_reserved(Desk {
+                lock,
+                bell,
+                pass,
+                door,
+                end: None,
+            });
+        }
+    }
+}
+
+/// Opens as many doors on a port as there are passes, runs the program to its end, serves the doors beside it until it is
+/// over, joins all passes into the runner's, and gives the doors back. All memory of its own is taken before the doors are
+/// opened.
+///
+/// # Errors
+///
+/// `Failed` where the harbor failed to open the doors, and its count rose; `Memory` at want of memory. The program has not
+/// begun then.
+pub fn serve_port<
+    H: Hosted<B> + Send,
+    B: Send + Sync,
+    P: Harbor,
+    S: Sink + Send,
+    C: Clock + Send,
+    R: Threads + Wait + Sync,
+>(
+    rt: &R,
+    alloc: Global,
+    runner: &mut Runner<'_, H, B, P::Bell>,
+    passes: Vec<Worker<H, B>>,
+    harbor: &mut P,
+    port: u16,
+    out: &mut S,
+    clock: &mut C,
+) -> Result<Ends, HarborFault>
+where
+    P::Bell: Sync,
+    P::Door: Send,
+    <P::Door as Door>::Link: Send,
+    requires some { 0 < length passes.items }
+    requires runner { runner.old.pass ≡ initial_pass runner.old.lock.now (length passes.items + 1) (length passes.items) }
+    requires passes { passes.items ≡ initial_passes runner.old.lock.now (length passes.items + 1) (length passes.items) }
+    // What the runner's pass has seen at the end is the one history, in which the program ran and the doors were served
+    // that the harbor took back.
+    ensures serves { IfOk result (λ ends. (served : List ServedDoor) × IsServing H.debugs (length passes.items) (C.moment clock.old) (record { content = S.content out.old; faults = S.faults out.old }) (record { content = S.content out.new; faults = S.faults out.new }) ends runner.new.pass.seen served × (P.kept harbor.new ≡ adds (P.kept harbor.old) (map (λ (door : ServedDoor). door.door) served)) × RisesAt (any_fault (map (λ (door : ServedDoor). door.door.faults) served)) (P.faults harbor.old) (P.faults harbor.new)) }
+    ensures opened { OnOk result (P.opens harbor.new ≡ called (port, length passes.items) (P.opens harbor.old)) }
+    ensures home { P.doors_out harbor.new ≡ P.doors_out harbor.old }
+    ensures last { OnOk result ((runner.new.lock.now ≡ runner.old.lock.now) × IsLastPass runner.old.lock.now (length passes.items) runner.new.pass) }
+    // Where a door failed, the harbor's count rose.
+    ensures door { IfOk result (λ ends. ends.doors ≡ DoorsEnd.Failed → Rose (P.faults harbor.old) (P.faults harbor.new)) }
+    ensures once { (P.opens harbor.new ≡ P.opens harbor.old) ⊎ (P.opens harbor.new ≡ called (port, length passes.items) (P.opens harbor.old)) }
+    ensures dials { P.dials harbor.new ≡ P.dials harbor.old }
+    ensures memory { IsErrOf result HarborFault.Memory → P.faults harbor.new ≡ P.faults harbor.old }
+    ensures failed { IsErrOf result HarborFault.Failed → Rose (P.faults harbor.old) (P.faults harbor.new) }
+    ensures kept { OnErr result (P.kept harbor.new ≡ P.kept harbor.old) }
+    ensures nothing { OnErr result ((S.content out.new ≡ S.content out.old) × (S.faults out.new ≡ S.faults out.old)) }
+{
+    let count = passes.len();
+    let Ok(mut desks) = Vec::with_capacity(alloc, count) else {
+        return Err(HarborFault::Memory);
+    };
+    let Ok(mut served) = Vec::with_capacity(alloc, count) else {
+        return Err(HarborFault::Memory);
+    };
+    let doors = harbor.open(port, count)?;
+    sit_down(runner.lock, runner.bell, passes, doors, &mut desks);
+    let ends = serve_all(rt, alloc, runner, out, clock, desks, &mut served);
+    harbor.shut(served);
+    Ok(ends)
+}
