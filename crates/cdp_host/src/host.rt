@@ -702,10 +702,14 @@ impl<'p> Host<'p> {
 
     /// The value whose throw ended the program, as `console.log` shows it, if one did that no `catch` took.
     ///
-    /// It fails where no memory is left for the text.
+    /// It fails where no memory is left for the text, or was left in a run.
     pub fn uncaught_text(&self) -> Result<Option<String>, AllocError>
-        ensures { IfOk result (λ text. self.now.broken ≡ false → (taken : List (List ℕ)) → option_map string_bytes text ≡ uncaught_text (meaning_with self.now taken).program) }
+        ensures works { OnOk result (self.now.broken ≡ false) }
+        ensures text { IfOk result (λ text. (taken : List (List ℕ)) → option_map string_bytes text ≡ uncaught_text (meaning_with self.now taken).program) }
     {
+        if self.broken {
+            return Err(AllocError);
+        }
         match self.machine.finished() {
             Some(Finish::Threw(value, _)) => {
                 let units = shown(self.alloc, &self.heap, self.machine.names(), value)?;
