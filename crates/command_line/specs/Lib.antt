@@ -10,5 +10,6 @@ pub mod Played
 pub mod Replays
 pub mod RunCauses
 pub mod ReplayCauses
+pub mod ServeCauses
 pub mod DrillCauses
 pub mod Status

@@ -20,6 +20,7 @@ mod program;
 mod replay;
 mod report;
 mod run;
+mod serve;
 mod sources;
 mod transcript;
 mod words;
