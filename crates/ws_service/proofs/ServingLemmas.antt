@@ -1,9 +1,9 @@
 -- Serving a port leaves one history, of which all is so that is said of the program and of its doors.
-use Rattle.std.proofs.Common.{◌≡◌, ◌≢◌, ◌<◌, ◌≤◌, ◌⊎◌, ◌||◌, inl, inr, ℕ, zero, suc, List, All, Option as Opt, Some, None, [], ◌∷◌, ◌++◌, map, Bool, true, false, if◌then◌else◌, refl, ap, sym, subst, ◌∙◌, arith, append_assoc, append-nil}
+use Rattle.std.proofs.Common.{◌≡◌, ◌≢◌, ◌<◌, ◌≤◌, ◌⊎◌, ◌||◌, inl, inr, ℕ, zero, suc, ◌+◌, List, All, Option as Opt, Some, None, [], ◌∷◌, ◌++◌, map, Bool, true, false, if◌then◌else◌, refl, ap, sym, subst, ◌∙◌, arith, append_assoc, append-nil}
 use Rattle.std.proofs.lemmas.Bool.{eq-eqb, ne_eqb}
 use Rattle.std.proofs.lemmas.List.{append_cancel_left, map-append}
 use mathlib.Core.List.{map-map}
-use Rattle.std.proofs.lemmas.List.Elements.{All-cons, All-head, All-map, All-nil, All-tail, All-weaker}
+use Rattle.std.proofs.lemmas.List.Elements.{All-cons, All-head, All-map, All-nil, All-push, All-tail, All-weaker}
 use mathlib.Core.Logic.{dite}
 use native.Mathlib.Decide.{dec_lt, ℕ_discrete}
 use Rattle.isolation.specs.Histories.{Entry, Attach, Tell, Take, Detach, Ran, Shut, steps_made, steps_of, whole}
@@ -11,11 +11,13 @@ use Rattle.isolation.specs.Makers.{by, entries_of as unmade, entry_of}
 use Rattle.isolation.proofs.LongerLemmas.{call-program, whole-more}
 use Rattle.isolation.proofs.MakerLemmas.{by-append, by-own}
 use Rattle.history_lock.specs.Histories.{Begins, has}
-use Rattle.history_lock.specs.Passes.{KeepsWhole, PassState}
+use Rattle.history_lock.specs.Passes.{LockId, PassState, initial_pass, initial_passes}
 use Rattle.history_lock.proofs.Facts.{by_behind, has_behind, has_front}
-use Rattle.server_edge.specs.Contents.{Tended}
+use Rattle.cdp_edge.specs.Outside.{Rose}
+use Rattle.server_edge.specs.Contents.{Tended, any_fault}
 use Rattle.host_turns.specs.Debuggings.{Debugging, IsHistory, meaning}
-use Rattle.ws_service.specs.Joins.{IsServedDoor}
+use Rattle.ws_service.specs.Doors.{EndsDoor}
+use Rattle.ws_service.specs.Joins.{AreAll, IsServedDoor, IsUnstarted}
 use Rattle.ws_service.specs.Passing.{Was}
 use Rattle.ws_service.specs.Programs.{AreLeft, AreTurns, FindsDue, GainsLines, HasReason, HasRun, IsDue, IsLast, IsRunOf, IsTurn, OnlyRuns, Output, PrintsOn, Writes, may_cut, shuts_at}
 use Rattle.ws_service.specs.Serving.{IsEndOfDoors, IsProgramRun, IsServing, MayHaveShut, ServedDoor, any_door, has_failed, has_shut, numbers_below, shuts, was_spent, with_door}
@@ -386,3 +388,89 @@ module _ {X : Type 0} (d : Debugging) (n : ℕ) (moment : Opt ℕ) (p m : PassSt
           subst (λ (y : ℕ). Each ShutsNothing (by y h)) (sym same)
           (run-shuts-nothing moment end (by n h) whole run.left))
           (λ other. no-shut-besides d number door ended n h desks numbers beyond served well x other))
+
+-- ---- the passes with which a lock begins
+
+unstarted-pass : (lock : LockId) (n k : ℕ) → IsUnstarted lock (initial_pass lock n k)
+unstarted-pass lock n k = record {
+  lock_is = refl;
+  free = refl;
+  start = refl;
+  named = ap (λ (b : Bool). if b then true else false) (eq-eqb k k refl);
+  unsplit = refl;
+}
+
+pub all-unstarted : (lock : LockId) (n k : ℕ) → All (λ p. IsUnstarted lock p) (initial_passes lock n k)
+all-unstarted lock n zero = All-nil (λ p. IsUnstarted lock p)
+all-unstarted lock n (suc k) =
+    All-push (λ p. IsUnstarted lock p) (initial_passes lock n k) (initial_pass lock n k) (all-unstarted lock n k)
+    (unstarted-pass lock n k)
+
+-- they are numbered from 0 on
+pub initial-numbers : (lock : LockId) (n k : ℕ)
+    → map (λ (p : PassState Entry). p.number) (initial_passes lock n k) ≡ numbers_below k
+initial-numbers lock n zero = refl
+initial-numbers lock n (suc k) =
+    map-append (λ (p : PassState Entry). p.number) (initial_passes lock n k) (initial_pass lock n k ∷ [])
+    ∙ ap (λ l. l ++ k ∷ []) (initial-numbers lock n k)
+
+-- the last of them and those before it are all
+pub all-initial : (lock : LockId) (n : ℕ) (p : PassState Entry) (numbers : List ℕ) → p ≡ initial_pass lock (n + 1) n
+    → numbers ≡ numbers_below n → AreAll p numbers
+all-initial lock n p numbers is below =
+    subst (λ (z : PassState Entry × List ℕ). AreAll z.0 z.1) (λ i. (sym is i, sym below i)) (refl, λ x lt. each x lt)
+  where
+    each : (x : ℕ) → x < n + 1 → (has x (n ∷ []) ≡ true) ⊎ (has x (numbers_below n) ≡ true)
+    each x lt = dite (ℕ_discrete n x)
+        (λ same. inl (ap (λ (b : Bool). if b then true else false) (eq-eqb n x same)))
+        (λ other. inr (has-below n x (omega (arith, lt, other))))
+
+-- ---- faults of doors
+
+counted : (d : Debugging) (k : ℕ) (h : List (ℕ × Entry)) (end : DoorEnd) (last : List Entry) (faults : ℕ)
+    → has_failed (Some end) ≡ true → EndsDoor d k h end last 0 faults → 0 < faults
+counted d k h (one.Over state) last faults failed e = absurd cc
+counted d k h (one.Spent ticket) last faults failed e = absurd cc
+counted d k h (one.Fault unshut) last faults failed e = rose e.2
+  where
+    rose : Rose 0 faults → 0 < faults
+    rose (inl lt) = lt
+    rose (inr is) = absurd (omega (arith, is))
+
+fault-first : (n : ℕ) (counts : List ℕ) → 0 < n → any_fault (n ∷ counts) ≡ true
+fault-first zero counts lt = absurd (omega (arith, lt))
+fault-first (suc n) counts lt = refl
+
+fault-later : (n : ℕ) (counts : List ℕ) → any_fault counts ≡ true → any_fault (n ∷ counts) ≡ true
+fault-later zero counts is = is
+fault-later (suc n) counts is = refl
+
+-- where a door failed, one of them counts a fault
+pub door-failed : (d : Debugging) (h : List (ℕ × Entry)) (served : List ServedDoor)
+    → All (λ (s : ServedDoor). IsServedDoor d s.number h s.door s.end) served
+    → any_door has_failed (map (λ (s : ServedDoor). s.end) served) ≡ true
+    → any_fault (map (λ (s : ServedDoor). s.door.faults) served) ≡ true
+door-failed d h [] each is = absurd cc
+door-failed d h (s ∷ served) each is = here (has_failed s.end) refl
+  where
+    counts : List ℕ
+    counts = map (λ (t : ServedDoor). t.door.faults) served
+
+    at : IsServedDoor d s.number h s.door s.end
+    at = All-head (λ (t : ServedDoor). IsServedDoor d t.number h t.door t.end) s served each
+
+    rest : (b : Bool) → has_failed s.end ≡ b → b ≡ false
+        → any_door has_failed (map (λ (t : ServedDoor). t.end) served) ≡ true
+    rest b it none =
+        sym
+        (ap (λ (x : Bool). x || any_door has_failed (map (λ (t : ServedDoor). t.end) served)) (it ∙ none))
+        ∙ is
+
+    here : (b : Bool) → has_failed s.end ≡ b → any_fault (s.door.faults ∷ counts) ≡ true
+    here true it =
+        fault-first s.door.faults counts
+        (counted d s.number at.ends.0 at.end at.last s.door.faults (ap has_failed (sym at.is_end) ∙ it) at.ends.2)
+    here false it =
+        fault-later s.door.faults counts
+        (door-failed d h served
+        (All-tail (λ (t : ServedDoor). IsServedDoor d t.number h t.door t.end) s served each) (rest false it refl))
