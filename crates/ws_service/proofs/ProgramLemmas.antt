@@ -302,11 +302,11 @@ left-on moment end es fs first second = (
 )
   where
     left-all : (moment : Option ℕ) (es : List Entry) → AreLeft moment None es → AreTurns moment es
-    left-all moment es left = subst (AreTurns moment) (sym (left.2 ∙ sym (append-nil left.0))) left.1
+    left-all moment es left = subst (AreTurns moment) (sym (left.2 ∙ append-nil left.0)) left.1
 
 left-turns : (moment : Option ℕ) (end : Option RunEnd) (es : List Entry) → shuts_at end ≡ [] → AreTurns moment es
     → AreLeft moment end es
-left-turns moment end es none turns = (es, turns, append-nil es ∙ ap (λ l. es ++ l) (sym none))
+left-turns moment end es none turns = (es, turns, sym (append-nil es) ∙ ap (λ l. es ++ l) (sym none))
 
 -- no turn
 pub none-run : (d : Debugging) (moment : Option ℕ) (p : PassState Entry) (out : Output) (end : Option RunEnd)

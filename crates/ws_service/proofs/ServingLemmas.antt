@@ -1,7 +1,7 @@
 -- Serving a port leaves one history, of which all is so that is said of the program and of its doors.
-use Rattle.std.proofs.Common.{◌≡◌, ◌≢◌, ◌<◌, ◌≤◌, ◌⊎◌, ◌||◌, inl, inr, ℕ, zero, suc, ◌+◌, List, All, Option as Opt, Some, None, [], ◌∷◌, ◌++◌, map, Bool, true, false, if◌then◌else◌, refl, ap, sym, subst, ◌∙◌, arith, append_assoc, append-nil}
+use Rattle.std.proofs.Common.{◌≡◌, ◌≢◌, ◌<◌, ◌≤◌, ◌⊎◌, ◌||◌, inl, inr, ℕ, zero, suc, ◌+◌, List, All, Option as Opt, Some, None, [], ◌∷◌, ◌++◌, map, length, Bool, true, false, if◌then◌else◌, refl, ap, sym, subst, ◌∙◌, arith, append_assoc, append-nil}
 use Rattle.std.proofs.lemmas.Bool.{eq-eqb, ne_eqb}
-use Rattle.std.proofs.lemmas.List.{append_cancel_left, map-append}
+use Rattle.std.proofs.lemmas.List.{append_cancel_left, length-append, length-map, map-append}
 use mathlib.Core.List.{map-map}
 use Rattle.std.proofs.lemmas.List.Elements.{All-cons, All-head, All-map, All-nil, All-push, All-tail, All-weaker}
 use mathlib.Core.Logic.{dite}
@@ -11,13 +11,13 @@ use Rattle.isolation.specs.Makers.{by, entries_of as unmade, entry_of}
 use Rattle.isolation.proofs.LongerLemmas.{call-program, whole-more}
 use Rattle.isolation.proofs.MakerLemmas.{by-append, by-own}
 use Rattle.history_lock.specs.Histories.{Begins, has}
-use Rattle.history_lock.specs.Passes.{LockId, PassState, initial_pass, initial_passes}
+use Rattle.history_lock.specs.Passes.{HasInitialOnly, IsSamePass, LockId, PassState, initial_pass, initial_passes}
 use Rattle.history_lock.proofs.Facts.{by_behind, has_behind, has_front}
-use Rattle.cdp_edge.specs.Outside.{Rose}
-use Rattle.server_edge.specs.Contents.{Tended, any_fault}
+use Rattle.cdp_edge.specs.Outside.{Rose, Told}
+use Rattle.server_edge.specs.Contents.{Tended, any_fault, lowered, raised}
 use Rattle.host_turns.specs.Debuggings.{Debugging, IsHistory, meaning}
 use Rattle.ws_service.specs.Doors.{EndsDoor}
-use Rattle.ws_service.specs.Joins.{AreAll, IsServedDoor, IsUnstarted}
+use Rattle.ws_service.specs.Joins.{AnswersForAll, AreAll, IsServedDoor, IsUnstarted}
 use Rattle.ws_service.specs.Passing.{Was}
 use Rattle.ws_service.specs.Programs.{AreLeft, AreTurns, FindsDue, GainsLines, HasReason, HasRun, IsDue, IsLast, IsRunOf, IsTurn, OnlyRuns, Output, PrintsOn, Writes, may_cut, shuts_at}
 use Rattle.ws_service.specs.Serving.{IsEndOfDoors, IsProgramRun, IsServing, MayHaveShut, ServedDoor, any_door, has_failed, has_shut, numbers_below, shuts, was_spent, with_door}
@@ -137,8 +137,8 @@ by-another k maker entry h other = ap (λ (b : Bool). if b then entry ∷ by k h
 
 none-behind : (x : ℕ) (made : ℕ × Entry) (h : List (ℕ × Entry)) → Each MakesNoSteps (by x (made ∷ h)) → Each MakesNoSteps (by x h)
 none-behind x made h none = dite (ℕ_discrete made.0 x)
-    (λ is. (subst Each MakesNoSteps (by-same x made.0 made.1 h is) none).1)
-    (λ other. subst Each MakesNoSteps (by-another x made.0 made.1 h other) none)
+    (λ is. (subst (Each MakesNoSteps) (by-same x made.0 made.1 h is) none).1)
+    (λ other. subst (Each MakesNoSteps) (by-another x made.0 made.1 h other) none)
 
 -- each entry that makes steps is of one maker, where no other has left one
 pub only-runs : (k : ℕ) (h : List (ℕ × Entry)) → ((x : ℕ) → x ≢ k → Each MakesNoSteps (by x h)) → OnlyRuns k h
@@ -147,7 +147,7 @@ only-runs k (made ∷ h) none = (
   dite (ℕ_discrete made.0 k) (is-own-run k made.0 made.1)
       (λ other.
       is-run-of k made.0 made.1
-      (subst Each MakesNoSteps (by-same made.0 made.0 made.1 h refl) (none made.0 other)).0),
+      (subst (Each MakesNoSteps) (by-same made.0 made.0 made.1 h refl) (none made.0 other)).0),
   only-runs k h (λ x other. none-behind x made h (none x other)),
 )
 
@@ -451,26 +451,83 @@ pub door-failed : (d : Debugging) (h : List (ℕ × Entry)) (served : List Serve
     → any_door has_failed (map (λ (s : ServedDoor). s.end) served) ≡ true
     → any_fault (map (λ (s : ServedDoor). s.door.faults) served) ≡ true
 door-failed d h [] each is = absurd cc
-door-failed d h (s ∷ served) each is = here (has_failed s.end) refl
+door-failed d h (s ∷ served) each is =
+    here (has_failed s.end) refl
+    (λ rest.
+    door-failed d h served (All-tail (λ (t : ServedDoor). IsServedDoor d t.number h t.door t.end) s served each) rest)
   where
     counts : List ℕ
     counts = map (λ (t : ServedDoor). t.door.faults) served
 
+    others : Bool
+    others = any_door has_failed (map (λ (t : ServedDoor). t.end) served)
+
     at : IsServedDoor d s.number h s.door s.end
     at = All-head (λ (t : ServedDoor). IsServedDoor d t.number h t.door t.end) s served each
 
-    rest : (b : Bool) → has_failed s.end ≡ b → b ≡ false
-        → any_door has_failed (map (λ (t : ServedDoor). t.end) served) ≡ true
-    rest b it none =
-        sym
-        (ap (λ (x : Bool). x || any_door has_failed (map (λ (t : ServedDoor). t.end) served)) (it ∙ none))
-        ∙ is
-
-    here : (b : Bool) → has_failed s.end ≡ b → any_fault (s.door.faults ∷ counts) ≡ true
-    here true it =
+    here : (b : Bool) → has_failed s.end ≡ b → (others ≡ true → any_fault counts ≡ true)
+        → any_fault (s.door.faults ∷ counts) ≡ true
+    here true it rest =
         fault-first s.door.faults counts
         (counted d s.number at.ends.0 at.end at.last s.door.faults (ap has_failed (sym at.is_end) ∙ it) at.ends.2)
-    here false it =
-        fault-later s.door.faults counts
-        (door-failed d h served
-        (All-tail (λ (t : ServedDoor). IsServedDoor d t.number h t.door t.end) s served each) (rest false it refl))
+    here false it rest =
+        fault-later s.door.faults counts (rest (sym (ap (λ (x : Bool). x || others) it) ∙ is))
+
+-- ---- the pass of the program, into which all others were joined
+
+-- a pass is the same for all that counts here
+all-same : (p m : PassState Entry) (numbers : List ℕ) → IsSamePass p m → AreAll p numbers → AreAll m numbers
+all-same p m numbers same are = (
+  same.3 ∙ are.0,
+  λ x lt.
+      subst (λ l. (has x l ≡ true) ⊎ (has x numbers ≡ true)) (sym same.2)
+      (are.1 x (subst (λ (n : ℕ). x < n) same.4 lt)),
+)
+
+-- it answers for all, and no entry has a further number
+pub answers-last : (lock : LockId) (n : ℕ) (p m q : PassState Entry) (numbers : List ℕ)
+    → p ≡ initial_pass lock (n + 1) n → IsSamePass p m → numbers ≡ numbers_below n
+    → (AreAll m numbers → AnswersForAll q) → q.initial ≡ m.initial → HasInitialOnly q
+    → AnswersForAll q × ((x : ℕ) → n < x → by x q.seen ≡ [])
+answers-last lock n p m q numbers is same below answers initial only = (
+  all,
+  λ x lt. only all.1 all.0 x (subst (λ (k : ℕ). k ≤ x) (sym first) (omega (arith, lt))),
+)
+  where
+    all : AnswersForAll q
+    all = answers (all-same p m numbers same (all-initial lock n p numbers is below))
+
+    first : q.initial ≡ n + 1
+    first = initial ∙ same.4 ∙ ap (λ z. z.initial) is
+
+-- the number of the program's pass is among its own
+pub last-named : (lock : LockId) (n : ℕ) (p m : PassState Entry) → p ≡ initial_pass lock (n + 1) n → IsSamePass p m
+    → has n m.numbers ≡ true
+last-named lock n p m is same =
+    ap (has n) (same.2 ∙ ap (λ z. z.numbers) is) ∙ ap (λ (b : Bool). if b then true else false) (eq-eqb n n refl)
+
+-- ---- doors that are out
+
+pub told-raised : (out : Opt ℕ) (n : ℕ) → Told (raised out n) (λ (k : ℕ). n ≤ k)
+told-raised None n = tt
+told-raised (Some out) n = omega arith
+
+pub lowered-raised : (out : Opt ℕ) (n : ℕ) → lowered (raised out n) n ≡ out
+lowered-raised None n = refl
+lowered-raised (Some out) n = ap Some (omega arith)
+
+length-below : (n : ℕ) → length (numbers_below n) ≡ n
+length-below zero = refl
+length-below (suc n) = length-append (numbers_below n) (n ∷ []) ∙ ap (λ (k : ℕ). k + 1) (length-below n) ∙ omega arith
+
+-- so many doors came back
+pub as-many : {Y : Type 0} (tended : Y → Tended) (n : ℕ) (back : List Y) (served : List ServedDoor)
+    → map tended back ≡ map (λ (s : ServedDoor). s.door) served
+    → map (λ (s : ServedDoor). s.number) served ≡ numbers_below n → length back ≡ n
+as-many tended n back served same numbers =
+    sym (length-map back tended)
+    ∙ ap length same
+    ∙ length-map served (λ (s : ServedDoor). s.door)
+    ∙ sym (length-map served (λ (s : ServedDoor). s.number))
+    ∙ ap length numbers
+    ∙ length-below n

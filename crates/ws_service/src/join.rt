@@ -69,7 +69,7 @@ pub fn join_all<H: Hosted<B>, B, D: Bell, O: Door>(
       is_out = O.is_out desk.door;
     }) desk.end) desks.entry.items }
     ensures only { 0 < length desks.entry.items → HasInitialOnly p.new }
-    ensures same { (p.new.number ≡ p.old.number) × (p.new.initial ≡ p.old.initial) }
+    ensures same { (p.new.lock ≡ p.old.lock) × (p.new.in_turn ≡ false) × (p.new.number ≡ p.old.number) × (p.new.initial ≡ p.old.initial) }
     ensures whole { AreAll p.old (map (λ desk. desk.pass.number) desks.entry.items) → AnswersForAll p.new }
     ensures ended { IsEndOfDoors result (map (λ desk. desk.end) desks.entry.items) }
 {

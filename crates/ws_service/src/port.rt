@@ -6,6 +6,7 @@ ghost use Rattle.history_lock.specs.Passes.{initial_pass, initial_passes};
 ghost use Rattle.server_edge.specs.Contents.{IsNew, RisesAt, adds, any_fault, called};
 ghost use Rattle.ws_service.specs.Joins.{IsAtFirst, IsLastPass, IsUnstarted};
 ghost use Rattle.ws_service.specs.Serving.{IsServing, ServedDoor};
+ghost use Rattle.ws_service.specs.declared.ends.DoorsEnd.TheVariants as together;
 
 use crate::beside::Runner;
 use crate::desk::Desk;
@@ -36,7 +37,7 @@ fn sit_down<'a, H: Hosted<B>, B, D: Bell, O: Door>(
       served = O.served door;
       is_out = O.is_out door;
     })) doors.items }
-    ensures passes { map (λ desk. desk.pass) desks.new.items ≡ passes.entry.items }
+    ensures passes { map (λ desk. desk.pass) desks.new.items ≡ passes.items }
     ensures locks { All (λ desk. desk.lock.now ≡ lock.now) desks.new.items }
     ensures desks { All (λ desk. IsAtFirst lock.now desk.pass (record {
       faults = O.faults desk.door;
@@ -97,7 +98,7 @@ where
     ensures home { P.doors_out harbor.new ≡ P.doors_out harbor.old }
     ensures last { OnOk result ((runner.new.lock.now ≡ runner.old.lock.now) × IsLastPass runner.old.lock.now (length passes.items) runner.new.pass) }
     // Where a door failed, the harbor's count rose.
-    ensures door { IfOk result (λ ends. ends.doors ≡ DoorsEnd.Failed → Rose (P.faults harbor.old) (P.faults harbor.new)) }
+    ensures door { IfOk result (λ ends. ends.doors ≡ together.Failed → Rose (P.faults harbor.old) (P.faults harbor.new)) }
     ensures once { (P.opens harbor.new ≡ P.opens harbor.old) ⊎ (P.opens harbor.new ≡ called (port, length passes.items) (P.opens harbor.old)) }
     ensures dials { P.dials harbor.new ≡ P.dials harbor.old }
     ensures memory { IsErrOf result HarborFault.Memory → P.faults harbor.new ≡ P.faults harbor.old }

@@ -96,14 +96,14 @@ where
     requires room { length desks.items ≤ vec_capacity doors.old }
     // What the runner's pass has seen at the end is the one history, in which the program ran and the doors were served
     // that are handed back.
-    ensures serves { (served : List ServedDoor) × IsServing H.debugs (length desks.items) (C.moment clock.old) (record { content = S.content out.old; faults = S.faults out.old }) (record { content = S.content out.new; faults = S.faults out.new }) result runner.new.pass.seen served × (map (λ door. record {
+    ensures serves { (served : List ServedDoor) × IsServing H.debugs (length desks.entry.items) (C.moment clock.old) (record { content = S.content out.old; faults = S.faults out.old }) (record { content = S.content out.new; faults = S.faults out.new }) result runner.new.pass.seen served × (map (λ door. record {
       faults = O.faults door;
       asked = O.asked door;
       served = O.served door;
       is_out = O.is_out door;
     }) doors.new.items ≡ map (λ (door : ServedDoor). door.door) served) }
     ensures lock { runner.new.lock.now ≡ runner.old.lock.now }
-    ensures last { IsLastPass runner.old.lock.now (length desks.items) runner.new.pass }
+    ensures last { IsLastPass runner.old.lock.now (length desks.entry.items) runner.new.pass }
 {
     let run = serve_desks(rt, alloc, runner, out, clock, desks.as_mut_slice());
     let ended = join_all(runner.lock, &mut runner.pass, desks, doors);

@@ -43,7 +43,7 @@ loop-desk-preserved g c =
       c.push_reserved.ensures.capacity ∙ i.3,
       λ _. j.only,
       subst (λ (z : DoorsEnd × List (Option DoorEnd)). IsEndOfDoors z.0 z.1)
-          (λ i. (sym c.with_door.ensures i, sym (map-push (λ x. x.end) c.loop-desk.yielded desk) i))
+          (λ i. (sym c.with_door-ends.ensures i, sym (map-push (λ x. x.end) c.loop-desk.yielded desk) i))
           (ends-push (map (λ x. x.end) c.loop-desk.yielded) c.loop-desk.ends desk.end i.5),
     )
 
@@ -77,7 +77,9 @@ returns-clause-only g c =
     λ some. c.loop-desk.invariant.4 (subst (λ (n : ℕ). 0 < n) (sym e.1) some)
 
 pub returns-clause-same : goal.returns-clause-same
-returns-clause-same g c = (c.loop-desk.invariant.0.number, c.loop-desk.invariant.0.initial)
+returns-clause-same g c =
+    let j = c.loop-desk.invariant.0 in
+    (j.lock, j.free, j.number, j.initial)
 
 pub returns-clause-whole : goal.returns-clause-whole
 returns-clause-whole g c =

@@ -13,8 +13,8 @@ invariant-loop-pass g l =
       served = g.O.Door.served door;
       is_out = g.O.Door.is_out door;
     })) l.doors.items
-    × All (λ desk. desk.lock.now ≡ l.fn.lock.now) l.desks.items
-    × All (λ desk. IsAtFirst l.fn.lock.now desk.pass (record {
+    × All (λ desk. desk.lock.now ≡ l.fn.lock) l.desks.items
+    × All (λ desk. IsAtFirst l.fn.lock desk.pass (record {
       faults = g.O.Door.faults desk.door;
       asked = g.O.Door.asked desk.door;
       served = g.O.Door.served desk.door;

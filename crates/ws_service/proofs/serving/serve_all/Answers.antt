@@ -1,32 +1,84 @@
-use Rattle.std.proofs.Common.{rules, ◌≡◌, ℕ, [], ◌++◌, true, Some, length, refl, sym, ap, subst, ◌∙◌}
+use Rattle.std.proofs.Common.{rules, ◌≡◌, ◌+◌, ℕ, [], ◌++◌, true, length, map, refl, sym, ap, ◌∙◌}
 use Rattle.std.proofs.Math.Seq.{take-append_seam}
 use Rattle.std.proofs.lemmas.List.Elements.{All-same}
+use mathlib.Core.List.{map-map}
 use lib.ListN.{take, drop}
-use Rattle.history_lock.specs.Histories.{has}
-use Rattle.ws_service.specs.Programs.{Writes, may_cut}
-use Rattle.ws_service.proofs.OutputLemmas.{writes-over}
+use Rattle.ws_service.specs.Serving.{ServedDoor}
+use Rattle.ws_service.proofs.ServingLemmas.{answers-last, last-named, serving}
 use Rattle.ws_service.proofs.serving.serve_all.Goals as goal
 
-pub join_all-requires-clause-lock : goal.join_all-requires-clause-lock
-join_all-requires-clause-lock g c =
-    let e = c.serve_desks-end.ensures in
-    let news = c.serve_desks-end.new.desks in
+pub join_all-ended-requires-clause-lock : goal.join_all-ended-requires-clause-lock
+join_all-ended-requires-clause-lock g c =
+    let e = c.serve_desks-run.ensures in
+    let news = c.serve_desks-run.new.desks in
     let many : c.args.desks.len ≡ length news = search rules in
     let same = ap (λ (n : ℕ). take n (news ++ drop (length news) c.args.desks.items)) many ∙ take-append_seam news (drop (length news) c.args.desks.items) in (
-      e.runs.goes.same.0 ∙ c.requires.runner.0 ∙ sym e.lock,
-      All-same (λ desk. desk.pass.lock ≡ c.serve_desks-end.new.runner.lock.now) _ news same (λ k desk within. e.locks k desk within ∙ sym e.lock),
+      e.runs.goes.same.0 ∙ ap (λ p. p.lock) c.requires.runner ∙ sym e.lock,
+      All-same (λ desk. desk.pass.lock ≡ c.serve_desks-run.new.runner.lock.now) _ news same (λ k desk within. e.locks k desk within ∙ sym e.lock),
     )
 
-pub returns-clause-writes : goal.returns-clause-writes
-returns-clause-writes g c =
-    let e = c.serve_desks-end.ensures in
-    let j = c.join_all.ensures in
+pub returns-clause-last : goal.returns-clause-last
+returns-clause-last g c =
+    let e = c.serve_desks-run.ensures in
+    let j = c.join_all-ended.ensures in
+    let n = length c.args.desks.items in
+    let news = c.serve_desks-run.new.desks in
+    let many : c.args.desks.len ≡ length news = search rules in
+    let same = ap (λ (n : ℕ). take n (news ++ drop (length news) c.args.desks.items)) many ∙ take-append_seam news (drop (length news) c.args.desks.items) in
+    let below = ap (map (λ desk. desk.pass.number)) same ∙ e.numbers ∙ ap (map (λ desk. desk.pass.number)) c.as_mut_slice.ensures.value ∙ c.requires.numbers in
+    let some = c.join_all-ended.ensures.only in
+    let all = answers-last c.args.runner.now.lock.now n c.args.runner.now.pass c.serve_desks-run.new.runner.pass c.join_all-ended.new.p _ c.requires.runner e.runs.goes.same below j.whole j.same.3 (some (search rules)) in (
+      j.same.0 ∙ e.runs.goes.same.0 ∙ ap (λ p. p.lock) c.requires.runner,
+      j.same.1,
+      j.same.2 ∙ e.runs.goes.same.1 ∙ ap (λ p. p.number) c.requires.runner,
+      j.same.3 ∙ e.runs.goes.same.4 ∙ ap (λ p. p.initial) c.requires.runner,
+      all.0,
+    )
+
+pub returns-clause-serves : goal.returns-clause-serves
+returns-clause-serves g c =
+    let e = c.serve_desks-run.ensures in
+    let j = c.join_all-ended.ensures in
+    let n = length c.args.desks.items in
     let p = c.args.runner.now.pass in
-    let q = c.serve_desks-end.new.runner.pass in
-    let cut = may_cut (Some c.serve_desks-end.result) in
-    let before = g.S.Sink.content c.args.out.now in
-    let after = g.S.Sink.content c.serve_desks-end.new.out in
-    let named : has p.number q.numbers ≡ true = ap (has p.number) e.runs.goes.same.2 ∙ c.requires.runner.3 in
-    writes-over g.H.Hosted.debugs p.number cut [] q.seen c.join_all.new.p.seen before after (q.seen, refl) j.longer
-    (j.own p.number named)
-    (subst (λ l. Writes g.H.Hosted.debugs p.number cut l q.seen before after) c.requires.runner.2 e.runs.writes)
+    let m = c.serve_desks-run.new.runner.pass in
+    let q = c.join_all-ended.new.p in
+    let news = c.serve_desks-run.new.desks in
+    let many : c.args.desks.len ≡ length news = search rules in
+    let same = ap (λ (n : ℕ). take n (news ++ drop (length news) c.args.desks.items)) many ∙ take-append_seam news (drop (length news) c.args.desks.items) in
+    let ds = take c.args.desks.len (news ++ drop (length news) c.args.desks.items) in
+    let below = ap (map (λ desk. desk.pass.number)) same ∙ e.numbers ∙ ap (map (λ desk. desk.pass.number)) c.as_mut_slice.ensures.value ∙ c.requires.numbers in
+    let all = answers-last c.args.runner.now.lock.now n p m q _ c.requires.runner e.runs.goes.same below j.whole j.same.3 (j.only (search rules)) in (
+      _,
+      serving g.H.Hosted.debugs n (g.C.Clock.moment c.args.clock.now) p m q.seen
+          (record { content = g.S.Sink.content c.args.out.now; faults = g.S.Sink.faults c.args.out.now })
+          (record { content = g.S.Sink.content c.serve_desks-run.new.out; faults = g.S.Sink.faults c.serve_desks-run.new.out })
+          c.serve_desks-run.result (λ desk. desk.pass.number)
+          (λ desk. record {
+            faults = g.O.Door.faults desk.door;
+            asked = g.O.Door.asked desk.door;
+            served = g.O.Door.served desk.door;
+            is_out = g.O.Door.is_out desk.door;
+          })
+          (λ desk. desk.end) _ c.join_all-ended.result (ap (λ z. z.seen) c.requires.runner)
+          (ap (λ z. z.number) c.requires.runner) e.runs j.longer
+          (j.own n (last-named c.args.runner.now.lock.now n p m c.requires.runner e.runs.goes.same)) j.history j.served
+          below all.1 j.ended,
+      ap
+          (map (λ door. record {
+            faults = g.O.Door.faults door;
+            asked = g.O.Door.asked door;
+            served = g.O.Door.served door;
+            is_out = g.O.Door.is_out door;
+          }))
+          (j.doors ∙ ap (λ l. l ++ map (λ desk. desk.door) ds) c.requires.none)
+          ∙ map-map
+          (λ door. record {
+            faults = g.O.Door.faults door;
+            asked = g.O.Door.asked door;
+            served = g.O.Door.served door;
+            is_out = g.O.Door.is_out door;
+          })
+          (λ desk. desk.door) ds
+          ∙ sym (map-map (λ (s : ServedDoor). s.door) _ ds),
+    )
