@@ -103,14 +103,14 @@ module _ {C T Q X : Type 0} (P : Protocol C T Q X) where
   -- a program that was shut was shut by an entry
   shut-by : (m : Meaning C Q X) (entries : List Entry) → m.shut ≡ false → (fold (apply P) m entries).shut ≡ true
       → has_shut entries ≡ true
-  shut-by m [] open is = absurd cc
-  shut-by m (entry ∷ entries) open is = here (shuts entry) refl
+  shut-by m [] unshut is = absurd cc
+  shut-by m (entry ∷ entries) unshut is = here (shuts entry) refl
     where
       here : (b : Bool) → shuts entry ≡ b → (shuts entry || has_shut entries) ≡ true
       here true it = ap (λ (x : Bool). x || has_shut entries) it
       here false it =
           ap (λ (x : Bool). x || has_shut entries) it
-          ∙ shut-by (apply P m entry) entries (stays-unshut m entry it ∙ open) is
+          ∙ shut-by (apply P m entry) entries (stays-unshut m entry it ∙ unshut) is
 
 shut-front : (front rest : List (ℕ × Entry)) → has_shut (entries_of front) ≡ true
     → has_shut (entries_of (front ++ rest)) ≡ true

@@ -27,7 +27,7 @@ use std::collections::VecDeque;
 use std::marker::Brand;
 use std::sync::Wait;
 use std::thread::Threads;
-use ws_service::{DoorsEnd, Ends, RunEnd, Runner, serve_port};
+use ws_service::{DoorsEnd, Ends, RunEnd, serve_port};
 
 /// The end that the doors decide, or else this one.
 fn or_doors(end: Option<Outcome<'static>>, doors: DoorsEnd) -> Option<Outcome<'static>>
@@ -63,7 +63,7 @@ struct Opened<'p, B: Beginning> {
 }
 
 /// A lock over a host that has just started, with its passes.
-fn opened<'p, B: Beginning>(
+fn open_lock<'p, B: Beginning>(
     alloc: Global,
     host: Host<'p>,
     sessions: usize,
@@ -142,16 +142,10 @@ where
     ensures dials { P.dials harbor.new ≡ P.dials harbor.old }
 {
     let Opened { lock, pass, doors } = opened;
-    let bell = harbor.bell();
-    let mut runner = Runner {
-        lock: &lock,
-        bell: &bell,
-        pass,
-    };
-    match serve_port(rt, alloc, &mut runner, doors, harbor, port, out, clock) {
-        Ok(Ends { run, doors }) => match outcome_of_serving(run, doors) {
+    match serve_port(rt, alloc, &lock, pass, doors, harbor, port, out, clock) {
+        Ok((Ends { run, doors }, mut pass)) => match outcome_of_serving(run, doors) {
             Some(end) => end,
-            None => thrown(rt, &lock, &mut runner.pass),
+            None => thrown(rt, &lock, &mut pass),
         },
         Err(fault) => unopened(fault),
     }
@@ -192,7 +186,7 @@ where
     let Ok(host) = Host::start(alloc, scripts, input, wait) else {
         return Outcome::OutOfMemory;
     };
-    let Ok(opened) = opened::<B>(alloc, host, sessions) else {
+    let Ok(opened) = open_lock::<B>(alloc, host, sessions) else {
         return Outcome::OutOfMemory;
     };
     serve_host(rt, alloc, opened, port, out, harbor, clock)

@@ -41,7 +41,7 @@ pub(crate) struct Request<'w> {
 }
 
 /// A server: its port, how many doors it opens, whether its program waits for a client, and its files, by their names.
-#[derive(Clone, Copy)]
+#[derive(Drop)]
 pub(crate) struct ServeRequest<'w> {
     pub(crate) port: u64,
     pub(crate) sessions: u64,
@@ -62,7 +62,7 @@ impl<'w> Model for ServeRequest<'w> {
 }
 
 /// What words ask for.
-#[derive(Clone, Copy)]
+#[derive(Drop)]
 pub(crate) enum Command<'w> {
     Run(Sources<'w>),
     Replay(Request<'w>),
@@ -185,7 +185,7 @@ fn number_first<'w>(
         }),
         [word, rest @ ..] => {
             if word.as_str() == name {
-                numbered(rest, most)
+                read_number(rest, most)
             } else {
                 Some(Numbered {
                     number: default,
@@ -197,7 +197,7 @@ fn number_first<'w>(
 }
 
 /// The number that is the first word, and the others.
-fn numbered(words: &[String], most: u64) -> Option<Numbered<'_>>
+fn read_number(words: &[String], most: u64) -> Option<Numbered<'_>>
     ensures bound { IfSome result (λ n. (1 ≤ n.number) × (n.number ≤ most)) }
     ensures number { option_map numbered_held result ≡ numbered most (map string_bytes words.now) }
 {

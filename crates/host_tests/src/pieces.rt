@@ -113,16 +113,7 @@ fn call<R: Threads + Wait + Sync, O: Sink + Send>(
 ) -> u8 {
     let mut harbor = MemHarbor::new(Vec::new(alloc), Vec::new(alloc), Vec::new(alloc));
     let mut clock = FixedClock::new(0);
-    debug_main(
-        rt,
-        alloc,
-        words,
-        shelf,
-        out,
-        err,
-        &mut harbor,
-        &mut clock,
-    )
+    debug_main(rt, alloc, words, shelf, out, err, &mut harbor, &mut clock)
 }
 
 #[test]

@@ -98,7 +98,10 @@ fn two_clients_are_served_at_once(rt: HostRuntime) -> Result<(), Fail> {
 fn a_server_that_can_not_write_shuts_its_program(rt: HostRuntime) -> Result<(), Fail> {
     let alloc = rt.alloc();
     let words = words_of(alloc, "serve --sessions 1 a.js")?;
-    let mut shelf = shelf(alloc, b"console.log(1);\nconsole.log(2);\nconsole.log(3);\n")?;
+    let mut shelf = shelf(
+        alloc,
+        b"console.log(1);\nconsole.log(2);\nconsole.log(3);\n",
+    )?;
     let mut doors = Vec::new(alloc);
     doors.push(MemDoor::new(Vec::new(alloc), Vec::new(alloc)))?;
     let mut harbor = MemHarbor::new(doors, Vec::new(alloc), Vec::new(alloc));

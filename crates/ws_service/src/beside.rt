@@ -15,11 +15,11 @@ use std::thread::{Threads, join_mut};
 
 /// A pass that runs the program of a lock.
 #[derive(Drop)]
-pub struct Runner<'a, H: Hosted<B>, B, D: Bell> {
+pub struct Runner<'l, 'b, H: Hosted<B>, B, D: Bell> {
     /// The lock of the history.
-    pub lock: &'a Lock<H, B>,
+    pub lock: &'l Lock<H, B>,
     /// The bell that it rings where another waits for something, and at which it waits.
-    pub bell: &'a D,
+    pub bell: &'b D,
     /// Its pass.
     pub pass: Worker<H, B>,
 }
@@ -36,7 +36,7 @@ pub fn run_beside<
 >(
     rt: &R,
     alloc: Global,
-    runner: &mut Runner<'_, H, B, D>,
+    runner: &mut Runner<'_, '_, H, B, D>,
     out: &mut O,
     clock: &mut C,
     works: &mut [W],

@@ -44,11 +44,11 @@ pub fn work_all<W: Work, R: Threads + Wait + Sync>(rt: &R, works: &mut [W])
 
 /// A worker: a pass of the lock, which serves a door, and how that ended, if it has.
 #[derive(Drop)]
-pub struct Desk<'a, H: Hosted<B>, B, D: Bell, O: Door> {
+pub struct Desk<'l, 'b, H: Hosted<B>, B, D: Bell, O: Door> {
     /// The lock of the history.
-    pub lock: &'a Lock<H, B>,
+    pub lock: &'l Lock<H, B>,
     /// The bell that it rings where another waits for something.
-    pub bell: &'a D,
+    pub bell: &'b D,
     /// Its pass.
     pub pass: Worker<H, B>,
     /// The door that it serves.
@@ -57,8 +57,8 @@ pub struct Desk<'a, H: Hosted<B>, B, D: Bell, O: Door> {
     pub end: Option<DoorEnd>,
 }
 
-impl<'a, H: Hosted<B> + Send, B: Send + Sync, D: Bell + Sync, O: Door + Send> Work
-    for Desk<'a, H, B, D, O>
+impl<'l, 'b, H: Hosted<B> + Send, B: Send + Sync, D: Bell + Sync, O: Door + Send> Work
+    for Desk<'l, 'b, H, B, D, O>
 where
     O::Link: Send,
 {

@@ -16,7 +16,7 @@ use server_edge::{Bell, Door};
 fn join_desk<H: Hosted<B>, B, D: Bell, O: Door>(
     lock: &Lock<H, B>,
     p: &mut Worker<H, B>,
-    desk: Desk<'_, H, B, D, O>,
+    desk: Desk<'_, '_, H, B, D, O>,
 ) -> O
     requires lock { (p.old.lock ≡ lock.now) × (desk.pass.lock ≡ lock.now) }
     requires free { (p.old.in_turn ≡ false) × (desk.pass.in_turn ≡ false) }
@@ -43,7 +43,7 @@ fn join_desk<H: Hosted<B>, B, D: Bell, O: Door>(
 pub fn join_all<H: Hosted<B>, B, D: Bell, O: Door>(
     lock: &Lock<H, B>,
     p: &mut Worker<H, B>,
-    desks: Vec<Desk<'_, H, B, D, O>>,
+    desks: Vec<Desk<'_, '_, H, B, D, O>>,
     doors: &mut Vec<O>,
 ) -> DoorsEnd
     requires lock { (p.old.lock ≡ lock.now) × All (λ desk. desk.pass.lock ≡ lock.now) desks.items }

@@ -23,8 +23,6 @@ mod serving;
 mod session;
 mod shutdown;
 
-pub use beside::Runner;
-pub use desk::{Desk, Work, work_all};
 pub use door::{DoorEnd, serve_door};
 pub use ends::{DoorsEnd, Ends};
 pub use port::serve_port;

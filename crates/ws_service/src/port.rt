@@ -20,12 +20,12 @@ use std::sync::Wait;
 use std::thread::Threads;
 
 /// Gives a door to each pass, as long as there are doors, the last door first.
-fn sit_down<'a, H: Hosted<B>, B, D: Bell, O: Door>(
-    lock: &'a Lock<H, B>,
-    bell: &'a D,
+fn sit_down<'l, 'b, H: Hosted<B>, B, D: Bell, O: Door>(
+    lock: &'l Lock<H, B>,
+    bell: &'b D,
     passes: Vec<Worker<H, B>>,
     mut doors: Vec<O>,
-    desks: &mut Vec<Desk<'a, H, B, D, O>>,
+    desks: &mut Vec<Desk<'l, 'b, H, B, D, O>>,
 )
     requires as_many { length doors.items ≡ length passes.items }
     requires none { desks.old.items ≡ [] }
@@ -59,9 +59,9 @@ fn sit_down<'a, H: Hosted<B>, B, D: Bell, O: Door>(
     }
 }
 
-/// Opens as many doors on a port as there are passes, runs the program to its end, serves the doors beside it until it is
-/// over, joins all passes into the runner's, and gives the doors back. All memory of its own is taken before the doors are
-/// opened.
+/// Opens as many doors on a port as there are further passes, runs the program to its end, serves the doors beside it until it
+/// is over, joins all passes into that of the program, which it hands back, and gives the doors back. All memory of its own is
+/// taken before the doors are opened.
 ///
 /// # Errors
 ///
@@ -77,28 +77,29 @@ pub fn serve_port<
 >(
     rt: &R,
     alloc: Global,
-    runner: &mut Runner<'_, H, B, P::Bell>,
+    lock: &Lock<H, B>,
+    pass: Worker<H, B>,
     passes: Vec<Worker<H, B>>,
     harbor: &mut P,
     port: u16,
     out: &mut S,
     clock: &mut C,
-) -> Result<Ends, HarborFault>
+) -> Result<(Ends, Worker<H, B>), HarborFault>
 where
     P::Bell: Sync,
     P::Door: Send,
     <P::Door as Door>::Link: Send,
     requires some { 0 < length passes.items }
-    requires runner { runner.old.pass ≡ initial_pass runner.old.lock.now (length passes.items + 1) (length passes.items) }
-    requires passes { passes.items ≡ initial_passes runner.old.lock.now (length passes.items + 1) (length passes.items) }
-    // What the runner's pass has seen at the end is the one history, in which the program ran and the doors were served
-    // that the harbor took back.
-    ensures serves { IfOk result (λ ends. (served : List ServedDoor) × IsServing H.debugs (length passes.items) (C.moment clock.old) (record { content = S.content out.old; faults = S.faults out.old }) (record { content = S.content out.new; faults = S.faults out.new }) ends runner.new.pass.seen served × (P.kept harbor.new ≡ adds (P.kept harbor.old) (map (λ (door : ServedDoor). door.door) served)) × RisesAt (any_fault (map (λ (door : ServedDoor). door.door.faults) served)) (P.faults harbor.old) (P.faults harbor.new)) }
+    requires pass { pass ≡ initial_pass lock.now (length passes.items + 1) (length passes.items) }
+    requires passes { passes.items ≡ initial_passes lock.now (length passes.items + 1) (length passes.items) }
+    // What the pass has seen at the end is the one history, in which the program ran and the doors were served that the
+    // harbor took back.
+    ensures serves { IfOk result (λ r. (served : List ServedDoor) × IsServing H.debugs (length passes.items) (C.moment clock.old) (record { content = S.content out.old; faults = S.faults out.old }) (record { content = S.content out.new; faults = S.faults out.new }) r.0 r.1.seen served × (P.kept harbor.new ≡ adds (P.kept harbor.old) (map (λ (door : ServedDoor). door.door) served)) × RisesAt (any_fault (map (λ (door : ServedDoor). door.door.faults) served)) (P.faults harbor.old) (P.faults harbor.new)) }
     ensures opened { OnOk result (P.opens harbor.new ≡ called (port, length passes.items) (P.opens harbor.old)) }
     ensures home { P.doors_out harbor.new ≡ P.doors_out harbor.old }
-    ensures last { OnOk result ((runner.new.lock.now ≡ runner.old.lock.now) × IsLastPass runner.old.lock.now (length passes.items) runner.new.pass) }
+    ensures last { IfOk result (λ r. IsLastPass lock.now (length passes.items) r.1) }
     // Where a door failed, the harbor's count rose.
-    ensures door { IfOk result (λ ends. ends.doors ≡ together.Failed → Rose (P.faults harbor.old) (P.faults harbor.new)) }
+    ensures door { IfOk result (λ r. r.0.doors ≡ together.Failed → Rose (P.faults harbor.old) (P.faults harbor.new)) }
     ensures once { (P.opens harbor.new ≡ P.opens harbor.old) ⊎ (P.opens harbor.new ≡ called (port, length passes.items) (P.opens harbor.old)) }
     ensures dials { P.dials harbor.new ≡ P.dials harbor.old }
     ensures memory { IsErrOf result HarborFault.Memory → P.faults harbor.new ≡ P.faults harbor.old }
@@ -107,6 +108,7 @@ where
     ensures nothing { OnErr result ((S.content out.new ≡ S.content out.old) × (S.faults out.new ≡ S.faults out.old)) }
 {
     let count = passes.len();
+    let bell = harbor.bell();
     let Ok(mut desks) = Vec::with_capacity(alloc, count) else {
         return Err(HarborFault::Memory);
     };
@@ -114,8 +116,18 @@ where
         return Err(HarborFault::Memory);
     };
     let doors = harbor.open(port, count)?;
-    sit_down(runner.lock, runner.bell, passes, doors, &mut desks);
-    let ends = serve_all(rt, alloc, runner, out, clock, desks, &mut served);
+    sit_down(lock, &bell, passes, doors, &mut desks);
+    let mut runner = Runner {
+        lock,
+        bell: &bell,
+        pass,
+    };
+    let ends = serve_all(rt, alloc, &mut runner, out, clock, desks, &mut served);
     harbor.shut(served);
-    Ok(ends)
+    let Runner {
+        lock: _,
+        bell: _,
+        pass,
+    } = runner;
+    Ok((ends, pass))
 }

@@ -5,9 +5,9 @@ ghost use Rattle.isolation.specs.Histories.{Entry as AnyEntry};
 ghost use Rattle.ws_service.specs.Passing.{Goes};
 ghost use Rattle.ws_service.specs.Programs.{AreLeft, Counts, FindsDue, Finishes, HasReason, HasRun, Puts, Writes, end_at, end_in, may_cut};
 
+use crate::shutdown::{NotShut, shut_down};
 use cdp_edge::{Sink, SinkFault};
 use cdp_text::units::Units;
-use crate::shutdown::{NotShut, shut_down};
 use history_lock::Spent;
 use host_turns::{Hosted, Lock, Progress, State, Worker, run};
 use printing::put_texts;

@@ -30,10 +30,10 @@ fn serve_desks<
 >(
     rt: &R,
     alloc: Global,
-    runner: &mut Runner<'_, H, B, D>,
+    runner: &mut Runner<'_, '_, H, B, D>,
     out: &mut S,
     clock: &mut C,
-    desks: &mut [Desk<'_, H, B, D, O>],
+    desks: &mut [Desk<'_, '_, H, B, D, O>],
 ) -> RunEnd
 where
     O::Link: Send,
@@ -74,10 +74,10 @@ pub fn serve_all<
 >(
     rt: &R,
     alloc: Global,
-    runner: &mut Runner<'_, H, B, D>,
+    runner: &mut Runner<'_, '_, H, B, D>,
     out: &mut S,
     clock: &mut C,
-    mut desks: Vec<Desk<'_, H, B, D, O>>,
+    mut desks: Vec<Desk<'_, '_, H, B, D, O>>,
     doors: &mut Vec<O>,
 ) -> Ends
 where

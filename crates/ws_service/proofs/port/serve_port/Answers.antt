@@ -11,14 +11,14 @@ use Rattle.ws_service.proofs.port.serve_port.Goals as goal
 pub sit_down-requires-clause-passes : goal.sit_down-requires-clause-passes
 sit_down-requires-clause-passes g c =
     let n = length c.args.passes.items in
-    let lock = c.args.runner.now.lock.now in
+    let lock = c.args.lock.now in
     subst (λ l. All (λ p. IsUnstarted lock p) l) (sym c.requires.passes) (all-unstarted lock (n + 1) n)
 
 pub serve_all-ends-requires-clause-numbers : goal.serve_all-ends-requires-clause-numbers
 serve_all-ends-requires-clause-numbers g c κs within =
     let n = length c.args.passes.items in
     let desks = c.sit_down.new.desks.items in
-    let lock = c.args.runner.now.lock.now in
+    let lock = c.args.lock.now in
     sym (map-map (λ p. p.number) (λ desk. desk.pass) desks)
     ∙ ap (map (λ p. p.number)) (c.sit_down.ensures.passes ∙ c.requires.passes)
     ∙ initial-numbers lock (n + 1) n
