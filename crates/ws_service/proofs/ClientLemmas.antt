@@ -1,5 +1,5 @@
 -- What doors leave: entries of clients, and at most a shut.
-use Rattle.std.proofs.Common.{◌≡◌, ◌⊎◌, inl, inr, ℕ, List, [], ◌∷◌, ◌++◌, Bool, false, Option as Opt, Some, None, refl, ap, sym, subst, ◌∙◌}
+use Rattle.std.proofs.Common.{◌≡◌, inl, inr, ℕ, List, [], ◌∷◌, ◌++◌, Bool, false, Option as Opt, Some, None, refl, ap, sym, subst, ◌∙◌}
 use Rattle.isolation.specs.Histories.{Entry, Attach, Tell, Take, Detach, Ran, Shut}
 use Rattle.isolation.specs.Makers.{by}
 use Rattle.server_edge.specs.Contents.{Tended}

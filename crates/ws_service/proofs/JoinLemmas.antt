@@ -1,5 +1,5 @@
 -- A door that was served stays so in every history that goes on without its maker.
-use Rattle.std.proofs.Common.{◌≡◌, ◌⊎◌, ◌<◌, ◌≤◌, inl, inr, ℕ, suc, List, All, [], ◌∷◌, ◌++◌, map, Bool, true, false, if◌then◌else◌, nat_lt, length, slice_index_or, Option as Opt, Some, None, refl, ap, sym, subst, ◌∙◌, append_assoc, arith}
+use Rattle.std.proofs.Common.{◌≡◌, ◌⊎◌, ◌<◌, inl, inr, ℕ, suc, List, All, [], ◌∷◌, ◌++◌, map, Bool, true, false, if◌then◌else◌, nat_lt, length, slice_index_or, Option as Opt, Some, None, refl, ap, sym, subst, ◌∙◌, append_assoc, arith}
 use Rattle.std.proofs.lemmas.Bool.{ne_eqb}
 use Rattle.std.proofs.lemmas.List.Elements.{All-head, All-nil, All-push, All-tail, All-weaker}
 use mathlib.Core.Logic.{dite}

@@ -21,7 +21,7 @@ use Rattle.host_turns.specs.States.{HasState}
 use Rattle.host_turns.specs.Turns.{Acts, Finds, Prints, Steps, printed_by}
 use Rattle.host_turns.specs.declared.state.State.{State}
 use Rattle.host_turns.specs.declared.state.State.TheVariants as states
-use Rattle.ws_service.specs.Programs.{AreLeft, AreTurns, Counts, FindsDue, Finishes, GainsLines, HasReason, HasRun, IsDue, IsLast, IsRunOf, IsTurn, OnlyRuns, Output, Writes, end_at, end_in, may_cut, shuts_at}
+use Rattle.ws_service.specs.Programs.{AreLeft, AreTurns, Counts, FindsDue, Finishes, GainsLines, HasReason, HasRun, IsDue, IsLast, IsRunOf, OnlyRuns, Output, Writes, end_at, end_in, may_cut, shuts_at}
 use Rattle.ws_service.specs.Shutdowns.{HadNoTicket, ShutsDown, shut_entries}
 use Rattle.ws_service.specs.declared.program.RunEnd.{RunEnd}
 use Rattle.ws_service.specs.declared.program.RunEnd.TheVariants as ends

@@ -6,10 +6,10 @@ use mathlib.Core.List.{map-map}
 use Rattle.std.proofs.lemmas.List.Elements.{All-cons, All-head, All-map, All-nil, All-push, All-tail, All-weaker}
 use mathlib.Core.Logic.{dite}
 use native.Mathlib.Decide.{dec_lt, ℕ_discrete}
-use Rattle.isolation.specs.Histories.{Entry, Attach, Tell, Take, Detach, Ran, Shut, steps_made, steps_of, whole}
+use Rattle.isolation.specs.Histories.{Entry, Attach, Tell, Take, Detach, Ran, Shut, steps_made, whole}
 use Rattle.isolation.specs.Makers.{by, entries_of as unmade, entry_of}
 use Rattle.isolation.proofs.LongerLemmas.{call-program, whole-more}
-use Rattle.isolation.proofs.MakerLemmas.{by-append, by-own}
+use Rattle.isolation.proofs.MakerLemmas.{by-append}
 use Rattle.history_lock.specs.Histories.{Begins, has}
 use Rattle.history_lock.specs.Passes.{HasInitialOnly, IsSamePass, LockId, PassState, initial_pass, initial_passes}
 use Rattle.history_lock.proofs.Facts.{by_behind, has_behind, has_front}
@@ -18,22 +18,18 @@ use Rattle.server_edge.specs.Contents.{Tended, any_fault, lowered, raised}
 use Rattle.host_turns.specs.Debuggings.{Debugging, IsHistory, meaning}
 use Rattle.ws_service.specs.Doors.{EndsDoor}
 use Rattle.ws_service.specs.Joins.{AnswersForAll, AreAll, IsServedDoor, IsUnstarted}
-use Rattle.ws_service.specs.Passing.{Was}
 use Rattle.ws_service.specs.Programs.{AreLeft, AreTurns, FindsDue, GainsLines, HasReason, HasRun, IsDue, IsLast, IsRunOf, IsTurn, OnlyRuns, Output, PrintsOn, Writes, may_cut, shuts_at}
-use Rattle.ws_service.specs.Serving.{IsEndOfDoors, IsProgramRun, IsServing, MayHaveShut, ServedDoor, any_door, has_failed, has_shut, numbers_below, shuts, was_spent, with_door}
+use Rattle.ws_service.specs.Serving.{IsEndOfDoors, IsProgramRun, IsServing, ServedDoor, any_door, has_failed, has_shut, numbers_below, was_spent, with_door}
 use Rattle.ws_service.specs.declared.door.DoorEnd.{DoorEnd}
 use Rattle.ws_service.specs.declared.door.DoorEnd.TheVariants as one
 use Rattle.ws_service.specs.declared.ends.DoorsEnd.{DoorsEnd}
 use Rattle.ws_service.specs.declared.ends.DoorsEnd.TheVariants as all
-use Rattle.ws_service.specs.declared.ends.Ends.{Ends}
 use Rattle.ws_service.specs.declared.program.RunEnd.{RunEnd}
 use Rattle.ws_service.specs.declared.program.RunEnd.TheVariants as ends
-use Rattle.ws_service.specs.declared.shutdown.NotShut.{NotShut}
 use Rattle.ws_service.proofs.ClientLemmas.{Each, MakesNoSteps, ShutsNothing, each-append, each-are, shutless-door, stepless-door}
 use Rattle.ws_service.proofs.JoinLemmas.{among}
 use Rattle.ws_service.proofs.OutputLemmas.{writes-over}
-use Rattle.ws_service.proofs.PassingLemmas.{was-longer}
-use Rattle.ws_service.proofs.ProgramLemmas.{Falls, falls, made-append, none-between, none-made, only-after, same-tail}
+use Rattle.ws_service.proofs.ProgramLemmas.{Falls, falls, none-between, none-made, only-after, same-tail}
 
 -- ---- how doors ended
 
