@@ -16,7 +16,7 @@ returns-in_ok-text-in-Some-Threw-clause-text c = λ taken.
     rw (← c.self.view_is)
     (ap Some
     (c.in_ok-text-in-Some-Threw.ensures
-    ∙ ap utf8_of (c.as_slice.ensures.value ∙ c.in_ok-units-in-Some-Threw.ensures))
+    ∙ ap utf8_of (c.as_slice.ensures ∙ c.in_ok-units-in-Some-Threw.ensures))
     ∙ sym
     (ap uncaught_text (c.in-Some-Threw.ensures.over w taken)
     ∙ ap (λ f. uncaught_text (over (finish_of f) s)) c.in-Some-Threw.field-0-is))
