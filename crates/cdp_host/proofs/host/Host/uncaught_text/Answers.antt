@@ -1,5 +1,6 @@
 use Rattle.std.proofs.Common.{Some, false, sym, ap, ◌∙◌}
 use Rattle.cdp_text.specs.Units.{utf8_of}
+use Rattle.js_heap.specs.Values.{shown}
 use Rattle.js_semantics.specs.Run.{over}
 use Rattle.js_world.specs.Heaps.{heap_world}
 use Rattle.js_machine.specs.Machines.{state_of}
@@ -16,7 +17,10 @@ returns-in_ok-text-in-Some-Threw-clause-text c = λ taken.
     rw (← c.self.view_is)
     (ap Some
     (c.in_ok-text-in-Some-Threw.ensures
-    ∙ ap utf8_of (c.as_slice.ensures ∙ c.in_ok-units-in-Some-Threw.ensures))
+    ∙ ap utf8_of
+    (c.as_slice.ensures
+    ∙ c.in_ok-units-in-Some-Threw.ensures
+    ∙ ap (λ names. shown (heap_world names a.heap) c.in-Some-Threw.value) c.names.ensures))
     ∙ sym
     (ap uncaught_text (c.in-Some-Threw.ensures.over w taken)
     ∙ ap (λ f. uncaught_text (over (finish_of f) s)) c.in-Some-Threw.field-0-is))
