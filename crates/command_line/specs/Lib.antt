@@ -1,4 +1,5 @@
 pub mod Words
+pub mod SourcesHeld
 pub mod RequestHeld
 pub mod Files
 pub mod Journal

@@ -21,6 +21,7 @@ mod replay;
 mod report;
 mod run;
 mod serve;
+mod serve_request;
 mod sources;
 mod transcript;
 mod words;

@@ -13,8 +13,8 @@ ghost use Rattle.command_line.specs.RunCauses.{IsUnbegun};
 ghost use Rattle.command_line.specs.ServeCauses.{BecauseServe, BecauseServed, Serves, ServesPort, ShowsThrow, or_doors, outcome_of_serving, unopened};
 
 use crate::outcome::Outcome;
+use crate::serve_request::ServeRequest;
 use crate::sources::{Program, read_sources};
-use crate::words::ServeRequest;
 use cdp_edge::{Shelf, Sink};
 use cdp_host::{Beginning, Host};
 use cdp_text::units::Units;

@@ -6,9 +6,9 @@ ghost use Rattle.std.specs.Option.{option_map};
 ghost use Rattle.command_line.specs.Words.{asked, drill_numbered, drill_words, is_option, names_behind_input, names_of, number_first, number_up_to, numbered, replay_of, replay_words, run_of, serve_behind, serve_of, serve_wait, serve_words};
 ghost use Rattle.command_line.specs.RequestHeld.{command_held, names_held, numbered_held};
 
+use crate::serve_request::ServeRequest;
 use cdp_text::decimal::read_decimal;
 use cdp_text::parts::behind;
-use std::marker::Model;
 
 /// The greatest number of a drill.
 const MOST_DRILLED: u64 = 10_000;
@@ -38,27 +38,6 @@ pub(crate) struct Request<'w> {
     pub(crate) wait: bool,
     pub(crate) journal: &'w str,
     pub(crate) sources: Sources<'w>,
-}
-
-/// A server: its port, how many doors it opens, whether its program waits for a client, and its files, by their names.
-#[derive(Drop)]
-pub(crate) struct ServeRequest<'w> {
-    pub(crate) port: u64,
-    pub(crate) sessions: u64,
-    pub(crate) wait: bool,
-    pub(crate) sources: Sources<'w>,
-}
-
-impl<'w> Model for ServeRequest<'w> {
-    ghost use Rattle.std.specs.Prelude.{◌≤◌};
-    ghost use Rattle.command_line.specs.RequestHeld.{sources_held};
-    ghost use Rattle.command_line.specs.Words.{ServeRequest as Asked};
-
-    ghost Value = { Asked };
-
-    ghost view = { λ a. record { port = a.port; sessions = a.sessions; wait = a.wait; sources = sources_held a.sources } };
-
-    ghost invariant = { λ a. (1 ≤ a.port) × (a.port ≤ 65535) × (1 ≤ a.sessions) × (a.sessions ≤ 16) };
 }
 
 /// What words ask for.
