@@ -1,5 +1,6 @@
 -- What serving a program says, in the words of its run without a debugger.
-use Rattle.std.proofs.Common.{◌≡◌, ◌≢◌, ◌<◌, ◌≤◌, ◌⊎◌, inl, inr, ℕ, zero, suc, ◌+◌, List, [], ◌∷◌, ◌++◌, map, Bool, true, false, ◌||◌, if◌then◌else◌, fold, refl, ap, sym, subst, ◌∙◌, arith, append_assoc, append-nil, string_bytes, Option as Opt, Some, None}
+use Rattle.std.proofs.Common.{◌≡◌, ◌≢◌, ◌<◌, ◌≤◌, ◌⊎◌, inl, inr, ℕ, zero, suc, ◌+◌, List, [], ◌∷◌, ◌++◌, map, length, Bool, true, false, ◌||◌, if◌then◌else◌, fold, refl, ap, sym, subst, ◌∙◌, arith, append_assoc, append-nil, string_bytes, Option as Opt, Some, None}
+use Rattle.std.proofs.lemmas.List.{length-append}
 use Rattle.std.proofs.lemmas.Option.{same_Some}
 use mathlib.Core.Logic.{dite}
 use native.Mathlib.Decide.{dec_lt}
@@ -12,12 +13,12 @@ use Rattle.isolation.specs.Stops.{plain as plain_from}
 use Rattle.isolation.specs.declared.seat.Seat.{Seat}
 use Rattle.isolation.specs.declared.seat.Seat.TheVariants as seats
 use Rattle.isolation.proofs.AloneLemmas.{alone}
-use Rattle.isolation.proofs.MakerLemmas.{by-append}
+use Rattle.isolation.proofs.MakerLemmas.{by-append, by-own}
 use Rattle.isolation.proofs.StopLemmas.{stops-exactly}
 use Rattle.cdp_edge.specs.Blame.{Faults}
 use Rattle.cdp_edge.specs.Outside.{GainsPrefix, Named, Rose, Told, gains}
 use Rattle.history_lock.specs.Histories.{Begins, has}
-use Rattle.history_lock.specs.Passes.{Follows, HasInitialOnly, IsSamePass, PassState}
+use Rattle.history_lock.specs.Passes.{Follows, HasInitialOnly, IsSamePass, LockId, PassState, initial_pass, initial_passes}
 use Rattle.js_tree.specs.declared.script.Script.{Script}
 use Rattle.js_semantics.specs.Run.{Run, running, over}
 use Rattle.js_semantics.specs.Run as finishes
@@ -29,6 +30,7 @@ use Rattle.server_edge.specs.Contents.{Tended, adds, called}
 use Rattle.host_turns.specs.Debuggings.{IsHistory}
 use Rattle.cdp_host.specs.Debugged.{debugging}
 use Rattle.cdp_host.specs.Histories.{whole}
+use Rattle.cdp_host.specs.Hosts.{HostState, Stands, meaning_with}
 use Rattle.cdp_host.specs.Programs.{has_thrown, is_over, plain, printed_of, start, uncaught_text}
 use Rattle.cdp_host.specs.Protocols.{protocol}
 use Rattle.cdp_host.proofs.LawLemmas.{goes-plainly}
@@ -43,12 +45,14 @@ use Rattle.ws_service.specs.declared.program.RunEnd.TheVariants as runs
 use Rattle.command_line.specs.Files.{HoldsSources}
 use Rattle.command_line.specs.RunCauses.{BecauseSources, RunsInPart, RunsToThrow}
 use Rattle.command_line.specs.ServeCauses.{BecauseServe, BecauseServed, Harbored, HasFinished, IsOpened, Serves, ServesPort, ShowsThrow, or_doors, outcome_of_serving}
-use Rattle.command_line.specs.Words.{ServeRequest}
+use Rattle.command_line.specs.Status.{GivenServe, said, status_of, uncaught_said}
+use Rattle.command_line.specs.Words.{Command, Serve, ServeRequest}
 use Rattle.command_line.specs.declared.outcome.Outcome.{Outcome}
 use Rattle.command_line.specs.declared.outcome.Outcome.TheVariants as ends
 use Rattle.command_line.proofs.PausedLemmas.{run-shut}
 use Rattle.command_line.proofs.PlainLemmas.{plain-as}
 use Rattle.command_line.proofs.RunLemmas.{told_map}
+use Rattle.ws_service.proofs.ProgramLemmas.{same-tail}
 
 -- ---- shuts
 
@@ -104,13 +108,14 @@ module _ {C T Q X : Type 0} (P : Protocol C T Q X) where
   shut-by : (m : Meaning C Q X) (entries : List Entry) → m.shut ≡ false → (fold (apply P) m entries).shut ≡ true
       → has_shut entries ≡ true
   shut-by m [] unshut is = absurd cc
-  shut-by m (entry ∷ entries) unshut is = here (shuts entry) refl
+  shut-by m (entry ∷ entries) unshut is =
+      here (shuts entry) refl
+      (λ it. shut-by (apply P m entry) entries (stays-unshut m entry it ∙ unshut) is)
     where
-      here : (b : Bool) → shuts entry ≡ b → (shuts entry || has_shut entries) ≡ true
-      here true it = ap (λ (x : Bool). x || has_shut entries) it
-      here false it =
-          ap (λ (x : Bool). x || has_shut entries) it
-          ∙ shut-by (apply P m entry) entries (stays-unshut m entry it ∙ unshut) is
+      here : (b : Bool) → shuts entry ≡ b → (shuts entry ≡ false → has_shut entries ≡ true)
+          → (shuts entry || has_shut entries) ≡ true
+      here true it rest = ap (λ (x : Bool). x || has_shut entries) it
+      here false it rest = ap (λ (x : Bool). x || has_shut entries) it ∙ rest it
 
 shut-front : (front rest : List (ℕ × Entry)) → has_shut (entries_of front) ≡ true
     → has_shut (entries_of (front ++ rest)) ≡ true
@@ -127,7 +132,10 @@ shut-front (made ∷ front) rest is = either (shuts made.1) (has_shut (entries_o
 from-start : (k : ℕ) (scripts : List Script) (input : List (List ℕ))
     → plain_from (protocol scripts) k (start scripts input) ≡ plain k scripts input
 from-start k scripts input =
-    ap (plain_from (protocol scripts) k) (plain-start scripts input) ∙ plain-as k 0 scripts input
+    let same : 0 + k ≡ k = omega arith in
+    ap (plain_from (protocol scripts) k) (plain-start scripts input)
+    ∙ plain-as k 0 scripts input
+    ∙ ap (λ n. plain n scripts input) same
 
 -- the texts by which a history goes on from nothing are those of the plain run
 texts-plain : (scripts : List Script) (input : List (List ℕ)) (wait : Bool) (h : List (ℕ × Entry))
@@ -172,19 +180,19 @@ thrown-so : (k : ℕ) (scripts : List Script) (input : List (List ℕ)) (text : 
     (r : Run) → plain k scripts input ≡ r → uncaught_text r ≡ Some text
     → after ≡ gains before (printed_lines (printed_of r)) → HasThrown (terms_of_scripts scripts) input text before after
 unfolding plain
-thrown-so k scripts input text before after (over (finishes.threw v place) s) at shown whole = record {
+thrown-so k scripts input text before after (over (finishes.threw v place) s) at shown written = record {
   steps = k;
   value = v;
   place = place;
   state = s;
   is = at;
-  told = sym (same_Some shown);
-  whole = whole;
+  told = sym (same_Some _ _ shown);
+  whole = written;
 }
-thrown-so k scripts input text before after (running t s) at shown whole = absurd cc
-thrown-so k scripts input text before after (over (finishes.ended v) s) at shown whole = absurd cc
-thrown-so k scripts input text before after (over finishes.by_effect s) at shown whole = absurd cc
-thrown-so k scripts input text before after (over (finishes.by_full what) s) at shown whole = absurd cc
+thrown-so k scripts input text before after (running t s) at shown written = absurd cc
+thrown-so k scripts input text before after (over (finishes.ended v) s) at shown written = absurd cc
+thrown-so k scripts input text before after (over finishes.by_effect s) at shown written = absurd cc
+thrown-so k scripts input text before after (over (finishes.by_full what) s) at shown written = absurd cc
 
 -- the text of a program that a throw ended
 text-of : (r : Run) → has_thrown r ≡ true → (text : List ℕ) × (uncaught_text r ≡ Some text)
@@ -198,7 +206,7 @@ text-of (over (finishes.by_full what) s) is = absurd cc
 
 module _ (scripts : List Script) (input : List (List ℕ)) (wait : Bool) (n : ℕ) (moment : Opt ℕ) (old new : Output)
     (h : List (ℕ × Entry)) (served : List ServedDoor) where
-  steps : ℕ
+  abbrev steps : ℕ
   steps = steps_made (entries_of h)
 
   abbrev Is : RunEnd → DoorsEnd → Type 0
@@ -332,7 +340,8 @@ undecided runs.Ended doors.Spent none = absurd cc
 
 none-at-all : (l : List (ℕ × Entry)) → ((x : ℕ) → by x l ≡ []) → l ≡ []
 none-at-all [] none = refl
-none-at-all (made ∷ l) none = let here = none made.0 in absurd cc
+none-at-all (made ∷ l) none =
+    let here : made.1 ∷ by made.0 l ≡ [] = sym (by-own made.0 made.1 l) ∙ none made.0 in absurd cc
 
 -- a pass that answers for all finds nothing new at its turn
 pub finds-all : (p m : PassState Entry) → AnswersForAll p → Follows p m → IsSamePass p m → HasInitialOnly m
@@ -355,6 +364,54 @@ finds-all p m all follows same only =
         (sym (by-append x p.seen follows.0)
         ∙ ap (by x) (sym follows.1)
         ∙ beyond x (subst (λ (k : ℕ). k ≤ x) (sym same.4) (omega (arith, above)))))
+
+-- ---- the passes of a new lock
+
+same-head : {A : Type 0} (x y : A) (xs ys : List A) → x ∷ xs ≡ y ∷ ys → x ≡ y
+same-head x y xs ys is = cc
+
+not-empty : {A : Type 0} (ys : List A) (y : A) → [] ≡ ys ++ y ∷ [] → ⊥
+not-empty [] y is = absurd cc
+not-empty (z ∷ ys) y is = absurd cc
+
+push-same : {A : Type 0} (xs ys : List A) (x y : A) → xs ++ x ∷ [] ≡ ys ++ y ∷ [] → (xs ≡ ys) × (x ≡ y)
+push-same [] [] x y is = (refl, cc)
+push-same [] (z ∷ ys) x y is = absurd (not-empty ys y (same-tail x z [] (ys ++ y ∷ []) is))
+push-same (z ∷ xs) [] x y is = absurd (not-empty xs x (sym (same-tail z y (xs ++ x ∷ []) [] is)))
+push-same (z ∷ xs) (w ∷ ys) x y is =
+    let rest = push-same xs ys x y (same-tail z w (xs ++ x ∷ []) (ys ++ y ∷ []) is) in
+    (same-both z w xs ys (same-head z w (xs ++ x ∷ []) (ys ++ y ∷ []) is) rest.0, rest.1)
+  where
+    same-both : {A : Type 0} (z w : A) (xs ys : List A) → z ≡ w → xs ≡ ys → z ∷ xs ≡ w ∷ ys
+    same-both z w xs ys first second = λ i. first i ∷ second i
+
+-- the last of the passes is that of the program, and the others are those of the doors
+pub last-pass : (lock : LockId) (n : ℕ) (all doors : List (PassState Entry)) (pass : PassState Entry)
+    → all ≡ initial_passes lock (n + 1) (n + 1) → all ≡ doors ++ pass ∷ []
+    → (doors ≡ initial_passes lock (n + 1) n) × (pass ≡ initial_pass lock (n + 1) n)
+last-pass lock n all doors pass is split =
+    let one-more : n + 1 ≡ suc n = omega arith in
+    push-same doors (initial_passes lock (n + 1) n) pass (initial_pass lock (n + 1) n)
+    (sym split ∙ is ∙ ap (initial_passes lock (n + 1)) one-more)
+
+-- so many are those of the doors
+pub initial-length : (lock : LockId) (n k : ℕ) → length (initial_passes {E = Entry} lock n k) ≡ k
+initial-length lock n zero = refl
+initial-length lock n (suc k) =
+    length-append (initial_passes lock n k) (initial_pass lock n k ∷ [])
+    ∙ ap (λ (m : ℕ). m + 1) (initial-length lock n k)
+    ∙ omega arith
+
+-- ---- the text of a throw
+
+-- a host that isn't broken has the program of its history
+pub host-program : (scripts : List Script) (input : List (List ℕ)) (wait : Bool) (host : HostState)
+    (history : List Entry) (text : Opt (List ℕ)) → Stands scripts input wait host history → host.broken ≡ false
+    → ((taken : List (List ℕ)) → text ≡ uncaught_text (meaning_with host taken).program)
+    → uncaught_text (whole scripts input wait history).program ≡ text
+host-program scripts input wait host history text stands works told =
+    let printed = printed_of (whole scripts input wait history).program in
+    sym (told printed ∙ ap (λ m. uncaught_text m.program) (stands.means works).is)
 
 -- ---- before a port is opened
 
@@ -440,3 +497,58 @@ in-part request files moment old new before after (inr s) = inr (record {
       served-part s.scripts s.input request.wait request.sessions moment old new s.port.history s.port.doors s.end.run
       s.end.doors s.port.serving;
 })
+
+-- ---- of the words that ask for a server
+
+given_serve : (o : Opt Command) (request : ServeRequest) (told : Opt (List Named))
+    (P : ServeRequest → List Named → Type 0) → o ≡ Some (Serve request) → Told told (P request) → GivenServe o told P
+given_serve o request told P is h = rw is h
+
+-- its output is a first part of the plain one
+pub part_given : (o : Opt Command) (request : ServeRequest) (told : Opt (List Named)) (moment : Opt ℕ)
+    (old new : Output) (before after : Opt (List Tended)) → o ≡ Some (Serve request)
+    → Told told (λ files. (new.content ≡ old.content) ⊎ Serves files request moment old new before after)
+    → GivenServe o told
+    (λ r files. (new.content ≡ old.content) ⊎ RunsInPart files r.sources old.content new.content)
+part_given o request told moment old new before after is h =
+    given_serve o request told
+    (λ r files. (new.content ≡ old.content) ⊎ RunsInPart files r.sources old.content new.content) is
+    (told_map told (λ files. (new.content ≡ old.content) ⊎ Serves files request moment old new before after) _
+    (λ files at. in-part request files moment old new before after at) h)
+
+-- how a throw that ended its program is told
+abbrev IsToldThrow : Output → Output → Opt (List ℕ) → Opt (List ℕ) → ServeRequest → List Named → Type 0
+IsToldThrow old new before after request files =
+    (text : List ℕ)
+    × RunsToThrow files request.sources text old.content new.content
+    × GainsPrefix before after (uncaught_said text)
+
+threw-told : (end : Outcome) (request : ServeRequest) (told : Opt (List Named)) (faults now_faults : Faults)
+    (old new : Output) (was now : Harbored) (before after : Opt (List ℕ)) → status_of end ≡ 8
+    → BecauseServe end request told faults now_faults old new was now → GainsPrefix before after (said end)
+    → Told told (IsToldThrow old new before after request)
+threw-told (ends.Threw text) request told faults now_faults old new was now before after is h says =
+    told_map told (λ files. RunsToThrow files request.sources (string_bytes text) old.content new.content)
+    (IsToldThrow old new before after request) (λ files thrown. (string_bytes text, thrown, says)) h.3
+threw-told ends.ThrewUnshown request told faults now_faults old new was now before after is h says =
+    told_map told (λ files. RunsToThrow files request.sources h.3.0 old.content new.content)
+    (IsToldThrow old new before after request)
+    (λ files thrown. (h.3.0, thrown, prefix-more before after [] (uncaught_said h.3.0) (uncaught_said h.3.0) refl says)) h.3.1
+threw-told ends.Done request told faults now_faults old new was now before after is h says = absurd cc
+threw-told ends.OutOfMemory request told faults now_faults old new was now before after is h says = absurd cc
+threw-told ends.Usage request told faults now_faults old new was now before after is h says = absurd h
+threw-told (ends.Refused name r) request told faults now_faults old new was now before after is h says = absurd cc
+threw-told (ends.CannotRead name) request told faults now_faults old new was now before after is h says = absurd cc
+threw-told ends.CannotWrite request told faults now_faults old new was now before after is h says = absurd cc
+threw-told (ends.LineRefused n) request told faults now_faults old new was now before after is h says = absurd h
+threw-told ends.NetworkFault request told faults now_faults old new was now before after is h says = absurd cc
+threw-told ends.TicketsSpent request told faults now_faults old new was now before after is h says = absurd cc
+
+pub threw_given : (o : Opt Command) (end : Outcome) (request : ServeRequest) (told : Opt (List Named))
+    (faults now_faults : Faults) (old new : Output) (was now : Harbored) (before after : Opt (List ℕ)) (status : ℕ)
+    → o ≡ Some (Serve request) → status ≡ status_of end
+    → BecauseServe end request told faults now_faults old new was now → GainsPrefix before after (said end)
+    → status ≡ 8 → GivenServe o told (IsToldThrow old new before after)
+threw_given o end request told faults now_faults old new was now before after status is ends_so h says eight =
+    given_serve o request told (IsToldThrow old new before after) is
+    (threw-told end request told faults now_faults old new was now before after (sym ends_so ∙ eight) h says)

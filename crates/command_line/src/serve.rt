@@ -19,7 +19,7 @@ use cdp_edge::{Shelf, Sink};
 use cdp_host::{Beginning, Host};
 use cdp_text::units::Units;
 use history_lock::HistoryLock;
-use host_turns::{Entry, Lock, Worker};
+use host_turns::{Entry, Hosted, Lock, Worker};
 use js_tree::script::Script;
 use server_edge::{Clock, Door, Harbor, HarborFault};
 use std::alloc::{AllocError, Global};
@@ -31,7 +31,7 @@ use ws_service::{DoorsEnd, Ends, RunEnd, serve_port};
 
 /// The end that the doors decide, or else this one.
 fn or_doors(end: Option<Outcome<'static>>, doors: DoorsEnd) -> Option<Outcome<'static>>
-    ensures { result ≡ or_doors end doors }
+    ensures { result ≡ or_doors end.entry doors }
 {
     match doors {
         DoorsEnd::Over => end,
@@ -94,7 +94,9 @@ fn thrown<'p, B: Beginning, R: Wait>(
     let Ok(mut turn) = lock.enter(rt, p) else {
         return Outcome::TicketsSpent;
     };
-    let text = turn.state().uncaught_text();
+    let host = turn.state();
+    <Host<'p> as Hosted<B>>::state(host);
+    let text = host.uncaught_text();
     lock.leave(p, turn, &Entry::take(0));
     match text {
         Ok(Some(text)) => Outcome::Threw(text),
@@ -136,9 +138,9 @@ where
     requires some { 0 < length opened.doors.items }
     requires pass { opened.pass ≡ initial_pass opened.lock (length opened.doors.items + 1) (length opened.doors.items) }
     requires doors { opened.doors.items ≡ initial_passes opened.lock (length opened.doors.items + 1) (length opened.doors.items) }
-    ensures cause { BecauseServed result B.scripts B.input port (length opened.doors.items) (record { content = O.content out.old; faults = O.faults out.old }) (record { content = O.content out.new; faults = O.faults out.new }) (record { faults = P.faults harbor.old; opens = P.opens harbor.old; kept = P.kept harbor.old }) (record { faults = P.faults harbor.new; opens = P.opens harbor.new; kept = P.kept harbor.new }) }
-    ensures part { (O.content out.new ≡ O.content out.old) ⊎ ((end : AnyEnds) × ServesPort B.scripts B.input B.wait (length opened.doors.items) (C.moment clock.old) (record { content = O.content out.old; faults = O.faults out.old }) (record { content = O.content out.new; faults = O.faults out.new }) (P.kept harbor.old) (P.kept harbor.new) end) }
-    ensures once { (P.opens harbor.new ≡ P.opens harbor.old) ⊎ (P.opens harbor.new ≡ called (port, length opened.doors.items) (P.opens harbor.old)) }
+    ensures cause { BecauseServed result B.scripts B.input port (length opened.entry.doors.items) (record { content = O.content out.old; faults = O.faults out.old }) (record { content = O.content out.new; faults = O.faults out.new }) (record { faults = P.faults harbor.old; opens = P.opens harbor.old; kept = P.kept harbor.old }) (record { faults = P.faults harbor.new; opens = P.opens harbor.new; kept = P.kept harbor.new }) }
+    ensures part { (O.content out.new ≡ O.content out.old) ⊎ ((end : AnyEnds) × ServesPort B.scripts B.input B.wait (length opened.entry.doors.items) (C.moment clock.old) (record { content = O.content out.old; faults = O.faults out.old }) (record { content = O.content out.new; faults = O.faults out.new }) (P.kept harbor.old) (P.kept harbor.new) end) }
+    ensures once { (P.opens harbor.new ≡ P.opens harbor.old) ⊎ (P.opens harbor.new ≡ called (port, length opened.entry.doors.items) (P.opens harbor.old)) }
     ensures dials { P.dials harbor.new ≡ P.dials harbor.old }
 {
     let Opened { lock, pass, doors } = opened;
