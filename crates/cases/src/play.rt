@@ -5,9 +5,11 @@ use crate::differences::tell_differences;
 use crate::folder::{File, files_in};
 use cdp_edge::{MemShelf, MemSink};
 use command_line::debug_main;
+use server_edge::{FixedClock, MemHarbor};
 use std::alloc::{AllocError, Global};
 use std::rt::Files;
 use std::sync::Wait;
+use std::thread::Threads;
 use std::{io, str};
 
 /// What came of a call.
@@ -48,7 +50,7 @@ fn take_named(
 
 /// Plays a call over the files of its block and of its folder.
 fn play(
-    rt: &impl Wait,
+    rt: &(impl Threads + Wait + Sync),
     alloc: Global,
     files: &[File],
     folder: &[File],
@@ -60,7 +62,18 @@ fn play(
     let mut shelf = MemShelf::new(named, case.failing_reads.clone()?);
     let mut output = MemSink::new(case.failing_output.clone()?);
     let mut errors = MemSink::new(case.failing_errors.clone()?);
-    let status = debug_main(rt, alloc, &case.words, &mut shelf, &mut output, &mut errors);
+    let mut harbor = MemHarbor::new(Vec::new(alloc), Vec::new(alloc), Vec::new(alloc));
+    let mut clock = FixedClock::new(0);
+    let status = debug_main(
+        rt,
+        alloc,
+        &case.words,
+        &mut shelf,
+        &mut output,
+        &mut errors,
+        &mut harbor,
+        &mut clock,
+    );
     Ok(Came {
         status: u64::from(status),
         output,
@@ -69,7 +82,7 @@ fn play(
 }
 
 /// Plays the calls of a block, tells those that come to another end, and answers how many calls they are.
-fn play_block<R: Wait + Print + AllocGlobal>(
+fn play_block<R: Threads + Wait + Sync + Print + AllocGlobal>(
     rt: &R,
     list: &str,
     folder: &[File],
@@ -86,7 +99,7 @@ fn play_block<R: Wait + Print + AllocGlobal>(
 }
 
 /// Plays the calls of a list, and answers how many they are.
-fn play_list<R: Wait + Print + AllocGlobal>(
+fn play_list<R: Threads + Wait + Sync + Print + AllocGlobal>(
     rt: &R,
     list: &str,
     folder: &[File],
@@ -110,7 +123,7 @@ fn play_list<R: Wait + Print + AllocGlobal>(
 /// # Errors
 ///
 /// Those of the system.
-pub(crate) fn play_folder<R: Wait + Print + Files + AllocGlobal + Clone + Drop>(
+pub(crate) fn play_folder<R: Threads + Wait + Sync + Print + Files + AllocGlobal + Clone + Drop>(
     rt: &R,
     root: &str,
     folder: &str,

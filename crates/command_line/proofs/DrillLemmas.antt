@@ -1,12 +1,14 @@
 -- What each end of a drill says of its script, its journal and its summary.
-use Rattle.std.proofs.Common.{◌≡◌, ℕ, List, [], ◌∷◌, false, Option, Some, None, refl, sym, subst, inl}
+use Rattle.std.proofs.Common.{◌≡◌, ℕ, List, [], ◌∷◌, false, Option, Some, None, refl, sym, subst, inl, ◌∙◌}
 use Rattle.std.proofs.lemmas.Option.{same_Some}
 use Rattle.cdp_edge.specs.Outside.{gains, GainsLess, GainsPrefix}
 use Rattle.cdp_journal.specs.Drills.{drill_journal}
 use Rattle.cdp_journal.specs.Summaries.{summary}
 use Rattle.js_tree.specs.declared.script.Script.{Script}
-use Rattle.command_line.specs.DrillCauses.{BecauseDrill, BecauseJournalOf, DrillsInPart, DrillsShort, DrillsWhole, IsDrilled, IsDrillScript}
+use Rattle.command_line.specs.DrillCauses.{BecauseDrill, BecauseJournalOf, DrillRefuses, DrillsInPart, DrillsShort, DrillsWhole, IsDrilled, IsDrillScript}
 use Rattle.command_line.specs.Replays.{IsReplay, WritesReplay}
+use Rattle.command_line.specs.Status.{ForDrill, line_said, said, status_of}
+use Rattle.command_line.specs.Words.{Command, Drill}
 use Rattle.command_line.specs.declared.outcome.Outcome.{Outcome}
 use Rattle.command_line.specs.declared.outcome.Outcome.TheVariants as ends
 use Rattle.printing.proofs.PrintingLemmas.{less-part}
@@ -42,6 +44,9 @@ unplayed ends.Done n was old script is h = absurd h
 unplayed (ends.Threw text) n was old script is h = absurd h
 unplayed ends.OutOfMemory n was old script is h = (refl, inl refl)
 unplayed ends.Usage n was old script is h = absurd h
+unplayed ends.NetworkFault n was old script is h = absurd h
+unplayed ends.ThrewUnshown n was old script is h = absurd h
+unplayed ends.TicketsSpent n was old script is h = absurd h
 unplayed (ends.Refused name r) n was old script is h = absurd h
 unplayed (ends.CannotRead name) n was old script is h = absurd h
 unplayed ends.CannotWrite n was old script is h = absurd h
@@ -95,3 +100,31 @@ whole-part n old new w = record {
   replay = w.replay;
   part = gained old new (summary w.output) w.whole;
 }
+
+-- ---- of the words that ask for a drill
+
+-- how a line of its journal that is refused is told
+abbrev IsToldLine : Option (List ℕ) → Option (List ℕ) → Option (List ℕ) → Option (List ℕ) → ℕ → Type 0
+IsToldLine old new before after n =
+    (number : ℕ) × DrillRefuses n number × (new ≡ old) × GainsPrefix before after (line_said number)
+
+line-told : (end : Outcome) (n was now : ℕ) (old new before after : Option (List ℕ)) → status_of end ≡ 6
+    → BecauseDrill end n was now old new → GainsPrefix before after (said end) → IsToldLine old new before after n
+line-told (ends.LineRefused line) n was now old new before after is h says = (line, h.2, h.1, says)
+line-told ends.Done n was now old new before after is h says = absurd cc
+line-told (ends.Threw text) n was now old new before after is h says = absurd h
+line-told ends.ThrewUnshown n was now old new before after is h says = absurd h
+line-told ends.OutOfMemory n was now old new before after is h says = absurd cc
+line-told ends.Usage n was now old new before after is h says = absurd h
+line-told (ends.Refused name r) n was now old new before after is h says = absurd cc
+line-told (ends.CannotRead name) n was now old new before after is h says = absurd h
+line-told ends.CannotWrite n was now old new before after is h says = absurd cc
+line-told ends.NetworkFault n was now old new before after is h says = absurd h
+line-told ends.TicketsSpent n was now old new before after is h says = absurd h
+
+pub line_given : (o : Option Command) (n : ℕ) (end : Outcome) (was now : ℕ) (old new before after : Option (List ℕ))
+    (status : ℕ) → o ≡ Some (Drill n) → status ≡ status_of end → BecauseDrill end n was now old new
+    → GainsPrefix before after (said end) → status ≡ 6 → ForDrill o (IsToldLine old new before after)
+line_given o n end was now old new before after status is ends_so h says six =
+    let told : IsToldLine old new before after n =
+    line-told end n was now old new before after (sym ends_so ∙ six) h says in rw is told

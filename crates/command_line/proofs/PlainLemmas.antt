@@ -21,7 +21,7 @@ use Rattle.js_semantics.proofs.FollowLemmas.{prefix-trans, prefix-same}
 -- ---- the program's way
 
 -- steps from a plain run are those of the plain run
-plain-as : (k made : ℕ) (scripts : List Script) (input : List (List ℕ))
+pub plain-as : (k made : ℕ) (scripts : List Script) (input : List (List ℕ))
     → plain_from (protocol scripts) k (plain made scripts input) ≡ plain (made + k) scripts input
 plain-as zero made scripts input = let e : made ≡ made + 0 = omega arith in ap (λ n. plain n scripts input) e
 plain-as (suc k) made scripts input =

@@ -43,6 +43,9 @@ unread (ends.Threw text) request told before mid after was old journal there qui
 unread ends.OutOfMemory request told before mid after was old journal there quiet h =
     (h ∙ quiet, refl, told_always told (λ files. (old ≡ old) ⊎ ReplaysInPart files request old old) (λ files. inl refl))
 unread ends.Usage request told before mid after was old journal there quiet h = absurd h
+unread ends.NetworkFault request told before mid after was old journal there quiet h = absurd h
+unread ends.ThrewUnshown request told before mid after was old journal there quiet h = absurd h
+unread ends.TicketsSpent request told before mid after was old journal there quiet h = absurd h
 unread (ends.Refused name r) request told before mid after was old journal there quiet h = (
   h.0 ∙ quiet,
   refl,
@@ -230,6 +233,9 @@ taken_of (ends.CannotRead name) request told before after was now old new h =
 taken_of ends.CannotWrite request told before after was now old new h =
     told_always told (IsTaken 5 request) (λ files journal scripts input holds. inr (inr (inr (inr refl))))
 taken_of ends.Usage request told before after was now old new h = absurd h
+taken_of ends.NetworkFault request told before after was now old new h = absurd h
+taken_of ends.ThrewUnshown request told before after was now old new h = absurd h
+taken_of ends.TicketsSpent request told before after was now old new h = absurd h
 taken_of (ends.Threw text) request told before after was now old new h = absurd h
 
 -- one of these, where a file is refused
@@ -263,6 +269,9 @@ left_of ends.CannotWrite request told before after was now old new h =
     told_map told (λ files. ReplaysShort files request old new) (IsLeft 5 request)
     (λ files i. not_left request 5 i.journal i.scripts i.input files i.holds) h.2
 left_of ends.Usage request told before after was now old new h = absurd h
+left_of ends.NetworkFault request told before after was now old new h = absurd h
+left_of ends.ThrewUnshown request told before after was now old new h = absurd h
+left_of ends.TicketsSpent request told before after was now old new h = absurd h
 left_of (ends.Threw text) request told before after was now old new h = absurd h
 
 -- of the words that ask for the replay

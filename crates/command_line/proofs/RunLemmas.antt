@@ -86,6 +86,9 @@ taken_of (ends.CannotRead name) sources told before after was now old new h =
 taken_of ends.CannotWrite sources told before after was now old new h =
     told_always told (IsTaken 5 sources) (λ files scripts input holds. inr (inr (inr (inr refl))))
 taken_of ends.Usage sources told before after was now old new h = absurd h
+taken_of ends.NetworkFault sources told before after was now old new h = absurd h
+taken_of ends.ThrewUnshown sources told before after was now old new h = absurd h
+taken_of ends.TicketsSpent sources told before after was now old new h = absurd h
 taken_of (ends.LineRefused n) sources told before after was now old new h = absurd h
 
 -- one of these, where a file is refused
@@ -113,6 +116,9 @@ left_of ends.CannotWrite sources told before after was now old new h =
     told_map told (λ files. RunsShort files sources old new) (IsLeft 5 sources)
     (λ files i. λ name r refused. absurd (run_stands files sources i.scripts i.input name r i.holds refused)) h.2
 left_of ends.Usage sources told before after was now old new h = absurd h
+left_of ends.NetworkFault sources told before after was now old new h = absurd h
+left_of ends.ThrewUnshown sources told before after was now old new h = absurd h
+left_of ends.TicketsSpent sources told before after was now old new h = absurd h
 left_of (ends.LineRefused n) sources told before after was now old new h = absurd h
 
 -- of the words that ask for the run
@@ -156,6 +162,9 @@ unread (ends.Threw text) sources told before after was old h = absurd h
 unread ends.OutOfMemory sources told before after was old h =
     (h, refl, told_always told (λ files. (old ≡ old) ⊎ RunsInPart files sources old old) (λ files. inl refl))
 unread ends.Usage sources told before after was old h = absurd h
+unread ends.NetworkFault sources told before after was old h = absurd h
+unread ends.ThrewUnshown sources told before after was old h = absurd h
+unread ends.TicketsSpent sources told before after was old h = absurd h
 unread (ends.Refused name r) sources told before after was old h = (h.0, refl, h.1)
 unread (ends.CannotRead name) sources told before after was old h = (h.0, refl, h.1, h.2)
 unread ends.CannotWrite sources told before after was old h = absurd h

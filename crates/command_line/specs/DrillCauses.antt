@@ -79,5 +79,8 @@ BecauseDrill (ends.Refused name r) n was now old new =
     (now ≡ was) × (new ≡ old) × (name.now ≡ script_name) × IsRefused [] (drill_source n) r
 BecauseDrill (ends.LineRefused line) n was now old new = (now ≡ was) × (new ≡ old) × DrillRefuses n line
 BecauseDrill ends.Usage n was now old new = ⊥
+BecauseDrill ends.NetworkFault n was now old new = ⊥
+BecauseDrill ends.ThrewUnshown n was now old new = ⊥
+BecauseDrill ends.TicketsSpent n was now old new = ⊥
 BecauseDrill (ends.CannotRead name) n was now old new = ⊥
 BecauseDrill (ends.Threw text) n was now old new = ⊥

@@ -1,4 +1,5 @@
 pub mod Words
+pub mod SourcesHeld
 pub mod RequestHeld
 pub mod Files
 pub mod Journal
@@ -10,5 +11,6 @@ pub mod Played
 pub mod Replays
 pub mod RunCauses
 pub mod ReplayCauses
+pub mod ServeCauses
 pub mod DrillCauses
 pub mod Status

@@ -81,4 +81,7 @@ BecauseReplay (ends.CannotRead name) request told before after was now old new =
 BecauseReplay ends.CannotWrite request told before after was now old new =
     (after ≡ before) × Rose was now × Told told (λ files. ReplaysShort files request old new)
 BecauseReplay ends.Usage request told before after was now old new = ⊥
+BecauseReplay ends.NetworkFault request told before after was now old new = ⊥
+BecauseReplay ends.ThrewUnshown request told before after was now old new = ⊥
+BecauseReplay ends.TicketsSpent request told before after was now old new = ⊥
 BecauseReplay (ends.Threw text) request told before after was now old new = ⊥

@@ -110,6 +110,9 @@ BecauseRun (ends.CannotRead name) sources told before after was now old new =
 BecauseRun ends.CannotWrite sources told before after was now old new =
     (after ≡ before) × Rose was now × Told told (λ files. RunsShort files sources old new)
 BecauseRun ends.Usage sources told before after was now old new = ⊥
+BecauseRun ends.NetworkFault sources told before after was now old new = ⊥
+BecauseRun ends.ThrewUnshown sources told before after was now old new = ⊥
+BecauseRun ends.TicketsSpent sources told before after was now old new = ⊥
 BecauseRun (ends.LineRefused n) sources told before after was now old new = ⊥
 
 -- the ends that come before a step is made

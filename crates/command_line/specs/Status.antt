@@ -4,7 +4,7 @@ use Rattle.cdp_edge.specs.Outside.{Named, Told}
 use Rattle.cdp_edge.specs.Blame.{Faults}
 use Rattle.script_files.specs.declared.fault.Refusal.{Refusal}
 use Rattle.script_files.specs.declared.fault.Refusal.TheVariants as refusals
-use Rattle.command_line.specs.Words.{Command, Request, Sources, Run, Replay, Drill}
+use Rattle.command_line.specs.Words.{Command, Request, ServeRequest, Sources, Run, Replay, Serve, Drill}
 use Rattle.command_line.specs.declared.outcome.Outcome.{Outcome}
 use Rattle.command_line.specs.declared.outcome.Outcome.TheVariants as ends
 
@@ -17,7 +17,10 @@ status_of (ends.Refused name r) = 3
 status_of (ends.CannotRead name) = 4
 status_of ends.CannotWrite = 5
 status_of (ends.LineRefused number) = 6
+status_of ends.NetworkFault = 7
 status_of (ends.Threw text) = 8
+status_of ends.ThrewUnshown = 8
+status_of ends.TicketsSpent = 10
 
 -- ---- the line on the second sink, ended by LF
 
@@ -56,6 +59,9 @@ said ends.Usage = usage_said
 said (ends.Refused name r) = refusal_said name.now r
 said (ends.CannotRead name) = unread_said name.now
 said ends.CannotWrite = codes "debug_host: cannot write" ++ 10 ∷ []
+said ends.NetworkFault = codes "debug_host: network fault" ++ 10 ∷ []
+said ends.TicketsSpent = codes "debug_host: tickets spent" ++ 10 ∷ []
+said ends.ThrewUnshown = []
 said (ends.LineRefused number) = line_said number
 said (ends.Threw text) = uncaught_said (string_bytes text)
 
@@ -66,6 +72,7 @@ abbrev pub ForRun : Option Command → (Sources → Type 0) → Type 0
 ForRun None P = Unit {0}
 ForRun (Some (Run sources)) P = P sources
 ForRun (Some (Replay request)) P = Unit {0}
+ForRun (Some (Serve request)) P = Unit {0}
 ForRun (Some (Drill n)) P = Unit {0}
 
 -- what holds of a run and the files, where the words ask for one and the files are told
@@ -73,6 +80,7 @@ abbrev pub GivenRun : Option Command → Option (List Named) → (Sources → Li
 GivenRun None files P = Unit {0}
 GivenRun (Some (Run sources)) files P = Told files (P sources)
 GivenRun (Some (Replay request)) files P = Unit {0}
+GivenRun (Some (Serve request)) files P = Unit {0}
 GivenRun (Some (Drill n)) files P = Unit {0}
 
 -- what holds of a replay, where the words ask for one
@@ -80,6 +88,7 @@ abbrev pub ForReplay : Option Command → (Request → Type 0) → Type 0
 ForReplay None P = Unit {0}
 ForReplay (Some (Run sources)) P = Unit {0}
 ForReplay (Some (Replay request)) P = P request
+ForReplay (Some (Serve request)) P = Unit {0}
 ForReplay (Some (Drill n)) P = Unit {0}
 
 -- what holds of a replay and the files, where the words ask for one and the files are told
@@ -87,13 +96,31 @@ abbrev pub GivenReplay : Option Command → Option (List Named) → (Request →
 GivenReplay None files P = Unit {0}
 GivenReplay (Some (Run sources)) files P = Unit {0}
 GivenReplay (Some (Replay request)) files P = Told files (P request)
+GivenReplay (Some (Serve request)) files P = Unit {0}
 GivenReplay (Some (Drill n)) files P = Unit {0}
+
+-- what holds of a server, where the words ask for one
+abbrev pub ForServe : Option Command → (ServeRequest → Type 0) → Type 0
+ForServe None P = Unit {0}
+ForServe (Some (Run sources)) P = Unit {0}
+ForServe (Some (Replay request)) P = Unit {0}
+ForServe (Some (Serve request)) P = P request
+ForServe (Some (Drill n)) P = Unit {0}
+
+-- what holds of a server and the files, where the words ask for one and the files are told
+abbrev pub GivenServe : Option Command → Option (List Named) → (ServeRequest → List Named → Type 0) → Type 0
+GivenServe None files P = Unit {0}
+GivenServe (Some (Run sources)) files P = Unit {0}
+GivenServe (Some (Replay request)) files P = Unit {0}
+GivenServe (Some (Serve request)) files P = Told files (P request)
+GivenServe (Some (Drill n)) files P = Unit {0}
 
 -- what holds of a drill, where the words ask for one
 abbrev pub ForDrill : Option Command → (ℕ → Type 0) → Type 0
 ForDrill None P = Unit {0}
 ForDrill (Some (Run sources)) P = Unit {0}
 ForDrill (Some (Replay request)) P = Unit {0}
+ForDrill (Some (Serve request)) P = Unit {0}
 ForDrill (Some (Drill n)) P = P n
 
 -- neither a read nor a write failed, as the counts tell

@@ -20,6 +20,8 @@ mod program;
 mod replay;
 mod report;
 mod run;
+mod serve;
+mod serve_request;
 mod sources;
 mod transcript;
 mod words;

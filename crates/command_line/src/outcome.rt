@@ -9,6 +9,8 @@ pub(crate) enum Outcome<'w> {
     Done,
     /// A run by a throw of a value that is shown so.
     Threw(String),
+    /// A run by a throw of a value for whose text no memory was left.
+    ThrewUnshown,
     OutOfMemory,
     /// The words aren't of a command's form.
     Usage,
@@ -17,4 +19,8 @@ pub(crate) enum Outcome<'w> {
     CannotWrite,
     /// The number, from 1, of the journal's line that is refused.
     LineRefused(u64),
+    /// A port couldn't be opened, or a door of it failed.
+    NetworkFault,
+    /// No further turn can be taken: the ticket word is 2^62.
+    TicketsSpent,
 }

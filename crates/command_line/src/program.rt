@@ -11,8 +11,10 @@ ghost use Rattle.command_line.specs.DrillCauses.{DrillRefuses, DrillsInPart, Dri
 ghost use Rattle.command_line.specs.Files.{HoldsReplay, HoldsSources, IsNamed, IsNamedBy, IsReachedBy, IsReachedIn, IsRefusedBehind, IsRefusedIn};
 ghost use Rattle.command_line.specs.ReplayCauses.{ReplaysInPart, ReplaysShort, ReplaysWhole};
 ghost use Rattle.command_line.specs.RunCauses.{RunsInPart, RunsShort, RunsToEnd, RunsToThrow};
-ghost use Rattle.command_line.specs.Status.{ForDrill, ForReplay, ForRun, GivenReplay, GivenRun, Unfailed, line_said, refusal_said, said, status_of, uncaught_said, unread_said};
+ghost use Rattle.command_line.specs.Status.{ForDrill, ForReplay, ForRun, ForServe, GivenReplay, GivenRun, GivenServe, Unfailed, line_said, refusal_said, said, status_of, uncaught_said, unread_said};
+ghost use Rattle.command_line.specs.ServeCauses.{Serves, ServesToEnd};
 ghost use Rattle.command_line.specs.Words.{asked};
+ghost use Rattle.server_edge.specs.Contents.{called};
 ghost use Rattle.command_line.specs.declared.outcome.Outcome.{Outcome};
 
 use crate::drill::drill;
@@ -20,10 +22,13 @@ use crate::outcome::Outcome;
 use crate::replay::replay;
 use crate::report::{report, status_of};
 use crate::run::run;
+use crate::serve::serve;
 use crate::words::{Command, read_words};
 use cdp_edge::{Shelf, Sink};
+use server_edge::{Clock, Door, Harbor};
 use std::alloc::Global;
 use std::sync::Wait;
+use std::thread::Threads;
 
 /// Does what the words after the program's name ask for, and answers the exit status.
 ///
@@ -31,27 +36,44 @@ use std::sync::Wait;
 /// |---|---|---|
 /// | 0 | `run`: only where the run ended by its last script; `replay`: only where every line was applied; `drill`: only where the summary is written | none |
 /// | 1 | want of memory, also where a session is lost for want of it | `debug_host: out of memory` |
-/// | 2 | exactly where the words aren't `run SCRIPT...`, `replay JOURNAL SCRIPT...` or `replay --wait JOURNAL SCRIPT...`, with `--input FILE` or `--input=FILE` before the first name, with names that don't begin with `-`, nor `drill N` with N from 1 to 10,000 | `usage: debug_host run/replay/serve/send/drill` |
+/// | 2 | exactly where the words aren't `run SCRIPT...`, `replay JOURNAL SCRIPT...` or `replay --wait JOURNAL SCRIPT...`, or `serve SCRIPT...` with `--port P` (1 to 65,535), `--sessions N` (1 to 16) and `--wait` before it, in this order, all with `--input FILE` or `--input=FILE` before the first name, with names that don't begin with `-`, nor `drill N` with N from 1 to 10,000 | `usage: debug_host run/replay/serve/send/drill` |
 /// | 3 | only where the input or a script isn't UTF-8, or a script is refused by the parser | `debug_host: NAME: not UTF-8`, `debug_host: NAME:LINE:COL: unexpected token`, `debug_host: NAME: too long: N units`, `debug_host: NAME: too deep`, `debug_host: NAME: too many tokens` |
 /// | 4 | only where the shelf tells a fault at a file that the words name | `debug_host: cannot read NAME` |
 /// | 5 | only where the count of `out` rose or stands at the greatest `u64`, with output left to write | `debug_host: cannot write` |
 /// | 6 | only where a line of the journal isn't of its form or names a session that isn't attached | `debug_host: line N refused` |
-/// | 8 | `run`: only where the run ended by an uncaught throw | `Uncaught TEXT` |
+/// | 7 | `serve`: only where the harbor's count rose: the port couldn't be opened, or one of its doors failed | `debug_host: network fault` |
+/// | 8 | `run`, `serve`: only where the run ended by an uncaught throw | `Uncaught TEXT` |
+/// | 10 | `serve`: only where no ticket is left for a turn | `debug_host: tickets spent` |
 ///
 /// The first that comes decides: the words; of a replay the journal's read; then the input's read and its text, and each
 /// script's read and its text, in order; and then the run, or the journal's lines one after another.
 /// A run that never ends prints as it goes, and the call doesn't return.
+/// `serve` opens so many doors on a port of the harbor, and serves the clients that arrive there while the program runs, until it
+/// is over. Of its ends the first decides in the order of the statuses 1, 5, 7, 10, 8, 0.
 /// `drill N` reads no file: it replays a journal and a script that are made from N, in memory, and writes a summary of that
 /// replay's output. Its script or a line of its journal may be refused as those of a replay may.
 /// What `err` does changes no status.
-pub fn debug_main<R: Wait, F: Shelf, O: Sink, E: Sink>(
+pub fn debug_main<
+    R: Threads + Wait + Sync,
+    F: Shelf,
+    O: Sink + Send,
+    E: Sink,
+    H: Harbor,
+    C: Clock + Send,
+>(
     rt: &R,
     alloc: Global,
     words: &[String],
     shelf: &mut F,
     out: &mut O,
     err: &mut E,
+    harbor: &mut H,
+    clock: &mut C,
 ) -> u8
+where
+    H::Bell: Sync,
+    H::Door: Send,
+    <H::Door as Door>::Link: Send,
     // the words
     ensures usage { (result ≡ 2) ↔ (asked words.now ≡ None) }
     ensures usage_untouched { result ≡ 2 → (out.new ≡ out.old) × (shelf.new ≡ shelf.old) }
@@ -92,6 +114,23 @@ pub fn debug_main<R: Wait, F: Shelf, O: Sink, E: Sink>(
         → (result ≡ 3) ⊎ (result ≡ 1) ⊎ (result ≡ 4)) }
     // the headline, at every status: what `out` took is a first part of an output of which it holds, and all of that at 0 and 6
     ensures headline { GivenReplay (asked words.now) (F.files shelf.old) (λ request files. (O.content out.new ≡ O.content out.old) ⊎ ReplaysInPart files request (O.content out.old) (O.content out.new)) }
+    // `serve`: the cause of each status
+    ensures serve_done { result ≡ 0 → GivenServe (asked words.now) (F.files shelf.old) (λ request files. ServesToEnd files request (O.content out.old) (O.content out.new)) }
+    ensures serve_threw { result ≡ 8 → GivenServe (asked words.now) (F.files shelf.old) (λ request files. (text : List ℕ)
+        × RunsToThrow files request.sources text (O.content out.old) (O.content out.new) × GainsPrefix (E.content err.old) (E.content err.new) (uncaught_said text)) }
+    ensures serve_refused { result ≡ 3 → GivenServe (asked words.now) (F.files shelf.old) (λ request files. (name : List ℕ) × (refusal : Refusal)
+        × IsRefusedIn files request.sources name refusal × GainsPrefix (E.content err.old) (E.content err.new) (refusal_said name refusal)) }
+    ensures serve_read { result ≡ 4 → ForServe (asked words.now) (λ request. (name : List ℕ) × IsNamed request.sources name × Blames (Read name) (F.faults shelf.old) (F.faults shelf.new)
+        × Told (F.files shelf.old) (λ files. IsReachedIn files request.sources name) × GainsPrefix (E.content err.old) (E.content err.new) (unread_said name)) }
+    ensures serve_network { result ≡ 7 → Rose (H.faults harbor.old) (H.faults harbor.new) }
+    // at every status: what `out` took is a first part of what the program prints; the doors are those of one history, in
+    // which the program stops exactly where it is named to, and each session is sent what it would be sent alone
+    ensures serve_part { GivenServe (asked words.now) (F.files shelf.old) (λ request files. (O.content out.new ≡ O.content out.old) ⊎ RunsInPart files request.sources (O.content out.old) (O.content out.new)) }
+    ensures serves { GivenServe (asked words.now) (F.files shelf.old) (λ request files. (O.content out.new ≡ O.content out.old) ⊎ Serves files request (C.moment clock.old) (record { content = O.content out.old; faults = O.faults out.old }) (record { content = O.content out.new; faults = O.faults out.new }) (H.kept harbor.old) (H.kept harbor.new)) }
+    ensures serve_opened { (result ≡ 0) ⊎ (result ≡ 5) ⊎ (result ≡ 8) ⊎ (result ≡ 10) → ForServe (asked words.now) (λ request. H.opens harbor.new ≡ called (request.port, request.sessions) (H.opens harbor.old)) }
+    ensures serve_once { ForServe (asked words.now) (λ request. (H.opens harbor.new ≡ H.opens harbor.old) ⊎ (H.opens harbor.new ≡ called (request.port, request.sessions) (H.opens harbor.old))) }
+    ensures serve_dials { H.dials harbor.new ≡ H.dials harbor.old }
+    ensures serve_statuses { ForServe (asked words.now) (λ request. result ≢ 6) }
     // `drill`: the cause of each status
     ensures drill_done { result ≡ 0 → ForDrill (asked words.now) (λ n. DrillsWhole n (O.content out.old) (O.content out.new)) }
     ensures drill_refused { result ≡ 3 → ForDrill (asked words.now) (λ n. (refusal : Refusal) × IsRefused [] (drill_source n) refusal
@@ -105,6 +144,9 @@ pub fn debug_main<R: Wait, F: Shelf, O: Sink, E: Sink>(
     ensures run_statuses { ForRun (asked words.now) (λ sources. result ≢ 6) }
     ensures replay_statuses { ForReplay (asked words.now) (λ request. result ≢ 8) }
     ensures drill_statuses { ForDrill (asked words.now) (λ n. (result ≢ 4) × (result ≢ 8)) }
+    ensures run_harbor { ForRun (asked words.now) (λ sources. (harbor.new ≡ harbor.old) × (result ≢ 7) × (result ≢ 10)) }
+    ensures replay_harbor { ForReplay (asked words.now) (λ request. (harbor.new ≡ harbor.old) × (result ≢ 7) × (result ≢ 10)) }
+    ensures drill_harbor { ForDrill (asked words.now) (λ n. (harbor.new ≡ harbor.old) × (result ≢ 7) × (result ≢ 10)) }
     // where no count rose, the files or want of memory decided
     ensures complete { Unfailed (F.faults shelf.old) (F.faults shelf.new) (O.faults out.old) (O.faults out.new) → (result ≢ 4) × (result ≢ 5) }
 {
@@ -112,6 +154,10 @@ pub fn debug_main<R: Wait, F: Shelf, O: Sink, E: Sink>(
         None => end(alloc, Outcome::Usage, err),
         Some(Command::Run(sources)) => end(alloc, run(rt, alloc, sources, shelf, out), err),
         Some(Command::Replay(request)) => end(alloc, replay(alloc, request, shelf, out), err),
+        Some(Command::Serve(request)) => {
+            let outcome = serve(rt, alloc, request, shelf, out, harbor, clock);
+            end(alloc, outcome, err)
+        }
         Some(Command::Drill(number)) => end(alloc, drill(alloc, number, out), err),
     }
 }

@@ -23,7 +23,9 @@ pub(crate) fn status_of(outcome: &Outcome<'_>) -> u8
         Outcome::CannotRead(_) => 4,
         Outcome::CannotWrite => 5,
         Outcome::LineRefused(_) => 6,
-        Outcome::Threw(_) => 8,
+        Outcome::NetworkFault => 7,
+        Outcome::Threw(_) | Outcome::ThrewUnshown => 8,
+        Outcome::TicketsSpent => 10,
     }
 }
 
@@ -33,10 +35,12 @@ pub(crate) fn report<E: Sink>(alloc: Global, outcome: Outcome<'_>, err: &mut E)
     ensures { GainsPrefix (E.content err.old) (E.content err.new) (said outcome.entry) }
 {
     match outcome {
-        Outcome::Done => {}
+        Outcome::Done | Outcome::ThrewUnshown => {}
         Outcome::OutOfMemory => say(err, "debug_host: out of memory\n"),
         Outcome::Usage => say(err, "usage: debug_host run/replay/serve/send/drill\n"),
         Outcome::CannotWrite => say(err, "debug_host: cannot write\n"),
+        Outcome::NetworkFault => say(err, "debug_host: network fault\n"),
+        Outcome::TicketsSpent => say(err, "debug_host: tickets spent\n"),
         Outcome::Refused(name, refusal) => {
             if let Ok(text) = refusal_text(alloc, name, refusal) {
                 say(err, &text);

@@ -1,16 +1,29 @@
 //! The words of the command line.
 
-ghost use Rattle.std.specs.Prelude.{◌≡◌, map, string_bytes};
+ghost use Rattle.std.specs.Prelude.{◌≡◌, ◌≤◌, IfSome, map, string_bytes};
 ghost use Rattle.std.specs.List.{list_any};
 ghost use Rattle.std.specs.Option.{option_map};
-ghost use Rattle.command_line.specs.Words.{asked, drill_numbered, drill_words, is_option, names_behind_input, names_of, replay_of, replay_words, run_of};
-ghost use Rattle.command_line.specs.RequestHeld.{command_held, names_held};
+ghost use Rattle.command_line.specs.Words.{asked, drill_numbered, drill_words, is_option, names_behind_input, names_of, number_first, number_up_to, numbered, replay_of, replay_words, run_of, serve_behind, serve_of, serve_wait, serve_words};
+ghost use Rattle.command_line.specs.RequestHeld.{command_held, names_held, numbered_held};
 
+use crate::serve_request::ServeRequest;
 use cdp_text::decimal::read_decimal;
 use cdp_text::parts::behind;
 
 /// The greatest number of a drill.
 const MOST_DRILLED: u64 = 10_000;
+
+/// The port of a server where none is asked for.
+const DEFAULT_PORT: u64 = 9_229;
+
+/// The greatest port.
+const MOST_PORT: u64 = 65_535;
+
+/// How many doors a server opens where no number is asked for.
+const DEFAULT_SESSIONS: u64 = 4;
+
+/// The greatest number of doors.
+const MOST_SESSIONS: u64 = 16;
 
 /// The files of a program, by their names: the input, if there is one, and the scripts.
 #[derive(Clone, Copy)]
@@ -28,10 +41,11 @@ pub(crate) struct Request<'w> {
 }
 
 /// What words ask for.
-#[derive(Clone, Copy)]
+#[derive(Drop)]
 pub(crate) enum Command<'w> {
     Run(Sources<'w>),
     Replay(Request<'w>),
+    Serve(ServeRequest<'w>),
     /// The drill of this number.
     Drill(u64),
 }
@@ -43,8 +57,16 @@ struct Names<'w> {
     names: &'w [String],
 }
 
+/// The number of an option, and the words after it.
+#[derive(Clone, Copy)]
+struct Numbered<'w> {
+    number: u64,
+    words: &'w [String],
+}
+
 /// What the words after the program's name ask for: `run SCRIPT...`, `replay JOURNAL SCRIPT...` or `replay --wait JOURNAL
-/// SCRIPT...`, with `--input FILE` or `--input=FILE` before the first name, or `drill N` with N from 1 to 10,000. No name begins
+/// SCRIPT...`, or `serve SCRIPT...` with `--port P` from 1 to 65,535, `--sessions N` from 1 to 16 and `--wait` before it, in this
+/// order, all with `--input FILE` or `--input=FILE` before the first name; or `drill N` with N from 1 to 10,000. No name begins
 /// with `-`, but for one behind `--input=`. None for all other words.
 pub(crate) fn read_words(words: &[String]) -> Option<Command<'_>>
     ensures { option_map command_held result ≡ asked words.now }
@@ -56,12 +78,130 @@ pub(crate) fn read_words(words: &[String]) -> Option<Command<'_>>
                 run_of(read_names(rest)?)
             } else if command.as_str() == "replay" {
                 read_replay(rest)
+            } else if command.as_str() == "serve" {
+                read_serve(rest)
             } else if command.as_str() == "drill" {
                 read_drill(rest)
             } else {
                 None
             }
         }
+    }
+}
+
+/// What the words behind `serve` ask for.
+fn read_serve(words: &[String]) -> Option<Command<'_>>
+    ensures { option_map command_held result ≡ serve_words (map string_bytes words.now) }
+{
+    let port = number_first(words, "--port", MOST_PORT, DEFAULT_PORT)?;
+    serve_behind(port)
+}
+
+/// What they ask for, by those behind the port.
+fn serve_behind(port: Numbered<'_>) -> Option<Command<'_>>
+    requires port { (1 ≤ port.number) × (port.number ≤ 65535) }
+    ensures { option_map command_held result ≡ serve_behind (numbered_held port.entry) }
+{
+    let sessions = number_first(port.words, "--sessions", MOST_SESSIONS, DEFAULT_SESSIONS)?;
+    serve_wait(port.number, sessions.number, sessions.words)
+}
+
+/// What they ask for, by those behind the number of doors, of which `--wait` may be the first.
+fn serve_wait(port: u64, sessions: u64, words: &[String]) -> Option<Command<'_>>
+    requires port { (1 ≤ port) × (port ≤ 65535) }
+    requires sessions { (1 ≤ sessions) × (sessions ≤ 16) }
+    ensures { option_map command_held result ≡ serve_wait port sessions (map string_bytes words.now) }
+{
+    match words {
+        [] => None,
+        [word, rest @ ..] => {
+            if word.as_str() == "--wait" {
+                serve_of(port, sessions, true, read_names(rest)?)
+            } else {
+                serve_of(port, sessions, false, read_names(words)?)
+            }
+        }
+    }
+}
+
+/// A server for the scripts of these names.
+fn serve_of(port: u64, sessions: u64, wait: bool, names: Names<'_>) -> Option<Command<'_>>
+    requires port { (1 ≤ port) × (port ≤ 65535) }
+    requires sessions { (1 ≤ sessions) × (sessions ≤ 16) }
+    ensures { option_map command_held result ≡ serve_of port sessions wait (names_held names.entry) }
+{
+    let Names { input, names } = names;
+    if names.is_empty() || has_option(names) {
+        None
+    } else {
+        Some(Command::Serve(ServeRequest {
+            port,
+            sessions,
+            wait,
+            sources: Sources {
+                input,
+                scripts: names,
+            },
+        }))
+    }
+}
+
+/// The number behind an option of this name, where that stands first, and the words behind both; else the default and all words.
+fn number_first<'w>(
+    words: &'w [String],
+    name: &str,
+    most: u64,
+    default: u64,
+) -> Option<Numbered<'w>>
+    requires default { (1 ≤ default) × (default ≤ most) }
+    ensures number { option_map numbered_held result ≡ number_first name.now most default (map string_bytes words.now) }
+    ensures bound { IfSome result (λ n. (1 ≤ n.number) × (n.number ≤ most)) }
+{
+    match words {
+        [] => Some(Numbered {
+            number: default,
+            words,
+        }),
+        [word, rest @ ..] => {
+            if word.as_str() == name {
+                read_number(rest, most)
+            } else {
+                Some(Numbered {
+                    number: default,
+                    words,
+                })
+            }
+        }
+    }
+}
+
+/// The number that is the first word, and the others.
+fn read_number(words: &[String], most: u64) -> Option<Numbered<'_>>
+    ensures bound { IfSome result (λ n. (1 ≤ n.number) × (n.number ≤ most)) }
+    ensures number { option_map numbered_held result ≡ numbered most (map string_bytes words.now) }
+{
+    match words {
+        [] => None,
+        [word, rest @ ..] => {
+            let number = number_up_to(word.as_str(), most)?;
+            Some(Numbered {
+                number,
+                words: rest,
+            })
+        }
+    }
+}
+
+/// The number that a word is, if it is the shortest decimal of one from 1 to the greatest.
+fn number_up_to(word: &str, most: u64) -> Option<u64>
+    ensures bound { IfSome result (λ n. (1 ≤ n) × (n ≤ most)) }
+    ensures number { result ≡ number_up_to most word.now }
+{
+    let number = read_decimal(word)?;
+    if 1 <= number && number <= most {
+        Some(number)
+    } else {
+        None
     }
 }
 

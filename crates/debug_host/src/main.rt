@@ -3,6 +3,7 @@
 
 use cdp_edge::{FileShelf, WriterSink, put};
 use command_line::debug_main;
+use socket_edge::{SocketHarbor, SystemClock};
 use std::alloc::AllocError;
 use std::io::ErrorKind;
 use std::process::ExitCode;
@@ -17,7 +18,18 @@ fn main(rt: HostRuntime) -> ExitCode {
         return ExitCode::from(1);
     };
     let mut shelf = FileShelf::new(alloc, rt);
-    ExitCode::from(debug_main(&rt, alloc, &words, &mut shelf, &mut out, &mut err))
+    let mut harbor = SocketHarbor::new(alloc, rt);
+    let mut clock = SystemClock::new(rt);
+    ExitCode::from(debug_main(
+        &rt,
+        alloc,
+        &words,
+        &mut shelf,
+        &mut out,
+        &mut err,
+        &mut harbor,
+        &mut clock,
+    ))
 }
 
 /// The words after the program's name. Where one isn't UTF-8 there are none, which is a faulty command line.

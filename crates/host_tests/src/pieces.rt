@@ -1,10 +1,13 @@
 //! Output that is taken in pieces, or in part at want of memory.
 
 use crate::piece_sink::PieceSink;
-use cdp_edge::{MemShelf, MemSink};
+use cdp_edge::{MemShelf, MemSink, Sink};
 use command_line::debug_main;
+use server_edge::{FixedClock, MemHarbor};
 use std::alloc::{AllocError, Global};
+use std::sync::Wait;
 use std::test::Fail;
+use std::thread::Threads;
 
 const TWO_LINES: &[u8] = b"console.log(7);
 console.log(8);
@@ -99,6 +102,20 @@ fn shelf(alloc: Global) -> Result<MemShelf, AllocError> {
     Ok(MemShelf::new(all, Vec::new(alloc)))
 }
 
+// The status of a call without a port.
+fn call<R: Threads + Wait + Sync, O: Sink + Send>(
+    rt: &R,
+    alloc: Global,
+    words: &[String],
+    shelf: &mut MemShelf,
+    out: &mut O,
+    err: &mut MemSink,
+) -> u8 {
+    let mut harbor = MemHarbor::new(Vec::new(alloc), Vec::new(alloc), Vec::new(alloc));
+    let mut clock = FixedClock::new(0);
+    debug_main(rt, alloc, words, shelf, out, err, &mut harbor, &mut clock)
+}
+
 #[test]
 fn a_line_is_offered_in_one_write(rt: HostRuntime) -> Result<(), Fail> {
     let words = words_of(rt.alloc(), "replay pause two.js")?;
@@ -112,7 +129,7 @@ fn a_line_is_offered_in_one_write(rt: HostRuntime) -> Result<(), Fail> {
             writes: 0,
             lines: 0,
         };
-        let status = debug_main(&rt, rt.alloc(), &words, &mut shelf, &mut out, &mut err);
+        let status = call(&rt, rt.alloc(), &words, &mut shelf, &mut out, &mut err);
         assert_eq!(rt; status, 0);
         assert_eq!(rt; out.taken.as_slice(), PAUSE_OUTPUT.as_bytes());
         assert!(rt; out.writes == writes && out.lines == writes);
@@ -133,7 +150,7 @@ fn a_text_is_offered_in_one_write(rt: HostRuntime) -> Result<(), Fail> {
             writes: 0,
             lines: 0,
         };
-        let status = debug_main(&rt, rt.alloc(), &words, &mut shelf, &mut out, &mut err);
+        let status = call(&rt, rt.alloc(), &words, &mut shelf, &mut out, &mut err);
         assert_eq!(rt; status, 0);
         assert_eq!(rt; out.taken.as_slice(), whole.as_slice());
         assert!(rt; out.writes == writes && out.lines == writes);
@@ -148,7 +165,7 @@ fn want_of_memory_cuts_the_output(rt: HostRuntime) -> Result<(), Fail> {
     let mut shelf = shelf(rt.alloc())?;
     let mut out = MemSink::new(Vec::new(rt.alloc()));
     let mut err = MemSink::new(Vec::new(rt.alloc()));
-    let status = debug_main(&rt, rt.alloc(), &words, &mut shelf, &mut out, &mut err);
+    let status = call(&rt, rt.alloc(), &words, &mut shelf, &mut out, &mut err);
     let whole = TWO_PAUSES_OUTPUT.as_bytes();
     if status == 0 {
         assert_eq!(rt; out.taken(), whole);

@@ -2,6 +2,8 @@ use Rattle.std.proofs.Common.{sym}
 use Rattle.command_line.specs.RequestHeld.{request_held, sources_held}
 use Rattle.command_line.proofs.RunLemmas as runs
 use Rattle.command_line.proofs.ReplayLemmas as replays
+use Rattle.command_line.proofs.ServeLemmas as serves
+use Rattle.command_line.proofs.DrillLemmas as drills
 use Rattle.command_line.proofs.program.debug_main.Goals as goal
 
 pub returns-in-Some-Run-clause-run_decided : goal.returns-in-Some-Run-clause-run_decided
@@ -27,3 +29,20 @@ returns-in-Some-Replay-clause-replay_exact g c =
     _ c.replay.result _ _ _ _ _ _ c.end-in-Some-Replay.result
     (sym (rw c.in-Some-Replay.field-0-is at c.in-Some-Replay.ensures))
     c.end-in-Some-Replay.ensures.status c.replay.ensures.cause
+
+pub returns-in-Some-Serve-clause-serve_threw : goal.returns-in-Some-Serve-clause-serve_threw
+returns-in-Some-Serve-clause-serve_threw g c =
+    serves.threw_given _ c.serve-outcome.result c.in-Some-Serve.request _ _ _ _ _ _ _ _ _ c.end-in-Some-Serve.result
+    (sym (rw c.in-Some-Serve.field-0-is at c.in-Some-Serve.ensures)) c.end-in-Some-Serve.ensures.status
+    c.serve-outcome.ensures.cause c.end-in-Some-Serve.ensures.says
+
+pub returns-in-Some-Serve-clause-serve_part : goal.returns-in-Some-Serve-clause-serve_part
+returns-in-Some-Serve-clause-serve_part g c =
+    serves.part_given _ c.in-Some-Serve.request _ _ _ _ _ _
+    (sym (rw c.in-Some-Serve.field-0-is at c.in-Some-Serve.ensures)) c.serve-outcome.ensures.part
+
+pub returns-in-Some-Drill-clause-drill_line : goal.returns-in-Some-Drill-clause-drill_line
+returns-in-Some-Drill-clause-drill_line g c =
+    drills.line_given _ c.in-Some-Drill.number c.drill.result _ _ _ _ _ _ c.end-in-Some-Drill.result
+    (sym (rw c.in-Some-Drill.field-0-is at c.in-Some-Drill.ensures)) c.end-in-Some-Drill.ensures.status
+    c.drill.ensures.cause c.end-in-Some-Drill.ensures.says

@@ -1,0 +1,127 @@
+//! A server whose doors and links are in memory.
+
+use cdp_edge::{MemShelf, MemSink};
+use command_line::debug_main;
+use server_edge::{FixedClock, Gate, Incoming, MemDoor, MemHarbor, MemLink};
+use std::alloc::{AllocError, Global};
+use std::test::Fail;
+
+// How often a link may be asked while it is held.
+const PATIENCE: u64 = 10_000_000;
+
+// The words of a text.
+fn words_of(alloc: Global, text: &str) -> Result<Vec<String>, AllocError> {
+    let mut words = Vec::new(alloc);
+    for word in text.split(' ') {
+        words.push(String::from_str(alloc, word)?)?;
+    }
+    Ok(words)
+}
+
+// A shelf with one script.
+fn shelf(alloc: Global, script: &[u8]) -> Result<MemShelf, AllocError> {
+    let mut all = Vec::new(alloc);
+    all.push((String::from_str(alloc, "a.js")?, script.to_vec(alloc)?))?;
+    Ok(MemShelf::new(all, Vec::new(alloc)))
+}
+
+// A door at which one link arrives that says this once the first gate is open, goes when the second is, and opens the third
+// with its first text.
+fn door(
+    alloc: Global,
+    text: &str,
+    before: Option<Gate>,
+    behind: Option<Gate>,
+    opened: Gate,
+) -> Result<MemDoor, AllocError> {
+    let mut coming = Vec::new(alloc);
+    if let Some(gate) = before {
+        coming.push(Incoming::Hold(gate, PATIENCE))?;
+    }
+    coming.push(Incoming::Text(String::from_str(alloc, text)?))?;
+    if let Some(gate) = behind {
+        coming.push(Incoming::Hold(gate, PATIENCE))?;
+    }
+    coming.push(Incoming::Closed)?;
+    let mut links = Vec::new(alloc);
+    links.push(MemLink::new(coming, Vec::new(alloc)).opening(opened))?;
+    Ok(MemDoor::new(links, Vec::new(alloc)))
+}
+
+// Two clients at once: the first waits until the second was sent a text, and lets the program begin; the second goes when
+// the first was answered.
+#[test]
+fn two_clients_are_served_at_once(rt: HostRuntime) -> Result<(), Fail> {
+    let alloc = rt.alloc();
+    let words = words_of(alloc, "serve --sessions 2 --wait a.js")?;
+    let mut shelf = shelf(alloc, b"console.log(1);\nconsole.log('two');\n")?;
+    let (first, first_again) = Gate::pair(alloc)?;
+    let (second, second_again) = Gate::pair(alloc)?;
+    let begin = r#"{"id":1,"method":"Runtime.runIfWaitingForDebugger"}"#;
+    let enable = r#"{"id":1,"method":"Runtime.enable"}"#;
+    let mut doors = Vec::new(alloc);
+    doors.push(door(alloc, begin, Some(second), None, first)?)?;
+    doors.push(door(alloc, enable, None, Some(first_again), second_again)?)?;
+    let mut harbor = MemHarbor::new(doors, Vec::new(alloc), Vec::new(alloc));
+    let mut clock = FixedClock::new(0);
+    let mut out = MemSink::new(Vec::new(alloc));
+    let mut err = MemSink::new(Vec::new(alloc));
+    let status = debug_main(
+        &rt,
+        alloc,
+        &words,
+        &mut shelf,
+        &mut out,
+        &mut err,
+        &mut harbor,
+        &mut clock,
+    );
+    assert_eq!(rt; status, 0);
+    assert_eq!(rt; out.taken(), b"1\ntwo\n".as_slice());
+    assert_eq!(rt; err.taken(), b"".as_slice());
+    let mut answered = 0;
+    for door in harbor.doors() {
+        for link in door.served() {
+            if let [text] = link.sent() {
+                if text.as_str() == r#"{"id":1,"result":{}}"# {
+                    answered += 1;
+                }
+            }
+        }
+    }
+    assert_eq!(rt; answered, 1);
+    Ok(())
+}
+
+// The sink fails at its second write.
+#[test]
+fn a_server_that_can_not_write_shuts_its_program(rt: HostRuntime) -> Result<(), Fail> {
+    let alloc = rt.alloc();
+    let words = words_of(alloc, "serve --sessions 1 a.js")?;
+    let mut shelf = shelf(
+        alloc,
+        b"console.log(1);\nconsole.log(2);\nconsole.log(3);\n",
+    )?;
+    let mut doors = Vec::new(alloc);
+    doors.push(MemDoor::new(Vec::new(alloc), Vec::new(alloc)))?;
+    let mut harbor = MemHarbor::new(doors, Vec::new(alloc), Vec::new(alloc));
+    let mut clock = FixedClock::new(0);
+    let mut failing = Vec::new(alloc);
+    failing.push(2)?;
+    let mut out = MemSink::new(failing);
+    let mut err = MemSink::new(Vec::new(alloc));
+    let status = debug_main(
+        &rt,
+        alloc,
+        &words,
+        &mut shelf,
+        &mut out,
+        &mut err,
+        &mut harbor,
+        &mut clock,
+    );
+    assert_eq!(rt; status, 5);
+    assert_eq!(rt; out.taken(), b"1\n".as_slice());
+    assert_eq!(rt; err.taken(), b"debug_host: cannot write\n".as_slice());
+    Ok(())
+}
