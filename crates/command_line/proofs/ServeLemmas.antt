@@ -37,14 +37,14 @@ use Rattle.cdp_host.proofs.LawLemmas.{goes-plainly}
 use Rattle.cdp_host.proofs.ProgramLemmas.{plain-grows, plain-start, start-prints}
 use Rattle.ws_service.specs.Joins.{AnswersForAll}
 use Rattle.ws_service.specs.Programs.{GainsLines, Output, PrintsOn, may_cut}
-use Rattle.ws_service.specs.Serving.{IsServing, ServedDoor, has_shut, shuts}
+use Rattle.ws_service.specs.Serving.{IsServing, MayHaveShut, ServedDoor, has_shut, shuts}
 use Rattle.ws_service.specs.declared.ends.DoorsEnd.{DoorsEnd}
 use Rattle.ws_service.specs.declared.ends.DoorsEnd.TheVariants as doors
 use Rattle.ws_service.specs.declared.program.RunEnd.{RunEnd}
 use Rattle.ws_service.specs.declared.program.RunEnd.TheVariants as runs
 use Rattle.command_line.specs.Files.{HoldsSources}
 use Rattle.command_line.specs.RunCauses.{BecauseSources, RunsInPart, RunsToThrow}
-use Rattle.command_line.specs.ServeCauses.{BecauseServe, BecauseServed, Harbored, HasFinished, IsOpened, Serves, ServesPort, ShowsThrow, or_doors, outcome_of_serving}
+use Rattle.command_line.specs.ServeCauses.{BecauseServe, BecauseServed, Harbored, HasFinished, IsEndOf, IsOpened, IsShutEnd, IsUnserved, MayServe, ServesPort, ShowsThrow, or_doors, outcome_of_serving}
 use Rattle.command_line.specs.Status.{GivenServe, said, status_of, uncaught_said}
 use Rattle.command_line.specs.Words.{Command, Serve, ServeRequest}
 use Rattle.command_line.specs.declared.outcome.Outcome.{Outcome}
@@ -204,6 +204,15 @@ text-of (over (finishes.by_full what) s) is = absurd cc
 
 -- ---- a port that was served
 
+-- a program isn't shut where neither its output nor a door failed
+over-stands : (P : Type 0) → (false ≡ true) ⊎ (doors.Over ≡ doors.Failed) → P
+over-stands P (inl cut) = absurd cc
+over-stands P (inr failed) = absurd cc
+
+spent-stands : (P : Type 0) → (false ≡ true) ⊎ (doors.Spent ≡ doors.Failed) → P
+spent-stands P (inl cut) = absurd cc
+spent-stands P (inr failed) = absurd cc
+
 module _ (scripts : List Script) (input : List (List ℕ)) (wait : Bool) (n : ℕ) (moment : Opt ℕ) (old new : Output)
     (h : List (ℕ × Entry)) (served : List ServedDoor) where
   abbrev steps : ℕ
@@ -216,13 +225,44 @@ module _ (scripts : List Script) (input : List (List ℕ)) (wait : Bool) (n : �
   goes : (whole scripts input wait (entries_of h)).program ≡ plain steps scripts input
   goes = goes-plainly scripts input wait (entries_of h)
 
-  pub served-port : (run : RunEnd) (together : DoorsEnd) (before after : Opt (List Tended)) → Is run together
+  -- the program may have been shut only at these ends
+  AtShut : Opt Outcome → Type 0
+  AtShut None = ⊥
+  AtShut (Some end) = IsShutEnd end
+
+  at-shut : (run : RunEnd) (together : DoorsEnd) → MayHaveShut (record { run = run; doors = together })
+      → AtShut (outcome_of_serving run together)
+  at-shut runs.Broken together may = tt
+  at-shut (runs.Memory unshut) together may = tt
+  at-shut (runs.WriteFault unshut) together may = tt
+  at-shut runs.Shut together may = tt
+  at-shut (runs.Spent ticket) doors.Over may = over-stands _ may
+  at-shut (runs.Spent ticket) doors.Failed may = tt
+  at-shut (runs.Spent ticket) doors.Spent may = spent-stands _ may
+  at-shut runs.Ended doors.Over may = over-stands _ may
+  at-shut runs.Ended doors.Failed may = tt
+  at-shut runs.Ended doors.Spent may = spent-stands _ may
+  at-shut runs.Threw doors.Over may = over-stands _ may
+  at-shut runs.Threw doors.Failed may = tt
+  at-shut runs.Threw doors.Spent may = spent-stands _ may
+
+  shut-end : (run : RunEnd) (together : DoorsEnd) (end : Outcome) (r : Run)
+      → IsEndOf end (record { run = run; doors = together }) r → MayHaveShut (record { run = run; doors = together })
+      → IsShutEnd end
+  shut-end run together end r (inl is) may = subst AtShut is (at-shut run together may)
+  shut-end run together end r (inr shown) may = absurd (subst AtShut shown.0 (at-shut run together may))
+
+  pub served-port : (run : RunEnd) (together : DoorsEnd) (end : Outcome) (before after : Opt (List Tended)) → Is run together
       → after ≡ adds before (map (λ (door : ServedDoor). door.door) served)
-      → ServesPort scripts input wait n moment old new before after (record { run = run; doors = together })
-  served-port run together before after s kept = record {
+      → IsEndOf end (record { run = run; doors = together }) (whole scripts input wait (entries_of h)).program
+      → ServesPort scripts input wait n moment old new before after end
+  served-port run together end before after s kept is_end = record {
     history = h;
     doors = served;
+    ended = record { run = run; doors = together };
     serving = s;
+    is_end = is_end;
+    shut = λ was. shut-end run together end (whole scripts input wait (entries_of h)).program is_end (s.shut was);
     kept = kept;
     exactly = stops-exactly (protocol scripts) (start scripts input) wait (entries_of h) s.history.fits;
     alone = λ r. alone (protocol scripts) r (start scripts input) wait (entries_of h) s.history.fits;
@@ -470,32 +510,46 @@ read (ends.Refused name r) request told faults old new before after scripts inpu
 read (ends.CannotRead name) request told faults old new before after scripts input holds h = absurd h
 read (ends.LineRefused n) request told faults old new before after scripts input holds h = absurd h
 
--- a port that was served for the scripts that the files hold
+-- no port was served where a file wasn't taken
+pub unserved : (end : Outcome) (request : ServeRequest) (told : Opt (List Named)) (before after : Faults)
+    → BecauseSources end request.sources told before after → IsUnserved end
+unserved ends.Done request told before after h = absurd h
+unserved (ends.Threw text) request told before after h = absurd h
+unserved ends.ThrewUnshown request told before after h = absurd h
+unserved ends.OutOfMemory request told before after h = tt
+unserved ends.Usage request told before after h = absurd h
+unserved (ends.Refused name r) request told before after h = tt
+unserved (ends.CannotRead name) request told before after h = tt
+unserved ends.CannotWrite request told before after h = absurd h
+unserved (ends.LineRefused n) request told before after h = absurd h
+unserved ends.NetworkFault request told before after h = absurd h
+unserved ends.TicketsSpent request told before after h = absurd h
+
+-- a port that was served for the scripts that the files hold, or wasn't
 pub serves : (request : ServeRequest) (told : Opt (List Named)) (moment : Opt ℕ) (old new : Output)
-    (before after : Opt (List Tended)) (scripts : List Script) (input : List (List ℕ))
+    (before after : Opt (List Tended)) (end : Outcome) (scripts : List Script) (input : List (List ℕ))
     → Told told (λ files. HoldsSources files request.sources scripts input)
-    → (new.content ≡ old.content)
-    ⊎ ((end : _) × ServesPort scripts input request.wait request.sessions moment old new before after end)
-    → Told told (λ files. (new.content ≡ old.content) ⊎ Serves files request moment old new before after)
-serves request told moment old new before after scripts input holds (inl same) =
-    told_map told (λ files. HoldsSources files request.sources scripts input) _ (λ files at. inl same) holds
-serves request told moment old new before after scripts input holds (inr port) =
+    → (IsUnserved end × (new.content ≡ old.content))
+    ⊎ ServesPort scripts input request.wait request.sessions moment old new before after end
+    → Told told (λ files. MayServe files request moment old new before after end)
+serves request told moment old new before after end scripts input holds (inl unserved) =
+    told_map told (λ files. HoldsSources files request.sources scripts input) _ (λ files at. inl unserved) holds
+serves request told moment old new before after end scripts input holds (inr port) =
     told_map told (λ files. HoldsSources files request.sources scripts input) _
-    (λ files at. inr (record { scripts = scripts; input = input; holds = at; end = port.0; port = port.1 })) holds
+    (λ files at. inr (record { scripts = scripts; input = input; holds = at; port = port })) holds
 
 -- its output is a first part of the plain one
-pub in-part : (request : ServeRequest) (files : List Named) (moment : Opt ℕ) (old new : Output)
-    (before after : Opt (List Tended))
-    → (new.content ≡ old.content) ⊎ Serves files request moment old new before after
+in-part : (request : ServeRequest) (files : List Named) (moment : Opt ℕ) (old new : Output)
+    (before after : Opt (List Tended)) (end : Outcome) → MayServe files request moment old new before after end
     → (new.content ≡ old.content) ⊎ RunsInPart files request.sources old.content new.content
-in-part request files moment old new before after (inl same) = inl same
-in-part request files moment old new before after (inr s) = inr (record {
+in-part request files moment old new before after end (inl unserved) = inl unserved.1
+in-part request files moment old new before after end (inr s) = inr (record {
   scripts = s.scripts;
   input = s.input;
   holds = s.holds;
   part =
-      served-part s.scripts s.input request.wait request.sessions moment old new s.port.history s.port.doors s.end.run
-      s.end.doors s.port.serving;
+      served-part s.scripts s.input request.wait request.sessions moment old new s.port.history s.port.doors
+      s.port.ended.run s.port.ended.doors s.port.serving;
 })
 
 -- ---- of the words that ask for a server
@@ -506,15 +560,26 @@ given_serve o request told P is h = rw is h
 
 -- its output is a first part of the plain one
 pub part_given : (o : Opt Command) (request : ServeRequest) (told : Opt (List Named)) (moment : Opt ℕ)
-    (old new : Output) (before after : Opt (List Tended)) → o ≡ Some (Serve request)
-    → Told told (λ files. (new.content ≡ old.content) ⊎ Serves files request moment old new before after)
+    (old new : Output) (before after : Opt (List Tended)) (end : Outcome) → o ≡ Some (Serve request)
+    → Told told (λ files. MayServe files request moment old new before after end)
     → GivenServe o told
     (λ r files. (new.content ≡ old.content) ⊎ RunsInPart files r.sources old.content new.content)
-part_given o request told moment old new before after is h =
+part_given o request told moment old new before after end is h =
     given_serve o request told
     (λ r files. (new.content ≡ old.content) ⊎ RunsInPart files r.sources old.content new.content) is
-    (told_map told (λ files. (new.content ≡ old.content) ⊎ Serves files request moment old new before after) _
-    (λ files at. in-part request files moment old new before after at) h)
+    (told_map told (λ files. MayServe files request moment old new before after end) _
+    (λ files at. in-part request files moment old new before after end at) h)
+
+-- its end is that of the port that it served, if it served one
+pub served_given : (o : Opt Command) (request : ServeRequest) (told : Opt (List Named)) (moment : Opt ℕ)
+    (old new : Output) (before after : Opt (List Tended)) (end : Outcome) (status : ℕ) → o ≡ Some (Serve request)
+    → status ≡ status_of end → Told told (λ files. MayServe files request moment old new before after end)
+    → GivenServe o told
+    (λ r files. (it : Outcome) × (status ≡ status_of it) × MayServe files r moment old new before after it)
+served_given o request told moment old new before after end status is ends_so h =
+    given_serve o request told
+    (λ r files. (it : Outcome) × (status ≡ status_of it) × MayServe files r moment old new before after it) is
+    (told_map told (λ files. MayServe files request moment old new before after end) _ (λ files at. (end, ends_so, at)) h)
 
 -- how a throw that ended its program is told
 abbrev IsToldThrow : Output → Output → Opt (List ℕ) → Opt (List ℕ) → ServeRequest → List Named → Type 0

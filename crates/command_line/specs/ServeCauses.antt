@@ -1,5 +1,5 @@
 -- How a server ends, and why.
-use Rattle.std.specs.Prelude.{◌≡◌, ℕ, List, map, Bool, true, false, Option, Some, None, string_bytes}
+use Rattle.std.specs.Prelude.{◌≡◌, ◌⊎◌, ℕ, List, map, Bool, true, false, Option, Some, None, string_bytes}
 use Rattle.isolation.specs.Histories.{Entry}
 use Rattle.isolation.specs.Makers.{entries_of}
 use Rattle.isolation.specs.Stops.{AllStopExactly}
@@ -18,7 +18,7 @@ use Rattle.cdp_host.specs.Histories.{begin, sent_alone, sent_to, view, whole}
 use Rattle.cdp_host.specs.Programs.{has_thrown, is_over, plain, printed_of, start, uncaught_text}
 use Rattle.cdp_host.specs.Protocols.{protocol}
 use Rattle.ws_service.specs.Programs.{Output}
-use Rattle.ws_service.specs.Serving.{IsServing, ServedDoor}
+use Rattle.ws_service.specs.Serving.{IsServing, ServedDoor, has_shut}
 use Rattle.ws_service.specs.declared.ends.DoorsEnd.{DoorsEnd}
 use Rattle.ws_service.specs.declared.ends.DoorsEnd.TheVariants as doors
 use Rattle.ws_service.specs.declared.ends.Ends.{Ends}
@@ -60,6 +60,27 @@ ShowsThrow ends.ThrewUnshown r = Unit {0}
 ShowsThrow ends.TicketsSpent r = Unit {0}
 ShowsThrow end r = ⊥
 
+-- a port that was served ended so, which the program and its doors decide, or how a throw that ended the program is shown
+abbrev pub IsEndOf : Outcome → Ends → Run → Type 0
+IsEndOf end ended r =
+    (outcome_of_serving ended.run ended.doors ≡ Some end)
+    ⊎ ((outcome_of_serving ended.run ended.doors ≡ None) × ShowsThrow end r)
+
+-- the ends at which a program may have been shut: no memory was left, or its output couldn't be written, or a door failed
+abbrev pub IsShutEnd : Outcome → Type 0
+IsShutEnd ends.OutOfMemory = Unit {0}
+IsShutEnd ends.CannotWrite = Unit {0}
+IsShutEnd ends.NetworkFault = Unit {0}
+IsShutEnd end = ⊥
+
+-- the ends that come where no port was served: a file wasn't taken, no memory was left, or the port couldn't be opened
+abbrev pub IsUnserved : Outcome → Type 0
+IsUnserved (ends.Refused name r) = Unit {0}
+IsUnserved (ends.CannotRead name) = Unit {0}
+IsUnserved ends.OutOfMemory = Unit {0}
+IsUnserved ends.NetworkFault = Unit {0}
+IsUnserved end = ⊥
+
 -- ---- output
 
 -- after some steps the program is over, by no throw, and all that it has printed was written
@@ -84,27 +105,35 @@ pub record Harbored : Type 0 where
   pub opens : Calls (ℕ × ℕ)
   pub kept : Option (List Tended)
 
--- A port was served for a program of these scripts and this input, over one history. In it the program stopped at
--- exactly the steps that the rules of its sessions or the start rule name, and each session was sent exactly what a host
--- with no other session sends it, given what it sees of the history.
+-- A port was served for a program of these scripts and this input, over one history, and that ended so. In the history
+-- the program stopped at exactly the steps that the rules of its sessions or the start rule name, and each session was
+-- sent exactly what a host with no other session sends it, given what it sees of the history.
 pub record ServesPort (scripts : List Script) (input : List (List ℕ)) (wait : Bool) (sessions : ℕ) (moment : Option ℕ)
-    (old new : Output) (before after : Option (List Tended)) (end : Ends) : Type 0 where
+    (old new : Output) (before after : Option (List Tended)) (end : Outcome) : Type 0 where
   pub history : List (ℕ × Entry)
   pub doors : List ServedDoor
-  pub serving : IsServing (debugging scripts input wait) sessions moment old new end history doors
+  pub ended : Ends
+  pub serving : IsServing (debugging scripts input wait) sessions moment old new ended history doors
+  pub is_end : IsEndOf end ended (whole scripts input wait (entries_of history)).program
+  pub shut : has_shut (entries_of history) ≡ true → IsShutEnd end
   pub kept : after ≡ adds before (map (λ (door : ServedDoor). door.door) doors)
   pub exactly : AllStopExactly (protocol scripts) (start scripts input) 0 (begin scripts input wait) (entries_of history)
   pub alone : (s : ℕ) → sent_to scripts input wait s (entries_of history)
       ≡ sent_alone scripts input wait s (view scripts input wait s (entries_of history))
 
--- a port was served for the scripts and the input that the files hold, and serving it ended so
+-- a port was served for the scripts and the input that the files hold, and that ended so
 pub record Serves (files : List Named) (request : ServeRequest) (moment : Option ℕ) (old new : Output)
-    (before after : Option (List Tended)) : Type 0 where
+    (before after : Option (List Tended)) (end : Outcome) : Type 0 where
   pub scripts : List Script
   pub input : List (List ℕ)
   pub holds : HoldsSources files request.sources scripts input
-  pub end : Ends
   pub port : ServesPort scripts input request.wait request.sessions moment old new before after end
+
+-- no port was served, and nothing was written; or one was, and that ended so
+abbrev pub MayServe : List Named → ServeRequest → Option ℕ → Output → Output → Option (List Tended)
+    → Option (List Tended) → Outcome → Type 0
+MayServe files request moment old new before after end =
+    (IsUnserved end × (new.content ≡ old.content)) ⊎ Serves files request moment old new before after end
 
 -- ---- causes
 

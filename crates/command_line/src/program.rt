@@ -12,7 +12,7 @@ ghost use Rattle.command_line.specs.Files.{HoldsReplay, HoldsSources, IsNamed, I
 ghost use Rattle.command_line.specs.ReplayCauses.{ReplaysInPart, ReplaysShort, ReplaysWhole};
 ghost use Rattle.command_line.specs.RunCauses.{RunsInPart, RunsShort, RunsToEnd, RunsToThrow};
 ghost use Rattle.command_line.specs.Status.{ForDrill, ForReplay, ForRun, ForServe, GivenReplay, GivenRun, GivenServe, Unfailed, line_said, refusal_said, said, status_of, uncaught_said, unread_said};
-ghost use Rattle.command_line.specs.ServeCauses.{Serves, ServesToEnd};
+ghost use Rattle.command_line.specs.ServeCauses.{MayServe, ServesToEnd};
 ghost use Rattle.command_line.specs.Words.{asked};
 ghost use Rattle.server_edge.specs.Contents.{called};
 ghost use Rattle.command_line.specs.declared.outcome.Outcome.{Outcome};
@@ -126,7 +126,7 @@ where
     // at every status: what `out` took is a first part of what the program prints; the doors are those of one history, in
     // which the program stops exactly where it is named to, and each session is sent what it would be sent alone
     ensures serve_part { GivenServe (asked words.now) (F.files shelf.old) (λ request files. (O.content out.new ≡ O.content out.old) ⊎ RunsInPart files request.sources (O.content out.old) (O.content out.new)) }
-    ensures serves { GivenServe (asked words.now) (F.files shelf.old) (λ request files. (O.content out.new ≡ O.content out.old) ⊎ Serves files request (C.moment clock.old) (record { content = O.content out.old; faults = O.faults out.old }) (record { content = O.content out.new; faults = O.faults out.new }) (H.kept harbor.old) (H.kept harbor.new)) }
+    ensures serves { GivenServe (asked words.now) (F.files shelf.old) (λ request files. (end : Outcome) × (result ≡ status_of end) × MayServe files request (C.moment clock.old) (record { content = O.content out.old; faults = O.faults out.old }) (record { content = O.content out.new; faults = O.faults out.new }) (H.kept harbor.old) (H.kept harbor.new) end) }
     ensures serve_opened { (result ≡ 0) ⊎ (result ≡ 5) ⊎ (result ≡ 8) ⊎ (result ≡ 10) → ForServe (asked words.now) (λ request. H.opens harbor.new ≡ called (request.port, request.sessions) (H.opens harbor.old)) }
     ensures serve_once { ForServe (asked words.now) (λ request. (H.opens harbor.new ≡ H.opens harbor.old) ⊎ (H.opens harbor.new ≡ called (request.port, request.sessions) (H.opens harbor.old))) }
     ensures serve_dials { H.dials harbor.new ≡ H.dials harbor.old }

@@ -8,9 +8,8 @@ ghost use Rattle.server_edge.specs.Contents.{called};
 ghost use Rattle.cdp_host.specs.Histories.{whole};
 ghost use Rattle.cdp_host.specs.Hosts.{Stands};
 ghost use Rattle.ws_service.specs.Joins.{AnswersForAll};
-ghost use Rattle.ws_service.specs.declared.ends.Ends.{Ends as AnyEnds};
 ghost use Rattle.command_line.specs.RunCauses.{IsUnbegun};
-ghost use Rattle.command_line.specs.ServeCauses.{BecauseServe, BecauseServed, Serves, ServesPort, ShowsThrow, or_doors, outcome_of_serving, unopened};
+ghost use Rattle.command_line.specs.ServeCauses.{BecauseServe, BecauseServed, IsUnserved, MayServe, ServesPort, ShowsThrow, or_doors, outcome_of_serving, unopened};
 
 use crate::outcome::Outcome;
 use crate::serve_request::ServeRequest;
@@ -107,6 +106,7 @@ fn thrown<'p, B: Beginning, R: Wait>(
 /// The end of a port whose doors weren't opened.
 fn unopened(fault: HarborFault) -> Outcome<'static>
     ensures { result ≡ unopened fault }
+    ensures unserved { IsUnserved result }
 {
     match fault {
         HarborFault::Failed => Outcome::NetworkFault,
@@ -139,7 +139,7 @@ where
     requires pass { opened.pass ≡ initial_pass opened.lock (length opened.doors.items + 1) (length opened.doors.items) }
     requires doors { opened.doors.items ≡ initial_passes opened.lock (length opened.doors.items + 1) (length opened.doors.items) }
     ensures cause { BecauseServed result B.scripts B.input port (length opened.entry.doors.items) (record { content = O.content out.old; faults = O.faults out.old }) (record { content = O.content out.new; faults = O.faults out.new }) (record { faults = P.faults harbor.old; opens = P.opens harbor.old; kept = P.kept harbor.old }) (record { faults = P.faults harbor.new; opens = P.opens harbor.new; kept = P.kept harbor.new }) }
-    ensures part { (O.content out.new ≡ O.content out.old) ⊎ ((end : AnyEnds) × ServesPort B.scripts B.input B.wait (length opened.entry.doors.items) (C.moment clock.old) (record { content = O.content out.old; faults = O.faults out.old }) (record { content = O.content out.new; faults = O.faults out.new }) (P.kept harbor.old) (P.kept harbor.new) end) }
+    ensures part { (IsUnserved result × (O.content out.new ≡ O.content out.old)) ⊎ ServesPort B.scripts B.input B.wait (length opened.entry.doors.items) (C.moment clock.old) (record { content = O.content out.old; faults = O.faults out.old }) (record { content = O.content out.new; faults = O.faults out.new }) (P.kept harbor.old) (P.kept harbor.new) result }
     ensures once { (P.opens harbor.new ≡ P.opens harbor.old) ⊎ (P.opens harbor.new ≡ called (port, length opened.entry.doors.items) (P.opens harbor.old)) }
     ensures dials { P.dials harbor.new ≡ P.dials harbor.old }
 {
@@ -181,7 +181,7 @@ where
     requires wait { B.wait ≡ wait }
     requires sessions { (1 ≤ sessions) × (sessions ≤ 16) }
     ensures cause { BecauseServed result scripts.now input.items port sessions (record { content = O.content out.old; faults = O.faults out.old }) (record { content = O.content out.new; faults = O.faults out.new }) (record { faults = P.faults harbor.old; opens = P.opens harbor.old; kept = P.kept harbor.old }) (record { faults = P.faults harbor.new; opens = P.opens harbor.new; kept = P.kept harbor.new }) }
-    ensures part { (O.content out.new ≡ O.content out.old) ⊎ ((end : AnyEnds) × ServesPort scripts.now input.items wait sessions (C.moment clock.old) (record { content = O.content out.old; faults = O.faults out.old }) (record { content = O.content out.new; faults = O.faults out.new }) (P.kept harbor.old) (P.kept harbor.new) end) }
+    ensures part { (IsUnserved result × (O.content out.new ≡ O.content out.old)) ⊎ ServesPort scripts.now input.items wait sessions (C.moment clock.old) (record { content = O.content out.old; faults = O.faults out.old }) (record { content = O.content out.new; faults = O.faults out.new }) (P.kept harbor.old) (P.kept harbor.new) result }
     ensures once { (P.opens harbor.new ≡ P.opens harbor.old) ⊎ (P.opens harbor.new ≡ called (port, sessions) (P.opens harbor.old)) }
     ensures dials { P.dials harbor.new ≡ P.dials harbor.old }
 {
@@ -196,7 +196,7 @@ where
 
 /// Serves the scripts of these names to clients: the input is read first, then the scripts in order, then the doors are
 /// opened. A program that never ends prints as it goes, and the call doesn't return.
-#[tactic(auto, using(crate::proofs::ServeLemmas::unread))]
+#[tactic(auto, using(crate::proofs::ServeLemmas::unread, crate::proofs::ServeLemmas::unserved))]
 pub(crate) fn serve<
     'w,
     R: Threads + Wait + Sync,
@@ -218,7 +218,7 @@ where
     P::Door: Send,
     <P::Door as Door>::Link: Send,
     ensures cause { BecauseServe result request.entry (F.files shelf.old) (F.faults shelf.old) (F.faults shelf.new) (record { content = O.content out.old; faults = O.faults out.old }) (record { content = O.content out.new; faults = O.faults out.new }) (record { faults = P.faults harbor.old; opens = P.opens harbor.old; kept = P.kept harbor.old }) (record { faults = P.faults harbor.new; opens = P.opens harbor.new; kept = P.kept harbor.new }) }
-    ensures part { Told (F.files shelf.old) (λ files. (O.content out.new ≡ O.content out.old) ⊎ Serves files request.entry (C.moment clock.old) (record { content = O.content out.old; faults = O.faults out.old }) (record { content = O.content out.new; faults = O.faults out.new }) (P.kept harbor.old) (P.kept harbor.new)) }
+    ensures part { Told (F.files shelf.old) (λ files. MayServe files request.entry (C.moment clock.old) (record { content = O.content out.old; faults = O.faults out.old }) (record { content = O.content out.new; faults = O.faults out.new }) (P.kept harbor.old) (P.kept harbor.new) result) }
     ensures unbegun { IsUnbegun result → out.new ≡ out.old }
     ensures once { (P.opens harbor.new ≡ P.opens harbor.old) ⊎ (P.opens harbor.new ≡ called (request.entry.port, request.entry.sessions) (P.opens harbor.old)) }
     ensures dials { P.dials harbor.new ≡ P.dials harbor.old }

@@ -38,8 +38,14 @@ returns-in-Some-Serve-clause-serve_threw g c =
 
 pub returns-in-Some-Serve-clause-serve_part : goal.returns-in-Some-Serve-clause-serve_part
 returns-in-Some-Serve-clause-serve_part g c =
-    serves.part_given _ c.in-Some-Serve.request _ _ _ _ _ _
+    serves.part_given _ c.in-Some-Serve.request _ _ _ _ _ _ c.serve-outcome.result
     (sym (rw c.in-Some-Serve.field-0-is at c.in-Some-Serve.ensures)) c.serve-outcome.ensures.part
+
+pub returns-in-Some-Serve-clause-serves : goal.returns-in-Some-Serve-clause-serves
+returns-in-Some-Serve-clause-serves g c =
+    serves.served_given _ c.in-Some-Serve.request _ _ _ _ _ _ c.serve-outcome.result c.end-in-Some-Serve.result
+    (sym (rw c.in-Some-Serve.field-0-is at c.in-Some-Serve.ensures)) c.end-in-Some-Serve.ensures.status
+    c.serve-outcome.ensures.part
 
 pub returns-in-Some-Drill-clause-drill_line : goal.returns-in-Some-Drill-clause-drill_line
 returns-in-Some-Drill-clause-drill_line g c =

@@ -2,7 +2,7 @@ use Rattle.std.proofs.Common.{rules, sym, subst}
 use Rattle.cdp_edge.specs.Blame.{Faults}
 use Rattle.ws_service.specs.Programs.{Output}
 use Rattle.command_line.specs.ServeCauses.{BecauseServe, Harbored}
-use Rattle.command_line.proofs.ServeLemmas.{read}
+use Rattle.command_line.proofs.ServeLemmas.{read, serves}
 use Rattle.command_line.proofs.serve.serve.Goals as goal
 
 pub returns-in-Ok-clause-cause : goal.returns-in-Ok-clause-cause
@@ -18,3 +18,11 @@ returns-in-Ok-clause-cause g c =
     (read c.serve_program.result c.args.request (g.F.Shelf.files c.args.shelf.now)
     (g.F.Shelf.faults c.args.shelf.now) old new before after c.in-Ok.scripts.items c.in-Ok.input.items (search rules)
     (search rules))
+
+pub returns-in-Ok-clause-part : goal.returns-in-Ok-clause-part
+returns-in-Ok-clause-part g c =
+    let old : Output = record { content = g.O.Sink.content c.args.out.now; faults = g.O.Sink.faults c.args.out.now } in
+    let new : Output = record { content = g.O.Sink.content c.serve_program.new.out; faults = g.O.Sink.faults c.serve_program.new.out } in
+    serves c.args.request (g.F.Shelf.files c.args.shelf.now) (g.C.Clock.moment c.args.clock.now) old new
+    (g.P.Harbor.kept c.args.harbor.now) (g.P.Harbor.kept c.serve_program.new.harbor) c.serve_program.result
+    c.in-Ok.scripts.items c.in-Ok.input.items (search rules) (search rules)

@@ -1,4 +1,4 @@
-use Rattle.std.proofs.Common.{inr, length, subst}
+use Rattle.std.proofs.Common.{inl, inr, length, subst, sym}
 use Rattle.cdp_host.specs.Debugged.{debugging}
 use Rattle.ws_service.specs.Programs.{Output}
 use Rattle.ws_service.specs.Serving.{IsServing}
@@ -39,9 +39,8 @@ returns-in-Some-clause-part g c =
     let after : Harbored = record { faults = g.P.Harbor.faults c.serve_port.new.harbor; opens = g.P.Harbor.opens c.serve_port.new.harbor; kept = g.P.Harbor.kept c.serve_port.new.harbor } in
     let ends = c.in-Ok.field-0-0 in
     inr
-    (ends,
-    served-port b.scripts b.input b.wait n moment old new c.in-Ok.pass.seen s.0 ends.run ends.doors before.kept
-    after.kept s.1 s.2)
+    (served-port b.scripts b.input b.wait n moment old new c.in-Ok.pass.seen s.0 ends.run ends.doors c.in-Some.end before.kept
+    after.kept s.1 s.2 (inl (sym c.in-Some.ensures)))
 
 pub returns-in-Ok-clause-cause : goal.returns-in-Ok-clause-cause
 returns-in-Ok-clause-cause g c =
@@ -71,6 +70,5 @@ returns-in-Ok-clause-part g c =
     let after : Harbored = record { faults = g.P.Harbor.faults c.serve_port.new.harbor; opens = g.P.Harbor.opens c.serve_port.new.harbor; kept = g.P.Harbor.kept c.serve_port.new.harbor } in
     let ends = c.in-Ok.field-0-0 in
     inr
-    (ends,
-    served-port b.scripts b.input b.wait n moment old new c.in-Ok.pass.seen s.0 ends.run ends.doors before.kept
-    after.kept s.1 s.2)
+    (served-port b.scripts b.input b.wait n moment old new c.in-Ok.pass.seen s.0 ends.run ends.doors c.thrown.result before.kept
+    after.kept s.1 s.2 (inr (sym c.in-None.ensures, c.thrown.ensures)))

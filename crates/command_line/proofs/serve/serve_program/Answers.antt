@@ -3,8 +3,7 @@ use Rattle.history_lock.specs.Passes.{initial_pass, initial_passes}
 use Rattle.js_tree.specs.declared.script.Script.{Script}
 use Rattle.server_edge.specs.Contents.{called}
 use Rattle.ws_service.specs.Programs.{Output}
-use Rattle.ws_service.specs.declared.ends.Ends.{Ends}
-use Rattle.command_line.specs.ServeCauses.{BecauseServed, Harbored, ServesPort}
+use Rattle.command_line.specs.ServeCauses.{BecauseServed, Harbored, IsUnserved, ServesPort}
 use Rattle.command_line.proofs.ServeLemmas.{initial-length}
 use Rattle.command_line.proofs.serve.serve_program.Goals as goal
 
@@ -45,9 +44,9 @@ returns-clause-part g c =
     let old : Output = record { content = g.O.Sink.content c.args.out.now; faults = g.O.Sink.faults c.args.out.now } in
     let new : Output = record { content = g.O.Sink.content c.serve_host.new.out; faults = g.O.Sink.faults c.serve_host.new.out } in
     subst
-    (λ (z : List Script × List (List ℕ) × Bool × ℕ). (new.content ≡ old.content)
-    ⊎ ((end : Ends) × ServesPort z.0 z.1 z.2 z.3 (g.C.Clock.moment c.args.clock.now) old new
-    (g.P.Harbor.kept c.args.harbor.now) (g.P.Harbor.kept c.serve_host.new.harbor) end))
+    (λ (z : List Script × List (List ℕ) × Bool × ℕ). (IsUnserved c.serve_host.result × (new.content ≡ old.content))
+    ⊎ ServesPort z.0 z.1 z.2 z.3 (g.C.Clock.moment c.args.clock.now) old new
+    (g.P.Harbor.kept c.args.harbor.now) (g.P.Harbor.kept c.serve_host.new.harbor) c.serve_host.result)
     (λ i. (c.requires.scripts i, c.requires.input i, c.requires.wait i, many i)) c.serve_host.ensures.part
 
 pub returns-clause-once : goal.returns-clause-once
