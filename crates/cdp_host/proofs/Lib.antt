@@ -24,3 +24,4 @@ pub mod RefusalLemmas
 pub mod ViewLemmas
 pub mod HeldLemmas
 pub mod HostedLemmas
+pub mod SendLemmas

@@ -4,3 +4,4 @@ pub mod OutboxLemmas
 pub mod StopLemmas
 pub mod ConditionLemmas
 pub mod CallLemmas
+pub mod SendLemmas

@@ -10,6 +10,5 @@ pub mod PlayLemmas
 pub mod ReplayedLemmas
 pub mod RunLemmas
 pub mod ReplayLemmas
-pub mod SendLemmas
 pub mod ServeLemmas
 pub mod DrillLemmas

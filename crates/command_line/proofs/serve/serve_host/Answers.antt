@@ -6,12 +6,12 @@ use Rattle.ws_service.specs.declared.ends.DoorsEnd.{DoorsEnd}
 use Rattle.ws_service.specs.declared.program.RunEnd.{RunEnd}
 use Rattle.command_line.specs.ServeCauses.{Harbored}
 use denote.Param.Send.{sendable}
-use Rattle.command_line.proofs.SendLemmas.{Host-send}
+use Rattle.cdp_host.proofs.SendLemmas.{host-send}
 use Rattle.command_line.proofs.ServeLemmas.{because-decided, because-thrown, served-port, undecided}
 use Rattle.command_line.proofs.serve.serve_host.Goals as goal
 
 pub serve_port-requires-send-H : goal.serve_port-requires-send-H
-serve_port-requires-send-H g c κs within = search (sendable, Host-send) depth 40
+serve_port-requires-send-H g c κs within = search (sendable, host-send) depth 40
 
 pub returns-in-Some-clause-cause : goal.returns-in-Some-clause-cause
 returns-in-Some-clause-cause g c =

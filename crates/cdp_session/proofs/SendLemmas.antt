@@ -1,0 +1,63 @@
+-- A session may be sent to another thread.
+use denote.Param.Send.{IsSend, recorded_send, sendable, struct_send, view_send}
+use denote.Struct.Declared.{shape}
+use Rattle.std.proofs.Crossing.{crosses}
+use Rattle.std.proofs.alloc.Global.TheSendSync as global
+use Rattle.std.proofs.option.Option.TheSendSync as options
+use Rattle.std.proofs.vec.Vec.TheSendSync as vectors
+use Rattle.cdp_text.proofs.units.Units.TheSendSync as units
+use Rattle.js_operators.proofs.operator.AssignmentOperator.TheSendSync as assignment
+use Rattle.js_operators.proofs.operator.BinaryOperator.TheSendSync as binary
+use Rattle.js_operators.proofs.operator.UnaryOperator.TheSendSync as unary
+use Rattle.js_operators.proofs.operator.UpdateOperator.TheSendSync as update
+use Rattle.js_tree.proofs.integer.SafeInteger.TheSendSync as integer
+use Rattle.js_tree.proofs.names.Names.TheSendSync as names
+use Rattle.js_tree.proofs.node.NodeId.TheSendSync as node
+use Rattle.js_tree.proofs.node.Spans.TheSendSync as spans
+use Rattle.js_tree.proofs.tree.ArrowParameters.TheSendSync as arrow
+use Rattle.js_tree.proofs.tree.Expr.TheLaws.TheKnot as tree
+use Rattle.js_tree.specs.contracts.script.Expression as expression
+use Rattle.breakpoints.proofs.breakpoints.Breakpoints.TheSendSync as breakpoints
+use Rattle.object_groups.proofs.handles.Handles.TheSendSync as handles
+use Rattle.pure_eval.proofs.workspace.Workspace.TheSendSync as workspace
+use Rattle.session_messages.proofs.outbox.Outbox.TheSendSync as outbox
+use Rattle.stepping.proofs.rules.Rules.TheSendSync as rules
+use Rattle.cdp_session.specs.contracts.conditions.Condition as condition
+use Rattle.cdp_session.specs.contracts.conditions.Condition.TheInside as condition_inside
+use Rattle.cdp_session.specs.contracts.session.Session as session
+use Rattle.cdp_session.specs.contracts.session.Session.TheInside as session_inside
+
+expression-send : IsSend expression.the_row
+expression-send = search (
+  units.the_send, options.the_field_send, options.the_send, assignment.the_field_send, binary.the_field_send, unary.the_field_send,
+  update.the_field_send, integer.the_field_send, names.the_send, node.the_field_send, spans.the_send, arrow.the_field_send,
+  crosses, tree.crosses, sendable,
+) depth 60 fits 20000
+
+condition-parts : IsSend condition_inside.the_row
+condition-parts =
+    recorded_send condition_inside.the_field.row _ _ condition_inside.the_type.to_one
+    (struct_send (shape condition_inside.the_type)
+    (units.the_send, (search (expression-send, options.the_field_send, crosses, sendable) depth 30, tt)))
+
+condition-send : IsSend condition.the_row
+condition-send = view_send _ _ _ _ _ condition-parts
+
+session-parts : IsSend session_inside.the_row
+session-parts =
+    recorded_send session_inside.the_field.row _ _ session_inside.the_type.to_one
+    (struct_send (shape session_inside.the_type)
+    (search (global.the_field_send, sendable) depth 30,
+    (search sendable,
+    (search (rules.the_field_send, sendable) depth 30,
+    (search sendable,
+    (breakpoints.the_send,
+    (handles.the_send,
+    (search (condition-send, vectors.the_send, crosses, sendable) depth 30,
+    (search (workspace.the_send, options.the_field_send, crosses, sendable) depth 30,
+    (search sendable,
+    (outbox.the_send,
+    tt)))))))))))
+
+pub session-send : IsSend session.the_row
+session-send = view_send _ _ _ _ _ session-parts
