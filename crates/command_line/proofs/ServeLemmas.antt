@@ -226,7 +226,7 @@ module _ (scripts : List Script) (input : List (List ℕ)) (wait : Bool) (n : �
   goes = goes-plainly scripts input wait (entries_of h)
 
   -- the program may have been shut only at these ends
-  AtShut : Opt Outcome → Type 0
+  abbrev AtShut : Opt Outcome → Type 0
   AtShut None = ⊥
   AtShut (Some end) = IsShutEnd end
 

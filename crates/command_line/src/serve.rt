@@ -105,7 +105,7 @@ fn thrown<'p, B: Beginning, R: Wait>(
 
 /// The end of a port whose doors weren't opened.
 fn unopened(fault: HarborFault) -> Outcome<'static>
-    ensures { result ≡ unopened fault }
+    ensures is { result ≡ unopened fault }
     ensures unserved { IsUnserved result }
 {
     match fault {
