@@ -1,5 +1,5 @@
 -- The lines of a file of commands.
-use Rattle.std.specs.Prelude.{ℕ, ◌+◌, ◌==◌, List, [], ◌∷◌, length, Bool, ◌&&◌, not, if◌then◌else◌, codes, Option, Some, None, is_none, is_some, Result, Ok, Err}
+use Rattle.std.specs.Prelude.{◌≡◌, ℕ, ◌+◌, ◌==◌, List, [], ◌∷◌, length, Bool, ◌&&◌, not, if◌then◌else◌, codes, Option, Some, None, is_none, is_some, Result, Ok, Err}
 use Rattle.std.specs.Option.{option_and_then}
 use Rattle.std.specs.Str.{is_utf8}
 use Rattle.serde_json.specs.Find.{as_object}
@@ -86,3 +86,7 @@ read_from number id (text ∷ texts) =
 -- the lines of a file, or the number of the first that isn't of its form; lines and commands are numbered from 1
 abbrev pub file_read : List ℕ → Result (List Line) ℕ
 file_read file = read_from 1 1 (lines_of file)
+
+-- each line of a file is of its form
+abbrev pub IsInForm : List ℕ → Type 0
+IsInForm file = (lines : List Line) × (file_read file ≡ Ok lines)

@@ -1,9 +1,9 @@
 //! Files of commands: all lines are read before the first is acted on.
 
-ghost use Rattle.std.specs.Prelude.{◌≡◌, Ok, map, IfOk, IfErr};
+ghost use Rattle.std.specs.Prelude.{◌≡◌, Ok, map, IfOk, IfErr, OnOk};
 ghost use Rattle.cdp_client.specs.Conversations.{IsUnread};
 ghost use Rattle.cdp_client.specs.LineRead.{line_held};
-ghost use Rattle.cdp_client.specs.Lines.{file_read};
+ghost use Rattle.cdp_client.specs.Lines.{IsInForm, file_read};
 
 use crate::conversed::Conversed;
 use crate::line::{Line, id_after, read_line};
@@ -38,4 +38,19 @@ pub(crate) fn read_file<'c>(alloc: Global, file: &'c [u8]) -> Result<VecDeque<Li
         number += 1;
     }
     Ok(lines)
+}
+
+/// Checks that each line of a file of commands is of its form.
+///
+/// # Errors
+///
+/// `Refused` with the number of the first line that isn't, and `Memory`.
+pub fn check_file(alloc: Global, file: &[u8]) -> Result<(), Conversed>
+    ensures form { OnOk result (IsInForm file.now) }
+    ensures fault { IfErr result (λ end. IsUnread file.now end) }
+{
+    match read_file(alloc, file) {
+        Ok(_) => Ok(()),
+        Err(end) => Err(end),
+    }
 }

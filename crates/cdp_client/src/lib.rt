@@ -23,3 +23,4 @@ mod values;
 
 pub use conversation::converse;
 pub use conversed::Conversed;
+pub use file::check_file;

@@ -47,6 +47,7 @@ unplayed ends.Usage n was old script is h = absurd h
 unplayed ends.NetworkFault n was old script is h = absurd h
 unplayed ends.ThrewUnshown n was old script is h = absurd h
 unplayed ends.TicketsSpent n was old script is h = absurd h
+unplayed (ends.PeerClosed replies) n was old script is h = absurd h
 unplayed (ends.Refused name r) n was old script is h = absurd h
 unplayed (ends.CannotRead name) n was old script is h = absurd h
 unplayed ends.CannotWrite n was old script is h = absurd h
@@ -121,6 +122,7 @@ line-told (ends.CannotRead name) n was now old new before after is h says = absu
 line-told ends.CannotWrite n was now old new before after is h says = absurd cc
 line-told ends.NetworkFault n was now old new before after is h says = absurd h
 line-told ends.TicketsSpent n was now old new before after is h says = absurd h
+line-told (ends.PeerClosed replies) n was now old new before after is h says = absurd h
 
 pub line_given : (o : Option Command) (n : ℕ) (end : Outcome) (was now : ℕ) (old new before after : Option (List ℕ))
     (status : ℕ) → o ≡ Some (Drill n) → status ≡ status_of end → BecauseDrill end n was now old new

@@ -11,4 +11,5 @@ pub mod ReplayedLemmas
 pub mod RunLemmas
 pub mod ReplayLemmas
 pub mod ServeLemmas
+pub mod ClientLemmas
 pub mod DrillLemmas

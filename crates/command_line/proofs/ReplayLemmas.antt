@@ -46,6 +46,7 @@ unread ends.Usage request told before mid after was old journal there quiet h = 
 unread ends.NetworkFault request told before mid after was old journal there quiet h = absurd h
 unread ends.ThrewUnshown request told before mid after was old journal there quiet h = absurd h
 unread ends.TicketsSpent request told before mid after was old journal there quiet h = absurd h
+unread (ends.PeerClosed replies) request told before mid after was old journal there quiet h = absurd h
 unread (ends.Refused name r) request told before mid after was old journal there quiet h = (
   h.0 ∙ quiet,
   refl,
@@ -236,6 +237,7 @@ taken_of ends.Usage request told before after was now old new h = absurd h
 taken_of ends.NetworkFault request told before after was now old new h = absurd h
 taken_of ends.ThrewUnshown request told before after was now old new h = absurd h
 taken_of ends.TicketsSpent request told before after was now old new h = absurd h
+taken_of (ends.PeerClosed replies) request told before after was now old new h = absurd h
 taken_of (ends.Threw text) request told before after was now old new h = absurd h
 
 -- one of these, where a file is refused
@@ -272,6 +274,7 @@ left_of ends.Usage request told before after was now old new h = absurd h
 left_of ends.NetworkFault request told before after was now old new h = absurd h
 left_of ends.ThrewUnshown request told before after was now old new h = absurd h
 left_of ends.TicketsSpent request told before after was now old new h = absurd h
+left_of (ends.PeerClosed replies) request told before after was now old new h = absurd h
 left_of (ends.Threw text) request told before after was now old new h = absurd h
 
 -- of the words that ask for the replay

@@ -89,6 +89,7 @@ taken_of ends.Usage sources told before after was now old new h = absurd h
 taken_of ends.NetworkFault sources told before after was now old new h = absurd h
 taken_of ends.ThrewUnshown sources told before after was now old new h = absurd h
 taken_of ends.TicketsSpent sources told before after was now old new h = absurd h
+taken_of (ends.PeerClosed replies) sources told before after was now old new h = absurd h
 taken_of (ends.LineRefused n) sources told before after was now old new h = absurd h
 
 -- one of these, where a file is refused
@@ -119,6 +120,7 @@ left_of ends.Usage sources told before after was now old new h = absurd h
 left_of ends.NetworkFault sources told before after was now old new h = absurd h
 left_of ends.ThrewUnshown sources told before after was now old new h = absurd h
 left_of ends.TicketsSpent sources told before after was now old new h = absurd h
+left_of (ends.PeerClosed replies) sources told before after was now old new h = absurd h
 left_of (ends.LineRefused n) sources told before after was now old new h = absurd h
 
 -- of the words that ask for the run
@@ -165,6 +167,7 @@ unread ends.Usage sources told before after was old h = absurd h
 unread ends.NetworkFault sources told before after was old h = absurd h
 unread ends.ThrewUnshown sources told before after was old h = absurd h
 unread ends.TicketsSpent sources told before after was old h = absurd h
+unread (ends.PeerClosed replies) sources told before after was old h = absurd h
 unread (ends.Refused name r) sources told before after was old h = (h.0, refl, h.1)
 unread (ends.CannotRead name) sources told before after was old h = (h.0, refl, h.1, h.2)
 unread ends.CannotWrite sources told before after was old h = absurd h

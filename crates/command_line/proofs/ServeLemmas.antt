@@ -330,6 +330,7 @@ module _ (scripts : List Script) (input : List (List ℕ)) (wait : Bool) (n : �
     because-thrown (ends.CannotRead name) s shown = absurd shown
     because-thrown ends.CannotWrite s shown = absurd shown
     because-thrown (ends.LineRefused number) s shown = absurd shown
+    because-thrown (ends.PeerClosed replies) s shown = absurd shown
     because-thrown ends.NetworkFault s shown = absurd shown
 
     -- how a program and its doors ended
@@ -470,6 +471,7 @@ unread ends.CannotWrite request told before after out harbor h = absurd h
 unread (ends.LineRefused n) request told before after out harbor h = absurd h
 unread ends.NetworkFault request told before after out harbor h = absurd h
 unread ends.TicketsSpent request told before after out harbor h = absurd h
+unread (ends.PeerClosed replies) request told before after out harbor h = absurd h
 
 -- why one ended so whose program was served
 pub read : (end : Outcome) (request : ServeRequest) (told : Opt (List Named)) (faults : Faults) (old new : Output)
@@ -509,6 +511,7 @@ read ends.Usage request told faults old new before after scripts input holds h =
 read (ends.Refused name r) request told faults old new before after scripts input holds h = absurd h
 read (ends.CannotRead name) request told faults old new before after scripts input holds h = absurd h
 read (ends.LineRefused n) request told faults old new before after scripts input holds h = absurd h
+read (ends.PeerClosed replies) request told faults old new before after scripts input holds h = absurd h
 
 -- no port was served where a file wasn't taken
 pub unserved : (end : Outcome) (request : ServeRequest) (told : Opt (List Named)) (before after : Faults)
@@ -524,6 +527,7 @@ unserved ends.CannotWrite request told before after h = absurd h
 unserved (ends.LineRefused n) request told before after h = absurd h
 unserved ends.NetworkFault request told before after h = absurd h
 unserved ends.TicketsSpent request told before after h = absurd h
+unserved (ends.PeerClosed replies) request told before after h = absurd h
 
 -- a port that was served for the scripts that the files hold, or wasn't
 pub serves : (request : ServeRequest) (told : Opt (List Named)) (moment : Opt ℕ) (old new : Output)
@@ -608,6 +612,7 @@ threw-told ends.CannotWrite request told faults now_faults old new was now befor
 threw-told (ends.LineRefused n) request told faults now_faults old new was now before after is h says = absurd h
 threw-told ends.NetworkFault request told faults now_faults old new was now before after is h says = absurd cc
 threw-told ends.TicketsSpent request told faults now_faults old new was now before after is h says = absurd cc
+threw-told (ends.PeerClosed replies) request told faults now_faults old new was now before after is h says = absurd h
 
 pub threw_given : (o : Opt Command) (end : Outcome) (request : ServeRequest) (told : Opt (List Named))
     (faults now_faults : Faults) (old new : Output) (was now : Harbored) (before after : Opt (List ℕ)) (status : ℕ)

@@ -82,5 +82,6 @@ BecauseDrill ends.Usage n was now old new = ⊥
 BecauseDrill ends.NetworkFault n was now old new = ⊥
 BecauseDrill ends.ThrewUnshown n was now old new = ⊥
 BecauseDrill ends.TicketsSpent n was now old new = ⊥
+BecauseDrill (ends.PeerClosed replies) n was now old new = ⊥
 BecauseDrill (ends.CannotRead name) n was now old new = ⊥
 BecauseDrill (ends.Threw text) n was now old new = ⊥

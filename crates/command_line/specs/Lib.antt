@@ -9,8 +9,10 @@ pub mod Shown
 pub mod Headline
 pub mod Played
 pub mod Replays
+pub mod ReadCauses
 pub mod RunCauses
 pub mod ReplayCauses
 pub mod ServeCauses
+pub mod SendCauses
 pub mod DrillCauses
 pub mod Status

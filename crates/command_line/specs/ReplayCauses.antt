@@ -47,12 +47,6 @@ outcome_of_replay (plays.Refused number) = ends.LineRefused number
 outcome_of_replay plays.WriteFault = ends.CannotWrite
 outcome_of_replay plays.Memory = ends.OutOfMemory
 
--- why a replay ended so while its journal was read; the counts are those of the shelf
-abbrev pub BecauseJournal : Outcome → List ℕ → Faults → Faults → Type 0
-BecauseJournal (ends.CannotRead name) journal before after = Blames (Read name.now) before after × (journal ≡ name.now)
-BecauseJournal ends.OutOfMemory journal before after = after ≡ before
-BecauseJournal end journal before after = ⊥
-
 -- why a replay ended so: the files say so, a count of faults rose, or memory was wanting. The counts are those of the
 -- shelf and of the output, the contents those of the output
 abbrev pub BecauseReplay : Outcome
@@ -84,4 +78,5 @@ BecauseReplay ends.Usage request told before after was now old new = ⊥
 BecauseReplay ends.NetworkFault request told before after was now old new = ⊥
 BecauseReplay ends.ThrewUnshown request told before after was now old new = ⊥
 BecauseReplay ends.TicketsSpent request told before after was now old new = ⊥
+BecauseReplay (ends.PeerClosed replies) request told before after was now old new = ⊥
 BecauseReplay (ends.Threw text) request told before after was now old new = ⊥

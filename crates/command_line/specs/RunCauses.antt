@@ -113,6 +113,7 @@ BecauseRun ends.Usage sources told before after was now old new = ⊥
 BecauseRun ends.NetworkFault sources told before after was now old new = ⊥
 BecauseRun ends.ThrewUnshown sources told before after was now old new = ⊥
 BecauseRun ends.TicketsSpent sources told before after was now old new = ⊥
+BecauseRun (ends.PeerClosed replies) sources told before after was now old new = ⊥
 BecauseRun (ends.LineRefused n) sources told before after was now old new = ⊥
 
 -- the ends that come before a step is made

@@ -167,6 +167,7 @@ BecauseServed ends.Usage scripts input port sessions old new before after = ⊥
 BecauseServed (ends.Refused name r) scripts input port sessions old new before after = ⊥
 BecauseServed (ends.CannotRead name) scripts input port sessions old new before after = ⊥
 BecauseServed (ends.LineRefused n) scripts input port sessions old new before after = ⊥
+BecauseServed (ends.PeerClosed replies) scripts input port sessions old new before after = ⊥
 
 -- why a server ended so: the files say so, a count of faults rose, memory was wanting, or no ticket was left. The counts
 -- are those of the shelf
@@ -204,3 +205,4 @@ BecauseServe (ends.CannotRead name) request told before after old new was now =
     × Told told (λ files. IsReachedIn files request.sources name.now)
 BecauseServe ends.Usage request told before after old new was now = ⊥
 BecauseServe (ends.LineRefused n) request told before after old new was now = ⊥
+BecauseServe (ends.PeerClosed replies) request told before after old new was now = ⊥

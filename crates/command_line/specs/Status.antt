@@ -4,7 +4,7 @@ use Rattle.cdp_edge.specs.Outside.{Named, Told}
 use Rattle.cdp_edge.specs.Blame.{Faults}
 use Rattle.script_files.specs.declared.fault.Refusal.{Refusal}
 use Rattle.script_files.specs.declared.fault.Refusal.TheVariants as refusals
-use Rattle.command_line.specs.Words.{Command, Request, ServeRequest, Sources, Run, Replay, Serve, Drill}
+use Rattle.command_line.specs.Words.{Command, Request, SendRequest, ServeRequest, Sources, Run, Replay, Serve, Send, Drill}
 use Rattle.command_line.specs.declared.outcome.Outcome.{Outcome}
 use Rattle.command_line.specs.declared.outcome.Outcome.TheVariants as ends
 
@@ -20,6 +20,7 @@ status_of (ends.LineRefused number) = 6
 status_of ends.NetworkFault = 7
 status_of (ends.Threw text) = 8
 status_of ends.ThrewUnshown = 8
+status_of (ends.PeerClosed replies) = 9
 status_of ends.TicketsSpent = 10
 
 -- ---- the line on the second sink, ended by LF
@@ -43,9 +44,13 @@ refusal_said name refusals.TooManyTokens = codes "debug_host: " ++ name ++ (code
 abbrev pub unread_said : List ℕ → List ℕ
 unread_said name = codes "debug_host: cannot read " ++ name ++ 10 ∷ []
 
--- of a journal's line that is refused
+-- of a line that is refused, of a journal or of a file of commands
 abbrev pub line_said : ℕ → List ℕ
 line_said number = codes "debug_host: line " ++ decimal number ++ (codes " refused" ++ 10 ∷ [])
+
+-- of a peer that closed after so many replies
+abbrev pub closed_said : ℕ → List ℕ
+closed_said replies = codes "debug_host: peer closed after " ++ decimal replies ++ (codes " replies" ++ 10 ∷ [])
 
 -- of an uncaught throw of a value that is shown so
 abbrev pub uncaught_said : List ℕ → List ℕ
@@ -63,6 +68,7 @@ said ends.NetworkFault = codes "debug_host: network fault" ++ 10 ∷ []
 said ends.TicketsSpent = codes "debug_host: tickets spent" ++ 10 ∷ []
 said ends.ThrewUnshown = []
 said (ends.LineRefused number) = line_said number
+said (ends.PeerClosed replies) = closed_said replies
 said (ends.Threw text) = uncaught_said (string_bytes text)
 
 -- ---- what is said where words ask for something
@@ -73,6 +79,7 @@ ForRun None P = Unit {0}
 ForRun (Some (Run sources)) P = P sources
 ForRun (Some (Replay request)) P = Unit {0}
 ForRun (Some (Serve request)) P = Unit {0}
+ForRun (Some (Send request)) P = Unit {0}
 ForRun (Some (Drill n)) P = Unit {0}
 
 -- what holds of a run and the files, where the words ask for one and the files are told
@@ -81,6 +88,7 @@ GivenRun None files P = Unit {0}
 GivenRun (Some (Run sources)) files P = Told files (P sources)
 GivenRun (Some (Replay request)) files P = Unit {0}
 GivenRun (Some (Serve request)) files P = Unit {0}
+GivenRun (Some (Send request)) files P = Unit {0}
 GivenRun (Some (Drill n)) files P = Unit {0}
 
 -- what holds of a replay, where the words ask for one
@@ -89,6 +97,7 @@ ForReplay None P = Unit {0}
 ForReplay (Some (Run sources)) P = Unit {0}
 ForReplay (Some (Replay request)) P = P request
 ForReplay (Some (Serve request)) P = Unit {0}
+ForReplay (Some (Send request)) P = Unit {0}
 ForReplay (Some (Drill n)) P = Unit {0}
 
 -- what holds of a replay and the files, where the words ask for one and the files are told
@@ -97,6 +106,7 @@ GivenReplay None files P = Unit {0}
 GivenReplay (Some (Run sources)) files P = Unit {0}
 GivenReplay (Some (Replay request)) files P = Told files (P request)
 GivenReplay (Some (Serve request)) files P = Unit {0}
+GivenReplay (Some (Send request)) files P = Unit {0}
 GivenReplay (Some (Drill n)) files P = Unit {0}
 
 -- what holds of a server, where the words ask for one
@@ -105,6 +115,7 @@ ForServe None P = Unit {0}
 ForServe (Some (Run sources)) P = Unit {0}
 ForServe (Some (Replay request)) P = Unit {0}
 ForServe (Some (Serve request)) P = P request
+ForServe (Some (Send request)) P = Unit {0}
 ForServe (Some (Drill n)) P = Unit {0}
 
 -- what holds of a server and the files, where the words ask for one and the files are told
@@ -113,7 +124,31 @@ GivenServe None files P = Unit {0}
 GivenServe (Some (Run sources)) files P = Unit {0}
 GivenServe (Some (Replay request)) files P = Unit {0}
 GivenServe (Some (Serve request)) files P = Told files (P request)
+GivenServe (Some (Send request)) files P = Unit {0}
 GivenServe (Some (Drill n)) files P = Unit {0}
+
+-- what holds of a client, where the words ask for one
+abbrev pub ForSend : Option Command → (SendRequest → Type 0) → Type 0
+ForSend None P = Unit {0}
+ForSend (Some (Run sources)) P = Unit {0}
+ForSend (Some (Replay request)) P = Unit {0}
+ForSend (Some (Serve request)) P = Unit {0}
+ForSend (Some (Send request)) P = P request
+ForSend (Some (Drill n)) P = Unit {0}
+
+-- what holds of a client and the files, where the words ask for one and the files are told
+abbrev pub GivenSend : Option Command → Option (List Named) → (SendRequest → List Named → Type 0) → Type 0
+GivenSend None files P = Unit {0}
+GivenSend (Some (Run sources)) files P = Unit {0}
+GivenSend (Some (Replay request)) files P = Unit {0}
+GivenSend (Some (Serve request)) files P = Unit {0}
+GivenSend (Some (Send request)) files P = Told files (P request)
+GivenSend (Some (Drill n)) files P = Unit {0}
+
+-- the words ask for a client
+abbrev pub IsClient : Option Command → Type 0
+IsClient (Some (Send request)) = Unit {0}
+IsClient command = ⊥
 
 -- what holds of a drill, where the words ask for one
 abbrev pub ForDrill : Option Command → (ℕ → Type 0) → Type 0
@@ -121,6 +156,7 @@ ForDrill None P = Unit {0}
 ForDrill (Some (Run sources)) P = Unit {0}
 ForDrill (Some (Replay request)) P = Unit {0}
 ForDrill (Some (Serve request)) P = Unit {0}
+ForDrill (Some (Send request)) P = Unit {0}
 ForDrill (Some (Drill n)) P = P n
 
 -- neither a read nor a write failed, as the counts tell

@@ -26,11 +26,17 @@ pub record ServeRequest : Type 0 where
   pub wait : Bool
   pub sources : Sources
 
+-- a client: the port of the host that it speaks to, and its file of commands, by its name
+pub record SendRequest : Type 0 where
+  pub port : ℕ
+  pub commands : List ℕ
+
 -- what words ask for
 pub data Command : Type 0 where
   Run : Sources → Command
   Replay : Request → Command
   Serve : ServeRequest → Command
+  Send : SendRequest → Command
   -- the drill of this number
   Drill : ℕ → Command
 
@@ -147,6 +153,21 @@ serve_behind port =
 abbrev pub serve_words : List (List ℕ) → Option Command
 serve_words words = option_and_then serve_behind (number_first (codes "--port") MOST_PORT DEFAULT_PORT words)
 
+-- a client, by the only name after its port: `COMMANDS`
+abbrev pub send_names : ℕ → List (List ℕ) → Option Command
+send_names port [] = None
+send_names port (commands ∷ []) =
+    if is_option commands then None else Some (Send record { port = port; commands = commands })
+send_names port (commands ∷ other ∷ words) = None
+
+-- by the words after its port
+abbrev pub send_of : Numbered → Option Command
+send_of port = send_names port.number port.words
+
+-- the command `send`, by the words after it
+abbrev pub send_words : List (List ℕ) → Option Command
+send_words words = option_and_then send_of (number_first (codes "--port") MOST_PORT DEFAULT_PORT words)
+
 -- the greatest number of a drill
 abbrev pub most_drilled : ℕ
 most_drilled = MOST_DRILLED
@@ -161,13 +182,14 @@ drill_words [] = None
 drill_words (word ∷ []) = option_and_then drill_numbered (decimal_value word)
 drill_words (word ∷ other ∷ words) = None
 
--- what these words ask for: a run, a replay, a server, a drill, or nothing
+-- what these words ask for: a run, a replay, a server, a client, a drill, or nothing
 abbrev pub form : List (List ℕ) → Option Command
 form [] = None
 form (command ∷ words) =
     if bytes_eq command (codes "run") then option_and_then run_of (names_of words)
     else if bytes_eq command (codes "replay") then replay_words words
     else if bytes_eq command (codes "serve") then serve_words words
+    else if bytes_eq command (codes "send") then send_words words
     else if bytes_eq command (codes "drill") then drill_words words else None
 
 -- what the words that the program was given ask for

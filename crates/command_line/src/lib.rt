@@ -20,10 +20,12 @@ mod program;
 mod replay;
 mod report;
 mod run;
+mod send;
 mod serve;
 mod serve_request;
 mod sources;
 mod transcript;
+mod whole_file;
 mod words;
 
 pub use program::debug_main;

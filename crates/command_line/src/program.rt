@@ -3,6 +3,8 @@
 ghost use Rattle.std.specs.Prelude.{◌≡◌, ◌≢◌, ◌⊎◌, ◌↔◌, ◌<◌, ℕ, List, [], None, Some};
 ghost use Rattle.cdp_edge.specs.Blame.{Blames, Read};
 ghost use Rattle.cdp_edge.specs.Outside.{Rose, Told, GainsPrefix};
+ghost use Rattle.cdp_client.specs.Lines.{Line};
+ghost use Rattle.cdp_client.specs.declared.conversed.Conversed.TheVariants as talks;
 ghost use Rattle.js_tree.specs.declared.script.Script.{Script};
 ghost use Rattle.script_files.specs.declared.fault.Refusal.{Refusal};
 ghost use Rattle.cdp_journal.specs.Drills.{drill_source};
@@ -11,7 +13,8 @@ ghost use Rattle.command_line.specs.DrillCauses.{DrillRefuses, DrillsInPart, Dri
 ghost use Rattle.command_line.specs.Files.{HoldsReplay, HoldsSources, IsNamed, IsNamedBy, IsReachedBy, IsReachedIn, IsRefusedBehind, IsRefusedIn};
 ghost use Rattle.command_line.specs.ReplayCauses.{ReplaysInPart, ReplaysShort, ReplaysWhole};
 ghost use Rattle.command_line.specs.RunCauses.{RunsInPart, RunsShort, RunsToEnd, RunsToThrow};
-ghost use Rattle.command_line.specs.Status.{ForDrill, ForReplay, ForRun, ForServe, GivenReplay, GivenRun, GivenServe, Unfailed, line_said, refusal_said, said, status_of, uncaught_said, unread_said};
+ghost use Rattle.command_line.specs.SendCauses.{HoldsCommands, MaySend, RefusesLine, Sends};
+ghost use Rattle.command_line.specs.Status.{ForDrill, ForReplay, ForRun, ForSend, ForServe, GivenReplay, GivenRun, GivenSend, GivenServe, IsClient, Unfailed, closed_said, line_said, refusal_said, said, status_of, uncaught_said, unread_said};
 ghost use Rattle.command_line.specs.ServeCauses.{MayServe, ServesToEnd};
 ghost use Rattle.command_line.specs.Words.{asked};
 ghost use Rattle.server_edge.specs.Contents.{called};
@@ -22,6 +25,7 @@ use crate::outcome::Outcome;
 use crate::replay::replay;
 use crate::report::{report, status_of};
 use crate::run::run;
+use crate::send::send;
 use crate::serve::serve;
 use crate::words::{Command, read_words};
 use cdp_edge::{Shelf, Sink};
@@ -34,22 +38,26 @@ use std::thread::Threads;
 ///
 /// | Status | Where | Line on `err` |
 /// |---|---|---|
-/// | 0 | `run`: only where the run ended by its last script; `replay`: only where every line was applied; `drill`: only where the summary is written | none |
+/// | 0 | `run`: only where the run ended by its last script; `replay`: only where every line was applied; `send`: only where every command was answered and every wait met; `drill`: only where the summary is written | none |
 /// | 1 | want of memory, also where a session is lost for want of it | `debug_host: out of memory` |
-/// | 2 | exactly where the words aren't `run SCRIPT...`, `replay JOURNAL SCRIPT...` or `replay --wait JOURNAL SCRIPT...`, or `serve SCRIPT...` with `--port P` (1 to 65,535), `--sessions N` (1 to 16) and `--wait` before it, in this order, all with `--input FILE` or `--input=FILE` before the first name, with names that don't begin with `-`, nor `drill N` with N from 1 to 10,000 | `usage: debug_host run/replay/serve/send/drill` |
+/// | 2 | exactly where the words aren't `run SCRIPT...`, `replay JOURNAL SCRIPT...` or `replay --wait JOURNAL SCRIPT...`, or `serve SCRIPT...` with `--port P` (1 to 65,535), `--sessions N` (1 to 16) and `--wait` before it, in this order, all with `--input FILE` or `--input=FILE` before the first name, or `send COMMANDS` with `--port P` before it, with names that don't begin with `-`, nor `drill N` with N from 1 to 10,000 | `usage: debug_host run/replay/serve/send/drill` |
 /// | 3 | only where the input or a script isn't UTF-8, or a script is refused by the parser | `debug_host: NAME: not UTF-8`, `debug_host: NAME:LINE:COL: unexpected token`, `debug_host: NAME: too long: N units`, `debug_host: NAME: too deep`, `debug_host: NAME: too many tokens` |
 /// | 4 | only where the shelf tells a fault at a file that the words name | `debug_host: cannot read NAME` |
 /// | 5 | only where the count of `out` rose or stands at the greatest `u64`, with output left to write | `debug_host: cannot write` |
-/// | 6 | only where a line of the journal isn't of its form or names a session that isn't attached | `debug_host: line N refused` |
-/// | 7 | `serve`: only where the harbor's count rose: the port couldn't be opened, or one of its doors failed | `debug_host: network fault` |
+/// | 6 | only where a line of the journal isn't of its form or names a session that isn't attached, or a line of the file of commands isn't of its form | `debug_host: line N refused` |
+/// | 7 | `serve`, `send`: only where the harbor's count rose: the port couldn't be opened or dialled, or one of its doors or the link to it failed | `debug_host: network fault` |
 /// | 8 | `run`, `serve`: only where the run ended by an uncaught throw | `Uncaught TEXT` |
+/// | 9 | `send`: only where the peer closed before every command was answered and every wait met | `debug_host: peer closed after N replies` |
 /// | 10 | `serve`: only where no ticket is left for a turn | `debug_host: tickets spent` |
 ///
 /// The first that comes decides: the words; of a replay the journal's read; then the input's read and its text, and each
-/// script's read and its text, in order; and then the run, or the journal's lines one after another.
+/// script's read and its text, in order; and then the run, or the journal's lines one after another. Of a client the file's
+/// read; then its lines; then the port that is dialled, and the conversation.
 /// A run that never ends prints as it goes, and the call doesn't return.
 /// `serve` opens so many doors on a port of the harbor, and serves the clients that arrive there while the program runs, until it
 /// is over. Of its ends the first decides in the order of the statuses 1, 5, 7, 10, 8, 0.
+/// `send` sends the commands of a file to a host that serves, each after the reply to the one before it, and writes each text
+/// that arrives as a line. Where the host neither answers nor closes, the call doesn't return.
 /// `drill N` reads no file: it replays a journal and a script that are made from N, in memory, and writes a summary of that
 /// replay's output. Its script or a line of its journal may be refused as those of a replay may.
 /// What `err` does changes no status.
@@ -76,7 +84,7 @@ where
     <H::Door as Door>::Link: Send,
     // the words
     ensures usage { (result ≡ 2) ↔ (asked words.now ≡ None) }
-    ensures usage_untouched { result ≡ 2 → (out.new ≡ out.old) × (shelf.new ≡ shelf.old) }
+    ensures usage_untouched { result ≡ 2 → (out.new ≡ out.old) × (shelf.new ≡ shelf.old) × (harbor.new ≡ harbor.old) }
     ensures unwritten { (result ≡ 3) ⊎ (result ≡ 4) → out.new ≡ out.old }
     // the counts of faults, and what `err` took
     ensures reads { result ≢ 4 → F.faults shelf.new ≡ F.faults shelf.old }
@@ -129,8 +137,31 @@ where
     ensures serves { GivenServe (asked words.now) (F.files shelf.old) (λ request files. (end : Outcome) × (result ≡ status_of end) × MayServe files request (C.moment clock.old) (record { content = O.content out.old; faults = O.faults out.old }) (record { content = O.content out.new; faults = O.faults out.new }) (H.kept harbor.old) (H.kept harbor.new) end) }
     ensures serve_opened { (result ≡ 0) ⊎ (result ≡ 5) ⊎ (result ≡ 8) ⊎ (result ≡ 10) → ForServe (asked words.now) (λ request. H.opens harbor.new ≡ called (request.port, request.sessions) (H.opens harbor.old)) }
     ensures serve_once { ForServe (asked words.now) (λ request. (H.opens harbor.new ≡ H.opens harbor.old) ⊎ (H.opens harbor.new ≡ called (request.port, request.sessions) (H.opens harbor.old))) }
-    ensures serve_dials { H.dials harbor.new ≡ H.dials harbor.old }
+    ensures serve_dials { ForServe (asked words.now) (λ request. H.dials harbor.new ≡ H.dials harbor.old) }
     ensures serve_statuses { ForServe (asked words.now) (λ request. result ≢ 6) }
+    // `send`: the cause of each status
+    ensures send_done { result ≡ 0 → GivenSend (asked words.now) (F.files shelf.old) (λ request files. Sends files request talks.Done (record { content = O.content out.old; faults = O.faults out.old }) (record { content = O.content out.new; faults = O.faults out.new }) (record { faults = H.faults harbor.old; dials = H.dials harbor.old; hung_up = H.hung_up harbor.old }) (record { faults = H.faults harbor.new; dials = H.dials harbor.new; hung_up = H.hung_up harbor.new })) }
+    ensures send_closed { result ≡ 9 → GivenSend (asked words.now) (F.files shelf.old) (λ request files. (replies : ℕ)
+        × Sends files request (talks.PeerClosed replies) (record { content = O.content out.old; faults = O.faults out.old }) (record { content = O.content out.new; faults = O.faults out.new }) (record { faults = H.faults harbor.old; dials = H.dials harbor.old; hung_up = H.hung_up harbor.old }) (record { faults = H.faults harbor.new; dials = H.dials harbor.new; hung_up = H.hung_up harbor.new }) × GainsPrefix (E.content err.old) (E.content err.new) (closed_said replies)) }
+    ensures send_line { result ≡ 6 → GivenSend (asked words.now) (F.files shelf.old) (λ request files. (line : ℕ)
+        × RefusesLine files request.commands line × GainsPrefix (E.content err.old) (E.content err.new) (line_said line)) }
+    ensures send_read { result ≡ 4 → ForSend (asked words.now) (λ request. Blames (Read request.commands) (F.faults shelf.old) (F.faults shelf.new)
+        × GainsPrefix (E.content err.old) (E.content err.new) (unread_said request.commands)) }
+    ensures send_offered { result ≡ 5 → GivenSend (asked words.now) (F.files shelf.old) (λ request files. Sends files request talks.WriteFault (record { content = O.content out.old; faults = O.faults out.old }) (record { content = O.content out.new; faults = O.faults out.new }) (record { faults = H.faults harbor.old; dials = H.dials harbor.old; hung_up = H.hung_up harbor.old }) (record { faults = H.faults harbor.new; dials = H.dials harbor.new; hung_up = H.hung_up harbor.new })) }
+    // no other status where the file is of its form, or a line of it is refused, unless memory was wanting or a count rose
+    ensures send_decided { GivenSend (asked words.now) (F.files shelf.old) (λ request files. (lines : List Line) → HoldsCommands files request.commands lines
+        → (result ≡ 0) ⊎ (result ≡ 9) ⊎ (result ≡ 1) ⊎ (result ≡ 4) ⊎ (result ≡ 5) ⊎ (result ≡ 7)) }
+    ensures send_exact { GivenSend (asked words.now) (F.files shelf.old) (λ request files. (line : ℕ) → RefusesLine files request.commands line
+        → (result ≡ 6) ⊎ (result ≡ 1) ⊎ (result ≡ 4)) }
+    // at every status: what the link was sent and what `out` took are those of the talk over its answers, or a first part of them
+    ensures sends { GivenSend (asked words.now) (F.files shelf.old) (λ request files. (end : Outcome) × (result ≡ status_of end) × MaySend files request (record { content = O.content out.old; faults = O.faults out.old }) (record { content = O.content out.new; faults = O.faults out.new }) (record { faults = H.faults harbor.old; dials = H.dials harbor.old; hung_up = H.hung_up harbor.old }) (record { faults = H.faults harbor.new; dials = H.dials harbor.new; hung_up = H.hung_up harbor.new }) end) }
+    // the port is dialled once, after the file was read and checked; no port is opened, and no other fault of the harbor is told
+    ensures send_undialled { (result ≡ 4) ⊎ (result ≡ 6) → ForSend (asked words.now) (λ request. (out.new ≡ out.old) × (harbor.new ≡ harbor.old)) }
+    ensures send_dialled { (result ≡ 0) ⊎ (result ≡ 5) ⊎ (result ≡ 7) ⊎ (result ≡ 9) → ForSend (asked words.now) (λ request. H.dials harbor.new ≡ called request.port (H.dials harbor.old)) }
+    ensures send_once { ForSend (asked words.now) (λ request. (H.dials harbor.new ≡ H.dials harbor.old) ⊎ (H.dials harbor.new ≡ called request.port (H.dials harbor.old))) }
+    ensures send_opens { ForSend (asked words.now) (λ request. H.opens harbor.new ≡ H.opens harbor.old) }
+    ensures send_quiet { result ≢ 7 → ForSend (asked words.now) (λ request. H.faults harbor.new ≡ H.faults harbor.old) }
+    ensures send_statuses { ForSend (asked words.now) (λ request. (result ≢ 3) × (result ≢ 8) × (result ≢ 10)) }
     // `drill`: the cause of each status
     ensures drill_done { result ≡ 0 → ForDrill (asked words.now) (λ n. DrillsWhole n (O.content out.old) (O.content out.new)) }
     ensures drill_refused { result ≡ 3 → ForDrill (asked words.now) (λ n. (refusal : Refusal) × IsRefused [] (drill_source n) refusal
@@ -141,6 +172,7 @@ where
     ensures drill_part { ForDrill (asked words.now) (λ n. (O.content out.new ≡ O.content out.old) ⊎ DrillsInPart n (O.content out.old) (O.content out.new)) }
     ensures drill_shelf { ForDrill (asked words.now) (λ n. shelf.new ≡ shelf.old) }
     // what never comes of a command
+    ensures closed_statuses { result ≡ 9 → IsClient (asked words.now) }
     ensures run_statuses { ForRun (asked words.now) (λ sources. result ≢ 6) }
     ensures replay_statuses { ForReplay (asked words.now) (λ request. result ≢ 8) }
     ensures drill_statuses { ForDrill (asked words.now) (λ n. (result ≢ 4) × (result ≢ 8)) }
@@ -156,6 +188,10 @@ where
         Some(Command::Replay(request)) => end(alloc, replay(alloc, request, shelf, out), err),
         Some(Command::Serve(request)) => {
             let outcome = serve(rt, alloc, request, shelf, out, harbor, clock);
+            end(alloc, outcome, err)
+        }
+        Some(Command::Send(request)) => {
+            let outcome = send(rt, alloc, request, shelf, out, harbor);
             end(alloc, outcome, err)
         }
         Some(Command::Drill(number)) => end(alloc, drill(alloc, number, out), err),

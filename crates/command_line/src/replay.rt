@@ -1,16 +1,17 @@
 //! The command `replay`, from its files to its end.
 
-ghost use Rattle.std.specs.Prelude.{◌≡◌, ◌⊎◌, IfOk, IfErr, Some};
-ghost use Rattle.cdp_edge.specs.Outside.{Told, content_of};
+ghost use Rattle.std.specs.Prelude.{◌≡◌, ◌⊎◌};
+ghost use Rattle.cdp_edge.specs.Outside.{Told};
 ghost use Rattle.command_line.specs.RequestHeld.{request_held};
-ghost use Rattle.command_line.specs.ReplayCauses.{BecauseJournal, BecauseReplay, ReplaysInPart, outcome_of_replay};
+ghost use Rattle.command_line.specs.ReplayCauses.{BecauseReplay, ReplaysInPart, outcome_of_replay};
 ghost use Rattle.command_line.specs.RunCauses.{IsUnbegun};
 
 use crate::journal::{self, ReplayEnd};
 use crate::outcome::Outcome;
 use crate::sources::{Program, read_sources};
+use crate::whole_file::read_whole;
 use crate::words::Request;
-use cdp_edge::{Shelf, ShelfFault, Sink};
+use cdp_edge::{Shelf, Sink};
 use std::alloc::Global;
 
 /// The end that the replay of a journal has.
@@ -22,24 +23,6 @@ fn outcome_of_replay(end: ReplayEnd) -> Outcome<'static>
         ReplayEnd::Refused { line } => Outcome::LineRefused(line),
         ReplayEnd::WriteFault => Outcome::CannotWrite,
         ReplayEnd::Memory => Outcome::OutOfMemory,
-    }
-}
-
-/// The bytes of the journal of this name.
-fn read_journal<'w, F: Shelf>(
-    alloc: Global,
-    name: &'w str,
-    shelf: &mut F,
-) -> Result<Vec<u8>, Outcome<'w>>
-    ensures content { IfOk result (λ bytes. Told (F.files shelf.old) (λ files. content_of name.now files ≡ Some bytes.items)) }
-    ensures quiet { IfOk result (λ bytes. F.faults shelf.new ≡ F.faults shelf.old) }
-    ensures fault { IfErr result (λ end. BecauseJournal end name.now (F.faults shelf.old) (F.faults shelf.new)) }
-    ensures files { F.files shelf.new ≡ F.files shelf.old }
-{
-    match shelf.read(alloc, name) {
-        Ok(bytes) => Ok(bytes),
-        Err(ShelfFault::Memory) => Err(Outcome::OutOfMemory),
-        Err(ShelfFault::NotThere | ShelfFault::Failed) => Err(Outcome::CannotRead(name)),
     }
 }
 
@@ -56,7 +39,7 @@ pub(crate) fn replay<'w, F: Shelf, O: Sink>(
     ensures part { Told (F.files shelf.old) (λ files. (O.content out.new ≡ O.content out.old) ⊎ ReplaysInPart files (request_held request.entry) (O.content out.old) (O.content out.new)) }
     ensures unbegun { IsUnbegun result → out.new ≡ out.old }
 {
-    let journal = match read_journal(alloc, request.journal, shelf) {
+    let journal = match read_whole(alloc, request.journal, shelf) {
         Ok(bytes) => bytes,
         Err(end) => return end,
     };

@@ -2,7 +2,7 @@
 
 ghost use Rattle.std.specs.Prelude.{◌≡◌, IfOk, string_bytes};
 ghost use Rattle.cdp_edge.specs.Outside.{GainsPrefix};
-ghost use Rattle.command_line.specs.Status.{line_said, refusal_said, said, status_of, uncaught_said, unread_said};
+ghost use Rattle.command_line.specs.Status.{closed_said, line_said, refusal_said, said, status_of, uncaught_said, unread_said};
 ghost use Rattle.script_files.specs.declared.fault.Refusal.TheVariants.{UnexpectedToken, TooLong};
 
 use crate::outcome::Outcome;
@@ -25,6 +25,7 @@ pub(crate) fn status_of(outcome: &Outcome<'_>) -> u8
         Outcome::LineRefused(_) => 6,
         Outcome::NetworkFault => 7,
         Outcome::Threw(_) | Outcome::ThrewUnshown => 8,
+        Outcome::PeerClosed(_) => 9,
         Outcome::TicketsSpent => 10,
     }
 }
@@ -53,6 +54,11 @@ pub(crate) fn report<E: Sink>(alloc: Global, outcome: Outcome<'_>, err: &mut E)
         }
         Outcome::LineRefused(number) => {
             if let Ok(text) = line_text(alloc, number) {
+                say(err, &text);
+            }
+        }
+        Outcome::PeerClosed(replies) => {
+            if let Ok(text) = closed_text(alloc, replies) {
                 say(err, &text);
             }
         }
@@ -107,7 +113,14 @@ fn unread_text(alloc: Global, name: &str) -> Result<String, AllocError>
     format!(in alloc; "debug_host: cannot read {name}\n")
 }
 
-/// The line of a journal's line that is refused.
+/// The line of a peer that closed after so many replies.
+fn closed_text(alloc: Global, replies: u64) -> Result<String, AllocError>
+    ensures { IfOk result (λ text. string_bytes text ≡ closed_said replies) }
+{
+    format!(in alloc; "debug_host: peer closed after {replies} replies\n")
+}
+
+/// The line of a line that is refused, of a journal or of a file of commands.
 fn line_text(alloc: Global, number: u64) -> Result<String, AllocError>
     ensures { IfOk result (λ text. string_bytes text ≡ line_said number) }
 {

@@ -3,7 +3,7 @@
 ghost use Rattle.std.specs.Prelude.{◌≡◌, ◌≤◌, IfSome, map, string_bytes};
 ghost use Rattle.std.specs.List.{list_any};
 ghost use Rattle.std.specs.Option.{option_map};
-ghost use Rattle.command_line.specs.Words.{asked, drill_numbered, drill_words, is_option, names_behind_input, names_of, number_first, number_up_to, numbered, replay_of, replay_words, run_of, serve_behind, serve_of, serve_wait, serve_words};
+ghost use Rattle.command_line.specs.Words.{asked, drill_numbered, drill_words, is_option, names_behind_input, names_of, number_first, number_up_to, numbered, replay_of, replay_words, run_of, send_of, send_words, serve_behind, serve_of, serve_wait, serve_words};
 ghost use Rattle.command_line.specs.RequestHeld.{command_held, names_held, numbered_held};
 
 use crate::serve_request::ServeRequest;
@@ -13,7 +13,7 @@ use cdp_text::parts::behind;
 /// The greatest number of a drill.
 const MOST_DRILLED: u64 = 10_000;
 
-/// The port of a server where none is asked for.
+/// The port of a server and of a client where none is asked for.
 const DEFAULT_PORT: u64 = 9_229;
 
 /// The greatest port.
@@ -40,12 +40,20 @@ pub(crate) struct Request<'w> {
     pub(crate) sources: Sources<'w>,
 }
 
+/// A client: the port of the host that it speaks to, and its file of commands, by its name.
+#[derive(Clone, Copy)]
+pub(crate) struct SendRequest<'w> {
+    pub(crate) port: u16,
+    pub(crate) commands: &'w str,
+}
+
 /// What words ask for.
 #[derive(Drop)]
 pub(crate) enum Command<'w> {
     Run(Sources<'w>),
     Replay(Request<'w>),
     Serve(ServeRequest<'w>),
+    Send(SendRequest<'w>),
     /// The drill of this number.
     Drill(u64),
 }
@@ -66,8 +74,8 @@ struct Numbered<'w> {
 
 /// What the words after the program's name ask for: `run SCRIPT...`, `replay JOURNAL SCRIPT...` or `replay --wait JOURNAL
 /// SCRIPT...`, or `serve SCRIPT...` with `--port P` from 1 to 65,535, `--sessions N` from 1 to 16 and `--wait` before it, in this
-/// order, all with `--input FILE` or `--input=FILE` before the first name; or `drill N` with N from 1 to 10,000. No name begins
-/// with `-`, but for one behind `--input=`. None for all other words.
+/// order, all with `--input FILE` or `--input=FILE` before the first name; or `send COMMANDS`, with `--port P` before it; or
+/// `drill N` with N from 1 to 10,000. No name begins with `-`, but for one behind `--input=`. None for all other words.
 pub(crate) fn read_words(words: &[String]) -> Option<Command<'_>>
     ensures { option_map command_held result ≡ asked words.now }
 {
@@ -80,6 +88,8 @@ pub(crate) fn read_words(words: &[String]) -> Option<Command<'_>>
                 read_replay(rest)
             } else if command.as_str() == "serve" {
                 read_serve(rest)
+            } else if command.as_str() == "send" {
+                read_send(rest)
             } else if command.as_str() == "drill" {
                 read_drill(rest)
             } else {
@@ -143,6 +153,35 @@ fn serve_of(port: u64, sessions: u64, wait: bool, names: Names<'_>) -> Option<Co
                 scripts: names,
             },
         }))
+    }
+}
+
+/// What the words after `send` ask for.
+fn read_send(words: &[String]) -> Option<Command<'_>>
+    ensures { option_map command_held result ≡ send_words (map string_bytes words.now) }
+{
+    let port = number_first(words, "--port", MOST_PORT, DEFAULT_PORT)?;
+    send_of(port)
+}
+
+/// What they ask for, by those after the port.
+fn send_of(port: Numbered<'_>) -> Option<Command<'_>>
+    requires port { port.number ≤ 65535 }
+    ensures { option_map command_held result ≡ send_of (numbered_held port.entry) }
+{
+    match port.words {
+        [] => None,
+        [commands] => {
+            if is_option(commands.as_str()) {
+                None
+            } else {
+                Some(Command::Send(SendRequest {
+                    port: port.number as u16,
+                    commands: commands.as_str(),
+                }))
+            }
+        }
+        [_, _, ..] => None,
     }
 }
 

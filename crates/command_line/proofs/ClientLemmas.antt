@@ -1,0 +1,352 @@
+-- What each end of sending commands says of the file, the port and the conversation.
+use Rattle.std.proofs.Common.{◌≡◌, ◌<◌, ◌⊎◌, inl, inr, ℕ, zero, suc, List, [], ◌∷◌, Option, Some, None, Ok, Err, refl, sym, ap, subst, ◌∙◌, arith}
+use Rattle.cdp_edge.specs.Blame.{Blames, Faults, Read}
+use Rattle.cdp_edge.specs.Outside.{GainsPrefix, Named, Rose, Told, content_of}
+use Rattle.server_edge.specs.Contents.{RisesAt, adds, any_fault}
+use Rattle.ws_service.specs.Programs.{Output}
+use Rattle.cdp_client.specs.Conversations.{Converses, CountsLink}
+use Rattle.cdp_client.specs.Lines.{IsInForm, Line, file_read}
+use Rattle.cdp_client.specs.declared.conversed.Conversed.{Conversed}
+use Rattle.cdp_client.specs.declared.conversed.Conversed.TheVariants as talks
+use Rattle.script_files.proofs.ScriptLemmas.{some_same}
+use Rattle.command_line.specs.SendCauses.{BecauseCommands, BecauseSend, Dialled, HoldsCommands, IsDialled, IsUndialled, IsUnsent, MaySend, RefusesLine, Sends, Speaks, outcome_of_talk}
+use Rattle.command_line.specs.Status.{ForSend, GivenSend, closed_said, line_said, said, status_of, unread_said}
+use Rattle.command_line.specs.Words.{Command, Send, SendRequest}
+use Rattle.command_line.specs.declared.outcome.Outcome.{Outcome}
+use Rattle.command_line.specs.declared.outcome.Outcome.TheVariants as ends
+use Rattle.command_line.proofs.RunLemmas.{told_always, told_map}
+
+-- ---- before the port is dialled
+
+-- why sending ended so whose file wasn't taken
+pub unread : (end : Outcome) (request : SendRequest) (told : Option (List Named)) (before after : Faults) (out : Output)
+    (harbor : Dialled) → BecauseCommands end request.commands told before after
+    → BecauseSend end request told before after out out harbor harbor
+unread ends.OutOfMemory request told before after out harbor h = (h, refl, refl)
+unread (ends.CannotRead name) request told before after out harbor h = (h.0, refl, refl, h.1)
+unread (ends.LineRefused line) request told before after out harbor h = (h.0, refl, refl, h.1)
+unread ends.Done request told before after out harbor h = absurd h
+unread (ends.Threw text) request told before after out harbor h = absurd h
+unread ends.ThrewUnshown request told before after out harbor h = absurd h
+unread ends.Usage request told before after out harbor h = absurd h
+unread (ends.Refused name r) request told before after out harbor h = absurd h
+unread ends.CannotWrite request told before after out harbor h = absurd h
+unread ends.NetworkFault request told before after out harbor h = absurd h
+unread (ends.PeerClosed replies) request told before after out harbor h = absurd h
+unread ends.TicketsSpent request told before after out harbor h = absurd h
+
+unsaid : (end : Outcome) (commands : List ℕ) (told : Option (List Named)) (before after : Faults)
+    → BecauseCommands end commands told before after → IsUnsent end
+unsaid ends.OutOfMemory commands told before after h = tt
+unsaid (ends.CannotRead name) commands told before after h = tt
+unsaid (ends.LineRefused line) commands told before after h = tt
+unsaid ends.Done commands told before after h = absurd h
+unsaid (ends.Threw text) commands told before after h = absurd h
+unsaid ends.ThrewUnshown commands told before after h = absurd h
+unsaid ends.Usage commands told before after h = absurd h
+unsaid (ends.Refused name r) commands told before after h = absurd h
+unsaid ends.CannotWrite commands told before after h = absurd h
+unsaid ends.NetworkFault commands told before after h = absurd h
+unsaid (ends.PeerClosed replies) commands told before after h = absurd h
+unsaid ends.TicketsSpent commands told before after h = absurd h
+
+pub unread-part : (end : Outcome) (request : SendRequest) (told : Option (List Named)) (before after : Faults)
+    (out : Output) (harbor : Dialled) → BecauseCommands end request.commands told before after
+    → Told told (λ files. MaySend files request out out harbor harbor end)
+unread-part end request told before after out harbor h =
+    told_always told (λ files. MaySend files request out out harbor harbor end)
+    (λ files. inl (unsaid end request.commands told before after h, refl, refl))
+
+-- the port couldn't be dialled
+pub undialled-part : (end : Outcome) (request : SendRequest) (told : Option (List Named)) (out : Output)
+    (was now : Dialled) → IsUnsent end → now.hung_up ≡ was.hung_up
+    → Told told (λ files. MaySend files request out out was now end)
+undialled-part end request told out was now unsent same =
+    told_always told (λ files. MaySend files request out out was now end) (λ files. inl (unsent, refl, same))
+
+-- ---- a conversation
+
+-- the harbor's count rises as that of a link does that never failed before
+pub counts : (talk : Conversed) (fresh link was now : ℕ) → fresh ≡ 0 → CountsLink (Some talk) fresh link
+    → RisesAt (any_fault (link ∷ [])) was now → CountsLink (Some talk) was now
+counts talk fresh link was now new counted rises = by talk link (subst (λ (n : ℕ). CountsLink (Some talk) n link) new counted) rises
+  where
+    stays : (link : ℕ) → link ≡ 0 → RisesAt (any_fault (link ∷ [])) was now → now ≡ was
+    stays zero is rises = rises
+    stays (suc n) is rises = absurd cc
+
+    rose : (link : ℕ) → Rose 0 link → RisesAt (any_fault (link ∷ [])) was now → Rose was now
+    rose (suc n) is rises = rises
+    rose zero (inl less) rises = absurd (omega (arith, less))
+    rose zero (inr most) rises = absurd (omega (arith, most))
+
+    by : (talk : Conversed) (link : ℕ) → CountsLink (Some talk) 0 link → RisesAt (any_fault (link ∷ [])) was now
+        → CountsLink (Some talk) was now
+    by talks.Done link is rises = stays link is rises
+    by (talks.Refused line) link is rises = stays link is rises
+    by (talks.PeerClosed replies) link is rises = stays link is rises
+    by talks.LinkFault link is rises = rose link is rises
+    by talks.WriteFault link is rises = stays link is rises
+    by talks.Memory link is rises = stays link is rises
+
+-- what a harbor tells after it has dialled a port is what it told before, but for its calls
+pub since : (file : List ℕ) (talk : Conversed) (old new : Output) (was mid now : Dialled) → mid.faults ≡ was.faults
+    → mid.hung_up ≡ was.hung_up → Speaks file talk old new mid now → Speaks file talk old new was now
+since file talk old new was mid now faults hung_up s = record {
+  fresh = s.fresh;
+  link = s.link;
+  unused = s.unused;
+  converses = s.converses;
+  closed = s.closed;
+  hung_up = s.hung_up ∙ ap (λ links. adds links (s.link ∷ [])) hung_up;
+  writes = s.writes;
+  faults = subst (λ (n : ℕ). CountsLink (Some talk) n now.faults) faults s.faults;
+}
+
+-- a file of its form has no line that is refused
+in-form : (P : Type 0) (file : List ℕ) (line : ℕ) → IsInForm file → file_read file ≡ Err line → P
+in-form P file line form refused =
+    let both : Ok form.0 ≡ Err line = sym form.1 ∙ refused in absurd cc
+
+module _ (request : SendRequest) (told : Option (List Named)) (commands : List ℕ) (old new : Output) (was now : Dialled)
+    (there : Told told (λ files. content_of request.commands files ≡ Some commands)) where
+  sends : (talk : Conversed) → Speaks commands talk old new was now
+      → Told told (λ files. Sends files request talk old new was now)
+  sends talk s =
+      told_map told (λ files. content_of request.commands files ≡ Some commands)
+      (λ files. Sends files request talk old new was now)
+      (λ files at. record { commands = commands; there = at; speaks = s }) there
+
+  -- the files hold the lines of a file that is of its form
+  pub holds : IsInForm commands → Told told (λ files. (lines : List Line) × HoldsCommands files request.commands lines)
+  holds form =
+      told_map told (λ files. content_of request.commands files ≡ Some commands)
+      (λ files. (lines : List Line) × HoldsCommands files request.commands lines)
+      (λ files at. (form.0, record { commands = commands; there = at; read = form.1 })) there
+
+  -- why sending ended so over whose file a conversation was held
+  pub spoke : (talk : Conversed) (faults : Faults) → IsInForm commands → IsDialled request.port was now
+      → Speaks commands talk old new was now
+      → BecauseSend (outcome_of_talk talk) request told faults faults old new was now
+  spoke talks.Done faults form dialled s = (refl, s.writes, s.faults, dialled, sends talks.Done s)
+  spoke (talks.Refused line) faults form dialled s = in-form _ commands line form s.converses.0
+  spoke (talks.PeerClosed replies) faults form dialled s =
+      (refl, s.writes, s.faults, dialled, sends (talks.PeerClosed replies) s)
+  spoke talks.LinkFault faults form dialled s = (refl, s.writes, s.faults, dialled, holds form)
+  spoke talks.WriteFault faults form dialled s = (refl, s.writes, s.faults, dialled, sends talks.WriteFault s)
+  spoke talks.Memory faults form dialled s = (refl, s.writes, s.faults)
+
+  pub spoke-part : (talk : Conversed) → Speaks commands talk old new was now
+      → Told told (λ files. MaySend files request old new was now (outcome_of_talk talk))
+  spoke-part talk s =
+      told_map told (λ files. Sends files request talk old new was now)
+      (λ files. MaySend files request old new was now (outcome_of_talk talk)) (λ files at. inr (talk, refl, at))
+      (sends talk s)
+
+  -- its port was dialled
+  pub spoke-dialled : (P : Type 0) (talk : Conversed) → IsInForm commands → Speaks commands talk old new was now
+      → IsUndialled (outcome_of_talk talk) → P
+  spoke-dialled P (talks.Refused line) form s is = in-form P commands line form s.converses.0
+  spoke-dialled P talks.Done form s is = absurd is
+  spoke-dialled P (talks.PeerClosed replies) form s is = absurd is
+  spoke-dialled P talks.LinkFault form s is = absurd is
+  spoke-dialled P talks.WriteFault form s is = absurd is
+  spoke-dialled P talks.Memory form s is = absurd is
+
+-- ---- of the words that ask for a client
+
+given_send : (o : Option Command) (request : SendRequest) (told : Option (List Named))
+    (P : SendRequest → List Named → Type 0) → o ≡ Some (Send request) → Told told (P request) → GivenSend o told P
+given_send o request told P is h = rw is h
+
+-- at every status
+pub sent_given : (o : Option Command) (request : SendRequest) (told : Option (List Named)) (old new : Output)
+    (was now : Dialled) (end : Outcome) (status : ℕ) → o ≡ Some (Send request) → status ≡ status_of end
+    → Told told (λ files. MaySend files request old new was now end)
+    → GivenSend o told (λ r files. (it : Outcome) × (status ≡ status_of it) × MaySend files r old new was now it)
+sent_given o request told old new was now end status is ends_so h =
+    given_send o request told (λ r files. (it : Outcome) × (status ≡ status_of it) × MaySend files r old new was now it)
+    is
+    (told_map told (λ files. MaySend files request old new was now end)
+    (λ files. (it : Outcome) × (status ≡ status_of it) × MaySend files request old new was now it)
+    (λ files at. (end, ends_so, at)) h)
+
+-- how a peer that closed is told
+abbrev IsToldClose : Output → Output → Dialled → Dialled → Option (List ℕ) → Option (List ℕ) → SendRequest
+    → List Named → Type 0
+IsToldClose old new was now before after request files =
+    (replies : ℕ)
+    × Sends files request (talks.PeerClosed replies) old new was now
+    × GainsPrefix before after (closed_said replies)
+
+-- how a line that is refused is told
+abbrev IsToldLine : Option (List ℕ) → Option (List ℕ) → SendRequest → List Named → Type 0
+IsToldLine before after request files =
+    (line : ℕ) × RefusesLine files request.commands line × GainsPrefix before after (line_said line)
+
+-- how a file that can't be read is told
+abbrev IsToldRead : Faults → Faults → Option (List ℕ) → Option (List ℕ) → SendRequest → Type 0
+IsToldRead faults now_faults before after request =
+    Blames (Read request.commands) faults now_faults × GainsPrefix before after (unread_said request.commands)
+
+-- one of these, where the file is of its form
+abbrev IsTaken : ℕ → SendRequest → List Named → Type 0
+IsTaken n request files =
+    (lines : List Line) → HoldsCommands files request.commands lines
+    → (n ≡ 0) ⊎ (n ≡ 9) ⊎ (n ≡ 1) ⊎ (n ≡ 4) ⊎ (n ≡ 5) ⊎ (n ≡ 7)
+
+-- one of these, where a line of it is refused
+abbrev IsLeft : ℕ → SendRequest → List Named → Type 0
+IsLeft n request files =
+    (line : ℕ) → RefusesLine files request.commands line → (n ≡ 6) ⊎ (n ≡ 1) ⊎ (n ≡ 4)
+
+-- a file has one content
+not-both : (P : Type 0) (files : List Named) (name : List ℕ) (lines : List Line) (line : ℕ)
+    → HoldsCommands files name lines → RefusesLine files name line → P
+not-both P files name lines line h r =
+    let same : h.commands ≡ r.commands = some_same (content_of name files) h.commands r.commands h.there r.there in
+    in-form P r.commands line (lines, sym (ap file_read same) ∙ h.read) r.refused
+
+-- the file of a conversation that was held is of its form
+held : (P : Type 0) (files : List Named) (request : SendRequest) (talk : Conversed) (old new : Output)
+    (was now : Dialled) (line : ℕ) → ((file : List ℕ) → Speaks file talk old new was now → IsInForm file)
+    → Sends files request talk old new was now → RefusesLine files request.commands line → P
+held P files request talk old new was now line form s r =
+    let f : IsInForm s.commands = form s.commands s.speaks in
+    not-both P files request.commands f.0 line (record { commands = s.commands; there = s.there; read = f.1 }) r
+
+module _ (request : SendRequest) (told : Option (List Named)) (faults now_faults : Faults) (old new : Output)
+    (was now : Dialled) where
+  abbrev Because : Outcome → Type 0
+  Because end = BecauseSend end request told faults now_faults old new was now
+
+  taken_of : (end : Outcome) → Because end → Told told (IsTaken (status_of end) request)
+  taken_of ends.Done h = told_always told (IsTaken 0 request) (λ files lines holds. inl refl)
+  taken_of (ends.PeerClosed replies) h =
+      told_always told (IsTaken 9 request) (λ files lines holds. inr (inl refl))
+  taken_of ends.OutOfMemory h =
+      told_always told (IsTaken 1 request) (λ files lines holds. inr (inr (inl refl)))
+  taken_of (ends.CannotRead name) h =
+      told_always told (IsTaken 4 request) (λ files lines holds. inr (inr (inr (inl refl))))
+  taken_of ends.CannotWrite h =
+      told_always told (IsTaken 5 request) (λ files lines holds. inr (inr (inr (inr (inl refl)))))
+  taken_of ends.NetworkFault h =
+      told_always told (IsTaken 7 request) (λ files lines holds. inr (inr (inr (inr (inr refl)))))
+  taken_of (ends.LineRefused line) h =
+      told_map told (λ files. RefusesLine files request.commands line) (IsTaken 6 request)
+      (λ files r. λ lines holds. not-both _ files request.commands lines line holds r) h.3
+  taken_of ends.Usage h = absurd h
+  taken_of ends.ThrewUnshown h = absurd h
+  taken_of ends.TicketsSpent h = absurd h
+  taken_of (ends.Refused name r) h = absurd h
+  taken_of (ends.Threw text) h = absurd h
+
+  left_of : (end : Outcome) → Because end → Told told (IsLeft (status_of end) request)
+  left_of ends.Done h =
+      told_map told (λ files. Sends files request talks.Done old new was now) (IsLeft 0 request)
+      (λ files s. λ line r. held _ files request talks.Done old new was now line
+      (λ file t. (t.converses.0, t.converses.1)) s r)
+      h.4
+  left_of (ends.PeerClosed replies) h =
+      told_map told (λ files. Sends files request (talks.PeerClosed replies) old new was now) (IsLeft 9 request)
+      (λ files s. λ line r. held _ files request (talks.PeerClosed replies) old new was now line
+      (λ file t. (t.converses.0, t.converses.1)) s r)
+      h.4
+  left_of ends.CannotWrite h =
+      told_map told (λ files. Sends files request talks.WriteFault old new was now) (IsLeft 5 request)
+      (λ files s. λ line r. held _ files request talks.WriteFault old new was now line
+      (λ file t. (t.converses.0, t.converses.1)) s r)
+      h.4
+  left_of ends.OutOfMemory h = told_always told (IsLeft 1 request) (λ files line r. inr (inl refl))
+  left_of (ends.LineRefused line) h = told_always told (IsLeft 6 request) (λ files other r. inl refl)
+  left_of (ends.CannotRead name) h = told_always told (IsLeft 4 request) (λ files line r. inr (inr refl))
+  left_of ends.NetworkFault h =
+      told_map told (λ files. (lines : List Line) × HoldsCommands files request.commands lines) (IsLeft 7 request)
+      (λ files held. λ line r. not-both _ files request.commands held.0 line held.1 r) h.4
+  left_of ends.Usage h = absurd h
+  left_of ends.ThrewUnshown h = absurd h
+  left_of ends.TicketsSpent h = absurd h
+  left_of (ends.Refused name r) h = absurd h
+  left_of (ends.Threw text) h = absurd h
+
+  closed-told : (end : Outcome) (before after : Option (List ℕ)) → status_of end ≡ 9 → Because end
+      → GainsPrefix before after (said end) → Told told (IsToldClose old new was now before after request)
+  closed-told (ends.PeerClosed replies) before after is h says =
+      told_map told (λ files. Sends files request (talks.PeerClosed replies) old new was now)
+      (IsToldClose old new was now before after request) (λ files s. (replies, s, says)) h.4
+  closed-told ends.Done before after is h says = absurd cc
+  closed-told ends.OutOfMemory before after is h says = absurd cc
+  closed-told (ends.CannotRead name) before after is h says = absurd cc
+  closed-told (ends.LineRefused line) before after is h says = absurd cc
+  closed-told ends.CannotWrite before after is h says = absurd cc
+  closed-told ends.NetworkFault before after is h says = absurd cc
+  closed-told ends.Usage before after is h says = absurd h
+  closed-told ends.ThrewUnshown before after is h says = absurd h
+  closed-told ends.TicketsSpent before after is h says = absurd h
+  closed-told (ends.Refused name r) before after is h says = absurd h
+  closed-told (ends.Threw text) before after is h says = absurd h
+
+  line-told : (end : Outcome) (before after : Option (List ℕ)) → status_of end ≡ 6 → Because end
+      → GainsPrefix before after (said end) → Told told (IsToldLine before after request)
+  line-told (ends.LineRefused line) before after is h says =
+      told_map told (λ files. RefusesLine files request.commands line) (IsToldLine before after request)
+      (λ files r. (line, r, says)) h.3
+  line-told ends.Done before after is h says = absurd cc
+  line-told ends.OutOfMemory before after is h says = absurd cc
+  line-told (ends.CannotRead name) before after is h says = absurd cc
+  line-told (ends.PeerClosed replies) before after is h says = absurd cc
+  line-told ends.CannotWrite before after is h says = absurd cc
+  line-told ends.NetworkFault before after is h says = absurd cc
+  line-told ends.Usage before after is h says = absurd h
+  line-told ends.ThrewUnshown before after is h says = absurd h
+  line-told ends.TicketsSpent before after is h says = absurd h
+  line-told (ends.Refused name r) before after is h says = absurd h
+  line-told (ends.Threw text) before after is h says = absurd h
+
+  read-told : (end : Outcome) (before after : Option (List ℕ)) → status_of end ≡ 4 → Because end
+      → GainsPrefix before after (said end) → IsToldRead faults now_faults before after request
+  read-told (ends.CannotRead name) before after is h says =
+      subst
+      (λ (file : List ℕ). Blames (Read file) faults now_faults × GainsPrefix before after (unread_said file))
+      (sym h.3) (h.0, says)
+  read-told ends.Done before after is h says = absurd cc
+  read-told ends.OutOfMemory before after is h says = absurd cc
+  read-told (ends.LineRefused line) before after is h says = absurd cc
+  read-told (ends.PeerClosed replies) before after is h says = absurd cc
+  read-told ends.CannotWrite before after is h says = absurd cc
+  read-told ends.NetworkFault before after is h says = absurd cc
+  read-told ends.Usage before after is h says = absurd h
+  read-told ends.ThrewUnshown before after is h says = absurd h
+  read-told ends.TicketsSpent before after is h says = absurd h
+  read-told (ends.Refused name r) before after is h says = absurd h
+  read-told (ends.Threw text) before after is h says = absurd h
+
+  module _ (o : Option Command) (end : Outcome) (status : ℕ) (is : o ≡ Some (Send request))
+      (ends_so : status ≡ status_of end) (h : Because end) where
+    pub taken_given : GivenSend o told (IsTaken status)
+    taken_given =
+        given_send o request told (IsTaken status) is
+        (subst (λ (n : ℕ). Told told (IsTaken n request)) (sym ends_so) (taken_of end h))
+
+    pub left_given : GivenSend o told (IsLeft status)
+    left_given =
+        given_send o request told (IsLeft status) is
+        (subst (λ (n : ℕ). Told told (IsLeft n request)) (sym ends_so) (left_of end h))
+
+    pub closed_given : (before after : Option (List ℕ)) → GainsPrefix before after (said end) → status ≡ 9
+        → GivenSend o told (IsToldClose old new was now before after)
+    closed_given before after says nine =
+        given_send o request told (IsToldClose old new was now before after) is
+        (closed-told end before after (sym ends_so ∙ nine) h says)
+
+    pub line_given : (before after : Option (List ℕ)) → GainsPrefix before after (said end) → status ≡ 6
+        → GivenSend o told (IsToldLine before after)
+    line_given before after says six =
+        given_send o request told (IsToldLine before after) is
+        (line-told end before after (sym ends_so ∙ six) h says)
+
+    pub read_given : (before after : Option (List ℕ)) → GainsPrefix before after (said end) → status ≡ 4
+        → ForSend o (IsToldRead faults now_faults before after)
+    read_given before after says four =
+        let told : IsToldRead faults now_faults before after request =
+        read-told end before after (sym ends_so ∙ four) h says in rw is told
