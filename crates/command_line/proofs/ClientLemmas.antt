@@ -50,18 +50,18 @@ unsaid ends.NetworkFault commands told before after h = absurd h
 unsaid (ends.PeerClosed replies) commands told before after h = absurd h
 unsaid ends.TicketsSpent commands told before after h = absurd h
 
-pub unread-part : (end : Outcome) (request : SendRequest) (told : Option (List Named)) (before after : Faults)
+pub unsent : (end : Outcome) (request : SendRequest) (told : Option (List Named)) (before after : Faults)
     (out : Output) (harbor : Dialled) → BecauseCommands end request.commands told before after
     → Told told (λ files. MaySend files request out out harbor harbor end)
-unread-part end request told before after out harbor h =
+unsent end request told before after out harbor h =
     told_always told (λ files. MaySend files request out out harbor harbor end)
     (λ files. inl (unsaid end request.commands told before after h, refl, refl))
 
 -- the port couldn't be dialled
-pub undialled-part : (end : Outcome) (request : SendRequest) (told : Option (List Named)) (out : Output)
+pub undialled : (end : Outcome) (request : SendRequest) (told : Option (List Named)) (out : Output)
     (was now : Dialled) → IsUnsent end → now.hung_up ≡ was.hung_up
     → Told told (λ files. MaySend files request out out was now end)
-undialled-part end request told out was now unsent same =
+undialled end request told out was now unsent same =
     told_always told (λ files. MaySend files request out out was now end) (λ files. inl (unsent, refl, same))
 
 -- ---- a conversation
@@ -348,5 +348,5 @@ module _ (request : SendRequest) (told : Option (List Named)) (faults now_faults
     pub read_given : (before after : Option (List ℕ)) → GainsPrefix before after (said end) → status ≡ 4
         → ForSend o (IsToldRead faults now_faults before after)
     read_given before after says four =
-        let told : IsToldRead faults now_faults before after request =
-        read-told end before after (sym ends_so ∙ four) h says in rw is told
+        let it : IsToldRead faults now_faults before after request =
+        read-told end before after (sym ends_so ∙ four) h says in rw is it
