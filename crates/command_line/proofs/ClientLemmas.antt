@@ -1,8 +1,8 @@
 -- What each end of sending commands says of the file, the port and the conversation.
-use Rattle.std.proofs.Common.{◌≡◌, ◌<◌, ◌⊎◌, inl, inr, ℕ, zero, suc, List, [], ◌∷◌, Option, Some, None, Ok, Err, refl, sym, ap, subst, ◌∙◌, arith}
+use Rattle.std.proofs.Common.{◌≡◌, ◌<◌, ◌≤◌, ◌+◌, ◌⊎◌, inl, inr, ℕ, zero, suc, List, [], ◌∷◌, Option, Some, None, Ok, Err, refl, sym, ap, subst, ◌∙◌, arith}
 use Rattle.cdp_edge.specs.Blame.{Blames, Faults, Read}
 use Rattle.cdp_edge.specs.Outside.{GainsPrefix, Named, Rose, Told, content_of}
-use Rattle.server_edge.specs.Contents.{RisesAt, adds, any_fault}
+use Rattle.server_edge.specs.Contents.{RisesAt, adds, any_fault, raised}
 use Rattle.ws_service.specs.Programs.{Output}
 use Rattle.cdp_client.specs.Conversations.{Converses, CountsLink}
 use Rattle.cdp_client.specs.Lines.{IsInForm, Line, file_read}
@@ -64,6 +64,11 @@ pub undialled : (end : Outcome) (request : SendRequest) (told : Option (List Nam
 undialled end request told out was now unsent same =
     told_always told (λ files. MaySend files request out out was now end) (λ files. inl (unsent, refl, same))
 
+-- a link is out once a port was dialled
+pub one_out : (old new : Option ℕ) → new ≡ raised old 1 → Told new (λ (out : ℕ). 1 ≤ out)
+one_out None new is = subst (λ (links : Option ℕ). Told links (λ (out : ℕ). 1 ≤ out)) (sym is) tt
+one_out (Some n) new is = subst (λ (links : Option ℕ). Told links (λ (out : ℕ). 1 ≤ out)) (sym is) (omega arith)
+
 -- ---- a conversation
 
 -- the harbor's count rises as that of a link does that never failed before
@@ -90,18 +95,21 @@ counts talk fresh link was now new counted rises = by talk link (subst (λ (n : 
     by talks.Memory link is rises = stays link is rises
 
 -- what a harbor tells after it has dialled a port is what it told before, but for its calls
-pub since : (file : List ℕ) (talk : Conversed) (old new : Output) (was mid now : Dialled) → mid.faults ≡ was.faults
-    → mid.hung_up ≡ was.hung_up → Speaks file talk old new mid now → Speaks file talk old new was now
-since file talk old new was mid now faults hung_up s = record {
-  fresh = s.fresh;
-  link = s.link;
-  unused = s.unused;
-  converses = s.converses;
-  closed = s.closed;
-  hung_up = s.hung_up ∙ ap (λ links. adds links (s.link ∷ [])) hung_up;
-  writes = s.writes;
-  faults = subst (λ (n : ℕ). CountsLink (Some talk) n now.faults) faults s.faults;
-}
+pub since : (file lent : List ℕ) (talk : Conversed) (old new : Output) (was mid now : Dialled) → lent ≡ file
+    → mid.faults ≡ was.faults → mid.hung_up ≡ was.hung_up → Speaks lent talk old new mid now
+    → Speaks file talk old new was now
+since file lent talk old new was mid now is faults hung_up s =
+    let t : Speaks file talk old new mid now = subst (λ (f : List ℕ). Speaks f talk old new mid now) is s in
+    record {
+      fresh = t.fresh;
+      link = t.link;
+      unused = t.unused;
+      converses = t.converses;
+      closed = t.closed;
+      hung_up = t.hung_up ∙ ap (λ links. adds links (t.link ∷ [])) hung_up;
+      writes = t.writes;
+      faults = subst (λ (n : ℕ). CountsLink (Some talk) n now.faults) faults t.faults;
+    }
 
 -- a file of its form has no line that is refused
 in-form : (P : Type 0) (file : List ℕ) (line : ℕ) → IsInForm file → file_read file ≡ Err line → P
@@ -125,16 +133,17 @@ module _ (request : SendRequest) (told : Option (List Named)) (commands : List �
       (λ files at. (form.0, record { commands = commands; there = at; read = form.1 })) there
 
   -- why sending ended so over whose file a conversation was held
-  pub spoke : (talk : Conversed) (faults : Faults) → IsInForm commands → IsDialled request.port was now
-      → Speaks commands talk old new was now
-      → BecauseSend (outcome_of_talk talk) request told faults faults old new was now
-  spoke talks.Done faults form dialled s = (refl, s.writes, s.faults, dialled, sends talks.Done s)
-  spoke (talks.Refused line) faults form dialled s = in-form _ commands line form s.converses.0
-  spoke (talks.PeerClosed replies) faults form dialled s =
-      (refl, s.writes, s.faults, dialled, sends (talks.PeerClosed replies) s)
-  spoke talks.LinkFault faults form dialled s = (refl, s.writes, s.faults, dialled, holds form)
-  spoke talks.WriteFault faults form dialled s = (refl, s.writes, s.faults, dialled, sends talks.WriteFault s)
-  spoke talks.Memory faults form dialled s = (refl, s.writes, s.faults)
+  pub spoke : (talk : Conversed) (before after : Faults) → after ≡ before → IsInForm commands
+      → IsDialled request.port was now → Speaks commands talk old new was now
+      → BecauseSend (outcome_of_talk talk) request told before after old new was now
+  spoke talks.Done before after quiet form dialled s = (quiet, s.writes, s.faults, dialled, sends talks.Done s)
+  spoke (talks.Refused line) before after quiet form dialled s = in-form _ commands line form s.converses.0
+  spoke (talks.PeerClosed replies) before after quiet form dialled s =
+      (quiet, s.writes, s.faults, dialled, sends (talks.PeerClosed replies) s)
+  spoke talks.LinkFault before after quiet form dialled s = (quiet, s.writes, s.faults, dialled, holds form)
+  spoke talks.WriteFault before after quiet form dialled s =
+      (quiet, s.writes, s.faults, dialled, sends talks.WriteFault s)
+  spoke talks.Memory before after quiet form dialled s = (quiet, s.writes, s.faults)
 
   pub spoke-part : (talk : Conversed) → Speaks commands talk old new was now
       → Told told (λ files. MaySend files request old new was now (outcome_of_talk talk))

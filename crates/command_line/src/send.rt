@@ -78,6 +78,7 @@ fn speak<R: Wait, O: Sink, H: Harbor>(
 
 /// Sends the commands of the file of this name to the host at a port, and writes what comes back: the file is read and
 /// checked first, then the port is dialled. Where the host neither answers nor closes, the call doesn't return.
+#[tactic(auto, using(crate::proofs::ClientLemmas::unread, crate::proofs::ClientLemmas::unsent, crate::proofs::ClientLemmas::undialled))]
 pub(crate) fn send<'w, R: Wait, F: Shelf, O: Sink, H: Harbor>(
     rt: &R,
     alloc: Global,

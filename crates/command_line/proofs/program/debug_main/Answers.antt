@@ -1,8 +1,9 @@
 use Rattle.std.proofs.Common.{sym}
-use Rattle.command_line.specs.RequestHeld.{request_held, sources_held}
+use Rattle.command_line.specs.RequestHeld.{client_held, request_held, sources_held}
 use Rattle.command_line.proofs.RunLemmas as runs
 use Rattle.command_line.proofs.ReplayLemmas as replays
 use Rattle.command_line.proofs.ServeLemmas as serves
+use Rattle.command_line.proofs.ClientLemmas as clients
 use Rattle.command_line.proofs.DrillLemmas as drills
 use Rattle.command_line.proofs.program.debug_main.Goals as goal
 
@@ -52,3 +53,39 @@ returns-in-Some-Drill-clause-drill_line g c =
     drills.line_given _ c.in-Some-Drill.number c.drill.result _ _ _ _ _ _ c.end-in-Some-Drill.result
     (sym (rw c.in-Some-Drill.field-0-is at c.in-Some-Drill.ensures)) c.end-in-Some-Drill.ensures.status
     c.drill.ensures.cause c.end-in-Some-Drill.ensures.says
+
+pub returns-in-Some-Send-clause-send_closed : goal.returns-in-Some-Send-clause-send_closed
+returns-in-Some-Send-clause-send_closed g c =
+    clients.closed_given (client_held c.in-Some-Send.request) _ _ _ _ _ _ _ _ c.send-outcome.result
+    c.end-in-Some-Send.result (sym (rw c.in-Some-Send.field-0-is at c.in-Some-Send.ensures))
+    c.end-in-Some-Send.ensures.status c.send-outcome.ensures.cause _ _ c.end-in-Some-Send.ensures.says
+
+pub returns-in-Some-Send-clause-send_line : goal.returns-in-Some-Send-clause-send_line
+returns-in-Some-Send-clause-send_line g c =
+    clients.line_given (client_held c.in-Some-Send.request) _ _ _ _ _ _ _ _ c.send-outcome.result
+    c.end-in-Some-Send.result (sym (rw c.in-Some-Send.field-0-is at c.in-Some-Send.ensures))
+    c.end-in-Some-Send.ensures.status c.send-outcome.ensures.cause _ _ c.end-in-Some-Send.ensures.says
+
+pub returns-in-Some-Send-clause-send_read : goal.returns-in-Some-Send-clause-send_read
+returns-in-Some-Send-clause-send_read g c =
+    clients.read_given (client_held c.in-Some-Send.request) _ _ _ _ _ _ _ _ c.send-outcome.result
+    c.end-in-Some-Send.result (sym (rw c.in-Some-Send.field-0-is at c.in-Some-Send.ensures))
+    c.end-in-Some-Send.ensures.status c.send-outcome.ensures.cause _ _ c.end-in-Some-Send.ensures.says
+
+pub returns-in-Some-Send-clause-send_decided : goal.returns-in-Some-Send-clause-send_decided
+returns-in-Some-Send-clause-send_decided g c =
+    clients.taken_given (client_held c.in-Some-Send.request) _ _ _ _ _ _ _ _ c.send-outcome.result
+    c.end-in-Some-Send.result (sym (rw c.in-Some-Send.field-0-is at c.in-Some-Send.ensures))
+    c.end-in-Some-Send.ensures.status c.send-outcome.ensures.cause
+
+pub returns-in-Some-Send-clause-send_exact : goal.returns-in-Some-Send-clause-send_exact
+returns-in-Some-Send-clause-send_exact g c =
+    clients.left_given (client_held c.in-Some-Send.request) _ _ _ _ _ _ _ _ c.send-outcome.result
+    c.end-in-Some-Send.result (sym (rw c.in-Some-Send.field-0-is at c.in-Some-Send.ensures))
+    c.end-in-Some-Send.ensures.status c.send-outcome.ensures.cause
+
+pub returns-in-Some-Send-clause-sends : goal.returns-in-Some-Send-clause-sends
+returns-in-Some-Send-clause-sends g c =
+    clients.sent_given _ (client_held c.in-Some-Send.request) _ _ _ _ _ c.send-outcome.result c.end-in-Some-Send.result
+    (sym (rw c.in-Some-Send.field-0-is at c.in-Some-Send.ensures)) c.end-in-Some-Send.ensures.status
+    c.send-outcome.ensures.part
