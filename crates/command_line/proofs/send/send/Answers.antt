@@ -6,14 +6,14 @@ use Rattle.command_line.proofs.ClientLemmas.{one_out, since, spoke, spoke-dialle
 use Rattle.command_line.proofs.send.send.Goals as goal
 
 pub speak-requires-clause-out : goal.speak-requires-clause-out
-speak-requires-clause-out g c = one_out _ _ c.in-Ok-dial.ensures.out
+speak-requires-clause-out g c κs within = one_out _ _ c.in-Ok-dial.ensures.out
 
 pub returns-in-Ok-dial-clause-cause : goal.returns-in-Ok-dial-clause-cause
 returns-in-Ok-dial-clause-cause g c =
     let old : Output = record { content = g.O.Sink.content c.args.out.now; faults = g.O.Sink.faults c.args.out.now } in
     let new : Output = record { content = g.O.Sink.content c.speak.new.out; faults = g.O.Sink.faults c.speak.new.out } in
     let was : Dialled = record { faults = g.H.Harbor.faults c.args.harbor.now; dials = g.H.Harbor.dials c.args.harbor.now; hung_up = g.H.Harbor.hung_up c.args.harbor.now } in
-    let mid : Dialled = record { faults = g.H.Harbor.faults c.dial.new.harbor; dials = g.H.Harbor.dials c.dial.new.harbor; hung_up = g.H.Harbor.hung_up c.dial.new.harbor } in
+    let mid : Dialled = record { faults = g.H.Harbor.faults c.dial.new.self; dials = g.H.Harbor.dials c.dial.new.self; hung_up = g.H.Harbor.hung_up c.dial.new.self } in
     let now : Dialled = record { faults = g.H.Harbor.faults c.speak.new.harbor; dials = g.H.Harbor.dials c.speak.new.harbor; hung_up = g.H.Harbor.hung_up c.speak.new.harbor } in
     let d = c.in-Ok-dial.ensures in
     rw c.outcome_of_talk.ensures
@@ -27,7 +27,7 @@ returns-in-Ok-dial-clause-part g c =
     let old : Output = record { content = g.O.Sink.content c.args.out.now; faults = g.O.Sink.faults c.args.out.now } in
     let new : Output = record { content = g.O.Sink.content c.speak.new.out; faults = g.O.Sink.faults c.speak.new.out } in
     let was : Dialled = record { faults = g.H.Harbor.faults c.args.harbor.now; dials = g.H.Harbor.dials c.args.harbor.now; hung_up = g.H.Harbor.hung_up c.args.harbor.now } in
-    let mid : Dialled = record { faults = g.H.Harbor.faults c.dial.new.harbor; dials = g.H.Harbor.dials c.dial.new.harbor; hung_up = g.H.Harbor.hung_up c.dial.new.harbor } in
+    let mid : Dialled = record { faults = g.H.Harbor.faults c.dial.new.self; dials = g.H.Harbor.dials c.dial.new.self; hung_up = g.H.Harbor.hung_up c.dial.new.self } in
     let now : Dialled = record { faults = g.H.Harbor.faults c.speak.new.harbor; dials = g.H.Harbor.dials c.speak.new.harbor; hung_up = g.H.Harbor.hung_up c.speak.new.harbor } in
     let d = c.in-Ok-dial.ensures in
     rw c.outcome_of_talk.ensures
@@ -40,7 +40,7 @@ returns-in-Ok-dial-clause-undialled g c =
     let old : Output = record { content = g.O.Sink.content c.args.out.now; faults = g.O.Sink.faults c.args.out.now } in
     let new : Output = record { content = g.O.Sink.content c.speak.new.out; faults = g.O.Sink.faults c.speak.new.out } in
     let was : Dialled = record { faults = g.H.Harbor.faults c.args.harbor.now; dials = g.H.Harbor.dials c.args.harbor.now; hung_up = g.H.Harbor.hung_up c.args.harbor.now } in
-    let mid : Dialled = record { faults = g.H.Harbor.faults c.dial.new.harbor; dials = g.H.Harbor.dials c.dial.new.harbor; hung_up = g.H.Harbor.hung_up c.dial.new.harbor } in
+    let mid : Dialled = record { faults = g.H.Harbor.faults c.dial.new.self; dials = g.H.Harbor.dials c.dial.new.self; hung_up = g.H.Harbor.hung_up c.dial.new.self } in
     let now : Dialled = record { faults = g.H.Harbor.faults c.speak.new.harbor; dials = g.H.Harbor.dials c.speak.new.harbor; hung_up = g.H.Harbor.hung_up c.speak.new.harbor } in
     let d = c.in-Ok-dial.ensures in
     rw c.outcome_of_talk.ensures
