@@ -33,29 +33,68 @@ use Rattle.cdp_host.specs.contracts.host.Host.TheInside as inside
 
 script-sync : IsSync script.the_row
 script-sync = search (
-  units.the_sync, options.the_field_sync, options.the_sync, assignment.the_field_sync, binary.the_field_sync,
-  unary.the_field_sync, update.the_field_sync, integer.the_field_sync, names.the_sync, node.the_field_sync, spans.the_sync,
-  arrow.the_field_sync, crosses, tree.crosses, sendable,
+  units.the_sync,
+  options.the_field_sync,
+  options.the_sync,
+  assignment.the_field_sync,
+  binary.the_field_sync,
+  unary.the_field_sync,
+  update.the_field_sync,
+  integer.the_field_sync,
+  names.the_sync,
+  node.the_field_sync,
+  spans.the_sync,
+  arrow.the_field_sync,
+  crosses,
+  tree.crosses,
+  sendable,
 ) depth 60 fits 20000
 
 host-parts : (ℓ : NamedLft) → IsSend (inside.the_row ℓ)
 host-parts ℓ =
-    declared_send (inside.the_type ℓ)
-    (search (global.the_field_send, sendable) depth 30,
-    (search (script-sync, crosses, sendable) depth 30,
-    (search (lines.the_send, vectors.the_send, crosses, sendable) depth 30,
-    (spots.the_send,
-    (machine.the_send,
-    (heap.the_send,
-    (search (phase.the_field_send, sendable) depth 30,
-    (search (pause.the_field_send, options.the_field_send, crosses, sendable) depth 30,
-    (search sendable,
-    (search sendable,
-    (search (session-send, seat.the_field_send, seat.the_send, vectors.the_send, crosses, sendable) depth 30,
-    (search sendable,
-    (search (session-send, fallback.the_field_send, fallback.the_send, crosses, sendable) depth 60,
-    (search (lost.the_field_send, vectors.the_send, crosses, sendable) depth 30,
-    tt))))))))))))))
+    declared_send (inside.the_type ℓ) (
+      search (global.the_field_send, sendable) depth 30,
+      (
+        search (script-sync, crosses, sendable) depth 30,
+        (
+          search (lines.the_send, vectors.the_send, crosses, sendable) depth 30,
+          (
+            spots.the_send,
+            (
+              machine.the_send,
+              (
+                heap.the_send,
+                (
+                  search (phase.the_field_send, sendable) depth 30,
+                  (
+                    search (pause.the_field_send, options.the_field_send, crosses, sendable) depth 30,
+                    (
+                      search sendable,
+                      (
+                        search sendable,
+                        (
+                          search (session-send, seat.the_field_send, seat.the_send, vectors.the_send, crosses, sendable) depth 30,
+                          (
+                            search sendable,
+                            (
+                              search (session-send, fallback.the_field_send, fallback.the_send, crosses, sendable) depth 60,
+                              (
+                                search (lost.the_field_send, vectors.the_send, crosses, sendable) depth 30,
+                                tt,
+                              ),
+                            ),
+                          ),
+                        ),
+                      ),
+                    ),
+                  ),
+                ),
+              ),
+            ),
+          ),
+        ),
+      ),
+    )
 
 pub host-send : (ℓ : NamedLft) → IsSend (host.the_row ℓ)
 host-send ℓ = view_send _ _ _ _ _ (host-parts ℓ)

@@ -29,9 +29,21 @@ use Rattle.cdp_session.specs.contracts.session.Session.TheInside as session_insi
 
 expression-send : IsSend expression.the_row
 expression-send = search (
-  units.the_send, options.the_field_send, options.the_send, assignment.the_field_send, binary.the_field_send, unary.the_field_send,
-  update.the_field_send, integer.the_field_send, names.the_send, node.the_field_send, spans.the_send, arrow.the_field_send,
-  crosses, tree.crosses, sendable,
+  units.the_send,
+  options.the_field_send,
+  options.the_send,
+  assignment.the_field_send,
+  binary.the_field_send,
+  unary.the_field_send,
+  update.the_field_send,
+  integer.the_field_send,
+  names.the_send,
+  node.the_field_send,
+  spans.the_send,
+  arrow.the_field_send,
+  crosses,
+  tree.crosses,
+  sendable,
 ) depth 60 fits 20000
 
 condition-parts : IsSend condition_inside.the_row
@@ -46,18 +58,37 @@ condition-send = view_send _ _ _ _ _ condition-parts
 session-parts : IsSend session_inside.the_row
 session-parts =
     recorded_send session_inside.the_field.row _ _ session_inside.the_type.to_one
-    (struct_send (shape session_inside.the_type)
-    (search (global.the_field_send, sendable) depth 30,
-    (search sendable,
-    (search (rules.the_field_send, sendable) depth 30,
-    (search sendable,
-    (breakpoints.the_send,
-    (handles.the_send,
-    (search (condition-send, vectors.the_send, crosses, sendable) depth 30,
-    (search (workspace.the_send, options.the_field_send, crosses, sendable) depth 30,
-    (search sendable,
-    (outbox.the_send,
-    tt)))))))))))
+    (struct_send (shape session_inside.the_type) (
+      search (global.the_field_send, sendable) depth 30,
+      (
+        search sendable,
+        (
+          search (rules.the_field_send, sendable) depth 30,
+          (
+            search sendable,
+            (
+              breakpoints.the_send,
+              (
+                handles.the_send,
+                (
+                  search (condition-send, vectors.the_send, crosses, sendable) depth 30,
+                  (
+                    search (workspace.the_send, options.the_field_send, crosses, sendable) depth 30,
+                    (
+                      search sendable,
+                      (
+                        outbox.the_send,
+                        tt,
+                      ),
+                    ),
+                  ),
+                ),
+              ),
+            ),
+          ),
+        ),
+      ),
+    ))
 
 pub session-send : IsSend session.the_row
 session-send = view_send _ _ _ _ _ session-parts
