@@ -1,0 +1,5 @@
+pub mod OptionLemmas
+pub mod KindLemmas
+pub mod WrittenLemmas
+pub mod AskLemmas
+pub mod ComputedForms

@@ -1,0 +1,7 @@
+pub mod Commands
+pub mod Parts
+pub mod Given
+pub mod Requests
+pub mod Held
+pub mod Written
+pub mod Helps

@@ -1,0 +1,87 @@
+//! The commands, and which options each has.
+
+ghost use Rattle.std.specs.Prelude.{◌≡◌};
+ghost use Rattle.command_words.specs.Commands.{command_named, has_option, has_value, option_named};
+
+/// A command of the program.
+#[derive(Clone, Copy)]
+pub enum Command {
+    /// Runs scripts.
+    Run,
+    /// Replays a journal over scripts.
+    Replay,
+    /// Replays the journal and the script of a number.
+    Drill,
+    /// Serves clients and runs scripts.
+    Serve,
+    /// Sends commands to a serving host.
+    Send,
+}
+
+/// The name of an option.
+#[derive(Clone, Copy, PartialEq)]
+pub(crate) enum OptionName {
+    Port,
+    Sessions,
+    Input,
+    Wait,
+}
+
+/// The command of this name.
+pub(crate) fn command_named(word: &str) -> Option<Command>
+    ensures { result ≡ command_named word.now }
+{
+    if word == "run" {
+        Some(Command::Run)
+    } else if word == "replay" {
+        Some(Command::Replay)
+    } else if word == "drill" {
+        Some(Command::Drill)
+    } else if word == "serve" {
+        Some(Command::Serve)
+    } else if word == "send" {
+        Some(Command::Send)
+    } else {
+        None
+    }
+}
+
+/// The option of this name.
+pub(crate) fn option_named(name: &str) -> Option<OptionName>
+    ensures { result ≡ option_named name.now }
+{
+    if name == "port" {
+        Some(OptionName::Port)
+    } else if name == "sessions" {
+        Some(OptionName::Sessions)
+    } else if name == "input" {
+        Some(OptionName::Input)
+    } else if name == "wait" {
+        Some(OptionName::Wait)
+    } else {
+        None
+    }
+}
+
+/// Whether a command has an option.
+pub(crate) fn has_option(command: Command, option: OptionName) -> bool
+    ensures { result ≡ has_option command option }
+{
+    match command {
+        Command::Run => matches!(option, OptionName::Input),
+        Command::Replay => matches!(option, OptionName::Wait | OptionName::Input),
+        Command::Drill => false,
+        Command::Serve => true,
+        Command::Send => matches!(option, OptionName::Port),
+    }
+}
+
+/// Whether an option has a value.
+pub(crate) fn has_value(option: OptionName) -> bool
+    ensures { result ≡ has_value option }
+{
+    match option {
+        OptionName::Port | OptionName::Sessions | OptionName::Input => true,
+        OptionName::Wait => false,
+    }
+}
