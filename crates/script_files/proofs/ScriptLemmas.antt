@@ -1,10 +1,10 @@
 -- The scripts that files hold, one after another, and that none of them is refused.
-use Rattle.std.proofs.Common.{◌≡◌, ℕ, ◌+◌, ◌<◌, ◌≤◌, true, false, List, [], ◌∷◌, ◌++◌, length, take, drop, get_or, map, Option, None, Some, Result, Ok, Err, refl, sym, ap, subst, ◌∙◌, inl, inr, arith, append_assoc, append-nil, string_bytes}
+use Rattle.std.proofs.Common.{◌≡◌, ℕ, ◌+◌, ◌<◌, ◌≤◌, true, false, List, [], ◌∷◌, ◌++◌, length, take, drop, get_or, map, Option, None, Some, Result, Ok, Err, refl, sym, ap, subst, ◌∙◌, inl, inr, arith, append_assoc, append-nil}
 use Rattle.std.specs.Prelude.{IsUtf8, IfOk, IfErr}
 use Rattle.std.specs.List.{range_with_len}
 use Rattle.std.specs.Str.{is_utf8}
 use Rattle.std.specs.declared.vec.Vec.{Vec}
-use Rattle.std.specs.declared.string.String.{String}
+use Rattle.std.specs.Borrow.{Bor}
 use Rattle.std.specs.declared.alloc.Global.{Global}
 use Rattle.std.proofs.lemmas.List.{take_more, drop_more, take-append-drop, map-append}
 use Rattle.std.proofs.lemmas.Str.{is_utf8-from_IsUtf8}
@@ -33,7 +33,7 @@ use Rattle.script_files.specs.declared.fault.Refusal.{Refusal}
 use Rattle.script_files.specs.declared.fault.Refusal.TheVariants as refusals
 use Rattle.script_files.specs.TopNames.{declared_in, declared_by_script}
 use Rattle.script_files.specs.Refusals.{IsFaultOf, IsRefused, StandsWithin, refusal_of, fault_told}
-use Rattle.script_files.specs.Scripts.{IsScriptOf, HoldsScript, AreScriptsBehind, AreScripts, IsRefusedNext, StandsBehind, IsReachedAt, IsRefusedAt, IsOneMore, Fails, FailsNext, FailsAs}
+use Rattle.script_files.specs.Scripts.{IsScriptOf, HoldsScript, AreScriptsBehind, AreScripts, IsRefusedNext, StandsBehind, IsReachedAt, IsRefusedAt, IsOneMore, Fails, FailsNext, FailsAs, name_held, names_held}
 use Rattle.script_files.proofs.InputLemmas.{no_utf8}
 
 -- ---- places of faults
@@ -341,47 +341,48 @@ kept_names old new ss us s e f g =
 
 -- ---- the names one after another
 
-one_name_more : (names : List (String Global)) (i : ℕ) (x : String Global)
+one_name_more : (names : List (Bor (List ℕ))) (i : ℕ) (other : Bor (List ℕ))
     → i < length names
-    → x ≡ get_or names i x
-    → map string_bytes (take (i + 1) names) ≡ map string_bytes (take i names) ++ string_bytes x ∷ []
-one_name_more names i x h is =
-    ap (λ ns. map string_bytes ns) (take_more names i x h)
-    ∙ map-append string_bytes (take i names) (get_or names i x ∷ [])
-    ∙ ap (λ y. map string_bytes (take i names) ++ string_bytes y ∷ []) (sym is)
+    → names_held (take (i + 1) names) ≡ names_held (take i names) ++ name_held (get_or names i other) ∷ []
+one_name_more names i other h =
+    ap names_held (take_more names i other h) ∙ map-append name_held (take i names) (get_or names i other ∷ [])
 
-pub told_are_more : (told : Option (List Named)) (names : List (String Global)) (i : ℕ) (x : String Global)
-    (ss new : List Script) (name : List ℕ)
+told_one_name : (told : Option (List Named)) (names : List (Bor (List ℕ))) (i : ℕ) (other : Bor (List ℕ))
+    (ss new : List Script)
     → i < length names
-    → x ≡ get_or names i x
-    → name ≡ string_bytes x
-    → Told told (λ files. AreScripts files (map string_bytes (take i names)) ss)
-    → Told told (λ files. IsOneMore files ss new name)
-    → Told told (λ files. AreScripts files (map string_bytes (take (i + 1) names)) new)
-told_are_more None names i x ss new name lt is e h more = tt
-told_are_more (Some files) names i x ss new name lt is e h more =
-    let front = map string_bytes (take i names) in
+    → Told told (λ files. AreScripts files (names_held (take i names)) ss)
+    → Told told (λ files. IsOneMore files ss new (name_held (get_or names i other)))
+    → Told told (λ files. AreScripts files (names_held (take (i + 1) names)) new)
+told_one_name None names i other ss new lt h more = tt
+told_one_name (Some files) names i other ss new lt h more =
+    let front = names_held (take i names) in
+    let name = name_held (get_or names i other) in
     let there : AreScripts files (front ++ name ∷ []) (ss ++ more.script ∷ [])
     = are_more files [] front ss name more.script h more.holds in
-    let parts : front ++ name ∷ [] ≡ map string_bytes (take (i + 1) names) = ap (λ n. front ++ n ∷ []) e
-    ∙ sym (one_name_more names i x lt is) in
-    let now : AreScripts files (map string_bytes (take (i + 1) names)) (ss ++ more.script ∷ []) = subst
-    (λ (ns : List (List ℕ)). AreScripts files ns (ss ++ more.script ∷ [])) parts there in
-    subst (λ (us : List Script). AreScripts files (map string_bytes (take (i + 1) names)) us) (sym more.added) now
+    let now : AreScripts files (names_held (take (i + 1) names)) (ss ++ more.script ∷ []) = subst
+    (λ (ns : List (List ℕ)). AreScripts files ns (ss ++ more.script ∷ [])) (sym (one_name_more names i other lt)) there in
+    subst (λ (us : List Script). AreScripts files (names_held (take (i + 1) names)) us) (sym more.added) now
 
-pub stands_behind : (names : List (String Global)) (i : ℕ) (x : String Global) (name : List ℕ)
+pub told_are_more : (told later : Option (List Named)) (names : List (Bor (List ℕ))) (i : ℕ) (other : Bor (List ℕ))
+    (ss new : List Script)
+    → later ≡ told
     → i < length names
-    → x ≡ get_or names i x
-    → name ≡ string_bytes x
-    → StandsBehind (map string_bytes names) (map string_bytes (take i names)) name
-stands_behind names i x name lt is e = record {
-  behind = map string_bytes (drop (i + 1) names);
+    → Told told (λ files. AreScripts files (names_held (take i names)) ss)
+    → Told later (λ files. IsOneMore files ss new (name_held (get_or names i other)))
+    → Told told (λ files. AreScripts files (names_held (take (i + 1) names)) new)
+told_are_more told later names i other ss new same lt h more =
+    told_one_name told names i other ss new lt h
+    (subst (λ (o : Option (List Named)). Told o (λ files. IsOneMore files ss new (name_held (get_or names i other)))) same more)
+
+pub stands_behind : (names : List (Bor (List ℕ))) (i : ℕ) (other : Bor (List ℕ))
+    → i < length names
+    → StandsBehind (names_held names) (names_held (take i names)) (name_held (get_or names i other))
+stands_behind names i other lt = record {
+  behind = names_held (drop (i + 1) names);
   parts =
-      ap (λ ns. map string_bytes ns) (sym (take-append-drop i names))
-      ∙ map-append string_bytes (take i names) (drop i names)
-      ∙ ap (λ ns. map string_bytes (take i names) ++ map string_bytes ns) (drop_more names i x lt)
-      ∙ ap (λ y. map string_bytes (take i names) ++ string_bytes y ∷ map string_bytes (drop (i + 1) names)) (sym is)
-      ∙ ap (λ n. map string_bytes (take i names) ++ n ∷ map string_bytes (drop (i + 1) names)) (sym e);
+      ap names_held (sym (take-append-drop i names))
+      ∙ map-append name_held (take i names) (drop i names)
+      ∙ ap (λ ns. names_held (take i names) ++ names_held ns) (drop_more names i other lt);
 }
 
 abbrev reached : (files : List Named) (names front : List (List ℕ)) (name : List ℕ) (ss : List Script)

@@ -1,7 +1,8 @@
 -- The scripts that files hold.
-use Rattle.std.specs.Prelude.{◌≡◌, ◌+◌, ℕ, List, [], ◌∷◌, ◌++◌, length, Option, Some, true}
+use Rattle.std.specs.Prelude.{◌≡◌, ◌+◌, ℕ, List, [], ◌∷◌, ◌++◌, length, map, Option, Some, true}
 use Rattle.std.specs.List.{range_with_len}
 use Rattle.std.specs.Str.{is_utf8}
+use Rattle.std.specs.Borrow.{Bor}
 use Rattle.cdp_edge.specs.Blame.{Faults, Blames, Read}
 use Rattle.cdp_edge.specs.Outside.{Named, Told, content_of}
 use Rattle.cdp_text.specs.Units.{utf16_of}
@@ -17,6 +18,14 @@ use Rattle.script_files.specs.declared.fault.FileFault.{FileFault}
 use Rattle.script_files.specs.declared.fault.FileFault.TheVariants as faults
 use Rattle.script_files.specs.TopNames.{declared_in}
 use Rattle.script_files.specs.Refusals.{IsRefused}
+
+-- a name that is lent
+abbrev pub name_held : Bor (List ℕ) → List ℕ
+name_held name = name.now
+
+-- names that are lent
+abbrev pub names_held : List (Bor (List ℕ)) → List (List ℕ)
+names_held names = map name_held names
 
 -- These bytes are this script, under this name, behind so many scripts that declare these names: its source is what the
 -- bytes spell, its tree the one of that source, and its nodes are numbered in the order in which they end.

@@ -1,10 +1,10 @@
 //! The scripts that files hold.
 
-ghost use Rattle.std.specs.Prelude.{◌≡◌, ◌∷◌, ◌++◌, [], List, ℕ, IfOk, IfErr, OnOk, map, string_bytes};
+ghost use Rattle.std.specs.Prelude.{◌≡◌, ◌∷◌, ◌++◌, [], List, ℕ, IfOk, IfErr, OnOk};
 ghost use Rattle.cdp_edge.specs.Outside.{Named, Told};
 ghost use Rattle.js_tree.specs.declared.script.Script.{Script as AnyScript};
 ghost use Rattle.script_files.specs.TopNames.{declared_in};
-ghost use Rattle.script_files.specs.Scripts.{AreScripts, HoldsScript, IsOneMore, IsRefusedAt, Fails, FailsNext};
+ghost use Rattle.script_files.specs.Scripts.{AreScripts, HoldsScript, IsOneMore, IsRefusedAt, Fails, FailsNext, names_held};
 ghost use Rattle.script_files.specs.declared.fault.Refusal.{Refusal as AnyRefusal};
 
 use crate::fault::FileFault;
@@ -96,19 +96,19 @@ fn add_script<F: Shelf>(
 pub fn read_scripts<'n, F: Shelf>(
     alloc: Global,
     shelf: &mut F,
-    names: &'n [String],
+    names: &[&'n str],
 ) -> Result<Vec<Script>, ScriptFault<'n>>
-    ensures scripts { IfOk result (λ ss. Told (F.files shelf.old) (λ files. AreScripts files (map string_bytes names.now) ss.items)) }
+    ensures scripts { IfOk result (λ ss. Told (F.files shelf.old) (λ files. AreScripts files (names_held names.now) ss.items)) }
     ensures quiet { IfOk result (λ ss. F.faults shelf.new ≡ F.faults shelf.old) }
-    ensures fault { IfErr result (λ e. Fails e.fault (F.files shelf.old) (map string_bytes names.now) e.name.now (F.faults shelf.old) (F.faults shelf.new)) }
+    ensures fault { IfErr result (λ e. Fails e.fault (F.files shelf.old) (names_held names.now) e.name.now (F.faults shelf.old) (F.faults shelf.new)) }
     ensures files { F.files shelf.new ≡ F.files shelf.old }
     // Where all files hold scripts, none is refused.
-    ensures one { (files : List Named) (ss : List AnyScript) (name : List ℕ) (r : AnyRefusal) → AreScripts files (map string_bytes names.now) ss → IsRefusedAt files (map string_bytes names.now) name r → ⊥ }
+    ensures one { (files : List Named) (ss : List AnyScript) (name : List ℕ) (r : AnyRefusal) → AreScripts files (names_held names.now) ss → IsRefusedAt files (names_held names.now) name r → ⊥ }
 {
     let mut scripts = Vec::new(alloc);
     let mut declared = Vec::new(alloc);
     for name in names {
-        let name = name.as_str();
+        let name = *name;
         match add_script(alloc, shelf, name, &mut scripts, &mut declared) {
             Ok(()) => {}
             Err(fault) => return Err(ScriptFault { name, fault }),

@@ -1,6 +1,6 @@
-use Rattle.std.proofs.Common.{List, take, map, string_bytes, Option, subst, ◌∙◌}
+use Rattle.std.proofs.Common.{List, take, Option, refl, subst, ◌∙◌}
 use Rattle.cdp_edge.specs.Outside.{Named, Told}
-use Rattle.script_files.specs.Scripts.{IsOneMore}
+use Rattle.script_files.specs.Scripts.{IsOneMore, names_held}
 use Rattle.script_files.proofs.ScriptLemmas.{fails_at, stands_behind, told_are_more, none_refused}
 use Rattle.script_files.proofs.scripts.read_scripts.Goals as goal
 
@@ -8,31 +8,24 @@ pub returns-in-Err-clause-fault : goal.returns-in-Err-clause-fault
 returns-in-Err-clause-fault g c =
     let i = c.loop-name.invariant in
     let names = c.args.names.now in
-    fails_at c.in-Err.fault _ _ (map string_bytes names) (map string_bytes (take c.loop-name.name-index names))
-    c.as_str-name.result.now c.loop-name.scripts.items _ _ _ i.files i.quiet
-    (stands_behind names c.loop-name.name-index c.name-item.result c.as_str-name.result.now c.loop-name-test.true
-    c.name-item.is c.as_str-name.ensures.value)
-    i.are c.in-Err.ensures.fault
+    fails_at c.in-Err.fault _ _ (names_held names) (names_held (take c.loop-name.name-index names)) _
+    c.loop-name.scripts.items _ _ _ i.files i.quiet
+    (stands_behind names c.loop-name.name-index _ c.loop-name-test.true) i.are c.in-Err.ensures.fault
 
 pub returns-in-Err-clause-one : goal.returns-in-Err-clause-one
-returns-in-Err-clause-one g c = λ files ss name r. none_refused files (map string_bytes c.args.names.now) ss name r
+returns-in-Err-clause-one g c = λ files ss name r. none_refused files (names_held c.args.names.now) ss name r
 
 pub returns-clause-one : goal.returns-clause-one
-returns-clause-one g c = λ files ss name r. none_refused files (map string_bytes c.args.names.now) ss name r
+returns-clause-one g c = λ files ss name r. none_refused files (names_held c.args.names.now) ss name r
 
 pub loop-name-preserved : goal.loop-name-preserved
 loop-name-preserved g c =
     let i = c.loop-name.invariant in
     let e = c.in-Ok.ensures in
-    let more = subst
-    (λ (o : Option (List Named)). Told o
-    (λ files. IsOneMore files c.loop-name.scripts.items c.add_script.new.scripts.items c.as_str-name.result.now))
-    i.files e.script in
     record {
       are =
-          told_are_more _ c.args.names.now c.loop-name.name-index c.name-item.result c.loop-name.scripts.items
-          c.add_script.new.scripts.items c.as_str-name.result.now c.loop-name-test.true c.name-item.is
-          c.as_str-name.ensures.value i.are more;
+          told_are_more _ _ c.args.names.now c.loop-name.name-index _ c.loop-name.scripts.items
+          c.add_script.new.scripts.items i.files c.loop-name-test.true i.are e.script;
       declared = e.declared;
       files = e.files ∙ i.files;
       quiet = e.quiet ∙ i.quiet;
