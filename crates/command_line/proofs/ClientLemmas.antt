@@ -11,7 +11,7 @@ use Rattle.cdp_client.specs.declared.conversed.Conversed.TheVariants as talks
 use Rattle.script_files.proofs.ScriptLemmas.{some_same}
 use Rattle.command_line.specs.SendCauses.{BecauseCommands, BecauseSend, Dialled, HoldsCommands, IsDialled, IsUndialled, IsUnsent, MaySend, RefusesLine, Sends, Speaks, outcome_of_talk}
 use Rattle.command_line.specs.Status.{ForSend, GivenSend, closed_said, line_said, said, status_of, unread_said}
-use Rattle.command_line.specs.Words.{Command, Send, SendRequest}
+use Rattle.command_words.specs.Requests.{Request, Send, SendWords}
 use Rattle.command_line.specs.declared.outcome.Outcome.{Outcome}
 use Rattle.command_line.specs.declared.outcome.Outcome.TheVariants as ends
 use Rattle.command_line.proofs.RunLemmas.{told_always, told_map}
@@ -19,7 +19,7 @@ use Rattle.command_line.proofs.RunLemmas.{told_always, told_map}
 -- ---- before the port is dialled
 
 -- why sending ended so whose file wasn't taken
-pub unread : (end : Outcome) (request : SendRequest) (told : Option (List Named)) (before after : Faults) (out : Output)
+pub unread : (end : Outcome) (request : SendWords) (told : Option (List Named)) (before after : Faults) (out : Output)
     (harbor : Dialled) → BecauseCommands end request.commands told before after
     → BecauseSend end request told before after out out harbor harbor
 unread ends.OutOfMemory request told before after out harbor h = (h, refl, refl)
@@ -50,7 +50,7 @@ unsaid ends.NetworkFault commands told before after h = absurd h
 unsaid (ends.PeerClosed replies) commands told before after h = absurd h
 unsaid ends.TicketsSpent commands told before after h = absurd h
 
-pub unsent : (end : Outcome) (request : SendRequest) (told : Option (List Named)) (before after : Faults)
+pub unsent : (end : Outcome) (request : SendWords) (told : Option (List Named)) (before after : Faults)
     (out : Output) (harbor : Dialled) → BecauseCommands end request.commands told before after
     → Told told (λ files. MaySend files request out out harbor harbor end)
 unsent end request told before after out harbor h =
@@ -58,7 +58,7 @@ unsent end request told before after out harbor h =
     (λ files. inl (unsaid end request.commands told before after h, refl, refl))
 
 -- the port couldn't be dialled
-pub undialled : (end : Outcome) (request : SendRequest) (told : Option (List Named)) (out : Output)
+pub undialled : (end : Outcome) (request : SendWords) (told : Option (List Named)) (out : Output)
     (was now : Dialled) → IsUnsent end → now.hung_up ≡ was.hung_up
     → Told told (λ files. MaySend files request out out was now end)
 undialled end request told out was now unsent same =
@@ -116,7 +116,7 @@ in-form : (P : Type 0) (file : List ℕ) (line : ℕ) → IsInForm file → file
 in-form P file line form refused =
     let both : Ok form.0 ≡ Err line = sym form.1 ∙ refused in absurd cc
 
-module _ (request : SendRequest) (told : Option (List Named)) (commands : List ℕ) (old new : Output) (was now : Dialled)
+module _ (request : SendWords) (told : Option (List Named)) (commands : List ℕ) (old new : Output) (was now : Dialled)
     (there : Told told (λ files. content_of request.commands files ≡ Some commands)) where
   sends : (talk : Conversed) → Speaks commands talk old new was now
       → Told told (λ files. Sends files request talk old new was now)
@@ -164,12 +164,12 @@ module _ (request : SendRequest) (told : Option (List Named)) (commands : List �
 
 -- ---- of the words that ask for a client
 
-given_send : (o : Option Command) (request : SendRequest) (told : Option (List Named))
-    (P : SendRequest → List Named → Type 0) → o ≡ Some (Send request) → Told told (P request) → GivenSend o told P
+given_send : (o : Option Request) (request : SendWords) (told : Option (List Named))
+    (P : SendWords → List Named → Type 0) → o ≡ Some (Send request) → Told told (P request) → GivenSend o told P
 given_send o request told P is h = rw is h
 
 -- at every status
-pub sent_given : (o : Option Command) (request : SendRequest) (told : Option (List Named)) (old new : Output)
+pub sent_given : (o : Option Request) (request : SendWords) (told : Option (List Named)) (old new : Output)
     (was now : Dialled) (end : Outcome) (status : ℕ) → o ≡ Some (Send request) → status ≡ status_of end
     → Told told (λ files. MaySend files request old new was now end)
     → GivenSend o told (λ r files. (it : Outcome) × (status ≡ status_of it) × MaySend files r old new was now it)
@@ -181,7 +181,7 @@ sent_given o request told old new was now end status is ends_so h =
     (λ files at. (end, ends_so, at)) h)
 
 -- how a peer that closed is told
-abbrev IsToldClose : Output → Output → Dialled → Dialled → Option (List ℕ) → Option (List ℕ) → SendRequest
+abbrev IsToldClose : Output → Output → Dialled → Dialled → Option (List ℕ) → Option (List ℕ) → SendWords
     → List Named → Type 0
 IsToldClose old new was now before after request files =
     (replies : ℕ)
@@ -189,23 +189,23 @@ IsToldClose old new was now before after request files =
     × GainsPrefix before after (closed_said replies)
 
 -- how a line that is refused is told
-abbrev IsToldLine : Option (List ℕ) → Option (List ℕ) → SendRequest → List Named → Type 0
+abbrev IsToldLine : Option (List ℕ) → Option (List ℕ) → SendWords → List Named → Type 0
 IsToldLine before after request files =
     (line : ℕ) × RefusesLine files request.commands line × GainsPrefix before after (line_said line)
 
 -- how a file that can't be read is told
-abbrev IsToldRead : Faults → Faults → Option (List ℕ) → Option (List ℕ) → SendRequest → Type 0
+abbrev IsToldRead : Faults → Faults → Option (List ℕ) → Option (List ℕ) → SendWords → Type 0
 IsToldRead faults now_faults before after request =
     Blames (Read request.commands) faults now_faults × GainsPrefix before after (unread_said request.commands)
 
 -- one of these, where the file is of its form
-abbrev IsTaken : ℕ → SendRequest → List Named → Type 0
+abbrev IsTaken : ℕ → SendWords → List Named → Type 0
 IsTaken n request files =
     (lines : List Line) → HoldsCommands files request.commands lines
     → (n ≡ 0) ⊎ (n ≡ 9) ⊎ (n ≡ 1) ⊎ (n ≡ 4) ⊎ (n ≡ 5) ⊎ (n ≡ 7)
 
 -- one of these, where a line of it is refused
-abbrev IsLeft : ℕ → SendRequest → List Named → Type 0
+abbrev IsLeft : ℕ → SendWords → List Named → Type 0
 IsLeft n request files =
     (line : ℕ) → RefusesLine files request.commands line → (n ≡ 6) ⊎ (n ≡ 1) ⊎ (n ≡ 4)
 
@@ -217,14 +217,14 @@ not-both P files name lines line h r =
     in-form P r.commands line (lines, sym (ap file_read same) ∙ h.read) r.refused
 
 -- the file of a conversation that was held is of its form
-held : (P : Type 0) (files : List Named) (request : SendRequest) (talk : Conversed) (old new : Output)
+held : (P : Type 0) (files : List Named) (request : SendWords) (talk : Conversed) (old new : Output)
     (was now : Dialled) (line : ℕ) → ((file : List ℕ) → Speaks file talk old new was now → IsInForm file)
     → Sends files request talk old new was now → RefusesLine files request.commands line → P
 held P files request talk old new was now line form s r =
     let f : IsInForm s.commands = form s.commands s.speaks in
     not-both P files request.commands f.0 line (record { commands = s.commands; there = s.there; read = f.1 }) r
 
-module _ (request : SendRequest) (told : Option (List Named)) (faults now_faults : Faults) (old new : Output)
+module _ (request : SendWords) (told : Option (List Named)) (faults now_faults : Faults) (old new : Output)
     (was now : Dialled) where
   abbrev Because : Outcome → Type 0
   Because end = BecauseSend end request told faults now_faults old new was now
@@ -330,7 +330,7 @@ module _ (request : SendRequest) (told : Option (List Named)) (faults now_faults
   read-told (ends.Refused name r) before after is h says = absurd h
   read-told (ends.Threw text) before after is h says = absurd h
 
-  module _ (o : Option Command) (end : Outcome) (status : ℕ) (is : o ≡ Some (Send request))
+  module _ (o : Option Request) (end : Outcome) (status : ℕ) (is : o ≡ Some (Send request))
       (ends_so : status ≡ status_of end) (h : Because end) where
     pub taken_given : GivenSend o told (IsTaken status)
     taken_given =

@@ -8,7 +8,7 @@ use Rattle.js_tree.specs.declared.script.Script.{Script}
 use Rattle.command_line.specs.DrillCauses.{BecauseDrill, BecauseJournalOf, DrillRefuses, DrillsInPart, DrillsShort, DrillsWhole, IsDrilled, IsDrillScript}
 use Rattle.command_line.specs.Replays.{IsReplay, WritesReplay}
 use Rattle.command_line.specs.Status.{ForDrill, line_said, said, status_of}
-use Rattle.command_line.specs.Words.{Command, Drill}
+use Rattle.command_words.specs.Requests.{Request, Drill}
 use Rattle.command_line.specs.declared.outcome.Outcome.{Outcome}
 use Rattle.command_line.specs.declared.outcome.Outcome.TheVariants as ends
 use Rattle.printing.proofs.PrintingLemmas.{less-part}
@@ -124,7 +124,7 @@ line-told ends.NetworkFault n was now old new before after is h says = absurd h
 line-told ends.TicketsSpent n was now old new before after is h says = absurd h
 line-told (ends.PeerClosed replies) n was now old new before after is h says = absurd h
 
-pub line_given : (o : Option Command) (n : ℕ) (end : Outcome) (was now : ℕ) (old new before after : Option (List ℕ))
+pub line_given : (o : Option Request) (n : ℕ) (end : Outcome) (was now : ℕ) (old new before after : Option (List ℕ))
     (status : ℕ) → o ≡ Some (Drill n) → status ≡ status_of end → BecauseDrill end n was now old new
     → GainsPrefix before after (said end) → status ≡ 6 → ForDrill o (IsToldLine old new before after)
 line_given o n end was now old new before after status is ends_so h says six =

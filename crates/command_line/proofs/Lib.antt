@@ -1,4 +1,3 @@
-pub mod WordLemmas
 pub mod ShownLemmas
 pub mod AppliedLemmas
 pub mod PlainLemmas

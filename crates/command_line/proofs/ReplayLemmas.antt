@@ -10,7 +10,7 @@ use Rattle.command_line.specs.Replays.{WritesLess, WritesPart, WritesReplay}
 use Rattle.command_line.specs.ReplayCauses.{ReplaysWhole, ReplaysInPart, ReplaysShort, BecauseReplay, outcome_of_replay}
 use Rattle.command_line.specs.RunCauses.{BecauseSources}
 use Rattle.command_line.specs.Status.{GivenReplay, status_of}
-use Rattle.command_line.specs.Words.{Command, Replay, Request}
+use Rattle.command_words.specs.Requests.{Request, Replay, ReplayWords}
 use Rattle.command_line.specs.declared.outcome.Outcome.{Outcome}
 use Rattle.command_line.specs.declared.outcome.Outcome.TheVariants as ends
 use Rattle.command_line.specs.declared.journal.ReplayEnd.{ReplayEnd}
@@ -29,11 +29,11 @@ told_both : (told : Option (List Named)) (P Q R : List Named → Type 0)
 told_both None P Q R f p q = tt
 told_both (Some files) P Q R f p q = f files p q
 
-abbrev HasJournal : Option (List Named) → Request → List ℕ → Type 0
+abbrev HasJournal : Option (List Named) → ReplayWords → List ℕ → Type 0
 HasJournal told request journal = Told told (λ files. content_of request.journal files ≡ Some journal)
 
 -- why a replay ended so whose program wasn't taken
-pub unread : (end : Outcome) (request : Request) (told : Option (List Named)) (before mid after : Faults) (was : ℕ)
+pub unread : (end : Outcome) (request : ReplayWords) (told : Option (List Named)) (before mid after : Faults) (was : ℕ)
     (old : Option (List ℕ)) (journal : List ℕ)
     → HasJournal told request journal
     → mid ≡ before
@@ -76,10 +76,10 @@ pub record HasReplayed (e : ReplayEnd) (scripts : List Script) (input : List (Li
   pub failed : e ≡ plays.WriteFault → Rose was now
 
 -- the files hold the replay
-abbrev HasHeld : Option (List Named) → Request → List ℕ → List Script → List (List ℕ) → Type 0
+abbrev HasHeld : Option (List Named) → ReplayWords → List ℕ → List Script → List (List ℕ) → Type 0
 HasHeld told request journal scripts input = Told told (λ files. HoldsReplay files request journal scripts input)
 
-pub held : (told : Option (List Named)) (request : Request) (journal : List ℕ) (scripts : List Script)
+pub held : (told : Option (List Named)) (request : ReplayWords) (journal : List ℕ) (scripts : List Script)
     (input : List (List ℕ))
     → HasJournal told request journal
     → Told told (λ files. HoldsSources files request.sources scripts input) → HasHeld told request journal scripts input
@@ -89,7 +89,7 @@ held told request journal scripts input there sources =
     (λ files. HoldsReplay files request journal scripts input)
     (λ files t s. record { there = t; sources = s }) there sources
 
-in_part : (files : List Named) (request : Request) (journal : List ℕ) (scripts : List Script) (input : List (List ℕ))
+in_part : (files : List Named) (request : ReplayWords) (journal : List ℕ) (scripts : List Script) (input : List (List ℕ))
     (old new : Option (List ℕ))
     → HoldsReplay files request journal scripts input
     → WritesPart scripts input request.wait journal old new
@@ -102,7 +102,7 @@ quiet_by e was now other (inl is) = absurd (other is)
 quiet_by e was now other (inr is) = is
 
 -- why a replay ended so whose lines were played
-pub because : (e : ReplayEnd) (request : Request) (told : Option (List Named)) (before after : Faults) (was now : ℕ)
+pub because : (e : ReplayEnd) (request : ReplayWords) (told : Option (List Named)) (before after : Faults) (was now : ℕ)
     (old new : Option (List ℕ)) (journal : List ℕ) (scripts : List Script) (input : List (List ℕ))
     → HasHeld told request journal scripts input
     → after ≡ before
@@ -145,7 +145,7 @@ because plays.Memory request told before after was now old new journal scripts i
       (λ files i. inr (in_part files request journal scripts input old new i h.part)) holds,
 )
 
-pub in-part : (told : Option (List Named)) (request : Request) (old new : Option (List ℕ)) (journal : List ℕ)
+pub in-part : (told : Option (List Named)) (request : ReplayWords) (old new : Option (List ℕ)) (journal : List ℕ)
     (scripts : List Script) (input : List (List ℕ))
     → HasHeld told request journal scripts input
     → WritesPart scripts input request.wait journal old new
@@ -156,7 +156,7 @@ in-part told request old new journal scripts input holds part =
     (λ files i. inr (in_part files request journal scripts input old new i part)) holds
 
 -- the same, as the calls before the lines' replay tell of their shelves and bytes
-pub played : (e : ReplayEnd) (request : Request) (told mid_told : Option (List Named)) (before mid after : Faults)
+pub played : (e : ReplayEnd) (request : ReplayWords) (told mid_told : Option (List Named)) (before mid after : Faults)
     (was now : ℕ) (old new : Option (List ℕ)) (bytes journal : List ℕ) (scripts lent : List Script)
     (input : List (List ℕ))
     → HasJournal told request bytes
@@ -179,7 +179,7 @@ played e request told mid_told before mid after was now old new bytes journal sc
     (subst (λ (j : List ℕ). HasReplayed e scripts input request.wait j was now old new) is
     (subst (λ (ss : List Script). HasReplayed e ss input request.wait journal was now old new) are h))
 
-pub played-part : (request : Request) (told mid_told : Option (List Named)) (old new : Option (List ℕ))
+pub played-part : (request : ReplayWords) (told mid_told : Option (List Named)) (old new : Option (List ℕ))
     (bytes journal : List ℕ) (scripts lent : List Script) (input : List (List ℕ))
     → HasJournal told request bytes
     → mid_told ≡ told
@@ -200,7 +200,7 @@ played-part request told mid_told old new bytes journal scripts lent input there
 
 -- ---- the status that the files decide
 
-replay_stands : (files : List Named) (request : Request) (journal : List ℕ) (scripts : List Script)
+replay_stands : (files : List Named) (request : ReplayWords) (journal : List ℕ) (scripts : List Script)
     (input : List (List ℕ)) (name : List ℕ) (r : Refusal)
     → HoldsReplay files request journal scripts input
     → IsRefusedBehind files request name r → ⊥
@@ -208,13 +208,13 @@ replay_stands files request journal scripts input name r h i =
     run_stands files request.sources scripts input name r h.sources i.refused
 
 -- one of these, where the files hold journal, scripts and input
-abbrev IsTaken : ℕ → Request → List Named → Type 0
+abbrev IsTaken : ℕ → ReplayWords → List Named → Type 0
 IsTaken n request files =
     (journal : List ℕ) (scripts : List Script) (input : List (List ℕ))
     → HoldsReplay files request journal scripts input
     → (n ≡ 0) ⊎ (n ≡ 6) ⊎ (n ≡ 1) ⊎ (n ≡ 4) ⊎ (n ≡ 5)
 
-taken_of : (end : Outcome) (request : Request) (told : Option (List Named)) (before after : Faults) (was now : ℕ)
+taken_of : (end : Outcome) (request : ReplayWords) (told : Option (List Named)) (before after : Faults) (was now : ℕ)
     (old new : Option (List ℕ))
     → BecauseReplay end request told before after was now old new
     → Told told (IsTaken (status_of end) request)
@@ -241,17 +241,17 @@ taken_of (ends.PeerClosed replies) request told before after was now old new h =
 taken_of (ends.Threw text) request told before after was now old new h = absurd h
 
 -- one of these, where a file is refused
-abbrev IsLeft : ℕ → Request → List Named → Type 0
+abbrev IsLeft : ℕ → ReplayWords → List Named → Type 0
 IsLeft n request files =
     (name : List ℕ) (refusal : Refusal) → IsRefusedBehind files request name refusal → (n ≡ 3) ⊎ (n ≡ 1) ⊎ (n ≡ 4)
 
-not_left : (request : Request) (n : ℕ) (journal : List ℕ) (scripts : List Script) (input : List (List ℕ))
+not_left : (request : ReplayWords) (n : ℕ) (journal : List ℕ) (scripts : List Script) (input : List (List ℕ))
     (files : List Named)
     → HoldsReplay files request journal scripts input → IsLeft n request files
 not_left request n journal scripts input files holds name r refused =
     absurd (replay_stands files request journal scripts input name r holds refused)
 
-left_of : (end : Outcome) (request : Request) (told : Option (List Named)) (before after : Faults) (was now : ℕ)
+left_of : (end : Outcome) (request : ReplayWords) (told : Option (List Named)) (before after : Faults) (was now : ℕ)
     (old new : Option (List ℕ))
     → BecauseReplay end request told before after was now old new
     → Told told (IsLeft (status_of end) request)
@@ -278,13 +278,13 @@ left_of (ends.PeerClosed replies) request told before after was now old new h = 
 left_of (ends.Threw text) request told before after was now old new h = absurd h
 
 -- of the words that ask for the replay
-given_replay : (o : Option Command) (request : Request) (told : Option (List Named)) (P : Request → List Named → Type 0)
+given_replay : (o : Option Request) (request : ReplayWords) (told : Option (List Named)) (P : ReplayWords → List Named → Type 0)
     → o ≡ Some (Replay request)
     → Told told (P request)
     → GivenReplay o told P
 given_replay o request told P is h = rw is h
 
-pub taken_given : (o : Option Command) (request : Request) (told : Option (List Named)) (end : Outcome)
+pub taken_given : (o : Option Request) (request : ReplayWords) (told : Option (List Named)) (end : Outcome)
     (before after : Faults) (was now : ℕ) (old new : Option (List ℕ)) (status : ℕ)
     → o ≡ Some (Replay request)
     → status ≡ status_of end
@@ -295,7 +295,7 @@ taken_given o request told end before after was now old new status is e h =
     (subst (λ (n : ℕ). Told told (IsTaken n request)) (sym e)
     (taken_of end request told before after was now old new h))
 
-pub left_given : (o : Option Command) (request : Request) (told : Option (List Named)) (end : Outcome)
+pub left_given : (o : Option Request) (request : ReplayWords) (told : Option (List Named)) (end : Outcome)
     (before after : Faults) (was now : ℕ) (old new : Option (List ℕ)) (status : ℕ)
     → o ≡ Some (Replay request)
     → status ≡ status_of end

@@ -10,7 +10,7 @@ use Rattle.script_files.proofs.ScriptLemmas.{none_refused, some_same}
 use Rattle.command_line.specs.Files.{HoldsLines, HoldsSources, IsRefusedIn}
 use Rattle.command_line.specs.RunCauses.{RunsToEnd, RunsToThrow, RunsShort, RunsInPart, BecauseSources, BecauseRun}
 use Rattle.command_line.specs.Status.{GivenRun, status_of}
-use Rattle.command_line.specs.Words.{Sources, Command, Run}
+use Rattle.command_words.specs.Requests.{Sources, Request, Run}
 use Rattle.command_line.specs.declared.outcome.Outcome.{Outcome}
 use Rattle.command_line.specs.declared.outcome.Outcome.TheVariants as ends
 
@@ -124,13 +124,13 @@ left_of (ends.PeerClosed replies) sources told before after was now old new h = 
 left_of (ends.LineRefused n) sources told before after was now old new h = absurd h
 
 -- of the words that ask for the run
-given_run : (o : Option Command) (sources : Sources) (told : Option (List Named)) (P : Sources → List Named → Type 0)
+given_run : (o : Option Request) (sources : Sources) (told : Option (List Named)) (P : Sources → List Named → Type 0)
     → o ≡ Some (Run sources)
     → Told told (P sources)
     → GivenRun o told P
 given_run o sources told P is h = rw is h
 
-pub taken_given : (o : Option Command) (sources : Sources) (told : Option (List Named)) (end : Outcome)
+pub taken_given : (o : Option Request) (sources : Sources) (told : Option (List Named)) (end : Outcome)
     (before after : Faults) (was now : ℕ) (old new : Option (List ℕ)) (status : ℕ)
     → o ≡ Some (Run sources)
     → status ≡ status_of end
@@ -141,7 +141,7 @@ taken_given o sources told end before after was now old new status is e h =
     (subst (λ (n : ℕ). Told told (IsTaken n sources)) (sym e)
     (taken_of end sources told before after was now old new h))
 
-pub left_given : (o : Option Command) (sources : Sources) (told : Option (List Named)) (end : Outcome)
+pub left_given : (o : Option Request) (sources : Sources) (told : Option (List Named)) (end : Outcome)
     (before after : Faults) (was now : ℕ) (old new : Option (List ℕ)) (status : ℕ)
     → o ≡ Some (Run sources)
     → status ≡ status_of end

@@ -46,7 +46,7 @@ use Rattle.command_line.specs.Files.{HoldsSources}
 use Rattle.command_line.specs.RunCauses.{BecauseSources, RunsInPart, RunsToThrow}
 use Rattle.command_line.specs.ServeCauses.{BecauseServe, BecauseServed, Harbored, HasFinished, IsEndOf, IsOpened, IsShutEnd, IsUnserved, MayServe, ServesPort, ShowsThrow, or_doors, outcome_of_serving}
 use Rattle.command_line.specs.Status.{GivenServe, said, status_of, uncaught_said}
-use Rattle.command_line.specs.Words.{Command, Serve, ServeRequest}
+use Rattle.command_words.specs.Requests.{Request, Serve, ServeWords}
 use Rattle.command_line.specs.declared.outcome.Outcome.{Outcome}
 use Rattle.command_line.specs.declared.outcome.Outcome.TheVariants as ends
 use Rattle.command_line.proofs.PausedLemmas.{run-shut}
@@ -457,7 +457,7 @@ host-program scripts input wait host history text stands works told =
 -- ---- before a port is opened
 
 -- why a server ended so whose files weren't all taken
-pub unread : (end : Outcome) (request : ServeRequest) (told : Opt (List Named)) (before after : Faults) (out : Output)
+pub unread : (end : Outcome) (request : ServeWords) (told : Opt (List Named)) (before after : Faults) (out : Output)
     (harbor : Harbored) → BecauseSources end request.sources told before after
     → BecauseServe end request told before after out out harbor harbor
 unread ends.Done request told before after out harbor h = absurd h
@@ -474,7 +474,7 @@ unread ends.TicketsSpent request told before after out harbor h = absurd h
 unread (ends.PeerClosed replies) request told before after out harbor h = absurd h
 
 -- why one ended so whose program was served
-pub read : (end : Outcome) (request : ServeRequest) (told : Opt (List Named)) (faults : Faults) (old new : Output)
+pub read : (end : Outcome) (request : ServeWords) (told : Opt (List Named)) (faults : Faults) (old new : Output)
     (before after : Harbored) (scripts : List Script) (input : List (List ℕ))
     → Told told (λ files. HoldsSources files request.sources scripts input)
     → BecauseServed end scripts input request.port request.sessions old new before after
@@ -514,7 +514,7 @@ read (ends.LineRefused n) request told faults old new before after scripts input
 read (ends.PeerClosed replies) request told faults old new before after scripts input holds h = absurd h
 
 -- no port was served where a file wasn't taken
-pub unserved : (end : Outcome) (request : ServeRequest) (told : Opt (List Named)) (before after : Faults)
+pub unserved : (end : Outcome) (request : ServeWords) (told : Opt (List Named)) (before after : Faults)
     → BecauseSources end request.sources told before after → IsUnserved end
 unserved ends.Done request told before after h = absurd h
 unserved (ends.Threw text) request told before after h = absurd h
@@ -530,7 +530,7 @@ unserved ends.TicketsSpent request told before after h = absurd h
 unserved (ends.PeerClosed replies) request told before after h = absurd h
 
 -- a port that was served for the scripts that the files hold, or wasn't
-pub serves : (request : ServeRequest) (told : Opt (List Named)) (moment : Opt ℕ) (old new : Output)
+pub serves : (request : ServeWords) (told : Opt (List Named)) (moment : Opt ℕ) (old new : Output)
     (before after : Opt (List Tended)) (end : Outcome) (scripts : List Script) (input : List (List ℕ))
     → Told told (λ files. HoldsSources files request.sources scripts input)
     → (IsUnserved end × (new.content ≡ old.content))
@@ -543,7 +543,7 @@ serves request told moment old new before after end scripts input holds (inr por
     (λ files at. inr (record { scripts = scripts; input = input; holds = at; port = port })) holds
 
 -- its output is a first part of the plain one
-in-part : (request : ServeRequest) (files : List Named) (moment : Opt ℕ) (old new : Output)
+in-part : (request : ServeWords) (files : List Named) (moment : Opt ℕ) (old new : Output)
     (before after : Opt (List Tended)) (end : Outcome) → MayServe files request moment old new before after end
     → (new.content ≡ old.content) ⊎ RunsInPart files request.sources old.content new.content
 in-part request files moment old new before after end (inl unserved) = inl unserved.1
@@ -558,12 +558,12 @@ in-part request files moment old new before after end (inr s) = inr (record {
 
 -- ---- of the words that ask for a server
 
-given_serve : (o : Opt Command) (request : ServeRequest) (told : Opt (List Named))
-    (P : ServeRequest → List Named → Type 0) → o ≡ Some (Serve request) → Told told (P request) → GivenServe o told P
+given_serve : (o : Opt Request) (request : ServeWords) (told : Opt (List Named))
+    (P : ServeWords → List Named → Type 0) → o ≡ Some (Serve request) → Told told (P request) → GivenServe o told P
 given_serve o request told P is h = rw is h
 
 -- its output is a first part of the plain one
-pub part_given : (o : Opt Command) (request : ServeRequest) (told : Opt (List Named)) (moment : Opt ℕ)
+pub part_given : (o : Opt Request) (request : ServeWords) (told : Opt (List Named)) (moment : Opt ℕ)
     (old new : Output) (before after : Opt (List Tended)) (end : Outcome) → o ≡ Some (Serve request)
     → Told told (λ files. MayServe files request moment old new before after end)
     → GivenServe o told
@@ -575,7 +575,7 @@ part_given o request told moment old new before after end is h =
     (λ files at. in-part request files moment old new before after end at) h)
 
 -- its end is that of the port that it served, if it served one
-pub served_given : (o : Opt Command) (request : ServeRequest) (told : Opt (List Named)) (moment : Opt ℕ)
+pub served_given : (o : Opt Request) (request : ServeWords) (told : Opt (List Named)) (moment : Opt ℕ)
     (old new : Output) (before after : Opt (List Tended)) (end : Outcome) (status : ℕ) → o ≡ Some (Serve request)
     → status ≡ status_of end → Told told (λ files. MayServe files request moment old new before after end)
     → GivenServe o told
@@ -586,13 +586,13 @@ served_given o request told moment old new before after end status is ends_so h 
     (told_map told (λ files. MayServe files request moment old new before after end) _ (λ files at. (end, ends_so, at)) h)
 
 -- how a throw that ended its program is told
-abbrev IsToldThrow : Output → Output → Opt (List ℕ) → Opt (List ℕ) → ServeRequest → List Named → Type 0
+abbrev IsToldThrow : Output → Output → Opt (List ℕ) → Opt (List ℕ) → ServeWords → List Named → Type 0
 IsToldThrow old new before after request files =
     (text : List ℕ)
     × RunsToThrow files request.sources text old.content new.content
     × GainsPrefix before after (uncaught_said text)
 
-threw-told : (end : Outcome) (request : ServeRequest) (told : Opt (List Named)) (faults now_faults : Faults)
+threw-told : (end : Outcome) (request : ServeWords) (told : Opt (List Named)) (faults now_faults : Faults)
     (old new : Output) (was now : Harbored) (before after : Opt (List ℕ)) → status_of end ≡ 8
     → BecauseServe end request told faults now_faults old new was now → GainsPrefix before after (said end)
     → Told told (IsToldThrow old new before after request)
@@ -614,7 +614,7 @@ threw-told ends.NetworkFault request told faults now_faults old new was now befo
 threw-told ends.TicketsSpent request told faults now_faults old new was now before after is h says = absurd cc
 threw-told (ends.PeerClosed replies) request told faults now_faults old new was now before after is h says = absurd h
 
-pub threw_given : (o : Opt Command) (end : Outcome) (request : ServeRequest) (told : Opt (List Named))
+pub threw_given : (o : Opt Request) (end : Outcome) (request : ServeWords) (told : Opt (List Named))
     (faults now_faults : Faults) (old new : Output) (was now : Harbored) (before after : Opt (List ℕ)) (status : ℕ)
     → o ≡ Some (Serve request) → status ≡ status_of end
     → BecauseServe end request told faults now_faults old new was now → GainsPrefix before after (said end)

@@ -5,7 +5,7 @@ use Rattle.js_tree.specs.declared.script.Script.{Script}
 use Rattle.script_files.specs.declared.fault.Refusal.{Refusal}
 use Rattle.script_files.specs.Input.{HoldsInput, HoldsNoText}
 use Rattle.script_files.specs.Scripts.{AreScripts, IsAmong, IsReachedAt, IsRefusedAt}
-use Rattle.command_line.specs.Words.{Request, Sources}
+use Rattle.command_words.specs.Requests.{ReplayWords, Sources}
 
 -- ---- a program: its input comes before its scripts
 
@@ -52,27 +52,27 @@ IsReachedIn files sources name = (sources.input ≡ Some name) ⊎ IsReachedScri
 -- ---- a replay: its journal comes before its program
 
 -- the files hold this journal, and these scripts and lines of input
-pub record HoldsReplay (files : List Named) (request : Request) (journal : List ℕ) (scripts : List Script)
+pub record HoldsReplay (files : List Named) (request : ReplayWords) (journal : List ℕ) (scripts : List Script)
     (input : List (List ℕ)) : Type 0 where
   pub there : content_of request.journal files ≡ Some journal
   pub sources : HoldsSources files request.sources scripts input
 
 -- the journal is there, and the first of the program's files that isn't taken has this name
-pub record IsRefusedBehind (files : List Named) (request : Request) (name : List ℕ) (r : Refusal) : Type 0 where
+pub record IsRefusedBehind (files : List Named) (request : ReplayWords) (name : List ℕ) (r : Refusal) : Type 0 where
   pub journal : List ℕ
   pub there : content_of request.journal files ≡ Some journal
   pub refused : IsRefusedIn files request.sources name r
 
 -- the journal or one of the program's files has this name
-abbrev pub IsNamedBy : Request → List ℕ → Type 0
+abbrev pub IsNamedBy : ReplayWords → List ℕ → Type 0
 IsNamedBy request name = (request.journal ≡ name) ⊎ IsNamed request.sources name
 
 -- the journal is there, and the program's files before that of this name are taken
-pub record IsReachedBehind (files : List Named) (request : Request) (name : List ℕ) : Type 0 where
+pub record IsReachedBehind (files : List Named) (request : ReplayWords) (name : List ℕ) : Type 0 where
   pub journal : List ℕ
   pub there : content_of request.journal files ≡ Some journal
   pub reached : IsReachedIn files request.sources name
 
 -- the files before that of this name are taken
-abbrev pub IsReachedBy : List Named → Request → List ℕ → Type 0
+abbrev pub IsReachedBy : List Named → ReplayWords → List ℕ → Type 0
 IsReachedBy files request name = (request.journal ≡ name) ⊎ IsReachedBehind files request name

@@ -1,6 +1,3 @@
-pub mod Words
-pub mod SourcesHeld
-pub mod RequestHeld
 pub mod Files
 pub mod Journal
 pub mod Applied
@@ -15,4 +12,5 @@ pub mod ReplayCauses
 pub mod ServeCauses
 pub mod SendCauses
 pub mod DrillCauses
+pub mod TextCauses
 pub mod Status

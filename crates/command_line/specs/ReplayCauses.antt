@@ -5,7 +5,7 @@ use Rattle.cdp_edge.specs.Blame.{Faults, Blames, Read}
 use Rattle.js_tree.specs.declared.script.Script.{Script}
 use Rattle.command_line.specs.Files.{HoldsReplay, IsNamedBy, IsReachedBy, IsRefusedBehind}
 use Rattle.command_line.specs.Replays.{WritesLess, WritesPart, WritesReplay}
-use Rattle.command_line.specs.Words.{Request}
+use Rattle.command_words.specs.Requests.{ReplayWords}
 use Rattle.command_line.specs.declared.outcome.Outcome.{Outcome}
 use Rattle.command_line.specs.declared.outcome.Outcome.TheVariants as ends
 use Rattle.command_line.specs.declared.journal.ReplayEnd.{ReplayEnd}
@@ -14,7 +14,7 @@ use Rattle.command_line.specs.declared.journal.ReplayEnd.TheVariants as plays
 -- ---- of a sink that had this content before and after
 
 -- the files hold the replay, up to the line that is refused, if one is, and all of its output is written
-pub record ReplaysWhole (files : List Named) (request : Request) (line : Option ℕ) (before now : Option (List ℕ))
+pub record ReplaysWhole (files : List Named) (request : ReplayWords) (line : Option ℕ) (before now : Option (List ℕ))
     : Type 0 where
   pub journal : List ℕ
   pub scripts : List Script
@@ -23,7 +23,7 @@ pub record ReplaysWhole (files : List Named) (request : Request) (line : Option 
   pub writes : WritesReplay scripts input request.wait journal line before now
 
 -- a first part of it is written
-pub record ReplaysInPart (files : List Named) (request : Request) (before now : Option (List ℕ)) : Type 0 where
+pub record ReplaysInPart (files : List Named) (request : ReplayWords) (before now : Option (List ℕ)) : Type 0 where
   pub journal : List ℕ
   pub scripts : List Script
   pub input : List (List ℕ)
@@ -31,7 +31,7 @@ pub record ReplaysInPart (files : List Named) (request : Request) (before now : 
   pub writes : WritesPart scripts input request.wait journal before now
 
 -- and not all of it
-pub record ReplaysShort (files : List Named) (request : Request) (before now : Option (List ℕ)) : Type 0 where
+pub record ReplaysShort (files : List Named) (request : ReplayWords) (before now : Option (List ℕ)) : Type 0 where
   pub journal : List ℕ
   pub scripts : List Script
   pub input : List (List ℕ)
@@ -50,7 +50,7 @@ outcome_of_replay plays.Memory = ends.OutOfMemory
 -- why a replay ended so: the files say so, a count of faults rose, or memory was wanting. The counts are those of the
 -- shelf and of the output, the contents those of the output
 abbrev pub BecauseReplay : Outcome
-    → Request
+    → ReplayWords
     → Option (List Named)
     → Faults
     → Faults

@@ -12,7 +12,7 @@ use Rattle.script_runs.specs.Runs.{HasEnded, HasThrown, IsCutShort, IsFirstPart}
 use Rattle.script_runs.specs.declared.end.RunEnd.{RunEnd}
 use Rattle.script_runs.specs.declared.end.RunEnd.TheVariants as runs
 use Rattle.command_line.specs.Files.{HoldsSources, IsNamed, IsReachedIn, IsRefusedIn}
-use Rattle.command_line.specs.Words.{Sources}
+use Rattle.command_words.specs.Requests.{Sources}
 use Rattle.command_line.specs.declared.outcome.Outcome.{Outcome}
 use Rattle.command_line.specs.declared.outcome.Outcome.TheVariants as ends
 

@@ -8,7 +8,7 @@ use Rattle.cdp_client.specs.Conversations.{Converses, CountsLink, CountsSink, Is
 use Rattle.cdp_client.specs.Lines.{Line, file_read}
 use Rattle.cdp_client.specs.declared.conversed.Conversed.{Conversed}
 use Rattle.cdp_client.specs.declared.conversed.Conversed.TheVariants as talks
-use Rattle.command_line.specs.Words.{SendRequest}
+use Rattle.command_words.specs.Requests.{SendWords}
 use Rattle.command_line.specs.declared.outcome.Outcome.{Outcome}
 use Rattle.command_line.specs.declared.outcome.Outcome.TheVariants as ends
 
@@ -80,14 +80,14 @@ pub record Speaks (file : List ℕ) (end : Conversed) (old new : Output) (was no
   pub faults : CountsLink (Some end) was.faults now.faults
 
 -- the file of commands is there, and a conversation by it came to this end
-pub record Sends (files : List Named) (request : SendRequest) (end : Conversed) (old new : Output) (was now : Dialled)
+pub record Sends (files : List Named) (request : SendWords) (end : Conversed) (old new : Output) (was now : Dialled)
     : Type 0 where
   pub commands : List ℕ
   pub there : content_of request.commands files ≡ Some commands
   pub speaks : Speaks commands end old new was now
 
 -- no conversation was held, and nothing was written; or one was, and came to this end
-abbrev pub MaySend : List Named → SendRequest → Output → Output → Dialled → Dialled → Outcome → Type 0
+abbrev pub MaySend : List Named → SendWords → Output → Output → Dialled → Dialled → Outcome → Type 0
 MaySend files request old new was now end =
     (IsUnsent end × (new ≡ old) × (now.hung_up ≡ was.hung_up))
     ⊎ ((talk : Conversed) × (end ≡ outcome_of_talk talk) × Sends files request talk old new was now)
@@ -105,7 +105,7 @@ BecauseCommands end commands told before after = ⊥
 
 -- why sending ended so: the file says so, the peer closed, a count of faults rose, or memory was wanting. The counts are
 -- those of the shelf
-abbrev pub BecauseSend : Outcome → SendRequest → Option (List Named) → Faults → Faults → Output → Output → Dialled
+abbrev pub BecauseSend : Outcome → SendWords → Option (List Named) → Faults → Faults → Output → Output → Dialled
     → Dialled → Type 0
 BecauseSend ends.Done request told before after old new was now =
     (after ≡ before)

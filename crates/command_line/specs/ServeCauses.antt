@@ -26,7 +26,7 @@ use Rattle.ws_service.specs.declared.program.RunEnd.{RunEnd}
 use Rattle.ws_service.specs.declared.program.RunEnd.TheVariants as runs
 use Rattle.command_line.specs.Files.{HoldsSources, IsNamed, IsReachedIn, IsRefusedIn}
 use Rattle.command_line.specs.RunCauses.{RunsToThrow}
-use Rattle.command_line.specs.Words.{ServeRequest}
+use Rattle.command_words.specs.Requests.{ServeWords}
 use Rattle.command_line.specs.declared.outcome.Outcome.{Outcome}
 use Rattle.command_line.specs.declared.outcome.Outcome.TheVariants as ends
 
@@ -91,7 +91,7 @@ pub record HasFinished (scripts : List Script) (input : List (List ℕ)) (before
   pub whole : now ≡ gains before (printed_lines (printed_of (plain steps scripts input)))
 
 -- the program of the scripts and the input that the files hold has
-pub record ServesToEnd (files : List Named) (request : ServeRequest) (before now : Option (List ℕ)) : Type 0 where
+pub record ServesToEnd (files : List Named) (request : ServeWords) (before now : Option (List ℕ)) : Type 0 where
   pub scripts : List Script
   pub input : List (List ℕ)
   pub holds : HoldsSources files request.sources scripts input
@@ -122,7 +122,7 @@ pub record ServesPort (scripts : List Script) (input : List (List ℕ)) (wait : 
       ≡ sent_alone scripts input wait s (view scripts input wait s (entries_of history))
 
 -- a port was served for the scripts and the input that the files hold, and that ended so
-pub record Serves (files : List Named) (request : ServeRequest) (moment : Option ℕ) (old new : Output)
+pub record Serves (files : List Named) (request : ServeWords) (moment : Option ℕ) (old new : Output)
     (before after : Option (List Tended)) (end : Outcome) : Type 0 where
   pub scripts : List Script
   pub input : List (List ℕ)
@@ -130,7 +130,7 @@ pub record Serves (files : List Named) (request : ServeRequest) (moment : Option
   pub port : ServesPort scripts input request.wait request.sessions moment old new before after end
 
 -- no port was served, and nothing was written; or one was, and that ended so
-abbrev pub MayServe : List Named → ServeRequest → Option ℕ → Output → Output → Option (List Tended)
+abbrev pub MayServe : List Named → ServeWords → Option ℕ → Output → Output → Option (List Tended)
     → Option (List Tended) → Outcome → Type 0
 MayServe files request moment old new before after end =
     (IsUnserved end × (new.content ≡ old.content)) ⊎ Serves files request moment old new before after end
@@ -171,7 +171,7 @@ BecauseServed (ends.PeerClosed replies) scripts input port sessions old new befo
 
 -- why a server ended so: the files say so, a count of faults rose, memory was wanting, or no ticket was left. The counts
 -- are those of the shelf
-abbrev pub BecauseServe : Outcome → ServeRequest → Option (List Named) → Faults → Faults → Output → Output → Harbored
+abbrev pub BecauseServe : Outcome → ServeWords → Option (List Named) → Faults → Faults → Output → Output → Harbored
     → Harbored → Type 0
 BecauseServe ends.Done request told before after old new was now =
     (after ≡ before)

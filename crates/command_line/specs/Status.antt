@@ -4,7 +4,9 @@ use Rattle.cdp_edge.specs.Outside.{Named, Told}
 use Rattle.cdp_edge.specs.Blame.{Faults}
 use Rattle.script_files.specs.declared.fault.Refusal.{Refusal}
 use Rattle.script_files.specs.declared.fault.Refusal.TheVariants as refusals
-use Rattle.command_line.specs.Words.{Command, Request, SendRequest, ServeRequest, Sources, Run, Replay, Serve, Send, Drill}
+use Rattle.command_words.specs.Helps.{help_text}
+use Rattle.command_words.specs.declared.help.TheConstants.{VERSION}
+use Rattle.command_words.specs.Requests.{Request, ReplayWords, SendWords, ServeWords, Sources, Run, Replay, Serve, Send, Drill, Help, Version}
 use Rattle.command_line.specs.declared.outcome.Outcome.{Outcome}
 use Rattle.command_line.specs.declared.outcome.Outcome.TheVariants as ends
 
@@ -74,90 +76,56 @@ said (ends.Threw text) = uncaught_said (string_bytes text)
 -- ---- what is said where words ask for something
 
 -- what holds of a run, where the words ask for one
-abbrev pub ForRun : Option Command → (Sources → Type 0) → Type 0
-ForRun None P = Unit {0}
+abbrev pub ForRun : Option Request → (Sources → Type 0) → Type 0
 ForRun (Some (Run sources)) P = P sources
-ForRun (Some (Replay request)) P = Unit {0}
-ForRun (Some (Serve request)) P = Unit {0}
-ForRun (Some (Send request)) P = Unit {0}
-ForRun (Some (Drill n)) P = Unit {0}
+ForRun asked P = Unit {0}
 
 -- what holds of a run and the files, where the words ask for one and the files are told
-abbrev pub GivenRun : Option Command → Option (List Named) → (Sources → List Named → Type 0) → Type 0
-GivenRun None files P = Unit {0}
-GivenRun (Some (Run sources)) files P = Told files (P sources)
-GivenRun (Some (Replay request)) files P = Unit {0}
-GivenRun (Some (Serve request)) files P = Unit {0}
-GivenRun (Some (Send request)) files P = Unit {0}
-GivenRun (Some (Drill n)) files P = Unit {0}
+abbrev pub GivenRun : Option Request → Option (List Named) → (Sources → List Named → Type 0) → Type 0
+GivenRun asked files P = ForRun asked (λ sources. Told files (P sources))
 
 -- what holds of a replay, where the words ask for one
-abbrev pub ForReplay : Option Command → (Request → Type 0) → Type 0
-ForReplay None P = Unit {0}
-ForReplay (Some (Run sources)) P = Unit {0}
-ForReplay (Some (Replay request)) P = P request
-ForReplay (Some (Serve request)) P = Unit {0}
-ForReplay (Some (Send request)) P = Unit {0}
-ForReplay (Some (Drill n)) P = Unit {0}
+abbrev pub ForReplay : Option Request → (ReplayWords → Type 0) → Type 0
+ForReplay (Some (Replay words)) P = P words
+ForReplay asked P = Unit {0}
 
 -- what holds of a replay and the files, where the words ask for one and the files are told
-abbrev pub GivenReplay : Option Command → Option (List Named) → (Request → List Named → Type 0) → Type 0
-GivenReplay None files P = Unit {0}
-GivenReplay (Some (Run sources)) files P = Unit {0}
-GivenReplay (Some (Replay request)) files P = Told files (P request)
-GivenReplay (Some (Serve request)) files P = Unit {0}
-GivenReplay (Some (Send request)) files P = Unit {0}
-GivenReplay (Some (Drill n)) files P = Unit {0}
+abbrev pub GivenReplay : Option Request → Option (List Named) → (ReplayWords → List Named → Type 0) → Type 0
+GivenReplay asked files P = ForReplay asked (λ words. Told files (P words))
 
 -- what holds of a server, where the words ask for one
-abbrev pub ForServe : Option Command → (ServeRequest → Type 0) → Type 0
-ForServe None P = Unit {0}
-ForServe (Some (Run sources)) P = Unit {0}
-ForServe (Some (Replay request)) P = Unit {0}
-ForServe (Some (Serve request)) P = P request
-ForServe (Some (Send request)) P = Unit {0}
-ForServe (Some (Drill n)) P = Unit {0}
+abbrev pub ForServe : Option Request → (ServeWords → Type 0) → Type 0
+ForServe (Some (Serve words)) P = P words
+ForServe asked P = Unit {0}
 
 -- what holds of a server and the files, where the words ask for one and the files are told
-abbrev pub GivenServe : Option Command → Option (List Named) → (ServeRequest → List Named → Type 0) → Type 0
-GivenServe None files P = Unit {0}
-GivenServe (Some (Run sources)) files P = Unit {0}
-GivenServe (Some (Replay request)) files P = Unit {0}
-GivenServe (Some (Serve request)) files P = Told files (P request)
-GivenServe (Some (Send request)) files P = Unit {0}
-GivenServe (Some (Drill n)) files P = Unit {0}
+abbrev pub GivenServe : Option Request → Option (List Named) → (ServeWords → List Named → Type 0) → Type 0
+GivenServe asked files P = ForServe asked (λ words. Told files (P words))
 
 -- what holds of a client, where the words ask for one
-abbrev pub ForSend : Option Command → (SendRequest → Type 0) → Type 0
-ForSend None P = Unit {0}
-ForSend (Some (Run sources)) P = Unit {0}
-ForSend (Some (Replay request)) P = Unit {0}
-ForSend (Some (Serve request)) P = Unit {0}
-ForSend (Some (Send request)) P = P request
-ForSend (Some (Drill n)) P = Unit {0}
+abbrev pub ForSend : Option Request → (SendWords → Type 0) → Type 0
+ForSend (Some (Send words)) P = P words
+ForSend asked P = Unit {0}
 
 -- what holds of a client and the files, where the words ask for one and the files are told
-abbrev pub GivenSend : Option Command → Option (List Named) → (SendRequest → List Named → Type 0) → Type 0
-GivenSend None files P = Unit {0}
-GivenSend (Some (Run sources)) files P = Unit {0}
-GivenSend (Some (Replay request)) files P = Unit {0}
-GivenSend (Some (Serve request)) files P = Unit {0}
-GivenSend (Some (Send request)) files P = Told files (P request)
-GivenSend (Some (Drill n)) files P = Unit {0}
+abbrev pub GivenSend : Option Request → Option (List Named) → (SendWords → List Named → Type 0) → Type 0
+GivenSend asked files P = ForSend asked (λ words. Told files (P words))
 
 -- the words ask for a client
-abbrev pub IsClient : Option Command → Type 0
-IsClient (Some (Send request)) = Unit {0}
-IsClient command = ⊥
+abbrev pub IsClient : Option Request → Type 0
+IsClient (Some (Send words)) = Unit {0}
+IsClient asked = ⊥
 
 -- what holds of a drill, where the words ask for one
-abbrev pub ForDrill : Option Command → (ℕ → Type 0) → Type 0
-ForDrill None P = Unit {0}
-ForDrill (Some (Run sources)) P = Unit {0}
-ForDrill (Some (Replay request)) P = Unit {0}
-ForDrill (Some (Serve request)) P = Unit {0}
-ForDrill (Some (Send request)) P = Unit {0}
+abbrev pub ForDrill : Option Request → (ℕ → Type 0) → Type 0
 ForDrill (Some (Drill n)) P = P n
+ForDrill asked P = Unit {0}
+
+-- what holds of a text that tells of the program, where the words ask for one: help, or its version
+abbrev pub ForText : Option Request → (List ℕ → Type 0) → Type 0
+ForText (Some (Help topic)) P = P (help_text topic)
+ForText (Some Version) P = P VERSION.now
+ForText asked P = Unit {0}
 
 -- neither a read nor a write failed, as the counts tell
 pub record Unfailed (before after : Faults) (writes_before writes_after : ℕ) : Type 0 where

@@ -22,10 +22,9 @@ mod report;
 mod run;
 mod send;
 mod serve;
-mod serve_request;
 mod sources;
+mod telling;
 mod transcript;
 mod whole_file;
-mod words;
 
 pub use program::debug_main;

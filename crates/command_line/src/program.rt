@@ -1,8 +1,8 @@
 //! The program's one top call.
 
-ghost use Rattle.std.specs.Prelude.{◌≡◌, ◌≢◌, ◌⊎◌, ◌↔◌, ◌<◌, ℕ, List, [], None, Some};
+ghost use Rattle.std.specs.Prelude.{◌≡◌, ◌≢◌, ◌⊎◌, ◌<◌, ℕ, List, [], None, Some};
 ghost use Rattle.cdp_edge.specs.Blame.{Blames, Read};
-ghost use Rattle.cdp_edge.specs.Outside.{Rose, Told, GainsPrefix};
+ghost use Rattle.cdp_edge.specs.Outside.{Rose, Told, GainsPrefix, gains};
 ghost use Rattle.cdp_client.specs.Lines.{Line};
 ghost use Rattle.cdp_client.specs.declared.conversed.Conversed.TheVariants as talks;
 ghost use Rattle.js_tree.specs.declared.script.Script.{Script};
@@ -14,9 +14,9 @@ ghost use Rattle.command_line.specs.Files.{HoldsReplay, HoldsSources, IsNamed, I
 ghost use Rattle.command_line.specs.ReplayCauses.{ReplaysInPart, ReplaysShort, ReplaysWhole};
 ghost use Rattle.command_line.specs.RunCauses.{RunsInPart, RunsShort, RunsToEnd, RunsToThrow};
 ghost use Rattle.command_line.specs.SendCauses.{HoldsCommands, MaySend, RefusesLine, Sends};
-ghost use Rattle.command_line.specs.Status.{ForDrill, ForReplay, ForRun, ForSend, ForServe, GivenReplay, GivenRun, GivenSend, GivenServe, IsClient, Unfailed, closed_said, line_said, refusal_said, said, status_of, uncaught_said, unread_said};
+ghost use Rattle.command_line.specs.Status.{ForDrill, ForReplay, ForRun, ForSend, ForServe, ForText, GivenReplay, GivenRun, GivenSend, GivenServe, IsClient, Unfailed, closed_said, line_said, refusal_said, said, status_of, uncaught_said, unread_said};
 ghost use Rattle.command_line.specs.ServeCauses.{MayServe, ServesToEnd};
-ghost use Rattle.command_line.specs.Words.{asked};
+ghost use Rattle.command_words.specs.Requests.{asked};
 ghost use Rattle.server_edge.specs.Contents.{called};
 ghost use Rattle.command_line.specs.declared.outcome.Outcome.{Outcome};
 
@@ -27,10 +27,11 @@ use crate::report::{report, status_of};
 use crate::run::run;
 use crate::send::send;
 use crate::serve::serve;
-use crate::words::{Command, read_words};
+use crate::telling::tell;
 use cdp_edge::{Shelf, Sink};
+use command_words::{Request, VERSION, help_text, read_words};
 use server_edge::{Clock, Door, Harbor};
-use std::alloc::Global;
+use std::alloc::{AllocError, Global};
 use std::sync::Wait;
 use std::thread::Threads;
 
@@ -38,9 +39,9 @@ use std::thread::Threads;
 ///
 /// | Status | Where | Line on `err` |
 /// |---|---|---|
-/// | 0 | `run`: only where the run ended by its last script; `replay`: only where every line was applied; `send`: only where every command was answered and every wait met; `drill`: only where the summary is written | none |
+/// | 0 | `run`: only where the run ended by its last script; `replay`: only where every line was applied; `send`: only where every command was answered and every wait met; `drill`: only where the summary is written; help and the version: only where their text is | none |
 /// | 1 | want of memory, also where a session is lost for want of it | `debug_host: out of memory` |
-/// | 2 | exactly where the words aren't `run SCRIPT...`, `replay JOURNAL SCRIPT...` or `replay --wait JOURNAL SCRIPT...`, or `serve SCRIPT...` with `--port P` (1 to 65,535), `--sessions N` (1 to 16) and `--wait` before it, in this order, all with `--input FILE` or `--input=FILE` before the first name, or `send COMMANDS` with `--port P` before it, with names that don't begin with `-`, nor `drill N` with N from 1 to 10,000 | `usage: debug_host run/replay/serve/send/drill` |
+/// | 2 | only where the words ask for nothing (`read_words` of `command_words`), and there always, but for want of memory | `usage: debug_host run/replay/serve/send/drill` |
 /// | 3 | only where the input or a script isn't UTF-8, or a script is refused by the parser | `debug_host: NAME: not UTF-8`, `debug_host: NAME:LINE:COL: unexpected token`, `debug_host: NAME: too long: N units`, `debug_host: NAME: too deep`, `debug_host: NAME: too many tokens` |
 /// | 4 | only where the shelf tells a fault at a file that the words name | `debug_host: cannot read NAME` |
 /// | 5 | only where the count of `out` rose or stands at the greatest `u64`, with output left to write | `debug_host: cannot write` |
@@ -60,6 +61,7 @@ use std::thread::Threads;
 /// that arrives as a line. Where the host neither answers nor closes, the call doesn't return.
 /// `drill N` reads no file: it replays a journal and a script that are made from N, in memory, and writes a summary of that
 /// replay's output. Its script or a line of its journal may be refused as those of a replay may.
+/// `--help` and `--version` write a text on `out`, and touch nothing else.
 /// What `err` does changes no status.
 pub fn debug_main<
     R: Threads + Wait + Sync,
@@ -83,7 +85,8 @@ where
     H::Door: Send,
     <H::Door as Door>::Link: Send,
     // the words
-    ensures usage { (result ≡ 2) ↔ (asked words.now ≡ None) }
+    ensures usage { result ≡ 2 → asked words.now ≡ None }
+    ensures usages { asked words.now ≡ None → (result ≡ 2) ⊎ (result ≡ 1) }
     ensures usage_untouched { result ≡ 2 → (out.new ≡ out.old) × (shelf.new ≡ shelf.old) × (harbor.new ≡ harbor.old) }
     ensures unwritten { (result ≡ 3) ⊎ (result ≡ 4) → out.new ≡ out.old }
     // the counts of faults, and what `err` took
@@ -171,6 +174,11 @@ where
         × (O.content out.new ≡ O.content out.old) × GainsPrefix (E.content err.old) (E.content err.new) (line_said number)) }
     ensures drill_part { ForDrill (asked words.now) (λ n. (O.content out.new ≡ O.content out.old) ⊎ DrillsInPart n (O.content out.old) (O.content out.new)) }
     ensures drill_shelf { ForDrill (asked words.now) (λ n. shelf.new ≡ shelf.old) }
+    // `--help` and `--version`: their text on `out`, and nothing else
+    ensures text_done { result ≡ 0 → ForText (asked words.now) (λ text. O.content out.new ≡ gains (O.content out.old) text) }
+    ensures text_part { ForText (asked words.now) (λ text. GainsPrefix (O.content out.old) (O.content out.new) text) }
+    ensures text_untouched { ForText (asked words.now) (λ text. (shelf.new ≡ shelf.old) × (harbor.new ≡ harbor.old)) }
+    ensures text_statuses { ForText (asked words.now) (λ text. (result ≡ 0) ⊎ (result ≡ 1) ⊎ (result ≡ 5)) }
     // what never comes of a command
     ensures closed_statuses { result ≡ 9 → IsClient (asked words.now) }
     ensures run_statuses { ForRun (asked words.now) (λ sources. result ≢ 6) }
@@ -182,19 +190,22 @@ where
     // where no count rose, the files or want of memory decided
     ensures complete { Unfailed (F.faults shelf.old) (F.faults shelf.new) (O.faults out.old) (O.faults out.new) → (result ≢ 4) × (result ≢ 5) }
 {
-    match read_words(words) {
-        None => end(alloc, Outcome::Usage, err),
-        Some(Command::Run(sources)) => end(alloc, run(rt, alloc, sources, shelf, out), err),
-        Some(Command::Replay(request)) => end(alloc, replay(alloc, request, shelf, out), err),
-        Some(Command::Serve(request)) => {
-            let outcome = serve(rt, alloc, request, shelf, out, harbor, clock);
+    match read_words(alloc, words) {
+        Err(AllocError) => end(alloc, Outcome::OutOfMemory, err),
+        Ok(None) => end(alloc, Outcome::Usage, err),
+        Ok(Some(Request::Run(sources))) => end(alloc, run(rt, alloc, &sources, shelf, out), err),
+        Ok(Some(Request::Replay(request))) => end(alloc, replay(alloc, &request, shelf, out), err),
+        Ok(Some(Request::Serve(request))) => {
+            let outcome = serve(rt, alloc, &request, shelf, out, harbor, clock);
             end(alloc, outcome, err)
         }
-        Some(Command::Send(request)) => {
+        Ok(Some(Request::Send(request))) => {
             let outcome = send(rt, alloc, request, shelf, out, harbor);
             end(alloc, outcome, err)
         }
-        Some(Command::Drill(number)) => end(alloc, drill(alloc, number, out), err),
+        Ok(Some(Request::Drill(number))) => end(alloc, drill(alloc, number, out), err),
+        Ok(Some(Request::Help(topic))) => end(alloc, tell(help_text(topic), out), err),
+        Ok(Some(Request::Version)) => end(alloc, tell(VERSION, out), err),
     }
 }
 

@@ -2,7 +2,7 @@
 
 ghost use Rattle.std.specs.Prelude.{◌≡◌, ◌⊎◌};
 ghost use Rattle.cdp_edge.specs.Outside.{Told};
-ghost use Rattle.command_line.specs.RequestHeld.{request_held};
+ghost use Rattle.command_words.specs.Held.{replay_held};
 ghost use Rattle.command_line.specs.ReplayCauses.{BecauseReplay, ReplaysInPart, outcome_of_replay};
 ghost use Rattle.command_line.specs.RunCauses.{IsUnbegun};
 
@@ -10,8 +10,8 @@ use crate::journal::{self, ReplayEnd};
 use crate::outcome::Outcome;
 use crate::sources::{Program, read_sources};
 use crate::whole_file::read_whole;
-use crate::words::Request;
 use cdp_edge::{Shelf, Sink};
+use command_words::ReplayWords;
 use std::alloc::Global;
 
 /// The end that the replay of a journal has.
@@ -31,19 +31,19 @@ fn outcome_of_replay(end: ReplayEnd) -> Outcome<'static>
 #[tactic(auto, using(crate::proofs::ReplayLemmas::unread))]
 pub(crate) fn replay<'w, F: Shelf, O: Sink>(
     alloc: Global,
-    request: Request<'w>,
+    request: &ReplayWords<'w>,
     shelf: &mut F,
     out: &mut O,
 ) -> Outcome<'w>
-    ensures cause { BecauseReplay result (request_held request.entry) (F.files shelf.old) (F.faults shelf.old) (F.faults shelf.new) (O.faults out.old) (O.faults out.new) (O.content out.old) (O.content out.new) }
-    ensures part { Told (F.files shelf.old) (λ files. (O.content out.new ≡ O.content out.old) ⊎ ReplaysInPart files (request_held request.entry) (O.content out.old) (O.content out.new)) }
+    ensures cause { BecauseReplay result (replay_held request.now) (F.files shelf.old) (F.faults shelf.old) (F.faults shelf.new) (O.faults out.old) (O.faults out.new) (O.content out.old) (O.content out.new) }
+    ensures part { Told (F.files shelf.old) (λ files. (O.content out.new ≡ O.content out.old) ⊎ ReplaysInPart files (replay_held request.now) (O.content out.old) (O.content out.new)) }
     ensures unbegun { IsUnbegun result → out.new ≡ out.old }
 {
     let journal = match read_whole(alloc, request.journal, shelf) {
         Ok(bytes) => bytes,
         Err(end) => return end,
     };
-    match read_sources(alloc, request.sources, shelf) {
+    match read_sources(alloc, &request.sources, shelf) {
         Ok(program) => {
             let Program { scripts, input } = program;
             let end = journal::replay(alloc, &scripts, input, request.wait, &journal, out);

@@ -2,13 +2,13 @@
 
 ghost use Rattle.std.specs.Prelude.{◌≡◌, ◌⊎◌};
 ghost use Rattle.cdp_edge.specs.Outside.{Told};
-ghost use Rattle.command_line.specs.RequestHeld.{sources_held};
+ghost use Rattle.command_words.specs.Held.{sources_held};
 ghost use Rattle.command_line.specs.RunCauses.{BecauseRun, IsUnbegun, RunsInPart, outcome_of_run};
 
 use crate::outcome::Outcome;
 use crate::sources::{Program, read_sources};
-use crate::words::Sources;
 use cdp_edge::{Shelf, Sink};
+use command_words::Sources;
 use script_runs::end::RunEnd;
 use script_runs::run::run_scripts;
 use std::alloc::Global;
@@ -32,12 +32,12 @@ fn outcome_of_run(end: RunEnd) -> Outcome<'static>
 pub(crate) fn run<'w, R: Wait, F: Shelf, O: Sink>(
     rt: &R,
     alloc: Global,
-    sources: Sources<'w>,
+    sources: &Sources<'w>,
     shelf: &mut F,
     out: &mut O,
 ) -> Outcome<'w>
-    ensures cause { BecauseRun result (sources_held sources.entry) (F.files shelf.old) (F.faults shelf.old) (F.faults shelf.new) (O.faults out.old) (O.faults out.new) (O.content out.old) (O.content out.new) }
-    ensures part { Told (F.files shelf.old) (λ files. (O.content out.new ≡ O.content out.old) ⊎ RunsInPart files (sources_held sources.entry) (O.content out.old) (O.content out.new)) }
+    ensures cause { BecauseRun result (sources_held sources.now) (F.files shelf.old) (F.faults shelf.old) (F.faults shelf.new) (O.faults out.old) (O.faults out.new) (O.content out.old) (O.content out.new) }
+    ensures part { Told (F.files shelf.old) (λ files. (O.content out.new ≡ O.content out.old) ⊎ RunsInPart files (sources_held sources.now) (O.content out.old) (O.content out.new)) }
     ensures unbegun { IsUnbegun result → out.new ≡ out.old }
 {
     match read_sources(alloc, sources, shelf) {

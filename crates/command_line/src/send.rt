@@ -4,14 +4,14 @@ ghost use Rattle.std.specs.Prelude.{◌≡◌, ◌⊎◌, ◌≤◌, IfOk, IfErr
 ghost use Rattle.cdp_edge.specs.Outside.{Told, content_of};
 ghost use Rattle.cdp_client.specs.Lines.{IsInForm};
 ghost use Rattle.server_edge.specs.Contents.{IsUnused, called};
-ghost use Rattle.command_line.specs.RequestHeld.{client_held};
+ghost use Rattle.command_words.specs.Held.{send_held};
 ghost use Rattle.command_line.specs.SendCauses.{BecauseCommands, BecauseSend, IsUndialled, MaySend, Speaks, outcome_of_talk};
 
 use crate::outcome::Outcome;
 use crate::whole_file::read_whole;
-use crate::words::SendRequest;
 use cdp_client::{Conversed, check_file, converse};
 use cdp_edge::{Shelf, Sink};
+use command_words::SendWords;
 use server_edge::{Harbor, HarborFault};
 use std::alloc::Global;
 use std::sync::Wait;
@@ -82,13 +82,13 @@ fn speak<R: Wait, O: Sink, H: Harbor>(
 pub(crate) fn send<'w, R: Wait, F: Shelf, O: Sink, H: Harbor>(
     rt: &R,
     alloc: Global,
-    request: SendRequest<'w>,
+    request: SendWords<'w>,
     shelf: &mut F,
     out: &mut O,
     harbor: &mut H,
 ) -> Outcome<'w>
-    ensures cause { BecauseSend result (client_held request.entry) (F.files shelf.old) (F.faults shelf.old) (F.faults shelf.new) (record { content = O.content out.old; faults = O.faults out.old }) (record { content = O.content out.new; faults = O.faults out.new }) (record { faults = H.faults harbor.old; dials = H.dials harbor.old; hung_up = H.hung_up harbor.old }) (record { faults = H.faults harbor.new; dials = H.dials harbor.new; hung_up = H.hung_up harbor.new }) }
-    ensures part { Told (F.files shelf.old) (λ files. MaySend files (client_held request.entry) (record { content = O.content out.old; faults = O.faults out.old }) (record { content = O.content out.new; faults = O.faults out.new }) (record { faults = H.faults harbor.old; dials = H.dials harbor.old; hung_up = H.hung_up harbor.old }) (record { faults = H.faults harbor.new; dials = H.dials harbor.new; hung_up = H.hung_up harbor.new }) result) }
+    ensures cause { BecauseSend result (send_held request.entry) (F.files shelf.old) (F.faults shelf.old) (F.faults shelf.new) (record { content = O.content out.old; faults = O.faults out.old }) (record { content = O.content out.new; faults = O.faults out.new }) (record { faults = H.faults harbor.old; dials = H.dials harbor.old; hung_up = H.hung_up harbor.old }) (record { faults = H.faults harbor.new; dials = H.dials harbor.new; hung_up = H.hung_up harbor.new }) }
+    ensures part { Told (F.files shelf.old) (λ files. MaySend files (send_held request.entry) (record { content = O.content out.old; faults = O.faults out.old }) (record { content = O.content out.new; faults = O.faults out.new }) (record { faults = H.faults harbor.old; dials = H.dials harbor.old; hung_up = H.hung_up harbor.old }) (record { faults = H.faults harbor.new; dials = H.dials harbor.new; hung_up = H.hung_up harbor.new }) result) }
     ensures undialled { IsUndialled result → (out.new ≡ out.old) × (harbor.new ≡ harbor.old) }
     ensures once { (H.dials harbor.new ≡ H.dials harbor.old) ⊎ (H.dials harbor.new ≡ called request.entry.port (H.dials harbor.old)) }
     ensures opens { H.opens harbor.new ≡ H.opens harbor.old }

@@ -8,15 +8,16 @@ ghost use Rattle.server_edge.specs.Contents.{called};
 ghost use Rattle.cdp_host.specs.Histories.{whole};
 ghost use Rattle.cdp_host.specs.Hosts.{Stands};
 ghost use Rattle.ws_service.specs.Joins.{AnswersForAll};
+ghost use Rattle.command_words.specs.Held.{serve_held};
 ghost use Rattle.command_line.specs.RunCauses.{IsUnbegun};
 ghost use Rattle.command_line.specs.ServeCauses.{BecauseServe, BecauseServed, IsUnserved, MayServe, ServesPort, ShowsThrow, or_doors, outcome_of_serving, unopened};
 
 use crate::outcome::Outcome;
-use crate::serve_request::ServeRequest;
 use crate::sources::{Program, read_sources};
 use cdp_edge::{Shelf, Sink};
 use cdp_host::{Beginning, Host};
 use cdp_text::units::Units;
+use command_words::ServeWords;
 use history_lock::HistoryLock;
 use host_turns::{Entry, Hosted, Lock, Worker};
 use js_tree::script::Script;
@@ -207,7 +208,7 @@ pub(crate) fn serve<
 >(
     rt: &R,
     alloc: Global,
-    request: ServeRequest<'w>,
+    request: &ServeWords<'w>,
     shelf: &mut F,
     out: &mut O,
     harbor: &mut P,
@@ -217,21 +218,21 @@ where
     P::Bell: Sync,
     P::Door: Send,
     <P::Door as Door>::Link: Send,
-    ensures cause { BecauseServe result request.entry (F.files shelf.old) (F.faults shelf.old) (F.faults shelf.new) (record { content = O.content out.old; faults = O.faults out.old }) (record { content = O.content out.new; faults = O.faults out.new }) (record { faults = P.faults harbor.old; opens = P.opens harbor.old; kept = P.kept harbor.old }) (record { faults = P.faults harbor.new; opens = P.opens harbor.new; kept = P.kept harbor.new }) }
-    ensures part { Told (F.files shelf.old) (λ files. MayServe files request.entry (C.moment clock.old) (record { content = O.content out.old; faults = O.faults out.old }) (record { content = O.content out.new; faults = O.faults out.new }) (P.kept harbor.old) (P.kept harbor.new) result) }
+    ensures cause { BecauseServe result (serve_held request.now) (F.files shelf.old) (F.faults shelf.old) (F.faults shelf.new) (record { content = O.content out.old; faults = O.faults out.old }) (record { content = O.content out.new; faults = O.faults out.new }) (record { faults = P.faults harbor.old; opens = P.opens harbor.old; kept = P.kept harbor.old }) (record { faults = P.faults harbor.new; opens = P.opens harbor.new; kept = P.kept harbor.new }) }
+    ensures part { Told (F.files shelf.old) (λ files. MayServe files (serve_held request.now) (C.moment clock.old) (record { content = O.content out.old; faults = O.faults out.old }) (record { content = O.content out.new; faults = O.faults out.new }) (P.kept harbor.old) (P.kept harbor.new) result) }
     ensures unbegun { IsUnbegun result → out.new ≡ out.old }
-    ensures once { (P.opens harbor.new ≡ P.opens harbor.old) ⊎ (P.opens harbor.new ≡ called (request.entry.port, request.entry.sessions) (P.opens harbor.old)) }
+    ensures once { (P.opens harbor.new ≡ P.opens harbor.old) ⊎ (P.opens harbor.new ≡ called ((serve_held request.now).port, (serve_held request.now).sessions) (P.opens harbor.old)) }
     ensures dials { P.dials harbor.new ≡ P.dials harbor.old }
 {
-    match read_sources(alloc, request.sources, shelf) {
+    match read_sources(alloc, &request.sources, shelf) {
         Ok(Program { scripts, input }) => serve_program::<Brand, R, O, P, C>(
             rt,
             alloc,
             &scripts,
             input,
             request.wait,
-            request.port as u16,
-            request.sessions as usize,
+            request.port,
+            request.sessions.count,
             out,
             harbor,
             clock,

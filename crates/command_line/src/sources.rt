@@ -3,13 +3,13 @@
 ghost use Rattle.std.specs.Prelude.{◌≡◌, IfOk, IfErr};
 ghost use Rattle.cdp_edge.specs.Outside.{Told};
 ghost use Rattle.command_line.specs.Files.{HoldsLines, HoldsSources};
-ghost use Rattle.command_line.specs.RequestHeld.{name_held, sources_held};
+ghost use Rattle.command_words.specs.Held.{text_held, sources_held};
 ghost use Rattle.command_line.specs.RunCauses.{BecauseInput, BecauseSources, outcome_of};
 
 use crate::outcome::Outcome;
-use crate::words::Sources;
 use cdp_edge::Shelf;
 use cdp_text::units::Units;
+use command_words::Sources;
 use js_tree::script::Script;
 use script_files::{FileFault, read_input, read_scripts};
 use std::alloc::Global;
@@ -39,9 +39,9 @@ fn read_lines<'w, F: Shelf>(
     input: Option<&'w str>,
     shelf: &mut F,
 ) -> Result<VecDeque<Units>, Outcome<'w>>
-    ensures lines { IfOk result (λ lines. Told (F.files shelf.old) (λ files. HoldsLines files (name_held input.entry) lines.items)) }
+    ensures lines { IfOk result (λ lines. Told (F.files shelf.old) (λ files. HoldsLines files (text_held input.entry) lines.items)) }
     ensures quiet { IfOk result (λ lines. F.faults shelf.new ≡ F.faults shelf.old) }
-    ensures fault { IfErr result (λ end. BecauseInput end (name_held input.entry) (F.files shelf.old) (F.faults shelf.old) (F.faults shelf.new)) }
+    ensures fault { IfErr result (λ end. BecauseInput end (text_held input.entry) (F.files shelf.old) (F.faults shelf.old) (F.faults shelf.new)) }
     ensures files { F.files shelf.new ≡ F.files shelf.old }
 {
     let Some(name) = input else {
@@ -60,19 +60,19 @@ fn read_lines<'w, F: Shelf>(
 /// The end that the first fault decides: a file can't be read or is refused, or there is no memory.
 pub(crate) fn read_sources<'w, F: Shelf>(
     alloc: Global,
-    sources: Sources<'w>,
+    sources: &Sources<'w>,
     shelf: &mut F,
 ) -> Result<Program, Outcome<'w>>
-    ensures holds { IfOk result (λ p. Told (F.files shelf.old) (λ files. HoldsSources files (sources_held sources.entry) p.scripts.items p.input.items)) }
+    ensures holds { IfOk result (λ p. Told (F.files shelf.old) (λ files. HoldsSources files (sources_held sources.now) p.scripts.items p.input.items)) }
     ensures quiet { IfOk result (λ p. F.faults shelf.new ≡ F.faults shelf.old) }
-    ensures fault { IfErr result (λ end. BecauseSources end (sources_held sources.entry) (F.files shelf.old) (F.faults shelf.old) (F.faults shelf.new)) }
+    ensures fault { IfErr result (λ end. BecauseSources end (sources_held sources.now) (F.files shelf.old) (F.faults shelf.old) (F.faults shelf.new)) }
     ensures files { F.files shelf.new ≡ F.files shelf.old }
 {
     let input = match read_lines(alloc, sources.input, shelf) {
         Ok(input) => input,
         Err(end) => return Err(end),
     };
-    match read_scripts(alloc, shelf, sources.scripts) {
+    match read_scripts(alloc, shelf, &sources.scripts) {
         Ok(scripts) => Ok(Program { scripts, input }),
         Err(fault) => Err(outcome_of(fault.name, fault.fault)),
     }
