@@ -60,9 +60,17 @@ class Host:
         file = self.files[number].fileno()
         return os.pread(file, os.fstat(file).st_size, 0)
 
+    def size(self):
+        """How many bytes of output it has written so far."""
+        return os.fstat(self.files[0].fileno()).st_size
+
     def ready(self, seconds=30):
         """Waits until it listens; gives the host."""
-        self.until(lambda: LISTENS.search(self.written(1)), seconds, "listens")
+        try:
+            self.until(lambda: LISTENS.search(self.written(1)), seconds, "listens")
+        except AssertionError:
+            self.__exit__()
+            raise
         return self
 
     def until(self, holds, seconds, what):

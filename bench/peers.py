@@ -31,7 +31,8 @@ console.log("end");
 """
 SUM_PRINTS = b"5\nend\n"
 PRINTS = 'for (let i = 0; i < LINES; i++) console.log("line", i);\n'
-LONG_PRINTS = 'let text = "";\nfor (let i = 0; i < 100; i++) text += "0123456789";\nfor (let i = 0; i < 100000; i++) console.log(text);\n'
+LONG_PRINTS = 'let text = "";\nfor (let i = 0; i < 100; i++) text += "0123456789";\nfor (let i = 0; i < LINES; i++) console.log(text);\n'
+SOME, MANY = 20_000, 100_000
 
 # ---- what the cases of `sockets.py` are to come to
 
@@ -148,6 +149,25 @@ def looks_at_a_stop(start):
     return came, (50, "Could not find object with given id", ["a", "b"], b"", [5, "end"], [1000, 1000], (0, SUM_PRINTS, b""))
 
 
+def is_prompt(start):
+    """What one thread makes for another is told at once, and not when that looks again by itself, after a second: the stops
+    after a resume, the end after the last one, and a stop to a client that only looks."""
+    with start("--wait", "stops.js") as host:
+        client, other = Client(host.port), Client(host.port)
+        begin(client)
+        other.call("Debugger.enable")
+        other.event("Debugger.paused")
+        begun = time.monotonic()
+        for _ in range(10):
+            client.tell("Debugger.resume")
+            client.event("Debugger.paused")
+            other.event("Debugger.paused")
+        client.tell("Debugger.resume")
+        codes = [client.closed(), other.closed()]
+        seconds = time.monotonic() - begun
+        return (seconds < 2 or "%.1f s" % seconds, codes, host.end()), (True, [1000, 1000], (0, b"", b""))
+
+
 def port_is_taken(start):
     """A second host at the port of the first: status 7, and the first one goes on."""
     with start("--wait", "sum.js") as host, start("sum.js", port=host.port, ready=False) as second:
@@ -183,22 +203,22 @@ def tells_prints(start, lines):
 
 
 def is_not_read(start):
-    """A client that is told of prints and never reads: the program goes on, and prints all."""
-    with start("--wait", "long.js") as host, listener(host).stream:
+    """A client that is told of prints and never reads, more than the system keeps: the program goes on, and prints all."""
+    with start("--wait", "some.js") as host, listener(host).stream:
         status, output, said = host.end(600)
-    return (status, len(output), said), (0, 100_000 * 1001, b"")
+    return (status, len(output), said), (0, SOME * 1001, b"")
 
 
-def reads_too_late(start):
-    """A client that reads only after more waits for it than may: it is closed with 1008, and the program goes on."""
-    with start("--wait", "long.js") as host:
+def reads_too_slowly(start):
+    """A client that reads so slowly that more waits for it than may: it is closed with 1008, and the program goes on."""
+    with start("--wait", "many.js") as host:
         client = listener(host)
-        end = time.monotonic() + 4
-        while len(host.written(0)) < 100_000 * 1001 and time.monotonic() < end:
-            time.sleep(0.05)
+        while host.size() < MANY * 1001:
+            client.rest += client.stream.recv(1 << 18)
+            time.sleep(0.5)
         code = client.closed()
         status, output, said = host.end(600)
-    return (code, status, len(output), said), (1008, 0, 100_000 * 1001, b"")
+    return (code, status, len(output), said), (1008, 0, MANY * 1001, b"")
 
 
 def waits_for_a_late_client(start):
@@ -304,7 +324,9 @@ def main():
     with tempfile.TemporaryDirectory() as folder:
         write(folder, "sum.js", SUM)
         write(folder, "prints.js", PRINTS.replace("LINES", str(asked.lines)))
-        write(folder, "long.js", LONG_PRINTS)
+        write(folder, "some.js", LONG_PRINTS.replace("LINES", str(SOME)))
+        write(folder, "many.js", LONG_PRINTS.replace("LINES", str(MANY)))
+        write(folder, "stops.js", "for (let i = 0; i < 10; i++) {\n  debugger;\n}\n")
         write(folder, "throw.js", 'console.log("begun");\nthrow "eight";\n')
 
         def start(*words, port=None, output=None, ready=True):
@@ -318,6 +340,7 @@ def main():
             rows.program("in a stop a client " + name, leaves_in_a_stop, start, leave, expected)
         rows.program("in a stop one of two vanishes", stays_for_another, start)
         rows.program("one is paused while the other looks", looks_at_a_stop, start)
+        rows.program("stops and the end are told at once", is_prompt, start)
         rows.program("the port is taken", port_is_taken, start)
         rows.program("a client comes late", waits_for_a_late_client, start)
         rows.program("no client comes", runs_alone, start)
@@ -327,7 +350,7 @@ def main():
         rows.program("an interrupt", is_interrupted, start)
         rows.program("%d lines are printed" % asked.lines, tells_prints, start, asked.lines)
         rows.program("a client doesn't read", is_not_read, start)
-        rows.program("a client reads too late", reads_too_late, start)
+        rows.program("a client reads too slowly", reads_too_slowly, start)
     print("%d cases, %d as expected" % (rows.all, rows.held))
     sys.exit(rows.all != rows.held)
 

@@ -74,7 +74,7 @@ def unread(port):
     count = 0
     text = b'{"id":1,"method":"' + b"x" * 60_000 + b'"}'
     try:
-        while time.time() - start < 20:
+        while time.time() - start < 60:
             client.stream.sendall(frame(TEXT, text))
             count += 1
     except OSError as error:
