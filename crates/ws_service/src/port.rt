@@ -108,7 +108,7 @@ where
     ensures nothing { OnErr result ((S.content out.new ≡ S.content out.old) × (S.faults out.new ≡ S.faults out.old)) }
 {
     let count = passes.len();
-    let bell = harbor.bell();
+    let bell;
     let Ok(mut desks) = Vec::with_capacity(alloc, count) else {
         return Err(HarborFault::Memory);
     };
@@ -116,6 +116,7 @@ where
         return Err(HarborFault::Memory);
     };
     let doors = harbor.open(port, count)?;
+    bell = harbor.bell();
     sit_down(lock, &bell, passes, doors, &mut desks);
     let mut runner = Runner {
         lock,
