@@ -80,6 +80,9 @@ def main():
                 f"{threads} threads: {total / ours[0]:.0f} turns a second, a mutex {total / plain[0]:.0f}, "
                 f"ratio {ours[0] / plain[0]:.2f}; processor seconds a million {ours[1] * 1e6 / total:.2f} and {plain[1] * 1e6 / total:.2f}"
             )
+        for threads in [4, 16]:
+            waits = run(lock, [str(threads), str(160 // threads), "20"], folder)
+            print(f"{threads} threads, one at a time for 20 ms: {waits.seconds:.2f} seconds, {waits.processor:.3f} of a processor")
 
 
 main()
