@@ -5,8 +5,9 @@
 
 1, 2, 4 and 16 threads take so many turns in all, each of which puts a row into a log: by the program `crates/turns`, which
 `rt run` proves and builds first, and by the same with `std::sync::Mutex`, which rustc builds. Either then looks at all rows.
-Prints for each how many turns a second it made, the ratio, and the processor seconds of a million turns. It is no part of the
-gate.
+Prints for each how many turns a second it made, the ratio, and the processor seconds of a million turns; and at last what
+waiting costs: four and sixteen threads hold each of 160 turns for 20 milliseconds, while all others wait. It is no part of
+the gate.
 """
 
 import os
@@ -80,6 +81,9 @@ def main():
                 f"{threads} threads: {total / ours[0]:.0f} turns a second, a mutex {total / plain[0]:.0f}, "
                 f"ratio {ours[0] / plain[0]:.2f}; processor seconds a million {ours[1] * 1e6 / total:.2f} and {plain[1] * 1e6 / total:.2f}"
             )
+        for threads in [4, 16]:
+            waits = run(lock, [str(threads), str(160 // threads), "20"], folder)
+            print(f"{threads} threads, one at a time for 20 ms: {waits.seconds:.2f} seconds, {waits.processor:.3f} of a processor")
 
 
 main()

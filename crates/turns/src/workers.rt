@@ -7,14 +7,21 @@ use history_lock::{HistoryLock, Pass};
 use std::alloc::Global;
 use std::marker::Brand;
 use std::sync::Wait;
-use std::thread::{Threads, for_each_mut};
+use std::thread::{Threads, for_each_mut, sleep};
+use std::time::{Clock, Duration};
 
 pub type LogLock = HistoryLock<Log, Option<Row>, Brand>;
 
 pub type LogPass = Pass<Log, Option<Row>, Brand>;
 
-/// One turn, which leaves a row.
-fn leave_row<R: Wait>(rt: &R, lock: &LogLock, pass: &mut LogPass, row: Row)
+/// One turn, which leaves a row and is held for so long.
+fn leave_row<R: Wait + Clock>(
+    rt: &R,
+    lock: &LogLock,
+    pass: &mut LogPass,
+    row: Row,
+    held: Duration,
+)
     requires { IsReady lock.now pass.old }
     ensures { IsReady lock.now pass.new }
 {
@@ -22,25 +29,36 @@ fn leave_row<R: Wait>(rt: &R, lock: &LogLock, pass: &mut LogPass, row: Row)
         return;
     };
     let entry = turn.state().add(row);
+    if !held.is_zero() {
+        sleep(rt, held);
+    }
     lock.leave(pass, turn, &entry);
 }
 
-/// So many turns of one thread.
-fn leave_rows<R: Wait>(rt: &R, lock: &LogLock, pass: &mut LogPass, thread: u64, turns: u64)
+/// So many turns of one thread, each held for so long.
+fn leave_rows<R: Wait + Clock>(
+    rt: &R,
+    lock: &LogLock,
+    pass: &mut LogPass,
+    thread: u64,
+    turns: u64,
+    held: Duration,
+)
     requires { IsReady lock.now pass.old }
     ensures { IsReady lock.now pass.new }
 {
     for count in 0..turns {
-        leave_row(rt, lock, pass, Row { thread, count });
+        leave_row(rt, lock, pass, Row { thread, count }, held);
     }
 }
 
 /// The turns of all passes, each in a thread of its own.
-fn all_leave_rows<R: Threads + Wait + Sync>(
+fn all_leave_rows<R: Threads + Wait + Clock + Sync>(
     rt: &R,
     lock: &LogLock,
     passes: &mut [LogPass],
     turns: u64,
+    held: Duration,
 )
     requires { All (IsReady lock.now) passes.old }
     ensures { All (IsReady lock.now) passes.new }
@@ -50,7 +68,7 @@ fn all_leave_rows<R: Threads + Wait + Sync>(
         rt,
         passes,
         threads,
-        &|i, pass| { leave_rows(rt, lock, pass, i as u64, turns) },
+        &|i, pass| { leave_rows(rt, lock, pass, i as u64, turns, held) },
     );
 }
 
@@ -87,19 +105,20 @@ fn count_rows<R: Wait>(
     found
 }
 
-/// How many rows the log has at the end, where they are all there in order.
-pub fn rows_in_order<R: Threads + Wait + Sync>(
+/// How many rows the log has at the end, where they are all there in order. Each turn is held for so long.
+pub fn rows_in_order<R: Threads + Wait + Clock + Sync>(
     rt: &R,
     alloc: Global,
     threads: usize,
     turns: u64,
+    held: Duration,
 ) -> Option<usize>
     requires { 0 < threads }
 {
     let Ok((lock, mut passes)) = LogLock::new(alloc, Log::new(alloc), threads) else {
         return None;
     };
-    all_leave_rows(rt, &lock, passes.as_mut_slice(), turns);
+    all_leave_rows(rt, &lock, passes.as_mut_slice(), turns, held);
     let mut all = joined(&lock, passes)?;
     count_rows(rt, alloc, &lock, &mut all, threads, turns)
 }
