@@ -1,10 +1,10 @@
 -- What each end of sending commands says of the file, the port and the conversation.
-use Rattle.std.proofs.Common.{◌≡◌, ◌<◌, ◌≤◌, ◌+◌, ◌⊎◌, inl, inr, ℕ, zero, suc, List, [], ◌∷◌, Option, Some, None, Ok, Err, refl, sym, ap, subst, ◌∙◌, arith}
+use Rattle.std.proofs.Common.{◌≡◌, ◌≤◌, ◌⊎◌, inl, inr, ℕ, zero, suc, List, [], ◌∷◌, Option, Some, None, Ok, Err, refl, sym, ap, subst, ◌∙◌, arith}
 use Rattle.cdp_edge.specs.Blame.{Blames, Faults, Read}
 use Rattle.cdp_edge.specs.Outside.{GainsPrefix, Named, Rose, Told, content_of}
 use Rattle.server_edge.specs.Contents.{RisesAt, adds, any_fault, raised}
 use Rattle.ws_service.specs.Programs.{Output}
-use Rattle.cdp_client.specs.Conversations.{Converses, CountsLink}
+use Rattle.cdp_client.specs.Conversations.{CountsLink}
 use Rattle.cdp_client.specs.Lines.{IsInForm, Line, file_read}
 use Rattle.cdp_client.specs.declared.conversed.Conversed.{Conversed}
 use Rattle.cdp_client.specs.declared.conversed.Conversed.TheVariants as talks

@@ -1,5 +1,5 @@
 -- What serving a program says, in the words of its run without a debugger.
-use Rattle.std.proofs.Common.{◌≡◌, ◌≢◌, ◌<◌, ◌≤◌, ◌⊎◌, inl, inr, ℕ, zero, suc, ◌+◌, List, [], ◌∷◌, ◌++◌, map, length, Bool, true, false, ◌||◌, if◌then◌else◌, fold, refl, ap, sym, subst, ◌∙◌, arith, append_assoc, append-nil, string_bytes, Option as Opt, Some, None}
+use Rattle.std.proofs.Common.{◌≡◌, ◌<◌, ◌≤◌, ◌⊎◌, inl, inr, ℕ, zero, suc, ◌+◌, List, [], ◌∷◌, ◌++◌, map, length, Bool, true, false, ◌||◌, if◌then◌else◌, fold, refl, ap, sym, subst, ◌∙◌, arith, append_assoc, append-nil, string_bytes, Option as Opt, Some, None}
 use Rattle.std.proofs.lemmas.List.{length-append}
 use Rattle.std.proofs.lemmas.Option.{same_Some}
 use mathlib.Core.Logic.{dite}
@@ -17,7 +17,7 @@ use Rattle.isolation.proofs.MakerLemmas.{by-append, by-own}
 use Rattle.isolation.proofs.StopLemmas.{stops-exactly}
 use Rattle.cdp_edge.specs.Blame.{Faults}
 use Rattle.cdp_edge.specs.Outside.{GainsPrefix, Named, Rose, Told, gains}
-use Rattle.history_lock.specs.Histories.{Begins, has}
+use Rattle.history_lock.specs.Histories.{has}
 use Rattle.history_lock.specs.Passes.{Follows, HasInitialOnly, IsSamePass, LockId, PassState, initial_pass, initial_passes}
 use Rattle.js_tree.specs.declared.script.Script.{Script}
 use Rattle.js_semantics.specs.Run.{Run, running, over}
@@ -26,8 +26,7 @@ use Rattle.js_semantics.specs.Sources.{terms_of_scripts}
 use Rattle.script_runs.specs.Runs.{HasThrown, IsFirstPart}
 use Rattle.printing.specs.Printing.{printed_lines}
 use Rattle.printing.proofs.PrintingLemmas.{lines-append}
-use Rattle.server_edge.specs.Contents.{Tended, adds, called}
-use Rattle.host_turns.specs.Debuggings.{IsHistory}
+use Rattle.server_edge.specs.Contents.{Tended, adds}
 use Rattle.cdp_host.specs.Debugged.{debugging}
 use Rattle.cdp_host.specs.Histories.{whole}
 use Rattle.cdp_host.specs.Hosts.{HostState, Stands, meaning_with}

@@ -1,5 +1,5 @@
 -- The status of each end, and its line.
-use Rattle.std.specs.Prelude.{◌≡◌, ◌<◌, ℕ, List, [], ◌∷◌, ◌++◌, codes, decimal, string_bytes, Option, Some, None}
+use Rattle.std.specs.Prelude.{◌≡◌, ◌<◌, ℕ, List, [], ◌∷◌, ◌++◌, codes, decimal, string_bytes, Option, Some}
 use Rattle.cdp_edge.specs.Outside.{Named, Told}
 use Rattle.cdp_edge.specs.Blame.{Faults}
 use Rattle.script_files.specs.declared.fault.Refusal.{Refusal}

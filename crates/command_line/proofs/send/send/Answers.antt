@@ -1,7 +1,7 @@
 use Rattle.std.proofs.Common.{◌∙◌}
 use Rattle.ws_service.specs.Programs.{Output}
 use Rattle.command_words.specs.Held.{send_held}
-use Rattle.command_line.specs.SendCauses.{Dialled, Speaks}
+use Rattle.command_line.specs.SendCauses.{Dialled}
 use Rattle.command_line.proofs.ClientLemmas.{one_out, since, spoke, spoke-dialled, spoke-part}
 use Rattle.command_line.proofs.send.send.Goals as goal
 

@@ -1,4 +1,4 @@
-use Rattle.std.proofs.Common.{◌≡◌, ◌⊎◌, ◌+◌, ◌<◌, ℕ, Bool, List, length, ap, arith, subst, sym, ◌∙◌}
+use Rattle.std.proofs.Common.{◌≡◌, ◌⊎◌, ◌+◌, ℕ, Bool, List, length, ap, arith, subst, sym, ◌∙◌}
 use Rattle.history_lock.specs.Passes.{initial_pass, initial_passes}
 use Rattle.js_tree.specs.declared.script.Script.{Script}
 use Rattle.server_edge.specs.Contents.{called}

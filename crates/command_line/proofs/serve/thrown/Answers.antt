@@ -1,4 +1,4 @@
-use Rattle.std.proofs.Common.{Some, ◌∷◌, ◌++◌, [], ◌∙◌, string_bytes, sym, subst}
+use Rattle.std.proofs.Common.{Some, ◌∷◌, ◌++◌, [], string_bytes, sym, subst}
 use Rattle.isolation.specs.Histories.{Entry}
 use Rattle.isolation.specs.Makers.{entries_of}
 use Rattle.cdp_host.specs.Debugged.{StandsOwned}

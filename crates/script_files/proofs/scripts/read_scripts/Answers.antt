@@ -1,5 +1,4 @@
-use Rattle.std.proofs.Common.{List, take, Option, refl, subst, ◌∙◌}
-use Rattle.cdp_edge.specs.Outside.{Named, Told}
+use Rattle.std.proofs.Common.{take, ◌∙◌}
 use Rattle.script_files.specs.Scripts.{IsOneMore, names_held}
 use Rattle.script_files.proofs.ScriptLemmas.{fails_at, stands_behind, told_are_more, none_refused}
 use Rattle.script_files.proofs.scripts.read_scripts.Goals as goal
