@@ -43,7 +43,7 @@ use Rattle.ws_service.specs.declared.program.RunEnd.{RunEnd}
 use Rattle.ws_service.specs.declared.program.RunEnd.TheVariants as runs
 use Rattle.command_line.specs.Files.{HoldsSources}
 use Rattle.command_line.specs.RunCauses.{BecauseSources, RunsInPart, RunsToThrow}
-use Rattle.command_line.specs.ServeCauses.{BecauseServe, BecauseServed, Harbored, HasFinished, IsEndOf, IsOpened, IsShutEnd, IsUnserved, MayServe, ServesPort, ShowsThrow, or_doors, outcome_of_serving}
+use Rattle.command_line.specs.ServeCauses.{BecauseServe, BecauseServed, Harbored, HasFinished, IsEndOf, IsOpened, IsShutEnd, IsUnserved, MayServe, ServesPort, ShowsThrow, outcome_of_serving}
 use Rattle.command_line.specs.Status.{GivenServe, said, status_of, uncaught_said}
 use Rattle.command_words.specs.Requests.{Request, Serve, ServeWords}
 use Rattle.command_line.specs.declared.outcome.Outcome.{Outcome}

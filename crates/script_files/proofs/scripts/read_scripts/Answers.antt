@@ -1,5 +1,5 @@
 use Rattle.std.proofs.Common.{take, ◌∙◌}
-use Rattle.script_files.specs.Scripts.{IsOneMore, names_held}
+use Rattle.script_files.specs.Scripts.{names_held}
 use Rattle.script_files.proofs.ScriptLemmas.{fails_at, stands_behind, told_are_more, none_refused}
 use Rattle.script_files.proofs.scripts.read_scripts.Goals as goal
 
