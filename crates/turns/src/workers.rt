@@ -15,13 +15,7 @@ pub type LogLock = HistoryLock<Log, Option<Row>, Brand>;
 pub type LogPass = Pass<Log, Option<Row>, Brand>;
 
 /// One turn, which leaves a row and is held for so long.
-fn leave_row<R: Wait + Clock>(
-    rt: &R,
-    lock: &LogLock,
-    pass: &mut LogPass,
-    row: Row,
-    held: Duration,
-)
+fn leave_row<R: Wait + Clock>(rt: &R, lock: &LogLock, pass: &mut LogPass, row: Row, held: Duration)
     requires { IsReady lock.now pass.old }
     ensures { IsReady lock.now pass.new }
 {
