@@ -2,7 +2,8 @@
 use Rattle.std.proofs.Common.{◌≡◌, ◌≤◌, ◌⊎◌, inl, inr, ℕ, zero, suc, List, [], ◌∷◌, Option, Some, None, Ok, Err, refl, sym, ap, subst, ◌∙◌, arith}
 use Rattle.cdp_edge.specs.Blame.{Blames, Faults, Read}
 use Rattle.cdp_edge.specs.Outside.{GainsPrefix, Named, Rose, Told, content_of}
-use Rattle.server_edge.specs.Contents.{RisesAt, adds, any_fault, raised}
+use Rattle.cdp_edge.proofs.Gains.{GainsPrefix-refl}
+use Rattle.server_edge.specs.Contents.{RisesAt, adds, any_fault, called, raised}
 use Rattle.ws_service.specs.Programs.{Output}
 use Rattle.cdp_client.specs.Conversations.{CountsLink}
 use Rattle.cdp_client.specs.Lines.{IsInForm, Line, file_read}
@@ -10,8 +11,8 @@ use Rattle.cdp_client.specs.declared.conversed.Conversed.{Conversed}
 use Rattle.cdp_client.specs.declared.conversed.Conversed.TheVariants as talks
 use Rattle.script_files.proofs.ScriptLemmas.{some_same}
 use Rattle.command_line.specs.SendCauses.{BecauseCommands, BecauseSend, Dialled, HoldsCommands, IsDialled, IsUndialled, IsUnsent, MaySend, RefusesLine, Sends, Speaks, outcome_of_talk}
-use Rattle.command_line.specs.Status.{ForSend, GivenSend, closed_said, line_said, said, status_of, unread_said}
-use Rattle.command_words.specs.Requests.{Request, Send, SendWords}
+use Rattle.command_line.specs.Status.{ForSend, ForText, GivenSend, closed_said, line_said, said, status_of, unread_said}
+use Rattle.command_words.specs.Requests.{Drill, Help, Replay, Request, Run, Send, SendWords, Serve, Version}
 use Rattle.command_line.specs.declared.outcome.Outcome.{Outcome}
 use Rattle.command_line.specs.declared.outcome.Outcome.TheVariants as ends
 use Rattle.command_line.proofs.RunLemmas.{told_always, told_map}
@@ -198,6 +199,29 @@ abbrev IsToldRead : Faults → Faults → Option (List ℕ) → Option (List ℕ
 IsToldRead faults now_faults before after request =
     Blames (Read request.commands) faults now_faults × GainsPrefix before after (unread_said request.commands)
 
+-- the statuses at which the port was dialled
+abbrev IsPast : ℕ → Type 0
+IsPast n = (n ≡ 0) ⊎ (n ≡ 5) ⊎ (n ≡ 7) ⊎ (n ≡ 9)
+
+-- the statuses that come without a dialled port are none of those that come with one
+not-past-1 : (P : Type 0) → IsPast 1 → P
+not-past-1 P (inl is) = absurd cc
+not-past-1 P (inr (inl is)) = absurd cc
+not-past-1 P (inr (inr (inl is))) = absurd cc
+not-past-1 P (inr (inr (inr is))) = absurd cc
+
+not-past-4 : (P : Type 0) → IsPast 4 → P
+not-past-4 P (inl is) = absurd cc
+not-past-4 P (inr (inl is)) = absurd cc
+not-past-4 P (inr (inr (inl is))) = absurd cc
+not-past-4 P (inr (inr (inr is))) = absurd cc
+
+not-past-6 : (P : Type 0) → IsPast 6 → P
+not-past-6 P (inl is) = absurd cc
+not-past-6 P (inr (inl is)) = absurd cc
+not-past-6 P (inr (inr (inl is))) = absurd cc
+not-past-6 P (inr (inr (inr is))) = absurd cc
+
 -- one of these, where the file is of its form
 abbrev IsTaken : ℕ → SendWords → List Named → Type 0
 IsTaken n request files =
@@ -330,6 +354,20 @@ module _ (request : SendWords) (told : Option (List Named)) (faults now_faults :
   read-told (ends.Refused name r) before after is h says = absurd h
   read-told (ends.Threw text) before after is h says = absurd h
 
+  dialled-told : (end : Outcome) → IsPast (status_of end) → Because end → IsDialled request.port was now
+  dialled-told ends.Done past h = h.3
+  dialled-told (ends.PeerClosed replies) past h = h.3
+  dialled-told ends.CannotWrite past h = h.3
+  dialled-told ends.NetworkFault past h = h.3
+  dialled-told ends.OutOfMemory past h = not-past-1 _ past
+  dialled-told (ends.CannotRead name) past h = not-past-4 _ past
+  dialled-told (ends.LineRefused line) past h = not-past-6 _ past
+  dialled-told (ends.Threw text) past h = absurd h
+  dialled-told ends.ThrewUnshown past h = absurd h
+  dialled-told ends.Usage past h = absurd h
+  dialled-told (ends.Refused name r) past h = absurd h
+  dialled-told ends.TicketsSpent past h = absurd h
+
   module _ (o : Option Request) (end : Outcome) (status : ℕ) (is : o ≡ Some (Send request))
       (ends_so : status ≡ status_of end) (h : Because end) where
     pub taken_given : GivenSend o told (IsTaken status)
@@ -359,3 +397,33 @@ module _ (request : SendWords) (told : Option (List Named)) (faults now_faults :
     read_given before after says four =
         let it : IsToldRead faults now_faults before after request =
         read-told end before after (sym ends_so ∙ four) h says in rw is it
+
+    pub dialled_given : IsPast status → ForSend o (λ r. now.dials ≡ called r.port was.dials)
+    dialled_given past =
+        let it : now.dials ≡ called request.port was.dials = dialled-told end (subst IsPast ends_so past) h in rw is it
+
+-- where no memory was left for the words nothing was sent, whatever they ask for
+pub unasked : (o : Option Request) (told : Option (List Named)) (old : Output) (was : Dialled) (status : ℕ)
+    → status ≡ 1
+    → GivenSend o told (λ r files. (it : Outcome) × (status ≡ status_of it) × MaySend files r old old was was it)
+unasked (Some (Send request)) told old was status one =
+    told_always told (λ files. (it : Outcome) × (status ≡ status_of it) × MaySend files request old old was was it)
+    (λ files. (ends.OutOfMemory, one, inl (tt, refl, refl)))
+unasked None told old was status one = tt
+unasked (Some (Run sources)) told old was status one = tt
+unasked (Some (Replay words)) told old was status one = tt
+unasked (Some (Serve words)) told old was status one = tt
+unasked (Some (Drill n)) told old was status one = tt
+unasked (Some (Help topic)) told old was status one = tt
+unasked (Some Version) told old was status one = tt
+
+-- and no text was written
+pub untold : (o : Option Request) (content : Option (List ℕ)) → ForText o (λ text. GainsPrefix content content text)
+untold (Some (Help topic)) content = GainsPrefix-refl content _
+untold (Some Version) content = GainsPrefix-refl content _
+untold None content = tt
+untold (Some (Run sources)) content = tt
+untold (Some (Replay words)) content = tt
+untold (Some (Serve words)) content = tt
+untold (Some (Send words)) content = tt
+untold (Some (Drill n)) content = tt

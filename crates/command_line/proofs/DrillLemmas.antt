@@ -2,12 +2,14 @@
 use Rattle.std.proofs.Common.{◌≡◌, ℕ, List, [], ◌∷◌, false, Option, Some, None, refl, sym, subst, inl, ◌∙◌}
 use Rattle.std.proofs.lemmas.Option.{same_Some}
 use Rattle.cdp_edge.specs.Outside.{gains, GainsLess, GainsPrefix}
-use Rattle.cdp_journal.specs.Drills.{drill_journal}
+use Rattle.cdp_journal.specs.Drills.{drill_journal, drill_source}
 use Rattle.cdp_journal.specs.Summaries.{summary}
 use Rattle.js_tree.specs.declared.script.Script.{Script}
-use Rattle.command_line.specs.DrillCauses.{BecauseDrill, BecauseJournalOf, DrillRefuses, DrillsInPart, DrillsShort, DrillsWhole, IsDrilled, IsDrillScript}
+use Rattle.script_files.specs.Refusals.{IsRefused}
+use Rattle.script_files.specs.declared.fault.Refusal.{Refusal}
+use Rattle.command_line.specs.DrillCauses.{BecauseDrill, BecauseJournalOf, DrillRefuses, DrillsInPart, DrillsShort, DrillsWhole, IsDrilled, IsDrillScript, script_name}
 use Rattle.command_line.specs.Replays.{IsReplay, WritesReplay}
-use Rattle.command_line.specs.Status.{ForDrill, line_said, said, status_of}
+use Rattle.command_line.specs.Status.{ForDrill, line_said, refusal_said, said, status_of}
 use Rattle.command_words.specs.Requests.{Request, Drill}
 use Rattle.command_line.specs.declared.outcome.Outcome.{Outcome}
 use Rattle.command_line.specs.declared.outcome.Outcome.TheVariants as ends
@@ -130,3 +132,69 @@ pub line_given : (o : Option Request) (n : ℕ) (end : Outcome) (was now : ℕ) 
 line_given o n end was now old new before after status is ends_so h says six =
     let told : IsToldLine old new before after n =
     line-told end n was now old new before after (sym ends_so ∙ six) h says in rw is told
+
+-- how a script of it that is refused is told
+abbrev IsToldRefusal : Option (List ℕ) → Option (List ℕ) → ℕ → Type 0
+IsToldRefusal before after n =
+    (refusal : Refusal) × IsRefused [] (drill_source n) refusal × GainsPrefix before after (refusal_said script_name refusal)
+
+done-told : (end : Outcome) (n was now : ℕ) (old new : Option (List ℕ)) → status_of end ≡ 0
+    → BecauseDrill end n was now old new → DrillsWhole n old new
+done-told ends.Done n was now old new is h = h.1
+done-told (ends.Threw text) n was now old new is h = absurd h
+done-told ends.ThrewUnshown n was now old new is h = absurd h
+done-told ends.OutOfMemory n was now old new is h = absurd cc
+done-told ends.Usage n was now old new is h = absurd h
+done-told (ends.Refused name r) n was now old new is h = absurd cc
+done-told (ends.CannotRead name) n was now old new is h = absurd h
+done-told ends.CannotWrite n was now old new is h = absurd cc
+done-told (ends.LineRefused line) n was now old new is h = absurd cc
+done-told ends.NetworkFault n was now old new is h = absurd h
+done-told ends.TicketsSpent n was now old new is h = absurd h
+done-told (ends.PeerClosed replies) n was now old new is h = absurd h
+
+short-told : (end : Outcome) (n was now : ℕ) (old new : Option (List ℕ)) → status_of end ≡ 5
+    → BecauseDrill end n was now old new → DrillsShort n old new
+short-told ends.Done n was now old new is h = absurd cc
+short-told (ends.Threw text) n was now old new is h = absurd h
+short-told ends.ThrewUnshown n was now old new is h = absurd h
+short-told ends.OutOfMemory n was now old new is h = absurd cc
+short-told ends.Usage n was now old new is h = absurd h
+short-told (ends.Refused name r) n was now old new is h = absurd cc
+short-told (ends.CannotRead name) n was now old new is h = absurd h
+short-told ends.CannotWrite n was now old new is h = h.1
+short-told (ends.LineRefused line) n was now old new is h = absurd cc
+short-told ends.NetworkFault n was now old new is h = absurd h
+short-told ends.TicketsSpent n was now old new is h = absurd h
+short-told (ends.PeerClosed replies) n was now old new is h = absurd h
+
+refusal-told : (end : Outcome) (n was now : ℕ) (old new before after : Option (List ℕ)) → status_of end ≡ 3
+    → BecauseDrill end n was now old new → GainsPrefix before after (said end) → IsToldRefusal before after n
+refusal-told ends.Done n was now old new before after is h says = absurd cc
+refusal-told (ends.Threw text) n was now old new before after is h says = absurd h
+refusal-told ends.ThrewUnshown n was now old new before after is h says = absurd h
+refusal-told ends.OutOfMemory n was now old new before after is h says = absurd cc
+refusal-told ends.Usage n was now old new before after is h says = absurd h
+refusal-told (ends.Refused name r) n was now old new before after is h says = (r, h.3, subst (λ (l : List ℕ). GainsPrefix before after (refusal_said l r)) h.2 says)
+refusal-told (ends.CannotRead name) n was now old new before after is h says = absurd h
+refusal-told ends.CannotWrite n was now old new before after is h says = absurd cc
+refusal-told (ends.LineRefused line) n was now old new before after is h says = absurd cc
+refusal-told ends.NetworkFault n was now old new before after is h says = absurd h
+refusal-told ends.TicketsSpent n was now old new before after is h says = absurd h
+refusal-told (ends.PeerClosed replies) n was now old new before after is h says = absurd h
+
+module _ (o : Option Request) (n : ℕ) (end : Outcome) (was now : ℕ) (old new : Option (List ℕ)) (status : ℕ)
+    (is : o ≡ Some (Drill n)) (ends_so : status ≡ status_of end) (h : BecauseDrill end n was now old new) where
+  pub done_given : status ≡ 0 → ForDrill o (λ m. DrillsWhole m old new)
+  done_given zero =
+      let it : DrillsWhole n old new = done-told end n was now old new (sym ends_so ∙ zero) h in rw is it
+
+  pub short_given : status ≡ 5 → ForDrill o (λ m. DrillsShort m old new)
+  short_given five =
+      let it : DrillsShort n old new = short-told end n was now old new (sym ends_so ∙ five) h in rw is it
+
+  pub refusal_given : (before after : Option (List ℕ)) → GainsPrefix before after (said end) → status ≡ 3
+      → ForDrill o (IsToldRefusal before after)
+  refusal_given before after says three =
+      let it : IsToldRefusal before after n =
+      refusal-told end n was now old new before after (sym ends_so ∙ three) h says in rw is it

@@ -15,7 +15,7 @@ use Rattle.isolation.specs.declared.seat.Seat.TheVariants as seats
 use Rattle.isolation.proofs.AloneLemmas.{alone}
 use Rattle.isolation.proofs.MakerLemmas.{by-append, by-own}
 use Rattle.isolation.proofs.StopLemmas.{stops-exactly}
-use Rattle.cdp_edge.specs.Blame.{Faults}
+use Rattle.cdp_edge.specs.Blame.{Blames, Faults, Read}
 use Rattle.cdp_edge.specs.Outside.{GainsPrefix, Named, Rose, Told, gains}
 use Rattle.history_lock.specs.Histories.{has}
 use Rattle.history_lock.specs.Passes.{Follows, HasInitialOnly, IsSamePass, LockId, PassState, initial_pass, initial_passes}
@@ -26,7 +26,7 @@ use Rattle.js_semantics.specs.Sources.{terms_of_scripts}
 use Rattle.script_runs.specs.Runs.{HasThrown, IsFirstPart}
 use Rattle.printing.specs.Printing.{printed_lines}
 use Rattle.printing.proofs.PrintingLemmas.{lines-append}
-use Rattle.server_edge.specs.Contents.{Tended, adds}
+use Rattle.server_edge.specs.Contents.{Tended, adds, called}
 use Rattle.cdp_host.specs.Debugged.{debugging}
 use Rattle.cdp_host.specs.Histories.{whole}
 use Rattle.cdp_host.specs.Hosts.{HostState, Stands, meaning_with}
@@ -41,16 +41,17 @@ use Rattle.ws_service.specs.declared.ends.DoorsEnd.{DoorsEnd}
 use Rattle.ws_service.specs.declared.ends.DoorsEnd.TheVariants as doors
 use Rattle.ws_service.specs.declared.program.RunEnd.{RunEnd}
 use Rattle.ws_service.specs.declared.program.RunEnd.TheVariants as runs
-use Rattle.command_line.specs.Files.{HoldsSources}
+use Rattle.command_line.specs.Files.{HoldsSources, IsNamed, IsReachedIn}
 use Rattle.command_line.specs.RunCauses.{BecauseSources, RunsInPart, RunsToThrow}
 use Rattle.command_line.specs.ServeCauses.{BecauseServe, BecauseServed, Harbored, HasFinished, IsEndOf, IsOpened, IsShutEnd, IsUnserved, MayServe, ServesPort, ShowsThrow, outcome_of_serving}
-use Rattle.command_line.specs.Status.{GivenServe, said, status_of, uncaught_said}
+use Rattle.command_line.specs.Status.{ForServe, GivenServe, said, status_of, uncaught_said, unread_said}
 use Rattle.command_words.specs.Requests.{Request, Serve, ServeWords}
+use Rattle.command_words.specs.Requests as words
 use Rattle.command_line.specs.declared.outcome.Outcome.{Outcome}
 use Rattle.command_line.specs.declared.outcome.Outcome.TheVariants as ends
 use Rattle.command_line.proofs.PausedLemmas.{run-shut}
 use Rattle.command_line.proofs.PlainLemmas.{plain-as}
-use Rattle.command_line.proofs.RunLemmas.{told_map}
+use Rattle.command_line.proofs.RunLemmas.{told_always, told_map}
 use Rattle.ws_service.proofs.ProgramLemmas.{same-tail}
 
 -- ---- shuts
@@ -621,3 +622,105 @@ pub threw_given : (o : Opt Request) (end : Outcome) (request : ServeWords) (told
 threw_given o end request told faults now_faults old new was now before after status is ends_so h says eight =
     given_serve o request told (IsToldThrow old new before after) is
     (threw-told end request told faults now_faults old new was now before after (sym ends_so ∙ eight) h says)
+
+-- the statuses at which the doors were opened
+abbrev IsPast : ℕ → Type 0
+IsPast n = (n ≡ 0) ⊎ (n ≡ 5) ⊎ (n ≡ 8) ⊎ (n ≡ 10)
+
+-- the statuses that come without an opened port are none of those that come with one
+not-past-1 : (P : Type 0) → IsPast 1 → P
+not-past-1 P (inl is) = absurd cc
+not-past-1 P (inr (inl is)) = absurd cc
+not-past-1 P (inr (inr (inl is))) = absurd cc
+not-past-1 P (inr (inr (inr is))) = absurd cc
+
+not-past-3 : (P : Type 0) → IsPast 3 → P
+not-past-3 P (inl is) = absurd cc
+not-past-3 P (inr (inl is)) = absurd cc
+not-past-3 P (inr (inr (inl is))) = absurd cc
+not-past-3 P (inr (inr (inr is))) = absurd cc
+
+not-past-4 : (P : Type 0) → IsPast 4 → P
+not-past-4 P (inl is) = absurd cc
+not-past-4 P (inr (inl is)) = absurd cc
+not-past-4 P (inr (inr (inl is))) = absurd cc
+not-past-4 P (inr (inr (inr is))) = absurd cc
+
+not-past-7 : (P : Type 0) → IsPast 7 → P
+not-past-7 P (inl is) = absurd cc
+not-past-7 P (inr (inl is)) = absurd cc
+not-past-7 P (inr (inr (inl is))) = absurd cc
+not-past-7 P (inr (inr (inr is))) = absurd cc
+
+-- how a file that can't be read is told
+abbrev IsToldRead : Faults → Faults → Opt (List Named) → Opt (List ℕ) → Opt (List ℕ) → ServeWords → Type 0
+IsToldRead faults now_faults told before after request =
+    (name : List ℕ)
+    × IsNamed request.sources name
+    × Blames (Read name) faults now_faults
+    × Told told (λ files. IsReachedIn files request.sources name)
+    × GainsPrefix before after (unread_said name)
+
+module _ (request : ServeWords) (told : Opt (List Named)) (faults now_faults : Faults) (old new : Output)
+    (was now : Harbored) where
+  abbrev Ended : Outcome → Type 0
+  Ended end = BecauseServe end request told faults now_faults old new was now
+
+  read-told : (end : Outcome) (before after : Opt (List ℕ)) → status_of end ≡ 4 → Ended end
+      → GainsPrefix before after (said end) → IsToldRead faults now_faults told before after request
+  read-told (ends.CannotRead name) before after is h says = (name.now, h.2, h.0, h.3, says)
+  read-told ends.Done before after is h says = absurd cc
+  read-told (ends.Threw text) before after is h says = absurd cc
+  read-told ends.ThrewUnshown before after is h says = absurd cc
+  read-told ends.OutOfMemory before after is h says = absurd cc
+  read-told (ends.Refused name r) before after is h says = absurd cc
+  read-told ends.CannotWrite before after is h says = absurd cc
+  read-told ends.NetworkFault before after is h says = absurd cc
+  read-told ends.TicketsSpent before after is h says = absurd cc
+  read-told ends.Usage before after is h says = absurd h
+  read-told (ends.LineRefused n) before after is h says = absurd h
+  read-told (ends.PeerClosed replies) before after is h says = absurd h
+
+  opened-told : (end : Outcome) → IsPast (status_of end) → Ended end → IsOpened request.port request.sessions was now
+  opened-told ends.Done past h = h.2
+  opened-told (ends.Threw text) past h = h.2
+  opened-told ends.ThrewUnshown past h = h.2
+  opened-told ends.CannotWrite past h = h.2
+  opened-told ends.TicketsSpent past h = h.2
+  opened-told ends.OutOfMemory past h = not-past-1 _ past
+  opened-told (ends.Refused name r) past h = not-past-3 _ past
+  opened-told (ends.CannotRead name) past h = not-past-4 _ past
+  opened-told ends.NetworkFault past h = not-past-7 _ past
+  opened-told ends.Usage past h = absurd h
+  opened-told (ends.LineRefused n) past h = absurd h
+  opened-told (ends.PeerClosed replies) past h = absurd h
+
+  module _ (o : Opt Request) (end : Outcome) (status : ℕ) (is : o ≡ Some (Serve request))
+      (ends_so : status ≡ status_of end) (h : Ended end) where
+    pub read_given : (before after : Opt (List ℕ)) → GainsPrefix before after (said end) → status ≡ 4
+        → ForServe o (IsToldRead faults now_faults told before after)
+    read_given before after says four =
+        let it : IsToldRead faults now_faults told before after request =
+        read-told end before after (sym ends_so ∙ four) h says in rw is it
+
+    pub opened_given : IsPast status → ForServe o (λ r. now.opens ≡ called (r.port, r.sessions) was.opens)
+    opened_given past =
+        let it : now.opens ≡ called (request.port, request.sessions) was.opens =
+        opened-told end (subst IsPast ends_so past) h in rw is it
+
+-- where no memory was left for the words nothing was served, whatever they ask for
+pub unasked : (o : Opt Request) (told : Opt (List Named)) (moment : Opt ℕ) (old : Output) (kept : Opt (List Tended))
+    (status : ℕ) → status ≡ 1
+    → GivenServe o told
+    (λ r files. (it : Outcome) × (status ≡ status_of it) × MayServe files r moment old old kept kept it)
+unasked (Some (Serve request)) told moment old kept status one =
+    told_always told
+    (λ files. (it : Outcome) × (status ≡ status_of it) × MayServe files request moment old old kept kept it)
+    (λ files. (ends.OutOfMemory, one, inl (tt, refl)))
+unasked None told moment old kept status one = tt
+unasked (Some (words.Run sources)) told moment old kept status one = tt
+unasked (Some (words.Replay request)) told moment old kept status one = tt
+unasked (Some (words.Send request)) told moment old kept status one = tt
+unasked (Some (words.Drill n)) told moment old kept status one = tt
+unasked (Some (words.Help topic)) told moment old kept status one = tt
+unasked (Some words.Version) told moment old kept status one = tt
