@@ -1,5 +1,8 @@
 //! A client whose file, port and sink are in memory.
 
+ghost use Rattle.std.specs.Prelude.{IfOk};
+ghost use Rattle.server_edge.specs.MemDoor.{IsUnusedLink};
+
 use cdp_edge::{MemShelf, MemSink};
 use command_line::debug_main;
 use server_edge::{FixedClock, Incoming, MemHarbor, MemLink};
@@ -41,7 +44,9 @@ struct Came {
 }
 
 // A link that gives these texts, and then is closed.
-fn link_of(alloc: Global, texts: &[&str], fails: u64) -> Result<MemLink, AllocError> {
+fn link_of(alloc: Global, texts: &[&str], fails: u64) -> Result<MemLink, AllocError>
+    ensures { IfOk result IsUnusedLink }
+{
     let mut incoming = Vec::new(alloc);
     for text in texts {
         incoming.push(Incoming::Text(String::from_str(alloc, *text)?))?;

@@ -1,5 +1,8 @@
 //! A server whose doors and links are in memory.
 
+ghost use Rattle.std.specs.Prelude.{IfOk};
+ghost use Rattle.server_edge.specs.MemDoor.{IsNewDoor};
+
 use cdp_edge::{MemShelf, MemSink};
 use command_line::debug_main;
 use server_edge::{FixedClock, Gate, Incoming, MemDoor, MemHarbor, MemLink};
@@ -33,7 +36,9 @@ fn door(
     before: Option<Gate>,
     behind: Option<Gate>,
     opened: Gate,
-) -> Result<MemDoor, AllocError> {
+) -> Result<MemDoor, AllocError>
+    ensures { IfOk result IsNewDoor }
+{
     let mut coming = Vec::new(alloc);
     if let Some(gate) = before {
         coming.push(Incoming::Hold(gate, PATIENCE))?;
