@@ -84,12 +84,12 @@ fn two_clients_are_served_at_once(rt: HostRuntime) -> Result<(), Fail> {
     assert_eq!(rt; status, 0);
     assert_eq!(rt; out.taken(), b"1\ntwo\n".as_slice());
     assert_eq!(rt; err.taken(), b"".as_slice());
-    let mut answered = 0;
+    let mut answered: u64 = 0;
     for door in harbor.doors() {
         for link in door.served() {
             if let [text] = link.sent() {
                 if text.as_str() == r#"{"id":1,"result":{}}"# {
-                    answered += 1;
+                    answered = answered.saturating_add(1);
                 }
             }
         }
