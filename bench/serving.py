@@ -35,8 +35,8 @@ HERE = os.path.dirname(os.path.abspath(__file__))
 
 STOPPED = "let i = 7;\ndebugger;\n"
 STOPS = "for (;;) {\n  debugger;\n}\n"
-FAR_STOPS = "for (;;) {\n  debugger;\n  for (let i = 0; i < TURNS; i++) {\n  }\n}\n"
-LOOP = "let sum = 0;\nfor (let i = 0; i < TURNS; i++) {\n  sum = sum + i % 7;\n}\nconsole.log(sum);\n"
+FAR_STOPS = "let i = 0;\nfor (;;) {\n  debugger;\n  i = 0;\n  while (i < TURNS) i++;\n}\n"
+LOOP = "let sum = 0;\nlet i = 0;\nwhile (i < TURNS) {\n  sum = sum + i % 7;\n  i++;\n}\nconsole.log(sum);\n"
 
 BEGIN = ["Debugger.enable", "Runtime.enable", "Runtime.runIfWaitingForDebugger", "wait Debugger.paused"]
 RESUME = "Debugger.resume"
