@@ -4,7 +4,7 @@ use lib.Chars.{codes}
 use Prim.Native.String.{String}
 use Rattle.cdp_text.specs.Decimal.{decimal_value}
 use Rattle.command_words.specs.declared.command.Command.TheVariants as command
-use Rattle.command_words.specs.Requests.{Request, Sources, ReplayWords, ServeWords, SendWords, Run, Replay, Drill, Serve, Send, Help, Version, form}
+use Rattle.command_words.specs.Requests.{Request, Sources, RunWords, ReplayWords, ServeWords, SendWords, Run, Replay, Drill, Serve, Send, Help, Version, form}
 
 -- what these words ask for
 abbrev asked : List String → Option Request
@@ -14,14 +14,19 @@ asked words = form (map codes words)
 abbrev program : Option String → List String → Sources
 program input scripts = record { input = option_map codes input; scripts = map codes scripts }
 
-abbrev replay : Bool → String → Sources → ReplayWords
-replay wait journal sources = record { wait = wait; journal = codes journal; sources = sources }
+abbrev run : Bool → Sources → RunWords
+run explain sources = record { explain = explain; sources = sources }
 
-abbrev serve : ℕ → ℕ → Bool → Sources → ServeWords
-serve port sessions wait sources = record { port = port; sessions = sessions; wait = wait; sources = sources }
+abbrev replay : Bool → Bool → String → Sources → ReplayWords
+replay explain wait journal sources =
+    record { explain = explain; wait = wait; journal = codes journal; sources = sources }
 
-abbrev send : ℕ → String → SendWords
-send port commands = record { port = port; commands = codes commands }
+abbrev serve : Bool → ℕ → ℕ → Bool → Sources → ServeWords
+serve explain port sessions wait sources =
+    record { explain = explain; port = port; sessions = sessions; wait = wait; sources = sources }
+
+abbrev send : Bool → ℕ → String → SendWords
+send explain port commands = record { explain = explain; port = port; commands = codes commands }
 
 -- ---- words that begin with no command
 
@@ -131,7 +136,7 @@ form_26 : asked ("run" ∷ "--help" ∷ "--help" ∷ []) ≡ None
 unfolding decimal_value
 form_26 = refl
 
-form_27 : asked ("run" ∷ "--" ∷ "--help" ∷ []) ≡ Some (Run (program None ("--help" ∷ [])))
+form_27 : asked ("run" ∷ "--" ∷ "--help" ∷ []) ≡ Some (Run (run false (program None ("--help" ∷ []))))
 unfolding decimal_value
 form_27 = refl
 
@@ -141,19 +146,20 @@ form_28 : asked ("run" ∷ []) ≡ None
 unfolding decimal_value
 form_28 = refl
 
-form_29 : asked ("run" ∷ "a.js" ∷ []) ≡ Some (Run (program None ("a.js" ∷ [])))
+form_29 : asked ("run" ∷ "a.js" ∷ []) ≡ Some (Run (run false (program None ("a.js" ∷ []))))
 unfolding decimal_value
 form_29 = refl
 
-form_30 : asked ("run" ∷ "a.js" ∷ "b.js" ∷ "a.js" ∷ []) ≡ Some (Run (program None ("a.js" ∷ "b.js" ∷ "a.js" ∷ [])))
+form_30 : asked ("run" ∷ "a.js" ∷ "b.js" ∷ "a.js" ∷ [])
+    ≡ Some (Run (run false (program None ("a.js" ∷ "b.js" ∷ "a.js" ∷ []))))
 unfolding decimal_value
 form_30 = refl
 
-form_31 : asked ("run" ∷ "" ∷ []) ≡ Some (Run (program None ("" ∷ [])))
+form_31 : asked ("run" ∷ "" ∷ []) ≡ Some (Run (run false (program None ("" ∷ []))))
 unfolding decimal_value
 form_31 = refl
 
-form_32 : asked ("run" ∷ "-" ∷ []) ≡ Some (Run (program None ("-" ∷ [])))
+form_32 : asked ("run" ∷ "-" ∷ []) ≡ Some (Run (run false (program None ("-" ∷ []))))
 unfolding decimal_value
 form_32 = refl
 
@@ -165,44 +171,44 @@ form_34 : asked ("run" ∷ "--input" ∷ []) ≡ None
 unfolding decimal_value
 form_34 = refl
 
-form_35 : asked ("run" ∷ "--input" ∷ "f" ∷ "a.js" ∷ []) ≡ Some (Run (program (Some "f") ("a.js" ∷ [])))
+form_35 : asked ("run" ∷ "--input" ∷ "f" ∷ "a.js" ∷ []) ≡ Some (Run (run false (program (Some "f") ("a.js" ∷ []))))
 unfolding decimal_value
 form_35 = refl
 
 form_36 : asked ("run" ∷ "a.js" ∷ "--input" ∷ "f" ∷ "b.js" ∷ [])
-    ≡ Some (Run (program (Some "f") ("a.js" ∷ "b.js" ∷ [])))
+    ≡ Some (Run (run false (program (Some "f") ("a.js" ∷ "b.js" ∷ []))))
 unfolding decimal_value
 form_36 = refl
 
-form_37 : asked ("run" ∷ "a.js" ∷ "--input" ∷ "f" ∷ []) ≡ Some (Run (program (Some "f") ("a.js" ∷ [])))
+form_37 : asked ("run" ∷ "a.js" ∷ "--input" ∷ "f" ∷ []) ≡ Some (Run (run false (program (Some "f") ("a.js" ∷ []))))
 unfolding decimal_value
 form_37 = refl
 
-form_38 : asked ("run" ∷ "--input=f" ∷ "a.js" ∷ []) ≡ Some (Run (program (Some "f") ("a.js" ∷ [])))
+form_38 : asked ("run" ∷ "--input=f" ∷ "a.js" ∷ []) ≡ Some (Run (run false (program (Some "f") ("a.js" ∷ []))))
 unfolding decimal_value
 form_38 = refl
 
-form_39 : asked ("run" ∷ "--input=" ∷ "a.js" ∷ []) ≡ Some (Run (program (Some "") ("a.js" ∷ [])))
+form_39 : asked ("run" ∷ "--input=" ∷ "a.js" ∷ []) ≡ Some (Run (run false (program (Some "") ("a.js" ∷ []))))
 unfolding decimal_value
 form_39 = refl
 
-form_40 : asked ("run" ∷ "--input=-x" ∷ "a.js" ∷ []) ≡ Some (Run (program (Some "-x") ("a.js" ∷ [])))
+form_40 : asked ("run" ∷ "--input=-x" ∷ "a.js" ∷ []) ≡ Some (Run (run false (program (Some "-x") ("a.js" ∷ []))))
 unfolding decimal_value
 form_40 = refl
 
-form_41 : asked ("run" ∷ "--input==" ∷ "a.js" ∷ []) ≡ Some (Run (program (Some "=") ("a.js" ∷ [])))
+form_41 : asked ("run" ∷ "--input==" ∷ "a.js" ∷ []) ≡ Some (Run (run false (program (Some "=") ("a.js" ∷ []))))
 unfolding decimal_value
 form_41 = refl
 
-form_42 : asked ("run" ∷ "--input=a=b" ∷ "a.js" ∷ []) ≡ Some (Run (program (Some "a=b") ("a.js" ∷ [])))
+form_42 : asked ("run" ∷ "--input=a=b" ∷ "a.js" ∷ []) ≡ Some (Run (run false (program (Some "a=b") ("a.js" ∷ []))))
 unfolding decimal_value
 form_42 = refl
 
-form_43 : asked ("run" ∷ "--input" ∷ "-" ∷ "a.js" ∷ []) ≡ Some (Run (program (Some "-") ("a.js" ∷ [])))
+form_43 : asked ("run" ∷ "--input" ∷ "-" ∷ "a.js" ∷ []) ≡ Some (Run (run false (program (Some "-") ("a.js" ∷ []))))
 unfolding decimal_value
 form_43 = refl
 
-form_44 : asked ("run" ∷ "--input" ∷ "" ∷ "a.js" ∷ []) ≡ Some (Run (program (Some "") ("a.js" ∷ [])))
+form_44 : asked ("run" ∷ "--input" ∷ "" ∷ "a.js" ∷ []) ≡ Some (Run (run false (program (Some "") ("a.js" ∷ []))))
 unfolding decimal_value
 form_44 = refl
 
@@ -246,15 +252,15 @@ form_54 : asked ("run" ∷ "-1" ∷ []) ≡ None
 unfolding decimal_value
 form_54 = refl
 
-form_55 : asked ("run" ∷ "--" ∷ "-x" ∷ []) ≡ Some (Run (program None ("-x" ∷ [])))
+form_55 : asked ("run" ∷ "--" ∷ "-x" ∷ []) ≡ Some (Run (run false (program None ("-x" ∷ []))))
 unfolding decimal_value
 form_55 = refl
 
-form_56 : asked ("run" ∷ "--" ∷ "-" ∷ "--" ∷ "a" ∷ []) ≡ Some (Run (program None ("-" ∷ "--" ∷ "a" ∷ [])))
+form_56 : asked ("run" ∷ "--" ∷ "-" ∷ "--" ∷ "a" ∷ []) ≡ Some (Run (run false (program None ("-" ∷ "--" ∷ "a" ∷ []))))
 unfolding decimal_value
 form_56 = refl
 
-form_57 : asked ("run" ∷ "a.js" ∷ "--" ∷ []) ≡ Some (Run (program None ("a.js" ∷ [])))
+form_57 : asked ("run" ∷ "a.js" ∷ "--" ∷ []) ≡ Some (Run (run false (program None ("a.js" ∷ []))))
 unfolding decimal_value
 form_57 = refl
 
@@ -263,11 +269,12 @@ unfolding decimal_value
 form_58 = refl
 
 form_59 : asked ("run" ∷ "a.js" ∷ "--" ∷ "--input" ∷ "f" ∷ [])
-    ≡ Some (Run (program None ("a.js" ∷ "--input" ∷ "f" ∷ [])))
+    ≡ Some (Run (run false (program None ("a.js" ∷ "--input" ∷ "f" ∷ []))))
 unfolding decimal_value
 form_59 = refl
 
-form_60 : asked ("run" ∷ "--input" ∷ "f" ∷ "--" ∷ "a.js" ∷ []) ≡ Some (Run (program (Some "f") ("a.js" ∷ [])))
+form_60 : asked ("run" ∷ "--input" ∷ "f" ∷ "--" ∷ "a.js" ∷ [])
+    ≡ Some (Run (run false (program (Some "f") ("a.js" ∷ []))))
 unfolding decimal_value
 form_60 = refl
 
@@ -301,20 +308,20 @@ form_67 : asked ("replay" ∷ "j" ∷ []) ≡ None
 unfolding decimal_value
 form_67 = refl
 
-form_68 : asked ("replay" ∷ "j" ∷ "s" ∷ []) ≡ Some (Replay (replay false "j" (program None ("s" ∷ []))))
+form_68 : asked ("replay" ∷ "j" ∷ "s" ∷ []) ≡ Some (Replay (replay false false "j" (program None ("s" ∷ []))))
 unfolding decimal_value
 form_68 = refl
 
-form_69 : asked ("replay" ∷ "--wait" ∷ "j" ∷ "s" ∷ []) ≡ Some (Replay (replay true "j" (program None ("s" ∷ []))))
+form_69 : asked ("replay" ∷ "--wait" ∷ "j" ∷ "s" ∷ []) ≡ Some (Replay (replay false true "j" (program None ("s" ∷ []))))
 unfolding decimal_value
 form_69 = refl
 
 form_70 : asked ("replay" ∷ "j" ∷ "--wait" ∷ "s" ∷ "t" ∷ [])
-    ≡ Some (Replay (replay true "j" (program None ("s" ∷ "t" ∷ []))))
+    ≡ Some (Replay (replay false true "j" (program None ("s" ∷ "t" ∷ []))))
 unfolding decimal_value
 form_70 = refl
 
-form_71 : asked ("replay" ∷ "j" ∷ "s" ∷ "--wait" ∷ []) ≡ Some (Replay (replay true "j" (program None ("s" ∷ []))))
+form_71 : asked ("replay" ∷ "j" ∷ "s" ∷ "--wait" ∷ []) ≡ Some (Replay (replay false true "j" (program None ("s" ∷ []))))
 unfolding decimal_value
 form_71 = refl
 
@@ -331,7 +338,7 @@ unfolding decimal_value
 form_74 = refl
 
 form_75 : asked ("replay" ∷ "--input" ∷ "f" ∷ "--wait" ∷ "j" ∷ "s" ∷ [])
-    ≡ Some (Replay (replay true "j" (program (Some "f") ("s" ∷ []))))
+    ≡ Some (Replay (replay false true "j" (program (Some "f") ("s" ∷ []))))
 unfolding decimal_value
 form_75 = refl
 
@@ -340,7 +347,7 @@ unfolding decimal_value
 form_76 = refl
 
 form_77 : asked ("replay" ∷ "--" ∷ "--wait" ∷ "s" ∷ [])
-    ≡ Some (Replay (replay false "--wait" (program None ("s" ∷ []))))
+    ≡ Some (Replay (replay false false "--wait" (program None ("s" ∷ []))))
 unfolding decimal_value
 form_77 = refl
 
@@ -424,16 +431,17 @@ form_96 : asked ("serve" ∷ []) ≡ None
 unfolding decimal_value
 form_96 = refl
 
-form_97 : asked ("serve" ∷ "a.js" ∷ []) ≡ Some (Serve (serve 9229 4 false (program None ("a.js" ∷ []))))
+form_97 : asked ("serve" ∷ "a.js" ∷ []) ≡ Some (Serve (serve false 9229 4 false (program None ("a.js" ∷ []))))
 unfolding decimal_value
 form_97 = refl
 
-form_98 : asked ("serve" ∷ "--port" ∷ "1" ∷ "a.js" ∷ []) ≡ Some (Serve (serve 1 4 false (program None ("a.js" ∷ []))))
+form_98 : asked ("serve" ∷ "--port" ∷ "1" ∷ "a.js" ∷ [])
+    ≡ Some (Serve (serve false 1 4 false (program None ("a.js" ∷ []))))
 unfolding decimal_value
 form_98 = refl
 
 form_99 : asked ("serve" ∷ "--port" ∷ "65535" ∷ "a.js" ∷ [])
-    ≡ Some (Serve (serve 65535 4 false (program None ("a.js" ∷ []))))
+    ≡ Some (Serve (serve false 65535 4 false (program None ("a.js" ∷ []))))
 unfolding decimal_value
 form_99 = refl
 
@@ -474,12 +482,12 @@ unfolding decimal_value
 form_108 = refl
 
 form_109 : asked ("serve" ∷ "--sessions" ∷ "16" ∷ "a.js" ∷ [])
-    ≡ Some (Serve (serve 9229 16 false (program None ("a.js" ∷ []))))
+    ≡ Some (Serve (serve false 9229 16 false (program None ("a.js" ∷ []))))
 unfolding decimal_value
 form_109 = refl
 
 form_110 : asked ("serve" ∷ "--sessions=1" ∷ "a.js" ∷ [])
-    ≡ Some (Serve (serve 9229 1 false (program None ("a.js" ∷ []))))
+    ≡ Some (Serve (serve false 9229 1 false (program None ("a.js" ∷ []))))
 unfolding decimal_value
 form_110 = refl
 
@@ -492,7 +500,7 @@ unfolding decimal_value
 form_112 = refl
 
 form_113 : asked ("serve" ∷ "a.js" ∷ "--wait" ∷ "--sessions" ∷ "2" ∷ "b.js" ∷ "--port=80" ∷ "--input=f" ∷ [])
-    ≡ Some (Serve (serve 80 2 true (program (Some "f") ("a.js" ∷ "b.js" ∷ []))))
+    ≡ Some (Serve (serve false 80 2 true (program (Some "f") ("a.js" ∷ "b.js" ∷ []))))
 unfolding decimal_value
 form_113 = refl
 
@@ -509,7 +517,7 @@ unfolding decimal_value
 form_116 = refl
 
 form_117 : asked ("serve" ∷ "--wait" ∷ "--port" ∷ "5" ∷ "--" ∷ "--port" ∷ [])
-    ≡ Some (Serve (serve 5 4 true (program None ("--port" ∷ []))))
+    ≡ Some (Serve (serve false 5 4 true (program None ("--port" ∷ []))))
 unfolding decimal_value
 form_117 = refl
 
@@ -519,7 +527,7 @@ form_118 : asked ("send" ∷ []) ≡ None
 unfolding decimal_value
 form_118 = refl
 
-form_119 : asked ("send" ∷ "c" ∷ []) ≡ Some (Send (send 9229 "c"))
+form_119 : asked ("send" ∷ "c" ∷ []) ≡ Some (Send (send false 9229 "c"))
 unfolding decimal_value
 form_119 = refl
 
@@ -527,19 +535,19 @@ form_120 : asked ("send" ∷ "c" ∷ "d" ∷ []) ≡ None
 unfolding decimal_value
 form_120 = refl
 
-form_121 : asked ("send" ∷ "--port" ∷ "7" ∷ "c" ∷ []) ≡ Some (Send (send 7 "c"))
+form_121 : asked ("send" ∷ "--port" ∷ "7" ∷ "c" ∷ []) ≡ Some (Send (send false 7 "c"))
 unfolding decimal_value
 form_121 = refl
 
-form_122 : asked ("send" ∷ "c" ∷ "--port=7" ∷ []) ≡ Some (Send (send 7 "c"))
+form_122 : asked ("send" ∷ "c" ∷ "--port=7" ∷ []) ≡ Some (Send (send false 7 "c"))
 unfolding decimal_value
 form_122 = refl
 
-form_123 : asked ("send" ∷ "-" ∷ []) ≡ Some (Send (send 9229 "-"))
+form_123 : asked ("send" ∷ "-" ∷ []) ≡ Some (Send (send false 9229 "-"))
 unfolding decimal_value
 form_123 = refl
 
-form_124 : asked ("send" ∷ "--" ∷ "-c" ∷ []) ≡ Some (Send (send 9229 "-c"))
+form_124 : asked ("send" ∷ "--" ∷ "-c" ∷ []) ≡ Some (Send (send false 9229 "-c"))
 unfolding decimal_value
 form_124 = refl
 
@@ -558,3 +566,43 @@ form_127 = refl
 form_128 : asked ("send" ∷ "--port" ∷ "7" ∷ []) ≡ None
 unfolding decimal_value
 form_128 = refl
+
+-- ---- `--explain`
+
+form_129 : asked ("run" ∷ "--explain" ∷ "a.js" ∷ []) ≡ Some (Run (run true (program None ("a.js" ∷ []))))
+unfolding decimal_value
+form_129 = refl
+
+form_130 : asked ("replay" ∷ "j" ∷ "s" ∷ "--explain" ∷ [])
+    ≡ Some (Replay (replay true false "j" (program None ("s" ∷ []))))
+unfolding decimal_value
+form_130 = refl
+
+form_131 : asked ("serve" ∷ "a.js" ∷ "--explain" ∷ "--wait" ∷ [])
+    ≡ Some (Serve (serve true 9229 4 true (program None ("a.js" ∷ []))))
+unfolding decimal_value
+form_131 = refl
+
+form_132 : asked ("send" ∷ "--explain" ∷ "c" ∷ []) ≡ Some (Send (send true 9229 "c"))
+unfolding decimal_value
+form_132 = refl
+
+form_133 : asked ("drill" ∷ "--explain" ∷ "1" ∷ []) ≡ None
+unfolding decimal_value
+form_133 = refl
+
+form_134 : asked ("run" ∷ "--explain" ∷ "--explain" ∷ "a.js" ∷ []) ≡ None
+unfolding decimal_value
+form_134 = refl
+
+form_135 : asked ("run" ∷ "--explain=1" ∷ "a.js" ∷ []) ≡ None
+unfolding decimal_value
+form_135 = refl
+
+form_136 : asked ("--explain" ∷ "run" ∷ "a.js" ∷ []) ≡ None
+unfolding decimal_value
+form_136 = refl
+
+form_137 : asked ("run" ∷ "--" ∷ "--explain" ∷ []) ≡ Some (Run (run false (program None ("--explain" ∷ []))))
+unfolding decimal_value
+form_137 = refl

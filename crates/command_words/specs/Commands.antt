@@ -3,7 +3,7 @@ use Rattle.std.specs.Prelude.{ℕ, List, Bool, true, false, bytes_eq, codes, Opt
 use Rattle.command_words.specs.declared.command.Command.{Command}
 use Rattle.command_words.specs.declared.command.Command.TheVariants.{Run, Replay, Drill, Serve, Send}
 use Rattle.command_words.specs.declared.command.OptionName.{OptionName}
-use Rattle.command_words.specs.declared.command.OptionName.TheVariants.{Port, Sessions, Input, Wait}
+use Rattle.command_words.specs.declared.command.OptionName.TheVariants.{Port, Sessions, Input, Wait, Explain}
 
 -- the command of this name
 abbrev pub command_named : List ℕ → Option Command
@@ -20,20 +20,25 @@ option_named name =
     if bytes_eq name (codes "port") then Some Port
     else if bytes_eq name (codes "sessions") then Some Sessions
     else if bytes_eq name (codes "input") then Some Input
-    else if bytes_eq name (codes "wait") then Some Wait else None
+    else if bytes_eq name (codes "wait") then Some Wait
+    else if bytes_eq name (codes "explain") then Some Explain else None
 
 -- whether a command has an option
 abbrev pub has_option : Command → OptionName → Bool
 has_option Run Input = true
+has_option Run Explain = true
 has_option Replay Wait = true
 has_option Replay Input = true
+has_option Replay Explain = true
 has_option Serve option = true
 has_option Send Port = true
+has_option Send Explain = true
 has_option command option = false
 
 -- whether an option has a value
 abbrev pub has_value : OptionName → Bool
 has_value Wait = false
+has_value Explain = false
 has_value option = true
 
 -- whether two names of options are the same
@@ -42,4 +47,5 @@ same_option Port Port = true
 same_option Sessions Sessions = true
 same_option Input Input = true
 same_option Wait Wait = true
+same_option Explain Explain = true
 same_option option other = false

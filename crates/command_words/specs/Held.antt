@@ -10,6 +10,7 @@ use Rattle.command_words.specs.declared.part.Word.TheVariants as word
 use Rattle.command_words.specs.declared.part.First.{First}
 use Rattle.command_words.specs.declared.part.First.TheVariants as first
 use Rattle.command_words.specs.declared.request.Sources.{Sources as HeldSources}
+use Rattle.command_words.specs.declared.request.RunWords.{RunWords as HeldRun}
 use Rattle.command_words.specs.declared.request.ReplayWords.{ReplayWords as HeldReplay}
 use Rattle.command_words.specs.declared.request.ServeWords.{ServeWords as HeldServe}
 use Rattle.command_words.specs.declared.request.SendWords.{SendWords as HeldSend}
@@ -17,7 +18,7 @@ use Rattle.command_words.specs.declared.request.Request.{Request as HeldRequest}
 use Rattle.command_words.specs.declared.request.Request.TheVariants as request
 use Rattle.command_words.specs.declared.session_count.SessionCount.{SessionCount}
 use Rattle.command_words.specs.Parts.{Part, Operand, Valued, Flag, Kind, End, Whole, Awaiting, Unknown, begun, operands_alone, parts_of}
-use Rattle.command_words.specs.Requests.{Sources, ReplayWords, ServeWords, SendWords, Request, Run, Replay, Drill, Serve, Send, Help, Version}
+use Rattle.command_words.specs.Requests.{Sources, RunWords, ReplayWords, ServeWords, SendWords, Request, Run, Replay, Drill, Serve, Send, Help, Version}
 
 -- a text that may be there
 abbrev pub text_held : Option (Bor (List ℕ)) → Option (List ℕ)
@@ -60,10 +61,19 @@ IsWithin most first.Unknown = Unit {0}
 abbrev pub sources_held : HeldSources → Sources
 sources_held sources = record { input = text_held sources.input; scripts = texts_held sources.scripts.items }
 
+-- a run
+abbrev pub run_held : HeldRun → RunWords
+run_held words = record { explain = words.explain; sources = sources_held words.sources }
+
 -- a replay
 abbrev pub replay_held : HeldReplay → ReplayWords
 replay_held words =
-    record { wait = words.wait; journal = words.journal.now; sources = sources_held words.sources }
+    record {
+      explain = words.explain;
+      wait = words.wait;
+      journal = words.journal.now;
+      sources = sources_held words.sources;
+    }
 
 -- a number of clients
 abbrev pub count_held : SessionCount → ℕ
@@ -72,15 +82,21 @@ count_held sessions = sessions.count
 -- a server
 abbrev pub serve_held : HeldServe → ServeWords
 serve_held words =
-    record { port = words.port; sessions = count_held words.sessions; wait = words.wait; sources = sources_held words.sources }
+    record {
+      explain = words.explain;
+      port = words.port;
+      sessions = count_held words.sessions;
+      wait = words.wait;
+      sources = sources_held words.sources;
+    }
 
 -- a client
 abbrev pub send_held : HeldSend → SendWords
-send_held words = record { port = words.port; commands = words.commands.now }
+send_held words = record { explain = words.explain; port = words.port; commands = words.commands.now }
 
 -- what is asked for
 abbrev pub request_held : HeldRequest → Request
-request_held (request.Run sources) = Run (sources_held sources)
+request_held (request.Run words) = Run (run_held words)
 request_held (request.Replay words) = Replay (replay_held words)
 request_held (request.Drill number) = Drill number
 request_held (request.Serve words) = Serve (serve_held words)

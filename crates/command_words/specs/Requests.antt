@@ -6,7 +6,7 @@ use Rattle.std.specs.declared.alloc.Global.{Global}
 use Rattle.cdp_text.specs.Decimal.{decimal_value}
 use Rattle.command_words.specs.declared.command.Command.{Command}
 use Rattle.command_words.specs.declared.command.Command.TheVariants as command
-use Rattle.command_words.specs.declared.command.OptionName.TheVariants.{Port, Sessions, Input, Wait}
+use Rattle.command_words.specs.declared.command.OptionName.TheVariants.{Port, Sessions, Input, Wait, Explain}
 use Rattle.command_words.specs.declared.request.TheConstants.{DEFAULT_PORT, MOST_PORT, DEFAULT_SESSIONS, MOST_DRILLED}
 use Rattle.command_words.specs.declared.session_count.TheConstants.{MOST_SESSIONS}
 use Rattle.command_words.specs.Commands.{command_named}
@@ -18,14 +18,21 @@ pub record Sources : Type 0 where
   pub input : Option (List ℕ)
   pub scripts : List (List ℕ)
 
+-- a program, whose faults are explained where that is asked for
+pub record RunWords : Type 0 where
+  pub explain : Bool
+  pub sources : Sources
+
 -- a journal by the name of its file, over a program that waits for a client where that is asked for
 pub record ReplayWords : Type 0 where
+  pub explain : Bool
   pub wait : Bool
   pub journal : List ℕ
   pub sources : Sources
 
 -- a server's port and the greatest number of its clients at once, with its program
 pub record ServeWords : Type 0 where
+  pub explain : Bool
   pub port : ℕ
   pub sessions : ℕ
   pub wait : Bool
@@ -33,12 +40,13 @@ pub record ServeWords : Type 0 where
 
 -- a file of commands by its name, and the port of a serving host
 pub record SendWords : Type 0 where
+  pub explain : Bool
   pub port : ℕ
   pub commands : List ℕ
 
 -- what words ask for
 pub data Request : Type 0 where
-  Run : Sources → Request
+  Run : RunWords → Request
   Replay : ReplayWords → Request
   -- the drill of this number
   Drill : ℕ → Request
@@ -79,16 +87,25 @@ abbrev pub sources_of : List Part → List (List ℕ) → Option Sources
 sources_of parts [] = None
 sources_of parts (script ∷ scripts) = Some record { input = value_of Input parts; scripts = script ∷ scripts }
 
--- `run [--input FILE] SCRIPT...`
+-- the run of a program
+abbrev pub run_over : List Part → Sources → Request
+run_over parts sources = Run record { explain = is_given Explain parts; sources = sources }
+
+-- `run [--explain] [--input FILE] SCRIPT...`
 abbrev pub run_of : List Part → List (List ℕ) → Option Request
-run_of parts scripts = option_map (λ sources. Run sources) (sources_of parts scripts)
+run_of parts scripts = option_map (run_over parts) (sources_of parts scripts)
 
 -- the replay of a journal over a program
 abbrev pub replay_over : List Part → List ℕ → Sources → Request
 replay_over parts journal sources =
-    Replay record { wait = is_given Wait parts; journal = journal; sources = sources }
+    Replay record {
+      explain = is_given Explain parts;
+      wait = is_given Wait parts;
+      journal = journal;
+      sources = sources;
+    }
 
--- `replay [--wait] [--input FILE] JOURNAL SCRIPT...`
+-- `replay [--explain] [--wait] [--input FILE] JOURNAL SCRIPT...`
 abbrev pub replay_of : List Part → List (List ℕ) → Option Request
 replay_of parts [] = None
 replay_of parts (journal ∷ scripts) = option_map (replay_over parts journal) (sources_of parts scripts)
@@ -102,7 +119,13 @@ drill_of (number ∷ other ∷ words) = None
 -- the serving of a program at a port to so many clients at once
 abbrev pub serve_over : List Part → ℕ → ℕ → Sources → Request
 serve_over parts port sessions sources =
-    Serve record { port = port; sessions = sessions; wait = is_given Wait parts; sources = sources }
+    Serve record {
+      explain = is_given Explain parts;
+      port = port;
+      sessions = sessions;
+      wait = is_given Wait parts;
+      sources = sources;
+    }
 
 -- the serving at a port to so many clients at once
 abbrev pub serve_to : List Part → List (List ℕ) → ℕ → ℕ → Option Request
@@ -112,18 +135,19 @@ serve_to parts scripts port sessions = option_map (serve_over parts port session
 abbrev pub serve_at : List Part → List (List ℕ) → ℕ → Option Request
 serve_at parts scripts port = option_and_then (serve_to parts scripts port) (sessions_of parts)
 
--- `serve [--port P] [--sessions N] [--wait] [--input FILE] SCRIPT...`
+-- `serve [--explain] [--port P] [--sessions N] [--wait] [--input FILE] SCRIPT...`
 abbrev pub serve_of : List Part → List (List ℕ) → Option Request
 serve_of parts scripts = option_and_then (serve_at parts scripts) (port_of parts)
 
 -- the sending of commands to a port
-abbrev pub send_to : List ℕ → ℕ → Request
-send_to commands port = Send record { port = port; commands = commands }
+abbrev pub send_to : List Part → List ℕ → ℕ → Request
+send_to parts commands port =
+    Send record { explain = is_given Explain parts; port = port; commands = commands }
 
--- `send [--port P] COMMANDS`
+-- `send [--explain] [--port P] COMMANDS`
 abbrev pub send_of : List Part → List (List ℕ) → Option Request
 send_of parts [] = None
-send_of parts (commands ∷ []) = option_map (send_to commands) (port_of parts)
+send_of parts (commands ∷ []) = option_map (send_to parts commands) (port_of parts)
 send_of parts (commands ∷ other ∷ words) = None
 
 -- a command by its parts and its operands

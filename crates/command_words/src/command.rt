@@ -25,6 +25,7 @@ pub(crate) enum OptionName {
     Sessions,
     Input,
     Wait,
+    Explain,
 }
 
 /// The command of this name.
@@ -58,6 +59,8 @@ pub(crate) fn option_named(name: &str) -> Option<OptionName>
         Some(OptionName::Input)
     } else if name == "wait" {
         Some(OptionName::Wait)
+    } else if name == "explain" {
+        Some(OptionName::Explain)
     } else {
         None
     }
@@ -68,11 +71,14 @@ pub(crate) fn has_option(command: Command, option: OptionName) -> bool
     ensures { result ≡ has_option command option }
 {
     match command {
-        Command::Run => matches!(option, OptionName::Input),
-        Command::Replay => matches!(option, OptionName::Wait | OptionName::Input),
+        Command::Run => matches!(option, OptionName::Input | OptionName::Explain),
+        Command::Replay => matches!(
+            option,
+            OptionName::Wait | OptionName::Input | OptionName::Explain
+        ),
         Command::Drill => false,
         Command::Serve => true,
-        Command::Send => matches!(option, OptionName::Port),
+        Command::Send => matches!(option, OptionName::Port | OptionName::Explain),
     }
 }
 
@@ -82,6 +88,6 @@ pub(crate) fn has_value(option: OptionName) -> bool
 {
     match option {
         OptionName::Port | OptionName::Sessions | OptionName::Input => true,
-        OptionName::Wait => false,
+        OptionName::Wait | OptionName::Explain => false,
     }
 }

@@ -28,15 +28,15 @@ const PROGRAM_HELP: &str =
     "debug_host runs scripts of a JavaScript subset, and lets several clients debug the run at once.
 
 Commands:
-  run [--input FILE] SCRIPT...
+  run [--explain] [--input FILE] SCRIPT...
       runs scripts one after another, without a debugger
-  replay [--wait] [--input FILE] JOURNAL SCRIPT...
+  replay [--explain] [--wait] [--input FILE] JOURNAL SCRIPT...
       replays a journal of debugging sessions over scripts
   drill N
       makes a script and a journal from N (1 to 10000), replays them and prints a summary
-  serve [--port P] [--sessions N] [--wait] [--input FILE] SCRIPT...
+  serve [--explain] [--port P] [--sessions N] [--wait] [--input FILE] SCRIPT...
       runs scripts, and serves clients of the Chrome DevTools Protocol meanwhile
-  send [--port P] COMMANDS
+  send [--explain] [--port P] COMMANDS
       sends the commands of a file to a serving host, and prints what comes back
 
 Options stand anywhere after the command's name, each at most once, as --NAME VALUE or --NAME=VALUE:
@@ -44,6 +44,7 @@ Options stand anywhere after the command's name, each at most once, as --NAME VA
   --wait         no step is made before a client lets the program begin (default: it begins at once)
   --port P       the port on 127.0.0.1, 1 to 65535 (default: 9229)
   --sessions N   the most clients at once, 1 to 16 (default: 4)
+  --explain      further lines on the error stream say a fault's cause (default: one line)
   --             the words after it are no options, also where they begin with -
 
 Help and version:
@@ -72,11 +73,12 @@ Exit status:
 ";
 
 /// Help with `run`.
-const RUN_HELP: &str = "debug_host run [--input FILE] SCRIPT...
+const RUN_HELP: &str = "debug_host run [--explain] [--input FILE] SCRIPT...
 Runs scripts one after another, without a debugger, and prints what they print.
 
 Options:
   --input FILE   the lines that readline() gives (default: none)
+  --explain      further lines on the error stream say a fault's cause (default: one line)
 
 Example:
   ./debug_host run examples/counters.js
@@ -92,12 +94,13 @@ Exit status:
 ";
 
 /// Help with `replay`.
-const REPLAY_HELP: &str = "debug_host replay [--wait] [--input FILE] JOURNAL SCRIPT...
+const REPLAY_HELP: &str = "debug_host replay [--explain] [--wait] [--input FILE] JOURNAL SCRIPT...
 Replays a journal of debugging sessions over scripts, and prints the program's output and the sessions' messages.
 
 Options:
   --input FILE   the lines that readline() gives (default: none)
   --wait         no step is made before a session lets the program begin (default: it begins at once)
+  --explain      further lines on the error stream say a fault's cause (default: one line)
 
 Example:
   ./debug_host replay examples/breakpoint.journal examples/counters.js
@@ -128,7 +131,7 @@ Exit status:
 
 /// Help with `serve`.
 const SERVE_HELP: &str =
-    "debug_host serve [--port P] [--sessions N] [--wait] [--input FILE] SCRIPT...
+    "debug_host serve [--explain] [--port P] [--sessions N] [--wait] [--input FILE] SCRIPT...
 Runs scripts, and serves clients of the Chrome DevTools Protocol meanwhile; prints what the scripts print.
 
 Options:
@@ -136,6 +139,7 @@ Options:
   --sessions N   the most clients at once, 1 to 16 (default: 4)
   --wait         no step is made before a client lets the program begin (default: it begins at once)
   --input FILE   the lines that readline() gives (default: none)
+  --explain      further lines on the error stream say a fault's cause (default: one line)
 
 Example:
   ./debug_host serve --wait examples/sum.js
@@ -153,12 +157,13 @@ Exit status:
 ";
 
 /// Help with `send`.
-const SEND_HELP: &str = "debug_host send [--port P] COMMANDS
+const SEND_HELP: &str = "debug_host send [--explain] [--port P] COMMANDS
 Sends the commands of a file to a serving host, each once the one before is answered, and prints what comes back.
 A line of the file is METHOD, or METHOD and a JSON object of its parameters, or wait METHOD for an event.
 
 Options:
   --port P       the port on 127.0.0.1, 1 to 65535 (default: 9229)
+  --explain      further lines on the error stream say a fault's cause (default: one line)
 
 Example, while a host serves:
   echo Runtime.runIfWaitingForDebugger > start && ./debug_host send start

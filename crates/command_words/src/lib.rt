@@ -18,6 +18,6 @@ mod words;
 
 pub use command::Command;
 pub use help::{VERSION, help_text};
-pub use request::{ReplayWords, Request, SendWords, ServeWords, Sources};
+pub use request::{ReplayWords, Request, RunWords, SendWords, ServeWords, Sources};
 pub use session_count::SessionCount;
 pub use words::read_words;

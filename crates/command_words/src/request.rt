@@ -32,9 +32,20 @@ pub struct Sources<'w> {
     pub scripts: Vec<&'w str>,
 }
 
+/// What `run` is given.
+#[derive(Drop)]
+pub struct RunWords<'w> {
+    /// Whether the causes of faults are explained.
+    pub explain: bool,
+    /// The program.
+    pub sources: Sources<'w>,
+}
+
 /// What `replay` is given.
 #[derive(Drop)]
 pub struct ReplayWords<'w> {
+    /// Whether the causes of faults are explained.
+    pub explain: bool,
     /// Whether the program waits for a client that lets it begin.
     pub wait: bool,
     /// The file of the journal.
@@ -46,6 +57,8 @@ pub struct ReplayWords<'w> {
 /// What `serve` is given.
 #[derive(Drop)]
 pub struct ServeWords<'w> {
+    /// Whether the causes of faults are explained.
+    pub explain: bool,
     /// The port, from 1 on.
     pub port: u16,
     /// The most clients at once.
@@ -59,6 +72,8 @@ pub struct ServeWords<'w> {
 /// What `send` is given.
 #[derive(Clone, Copy)]
 pub struct SendWords<'w> {
+    /// Whether the causes of faults are explained.
+    pub explain: bool,
     /// The port of the serving host, from 1 on.
     pub port: u16,
     /// The file of the commands.
@@ -69,7 +84,7 @@ pub struct SendWords<'w> {
 #[derive(Drop)]
 pub enum Request<'w> {
     /// Run a program.
-    Run(Sources<'w>),
+    Run(RunWords<'w>),
     /// Replay a journal over a program.
     Replay(ReplayWords<'w>),
     /// The drill of this number, from 1 to 10,000.
@@ -101,14 +116,17 @@ pub(crate) fn command_of<'w>(
     }
 }
 
-/// `run [--input FILE] SCRIPT...`, by its options and its scripts.
+/// `run [--explain] [--input FILE] SCRIPT...`, by its options and its scripts.
 fn run_of<'w>(parts: &[Part<'w>], scripts: Vec<&'w str>) -> Option<Request<'w>>
     ensures { option_map request_held result ≡ run_of (parts_held parts.now) (texts_held scripts.entry.items) }
 {
-    Some(Request::Run(sources_of(parts, scripts)?))
+    Some(Request::Run(RunWords {
+        explain: is_given(parts, OptionName::Explain),
+        sources: sources_of(parts, scripts)?,
+    }))
 }
 
-/// `replay [--wait] [--input FILE] JOURNAL SCRIPT...`, by its options and its operands.
+/// `replay [--explain] [--wait] [--input FILE] JOURNAL SCRIPT...`, by its options and its operands.
 fn replay_of<'w>(parts: &[Part<'w>], operands: Vec<&'w str>) -> Option<Request<'w>>
     ensures { option_map request_held result ≡ replay_of (parts_held parts.now) (texts_held operands.entry.items) }
 {
@@ -118,6 +136,7 @@ fn replay_of<'w>(parts: &[Part<'w>], operands: Vec<&'w str>) -> Option<Request<'
     }
     let journal = scripts.remove(0);
     Some(Request::Replay(ReplayWords {
+        explain: is_given(parts, OptionName::Explain),
         wait: is_given(parts, OptionName::Wait),
         journal,
         sources: sources_of(parts, scripts)?,
@@ -135,7 +154,7 @@ fn drill_of(operands: &[&str]) -> Option<Request<'static>>
     }
 }
 
-/// `serve [--port P] [--sessions N] [--wait] [--input FILE] SCRIPT...`, by its options and its scripts.
+/// `serve [--explain] [--port P] [--sessions N] [--wait] [--input FILE] SCRIPT...`, by its options and its scripts.
 fn serve_of<'w>(parts: &[Part<'w>], scripts: Vec<&'w str>) -> Option<Request<'w>>
     ensures { option_map request_held result ≡ serve_of (parts_held parts.now) (texts_held scripts.entry.items) }
 {
@@ -143,6 +162,7 @@ fn serve_of<'w>(parts: &[Part<'w>], scripts: Vec<&'w str>) -> Option<Request<'w>
     let sessions = sessions_of(parts)?;
     let sources = sources_of(parts, scripts)?;
     Some(Request::Serve(ServeWords {
+        explain: is_given(parts, OptionName::Explain),
         port,
         sessions,
         wait: is_given(parts, OptionName::Wait),
@@ -150,13 +170,14 @@ fn serve_of<'w>(parts: &[Part<'w>], scripts: Vec<&'w str>) -> Option<Request<'w>
     }))
 }
 
-/// `send [--port P] COMMANDS`, by its options and its operands.
+/// `send [--explain] [--port P] COMMANDS`, by its options and its operands.
 fn send_of<'w>(parts: &[Part<'w>], operands: &[&'w str]) -> Option<Request<'w>>
     ensures { option_map request_held result ≡ send_of (parts_held parts.now) (texts_held operands.now) }
 {
     match operands {
         [] => None,
         [commands] => Some(Request::Send(SendWords {
+            explain: is_given(parts, OptionName::Explain),
             port: port_of(parts)?,
             commands: *commands,
         })),

@@ -1,0 +1,24 @@
+//! What went wrong, as a person would say it: the lines that `--explain` adds on the error stream.
+//!
+//! Each call answers lines that begin with two spaces and end with LF. They add to the one line that a command says of
+//! its end, and no clause speaks of them. Lines and columns count from 1 in them, as in editors, and a column counts
+//! UTF-16 units. A text that is quoted is cut where it is long, and its control characters are written as U+FFFD.
+#![tactic(auto)]
+
+mod commands;
+mod files;
+mod frames;
+mod journal;
+mod links;
+mod refusals;
+mod unread;
+mod words;
+
+pub use commands::command_lines;
+pub use files::KeptFile;
+pub use frames::{Frame, frame_lines};
+pub use journal::journal_lines;
+pub use links::{LinkFault, link_lines};
+pub use refusals::{Refused, refusal_lines};
+pub use unread::{ReadFault, unread_lines};
+pub use words::{asks_explanation, word_lines};
