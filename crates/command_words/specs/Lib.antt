@@ -1,4 +1,5 @@
 pub mod Commands
+pub mod Explains
 pub mod Parts
 pub mod Given
 pub mod Requests

@@ -9,6 +9,7 @@
 #![tactic(auto)]
 
 mod command;
+mod explain;
 mod given;
 mod help;
 mod part;
@@ -17,6 +18,7 @@ mod session_count;
 mod words;
 
 pub use command::Command;
+pub use explain::names_explain;
 pub use help::{VERSION, help_text};
 pub use request::{ReplayWords, Request, RunWords, SendWords, ServeWords, Sources};
 pub use session_count::SessionCount;
