@@ -1,5 +1,5 @@
 -- What each end of sending commands says of the file, the port and the conversation.
-use Rattle.std.proofs.Common.{◌≡◌, ◌≤◌, ◌⊎◌, inl, inr, ℕ, zero, suc, List, [], ◌∷◌, Option, Some, None, Ok, Err, refl, sym, ap, subst, ◌∙◌, arith}
+use Rattle.std.proofs.Common.{◌≡◌, ◌≤◌, ◌⊎◌, inl, inr, ℕ, zero, suc, List, [], ◌∷◌, Option, Some, None, Ok, Err, refl, sym, ap, subst, ◌∙◌, arith, Bool}
 use Rattle.cdp_edge.specs.Blame.{Blames, Faults, Read}
 use Rattle.cdp_edge.specs.Outside.{GainsPrefix, Named, Rose, Told, content_of}
 use Rattle.cdp_edge.proofs.Gains.{GainsPrefix-refl}
@@ -11,7 +11,7 @@ use Rattle.cdp_client.specs.declared.conversed.Conversed.{Conversed}
 use Rattle.cdp_client.specs.declared.conversed.Conversed.TheVariants as talks
 use Rattle.script_files.proofs.ScriptLemmas.{some_same}
 use Rattle.command_line.specs.SendCauses.{BecauseCommands, BecauseSend, Dialled, HoldsCommands, IsDialled, IsUndialled, IsUnsent, MaySend, RefusesLine, Sends, Speaks, outcome_of_talk}
-use Rattle.command_line.specs.Status.{ForSend, ForText, GivenSend, closed_said, line_said, said, status_of, unread_said}
+use Rattle.command_line.specs.Status.{ForSend, ForText, GivenSend, closed_said, line_said, said, status_of, unread_said, Says}
 use Rattle.command_words.specs.Requests.{Drill, Help, Replay, Request, Run, Send, SendWords, Serve, Version}
 use Rattle.command_line.specs.declared.outcome.Outcome.{Outcome}
 use Rattle.command_line.specs.declared.outcome.Outcome.TheVariants as ends
@@ -182,22 +182,22 @@ sent_given o request told old new was now end status is ends_so h =
     (λ files at. (end, ends_so, at)) h)
 
 -- how a peer that closed is told
-abbrev IsToldClose : Output → Output → Dialled → Dialled → Option (List ℕ) → Option (List ℕ) → SendWords
+abbrev IsToldClose : Output → Output → Dialled → Dialled → Bool → Option (List ℕ) → Option (List ℕ) → SendWords
     → List Named → Type 0
-IsToldClose old new was now before after request files =
+IsToldClose old new was now explains before after request files =
     (replies : ℕ)
     × Sends files request (talks.PeerClosed replies) old new was now
-    × GainsPrefix before after (closed_said replies)
+    × Says explains before after (closed_said replies)
 
 -- how a line that is refused is told
-abbrev IsToldLine : Option (List ℕ) → Option (List ℕ) → SendWords → List Named → Type 0
-IsToldLine before after request files =
-    (line : ℕ) × RefusesLine files request.commands line × GainsPrefix before after (line_said line)
+abbrev IsToldLine : Bool → Option (List ℕ) → Option (List ℕ) → SendWords → List Named → Type 0
+IsToldLine explains before after request files =
+    (line : ℕ) × RefusesLine files request.commands line × Says explains before after (line_said line)
 
 -- how a file that can't be read is told
-abbrev IsToldRead : Faults → Faults → Option (List ℕ) → Option (List ℕ) → SendWords → Type 0
-IsToldRead faults now_faults before after request =
-    Blames (Read request.commands) faults now_faults × GainsPrefix before after (unread_said request.commands)
+abbrev IsToldRead : Faults → Faults → Bool → Option (List ℕ) → Option (List ℕ) → SendWords → Type 0
+IsToldRead faults now_faults explains before after request =
+    Blames (Read request.commands) faults now_faults × Says explains before after (unread_said request.commands)
 
 -- the statuses at which the port was dialled
 abbrev IsPast : ℕ → Type 0
@@ -302,57 +302,57 @@ module _ (request : SendWords) (told : Option (List Named)) (faults now_faults :
   left_of (ends.Refused name r) h = absurd h
   left_of (ends.Threw text) h = absurd h
 
-  closed-told : (end : Outcome) (before after : Option (List ℕ)) → status_of end ≡ 9 → Because end
-      → GainsPrefix before after (said end) → Told told (IsToldClose old new was now before after request)
-  closed-told (ends.PeerClosed replies) before after is h says =
+  closed-told : (end : Outcome) (explains : Bool) (before after : Option (List ℕ)) → status_of end ≡ 9 → Because end
+      → Says explains before after (said end) → Told told (IsToldClose old new was now explains before after request)
+  closed-told (ends.PeerClosed replies) explains before after is h says =
       told_map told (λ files. Sends files request (talks.PeerClosed replies) old new was now)
-      (IsToldClose old new was now before after request) (λ files s. (replies, s, says)) h.4
-  closed-told ends.Done before after is h says = absurd cc
-  closed-told ends.OutOfMemory before after is h says = absurd cc
-  closed-told (ends.CannotRead name) before after is h says = absurd cc
-  closed-told (ends.LineRefused line) before after is h says = absurd cc
-  closed-told ends.CannotWrite before after is h says = absurd cc
-  closed-told ends.NetworkFault before after is h says = absurd cc
-  closed-told ends.Usage before after is h says = absurd h
-  closed-told ends.ThrewUnshown before after is h says = absurd h
-  closed-told ends.TicketsSpent before after is h says = absurd h
-  closed-told (ends.Refused name r) before after is h says = absurd h
-  closed-told (ends.Threw text) before after is h says = absurd h
+      (IsToldClose old new was now explains before after request) (λ files s. (replies, s, says)) h.4
+  closed-told ends.Done explains before after is h says = absurd cc
+  closed-told ends.OutOfMemory explains before after is h says = absurd cc
+  closed-told (ends.CannotRead name) explains before after is h says = absurd cc
+  closed-told (ends.LineRefused line) explains before after is h says = absurd cc
+  closed-told ends.CannotWrite explains before after is h says = absurd cc
+  closed-told ends.NetworkFault explains before after is h says = absurd cc
+  closed-told ends.Usage explains before after is h says = absurd h
+  closed-told ends.ThrewUnshown explains before after is h says = absurd h
+  closed-told ends.TicketsSpent explains before after is h says = absurd h
+  closed-told (ends.Refused name r) explains before after is h says = absurd h
+  closed-told (ends.Threw text) explains before after is h says = absurd h
 
-  line-told : (end : Outcome) (before after : Option (List ℕ)) → status_of end ≡ 6 → Because end
-      → GainsPrefix before after (said end) → Told told (IsToldLine before after request)
-  line-told (ends.LineRefused line) before after is h says =
-      told_map told (λ files. RefusesLine files request.commands line) (IsToldLine before after request)
+  line-told : (end : Outcome) (explains : Bool) (before after : Option (List ℕ)) → status_of end ≡ 6 → Because end
+      → Says explains before after (said end) → Told told (IsToldLine explains before after request)
+  line-told (ends.LineRefused line) explains before after is h says =
+      told_map told (λ files. RefusesLine files request.commands line) (IsToldLine explains before after request)
       (λ files r. (line, r, says)) h.3
-  line-told ends.Done before after is h says = absurd cc
-  line-told ends.OutOfMemory before after is h says = absurd cc
-  line-told (ends.CannotRead name) before after is h says = absurd cc
-  line-told (ends.PeerClosed replies) before after is h says = absurd cc
-  line-told ends.CannotWrite before after is h says = absurd cc
-  line-told ends.NetworkFault before after is h says = absurd cc
-  line-told ends.Usage before after is h says = absurd h
-  line-told ends.ThrewUnshown before after is h says = absurd h
-  line-told ends.TicketsSpent before after is h says = absurd h
-  line-told (ends.Refused name r) before after is h says = absurd h
-  line-told (ends.Threw text) before after is h says = absurd h
+  line-told ends.Done explains before after is h says = absurd cc
+  line-told ends.OutOfMemory explains before after is h says = absurd cc
+  line-told (ends.CannotRead name) explains before after is h says = absurd cc
+  line-told (ends.PeerClosed replies) explains before after is h says = absurd cc
+  line-told ends.CannotWrite explains before after is h says = absurd cc
+  line-told ends.NetworkFault explains before after is h says = absurd cc
+  line-told ends.Usage explains before after is h says = absurd h
+  line-told ends.ThrewUnshown explains before after is h says = absurd h
+  line-told ends.TicketsSpent explains before after is h says = absurd h
+  line-told (ends.Refused name r) explains before after is h says = absurd h
+  line-told (ends.Threw text) explains before after is h says = absurd h
 
-  read-told : (end : Outcome) (before after : Option (List ℕ)) → status_of end ≡ 4 → Because end
-      → GainsPrefix before after (said end) → IsToldRead faults now_faults before after request
-  read-told (ends.CannotRead name) before after is h says =
+  read-told : (end : Outcome) (explains : Bool) (before after : Option (List ℕ)) → status_of end ≡ 4 → Because end
+      → Says explains before after (said end) → IsToldRead faults now_faults explains before after request
+  read-told (ends.CannotRead name) explains before after is h says =
       subst
-      (λ (file : List ℕ). Blames (Read file) faults now_faults × GainsPrefix before after (unread_said file))
+      (λ (file : List ℕ). Blames (Read file) faults now_faults × Says explains before after (unread_said file))
       (sym h.3) (h.0, says)
-  read-told ends.Done before after is h says = absurd cc
-  read-told ends.OutOfMemory before after is h says = absurd cc
-  read-told (ends.LineRefused line) before after is h says = absurd cc
-  read-told (ends.PeerClosed replies) before after is h says = absurd cc
-  read-told ends.CannotWrite before after is h says = absurd cc
-  read-told ends.NetworkFault before after is h says = absurd cc
-  read-told ends.Usage before after is h says = absurd h
-  read-told ends.ThrewUnshown before after is h says = absurd h
-  read-told ends.TicketsSpent before after is h says = absurd h
-  read-told (ends.Refused name r) before after is h says = absurd h
-  read-told (ends.Threw text) before after is h says = absurd h
+  read-told ends.Done explains before after is h says = absurd cc
+  read-told ends.OutOfMemory explains before after is h says = absurd cc
+  read-told (ends.LineRefused line) explains before after is h says = absurd cc
+  read-told (ends.PeerClosed replies) explains before after is h says = absurd cc
+  read-told ends.CannotWrite explains before after is h says = absurd cc
+  read-told ends.NetworkFault explains before after is h says = absurd cc
+  read-told ends.Usage explains before after is h says = absurd h
+  read-told ends.ThrewUnshown explains before after is h says = absurd h
+  read-told ends.TicketsSpent explains before after is h says = absurd h
+  read-told (ends.Refused name r) explains before after is h says = absurd h
+  read-told (ends.Threw text) explains before after is h says = absurd h
 
   dialled-told : (end : Outcome) → IsPast (status_of end) → Because end → IsDialled request.port was now
   dialled-told ends.Done past h = h.3
@@ -380,23 +380,23 @@ module _ (request : SendWords) (told : Option (List Named)) (faults now_faults :
         given_send o request told (IsLeft status) is
         (subst (λ (n : ℕ). Told told (IsLeft n request)) (sym ends_so) (left_of end h))
 
-    pub closed_given : (before after : Option (List ℕ)) → GainsPrefix before after (said end) → status ≡ 9
-        → GivenSend o told (IsToldClose old new was now before after)
-    closed_given before after says nine =
-        given_send o request told (IsToldClose old new was now before after) is
-        (closed-told end before after (sym ends_so ∙ nine) h says)
+    pub closed_given : (explains : Bool) (before after : Option (List ℕ)) → Says explains before after (said end) → status ≡ 9
+        → GivenSend o told (IsToldClose old new was now explains before after)
+    closed_given explains before after says nine =
+        given_send o request told (IsToldClose old new was now explains before after) is
+        (closed-told end explains before after (sym ends_so ∙ nine) h says)
 
-    pub line_given : (before after : Option (List ℕ)) → GainsPrefix before after (said end) → status ≡ 6
-        → GivenSend o told (IsToldLine before after)
-    line_given before after says six =
-        given_send o request told (IsToldLine before after) is
-        (line-told end before after (sym ends_so ∙ six) h says)
+    pub line_given : (explains : Bool) (before after : Option (List ℕ)) → Says explains before after (said end) → status ≡ 6
+        → GivenSend o told (IsToldLine explains before after)
+    line_given explains before after says six =
+        given_send o request told (IsToldLine explains before after) is
+        (line-told end explains before after (sym ends_so ∙ six) h says)
 
-    pub read_given : (before after : Option (List ℕ)) → GainsPrefix before after (said end) → status ≡ 4
-        → ForSend o (IsToldRead faults now_faults before after)
-    read_given before after says four =
-        let it : IsToldRead faults now_faults before after request =
-        read-told end before after (sym ends_so ∙ four) h says in rw is it
+    pub read_given : (explains : Bool) (before after : Option (List ℕ)) → Says explains before after (said end) → status ≡ 4
+        → ForSend o (IsToldRead faults now_faults explains before after)
+    read_given explains before after says four =
+        let it : IsToldRead faults now_faults explains before after request =
+        read-told end explains before after (sym ends_so ∙ four) h says in rw is it
 
     pub dialled_given : IsPast status → ForSend o (λ r. now.dials ≡ called r.port was.dials)
     dialled_given past =

@@ -1,5 +1,5 @@
 -- What each end of a drill says of its script, its journal and its summary.
-use Rattle.std.proofs.Common.{◌≡◌, ℕ, List, [], ◌∷◌, false, Option, Some, None, refl, sym, subst, inl, ◌∙◌}
+use Rattle.std.proofs.Common.{◌≡◌, ℕ, List, [], ◌∷◌, false, Option, Some, None, refl, sym, subst, inl, ◌∙◌, Bool}
 use Rattle.std.proofs.lemmas.Option.{same_Some}
 use Rattle.cdp_edge.specs.Outside.{gains, GainsLess, GainsPrefix}
 use Rattle.cdp_journal.specs.Drills.{drill_journal, drill_source}
@@ -9,7 +9,7 @@ use Rattle.script_files.specs.Refusals.{IsRefused}
 use Rattle.script_files.specs.declared.fault.Refusal.{Refusal}
 use Rattle.command_line.specs.DrillCauses.{BecauseDrill, BecauseJournalOf, DrillRefuses, DrillsInPart, DrillsShort, DrillsWhole, IsDrilled, IsDrillScript, script_name}
 use Rattle.command_line.specs.Replays.{IsReplay, WritesReplay}
-use Rattle.command_line.specs.Status.{ForDrill, line_said, refusal_said, said, status_of}
+use Rattle.command_line.specs.Status.{ForDrill, line_said, refusal_said, said, status_of, Says}
 use Rattle.command_words.specs.Requests.{Request, Drill}
 use Rattle.command_line.specs.declared.outcome.Outcome.{Outcome}
 use Rattle.command_line.specs.declared.outcome.Outcome.TheVariants as ends
@@ -107,36 +107,36 @@ whole-part n old new w = record {
 -- ---- of the words that ask for a drill
 
 -- how a line of its journal that is refused is told
-abbrev IsToldLine : Option (List ℕ) → Option (List ℕ) → Option (List ℕ) → Option (List ℕ) → ℕ → Type 0
-IsToldLine old new before after n =
-    (number : ℕ) × DrillRefuses n number × (new ≡ old) × GainsPrefix before after (line_said number)
+abbrev IsToldLine : Option (List ℕ) → Option (List ℕ) → Bool → Option (List ℕ) → Option (List ℕ) → ℕ → Type 0
+IsToldLine old new explains before after n =
+    (number : ℕ) × DrillRefuses n number × (new ≡ old) × Says explains before after (line_said number)
 
-line-told : (end : Outcome) (n was now : ℕ) (old new before after : Option (List ℕ)) → status_of end ≡ 6
-    → BecauseDrill end n was now old new → GainsPrefix before after (said end) → IsToldLine old new before after n
-line-told (ends.LineRefused line) n was now old new before after is h says = (line, h.2, h.1, says)
-line-told ends.Done n was now old new before after is h says = absurd cc
-line-told (ends.Threw text) n was now old new before after is h says = absurd h
-line-told ends.ThrewUnshown n was now old new before after is h says = absurd h
-line-told ends.OutOfMemory n was now old new before after is h says = absurd cc
-line-told ends.Usage n was now old new before after is h says = absurd h
-line-told (ends.Refused name r) n was now old new before after is h says = absurd cc
-line-told (ends.CannotRead name) n was now old new before after is h says = absurd h
-line-told ends.CannotWrite n was now old new before after is h says = absurd cc
-line-told ends.NetworkFault n was now old new before after is h says = absurd h
-line-told ends.TicketsSpent n was now old new before after is h says = absurd h
-line-told (ends.PeerClosed replies) n was now old new before after is h says = absurd h
+line-told : (end : Outcome) (n was now : ℕ) (old new : Option (List ℕ)) (explains : Bool) (before after : Option (List ℕ)) → status_of end ≡ 6
+    → BecauseDrill end n was now old new → Says explains before after (said end) → IsToldLine old new explains before after n
+line-told (ends.LineRefused line) n was now old new explains before after is h says = (line, h.2, h.1, says)
+line-told ends.Done n was now old new explains before after is h says = absurd cc
+line-told (ends.Threw text) n was now old new explains before after is h says = absurd h
+line-told ends.ThrewUnshown n was now old new explains before after is h says = absurd h
+line-told ends.OutOfMemory n was now old new explains before after is h says = absurd cc
+line-told ends.Usage n was now old new explains before after is h says = absurd h
+line-told (ends.Refused name r) n was now old new explains before after is h says = absurd cc
+line-told (ends.CannotRead name) n was now old new explains before after is h says = absurd h
+line-told ends.CannotWrite n was now old new explains before after is h says = absurd cc
+line-told ends.NetworkFault n was now old new explains before after is h says = absurd h
+line-told ends.TicketsSpent n was now old new explains before after is h says = absurd h
+line-told (ends.PeerClosed replies) n was now old new explains before after is h says = absurd h
 
-pub line_given : (o : Option Request) (n : ℕ) (end : Outcome) (was now : ℕ) (old new before after : Option (List ℕ))
+pub line_given : (o : Option Request) (n : ℕ) (end : Outcome) (was now : ℕ) (old new : Option (List ℕ)) (explains : Bool) (before after : Option (List ℕ))
     (status : ℕ) → o ≡ Some (Drill n) → status ≡ status_of end → BecauseDrill end n was now old new
-    → GainsPrefix before after (said end) → status ≡ 6 → ForDrill o (IsToldLine old new before after)
-line_given o n end was now old new before after status is ends_so h says six =
-    let told : IsToldLine old new before after n =
-    line-told end n was now old new before after (sym ends_so ∙ six) h says in rw is told
+    → Says explains before after (said end) → status ≡ 6 → ForDrill o (IsToldLine old new explains before after)
+line_given o n end was now old new explains before after status is ends_so h says six =
+    let told : IsToldLine old new explains before after n =
+    line-told end n was now old new explains before after (sym ends_so ∙ six) h says in rw is told
 
 -- how a script of it that is refused is told
-abbrev IsToldRefusal : Option (List ℕ) → Option (List ℕ) → ℕ → Type 0
-IsToldRefusal before after n =
-    (refusal : Refusal) × IsRefused [] (drill_source n) refusal × GainsPrefix before after (refusal_said script_name refusal)
+abbrev IsToldRefusal : Bool → Option (List ℕ) → Option (List ℕ) → ℕ → Type 0
+IsToldRefusal explains before after n =
+    (refusal : Refusal) × IsRefused [] (drill_source n) refusal × Says explains before after (refusal_said script_name refusal)
 
 done-told : (end : Outcome) (n was now : ℕ) (old new : Option (List ℕ)) → status_of end ≡ 0
     → BecauseDrill end n was now old new → DrillsWhole n old new
@@ -168,20 +168,20 @@ short-told ends.NetworkFault n was now old new is h = absurd h
 short-told ends.TicketsSpent n was now old new is h = absurd h
 short-told (ends.PeerClosed replies) n was now old new is h = absurd h
 
-refusal-told : (end : Outcome) (n was now : ℕ) (old new before after : Option (List ℕ)) → status_of end ≡ 3
-    → BecauseDrill end n was now old new → GainsPrefix before after (said end) → IsToldRefusal before after n
-refusal-told ends.Done n was now old new before after is h says = absurd cc
-refusal-told (ends.Threw text) n was now old new before after is h says = absurd h
-refusal-told ends.ThrewUnshown n was now old new before after is h says = absurd h
-refusal-told ends.OutOfMemory n was now old new before after is h says = absurd cc
-refusal-told ends.Usage n was now old new before after is h says = absurd h
-refusal-told (ends.Refused name r) n was now old new before after is h says = (r, h.3, subst (λ (l : List ℕ). GainsPrefix before after (refusal_said l r)) h.2 says)
-refusal-told (ends.CannotRead name) n was now old new before after is h says = absurd h
-refusal-told ends.CannotWrite n was now old new before after is h says = absurd cc
-refusal-told (ends.LineRefused line) n was now old new before after is h says = absurd cc
-refusal-told ends.NetworkFault n was now old new before after is h says = absurd h
-refusal-told ends.TicketsSpent n was now old new before after is h says = absurd h
-refusal-told (ends.PeerClosed replies) n was now old new before after is h says = absurd h
+refusal-told : (end : Outcome) (n was now : ℕ) (old new : Option (List ℕ)) (explains : Bool) (before after : Option (List ℕ)) → status_of end ≡ 3
+    → BecauseDrill end n was now old new → Says explains before after (said end) → IsToldRefusal explains before after n
+refusal-told ends.Done n was now old new explains before after is h says = absurd cc
+refusal-told (ends.Threw text) n was now old new explains before after is h says = absurd h
+refusal-told ends.ThrewUnshown n was now old new explains before after is h says = absurd h
+refusal-told ends.OutOfMemory n was now old new explains before after is h says = absurd cc
+refusal-told ends.Usage n was now old new explains before after is h says = absurd h
+refusal-told (ends.Refused name r) n was now old new explains before after is h says = (r, h.3, subst (λ (l : List ℕ). Says explains before after (refusal_said l r)) h.2 says)
+refusal-told (ends.CannotRead name) n was now old new explains before after is h says = absurd h
+refusal-told ends.CannotWrite n was now old new explains before after is h says = absurd cc
+refusal-told (ends.LineRefused line) n was now old new explains before after is h says = absurd cc
+refusal-told ends.NetworkFault n was now old new explains before after is h says = absurd h
+refusal-told ends.TicketsSpent n was now old new explains before after is h says = absurd h
+refusal-told (ends.PeerClosed replies) n was now old new explains before after is h says = absurd h
 
 module _ (o : Option Request) (n : ℕ) (end : Outcome) (was now : ℕ) (old new : Option (List ℕ)) (status : ℕ)
     (is : o ≡ Some (Drill n)) (ends_so : status ≡ status_of end) (h : BecauseDrill end n was now old new) where
@@ -193,8 +193,8 @@ module _ (o : Option Request) (n : ℕ) (end : Outcome) (was now : ℕ) (old new
   short_given five =
       let it : DrillsShort n old new = short-told end n was now old new (sym ends_so ∙ five) h in rw is it
 
-  pub refusal_given : (before after : Option (List ℕ)) → GainsPrefix before after (said end) → status ≡ 3
-      → ForDrill o (IsToldRefusal before after)
-  refusal_given before after says three =
-      let it : IsToldRefusal before after n =
-      refusal-told end n was now old new before after (sym ends_so ∙ three) h says in rw is it
+  pub refusal_given : (explains : Bool) (before after : Option (List ℕ)) → Says explains before after (said end) → status ≡ 3
+      → ForDrill o (IsToldRefusal explains before after)
+  refusal_given explains before after says three =
+      let it : IsToldRefusal explains before after n =
+      refusal-told end n was now old new explains before after (sym ends_so ∙ three) h says in rw is it

@@ -1,6 +1,6 @@
 -- What each end of a replay says of the files, and of what was written.
 use Rattle.std.proofs.Common.{◌≡◌, ◌⊎◌, ℕ, List, Bool, Option, Some, None, refl, sym, subst, ◌∙◌, inl, inr}
-use Rattle.cdp_edge.specs.Outside.{GainsPrefix, Named, Told, Rose, content_of}
+use Rattle.cdp_edge.specs.Outside.{Named, Told, Rose, content_of}
 use Rattle.cdp_edge.specs.Blame.{Faults, Blames, Read}
 use Rattle.cdp_edge.proofs.Gains.{gains-nil, GainsPrefix-refl, Told-GainsPrefix}
 use Rattle.js_tree.specs.declared.script.Script.{Script}
@@ -9,7 +9,7 @@ use Rattle.command_line.specs.Files.{HoldsReplay, HoldsSources, IsNamedBy, IsRea
 use Rattle.command_line.specs.Replays.{WritesLess, WritesPart, WritesReplay}
 use Rattle.command_line.specs.ReplayCauses.{ReplaysWhole, ReplaysInPart, ReplaysShort, BecauseReplay, outcome_of_replay}
 use Rattle.command_line.specs.RunCauses.{BecauseSources}
-use Rattle.command_line.specs.Status.{ForReplay, GivenReplay, said, status_of, unread_said}
+use Rattle.command_line.specs.Status.{ForReplay, GivenReplay, said, status_of, unread_said, Says}
 use Rattle.command_words.specs.Requests.{Request, Replay, ReplayWords}
 use Rattle.command_line.specs.declared.outcome.Outcome.{Outcome}
 use Rattle.command_line.specs.declared.outcome.Outcome.TheVariants as ends
@@ -307,38 +307,38 @@ left_given o request told end before after was now old new status is e h =
     (left_of end request told before after was now old new h))
 
 -- how a file that can't be read is told
-abbrev IsToldRead : Faults → Faults → Option (List Named) → Option (List ℕ) → Option (List ℕ) → ReplayWords → Type 0
-IsToldRead before after told said_before said_after request =
+abbrev IsToldRead : Faults → Faults → Option (List Named) → Bool → Option (List ℕ) → Option (List ℕ) → ReplayWords → Type 0
+IsToldRead before after told explains said_before said_after request =
     (name : List ℕ)
     × IsNamedBy request name
     × Blames (Read name) before after
     × Told told (λ files. IsReachedBy files request name)
-    × GainsPrefix said_before said_after (unread_said name)
+    × Says explains said_before said_after (unread_said name)
 
 read-told : (end : Outcome) (request : ReplayWords) (told : Option (List Named)) (before after : Faults) (was now : ℕ)
-    (old new said_before said_after : Option (List ℕ)) → status_of end ≡ 4
-    → BecauseReplay end request told before after was now old new → GainsPrefix said_before said_after (said end)
-    → IsToldRead before after told said_before said_after request
-read-told (ends.CannotRead name) request told before after was now old new said_before said_after is h says =
+    (old new : Option (List ℕ)) (explains : Bool) (said_before said_after : Option (List ℕ)) → status_of end ≡ 4
+    → BecauseReplay end request told before after was now old new → Says explains said_before said_after (said end)
+    → IsToldRead before after told explains said_before said_after request
+read-told (ends.CannotRead name) request told before after was now old new explains said_before said_after is h says =
     (name.now, h.2, h.0, h.3, says)
-read-told ends.Done request told before after was now old new said_before said_after is h says = absurd cc
-read-told (ends.LineRefused n) request told before after was now old new said_before said_after is h says = absurd cc
-read-told ends.OutOfMemory request told before after was now old new said_before said_after is h says = absurd cc
-read-told (ends.Refused name r) request told before after was now old new said_before said_after is h says = absurd cc
-read-told ends.CannotWrite request told before after was now old new said_before said_after is h says = absurd cc
-read-told (ends.Threw text) request told before after was now old new said_before said_after is h says = absurd h
-read-told ends.ThrewUnshown request told before after was now old new said_before said_after is h says = absurd h
-read-told ends.Usage request told before after was now old new said_before said_after is h says = absurd h
-read-told ends.NetworkFault request told before after was now old new said_before said_after is h says = absurd h
-read-told ends.TicketsSpent request told before after was now old new said_before said_after is h says = absurd h
-read-told (ends.PeerClosed replies) request told before after was now old new said_before said_after is h says = absurd h
+read-told ends.Done request told before after was now old new explains said_before said_after is h says = absurd cc
+read-told (ends.LineRefused n) request told before after was now old new explains said_before said_after is h says = absurd cc
+read-told ends.OutOfMemory request told before after was now old new explains said_before said_after is h says = absurd cc
+read-told (ends.Refused name r) request told before after was now old new explains said_before said_after is h says = absurd cc
+read-told ends.CannotWrite request told before after was now old new explains said_before said_after is h says = absurd cc
+read-told (ends.Threw text) request told before after was now old new explains said_before said_after is h says = absurd h
+read-told ends.ThrewUnshown request told before after was now old new explains said_before said_after is h says = absurd h
+read-told ends.Usage request told before after was now old new explains said_before said_after is h says = absurd h
+read-told ends.NetworkFault request told before after was now old new explains said_before said_after is h says = absurd h
+read-told ends.TicketsSpent request told before after was now old new explains said_before said_after is h says = absurd h
+read-told (ends.PeerClosed replies) request told before after was now old new explains said_before said_after is h says = absurd h
 
 pub read_given : (o : Option Request) (request : ReplayWords) (told : Option (List Named)) (end : Outcome)
-    (before after : Faults) (was now : ℕ) (old new said_before said_after : Option (List ℕ)) (status : ℕ)
+    (before after : Faults) (was now : ℕ) (old new : Option (List ℕ)) (explains : Bool) (said_before said_after : Option (List ℕ)) (status : ℕ)
     → o ≡ Some (Replay request) → status ≡ status_of end
     → BecauseReplay end request told before after was now old new
-    → GainsPrefix said_before said_after (said end) → status ≡ 4
-    → ForReplay o (IsToldRead before after told said_before said_after)
-read_given o request told end before after was now old new said_before said_after status is ends_so h says four =
-    let it : IsToldRead before after told said_before said_after request =
-    read-told end request told before after was now old new said_before said_after (sym ends_so ∙ four) h says in rw is it
+    → Says explains said_before said_after (said end) → status ≡ 4
+    → ForReplay o (IsToldRead before after told explains said_before said_after)
+read_given o request told end before after was now old new explains said_before said_after status is ends_so h says four =
+    let it : IsToldRead before after told explains said_before said_after request =
+    read-told end request told before after was now old new explains said_before said_after (sym ends_so ∙ four) h says in rw is it

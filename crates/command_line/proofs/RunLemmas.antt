@@ -1,7 +1,7 @@
 -- What each end says of a run's files, and of what was written.
-use Rattle.std.proofs.Common.{◌≡◌, ◌⊎◌, ℕ, List, Option, Some, None, refl, sym, ap, subst, ◌∙◌, inl, inr, true, false, string_bytes}
+use Rattle.std.proofs.Common.{◌≡◌, ◌⊎◌, ℕ, List, Option, Some, None, refl, sym, ap, subst, ◌∙◌, inl, inr, true, false, string_bytes, Bool}
 use Rattle.std.specs.Str.{is_utf8}
-use Rattle.cdp_edge.specs.Outside.{GainsPrefix, Named, Told, content_of}
+use Rattle.cdp_edge.specs.Outside.{Named, Told, content_of}
 use Rattle.cdp_edge.specs.Blame.{Blames, Faults, Read}
 use Rattle.js_tree.specs.declared.script.Script.{Script}
 use Rattle.script_files.specs.declared.fault.Refusal.{Refusal}
@@ -9,8 +9,8 @@ use Rattle.script_files.specs.Input.{HoldsInput, HoldsNoText}
 use Rattle.script_files.proofs.ScriptLemmas.{none_refused, some_same}
 use Rattle.command_line.specs.Files.{HoldsLines, HoldsSources, IsNamed, IsReachedIn, IsRefusedIn}
 use Rattle.command_line.specs.RunCauses.{RunsToEnd, RunsToThrow, RunsShort, RunsInPart, BecauseSources, BecauseRun}
-use Rattle.command_line.specs.Status.{ForRun, GivenRun, said, status_of, unread_said}
-use Rattle.command_words.specs.Requests.{Sources, Request, Run}
+use Rattle.command_line.specs.Status.{ForRun, GivenRun, said, status_of, unread_said, Says}
+use Rattle.command_words.specs.Requests.{Request, Run, RunWords, Sources}
 use Rattle.command_line.specs.declared.outcome.Outcome.{Outcome}
 use Rattle.command_line.specs.declared.outcome.Outcome.TheVariants as ends
 
@@ -124,69 +124,69 @@ left_of (ends.PeerClosed replies) sources told before after was now old new h = 
 left_of (ends.LineRefused n) sources told before after was now old new h = absurd h
 
 -- of the words that ask for the run
-given_run : (o : Option Request) (sources : Sources) (told : Option (List Named)) (P : Sources → List Named → Type 0)
-    → o ≡ Some (Run sources)
-    → Told told (P sources)
+given_run : (o : Option Request) (request : RunWords) (told : Option (List Named)) (P : Sources → List Named → Type 0)
+    → o ≡ Some (Run request)
+    → Told told (P request.sources)
     → GivenRun o told P
-given_run o sources told P is h = rw is h
+given_run o request told P is h = rw is h
 
-pub taken_given : (o : Option Request) (sources : Sources) (told : Option (List Named)) (end : Outcome)
+pub taken_given : (o : Option Request) (request : RunWords) (told : Option (List Named)) (end : Outcome)
     (before after : Faults) (was now : ℕ) (old new : Option (List ℕ)) (status : ℕ)
-    → o ≡ Some (Run sources)
+    → o ≡ Some (Run request)
     → status ≡ status_of end
-    → BecauseRun end sources told before after was now old new
+    → BecauseRun end request.sources told before after was now old new
     → GivenRun o told (IsTaken status)
-taken_given o sources told end before after was now old new status is e h =
-    given_run o sources told (IsTaken status) is
-    (subst (λ (n : ℕ). Told told (IsTaken n sources)) (sym e)
-    (taken_of end sources told before after was now old new h))
+taken_given o request told end before after was now old new status is e h =
+    given_run o request told (IsTaken status) is
+    (subst (λ (n : ℕ). Told told (IsTaken n request.sources)) (sym e)
+    (taken_of end request.sources told before after was now old new h))
 
-pub left_given : (o : Option Request) (sources : Sources) (told : Option (List Named)) (end : Outcome)
+pub left_given : (o : Option Request) (request : RunWords) (told : Option (List Named)) (end : Outcome)
     (before after : Faults) (was now : ℕ) (old new : Option (List ℕ)) (status : ℕ)
-    → o ≡ Some (Run sources)
+    → o ≡ Some (Run request)
     → status ≡ status_of end
-    → BecauseRun end sources told before after was now old new
+    → BecauseRun end request.sources told before after was now old new
     → GivenRun o told (IsLeft status)
-left_given o sources told end before after was now old new status is e h =
-    given_run o sources told (IsLeft status) is
-    (subst (λ (n : ℕ). Told told (IsLeft n sources)) (sym e)
-    (left_of end sources told before after was now old new h))
+left_given o request told end before after was now old new status is e h =
+    given_run o request told (IsLeft status) is
+    (subst (λ (n : ℕ). Told told (IsLeft n request.sources)) (sym e)
+    (left_of end request.sources told before after was now old new h))
 
 -- how a file that can't be read is told
-abbrev IsToldRead : Faults → Faults → Option (List Named) → Option (List ℕ) → Option (List ℕ) → Sources → Type 0
-IsToldRead before after told said_before said_after sources =
+abbrev IsToldRead : Faults → Faults → Option (List Named) → Bool → Option (List ℕ) → Option (List ℕ) → Sources → Type 0
+IsToldRead before after told explains said_before said_after sources =
     (name : List ℕ)
     × IsNamed sources name
     × Blames (Read name) before after
     × Told told (λ files. IsReachedIn files sources name)
-    × GainsPrefix said_before said_after (unread_said name)
+    × Says explains said_before said_after (unread_said name)
 
 read-told : (end : Outcome) (sources : Sources) (told : Option (List Named)) (before after : Faults) (was now : ℕ)
-    (old new said_before said_after : Option (List ℕ)) → status_of end ≡ 4
-    → BecauseRun end sources told before after was now old new → GainsPrefix said_before said_after (said end)
-    → IsToldRead before after told said_before said_after sources
-read-told (ends.CannotRead name) sources told before after was now old new said_before said_after is h says =
+    (old new : Option (List ℕ)) (explains : Bool) (said_before said_after : Option (List ℕ)) → status_of end ≡ 4
+    → BecauseRun end sources told before after was now old new → Says explains said_before said_after (said end)
+    → IsToldRead before after told explains said_before said_after sources
+read-told (ends.CannotRead name) sources told before after was now old new explains said_before said_after is h says =
     (name.now, h.2, h.0, h.3, says)
-read-told ends.Done sources told before after was now old new said_before said_after is h says = absurd cc
-read-told (ends.Threw text) sources told before after was now old new said_before said_after is h says = absurd cc
-read-told ends.OutOfMemory sources told before after was now old new said_before said_after is h says = absurd cc
-read-told (ends.Refused name r) sources told before after was now old new said_before said_after is h says = absurd cc
-read-told ends.CannotWrite sources told before after was now old new said_before said_after is h says = absurd cc
-read-told ends.ThrewUnshown sources told before after was now old new said_before said_after is h says = absurd h
-read-told ends.Usage sources told before after was now old new said_before said_after is h says = absurd h
-read-told (ends.LineRefused n) sources told before after was now old new said_before said_after is h says = absurd h
-read-told ends.NetworkFault sources told before after was now old new said_before said_after is h says = absurd h
-read-told ends.TicketsSpent sources told before after was now old new said_before said_after is h says = absurd h
-read-told (ends.PeerClosed replies) sources told before after was now old new said_before said_after is h says = absurd h
+read-told ends.Done sources told before after was now old new explains said_before said_after is h says = absurd cc
+read-told (ends.Threw text) sources told before after was now old new explains said_before said_after is h says = absurd cc
+read-told ends.OutOfMemory sources told before after was now old new explains said_before said_after is h says = absurd cc
+read-told (ends.Refused name r) sources told before after was now old new explains said_before said_after is h says = absurd cc
+read-told ends.CannotWrite sources told before after was now old new explains said_before said_after is h says = absurd cc
+read-told ends.ThrewUnshown sources told before after was now old new explains said_before said_after is h says = absurd h
+read-told ends.Usage sources told before after was now old new explains said_before said_after is h says = absurd h
+read-told (ends.LineRefused n) sources told before after was now old new explains said_before said_after is h says = absurd h
+read-told ends.NetworkFault sources told before after was now old new explains said_before said_after is h says = absurd h
+read-told ends.TicketsSpent sources told before after was now old new explains said_before said_after is h says = absurd h
+read-told (ends.PeerClosed replies) sources told before after was now old new explains said_before said_after is h says = absurd h
 
-pub read_given : (o : Option Request) (sources : Sources) (told : Option (List Named)) (end : Outcome)
-    (before after : Faults) (was now : ℕ) (old new said_before said_after : Option (List ℕ)) (status : ℕ)
-    → o ≡ Some (Run sources) → status ≡ status_of end → BecauseRun end sources told before after was now old new
-    → GainsPrefix said_before said_after (said end) → status ≡ 4
-    → ForRun o (IsToldRead before after told said_before said_after)
-read_given o sources told end before after was now old new said_before said_after status is ends_so h says four =
-    let it : IsToldRead before after told said_before said_after sources =
-    read-told end sources told before after was now old new said_before said_after (sym ends_so ∙ four) h says in rw is it
+pub read_given : (o : Option Request) (request : RunWords) (told : Option (List Named)) (end : Outcome)
+    (before after : Faults) (was now : ℕ) (old new : Option (List ℕ)) (explains : Bool) (said_before said_after : Option (List ℕ)) (status : ℕ)
+    → o ≡ Some (Run request) → status ≡ status_of end → BecauseRun end request.sources told before after was now old new
+    → Says explains said_before said_after (said end) → status ≡ 4
+    → ForRun o (IsToldRead before after told explains said_before said_after)
+read_given o request told end before after was now old new explains said_before said_after status is ends_so h says four =
+    let it : IsToldRead before after told explains said_before said_after request.sources =
+    read-told end request.sources told before after was now old new explains said_before said_after (sym ends_so ∙ four) h says in rw is it
 
 -- ---- before a step is made
 

@@ -44,7 +44,7 @@ use Rattle.ws_service.specs.declared.program.RunEnd.TheVariants as runs
 use Rattle.command_line.specs.Files.{HoldsSources, IsNamed, IsReachedIn}
 use Rattle.command_line.specs.RunCauses.{BecauseSources, RunsInPart, RunsToThrow}
 use Rattle.command_line.specs.ServeCauses.{BecauseServe, BecauseServed, Harbored, HasFinished, IsEndOf, IsOpened, IsShutEnd, IsUnserved, MayServe, ServesPort, ShowsThrow, outcome_of_serving}
-use Rattle.command_line.specs.Status.{ForServe, GivenServe, said, status_of, uncaught_said, unread_said}
+use Rattle.command_line.specs.Status.{ForServe, GivenServe, said, status_of, uncaught_said, unread_said, Says}
 use Rattle.command_words.specs.Requests.{Request, Serve, ServeWords}
 use Rattle.command_words.specs.Requests as words
 use Rattle.command_line.specs.declared.outcome.Outcome.{Outcome}
@@ -585,43 +585,54 @@ served_given o request told moment old new before after end status is ends_so h 
     (λ r files. (it : Outcome) × (status ≡ status_of it) × MayServe files r moment old new before after it) is
     (told_map told (λ files. MayServe files request moment old new before after end) _ (λ files at. (end, ends_so, at)) h)
 
+-- where no line is said, nothing was said of any line
+says-unshown : (explains : Bool) (before after : Opt (List ℕ)) (line : List ℕ) → Says explains before after []
+    → Says explains before after line
+says-unshown explains before after line says = (
+  [],
+  λ no. refl,
+  λ no. refl,
+  prefix-more before after [] (line ++ []) (line ++ []) refl
+      (subst (λ (l : List ℕ). GainsPrefix before after ([] ++ l)) (says.2 refl) says.3),
+)
+
 -- how a throw that ended its program is told
-abbrev IsToldThrow : Output → Output → Opt (List ℕ) → Opt (List ℕ) → ServeWords → List Named → Type 0
-IsToldThrow old new before after request files =
+abbrev IsToldThrow : Output → Output → Bool → Opt (List ℕ) → Opt (List ℕ) → ServeWords → List Named → Type 0
+IsToldThrow old new explains before after request files =
     (text : List ℕ)
     × RunsToThrow files request.sources text old.content new.content
-    × GainsPrefix before after (uncaught_said text)
+    × Says explains before after (uncaught_said text)
 
 threw-told : (end : Outcome) (request : ServeWords) (told : Opt (List Named)) (faults now_faults : Faults)
-    (old new : Output) (was now : Harbored) (before after : Opt (List ℕ)) → status_of end ≡ 8
-    → BecauseServe end request told faults now_faults old new was now → GainsPrefix before after (said end)
-    → Told told (IsToldThrow old new before after request)
-threw-told (ends.Threw text) request told faults now_faults old new was now before after is h says =
+    (old new : Output) (was now : Harbored) (explains : Bool) (before after : Opt (List ℕ)) → status_of end ≡ 8
+    → BecauseServe end request told faults now_faults old new was now → Says explains before after (said end)
+    → Told told (IsToldThrow old new explains before after request)
+threw-told (ends.Threw text) request told faults now_faults old new was now explains before after is h says =
     told_map told (λ files. RunsToThrow files request.sources (string_bytes text) old.content new.content)
-    (IsToldThrow old new before after request) (λ files thrown. (string_bytes text, thrown, says)) h.3
-threw-told ends.ThrewUnshown request told faults now_faults old new was now before after is h says =
+    (IsToldThrow old new explains before after request) (λ files thrown. (string_bytes text, thrown, says)) h.3
+threw-told ends.ThrewUnshown request told faults now_faults old new was now explains before after is h says =
     told_map told (λ files. RunsToThrow files request.sources h.3.0 old.content new.content)
-    (IsToldThrow old new before after request)
-    (λ files thrown. (h.3.0, thrown, prefix-more before after [] (uncaught_said h.3.0) (uncaught_said h.3.0) refl says)) h.3.1
-threw-told ends.Done request told faults now_faults old new was now before after is h says = absurd cc
-threw-told ends.OutOfMemory request told faults now_faults old new was now before after is h says = absurd cc
-threw-told ends.Usage request told faults now_faults old new was now before after is h says = absurd h
-threw-told (ends.Refused name r) request told faults now_faults old new was now before after is h says = absurd cc
-threw-told (ends.CannotRead name) request told faults now_faults old new was now before after is h says = absurd cc
-threw-told ends.CannotWrite request told faults now_faults old new was now before after is h says = absurd cc
-threw-told (ends.LineRefused n) request told faults now_faults old new was now before after is h says = absurd h
-threw-told ends.NetworkFault request told faults now_faults old new was now before after is h says = absurd cc
-threw-told ends.TicketsSpent request told faults now_faults old new was now before after is h says = absurd cc
-threw-told (ends.PeerClosed replies) request told faults now_faults old new was now before after is h says = absurd h
+    (IsToldThrow old new explains before after request)
+    (λ files thrown. (h.3.0, thrown, says-unshown explains before after (uncaught_said h.3.0) says)) h.3.1
+threw-told ends.Done request told faults now_faults old new was now explains before after is h says = absurd cc
+threw-told ends.OutOfMemory request told faults now_faults old new was now explains before after is h says = absurd cc
+threw-told ends.Usage request told faults now_faults old new was now explains before after is h says = absurd h
+threw-told (ends.Refused name r) request told faults now_faults old new was now explains before after is h says = absurd cc
+threw-told (ends.CannotRead name) request told faults now_faults old new was now explains before after is h says = absurd cc
+threw-told ends.CannotWrite request told faults now_faults old new was now explains before after is h says = absurd cc
+threw-told (ends.LineRefused n) request told faults now_faults old new was now explains before after is h says = absurd h
+threw-told ends.NetworkFault request told faults now_faults old new was now explains before after is h says = absurd cc
+threw-told ends.TicketsSpent request told faults now_faults old new was now explains before after is h says = absurd cc
+threw-told (ends.PeerClosed replies) request told faults now_faults old new was now explains before after is h says = absurd h
 
 pub threw_given : (o : Opt Request) (end : Outcome) (request : ServeWords) (told : Opt (List Named))
-    (faults now_faults : Faults) (old new : Output) (was now : Harbored) (before after : Opt (List ℕ)) (status : ℕ)
+    (faults now_faults : Faults) (old new : Output) (was now : Harbored) (explains : Bool) (before after : Opt (List ℕ)) (status : ℕ)
     → o ≡ Some (Serve request) → status ≡ status_of end
-    → BecauseServe end request told faults now_faults old new was now → GainsPrefix before after (said end)
-    → status ≡ 8 → GivenServe o told (IsToldThrow old new before after)
-threw_given o end request told faults now_faults old new was now before after status is ends_so h says eight =
-    given_serve o request told (IsToldThrow old new before after) is
-    (threw-told end request told faults now_faults old new was now before after (sym ends_so ∙ eight) h says)
+    → BecauseServe end request told faults now_faults old new was now → Says explains before after (said end)
+    → status ≡ 8 → GivenServe o told (IsToldThrow old new explains before after)
+threw_given o end request told faults now_faults old new was now explains before after status is ends_so h says eight =
+    given_serve o request told (IsToldThrow old new explains before after) is
+    (threw-told end request told faults now_faults old new was now explains before after (sym ends_so ∙ eight) h says)
 
 -- the statuses at which the doors were opened
 abbrev IsPast : ℕ → Type 0
@@ -653,33 +664,33 @@ not-past-7 P (inr (inr (inl is))) = absurd cc
 not-past-7 P (inr (inr (inr is))) = absurd cc
 
 -- how a file that can't be read is told
-abbrev IsToldRead : Faults → Faults → Opt (List Named) → Opt (List ℕ) → Opt (List ℕ) → ServeWords → Type 0
-IsToldRead faults now_faults told before after request =
+abbrev IsToldRead : Faults → Faults → Opt (List Named) → Bool → Opt (List ℕ) → Opt (List ℕ) → ServeWords → Type 0
+IsToldRead faults now_faults told explains before after request =
     (name : List ℕ)
     × IsNamed request.sources name
     × Blames (Read name) faults now_faults
     × Told told (λ files. IsReachedIn files request.sources name)
-    × GainsPrefix before after (unread_said name)
+    × Says explains before after (unread_said name)
 
 module _ (request : ServeWords) (told : Opt (List Named)) (faults now_faults : Faults) (old new : Output)
     (was now : Harbored) where
   abbrev Ended : Outcome → Type 0
   Ended end = BecauseServe end request told faults now_faults old new was now
 
-  read-told : (end : Outcome) (before after : Opt (List ℕ)) → status_of end ≡ 4 → Ended end
-      → GainsPrefix before after (said end) → IsToldRead faults now_faults told before after request
-  read-told (ends.CannotRead name) before after is h says = (name.now, h.2, h.0, h.3, says)
-  read-told ends.Done before after is h says = absurd cc
-  read-told (ends.Threw text) before after is h says = absurd cc
-  read-told ends.ThrewUnshown before after is h says = absurd cc
-  read-told ends.OutOfMemory before after is h says = absurd cc
-  read-told (ends.Refused name r) before after is h says = absurd cc
-  read-told ends.CannotWrite before after is h says = absurd cc
-  read-told ends.NetworkFault before after is h says = absurd cc
-  read-told ends.TicketsSpent before after is h says = absurd cc
-  read-told ends.Usage before after is h says = absurd h
-  read-told (ends.LineRefused n) before after is h says = absurd h
-  read-told (ends.PeerClosed replies) before after is h says = absurd h
+  read-told : (end : Outcome) (explains : Bool) (before after : Opt (List ℕ)) → status_of end ≡ 4 → Ended end
+      → Says explains before after (said end) → IsToldRead faults now_faults told explains before after request
+  read-told (ends.CannotRead name) explains before after is h says = (name.now, h.2, h.0, h.3, says)
+  read-told ends.Done explains before after is h says = absurd cc
+  read-told (ends.Threw text) explains before after is h says = absurd cc
+  read-told ends.ThrewUnshown explains before after is h says = absurd cc
+  read-told ends.OutOfMemory explains before after is h says = absurd cc
+  read-told (ends.Refused name r) explains before after is h says = absurd cc
+  read-told ends.CannotWrite explains before after is h says = absurd cc
+  read-told ends.NetworkFault explains before after is h says = absurd cc
+  read-told ends.TicketsSpent explains before after is h says = absurd cc
+  read-told ends.Usage explains before after is h says = absurd h
+  read-told (ends.LineRefused n) explains before after is h says = absurd h
+  read-told (ends.PeerClosed replies) explains before after is h says = absurd h
 
   opened-told : (end : Outcome) → IsPast (status_of end) → Ended end → IsOpened request.port request.sessions was now
   opened-told ends.Done past h = h.2
@@ -697,11 +708,11 @@ module _ (request : ServeWords) (told : Opt (List Named)) (faults now_faults : F
 
   module _ (o : Opt Request) (end : Outcome) (status : ℕ) (is : o ≡ Some (Serve request))
       (ends_so : status ≡ status_of end) (h : Ended end) where
-    pub read_given : (before after : Opt (List ℕ)) → GainsPrefix before after (said end) → status ≡ 4
-        → ForServe o (IsToldRead faults now_faults told before after)
-    read_given before after says four =
-        let it : IsToldRead faults now_faults told before after request =
-        read-told end before after (sym ends_so ∙ four) h says in rw is it
+    pub read_given : (explains : Bool) (before after : Opt (List ℕ)) → Says explains before after (said end) → status ≡ 4
+        → ForServe o (IsToldRead faults now_faults told explains before after)
+    read_given explains before after says four =
+        let it : IsToldRead faults now_faults told explains before after request =
+        read-told end explains before after (sym ends_so ∙ four) h says in rw is it
 
     pub opened_given : IsPast status → ForServe o (λ r. now.opens ≡ called (r.port, r.sessions) was.opens)
     opened_given past =

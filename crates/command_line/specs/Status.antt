@@ -1,6 +1,6 @@
 -- The status of each end, and its line.
-use Rattle.std.specs.Prelude.{◌≡◌, ◌<◌, ℕ, List, [], ◌∷◌, ◌++◌, codes, decimal, string_bytes, Option, Some}
-use Rattle.cdp_edge.specs.Outside.{Named, Told}
+use Rattle.std.specs.Prelude.{◌≡◌, ◌<◌, ℕ, List, [], ◌∷◌, ◌++◌, codes, decimal, string_bytes, Option, Some, Bool, false}
+use Rattle.cdp_edge.specs.Outside.{Named, Told, GainsPrefix}
 use Rattle.cdp_edge.specs.Blame.{Faults}
 use Rattle.script_files.specs.declared.fault.Refusal.{Refusal}
 use Rattle.script_files.specs.declared.fault.Refusal.TheVariants as refusals
@@ -73,11 +73,19 @@ said (ends.LineRefused number) = line_said number
 said (ends.PeerClosed replies) = closed_said replies
 said (ends.Threw text) = uncaught_said (string_bytes text)
 
+-- the second sink took some first bytes of a line, and of what explains it where explanations are asked for; nothing explains where there is no line
+abbrev pub Says : Bool → Option (List ℕ) → Option (List ℕ) → List ℕ → Type 0
+Says explains old new line =
+    (more : List ℕ)
+    × (explains ≡ false → more ≡ [])
+    × (line ≡ [] → more ≡ [])
+    × GainsPrefix old new (line ++ more)
+
 -- ---- what is said where words ask for something
 
 -- what holds of a run, where the words ask for one
 abbrev pub ForRun : Option Request → (Sources → Type 0) → Type 0
-ForRun (Some (Run sources)) P = P sources
+ForRun (Some (Run request)) P = P request.sources
 ForRun asked P = Unit {0}
 
 -- what holds of a run and the files, where the words ask for one and the files are told

@@ -93,15 +93,15 @@ where
     ensures reads { result ≢ 4 → F.faults shelf.new ≡ F.faults shelf.old }
     ensures write { result ≡ 5 → Rose (O.faults out.old) (O.faults out.new) }
     ensures writes { result ≢ 5 → O.faults out.new ≡ O.faults out.old }
-    ensures says { (end : Outcome) × (result ≡ status_of end) × GainsPrefix (E.content err.old) (E.content err.new) (said end) }
+    ensures says { (end : Outcome) × (result ≡ status_of end) × Says (explains words.now) (E.content err.old) (E.content err.new) (said end) }
     // `run`: the cause of each status
     ensures run_done { result ≡ 0 → GivenRun (asked words.now) (F.files shelf.old) (λ sources files. RunsToEnd files sources (O.content out.old) (O.content out.new)) }
     ensures run_threw { result ≡ 8 → GivenRun (asked words.now) (F.files shelf.old) (λ sources files. (text : List ℕ)
-        × RunsToThrow files sources text (O.content out.old) (O.content out.new) × GainsPrefix (E.content err.old) (E.content err.new) (uncaught_said text)) }
+        × RunsToThrow files sources text (O.content out.old) (O.content out.new) × Says (explains words.now) (E.content err.old) (E.content err.new) (uncaught_said text)) }
     ensures run_refused { result ≡ 3 → GivenRun (asked words.now) (F.files shelf.old) (λ sources files. (name : List ℕ) × (refusal : Refusal)
-        × IsRefusedIn files sources name refusal × GainsPrefix (E.content err.old) (E.content err.new) (refusal_said name refusal)) }
+        × IsRefusedIn files sources name refusal × Says (explains words.now) (E.content err.old) (E.content err.new) (refusal_said name refusal)) }
     ensures run_read { result ≡ 4 → ForRun (asked words.now) (λ sources. (name : List ℕ) × IsNamed sources name × Blames (Read name) (F.faults shelf.old) (F.faults shelf.new)
-        × Told (F.files shelf.old) (λ files. IsReachedIn files sources name) × GainsPrefix (E.content err.old) (E.content err.new) (unread_said name)) }
+        × Told (F.files shelf.old) (λ files. IsReachedIn files sources name) × Says (explains words.now) (E.content err.old) (E.content err.new) (unread_said name)) }
     ensures run_offered { result ≡ 5 → GivenRun (asked words.now) (F.files shelf.old) (λ sources files. RunsShort files sources (O.content out.old) (O.content out.new)) }
     // no other status where the files hold scripts and input, or one of them is refused, unless memory was wanting or a count rose
     ensures run_decided { GivenRun (asked words.now) (F.files shelf.old) (λ sources files. (scripts : List Script) (input : List (List ℕ)) → HoldsSources files sources scripts input
@@ -113,11 +113,11 @@ where
     // `replay`: the cause of each status
     ensures replay_done { result ≡ 0 → GivenReplay (asked words.now) (F.files shelf.old) (λ request files. ReplaysWhole files request None (O.content out.old) (O.content out.new)) }
     ensures replay_line { result ≡ 6 → GivenReplay (asked words.now) (F.files shelf.old) (λ request files. (number : ℕ)
-        × ReplaysWhole files request (Some number) (O.content out.old) (O.content out.new) × GainsPrefix (E.content err.old) (E.content err.new) (line_said number)) }
+        × ReplaysWhole files request (Some number) (O.content out.old) (O.content out.new) × Says (explains words.now) (E.content err.old) (E.content err.new) (line_said number)) }
     ensures replay_refused { result ≡ 3 → GivenReplay (asked words.now) (F.files shelf.old) (λ request files. (name : List ℕ) × (refusal : Refusal)
-        × IsRefusedBehind files request name refusal × GainsPrefix (E.content err.old) (E.content err.new) (refusal_said name refusal)) }
+        × IsRefusedBehind files request name refusal × Says (explains words.now) (E.content err.old) (E.content err.new) (refusal_said name refusal)) }
     ensures replay_read { result ≡ 4 → ForReplay (asked words.now) (λ request. (name : List ℕ) × IsNamedBy request name × Blames (Read name) (F.faults shelf.old) (F.faults shelf.new)
-        × Told (F.files shelf.old) (λ files. IsReachedBy files request name) × GainsPrefix (E.content err.old) (E.content err.new) (unread_said name)) }
+        × Told (F.files shelf.old) (λ files. IsReachedBy files request name) × Says (explains words.now) (E.content err.old) (E.content err.new) (unread_said name)) }
     ensures replay_offered { result ≡ 5 → GivenReplay (asked words.now) (F.files shelf.old) (λ request files. ReplaysShort files request (O.content out.old) (O.content out.new)) }
     ensures replay_decided { GivenReplay (asked words.now) (F.files shelf.old) (λ request files. (journal : List ℕ) (scripts : List Script) (input : List (List ℕ)) → HoldsReplay files request journal scripts input
         → (result ≡ 0) ⊎ (result ≡ 6) ⊎ (result ≡ 1) ⊎ (result ≡ 4) ⊎ (result ≡ 5)) }
@@ -128,11 +128,11 @@ where
     // `serve`: the cause of each status
     ensures serve_done { result ≡ 0 → GivenServe (asked words.now) (F.files shelf.old) (λ request files. ServesToEnd files request (O.content out.old) (O.content out.new)) }
     ensures serve_threw { result ≡ 8 → GivenServe (asked words.now) (F.files shelf.old) (λ request files. (text : List ℕ)
-        × RunsToThrow files request.sources text (O.content out.old) (O.content out.new) × GainsPrefix (E.content err.old) (E.content err.new) (uncaught_said text)) }
+        × RunsToThrow files request.sources text (O.content out.old) (O.content out.new) × Says (explains words.now) (E.content err.old) (E.content err.new) (uncaught_said text)) }
     ensures serve_refused { result ≡ 3 → GivenServe (asked words.now) (F.files shelf.old) (λ request files. (name : List ℕ) × (refusal : Refusal)
-        × IsRefusedIn files request.sources name refusal × GainsPrefix (E.content err.old) (E.content err.new) (refusal_said name refusal)) }
+        × IsRefusedIn files request.sources name refusal × Says (explains words.now) (E.content err.old) (E.content err.new) (refusal_said name refusal)) }
     ensures serve_read { result ≡ 4 → ForServe (asked words.now) (λ request. (name : List ℕ) × IsNamed request.sources name × Blames (Read name) (F.faults shelf.old) (F.faults shelf.new)
-        × Told (F.files shelf.old) (λ files. IsReachedIn files request.sources name) × GainsPrefix (E.content err.old) (E.content err.new) (unread_said name)) }
+        × Told (F.files shelf.old) (λ files. IsReachedIn files request.sources name) × Says (explains words.now) (E.content err.old) (E.content err.new) (unread_said name)) }
     ensures serve_network { result ≡ 7 → Rose (H.faults harbor.old) (H.faults harbor.new) }
     // at every status: what `out` took is a first part of what the program prints; the doors are those of one history, in
     // which the program stops exactly where it is named to, and each session is sent what it would be sent alone
@@ -145,11 +145,11 @@ where
     // `send`: the cause of each status
     ensures send_done { result ≡ 0 → GivenSend (asked words.now) (F.files shelf.old) (λ request files. Sends files request talks.Done (record { content = O.content out.old; faults = O.faults out.old }) (record { content = O.content out.new; faults = O.faults out.new }) (record { faults = H.faults harbor.old; dials = H.dials harbor.old; hung_up = H.hung_up harbor.old }) (record { faults = H.faults harbor.new; dials = H.dials harbor.new; hung_up = H.hung_up harbor.new })) }
     ensures send_closed { result ≡ 9 → GivenSend (asked words.now) (F.files shelf.old) (λ request files. (replies : ℕ)
-        × Sends files request (talks.PeerClosed replies) (record { content = O.content out.old; faults = O.faults out.old }) (record { content = O.content out.new; faults = O.faults out.new }) (record { faults = H.faults harbor.old; dials = H.dials harbor.old; hung_up = H.hung_up harbor.old }) (record { faults = H.faults harbor.new; dials = H.dials harbor.new; hung_up = H.hung_up harbor.new }) × GainsPrefix (E.content err.old) (E.content err.new) (closed_said replies)) }
+        × Sends files request (talks.PeerClosed replies) (record { content = O.content out.old; faults = O.faults out.old }) (record { content = O.content out.new; faults = O.faults out.new }) (record { faults = H.faults harbor.old; dials = H.dials harbor.old; hung_up = H.hung_up harbor.old }) (record { faults = H.faults harbor.new; dials = H.dials harbor.new; hung_up = H.hung_up harbor.new }) × Says (explains words.now) (E.content err.old) (E.content err.new) (closed_said replies)) }
     ensures send_line { result ≡ 6 → GivenSend (asked words.now) (F.files shelf.old) (λ request files. (line : ℕ)
-        × RefusesLine files request.commands line × GainsPrefix (E.content err.old) (E.content err.new) (line_said line)) }
+        × RefusesLine files request.commands line × Says (explains words.now) (E.content err.old) (E.content err.new) (line_said line)) }
     ensures send_read { result ≡ 4 → ForSend (asked words.now) (λ request. Blames (Read request.commands) (F.faults shelf.old) (F.faults shelf.new)
-        × GainsPrefix (E.content err.old) (E.content err.new) (unread_said request.commands)) }
+        × Says (explains words.now) (E.content err.old) (E.content err.new) (unread_said request.commands)) }
     ensures send_offered { result ≡ 5 → GivenSend (asked words.now) (F.files shelf.old) (λ request files. Sends files request talks.WriteFault (record { content = O.content out.old; faults = O.faults out.old }) (record { content = O.content out.new; faults = O.faults out.new }) (record { faults = H.faults harbor.old; dials = H.dials harbor.old; hung_up = H.hung_up harbor.old }) (record { faults = H.faults harbor.new; dials = H.dials harbor.new; hung_up = H.hung_up harbor.new })) }
     // no other status where the file is of its form, or a line of it is refused, unless memory was wanting or a count rose
     ensures send_decided { GivenSend (asked words.now) (F.files shelf.old) (λ request files. (lines : List Line) → HoldsCommands files request.commands lines
@@ -168,10 +168,10 @@ where
     // `drill`: the cause of each status
     ensures drill_done { result ≡ 0 → ForDrill (asked words.now) (λ n. DrillsWhole n (O.content out.old) (O.content out.new)) }
     ensures drill_refused { result ≡ 3 → ForDrill (asked words.now) (λ n. (refusal : Refusal) × IsRefused [] (drill_source n) refusal
-        × GainsPrefix (E.content err.old) (E.content err.new) (refusal_said script_name refusal)) }
+        × Says (explains words.now) (E.content err.old) (E.content err.new) (refusal_said script_name refusal)) }
     ensures drill_offered { result ≡ 5 → ForDrill (asked words.now) (λ n. DrillsShort n (O.content out.old) (O.content out.new)) }
     ensures drill_line { result ≡ 6 → ForDrill (asked words.now) (λ n. (number : ℕ) × DrillRefuses n number
-        × (O.content out.new ≡ O.content out.old) × GainsPrefix (E.content err.old) (E.content err.new) (line_said number)) }
+        × (O.content out.new ≡ O.content out.old) × Says (explains words.now) (E.content err.old) (E.content err.new) (line_said number)) }
     ensures drill_part { ForDrill (asked words.now) (λ n. (O.content out.new ≡ O.content out.old) ⊎ DrillsInPart n (O.content out.old) (O.content out.new)) }
     ensures drill_shelf { ForDrill (asked words.now) (λ n. shelf.new ≡ shelf.old) }
     // `--help` and `--version`: their text on `out`, and nothing else
@@ -212,7 +212,7 @@ where
 /// Tells of an end and answers its status.
 fn end<E: Sink>(alloc: Global, outcome: Outcome<'_>, err: &mut E) -> u8
     ensures status { result ≡ status_of outcome.entry }
-    ensures says { GainsPrefix (E.content err.old) (E.content err.new) (said outcome.entry) }
+    ensures says { Says (explains words.now) (E.content err.old) (E.content err.new) (said outcome.entry) }
 {
     let status = status_of(&outcome);
     report(alloc, outcome, err);

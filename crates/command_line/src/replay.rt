@@ -12,6 +12,7 @@ use crate::sources::{Program, read_sources};
 use crate::whole_file::read_whole;
 use cdp_edge::{Shelf, Sink};
 use command_words::ReplayWords;
+use script_files::Evidence;
 use std::alloc::Global;
 
 /// The end that the replay of a journal has.
@@ -34,19 +35,21 @@ pub(crate) fn replay<'w, F: Shelf, O: Sink>(
     request: &ReplayWords<'w>,
     shelf: &mut F,
     out: &mut O,
+    evidence: &mut Evidence,
 ) -> Outcome<'w>
     ensures cause { BecauseReplay result (replay_held request.now) (F.files shelf.old) (F.faults shelf.old) (F.faults shelf.new) (O.faults out.old) (O.faults out.new) (O.content out.old) (O.content out.new) }
     ensures part { Told (F.files shelf.old) (λ files. (O.content out.new ≡ O.content out.old) ⊎ ReplaysInPart files (replay_held request.now) (O.content out.old) (O.content out.new)) }
     ensures unbegun { IsUnbegun result → out.new ≡ out.old }
 {
-    let journal = match read_whole(alloc, request.journal, shelf) {
+    let journal = match read_whole(alloc, request.journal, shelf, evidence) {
         Ok(bytes) => bytes,
         Err(end) => return end,
     };
-    match read_sources(alloc, &request.sources, shelf) {
+    match read_sources(alloc, &request.sources, shelf, evidence) {
         Ok(program) => {
             let Program { scripts, input } = program;
             let end = journal::replay(alloc, &scripts, input, request.wait, &journal, out);
+            *evidence = Evidence::Content(journal);
             outcome_of_replay(end)
         }
         Err(end) => end,

@@ -9,6 +9,7 @@ use crate::outcome::Outcome;
 use crate::sources::{Program, read_sources};
 use cdp_edge::{Shelf, Sink};
 use command_words::Sources;
+use script_files::Evidence;
 use script_runs::end::RunEnd;
 use script_runs::run::run_scripts;
 use std::alloc::Global;
@@ -35,12 +36,13 @@ pub(crate) fn run<'w, R: Wait, F: Shelf, O: Sink>(
     sources: &Sources<'w>,
     shelf: &mut F,
     out: &mut O,
+    evidence: &mut Evidence,
 ) -> Outcome<'w>
     ensures cause { BecauseRun result (sources_held sources.now) (F.files shelf.old) (F.faults shelf.old) (F.faults shelf.new) (O.faults out.old) (O.faults out.new) (O.content out.old) (O.content out.new) }
     ensures part { Told (F.files shelf.old) (λ files. (O.content out.new ≡ O.content out.old) ⊎ RunsInPart files (sources_held sources.now) (O.content out.old) (O.content out.new)) }
     ensures unbegun { IsUnbegun result → out.new ≡ out.old }
 {
-    match read_sources(alloc, sources, shelf) {
+    match read_sources(alloc, sources, shelf, evidence) {
         Ok(Program { scripts, input }) => {
             outcome_of_run(run_scripts(rt, alloc, &scripts, input, out))
         }

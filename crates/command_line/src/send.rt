@@ -12,6 +12,7 @@ use crate::whole_file::read_whole;
 use cdp_client::{Conversed, check_file, converse};
 use cdp_edge::{Shelf, Sink};
 use command_words::SendWords;
+use script_files::Evidence;
 use server_edge::{Harbor, HarborFault};
 use std::alloc::Global;
 use std::sync::Wait;
@@ -35,19 +36,23 @@ fn read_commands<'w, F: Shelf>(
     alloc: Global,
     name: &'w str,
     shelf: &mut F,
+    evidence: &mut Evidence,
 ) -> Result<Vec<u8>, Outcome<'w>>
     ensures content { IfOk result (λ bytes. Told (F.files shelf.old) (λ files. content_of name.now files ≡ Some bytes.items)) }
     ensures form { IfOk result (λ bytes. IsInForm bytes.items) }
     ensures quiet { IfOk result (λ bytes. F.faults shelf.new ≡ F.faults shelf.old) }
     ensures fault { IfErr result (λ end. BecauseCommands end name.now (F.files shelf.old) (F.faults shelf.old) (F.faults shelf.new)) }
 {
-    let bytes = match read_whole(alloc, name, shelf) {
+    let bytes = match read_whole(alloc, name, shelf, evidence) {
         Ok(bytes) => bytes,
         Err(end) => return Err(end),
     };
     match check_file(alloc, &bytes) {
         Ok(()) => Ok(bytes),
-        Err(end) => Err(outcome_of_talk(end)),
+        Err(end) => {
+            *evidence = Evidence::Content(bytes);
+            Err(outcome_of_talk(end))
+        }
     }
 }
 
@@ -86,6 +91,7 @@ pub(crate) fn send<'w, R: Wait, F: Shelf, O: Sink, H: Harbor>(
     shelf: &mut F,
     out: &mut O,
     harbor: &mut H,
+    evidence: &mut Evidence,
 ) -> Outcome<'w>
     ensures cause { BecauseSend result (send_held request.entry) (F.files shelf.old) (F.faults shelf.old) (F.faults shelf.new) (record { content = O.content out.old; faults = O.faults out.old }) (record { content = O.content out.new; faults = O.faults out.new }) (record { faults = H.faults harbor.old; dials = H.dials harbor.old; hung_up = H.hung_up harbor.old }) (record { faults = H.faults harbor.new; dials = H.dials harbor.new; hung_up = H.hung_up harbor.new }) }
     ensures part { Told (F.files shelf.old) (λ files. MaySend files (send_held request.entry) (record { content = O.content out.old; faults = O.faults out.old }) (record { content = O.content out.new; faults = O.faults out.new }) (record { faults = H.faults harbor.old; dials = H.dials harbor.old; hung_up = H.hung_up harbor.old }) (record { faults = H.faults harbor.new; dials = H.dials harbor.new; hung_up = H.hung_up harbor.new }) result) }
@@ -93,7 +99,7 @@ pub(crate) fn send<'w, R: Wait, F: Shelf, O: Sink, H: Harbor>(
     ensures once { (H.dials harbor.new ≡ H.dials harbor.old) ⊎ (H.dials harbor.new ≡ called request.entry.port (H.dials harbor.old)) }
     ensures opens { H.opens harbor.new ≡ H.opens harbor.old }
 {
-    let commands = match read_commands(alloc, request.commands, shelf) {
+    let commands = match read_commands(alloc, request.commands, shelf, evidence) {
         Ok(commands) => commands,
         Err(end) => return end,
     };

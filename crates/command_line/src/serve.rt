@@ -21,6 +21,7 @@ use command_words::ServeWords;
 use history_lock::HistoryLock;
 use host_turns::{Entry, Hosted, Lock, Worker};
 use js_tree::script::Script;
+use script_files::Evidence;
 use server_edge::{Clock, Door, Harbor, HarborFault};
 use std::alloc::{AllocError, Global};
 use std::collections::VecDeque;
@@ -213,6 +214,7 @@ pub(crate) fn serve<
     out: &mut O,
     harbor: &mut P,
     clock: &mut C,
+    evidence: &mut Evidence,
 ) -> Outcome<'w>
 where
     P::Bell: Sync,
@@ -224,7 +226,7 @@ where
     ensures once { (P.opens harbor.new ≡ P.opens harbor.old) ⊎ (P.opens harbor.new ≡ called ((serve_held request.now).port, (serve_held request.now).sessions) (P.opens harbor.old)) }
     ensures dials { P.dials harbor.new ≡ P.dials harbor.old }
 {
-    match read_sources(alloc, &request.sources, shelf) {
+    match read_sources(alloc, &request.sources, shelf, evidence) {
         Ok(Program { scripts, input }) => serve_program::<Brand, R, O, P, C>(
             rt,
             alloc,

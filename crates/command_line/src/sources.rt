@@ -11,7 +11,7 @@ use cdp_edge::Shelf;
 use cdp_text::units::Units;
 use command_words::Sources;
 use js_tree::script::Script;
-use script_files::{FileFault, read_input, read_scripts};
+use script_files::{Evidence, FileFault, read_input, read_scripts};
 use std::alloc::Global;
 use std::collections::VecDeque;
 
@@ -38,6 +38,7 @@ fn read_lines<'w, F: Shelf>(
     alloc: Global,
     input: Option<&'w str>,
     shelf: &mut F,
+    evidence: &mut Evidence,
 ) -> Result<VecDeque<Units>, Outcome<'w>>
     ensures lines { IfOk result (λ lines. Told (F.files shelf.old) (λ files. HoldsLines files (text_held input.entry) lines.items)) }
     ensures quiet { IfOk result (λ lines. F.faults shelf.new ≡ F.faults shelf.old) }
@@ -47,13 +48,14 @@ fn read_lines<'w, F: Shelf>(
     let Some(name) = input else {
         return Ok(VecDeque::new(alloc));
     };
-    match read_input(alloc, shelf, name) {
+    match read_input(alloc, shelf, name, evidence) {
         Ok(lines) => Ok(lines),
         Err(fault) => Err(outcome_of(name, fault)),
     }
 }
 
-/// The program that files of these names hold: the input is read first, then the scripts in order.
+/// The program that files of these names hold: the input is read first, then the scripts in order. What is left of a file
+/// that isn't taken becomes the evidence.
 ///
 /// # Errors
 ///
@@ -62,17 +64,18 @@ pub(crate) fn read_sources<'w, F: Shelf>(
     alloc: Global,
     sources: &Sources<'w>,
     shelf: &mut F,
+    evidence: &mut Evidence,
 ) -> Result<Program, Outcome<'w>>
     ensures holds { IfOk result (λ p. Told (F.files shelf.old) (λ files. HoldsSources files (sources_held sources.now) p.scripts.items p.input.items)) }
     ensures quiet { IfOk result (λ p. F.faults shelf.new ≡ F.faults shelf.old) }
     ensures fault { IfErr result (λ end. BecauseSources end (sources_held sources.now) (F.files shelf.old) (F.faults shelf.old) (F.faults shelf.new)) }
     ensures files { F.files shelf.new ≡ F.files shelf.old }
 {
-    let input = match read_lines(alloc, sources.input, shelf) {
+    let input = match read_lines(alloc, sources.input, shelf, evidence) {
         Ok(input) => input,
         Err(end) => return Err(end),
     };
-    match read_scripts(alloc, shelf, &sources.scripts) {
+    match read_scripts(alloc, shelf, &sources.scripts, evidence) {
         Ok(scripts) => Ok(Program { scripts, input }),
         Err(fault) => Err(outcome_of(fault.name, fault.fault)),
     }

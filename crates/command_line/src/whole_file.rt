@@ -6,9 +6,10 @@ ghost use Rattle.command_line.specs.ReadCauses.{BecauseUnread};
 
 use crate::outcome::Outcome;
 use cdp_edge::{Shelf, ShelfFault};
+use script_files::Evidence;
 use std::alloc::Global;
 
-/// The bytes of the file of this name.
+/// The bytes of the file of this name. Where it can't be read, why becomes the evidence.
 ///
 /// # Errors
 ///
@@ -17,6 +18,7 @@ pub(crate) fn read_whole<'w, F: Shelf>(
     alloc: Global,
     name: &'w str,
     shelf: &mut F,
+    evidence: &mut Evidence,
 ) -> Result<Vec<u8>, Outcome<'w>>
     ensures content { IfOk result (λ bytes. Told (F.files shelf.old) (λ files. content_of name.now files ≡ Some bytes.items)) }
     ensures quiet { IfOk result (λ bytes. F.faults shelf.new ≡ F.faults shelf.old) }
@@ -26,6 +28,13 @@ pub(crate) fn read_whole<'w, F: Shelf>(
     match shelf.read(alloc, name) {
         Ok(bytes) => Ok(bytes),
         Err(ShelfFault::Memory) => Err(Outcome::OutOfMemory),
-        Err(ShelfFault::NotThere | ShelfFault::Failed) => Err(Outcome::CannotRead(name)),
+        Err(ShelfFault::NotThere) => {
+            *evidence = Evidence::NotThere;
+            Err(Outcome::CannotRead(name))
+        }
+        Err(ShelfFault::Failed) => {
+            *evidence = Evidence::Unreachable;
+            Err(Outcome::CannotRead(name))
+        }
     }
 }

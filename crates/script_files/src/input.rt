@@ -4,6 +4,7 @@ ghost use Rattle.std.specs.Prelude.{◌≡◌, IfOk, IfErr};
 ghost use Rattle.cdp_edge.specs.Outside.{Told};
 ghost use Rattle.script_files.specs.Input.{input_of, HoldsInput, FailsInput};
 
+use crate::evidence::Evidence;
 use crate::fault::{FileFault, Refusal};
 use cdp_edge::{Shelf, ShelfFault};
 use cdp_text::parts::halves;
@@ -27,7 +28,7 @@ fn lines_of(alloc: Global, text: &str) -> Result<VecDeque<Units>, AllocError>
     Ok(lines)
 }
 
-/// Reads the lines of input that the file of this name holds.
+/// Reads the lines of input that the file of this name holds. What is left of one that isn't taken becomes the evidence.
 ///
 /// # Errors
 ///
@@ -36,6 +37,7 @@ pub fn read_input<F: Shelf>(
     alloc: Global,
     shelf: &mut F,
     name: &str,
+    evidence: &mut Evidence,
 ) -> Result<VecDeque<Units>, FileFault>
     ensures lines { IfOk result (λ lines. Told (F.files shelf.old) (λ files. HoldsInput files name.now lines.items)) }
     ensures quiet { IfOk result (λ lines. F.faults shelf.new ≡ F.faults shelf.old) }
@@ -45,9 +47,17 @@ pub fn read_input<F: Shelf>(
     let bytes = match shelf.read(alloc, name) {
         Ok(bytes) => bytes,
         Err(ShelfFault::Memory) => return Err(FileFault::Memory),
-        Err(ShelfFault::NotThere | ShelfFault::Failed) => return Err(FileFault::CannotRead),
+        Err(ShelfFault::NotThere) => {
+            *evidence = Evidence::NotThere;
+            return Err(FileFault::CannotRead);
+        }
+        Err(ShelfFault::Failed) => {
+            *evidence = Evidence::Unreachable;
+            return Err(FileFault::CannotRead);
+        }
     };
     let Ok(text) = str::from_utf8(&bytes) else {
+        *evidence = Evidence::Content(bytes);
         return Err(FileFault::Refused(Refusal::NotUtf8));
     };
     match lines_of(alloc, text) {

@@ -5,9 +5,11 @@
 //! - *declared*: the names that earlier scripts declare at their top, which no later script may declare again
 //! - *refused*: bytes that aren't taken: they aren't UTF-8, or what they spell has a fault (`IsRefused`, `IsRefusedAt`)
 //! - *reached*: all files before one hold what they should (`IsReachedAt`)
+//! - *evidence*: what is left of a file that isn't taken; no clause speaks of it
 //! - `Holds..`, `Fails..`: what files hold under names, and why one isn't taken
 #![tactic(auto)]
 
+mod evidence;
 mod fault;
 mod input;
 mod refusal;
@@ -15,6 +17,7 @@ mod scripts;
 mod source;
 mod top_names;
 
+pub use evidence::Evidence;
 pub use fault::{FileFault, Refusal};
 pub use input::read_input;
 pub use scripts::{ScriptFault, read_scripts};

@@ -7,6 +7,7 @@ ghost use Rattle.script_files.specs.TopNames.{declared_in};
 ghost use Rattle.script_files.specs.Scripts.{AreScripts, HoldsScript, IsOneMore, IsRefusedAt, Fails, FailsNext, names_held};
 ghost use Rattle.script_files.specs.declared.fault.Refusal.{Refusal as AnyRefusal};
 
+use crate::evidence::Evidence;
 use crate::fault::FileFault;
 use crate::source::script_of;
 use crate::top_names::add_names;
@@ -31,6 +32,7 @@ fn read_script<F: Shelf>(
     name: &str,
     earlier: &[Script],
     declared: &[Units],
+    evidence: &mut Evidence,
 ) -> Result<Script, FileFault>
     requires { declared.now ≡ declared_in earlier.now }
     ensures script { IfOk result (λ s. Told (F.files shelf.old) (λ files. HoldsScript files earlier.now name.now s)) }
@@ -41,9 +43,22 @@ fn read_script<F: Shelf>(
     let bytes = match shelf.read(alloc, name) {
         Ok(bytes) => bytes,
         Err(ShelfFault::Memory) => return Err(FileFault::Memory),
-        Err(ShelfFault::NotThere | ShelfFault::Failed) => return Err(FileFault::CannotRead),
+        Err(ShelfFault::NotThere) => {
+            *evidence = Evidence::NotThere;
+            return Err(FileFault::CannotRead);
+        }
+        Err(ShelfFault::Failed) => {
+            *evidence = Evidence::Unreachable;
+            return Err(FileFault::CannotRead);
+        }
     };
-    script_of(alloc, &bytes, name, earlier.len(), declared)
+    match script_of(alloc, &bytes, name, earlier.len(), declared) {
+        Ok(script) => Ok(script),
+        Err(fault) => {
+            *evidence = Evidence::Content(bytes);
+            Err(fault)
+        }
+    }
 }
 
 /// Adds a script, and the names that it declares.
@@ -68,6 +83,7 @@ fn add_script<F: Shelf>(
     name: &str,
     scripts: &mut Vec<Script>,
     declared: &mut Vec<Units>,
+    evidence: &mut Evidence,
 ) -> Result<(), FileFault>
     requires { declared.old.items ≡ declared_in scripts.old.items }
     ensures script { OnOk result (Told (F.files shelf.old) (λ files. IsOneMore files scripts.old.items scripts.new.items name.now)) }
@@ -76,7 +92,7 @@ fn add_script<F: Shelf>(
     ensures fault { IfErr result (λ fault. FailsNext fault (F.files shelf.old) scripts.old.items name.now (F.faults shelf.old) (F.faults shelf.new)) }
     ensures files { F.files shelf.new ≡ F.files shelf.old }
 {
-    let script = match read_script(alloc, shelf, name, scripts, declared) {
+    let script = match read_script(alloc, shelf, name, scripts, declared, evidence) {
         Ok(script) => script,
         Err(fault) => return Err(fault),
     };
@@ -87,7 +103,7 @@ fn add_script<F: Shelf>(
 }
 
 /// Reads the scripts that the files of these names hold, in order, and parses them. The first fault decides, and
-/// nothing behind it is read.
+/// nothing behind it is read; what is left of the file that it is in becomes the evidence.
 ///
 /// # Errors
 ///
@@ -97,6 +113,7 @@ pub fn read_scripts<'n, F: Shelf>(
     alloc: Global,
     shelf: &mut F,
     names: &[&'n str],
+    evidence: &mut Evidence,
 ) -> Result<Vec<Script>, ScriptFault<'n>>
     ensures scripts { IfOk result (λ ss. Told (F.files shelf.old) (λ files. AreScripts files (names_held names.now) ss.items)) }
     ensures quiet { IfOk result (λ ss. F.faults shelf.new ≡ F.faults shelf.old) }
@@ -109,7 +126,7 @@ pub fn read_scripts<'n, F: Shelf>(
     let mut declared = Vec::new(alloc);
     for name in names {
         let name = *name;
-        match add_script(alloc, shelf, name, &mut scripts, &mut declared) {
+        match add_script(alloc, shelf, name, &mut scripts, &mut declared, evidence) {
             Ok(()) => {}
             Err(fault) => return Err(ScriptFault { name, fault }),
         }

@@ -1,5 +1,5 @@
 use Rattle.std.proofs.Common.{sym}
-use Rattle.command_words.specs.Held.{replay_held, send_held, serve_held, sources_held}
+use Rattle.command_words.specs.Held.{replay_held, run_held, send_held, serve_held}
 use Rattle.command_line.proofs.RunLemmas as runs
 use Rattle.command_line.proofs.ReplayLemmas as replays
 use Rattle.command_line.proofs.ServeLemmas as serves
@@ -9,12 +9,12 @@ use Rattle.command_line.proofs.program.debug_main.Goals as goal
 
 pub returns-in-Ok-Some-Run-clause-run_decided : goal.returns-in-Ok-Some-Run-clause-run_decided
 returns-in-Ok-Some-Run-clause-run_decided g c =
-    runs.taken_given _ (sources_held c.in-Ok-Some-Run.sources) _ c.run.result _ _ _ _ _ _ c.end-in-Ok-Some-Run.result
+    runs.taken_given _ (run_held c.in-Ok-Some-Run.request) _ c.run.result _ _ _ _ _ _ c.end-in-Ok-Some-Run.result
     (sym (rw c.in-Ok-Some-Run.field-0-0-is at (rw c.in-Ok-Some-Run.field-0-is at c.in-Ok-Some-Run.ensures.value))) c.end-in-Ok-Some-Run.ensures.status c.run.ensures.cause
 
 pub returns-in-Ok-Some-Run-clause-run_exact : goal.returns-in-Ok-Some-Run-clause-run_exact
 returns-in-Ok-Some-Run-clause-run_exact g c =
-    runs.left_given _ (sources_held c.in-Ok-Some-Run.sources) _ c.run.result _ _ _ _ _ _ c.end-in-Ok-Some-Run.result
+    runs.left_given _ (run_held c.in-Ok-Some-Run.request) _ c.run.result _ _ _ _ _ _ c.end-in-Ok-Some-Run.result
     (sym (rw c.in-Ok-Some-Run.field-0-0-is at (rw c.in-Ok-Some-Run.field-0-is at c.in-Ok-Some-Run.ensures.value))) c.end-in-Ok-Some-Run.ensures.status c.run.ensures.cause
 
 pub returns-in-Ok-Some-Replay-clause-replay_decided : goal.returns-in-Ok-Some-Replay-clause-replay_decided
@@ -92,7 +92,7 @@ returns-in-Ok-Some-Send-clause-sends g c =
 
 pub returns-in-Ok-Some-Run-clause-run_read : goal.returns-in-Ok-Some-Run-clause-run_read
 returns-in-Ok-Some-Run-clause-run_read g c =
-    runs.read_given _ (sources_held c.in-Ok-Some-Run.sources) _ c.run.result _ _ _ _ _ _ _ _ c.end-in-Ok-Some-Run.result
+    runs.read_given _ (run_held c.in-Ok-Some-Run.request) _ c.run.result _ _ _ _ _ _ _ _ c.end-in-Ok-Some-Run.result
     (sym (rw c.in-Ok-Some-Run.field-0-0-is at (rw c.in-Ok-Some-Run.field-0-is at c.in-Ok-Some-Run.ensures.value)))
     c.end-in-Ok-Some-Run.ensures.status c.run.ensures.cause c.end-in-Ok-Some-Run.ensures.says
 
