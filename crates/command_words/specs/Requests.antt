@@ -91,7 +91,7 @@ sources_of parts (script ∷ scripts) = Some record { input = value_of Input par
 abbrev pub run_over : List Part → Sources → Request
 run_over parts sources = Run record { explain = is_given Explain parts; sources = sources }
 
--- `run [--explain] [--input FILE] SCRIPT...`
+-- `run [--input FILE] [--explain] SCRIPT...`
 abbrev pub run_of : List Part → List (List ℕ) → Option Request
 run_of parts scripts = option_map (run_over parts) (sources_of parts scripts)
 
@@ -105,7 +105,7 @@ replay_over parts journal sources =
       sources = sources;
     }
 
--- `replay [--explain] [--wait] [--input FILE] JOURNAL SCRIPT...`
+-- `replay [--wait] [--input FILE] [--explain] JOURNAL SCRIPT...`
 abbrev pub replay_of : List Part → List (List ℕ) → Option Request
 replay_of parts [] = None
 replay_of parts (journal ∷ scripts) = option_map (replay_over parts journal) (sources_of parts scripts)
@@ -135,7 +135,7 @@ serve_to parts scripts port sessions = option_map (serve_over parts port session
 abbrev pub serve_at : List Part → List (List ℕ) → ℕ → Option Request
 serve_at parts scripts port = option_and_then (serve_to parts scripts port) (sessions_of parts)
 
--- `serve [--explain] [--port P] [--sessions N] [--wait] [--input FILE] SCRIPT...`
+-- `serve [--port P] [--sessions N] [--wait] [--input FILE] [--explain] SCRIPT...`
 abbrev pub serve_of : List Part → List (List ℕ) → Option Request
 serve_of parts scripts = option_and_then (serve_at parts scripts) (port_of parts)
 
@@ -144,7 +144,7 @@ abbrev pub send_to : List Part → List ℕ → ℕ → Request
 send_to parts commands port =
     Send record { explain = is_given Explain parts; port = port; commands = commands }
 
--- `send [--explain] [--port P] COMMANDS`
+-- `send [--port P] [--explain] COMMANDS`
 abbrev pub send_of : List Part → List (List ℕ) → Option Request
 send_of parts [] = None
 send_of parts (commands ∷ []) = option_map (send_to parts commands) (port_of parts)

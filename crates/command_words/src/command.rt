@@ -20,16 +20,21 @@ pub enum Command {
 
 /// The name of an option.
 #[derive(Clone, Copy, PartialEq)]
-pub(crate) enum OptionName {
+pub enum OptionName {
+    /// The port, `--port P`.
     Port,
+    /// The most clients at once, `--sessions N`.
     Sessions,
+    /// The file of the lines of input, `--input FILE`.
     Input,
+    /// Whether the program waits for a client, `--wait`.
     Wait,
+    /// Whether the causes of faults are explained, `--explain`.
     Explain,
 }
 
 /// The command of this name.
-pub(crate) fn command_named(word: &str) -> Option<Command>
+pub fn command_named(word: &str) -> Option<Command>
     ensures { result ≡ command_named word.now }
 {
     if word == "run" {
@@ -48,7 +53,7 @@ pub(crate) fn command_named(word: &str) -> Option<Command>
 }
 
 /// The option of this name.
-pub(crate) fn option_named(name: &str) -> Option<OptionName>
+pub fn option_named(name: &str) -> Option<OptionName>
     ensures { result ≡ option_named name.now }
 {
     if name == "port" {
@@ -67,7 +72,7 @@ pub(crate) fn option_named(name: &str) -> Option<OptionName>
 }
 
 /// Whether a command has an option.
-pub(crate) fn has_option(command: Command, option: OptionName) -> bool
+pub fn has_option(command: Command, option: OptionName) -> bool
     ensures { result ≡ has_option command option }
 {
     match command {
@@ -83,7 +88,7 @@ pub(crate) fn has_option(command: Command, option: OptionName) -> bool
 }
 
 /// Whether an option has a value.
-pub(crate) fn has_value(option: OptionName) -> bool
+pub fn has_value(option: OptionName) -> bool
     ensures { result ≡ has_value option }
 {
     match option {

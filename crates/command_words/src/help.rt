@@ -28,15 +28,15 @@ const PROGRAM_HELP: &str =
     "debug_host runs scripts of a JavaScript subset, and lets several clients debug the run at once.
 
 Commands:
-  run [--explain] [--input FILE] SCRIPT...
+  run [--input FILE] [--explain] SCRIPT...
       runs scripts one after another, without a debugger
-  replay [--explain] [--wait] [--input FILE] JOURNAL SCRIPT...
+  replay [--wait] [--input FILE] [--explain] JOURNAL SCRIPT...
       replays a journal of debugging sessions over scripts
   drill N
       makes a script and a journal from N (1 to 10000), replays them and prints a summary
-  serve [--explain] [--port P] [--sessions N] [--wait] [--input FILE] SCRIPT...
+  serve [--port P] [--sessions N] [--wait] [--input FILE] [--explain] SCRIPT...
       runs scripts, and serves clients of the Chrome DevTools Protocol meanwhile
-  send [--explain] [--port P] COMMANDS
+  send [--port P] [--explain] COMMANDS
       sends the commands of a file to a serving host, and prints what comes back
 
 Options stand anywhere after the command's name, each at most once, as --NAME VALUE or --NAME=VALUE:
@@ -73,7 +73,7 @@ Exit status:
 ";
 
 /// Help with `run`.
-const RUN_HELP: &str = "debug_host run [--explain] [--input FILE] SCRIPT...
+const RUN_HELP: &str = "debug_host run [--input FILE] [--explain] SCRIPT...
 Runs scripts one after another, without a debugger, and prints what they print.
 
 Options:
@@ -94,7 +94,7 @@ Exit status:
 ";
 
 /// Help with `replay`.
-const REPLAY_HELP: &str = "debug_host replay [--explain] [--wait] [--input FILE] JOURNAL SCRIPT...
+const REPLAY_HELP: &str = "debug_host replay [--wait] [--input FILE] [--explain] JOURNAL SCRIPT...
 Replays a journal of debugging sessions over scripts, and prints the program's output and the sessions' messages.
 
 Options:
@@ -131,7 +131,7 @@ Exit status:
 
 /// Help with `serve`.
 const SERVE_HELP: &str =
-    "debug_host serve [--explain] [--port P] [--sessions N] [--wait] [--input FILE] SCRIPT...
+    "debug_host serve [--port P] [--sessions N] [--wait] [--input FILE] [--explain] SCRIPT...
 Runs scripts, and serves clients of the Chrome DevTools Protocol meanwhile; prints what the scripts print.
 
 Options:
@@ -157,7 +157,7 @@ Exit status:
 ";
 
 /// Help with `send`.
-const SEND_HELP: &str = "debug_host send [--explain] [--port P] COMMANDS
+const SEND_HELP: &str = "debug_host send [--port P] [--explain] COMMANDS
 Sends the commands of a file to a serving host, each once the one before is answered, and prints what comes back.
 A line of the file is METHOD, or METHOD and a JSON object of its parameters, or wait METHOD for an event.
 

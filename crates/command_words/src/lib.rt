@@ -17,7 +17,7 @@ mod request;
 mod session_count;
 mod words;
 
-pub use command::Command;
+pub use command::{Command, OptionName, command_named, has_option, has_value, option_named};
 pub use explain::names_explain;
 pub use help::{VERSION, help_text};
 pub use request::{ReplayWords, Request, RunWords, SendWords, ServeWords, Sources};

@@ -116,7 +116,7 @@ pub(crate) fn command_of<'w>(
     }
 }
 
-/// `run [--explain] [--input FILE] SCRIPT...`, by its options and its scripts.
+/// `run [--input FILE] [--explain] SCRIPT...`, by its options and its scripts.
 fn run_of<'w>(parts: &[Part<'w>], scripts: Vec<&'w str>) -> Option<Request<'w>>
     ensures { option_map request_held result ≡ run_of (parts_held parts.now) (texts_held scripts.entry.items) }
 {
@@ -126,7 +126,7 @@ fn run_of<'w>(parts: &[Part<'w>], scripts: Vec<&'w str>) -> Option<Request<'w>>
     }))
 }
 
-/// `replay [--explain] [--wait] [--input FILE] JOURNAL SCRIPT...`, by its options and its operands.
+/// `replay [--wait] [--input FILE] [--explain] JOURNAL SCRIPT...`, by its options and its operands.
 fn replay_of<'w>(parts: &[Part<'w>], operands: Vec<&'w str>) -> Option<Request<'w>>
     ensures { option_map request_held result ≡ replay_of (parts_held parts.now) (texts_held operands.entry.items) }
 {
@@ -154,7 +154,7 @@ fn drill_of(operands: &[&str]) -> Option<Request<'static>>
     }
 }
 
-/// `serve [--explain] [--port P] [--sessions N] [--wait] [--input FILE] SCRIPT...`, by its options and its scripts.
+/// `serve [--port P] [--sessions N] [--wait] [--input FILE] [--explain] SCRIPT...`, by its options and its scripts.
 fn serve_of<'w>(parts: &[Part<'w>], scripts: Vec<&'w str>) -> Option<Request<'w>>
     ensures { option_map request_held result ≡ serve_of (parts_held parts.now) (texts_held scripts.entry.items) }
 {
@@ -170,7 +170,7 @@ fn serve_of<'w>(parts: &[Part<'w>], scripts: Vec<&'w str>) -> Option<Request<'w>
     }))
 }
 
-/// `send [--explain] [--port P] COMMANDS`, by its options and its operands.
+/// `send [--port P] [--explain] COMMANDS`, by its options and its operands.
 fn send_of<'w>(parts: &[Part<'w>], operands: &[&'w str]) -> Option<Request<'w>>
     ensures { option_map request_held result ≡ send_of (parts_held parts.now) (texts_held operands.now) }
 {

@@ -1,7 +1,11 @@
 //! Where an uncaught throw came from.
 
+use crate::shown::Cut;
 use cdp_text::position::Pos;
 use std::alloc::{AllocError, Global};
+
+/// The most calls that have a line.
+const MOST_FRAMES: usize = 10;
 
 /// A call that was active when a value was thrown.
 #[derive(Drop)]
@@ -21,6 +25,26 @@ pub struct Frame {
 ///
 /// There is no memory for the lines.
 pub fn frame_lines(alloc: Global, frames: &[Frame]) -> Result<String, AllocError> {
-    let _ = frames;
-    Ok(String::new(alloc))
+    let mut lines = String::new(alloc);
+    for frame in frames.iter().take(MOST_FRAMES) {
+        push_frame(&mut lines, frame)?;
+    }
+    let more = frames.len().saturating_sub(MOST_FRAMES);
+    if more > 0 {
+        write!(lines, "  and {more} more\n")?;
+    }
+    Ok(lines)
+}
+
+/// Adds the line of a call.
+fn push_frame(lines: &mut String, frame: &Frame) -> Result<(), AllocError> {
+    let url = Cut::none(&frame.url);
+    let line = frame.position.line.saturating_add(1);
+    let column = frame.position.col.saturating_add(1);
+    let function = Cut::none(&frame.function);
+    if frame.function.is_empty() {
+        write!(lines, "  at {url}:{line}:{column}\n")
+    } else {
+        write!(lines, "  at {url}:{line}:{column} in {function}\n")
+    }
 }

@@ -5,13 +5,27 @@
 //! UTF-16 units. A text that is quoted is cut where it is long, and its control characters are written as U+FFFD.
 #![tactic(auto)]
 
+mod bracket;
 mod commands;
+mod ends;
+mod excerpt;
+mod faulty_place;
+mod file_lines;
 mod files;
 mod frames;
 mod journal;
+mod journal_fault;
+mod kinds;
 mod links;
+mod options;
+mod reason;
 mod refusals;
+mod sessions;
+mod shown;
+mod tokens;
 mod unread;
+mod walk;
+mod word_fault;
 mod words;
 
 pub use commands::command_lines;

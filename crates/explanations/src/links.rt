@@ -19,6 +19,16 @@ pub enum LinkFault {
 ///
 /// There is no memory for the line.
 pub fn link_lines(alloc: Global, fault: LinkFault) -> Result<String, AllocError> {
-    let _ = fault;
-    Ok(String::new(alloc))
+    match fault {
+        LinkFault::Serving { port } => format!(in alloc;
+            "  port {port} of 127.0.0.1 can't be served: where another program has it, '--port P' names another\n"
+        ),
+        LinkFault::Dialling { port } => format!(in alloc;
+            "  no host answers at port {port} of 127.0.0.1, or the link to it broke: 'debug_host serve --port {port} SCRIPT...' starts one\n"
+        ),
+        LinkFault::Closed => String::from_str(
+            alloc,
+            "  a host closes once its program has ended: 'debug_host serve --wait' lets none begin before a client says so\n",
+        ),
+    }
 }

@@ -1,5 +1,6 @@
 //! Why a file can't be read.
 
+use crate::shown::Quoted;
 use std::alloc::{AllocError, Global};
 
 /// Why a file can't be read, as far as the system says.
@@ -21,6 +22,29 @@ pub enum ReadFault {
 ///
 /// There is no memory for the line.
 pub fn unread_lines(alloc: Global, name: &str, fault: ReadFault) -> Result<String, AllocError> {
-    let _ = (name, fault);
-    Ok(String::new(alloc))
+    let quoted = Quoted(name);
+    match fault {
+        ReadFault::NotThere => missing_line(alloc, name),
+        ReadFault::Directory => {
+            format!(in alloc; "  {quoted} is a folder, and a file is needed\n")
+        }
+        ReadFault::NotPermitted => {
+            format!(in alloc;
+                "  the file {quoted} is there, and its permissions don't let this user read it\n"
+            )
+        }
+        ReadFault::Other => format!(in alloc; "  the system doesn't give the file {quoted}\n"),
+    }
+}
+
+/// The line of a file that isn't there.
+fn missing_line(alloc: Global, name: &str) -> Result<String, AllocError> {
+    let quoted = Quoted(name);
+    if name.starts_with("/") {
+        format!(in alloc; "  no file has the name {quoted}\n")
+    } else {
+        format!(in alloc;
+            "  no file has the name {quoted}; a name counts from the folder in which the command is given\n"
+        )
+    }
 }

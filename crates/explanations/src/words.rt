@@ -1,5 +1,8 @@
 //! Why words ask for nothing.
 
+use crate::options::{Read, read_word};
+use crate::word_fault::WordFault;
+use command_words::{Command, command_named, help_text};
 use std::alloc::{AllocError, Global};
 
 /// Whether `--explain` is one of these words, before `--`.
@@ -15,13 +18,73 @@ pub fn asks_explanation(words: &[String]) -> bool {
     false
 }
 
-/// Why words, of which the first is to be a command's name, ask for nothing: the first one that is wrong, and the forms of
-/// that command.
+/// Why words, of which the first is to be a command's name, ask for nothing: the first one that is wrong, and the form of
+/// that command. Nothing where there is no word.
 ///
 /// # Errors
 ///
 /// There is no memory for the lines.
 pub fn word_lines(alloc: Global, words: &[String]) -> Result<String, AllocError> {
-    let _ = words;
-    Ok(String::new(alloc))
+    let [first, rest @ ..] = words else {
+        return Ok(String::new(alloc));
+    };
+    match command_named(first.as_str()) {
+        Some(command) => command_lines(alloc, command, rest),
+        None => {
+            let fault = first_fault(first.as_str());
+            format!(in alloc; "  {fault}\n")
+        }
+    }
+}
+
+/// Why a first word is no command's name.
+fn first_fault(word: &str) -> WordFault<'_> {
+    if word == "--help" || word == "-h" {
+        WordFault::Help(word)
+    } else if word == "--version" {
+        WordFault::Version
+    } else if word.starts_with("-") {
+        WordFault::OptionFirst(word)
+    } else {
+        WordFault::NoCommand(word)
+    }
+}
+
+/// Why the words after a command's name ask for nothing, and the form of that command.
+fn command_lines(alloc: Global, command: Command, words: &[String]) -> Result<String, AllocError> {
+    let (form, _) = help_text(Some(command))
+        .split_once('\n')
+        .unwrap_or(("", ""));
+    match fault_in(command, words) {
+        Some(fault) => format!(in alloc; "  {fault}\n  usage: {form}\n"),
+        None => format!(in alloc; "  usage: {form}\n"),
+    }
+}
+
+/// The first fault of the words after a command's name.
+fn fault_in(command: Command, words: &[String]) -> Option<WordFault<'_>> {
+    let mut read = Read::start();
+    for (index, word) in words.iter().enumerate() {
+        let before = words.get(..index).unwrap_or(&[]);
+        match read_word(command, before, read, word.as_str()) {
+            Ok(after) => read = after,
+            Err(fault) => return Some(fault),
+        }
+    }
+    end_fault(command, read)
+}
+
+/// What is missing once all words are read, or is one too much.
+fn end_fault(command: Command, read: Read<'_>) -> Option<WordFault<'_>> {
+    if let Some((name, _)) = read.awaiting {
+        return Some(WordFault::NeedsValue(name));
+    }
+    match (command, read.operands) {
+        (Command::Run | Command::Serve, 0) => Some(WordFault::NoScript(command)),
+        (Command::Replay, 0) => Some(WordFault::NoJournal),
+        (Command::Replay, 1) => Some(WordFault::NoScriptAfterJournal),
+        (Command::Send, 0) => Some(WordFault::NoCommands),
+        (Command::Send, _) => Some(WordFault::OneMore(read.second?)),
+        _ => None,
+    }
 }
