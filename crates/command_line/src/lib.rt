@@ -13,6 +13,7 @@
 
 mod act;
 mod drill;
+mod explaining;
 pub mod journal;
 mod outcome;
 mod output;

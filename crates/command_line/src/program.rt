@@ -14,22 +14,25 @@ ghost use Rattle.command_line.specs.Files.{HoldsReplay, HoldsSources, IsNamed, I
 ghost use Rattle.command_line.specs.ReplayCauses.{ReplaysInPart, ReplaysShort, ReplaysWhole};
 ghost use Rattle.command_line.specs.RunCauses.{RunsInPart, RunsShort, RunsToEnd, RunsToThrow};
 ghost use Rattle.command_line.specs.SendCauses.{HoldsCommands, MaySend, RefusesLine, Sends};
-ghost use Rattle.command_line.specs.Status.{ForDrill, ForReplay, ForRun, ForSend, ForServe, ForText, GivenReplay, GivenRun, GivenSend, GivenServe, IsClient, Unfailed, closed_said, line_said, refusal_said, said, status_of, uncaught_said, unread_said};
+ghost use Rattle.command_line.specs.Status.{Says, ForDrill, ForReplay, ForRun, ForSend, ForServe, ForText, GivenReplay, GivenRun, GivenSend, GivenServe, IsClient, Unfailed, closed_said, line_said, refusal_said, said, status_of, uncaught_said, unread_said};
 ghost use Rattle.command_line.specs.ServeCauses.{MayServe, ServesToEnd};
+ghost use Rattle.command_words.specs.Explains.{explains};
 ghost use Rattle.command_words.specs.Requests.{asked};
 ghost use Rattle.server_edge.specs.Contents.{called};
 ghost use Rattle.command_line.specs.declared.outcome.Outcome.{Outcome};
 
 use crate::drill::drill;
+use crate::explaining::{Cause, Task};
 use crate::outcome::Outcome;
 use crate::replay::replay;
-use crate::report::{report, status_of};
+use crate::report::{end, end_explained};
 use crate::run::run;
 use crate::send::send;
 use crate::serve::serve;
 use crate::telling::tell;
 use cdp_edge::{Shelf, Sink};
-use command_words::{Request, VERSION, help_text, read_words};
+use command_words::{Request, VERSION, help_text, names_explain, read_words};
+use script_files::Evidence;
 use server_edge::{Clock, Door, Harbor};
 use std::alloc::{AllocError, Global};
 use std::sync::Wait;
@@ -62,6 +65,7 @@ use std::thread::Threads;
 /// `drill N` reads no file: it replays a journal and a script that are made from N, in memory, and writes a summary of that
 /// replay's output. Its script or a line of its journal may be refused as those of a replay may.
 /// `--help` and `--version` write a text on `out`, and touch nothing else.
+/// With `--explain` further lines on `err` say the cause, each after two spaces; nothing else changes.
 /// What `err` does changes no status.
 pub fn debug_main<
     R: Threads + Wait + Sync,
@@ -190,31 +194,59 @@ where
     // where no count rose, the files or want of memory decided
     ensures complete { Unfailed (F.faults shelf.old) (F.faults shelf.new) (O.faults out.old) (O.faults out.new) → (result ≢ 4) × (result ≢ 5) }
 {
+    let mut evidence = Evidence::Nothing;
     match read_words(alloc, words) {
         Err(AllocError) => end(alloc, Outcome::OutOfMemory, err),
-        Ok(None) => end(alloc, Outcome::Usage, err),
-        Ok(Some(Request::Run(sources))) => end(alloc, run(rt, alloc, &sources, shelf, out), err),
-        Ok(Some(Request::Replay(request))) => end(alloc, replay(alloc, &request, shelf, out), err),
+        Ok(None) => {
+            let cause = Cause {
+                task: Task::Words(words),
+                evidence,
+            };
+            end_explained(alloc, Outcome::Usage, names_explain(words), cause, err)
+        }
+        Ok(Some(Request::Run(request))) => {
+            let outcome = run(rt, alloc, &request.sources, shelf, out, &mut evidence);
+            let cause = Cause {
+                task: Task::Run,
+                evidence,
+            };
+            end_explained(alloc, outcome, request.explain, cause, err)
+        }
+        Ok(Some(Request::Replay(request))) => {
+            let outcome = replay(alloc, &request, shelf, out, &mut evidence);
+            let cause = Cause {
+                task: Task::Replay,
+                evidence,
+            };
+            end_explained(alloc, outcome, request.explain, cause, err)
+        }
         Ok(Some(Request::Serve(request))) => {
-            let outcome = serve(rt, alloc, &request, shelf, out, harbor, clock);
-            end(alloc, outcome, err)
+            let outcome = serve(
+                rt,
+                alloc,
+                &request,
+                shelf,
+                out,
+                harbor,
+                clock,
+                &mut evidence,
+            );
+            let cause = Cause {
+                task: Task::Serve(request.port),
+                evidence,
+            };
+            end_explained(alloc, outcome, request.explain, cause, err)
         }
         Ok(Some(Request::Send(request))) => {
-            let outcome = send(rt, alloc, request, shelf, out, harbor);
-            end(alloc, outcome, err)
+            let outcome = send(rt, alloc, request, shelf, out, harbor, &mut evidence);
+            let cause = Cause {
+                task: Task::Send(request.port),
+                evidence,
+            };
+            end_explained(alloc, outcome, request.explain, cause, err)
         }
         Ok(Some(Request::Drill(number))) => end(alloc, drill(alloc, number, out), err),
         Ok(Some(Request::Help(topic))) => end(alloc, tell(help_text(topic), out), err),
         Ok(Some(Request::Version)) => end(alloc, tell(VERSION, out), err),
     }
-}
-
-/// Tells of an end and answers its status.
-fn end<E: Sink>(alloc: Global, outcome: Outcome<'_>, err: &mut E) -> u8
-    ensures status { result ≡ status_of outcome.entry }
-    ensures says { Says (explains words.now) (E.content err.old) (E.content err.new) (said outcome.entry) }
-{
-    let status = status_of(&outcome);
-    report(alloc, outcome, err);
-    status
 }

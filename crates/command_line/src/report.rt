@@ -1,10 +1,11 @@
 //! What a command says of its end.
 
-ghost use Rattle.std.specs.Prelude.{◌≡◌, IfOk, string_bytes};
-ghost use Rattle.cdp_edge.specs.Outside.{GainsPrefix};
-ghost use Rattle.command_line.specs.Status.{closed_said, line_said, refusal_said, said, status_of, uncaught_said, unread_said};
+ghost use Rattle.std.specs.Prelude.{◌≡◌, ◌≢◌, [], true, Bool, IfOk, string_bytes};
+ghost use Rattle.cdp_edge.specs.Outside.{GainsPrefix, gains};
+ghost use Rattle.command_line.specs.Status.{Says, closed_said, line_said, refusal_said, said, status_of, uncaught_said, unread_said};
 ghost use Rattle.script_files.specs.declared.fault.Refusal.TheVariants.{UnexpectedToken, TooLong};
 
+use crate::explaining::{Cause, lines_of};
 use crate::outcome::Outcome;
 use cdp_edge::{Sink, put};
 use cdp_text::position::Pos;
@@ -12,7 +13,7 @@ use script_files::Refusal;
 use std::alloc::{AllocError, Global};
 
 /// The exit status of an end.
-pub(crate) fn status_of(outcome: &Outcome<'_>) -> u8
+fn status_of(outcome: &Outcome<'_>) -> u8
     ensures { result ≡ status_of outcome.now }
 {
     match outcome {
@@ -30,51 +31,93 @@ pub(crate) fn status_of(outcome: &Outcome<'_>) -> u8
     }
 }
 
-/// Tells of an end on `err`, as far as memory and the sink allow. What they do changes nothing else.
+/// Tells of an end on `err`, as far as memory and the sink allow, and answers whether a line was told whole. What they do
+/// changes nothing else.
 #[tactic(auto, using(crate::proofs::ReplayLemmas::untouched))]
-pub(crate) fn report<E: Sink>(alloc: Global, outcome: Outcome<'_>, err: &mut E)
-    ensures { GainsPrefix (E.content err.old) (E.content err.new) (said outcome.entry) }
+fn report<E: Sink>(alloc: Global, outcome: Outcome<'_>, err: &mut E) -> bool
+    ensures part { GainsPrefix (E.content err.old) (E.content err.new) (said outcome.entry) }
+    ensures whole { result ≡ true → E.content err.new ≡ gains (E.content err.old) (said outcome.entry) }
+    ensures some { result ≡ true → said outcome.entry ≢ [] }
 {
     match outcome {
-        Outcome::Done | Outcome::ThrewUnshown => {}
+        Outcome::Done | Outcome::ThrewUnshown => false,
         Outcome::OutOfMemory => say(err, "debug_host: out of memory\n"),
         Outcome::Usage => say(err, "usage: debug_host run/replay/serve/send/drill\n"),
         Outcome::CannotWrite => say(err, "debug_host: cannot write\n"),
         Outcome::NetworkFault => say(err, "debug_host: network fault\n"),
         Outcome::TicketsSpent => say(err, "debug_host: tickets spent\n"),
-        Outcome::Refused(name, refusal) => {
-            if let Ok(text) = refusal_text(alloc, name, refusal) {
-                say(err, &text);
-            }
-        }
-        Outcome::CannotRead(name) => {
-            if let Ok(text) = unread_text(alloc, name) {
-                say(err, &text);
-            }
-        }
-        Outcome::LineRefused(number) => {
-            if let Ok(text) = line_text(alloc, number) {
-                say(err, &text);
-            }
-        }
-        Outcome::PeerClosed(replies) => {
-            if let Ok(text) = closed_text(alloc, replies) {
-                say(err, &text);
-            }
-        }
-        Outcome::Threw(value) => {
-            if let Ok(text) = uncaught_text(alloc, &value) {
-                say(err, &text);
-            }
-        }
+        Outcome::Refused(name, refusal) => match refusal_text(alloc, name, refusal) {
+            Ok(text) => say(err, &text),
+            Err(AllocError) => false,
+        },
+        Outcome::CannotRead(name) => match unread_text(alloc, name) {
+            Ok(text) => say(err, &text),
+            Err(AllocError) => false,
+        },
+        Outcome::LineRefused(number) => match line_text(alloc, number) {
+            Ok(text) => say(err, &text),
+            Err(AllocError) => false,
+        },
+        Outcome::PeerClosed(replies) => match closed_text(alloc, replies) {
+            Ok(text) => say(err, &text),
+            Err(AllocError) => false,
+        },
+        Outcome::Threw(value) => match uncaught_text(alloc, &value) {
+            Ok(text) => say(err, &text),
+            Err(AllocError) => false,
+        },
     }
 }
 
-/// Offers a line; it takes no memory of its own.
-fn say<E: Sink>(err: &mut E, line: &str)
-    ensures { GainsPrefix (E.content err.old) (E.content err.new) line.now }
+/// Offers some lines, and answers whether they were taken whole; it takes no memory of its own.
+fn say<E: Sink>(err: &mut E, lines: &str) -> bool
+    ensures part { GainsPrefix (E.content err.old) (E.content err.new) lines.now }
+    ensures whole { result ≡ true → E.content err.new ≡ gains (E.content err.old) lines.now }
 {
-    let _ = put(err, line.as_bytes());
+    put(err, lines.as_bytes()).is_ok()
+}
+
+/// Tells of an end, and answers its status.
+#[tactic(auto, using(crate::proofs::ReportLemmas::said))]
+pub(crate) fn end<E: Sink>(alloc: Global, outcome: Outcome<'_>, err: &mut E) -> u8
+    ensures status { result ≡ status_of outcome.entry }
+    ensures says { (explains : Bool) → Says explains (E.content err.old) (E.content err.new) (said outcome.entry) }
+{
+    let status = status_of(&outcome);
+    report(alloc, outcome, err);
+    status
+}
+
+/// Tells of an end, explains it if that is asked for, and answers its status.
+pub(crate) fn end_explained<E: Sink>(
+    alloc: Global,
+    outcome: Outcome<'_>,
+    explains: bool,
+    cause: Cause<'_>,
+    err: &mut E,
+) -> u8
+    ensures status { result ≡ status_of outcome.entry }
+    ensures says { Says explains (E.content err.old) (E.content err.new) (said outcome.entry) }
+{
+    if !explains {
+        return end(alloc, outcome, err);
+    }
+    let status = status_of(&outcome);
+    explain(alloc, outcome, cause, err);
+    status
+}
+
+/// Tells of an end and explains it.
+#[tactic(auto, using(crate::proofs::ReportLemmas::said))]
+fn explain<E: Sink>(alloc: Global, outcome: Outcome<'_>, cause: Cause<'_>, err: &mut E)
+    ensures { Says true (E.content err.old) (E.content err.new) (said outcome.entry) }
+{
+    let lines = lines_of(alloc, &outcome, cause);
+    if report(alloc, outcome, err) {
+        if let Ok(lines) = lines {
+            say(err, &lines);
+        }
+    }
 }
 
 /// The line of a file that is refused.

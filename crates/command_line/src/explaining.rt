@@ -1,0 +1,129 @@
+//! The lines that explain an end.
+
+use crate::outcome::Outcome;
+use explanations::{
+    KeptFile, LinkFault, ReadFault, Refused, command_lines, journal_lines, link_lines,
+    refusal_lines, unread_lines, word_lines,
+};
+use script_files::{Evidence, Refusal};
+use std::alloc::{AllocError, Global};
+
+/// What a command was to do, as far as that explains its end.
+#[derive(Clone, Copy)]
+pub(crate) enum Task<'c> {
+    /// Words asked for nothing.
+    Words(&'c [String]),
+    /// A program was to run.
+    Run,
+    /// A journal was to be replayed.
+    Replay,
+    /// Clients were to be served at this port.
+    Serve(u16),
+    /// Commands were to be sent to this port.
+    Send(u16),
+}
+
+/// What explains an end.
+#[derive(Drop)]
+pub(crate) struct Cause<'c> {
+    pub(crate) task: Task<'c>,
+    /// What is left of the file that the fault is in.
+    pub(crate) evidence: Evidence,
+}
+
+/// The lines that explain an end. There are none where nothing more is known of it.
+///
+/// # Errors
+///
+/// There is no memory for the lines.
+pub(crate) fn lines_of(
+    alloc: Global,
+    outcome: &Outcome<'_>,
+    cause: Cause<'_>,
+) -> Result<String, AllocError> {
+    let Cause { task, evidence } = cause;
+    match outcome {
+        Outcome::Usage => lines_of_words(alloc, task),
+        Outcome::Refused(name, refusal) => lines_of_refusal(alloc, *name, *refusal, evidence),
+        Outcome::CannotRead(name) => unread_lines(alloc, *name, fault_of(&evidence)),
+        Outcome::LineRefused(number) => lines_of_line(alloc, task, *number, evidence),
+        Outcome::NetworkFault => lines_of_port(alloc, task),
+        Outcome::PeerClosed(_) => link_lines(alloc, LinkFault::Closed),
+        Outcome::Done
+        | Outcome::Threw(_)
+        | Outcome::ThrewUnshown
+        | Outcome::OutOfMemory
+        | Outcome::CannotWrite
+        | Outcome::TicketsSpent => Ok(String::new(alloc)),
+    }
+}
+
+/// Why words ask for nothing.
+fn lines_of_words(alloc: Global, task: Task<'_>) -> Result<String, AllocError> {
+    match task {
+        Task::Words(words) => word_lines(alloc, words),
+        Task::Run | Task::Replay | Task::Serve(_) | Task::Send(_) => Ok(String::new(alloc)),
+    }
+}
+
+/// Why a file of this name is refused.
+fn lines_of_refusal(
+    alloc: Global,
+    name: &str,
+    refusal: Refusal,
+    evidence: Evidence,
+) -> Result<String, AllocError> {
+    let Evidence::Content(bytes) = evidence else {
+        return Ok(String::new(alloc));
+    };
+    let file = KeptFile {
+        name: String::from_str(alloc, name)?,
+        bytes,
+    };
+    refusal_lines(alloc, &file, refused_as(refusal))
+}
+
+/// A refusal, as the explanations have it.
+fn refused_as(refusal: Refusal) -> Refused {
+    match refusal {
+        Refusal::NotUtf8 => Refused::NotUtf8,
+        Refusal::UnexpectedToken(at) => Refused::UnexpectedToken(at),
+        Refusal::TooLong(_) => Refused::TooLong,
+        Refusal::TooDeep => Refused::TooDeep,
+        Refusal::TooManyTokens => Refused::TooManyTokens,
+    }
+}
+
+/// Why a file can't be read, by what is left of it.
+fn fault_of(evidence: &Evidence) -> ReadFault {
+    match evidence {
+        Evidence::NotThere => ReadFault::NotThere,
+        Evidence::Nothing | Evidence::Unreachable | Evidence::Content(_) => ReadFault::Other,
+    }
+}
+
+/// Why the line of this number of a journal or of a file of commands is refused.
+fn lines_of_line(
+    alloc: Global,
+    task: Task<'_>,
+    number: u64,
+    evidence: Evidence,
+) -> Result<String, AllocError> {
+    let Evidence::Content(bytes) = evidence else {
+        return Ok(String::new(alloc));
+    };
+    match task {
+        Task::Replay => journal_lines(alloc, &bytes, number),
+        Task::Send(_) => command_lines(alloc, &bytes, number),
+        Task::Words(_) | Task::Run | Task::Serve(_) => Ok(String::new(alloc)),
+    }
+}
+
+/// What may be done about a port that can't be used.
+fn lines_of_port(alloc: Global, task: Task<'_>) -> Result<String, AllocError> {
+    match task {
+        Task::Serve(port) => link_lines(alloc, LinkFault::Serving { port }),
+        Task::Send(port) => link_lines(alloc, LinkFault::Dialling { port }),
+        Task::Words(_) | Task::Run | Task::Replay => Ok(String::new(alloc)),
+    }
+}
