@@ -2,8 +2,8 @@
 
 use crate::outcome::Outcome;
 use explanations::{
-    KeptFile, LinkFault, ReadFault, Refused, command_lines, journal_lines, link_lines,
-    refusal_lines, unread_lines, word_lines,
+    Frame, KeptFile, LinkFault, ReadFault, Refused, command_lines, frame_lines, journal_lines,
+    link_lines, refusal_lines, unread_lines, word_lines,
 };
 use script_files::{Evidence, Refusal};
 use std::alloc::{AllocError, Global};
@@ -23,12 +23,23 @@ pub(crate) enum Task<'c> {
     Send(u16),
 }
 
-/// What explains an end.
+/// What is left of a fault, for who explains it.
 #[derive(Drop)]
-pub(crate) struct Cause<'c> {
-    pub(crate) task: Task<'c>,
+pub(crate) struct Remains {
     /// What is left of the file that the fault is in.
     pub(crate) evidence: Evidence,
+    /// The calls that were active at an uncaught throw, the innermost first.
+    pub(crate) calls: Vec<Frame>,
+}
+
+impl Remains {
+    /// Nothing so far.
+    pub(crate) fn new(alloc: Global) -> Remains {
+        Remains {
+            evidence: Evidence::Nothing,
+            calls: Vec::new(alloc),
+        }
+    }
 }
 
 /// The lines that explain an end. There are none where nothing more is known of it.
@@ -39,9 +50,10 @@ pub(crate) struct Cause<'c> {
 pub(crate) fn lines_of(
     alloc: Global,
     outcome: &Outcome<'_>,
-    cause: Cause<'_>,
+    task: Task<'_>,
+    remains: Remains,
 ) -> Result<String, AllocError> {
-    let Cause { task, evidence } = cause;
+    let Remains { evidence, calls } = remains;
     match outcome {
         Outcome::Usage => lines_of_words(alloc, task),
         Outcome::Refused(name, refusal) => lines_of_refusal(alloc, *name, *refusal, evidence),
@@ -49,8 +61,8 @@ pub(crate) fn lines_of(
         Outcome::LineRefused(number) => lines_of_line(alloc, task, *number, evidence),
         Outcome::NetworkFault => lines_of_port(alloc, task),
         Outcome::PeerClosed(_) => link_lines(alloc, LinkFault::Closed),
+        Outcome::Threw(_) => frame_lines(alloc, &calls),
         Outcome::Done
-        | Outcome::Threw(_)
         | Outcome::ThrewUnshown
         | Outcome::OutOfMemory
         | Outcome::CannotWrite

@@ -25,6 +25,7 @@ mod send;
 mod serve;
 mod sources;
 mod telling;
+mod throwing;
 mod transcript;
 mod whole_file;
 

@@ -22,7 +22,7 @@ ghost use Rattle.server_edge.specs.Contents.{called};
 ghost use Rattle.command_line.specs.declared.outcome.Outcome.{Outcome};
 
 use crate::drill::drill;
-use crate::explaining::{Cause, Task};
+use crate::explaining::{Remains, Task};
 use crate::outcome::Outcome;
 use crate::replay::replay;
 use crate::report::{end, end_explained};
@@ -32,7 +32,6 @@ use crate::serve::serve;
 use crate::telling::tell;
 use cdp_edge::{Shelf, Sink};
 use command_words::{Request, VERSION, help_text, names_explain, read_words};
-use script_files::Evidence;
 use server_edge::{Clock, Door, Harbor};
 use std::alloc::{AllocError, Global};
 use std::sync::Wait;
@@ -194,56 +193,37 @@ where
     // where no count rose, the files or want of memory decided
     ensures complete { Unfailed (F.faults shelf.old) (F.faults shelf.new) (O.faults out.old) (O.faults out.new) → (result ≢ 4) × (result ≢ 5) }
 {
-    let mut evidence = Evidence::Nothing;
+    let mut remains = Remains::new(alloc);
     match read_words(alloc, words) {
         Err(AllocError) => end(alloc, Outcome::OutOfMemory, err),
         Ok(None) => {
-            let cause = Cause {
-                task: Task::Words(words),
-                evidence,
-            };
-            end_explained(alloc, Outcome::Usage, names_explain(words), cause, err)
+            let explains = names_explain(words);
+            end_explained(
+                alloc,
+                Outcome::Usage,
+                explains,
+                Task::Words(words),
+                remains,
+                err,
+            )
         }
         Ok(Some(Request::Run(request))) => {
-            let outcome = run(rt, alloc, &request.sources, shelf, out, &mut evidence);
-            let cause = Cause {
-                task: Task::Run,
-                evidence,
-            };
-            end_explained(alloc, outcome, request.explain, cause, err)
+            let outcome = run(rt, alloc, &request, shelf, out, &mut remains);
+            end_explained(alloc, outcome, request.explain, Task::Run, remains, err)
         }
         Ok(Some(Request::Replay(request))) => {
-            let outcome = replay(alloc, &request, shelf, out, &mut evidence);
-            let cause = Cause {
-                task: Task::Replay,
-                evidence,
-            };
-            end_explained(alloc, outcome, request.explain, cause, err)
+            let outcome = replay(alloc, &request, shelf, out, &mut remains);
+            end_explained(alloc, outcome, request.explain, Task::Replay, remains, err)
         }
         Ok(Some(Request::Serve(request))) => {
-            let outcome = serve(
-                rt,
-                alloc,
-                &request,
-                shelf,
-                out,
-                harbor,
-                clock,
-                &mut evidence,
-            );
-            let cause = Cause {
-                task: Task::Serve(request.port),
-                evidence,
-            };
-            end_explained(alloc, outcome, request.explain, cause, err)
+            let outcome = serve(rt, alloc, &request, shelf, out, harbor, clock, &mut remains);
+            let task = Task::Serve(request.port);
+            end_explained(alloc, outcome, request.explain, task, remains, err)
         }
         Ok(Some(Request::Send(request))) => {
-            let outcome = send(rt, alloc, request, shelf, out, harbor, &mut evidence);
-            let cause = Cause {
-                task: Task::Send(request.port),
-                evidence,
-            };
-            end_explained(alloc, outcome, request.explain, cause, err)
+            let outcome = send(rt, alloc, request, shelf, out, harbor, &mut remains);
+            let task = Task::Send(request.port);
+            end_explained(alloc, outcome, request.explain, task, remains, err)
         }
         Ok(Some(Request::Drill(number))) => end(alloc, drill(alloc, number, out), err),
         Ok(Some(Request::Help(topic))) => end(alloc, tell(help_text(topic), out), err),

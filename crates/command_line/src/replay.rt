@@ -6,6 +6,7 @@ ghost use Rattle.command_words.specs.Held.{replay_held};
 ghost use Rattle.command_line.specs.ReplayCauses.{BecauseReplay, ReplaysInPart, outcome_of_replay};
 ghost use Rattle.command_line.specs.RunCauses.{IsUnbegun};
 
+use crate::explaining::Remains;
 use crate::journal::{self, ReplayEnd};
 use crate::outcome::Outcome;
 use crate::sources::{Program, read_sources};
@@ -35,21 +36,21 @@ pub(crate) fn replay<'w, F: Shelf, O: Sink>(
     request: &ReplayWords<'w>,
     shelf: &mut F,
     out: &mut O,
-    evidence: &mut Evidence,
+    remains: &mut Remains,
 ) -> Outcome<'w>
     ensures cause { BecauseReplay result (replay_held request.now) (F.files shelf.old) (F.faults shelf.old) (F.faults shelf.new) (O.faults out.old) (O.faults out.new) (O.content out.old) (O.content out.new) }
     ensures part { Told (F.files shelf.old) (λ files. (O.content out.new ≡ O.content out.old) ⊎ ReplaysInPart files (replay_held request.now) (O.content out.old) (O.content out.new)) }
     ensures unbegun { IsUnbegun result → out.new ≡ out.old }
 {
-    let journal = match read_whole(alloc, request.journal, shelf, evidence) {
+    let journal = match read_whole(alloc, request.journal, shelf, &mut remains.evidence) {
         Ok(bytes) => bytes,
         Err(end) => return end,
     };
-    match read_sources(alloc, &request.sources, shelf, evidence) {
+    match read_sources(alloc, &request.sources, shelf, &mut remains.evidence) {
         Ok(program) => {
             let Program { scripts, input } = program;
             let end = journal::replay(alloc, &scripts, input, request.wait, &journal, out);
-            *evidence = Evidence::Content(journal);
+            remains.evidence = Evidence::Content(journal);
             outcome_of_replay(end)
         }
         Err(end) => end,

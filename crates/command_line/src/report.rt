@@ -5,7 +5,7 @@ ghost use Rattle.cdp_edge.specs.Outside.{GainsPrefix, gains};
 ghost use Rattle.command_line.specs.Status.{Says, closed_said, line_said, refusal_said, said, status_of, uncaught_said, unread_said};
 ghost use Rattle.script_files.specs.declared.fault.Refusal.TheVariants.{UnexpectedToken, TooLong};
 
-use crate::explaining::{Cause, lines_of};
+use crate::explaining::{Remains, Task, lines_of};
 use crate::outcome::Outcome;
 use cdp_edge::{Sink, put};
 use cdp_text::position::Pos;
@@ -93,7 +93,8 @@ pub(crate) fn end_explained<E: Sink>(
     alloc: Global,
     outcome: Outcome<'_>,
     explains: bool,
-    cause: Cause<'_>,
+    task: Task<'_>,
+    remains: Remains,
     err: &mut E,
 ) -> u8
     ensures status { result ≡ status_of outcome.entry }
@@ -103,16 +104,22 @@ pub(crate) fn end_explained<E: Sink>(
         return end(alloc, outcome, err);
     }
     let status = status_of(&outcome);
-    explain(alloc, outcome, cause, err);
+    explain(alloc, outcome, task, remains, err);
     status
 }
 
 /// Tells of an end and explains it.
 #[tactic(auto, using(crate::proofs::ReportLemmas::said))]
-fn explain<E: Sink>(alloc: Global, outcome: Outcome<'_>, cause: Cause<'_>, err: &mut E)
+fn explain<E: Sink>(
+    alloc: Global,
+    outcome: Outcome<'_>,
+    task: Task<'_>,
+    remains: Remains,
+    err: &mut E,
+)
     ensures { Says true (E.content err.old) (E.content err.new) (said outcome.entry) }
 {
-    let lines = lines_of(alloc, &outcome, cause);
+    let lines = lines_of(alloc, &outcome, task, remains);
     if report(alloc, outcome, err) {
         if let Ok(lines) = lines {
             say(err, &lines);

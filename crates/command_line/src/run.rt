@@ -2,14 +2,15 @@
 
 ghost use Rattle.std.specs.Prelude.{◌≡◌, ◌⊎◌};
 ghost use Rattle.cdp_edge.specs.Outside.{Told};
-ghost use Rattle.command_words.specs.Held.{sources_held};
+ghost use Rattle.command_words.specs.Held.{run_held};
 ghost use Rattle.command_line.specs.RunCauses.{BecauseRun, IsUnbegun, RunsInPart, outcome_of_run};
 
+use crate::explaining::Remains;
 use crate::outcome::Outcome;
 use crate::sources::{Program, read_sources};
+use crate::throwing::{copy_if, note_throw};
 use cdp_edge::{Shelf, Sink};
-use command_words::Sources;
-use script_files::Evidence;
+use command_words::RunWords;
 use script_runs::end::RunEnd;
 use script_runs::run::run_scripts;
 use std::alloc::Global;
@@ -33,18 +34,21 @@ fn outcome_of_run(end: RunEnd) -> Outcome<'static>
 pub(crate) fn run<'w, R: Wait, F: Shelf, O: Sink>(
     rt: &R,
     alloc: Global,
-    sources: &Sources<'w>,
+    request: &RunWords<'w>,
     shelf: &mut F,
     out: &mut O,
-    evidence: &mut Evidence,
+    remains: &mut Remains,
 ) -> Outcome<'w>
-    ensures cause { BecauseRun result (sources_held sources.now) (F.files shelf.old) (F.faults shelf.old) (F.faults shelf.new) (O.faults out.old) (O.faults out.new) (O.content out.old) (O.content out.new) }
-    ensures part { Told (F.files shelf.old) (λ files. (O.content out.new ≡ O.content out.old) ⊎ RunsInPart files (sources_held sources.now) (O.content out.old) (O.content out.new)) }
+    ensures cause { BecauseRun result ((run_held request.now).sources) (F.files shelf.old) (F.faults shelf.old) (F.faults shelf.new) (O.faults out.old) (O.faults out.new) (O.content out.old) (O.content out.new) }
+    ensures part { Told (F.files shelf.old) (λ files. (O.content out.new ≡ O.content out.old) ⊎ RunsInPart files ((run_held request.now).sources) (O.content out.old) (O.content out.new)) }
     ensures unbegun { IsUnbegun result → out.new ≡ out.old }
 {
-    match read_sources(alloc, sources, shelf, evidence) {
+    match read_sources(alloc, &request.sources, shelf, &mut remains.evidence) {
         Ok(Program { scripts, input }) => {
-            outcome_of_run(run_scripts(rt, alloc, &scripts, input, out))
+            let kept = copy_if(alloc, request.explain, &input);
+            let end = outcome_of_run(run_scripts(rt, alloc, &scripts, input, out));
+            note_throw(alloc, &end, &scripts, kept, remains);
+            end
         }
         Err(end) => end,
     }

@@ -7,6 +7,7 @@ ghost use Rattle.server_edge.specs.Contents.{IsUnused, called};
 ghost use Rattle.command_words.specs.Held.{send_held};
 ghost use Rattle.command_line.specs.SendCauses.{BecauseCommands, BecauseSend, IsUndialled, MaySend, Speaks, outcome_of_talk};
 
+use crate::explaining::Remains;
 use crate::outcome::Outcome;
 use crate::whole_file::read_whole;
 use cdp_client::{Conversed, check_file, converse};
@@ -91,7 +92,7 @@ pub(crate) fn send<'w, R: Wait, F: Shelf, O: Sink, H: Harbor>(
     shelf: &mut F,
     out: &mut O,
     harbor: &mut H,
-    evidence: &mut Evidence,
+    remains: &mut Remains,
 ) -> Outcome<'w>
     ensures cause { BecauseSend result (send_held request.entry) (F.files shelf.old) (F.faults shelf.old) (F.faults shelf.new) (record { content = O.content out.old; faults = O.faults out.old }) (record { content = O.content out.new; faults = O.faults out.new }) (record { faults = H.faults harbor.old; dials = H.dials harbor.old; hung_up = H.hung_up harbor.old }) (record { faults = H.faults harbor.new; dials = H.dials harbor.new; hung_up = H.hung_up harbor.new }) }
     ensures part { Told (F.files shelf.old) (λ files. MaySend files (send_held request.entry) (record { content = O.content out.old; faults = O.faults out.old }) (record { content = O.content out.new; faults = O.faults out.new }) (record { faults = H.faults harbor.old; dials = H.dials harbor.old; hung_up = H.hung_up harbor.old }) (record { faults = H.faults harbor.new; dials = H.dials harbor.new; hung_up = H.hung_up harbor.new }) result) }
@@ -99,7 +100,7 @@ pub(crate) fn send<'w, R: Wait, F: Shelf, O: Sink, H: Harbor>(
     ensures once { (H.dials harbor.new ≡ H.dials harbor.old) ⊎ (H.dials harbor.new ≡ called request.entry.port (H.dials harbor.old)) }
     ensures opens { H.opens harbor.new ≡ H.opens harbor.old }
 {
-    let commands = match read_commands(alloc, request.commands, shelf, evidence) {
+    let commands = match read_commands(alloc, request.commands, shelf, &mut remains.evidence) {
         Ok(commands) => commands,
         Err(end) => return end,
     };

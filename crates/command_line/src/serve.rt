@@ -12,8 +12,10 @@ ghost use Rattle.command_words.specs.Held.{serve_held};
 ghost use Rattle.command_line.specs.RunCauses.{IsUnbegun};
 ghost use Rattle.command_line.specs.ServeCauses.{BecauseServe, BecauseServed, IsUnserved, MayServe, ServesPort, ShowsThrow, or_doors, outcome_of_serving, unopened};
 
+use crate::explaining::Remains;
 use crate::outcome::Outcome;
 use crate::sources::{Program, read_sources};
+use crate::throwing::{copy_if, note_throw};
 use cdp_edge::{Shelf, Sink};
 use cdp_host::{Beginning, Host};
 use cdp_text::units::Units;
@@ -21,7 +23,6 @@ use command_words::ServeWords;
 use history_lock::HistoryLock;
 use host_turns::{Entry, Hosted, Lock, Worker};
 use js_tree::script::Script;
-use script_files::Evidence;
 use server_edge::{Clock, Door, Harbor, HarborFault};
 use std::alloc::{AllocError, Global};
 use std::collections::VecDeque;
@@ -214,7 +215,7 @@ pub(crate) fn serve<
     out: &mut O,
     harbor: &mut P,
     clock: &mut C,
-    evidence: &mut Evidence,
+    remains: &mut Remains,
 ) -> Outcome<'w>
 where
     P::Bell: Sync,
@@ -226,19 +227,24 @@ where
     ensures once { (P.opens harbor.new ≡ P.opens harbor.old) ⊎ (P.opens harbor.new ≡ called ((serve_held request.now).port, (serve_held request.now).sessions) (P.opens harbor.old)) }
     ensures dials { P.dials harbor.new ≡ P.dials harbor.old }
 {
-    match read_sources(alloc, &request.sources, shelf, evidence) {
-        Ok(Program { scripts, input }) => serve_program::<Brand, R, O, P, C>(
-            rt,
-            alloc,
-            &scripts,
-            input,
-            request.wait,
-            request.port,
-            request.sessions.count,
-            out,
-            harbor,
-            clock,
-        ),
+    match read_sources(alloc, &request.sources, shelf, &mut remains.evidence) {
+        Ok(Program { scripts, input }) => {
+            let kept = copy_if(alloc, request.explain, &input);
+            let end = serve_program::<Brand, R, O, P, C>(
+                rt,
+                alloc,
+                &scripts,
+                input,
+                request.wait,
+                request.port,
+                request.sessions.count,
+                out,
+                harbor,
+                clock,
+            );
+            note_throw(alloc, &end, &scripts, kept, remains);
+            end
+        }
         Err(end) => end,
     }
 }
