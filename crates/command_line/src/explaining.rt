@@ -1,11 +1,13 @@
 //! The lines that explain an end.
 
 use crate::outcome::Outcome;
+use cdp_text::units::text_of;
 use explanations::{
     Frame, KeptFile, LinkFault, ReadFault, Refused, command_lines, frame_lines, journal_lines,
     link_lines, refusal_lines, unread_lines, word_lines,
 };
-use script_files::{Evidence, Refusal};
+use js_tree::script::Script;
+use script_files::{Evidence, FileEvidence, Refusal};
 use std::alloc::{AllocError, Global};
 
 /// What a command was to do, as far as that explains its end.
@@ -26,7 +28,7 @@ pub(crate) enum Task<'c> {
 /// What is left of a fault, for who explains it.
 #[derive(Drop)]
 pub(crate) struct Remains {
-    /// What is left of the file that the fault is in.
+    /// What is left of files that weren't all taken.
     pub(crate) evidence: Evidence,
     /// The calls that were active at an uncaught throw, the innermost first.
     pub(crate) calls: Vec<Frame>,
@@ -36,7 +38,7 @@ impl Remains {
     /// Nothing so far.
     pub(crate) fn new(alloc: Global) -> Remains {
         Remains {
-            evidence: Evidence::Nothing,
+            evidence: Evidence::new(alloc),
             calls: Vec::new(alloc),
         }
     }
@@ -57,7 +59,7 @@ pub(crate) fn lines_of(
     match outcome {
         Outcome::Usage => lines_of_words(alloc, task),
         Outcome::Refused(name, refusal) => lines_of_refusal(alloc, *name, *refusal, evidence),
-        Outcome::CannotRead(name) => unread_lines(alloc, *name, fault_of(&evidence)),
+        Outcome::CannotRead(name) => unread_lines(alloc, *name, fault_of(&evidence.file)),
         Outcome::LineRefused(number) => lines_of_line(alloc, task, *number, evidence),
         Outcome::NetworkFault => lines_of_port(alloc, task),
         Outcome::PeerClosed(_) => link_lines(alloc, LinkFault::Closed),
@@ -85,14 +87,27 @@ fn lines_of_refusal(
     refusal: Refusal,
     evidence: Evidence,
 ) -> Result<String, AllocError> {
-    let Evidence::Content(bytes) = evidence else {
+    let Evidence { file, earlier } = evidence;
+    let FileEvidence::Content(bytes) = file else {
         return Ok(String::new(alloc));
     };
-    let file = KeptFile {
+    let mut files = Vec::new(alloc);
+    for script in &earlier {
+        files.push(kept(alloc, script)?)?;
+    }
+    files.push(KeptFile {
         name: String::from_str(alloc, name)?,
         bytes,
-    };
-    refusal_lines(alloc, &file, refused_as(refusal))
+    })?;
+    refusal_lines(alloc, &files, 0, refused_as(refusal))
+}
+
+/// A script's file.
+fn kept(alloc: Global, script: &Script) -> Result<KeptFile, AllocError> {
+    Ok(KeptFile {
+        name: text_of(alloc, script.url.as_slice())?,
+        bytes: text_of(alloc, script.source.as_slice())?.into_bytes(),
+    })
 }
 
 /// A refusal, as the explanations have it.
@@ -107,10 +122,11 @@ fn refused_as(refusal: Refusal) -> Refused {
 }
 
 /// Why a file can't be read, by what is left of it.
-fn fault_of(evidence: &Evidence) -> ReadFault {
+fn fault_of(evidence: &FileEvidence) -> ReadFault {
     match evidence {
-        Evidence::NotThere => ReadFault::NotThere,
-        Evidence::Nothing | Evidence::Unreachable | Evidence::Content(_) => ReadFault::Other,
+        FileEvidence::NotThere => ReadFault::NotThere,
+        FileEvidence::Nothing | FileEvidence::Unreachable | FileEvidence::Content(_) =>
+            ReadFault::Other,
     }
 }
 
@@ -121,7 +137,7 @@ fn lines_of_line(
     number: u64,
     evidence: Evidence,
 ) -> Result<String, AllocError> {
-    let Evidence::Content(bytes) = evidence else {
+    let FileEvidence::Content(bytes) = evidence.file else {
         return Ok(String::new(alloc));
     };
     match task {

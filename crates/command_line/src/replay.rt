@@ -13,7 +13,7 @@ use crate::sources::{Program, read_sources};
 use crate::whole_file::read_whole;
 use cdp_edge::{Shelf, Sink};
 use command_words::ReplayWords;
-use script_files::Evidence;
+use script_files::FileEvidence;
 use std::alloc::Global;
 
 /// The end that the replay of a journal has.
@@ -50,7 +50,7 @@ pub(crate) fn replay<'w, F: Shelf, O: Sink>(
         Ok(program) => {
             let Program { scripts, input } = program;
             let end = journal::replay(alloc, &scripts, input, request.wait, &journal, out);
-            remains.evidence = Evidence::Content(journal);
+            remains.evidence.file = FileEvidence::Content(journal);
             outcome_of_replay(end)
         }
         Err(end) => end,

@@ -13,7 +13,7 @@ use crate::whole_file::read_whole;
 use cdp_client::{Conversed, check_file, converse};
 use cdp_edge::{Shelf, Sink};
 use command_words::SendWords;
-use script_files::Evidence;
+use script_files::{Evidence, FileEvidence};
 use server_edge::{Harbor, HarborFault};
 use std::alloc::Global;
 use std::sync::Wait;
@@ -51,7 +51,7 @@ fn read_commands<'w, F: Shelf>(
     match check_file(alloc, &bytes) {
         Ok(()) => Ok(bytes),
         Err(end) => {
-            *evidence = Evidence::Content(bytes);
+            evidence.file = FileEvidence::Content(bytes);
             Err(outcome_of_talk(end))
         }
     }

@@ -6,7 +6,7 @@ ghost use Rattle.command_line.specs.ReadCauses.{BecauseUnread};
 
 use crate::outcome::Outcome;
 use cdp_edge::{Shelf, ShelfFault};
-use script_files::Evidence;
+use script_files::{Evidence, FileEvidence};
 use std::alloc::Global;
 
 /// The bytes of the file of this name. Where it can't be read, why becomes the evidence.
@@ -29,11 +29,11 @@ pub(crate) fn read_whole<'w, F: Shelf>(
         Ok(bytes) => Ok(bytes),
         Err(ShelfFault::Memory) => Err(Outcome::OutOfMemory),
         Err(ShelfFault::NotThere) => {
-            *evidence = Evidence::NotThere;
+            evidence.file = FileEvidence::NotThere;
             Err(Outcome::CannotRead(name))
         }
         Err(ShelfFault::Failed) => {
-            *evidence = Evidence::Unreachable;
+            evidence.file = FileEvidence::Unreachable;
             Err(Outcome::CannotRead(name))
         }
     }

@@ -4,7 +4,7 @@ ghost use Rattle.std.specs.Prelude.{◌≡◌, IfOk, IfErr};
 ghost use Rattle.cdp_edge.specs.Outside.{Told};
 ghost use Rattle.script_files.specs.Input.{input_of, HoldsInput, FailsInput};
 
-use crate::evidence::Evidence;
+use crate::evidence::{Evidence, FileEvidence};
 use crate::fault::{FileFault, Refusal};
 use cdp_edge::{Shelf, ShelfFault};
 use cdp_text::parts::halves;
@@ -48,16 +48,16 @@ pub fn read_input<F: Shelf>(
         Ok(bytes) => bytes,
         Err(ShelfFault::Memory) => return Err(FileFault::Memory),
         Err(ShelfFault::NotThere) => {
-            *evidence = Evidence::NotThere;
+            evidence.file = FileEvidence::NotThere;
             return Err(FileFault::CannotRead);
         }
         Err(ShelfFault::Failed) => {
-            *evidence = Evidence::Unreachable;
+            evidence.file = FileEvidence::Unreachable;
             return Err(FileFault::CannotRead);
         }
     };
     let Ok(text) = str::from_utf8(&bytes) else {
-        *evidence = Evidence::Content(bytes);
+        evidence.file = FileEvidence::Content(bytes);
         return Err(FileFault::Refused(Refusal::NotUtf8));
     };
     match lines_of(alloc, text) {

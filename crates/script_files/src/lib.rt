@@ -17,7 +17,7 @@ mod scripts;
 mod source;
 mod top_names;
 
-pub use evidence::Evidence;
+pub use evidence::{Evidence, FileEvidence};
 pub use fault::{FileFault, Refusal};
 pub use input::read_input;
 pub use scripts::{ScriptFault, read_scripts};

@@ -7,7 +7,7 @@ ghost use Rattle.script_files.specs.TopNames.{declared_in};
 ghost use Rattle.script_files.specs.Scripts.{AreScripts, HoldsScript, IsOneMore, IsRefusedAt, Fails, FailsNext, names_held};
 ghost use Rattle.script_files.specs.declared.fault.Refusal.{Refusal as AnyRefusal};
 
-use crate::evidence::Evidence;
+use crate::evidence::{Evidence, FileEvidence};
 use crate::fault::FileFault;
 use crate::source::script_of;
 use crate::top_names::add_names;
@@ -44,18 +44,18 @@ fn read_script<F: Shelf>(
         Ok(bytes) => bytes,
         Err(ShelfFault::Memory) => return Err(FileFault::Memory),
         Err(ShelfFault::NotThere) => {
-            *evidence = Evidence::NotThere;
+            evidence.file = FileEvidence::NotThere;
             return Err(FileFault::CannotRead);
         }
         Err(ShelfFault::Failed) => {
-            *evidence = Evidence::Unreachable;
+            evidence.file = FileEvidence::Unreachable;
             return Err(FileFault::CannotRead);
         }
     };
     match script_of(alloc, &bytes, name, earlier.len(), declared) {
         Ok(script) => Ok(script),
         Err(fault) => {
-            *evidence = Evidence::Content(bytes);
+            evidence.file = FileEvidence::Content(bytes);
             Err(fault)
         }
     }
@@ -128,7 +128,10 @@ pub fn read_scripts<'n, F: Shelf>(
         let name = *name;
         match add_script(alloc, shelf, name, &mut scripts, &mut declared, evidence) {
             Ok(()) => {}
-            Err(fault) => return Err(ScriptFault { name, fault }),
+            Err(fault) => {
+                evidence.earlier = scripts;
+                return Err(ScriptFault { name, fault });
+            }
         }
     }
     Ok(scripts)
