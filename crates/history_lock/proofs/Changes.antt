@@ -69,15 +69,15 @@ module _ {S E : Type 0} (stands : S → List (ℕ × E) → Type 0) (n : ℕ) wh
   At log s = KeptOf stands n log s
 
   -- One view changes, and with it the history and the words
-  pub changed : (s : St) (past : List (ℕ × E)) (r : At past s) (id : ℕ) (v w : View E) (log : List (ℕ × E)) (homes : List (Option (Opt S))) → get_elem? s.views id ≡ some v
+  pub changed : (s : St) (past : List (ℕ × E)) (r : At past s) (id : ℕ) (v w : View E) (log : List (ℕ × E)) (berths : List ℕ) (homes : List (Option (Opt S))) → get_elem? s.views id ≡ some v
       → length log + total held (set s.views id w) ≤ limit
       → ((j : ℕ) (u : View E) → j ≢ id → get_elem? s.views j ≡ some u → Fits n (length log + total held (set s.views id w)) log u)
       → Fits n (length log + total held (set s.views id w)) log w
       → Alone s.views id w
       → Holds stands homes (set s.views id w) log
-      → At log record { words = (length log + total held (set s.views id w)) ∷ length log ∷ []; homes = homes; views = set s.views id w }
-  changed s past r id v w log homes at bound others mine alone holds = record {
-    words = refl;
+      → At log record { words = (length log + total held (set s.views id w)) ∷ length log ∷ berths; homes = homes; views = set s.views id w }
+  changed s past r id v w log berths homes at bound others mine alone holds = record {
+    words = (berths, refl);
     bound = bound;
     each = each_set (λ _ u. Fits n (length log + total held (set s.views id w)) log u) s.views id w others mine;
     tickets = λ i j u z ei ej. each_set (λ k y. y.has_ticket ≡ true → z.has_ticket ≡ true → y.ticket ≡ z.ticket → k ≡ j) s.views id w

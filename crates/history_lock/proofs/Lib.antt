@@ -1,5 +1,6 @@
 pub mod Facts
 pub mod Reserves
+pub mod Berths
 pub mod Changes
 pub mod Knowing
 pub mod Passes

@@ -67,11 +67,11 @@ module _ {S E : Type 0} (stands : S → List (ℕ × E) → Type 0) (n : ℕ) wh
       (λ (o : (0 < 1) × ((i : ℕ) × (x ≡ term n 1 i))). let e = o.1.1 in let b = from_base n 1 o.1.0 in omega (arith, e, b, is, some_pass))
       r
 
-  pub begins : (x : S) → 0 < n → stands x [] → Rule record { words = 0 ∷ 0 ∷ []; homes = some (Some x) ∷ []; views = opening n ∷ [] }
-  begins x some_pass stood = (
+  pub begins : (x : S) (berths : List ℕ) → 0 < n → stands x [] → Rule record { words = 0 ∷ 0 ∷ berths; homes = some (Some x) ∷ []; views = opening n ∷ [] }
+  begins x berths some_pass stood = (
     [],
     record {
-      words = refl;
+      words = (berths, refl);
       bound = omega arith;
       each = λ i v e. one (λ _ u. Fits n 0 [] u) (plain_fits 0 [] [] (n - 1) 0 n 1 (begins_same []) refl (le_refl n) (λ _ _. refl)) i v e;
       tickets = λ i j v w ei ej _ _ _. one (λ k _. k ≡ j) (one (λ l _. 0 ≡ l) refl j w ej) i v ei;
@@ -87,8 +87,8 @@ module _ {S E : Type 0} (stands : S → List (ℕ × E) → Type 0) (n : ℕ) wh
       one F f zero v e = subst (F 0) (some-injective (opening n) v e) f
       one F f (suc i) v e = absurd (some-ne-none v (sym e))
 
-  pub begins_as : (x : S) (ws : List ℕ) (items : List (Opt S)) → ws ≡ 0 ∷ 0 ∷ [] → items ≡ Some x ∷ [] → 0 < n → stands x [] → Rule (begun ws items (opening n))
-  begins_as x ws items is_ws is_items some_pass stood = subst (λ (z : List ℕ × List (Opt S)). Rule (begun z.0 z.1 (opening n))) (λ i. (sym is_ws i, sym is_items i)) (begins x some_pass stood)
+  pub begins_as : (x : S) (ws berths : List ℕ) (items : List (Opt S)) → ws ≡ 0 ∷ 0 ∷ berths → items ≡ Some x ∷ [] → 0 < n → stands x [] → Rule (begun ws items (opening n))
+  begins_as x ws berths items is_ws is_items some_pass stood = subst (λ (z : List ℕ × List (Opt S)). Rule (begun z.0 z.1 (opening n))) (λ i. (sym is_ws i, sym is_items i)) (begins x berths some_pass stood)
 
   -- ---- a further pass
 
@@ -107,7 +107,7 @@ module _ {S E : Type 0} (stands : S → List (ℕ × E) → Type 0) (n : ℕ) wh
       let zero_held : held w ≡ 0 = ap (λ (b : Bool). if b then 1 else 0) off in
       let more = total_snoc held s.views w in
       let same : t ≡ length past + total held (s.views ++ w ∷ []) = omega (arith, more, zero_held) in record {
-        words = r.words ∙ ap (λ (k : ℕ). k ∷ length past ∷ []) same;
+        words = (r.words.0, r.words.1 ∙ ap (λ (k : ℕ). k ∷ length past ∷ r.words.0) same);
         bound = subst (λ (k : ℕ). k ≤ limit) same r.bound;
         each = subst (λ (k : ℕ). (j : ℕ) (u : V) → get_elem? (s.views ++ w ∷ []) j ≡ some u → Fits n k past u) same (each_snoc (λ _ u. Fits n t past u) s.views w r.each fits);
         tickets = λ i j u z ei ej. each_snoc (λ k y. y.has_ticket ≡ true → z.has_ticket ≡ true → y.ticket ≡ z.ticket → k ≡ j) s.views w
@@ -166,8 +166,8 @@ module _ {S E : Type 0} (stands : S → List (ℕ × E) → Type 0) (n : ℕ) wh
       let bound = r.bound in
       let none = f.unused k may in
       let middle : At past record { words = s.words; homes = s.homes; views = set s.views id w } =
-      subst (λ ws. At past record { words = ws; homes = s.homes; views = set s.views id w }) (ap (λ (j : ℕ). j ∷ length past ∷ []) same ∙ sym r.words)
-      (changed stands n s past r id v w past s.homes at (omega (arith, same, bound))
+      subst (λ ws. At past record { words = ws; homes = s.homes; views = set s.views id w }) (ap (λ (j : ℕ). j ∷ length past ∷ r.words.0) same ∙ sym r.words.1)
+      (changed stands n s past r id v w past r.words.0 s.homes at (omega (arith, same, bound))
       (λ j u _ e. fits_later n t (length past + total held (set s.views id w)) past u (omega (arith, same)) (r.each j u e))
       (fits_later n t (length past + total held (set s.views id w)) past w (omega (arith, same)) (thinned_fits t past v unopened splits f le))
       (stays_alone stands n s past r id v w at (λ h. absurd (true≢false (sym h ∙ off))) (λ x h. h) (λ x h. thinned_within v unopened splits x le h))
@@ -294,8 +294,8 @@ module _ {S E : Type 0} (stands : S → List (ℕ × E) → Type 0) (n : ℕ) wh
       let bound = r.bound in
       let one = total_set held s.views other w nobody at in
       let same : length past + total held (set s.views other nobody) ≡ t = omega (arith, one, no_w) in
-      subst (λ ws. At past record { words = ws; homes = s.homes; views = set s.views other nobody }) (ap (λ (k : ℕ). k ∷ length past ∷ []) same ∙ sym r.words)
-      (changed stands n s past r other w nobody past s.homes at (omega (arith, same, bound))
+      subst (λ ws. At past record { words = ws; homes = s.homes; views = set s.views other nobody }) (ap (λ (k : ℕ). k ∷ length past ∷ r.words.0) same ∙ sym r.words.1)
+      (changed stands n s past r other w nobody past r.words.0 s.homes at (omega (arith, same, bound))
       (λ j u _ e. fits_later n t (length past + total held (set s.views other nobody)) past u (omega (arith, same)) (r.each j u e))
       (nobody_fits (length past + total held (set s.views other nobody)) past)
       (stays_alone stands n s past r other w nobody at (λ h. absurd (true≢false (sym h))) (λ x h. absurd (true≢false (sym h))) (λ x h. absurd (nobody_reserves E x h)))
@@ -361,8 +361,8 @@ module _ {S E : Type 0} (stands : S → List (ℕ × E) → Type 0) (n : ℕ) wh
       let same_mid : length past + total held mid.views ≡ t = omega (arith, one, no_w) in
       let bound = r.bound in
       let end : At past record { words = s.words; homes = s.homes; views = set mid.views id (joined v w) } =
-      subst (λ ws. At past record { words = ws; homes = s.homes; views = set mid.views id (joined v w) }) (ap (λ (k : ℕ). k ∷ length past ∷ []) same ∙ sym r.words)
-      (changed stands n mid past middle id v (joined v w) past s.homes here (omega (arith, same, bound))
+      subst (λ ws. At past record { words = ws; homes = s.homes; views = set mid.views id (joined v w) }) (ap (λ (k : ℕ). k ∷ length past ∷ r.words.0) same ∙ sym r.words.1)
+      (changed stands n mid past middle id v (joined v w) past r.words.0 s.homes here (omega (arith, same, bound))
       (λ j y _ e. fits_later n (length past + total held mid.views) u past y (omega (arith, same, same_mid)) (middle.each j y e))
       (fits_later n t u past (joined v w) (omega (arith, same)) (joined_fits t past v w (r.each id v at) (r.each other w before) off free ((r.each id v at).initial v.number own) (λ x hv hw. ne (sym (r.apart id other v w x at before hv hw)))))
       (joined_alone s past r id other v w at before off)
@@ -409,13 +409,13 @@ module _ {S E : Type 0} (stands : S → List (ℕ × E) → Type 0) (n : ℕ) wh
       let Goal : List ℕ → Type 0 = λ ws. (w : V) × (a : Act (Opt S)) × Valid s.homes me.1 a
       × Rule record { words = set ws 0 (get_or ws 0 0); homes = homes_after s.homes me.1 a; views = set s.views id w }
       × Recalled (step slots 0 0 0 none) me (get_or ws 0 0) (w, carried_after me.1 a) in
-      subst Goal (sym r.words) (
+      subst Goal (sym r.words.1) (
         me.0,
         keeps,
         tt,
         (
           past,
-          subst (λ vs. At past record { words = t ∷ length past ∷ []; homes = s.homes; views = vs }) (sym (set_again s.views id me.0 at)) (subst (λ ws. At past record { words = ws; homes = s.homes; views = s.views }) r.words r),
+          subst (λ vs. At past record { words = t ∷ length past ∷ r.words.0; homes = s.homes; views = vs }) (sym (set_again s.views id me.0 at)) (subst (λ ws. At past record { words = ws; homes = s.homes; views = s.views }) r.words.1 r),
           subst (λ vs. Accounts n vs past) (sym (set_again s.views id me.0 at)) kept_now.2,
         ),
         recalled s past r kept_now.2 slots t id me at own,

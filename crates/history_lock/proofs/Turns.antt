@@ -52,15 +52,15 @@ module _ {S E : Type 0} (stands : S → List (ℕ × E) → Type 0) (n : ℕ) wh
 
   draws_at : (s : St) (past : List (ℕ × E)) (r : At past s) (id : ℕ) (me : Me (Opt S) V) → get_elem? s.views id ≡ some me.0 → me.0.has_ticket ≡ false → me.0.in_turn ≡ false → has me.0.number me.0.numbers ≡ true
       → length past + total held s.views < limit
-      → At past record { words = (length past + total held s.views + 1) ∷ length past ∷ []; homes = s.homes; views = set s.views id (drawn me.0 (length past + total held s.views)) }
+      → At past record { words = (length past + total held s.views + 1) ∷ length past ∷ r.words.0; homes = s.homes; views = set s.views id (drawn me.0 (length past + total held s.views)) }
   draws_at s past r id me at off free own room =
       let t : ℕ = length past + total held s.views in
       let w : V = drawn me.0 t in
       let zero_held : held me.0 ≡ 0 = ap (λ (b : Bool). if b then 1 else 0) off in
       let more = total_set held s.views id me.0 w at in
       let next : length past + total held (set s.views id w) ≡ t + 1 = omega (arith, more, zero_held) in
-      subst (λ (k : ℕ). At past record { words = k ∷ length past ∷ []; homes = s.homes; views = set s.views id w }) next
-      (changed stands n s past r id me.0 w past s.homes at (omega (arith, next, room))
+      subst (λ (k : ℕ). At past record { words = k ∷ length past ∷ r.words.0; homes = s.homes; views = set s.views id w }) next
+      (changed stands n s past r id me.0 w past r.words.0 s.homes at (omega (arith, next, room))
       (λ j u _ e. fits_later n t (length past + total held (set s.views id w)) past u (omega (arith, next)) (r.each j u e))
       (drawn_fits t (length past + total held (set s.views id w)) past me.0 (r.each id me.0 at) free own (omega arith) (omega (arith, next)))
       (stays_alone stands n s past r id me.0 w at (λ _ j u _ e d same. let b = (r.each j u e).waits d in let c = b.1 in omega (arith, c, same)) (λ x h. h) (λ x h. h))
@@ -76,15 +76,15 @@ module _ {S E : Type 0} (stands : S → List (ℕ × E) → Type 0) (n : ℕ) wh
       let Goal : List ℕ → Type 0 = λ ws. (w : V) × (a : Act (Opt S)) × Valid s.homes me.1 a
       × Rule record { words = set ws 0 (either (eqb (get_or ws 0 0) old) new (get_or ws 0 0)); homes = homes_after s.homes me.1 a; views = set s.views id w }
       × Drawn (step slots 0 old new none) me (get_or ws 0 0) (w, carried_after me.1 a) in
-      subst Goal (sym r.words) (goal_at t refl)
+      subst Goal (sym r.words.1) (goal_at t refl)
     where
-      still : (t : ℕ) → t ≡ length past + total held s.views → (At past record { words = t ∷ length past ∷ []; homes = s.homes; views = set s.views id me.0 }) × Accounts n (set s.views id me.0) past
-      still t is = subst (λ vs. (At past record { words = t ∷ length past ∷ []; homes = s.homes; views = vs }) × Accounts n vs past) (sym (set_again s.views id me.0 at))
-          (subst (λ ws. At past record { words = ws; homes = s.homes; views = s.views }) (r.words ∙ ap (λ (k : ℕ). k ∷ length past ∷ []) (sym is)) r, acc)
+      still : (t : ℕ) → t ≡ length past + total held s.views → (At past record { words = t ∷ length past ∷ r.words.0; homes = s.homes; views = set s.views id me.0 }) × Accounts n (set s.views id me.0) past
+      still t is = subst (λ vs. (At past record { words = t ∷ length past ∷ r.words.0; homes = s.homes; views = vs }) × Accounts n vs past) (sym (set_again s.views id me.0 at))
+          (subst (λ ws. At past record { words = ws; homes = s.homes; views = s.views }) (r.words.1 ∙ ap (λ (k : ℕ). k ∷ length past ∷ r.words.0) (sym is)) r, acc)
 
       goal_at : (t : ℕ) → t ≡ length past + total held s.views
           → (w : V) × (a : Act (Opt S)) × Valid s.homes me.1 a
-          × Rule record { words = either (eqb t old) new t ∷ length past ∷ []; homes = homes_after s.homes me.1 a; views = set s.views id w }
+          × Rule record { words = either (eqb t old) new t ∷ length past ∷ r.words.0; homes = homes_after s.homes me.1 a; views = set s.views id w }
           × Drawn (step slots 0 old new none) me t (w, carried_after me.1 a)
       goal_at t is = dite (ℕ_discrete t old)
           (λ hit. dite (dec_le limit t)
@@ -94,7 +94,7 @@ module _ {S E : Type 0} (stands : S → List (ℕ × E) → Type 0) (n : ℕ) wh
             tt,
             (
               past,
-              subst (λ (k : ℕ). At past record { words = k ∷ length past ∷ []; homes = s.homes; views = set s.views id me.0 }) (sym (ap (λ (b : Bool). either b new t) (eq-eqb t old hit) ∙ (stay (omega (arith, hit, full)) ∙ sym hit))) (still t is).0,
+              subst (λ (k : ℕ). At past record { words = k ∷ length past ∷ r.words.0; homes = s.homes; views = set s.views id me.0 }) (sym (ap (λ (b : Bool). either b new t) (eq-eqb t old hit) ∙ (stay (omega (arith, hit, full)) ∙ sym hit))) (still t is).0,
               (still t is).1,
             ),
             ((let b = r.bound in omega (arith, b, is)), refl, (λ _ l. absurd (omega (arith, l, full))), (λ _ _. refl), (λ ne. absurd (ne hit))),
@@ -105,9 +105,9 @@ module _ {S E : Type 0} (stands : S → List (ℕ × E) → Type 0) (n : ℕ) wh
             tt,
             (
               past,
-              subst (λ (k : ℕ). At past record { words = k ∷ length past ∷ []; homes = s.homes; views = set s.views id (drawn me.0 t) })
+              subst (λ (k : ℕ). At past record { words = k ∷ length past ∷ r.words.0; homes = s.homes; views = set s.views id (drawn me.0 t) })
                   (sym (ap (λ (b : Bool). either b new t) (eq-eqb t old hit) ∙ (up (omega (arith, hit, room)) ∙ ap (λ (k : ℕ). k + 1) (sym hit ∙ is))))
-                  (subst (λ (k : ℕ). At past record { words = (length past + total held s.views + 1) ∷ length past ∷ []; homes = s.homes; views = set s.views id (drawn me.0 k) }) (sym is)
+                  (subst (λ (k : ℕ). At past record { words = (length past + total held s.views + 1) ∷ length past ∷ r.words.0; homes = s.homes; views = set s.views id (drawn me.0 k) }) (sym is)
                   (draws_at s past r id me at off free own (omega (arith, is, room)))),
               accounts_set n s.views id me.0 (drawn me.0 t) past past at refl (omega arith) (λ within. within.1) acc,
             ),
@@ -119,7 +119,7 @@ module _ {S E : Type 0} (stands : S → List (ℕ × E) → Type 0) (n : ℕ) wh
             tt,
             (
               past,
-              subst (λ (k : ℕ). At past record { words = k ∷ length past ∷ []; homes = s.homes; views = set s.views id me.0 }) (sym (ap (λ (b : Bool). either b new t) (ne_eqb t old miss))) (still t is).0,
+              subst (λ (k : ℕ). At past record { words = k ∷ length past ∷ r.words.0; homes = s.homes; views = set s.views id me.0 }) (sym (ap (λ (b : Bool). either b new t) (ne_eqb t old miss))) (still t is).0,
               (still t is).1,
             ),
             ((let b = r.bound in omega (arith, b, is)), refl, (λ hit. absurd (miss hit)), (λ hit. absurd (miss hit)), (λ _. refl)),
@@ -153,15 +153,15 @@ module _ {S E : Type 0} (stands : S → List (ℕ × E) → Type 0) (n : ℕ) wh
   -- a look changes neither word
   look_at : (s : St) (past : List (ℕ × E)) (r : At past s) (id : ℕ) (v : V) (b : Bool) (homes : List (Option (Opt S))) → get_elem? s.views id ≡ some v
       → (b ≡ true → (v.has_ticket ≡ true) × (v.ticket ≡ length past)) → Holds stands homes (set s.views id (looked v past b)) past
-      → At past record { words = (length past + total held s.views) ∷ length past ∷ []; homes = homes; views = set s.views id (looked v past b) }
+      → At past record { words = (length past + total held s.views) ∷ length past ∷ r.words.0; homes = homes; views = set s.views id (looked v past b) }
   look_at s past r id v b homes at on holds =
       let w : V = looked v past b in
       let t : ℕ = length past + total held s.views in
       let more = total_set held s.views id v w at in
       let same : length past + total held (set s.views id w) ≡ t = omega (arith, more) in
       let bound = r.bound in
-      subst (λ (k : ℕ). At past record { words = k ∷ length past ∷ []; homes = homes; views = set s.views id w }) same
-      (changed stands n s past r id v w past homes at (omega (arith, same, bound))
+      subst (λ (k : ℕ). At past record { words = k ∷ length past ∷ r.words.0; homes = homes; views = set s.views id w }) same
+      (changed stands n s past r id v w past r.words.0 homes at (omega (arith, same, bound))
       (λ j u _ e. fits_later n t (length past + total held (set s.views id w)) past u (omega (arith, same)) (r.each j u e))
       (fits_later n t (length past + total held (set s.views id w)) past w (omega (arith, same)) (looked_fits t past v b (r.each id v at) on))
       (stays_alone stands n s past r id v w at (λ d j u ne e du t. ne (sym (r.tickets id j v u at e d du t))) (λ x h. h) (λ x h. h))
@@ -196,14 +196,14 @@ module _ {S E : Type 0} (stands : S → List (ℕ × E) → Type 0) (n : ℕ) wh
       let bound = r.bound in
       let low : length past < limit = omega (arith, d0, d1, bound) in
       let accounts : (b : Bool) → Accounts n (set s.views id (looked me.0 past b)) past = λ b. accounts_set n s.views id me.0 (looked me.0 past b) past past at refl (omega arith) (λ within. within.1) acc in
-      subst Goal (sym r.words) (dite (ℕ_discrete (length past) me.0.ticket)
+      subst Goal (sym r.words.1) (dite (ℕ_discrete (length past) me.0.ticket)
       (λ hit. let h = at_home s past r id me.0 at draws free (sym hit) in let x : S = h.0 in (
         looked me.0 past true,
         takes 0 (Some x),
         ap (λ hs. get_elem? hs 0) h.1,
         (
           past,
-          subst (λ hs. At past record { words = t ∷ length past ∷ []; homes = hs; views = set s.views id (looked me.0 past true) }) (sym (ap (λ hs. set hs 0 none) h.1))
+          subst (λ hs. At past record { words = t ∷ length past ∷ r.words.0; homes = hs; views = set s.views id (looked me.0 past true) }) (sym (ap (λ hs. set hs 0 none) h.1))
               (look_at s past r id me.0 true (none ∷ []) at (λ _. (draws, sym hit)) (inr (refl, (id, looked me.0 past true, set_there s.views id me.0 (looked me.0 past true) at, refl)))),
           accounts true,
         ),
@@ -310,9 +310,9 @@ module _ {S E : Type 0} (stands : S → List (ℕ × E) → Type 0) (n : ℕ) wh
       let Goal : List ℕ → Type 0 = λ ws. (w' : V) × (a : Act (Opt S)) × Valid s.homes me.1 a
       × Rule record { words = set ws 1 ((get_or ws 1 0 + 1) % 18446744073709551616); homes = homes_after s.homes me.1 a; views = set s.views id w' }
       × Advanced ending (step slots 1 1 0 none) me (get_or ws 1 0) (w', carried_after me.1 a) in
-      let new : At log record { words = t ∷ length log ∷ []; homes = some (Some y) ∷ []; views = set s.views id w } =
-      subst (λ (k : ℕ). At log record { words = k ∷ length log ∷ []; homes = some (Some y) ∷ []; views = set s.views id w }) same
-      (changed stands n s past r id v w log (some (Some y) ∷ []) at (omega (arith, same, bound))
+      let new : At log record { words = t ∷ length log ∷ r.words.0; homes = some (Some y) ∷ []; views = set s.views id w } =
+      subst (λ (k : ℕ). At log record { words = k ∷ length log ∷ r.words.0; homes = some (Some y) ∷ []; views = set s.views id w }) same
+      (changed stands n s past r id v w log r.words.0 (some (Some y) ∷ []) at (omega (arith, same, bound))
       (advanced_others s past r id v e (length log + total held (set s.views id w)) at draws on same)
       (advanced_fits s past r id v e (length log + total held (set s.views id w)) at draws on)
       (stays_alone stands n s past r id v w at (λ h. absurd (true≢false (sym h))) (λ x h. h) (λ x h. h))
@@ -327,16 +327,16 @@ module _ {S E : Type 0} (stands : S → List (ℕ × E) → Type 0) (n : ℕ) wh
       let wraps : (length past + 1) % 18446744073709551616 ≡ length log = omega (arith, longer_log, low) in
       let back : homes_after s.homes me.1 gives ≡ some (Some y) ∷ [] = ap (λ c. homes_after s.homes c gives) carries ∙ ap (λ hs. set hs 0 (some (Some y))) away in
       let all : v.seen ++ (v.number, e) ∷ [] ≡ log = ap (λ l. l ++ (v.number, e) ∷ []) turn.2 in
-      subst Goal (sym r.words) (
+      subst Goal (sym r.words.1) (
         w,
         gives,
         tt,
-        (log, subst (λ (z : ℕ × List (Option (Opt S))). At log record { words = t ∷ z.0 ∷ []; homes = z.1; views = set s.views id w }) (λ i. (sym wraps i, sym back i)) new, accounts),
+        (log, subst (λ (z : ℕ × List (Option (Opt S))). At log record { words = t ∷ z.0 ∷ r.words.0; homes = z.1; views = set s.views id w }) (λ i. (sym wraps i, sym back i)) new, accounts),
         (
           low,
           ap (λ c. carried_after c gives) carries,
           (λ x is. ap (λ (z : E). advanced v z) (ap (unsome e) (sym named ∙ is))),
-          only_initial stands n record { words = t ∷ length log ∷ []; homes = some (Some y) ∷ []; views = set s.views id w } log new accounts id w (set_there s.views id v w at) (f.named draws) w.seen (subst (λ l. Begins l log) (sym all) (begins_same log)),
+          only_initial stands n record { words = t ∷ length log ∷ r.words.0; homes = some (Some y) ∷ []; views = set s.views id w } log new accounts id w (set_there s.views id v w at) (f.named draws) w.seen (subst (λ l. Begins l log) (sym all) (begins_same log)),
         ),
       )
     where

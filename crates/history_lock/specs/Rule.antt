@@ -57,8 +57,8 @@ module _ {S E : Type 0} (stands : S → List (ℕ × E) → Type 0) where
 
   -- what is kept of this history
   pub record KeptOf (n : ℕ) (log : List (ℕ × E)) (s : State (Opt S) (View E)) : Type 0 where
-    -- the ticket word is the number of tickets drawn, the serving word that of entries
-    pub words : s.words ≡ (length log + total held s.views) ∷ length log ∷ []
+    -- the ticket word is the number of tickets drawn, the serving word that of entries; behind them are the berths
+    pub words : Begins ((length log + total held s.views) ∷ length log ∷ []) s.words
     pub bound : length log + total held s.views ≤ limit
     pub each : (i : ℕ) (v : View E) → get_elem? s.views i ≡ some v → Fits n (length log + total held s.views) log v
     -- tickets differ

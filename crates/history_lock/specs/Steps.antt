@@ -26,6 +26,10 @@ module _ {S E : Type 0} where
   abbrev pub Advanced : Opt E → Step (Opt S) → Me (Opt S) (View E) → ℕ → Me (Opt S) (View E) → Type 0
   Advanced ending s v found w = (found < limit) × (w.1 ≡ []) × ((x : E) → ending ≡ Some x → w.0 ≡ advanced v.0 x) × OnlyInitial w.0
 
+  -- a mark on a berth changes nothing that a pass knows or holds
+  abbrev pub Marked : Step (Opt S) → Me (Opt S) (View E) → ℕ → Me (Opt S) (View E) → Type 0
+  Marked s v found w = w ≡ v
+
   -- the first number that it may give is new; where two passes were joined, the longer list has both, each with just its own entries
   abbrev pub Recalled : Step (Opt S) → Me (Opt S) (View E) → ℕ → Me (Opt S) (View E) → Type 0
   Recalled s v found w = (w.0 ≡ v.0) × (w.1 ≡ v.1)

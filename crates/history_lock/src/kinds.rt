@@ -48,6 +48,15 @@ impl<S, E, X: Ending<E>> Play<Option<S>, View<E>> for Advances<X> {
     ghost then = { Advanced X.entry };
 }
 
+/// A berth is marked, as somebody goes to sleep there, or its mark is taken away.
+pub struct Marks;
+
+impl<S, E> Play<Option<S>, View<E>> for Marks {
+    ghost use Rattle.history_lock.specs.Steps.{Marked};
+
+    ghost then = { Marked };
+}
+
 /// One of the passes that a lock begins with is opened.
 pub struct Opens;
 

@@ -6,7 +6,7 @@ ghost use Rattle.history_lock.specs.Passes.{PassState, Follows, IsSamePass, IsNe
 ghost use Rattle.history_lock.specs.Views.{IsOpening, drawn, advanced};
 ghost use Rattle.history_lock.specs.Steps.{Looked, Comes, OnlyInitial};
 
-use crate::kinds::{Advances, Draws, Ending, Joins, Looks, Opens, Recalls, SplitsOff};
+use crate::kinds::{Advances, Draws, Ending, Joins, Looks, Marks, Opens, Recalls, SplitsOff};
 use crate::rule::OneHistory;
 use crate::standing::Standing;
 use crate::view::View;
@@ -16,18 +16,33 @@ use std::hint::spin_loop;
 use std::marker::{Brand, Model, PhantomData};
 use std::sync::Wait;
 
-// The words of the table, and its one slot.
+// The words of the table: how many tickets are drawn, which one is served, and the berths, on which threads sleep.
 const TICKET: usize = 0;
 
 const SERVING: usize = 1;
 
+const BERTHS: usize = 2;
+
+// How many berths there are.
+const BERTH_COUNT: usize = 64;
+
+// The one slot.
 const STATE: usize = 0;
 
 // No ticket is drawn from here on.
 const LIMIT: u64 = 1 << 62;
 
-// How often a thread looks before it sleeps.
+// How often a thread looks before it sleeps, if its ticket is one of the next few.
 const LOOKS: u32 = 64;
+
+const FEW: u64 = 3;
+
+// The berth of the pass with this ticket: a word that is odd while somebody may sleep on it.
+fn berth_of(ticket: u64) -> usize
+    ensures { (2 ≤ result) × (result < 66) }
+{
+    BERTHS + (ticket % BERTH_COUNT as u64) as usize
+}
 
 /// A lock over a state that stands for the history of its turns. Contracts see which lock it is.
 #[derive(Drop)]
@@ -43,7 +58,7 @@ impl<S: Standing<E, B>, E, B> Model for HistoryLock<S, E, B> {
 
     ghost view = { λ l. l.table.shared.table_id };
 
-    ghost invariant = { λ l. (l.table.shared.table_id.words ≡ 2) × (l.table.shared.table_id.slots ≡ 1) };
+    ghost invariant = { λ l. (l.table.shared.table_id.words ≡ 66) × (l.table.shared.table_id.slots ≡ 1) };
 }
 
 /// Leave to take turns of one lock. Contracts see it as a `PassState`.
@@ -122,8 +137,52 @@ impl<S: Standing<E, B>, E, B> HistoryLock<S, E, B> {
         self.table.shared.load::<Looks<S, E, B>>(seat, SERVING)
     }
 
-    // Looks again: soon, or after many looks asleep until another ticket is served. A wake goes to one sleeper, in the
-    // order in which they fell asleep, and one whose turn it isn't hands it on.
+    // Sleeps on the ticket's berth, unless the ticket is served, and looks.
+    //
+    // No wake is lost. The berth is marked before the look at SERVING, and `advance` looks for the mark after it raised
+    // SERVING. So where the look finds an earlier ticket, the `wake` that comes with this thread's own finds the mark, or
+    // another `wake` took it away before. Whoever takes it away changes the word and then wakes all who sleep on it: a
+    // thread that sleeps by then is woken, and one that is about to sleep finds another word than the one it marked, and
+    // doesn't. Either looks again, and marks the berth anew.
+    fn sleep<R: Wait>(&self, rt: &R, seat: &mut Seat<Option<S>, View<E>>, ticket: u64) -> u64
+        requires lock { seat.old.table_id ≡ self.now }
+        requires waits { (seat.old.me.0.has_ticket ≡ true) × (seat.old.me.0.in_turn ≡ false) × (seat.old.me.0.ticket ≡ ticket) × (seat.old.me.1 ≡ []) }
+        ensures same { (seat.new.table_id ≡ seat.old.table_id) × (seat.new.id ≡ seat.old.id) }
+        ensures looked { Looked S.stands seat.old.me result seat.new.me }
+    {
+        let berth = berth_of(ticket);
+        let marked = self.table.shared.fetch_or::<Marks>(seat, berth, 1) | 1;
+        let served = self.look(seat);
+        if served != ticket {
+            self.table
+                .shared
+                .park(rt, berth, (marked % (1 << 32)) as u32);
+            return self.look(seat);
+        }
+        served
+    }
+
+    // Wakes all who sleep on the ticket's berth, if it is marked.
+    fn wake(&self, seat: &mut Seat<Option<S>, View<E>>, ticket: u64)
+        requires lock { seat.old.table_id ≡ self.now }
+        ensures same { (seat.new.table_id ≡ seat.old.table_id) × (seat.new.id ≡ seat.old.id) × (seat.new.me ≡ seat.old.me) }
+    {
+        let berth = berth_of(ticket);
+        let marked = self.table.shared.peek(berth);
+        if marked % 2 == 0 {
+            return;
+        }
+        let unmarked = marked.wrapping_add(1);
+        let found = self
+            .table
+            .shared
+            .compare_exchange::<Marks>(seat, berth, marked, unmarked);
+        if found == marked {
+            self.table.shared.wake_all(berth);
+        }
+    }
+
+    // Looks again: soon, or if the ticket isn't one of the next few, and after many looks, when it was woken.
     fn look_again<R: Wait>(
         &self,
         rt: &R,
@@ -133,22 +192,15 @@ impl<S: Standing<E, B>, E, B> HistoryLock<S, E, B> {
         looks: u32,
     ) -> u64
         requires lock { seat.old.table_id ≡ self.now }
-        requires waits { (seat.old.me.0.has_ticket ≡ true) × (seat.old.me.0.in_turn ≡ false) × (seat.old.me.1 ≡ []) }
+        requires waits { (seat.old.me.0.has_ticket ≡ true) × (seat.old.me.0.in_turn ≡ false) × (seat.old.me.0.ticket ≡ ticket) × (seat.old.me.1 ≡ []) }
         ensures same { (seat.new.table_id ≡ seat.old.table_id) × (seat.new.id ≡ seat.old.id) }
         ensures looked { Looked S.stands seat.old.me result seat.new.me }
     {
-        if looks < LOOKS {
+        if looks < LOOKS && ticket.abs_diff(served) <= FEW {
             spin_loop();
             return self.look(seat);
         }
-        self.table
-            .shared
-            .park(rt, SERVING, (served % (1 << 32)) as u32);
-        let found = self.look(seat);
-        if found != served && found != ticket {
-            self.table.shared.wake_one(SERVING);
-        }
-        found
+        self.sleep(rt, seat, ticket)
     }
 
     // Waits until the ticket is served.
@@ -170,7 +222,7 @@ impl<S: Standing<E, B>, E, B> HistoryLock<S, E, B> {
         unreachable!()
     }
 
-    // Ends the turn with the entry, and wakes a sleeper if another pass has a ticket.
+    // Ends the turn with the entry, and wakes the pass with the next ticket.
     fn advance<X: Ending<E>>(&self, seat: &mut Seat<Option<S>, View<E>>, entry: &E)
         requires lock { seat.old.table_id ≡ self.now }
         requires turn { (seat.old.me.0.has_ticket ≡ true) × (seat.old.me.0.in_turn ≡ true) }
@@ -181,9 +233,7 @@ impl<S: Standing<E, B>, E, B> HistoryLock<S, E, B> {
         ensures only { OnlyInitial seat.new.me.0 }
     {
         let served = self.table.shared.fetch_add::<Advances<X>>(seat, SERVING, 1);
-        if self.table.shared.peek(TICKET) != served + 1 {
-            self.table.shared.wake_one(SERVING);
-        }
+        self.wake(seat, served + 1);
     }
 }
 
@@ -200,7 +250,12 @@ impl<S: Standing<E, B>, E, B> HistoryLock<S, E, B> {
     {
         let mut slots = Vec::new(alloc);
         slots.push(Some(state))?;
-        let Ok((table, seat)) = Table::new(alloc, &[0, 0], slots, &(passes as u64)) else {
+        let Ok((table, seat)) = Table::new(
+            alloc,
+            &[0; BERTHS + BERTH_COUNT],
+            slots,
+            &(passes as u64),
+        ) else {
             return Err(AllocError);
         };
         Ok((HistoryLock { table }, seat))
