@@ -46,22 +46,56 @@ pub(crate) fn token_reason<'t>(
 
 /// The form to which a token belongs that the language hasn't.
 fn form_reason<'t>(walk: &Walk<'_>, token: &Token<'_>, spelled: Spelled<'t>) -> Option<Reason<'t>> {
-    if let Some(operator) = absent_operator(spelled) {
-        return Some(Reason::NoForm(operator));
+    match absent_operator(spelled) {
+        Some(operator) => Some(Reason::NoForm(operator)),
+        None => Some(Reason::NoForm(absent_form(walk, token, spelled.last)?)),
     }
-    let form = match (walk.kind, token.kind) {
-        (Some(TokenKind::Let | TokenKind::Const), TokenKind::LeftBracket | TokenKind::LeftBrace) =>
-            { "patterns: each name is declared by itself" }
-        (Some(TokenKind::Function), TokenKind::Multiply) => "generators",
-        (Some(TokenKind::Name), TokenKind::Name | TokenKind::Function)
-            if spelled.last == "async" && !token.newline_before => { "'async'" }
-        (Some(TokenKind::Name), TokenKind::Colon) if is_label_place(walk) => "labels",
-        (last, TokenKind::Divide | TokenKind::DivideAssign) if awaits_operand(last) => {
-            "regular expressions"
+}
+
+/// The form that the language hasn't to which a token belongs behind one of this text.
+fn absent_form(walk: &Walk<'_>, token: &Token<'_>, last: &str) -> Option<&'static str> {
+    let kind = token.kind;
+    match walk.kind {
+        Some(TokenKind::Name) => form_behind_name(walk, token, last),
+        Some(TokenKind::Let) | Some(TokenKind::Const) if opens_pattern(kind) => {
+            Some("patterns: each name is declared by itself")
         }
-        _ => return None,
-    };
-    Some(Reason::NoForm(form))
+        Some(TokenKind::Function) if kind == TokenKind::Multiply => Some("generators"),
+        before if is_slash(kind) && awaits_operand(before) => Some("regular expressions"),
+        _ => None,
+    }
+}
+
+/// The form that the language hasn't to which a token belongs behind this name.
+fn form_behind_name(walk: &Walk<'_>, token: &Token<'_>, name: &str) -> Option<&'static str> {
+    let kind = token.kind;
+    if kind == TokenKind::Colon {
+        return if is_label_place(walk) {
+            Some("labels")
+        } else {
+            None
+        };
+    }
+    if !is_word(token.text) {
+        return None;
+    }
+    if name == "async" && !token.newline_before {
+        Some("'async'")
+    } else if walk.is_behind_key() && (name == "get" || name == "set") {
+        Some("accessors")
+    } else {
+        None
+    }
+}
+
+/// Whether a token of this kind opens a pattern where a name is to stand.
+fn opens_pattern(kind: TokenKind) -> bool {
+    matches!(kind, TokenKind::LeftBracket | TokenKind::LeftBrace)
+}
+
+/// Whether a token of this kind may begin a regular expression.
+fn is_slash(kind: TokenKind) -> bool {
+    matches!(kind, TokenKind::Divide | TokenKind::DivideAssign)
 }
 
 /// The operator that the language hasn't with which the source goes on, in quotes.
@@ -89,7 +123,9 @@ fn is_label_place(walk: &Walk<'_>) -> bool {
     walk.current.has_statements()
         && matches!(
             walk.before,
-            None | Some(TokenKind::Semicolon | TokenKind::LeftBrace | TokenKind::RightBrace)
+            None | Some(TokenKind::Semicolon)
+                | Some(TokenKind::LeftBrace)
+                | Some(TokenKind::RightBrace)
         )
 }
 
@@ -97,15 +133,20 @@ fn is_label_place(walk: &Walk<'_>) -> bool {
 fn awaits_operand(last: Option<TokenKind>) -> bool {
     match last {
         None => true,
-        Some(
-            TokenKind::RightParenthesis
+        Some(last) => !ends_expression(last) && !may_end_expression(last),
+    }
+}
+
+/// Whether a token of this kind may end an expression, or a property's name comes behind it.
+fn may_end_expression(kind: TokenKind) -> bool {
+    matches!(
+        kind,
+        TokenKind::RightParenthesis
             | TokenKind::RightBrace
             | TokenKind::Dot
             | TokenKind::Increment
-            | TokenKind::Decrement,
-        ) => false,
-        Some(last) => !ends_expression(last),
-    }
+            | TokenKind::Decrement
+    )
 }
 
 /// Why a word can't stand here.
@@ -150,7 +191,7 @@ fn is_looping(walk: &Walk<'_>, kind: TokenKind) -> bool {
 fn is_part_next(walk: &Walk<'_>) -> bool {
     match walk.kind {
         Some(TokenKind::RightParenthesis) => matches!(walk.closed, Head::Test | Head::For),
-        Some(TokenKind::Else | TokenKind::Do) => true,
+        Some(TokenKind::Else) | Some(TokenKind::Do) => true,
         _ => false,
     }
 }
@@ -181,7 +222,7 @@ fn misses_value(walk: &Walk<'_>, kind: TokenKind) -> bool {
     if walk.current.list != List::Const || walk.kind != Some(TokenKind::Name) {
         return false;
     }
-    if !matches!(walk.before, Some(TokenKind::Const | TokenKind::Comma)) {
+    if !matches!(walk.before, Some(TokenKind::Const) | Some(TokenKind::Comma)) {
         return false;
     }
     walk.current.has_statements() || matches!(kind, TokenKind::Semicolon | TokenKind::Comma)

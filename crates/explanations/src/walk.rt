@@ -231,7 +231,7 @@ impl<'s> Walk<'s> {
     }
 
     /// Whether the last token stands where a key of an object literal does.
-    fn is_behind_key(&self) -> bool {
+    pub(crate) fn is_behind_key(&self) -> bool {
         self.current.hold == Hold::Object
             && matches!(
                 self.before,

@@ -65,13 +65,17 @@ fn command_lines(alloc: Global, command: Command, words: &[String]) -> Result<St
 fn fault_in(command: Command, words: &[String]) -> Option<WordFault<'_>> {
     let mut read = Read::start();
     for (index, word) in words.iter().enumerate() {
-        let before = words.get(..index).unwrap_or(&[]);
-        match read_word(command, before, read, word.as_str()) {
+        match read_word(command, first_words(words, index), read, word.as_str()) {
             Ok(after) => read = after,
             Err(fault) => return Some(fault),
         }
     }
     end_fault(command, read)
+}
+
+/// The first of these words, so many of them.
+fn first_words(words: &[String], count: usize) -> &[String] {
+    words.get(..count).unwrap_or(words)
 }
 
 /// What is missing once all words are read, or is one too much.
