@@ -137,7 +137,8 @@ fn lines_of_line(
     number: u64,
     evidence: Evidence,
 ) -> Result<String, AllocError> {
-    let FileEvidence::Content(bytes) = evidence.file else {
+    let Evidence { file, earlier: _ } = evidence;
+    let FileEvidence::Content(bytes) = file else {
         return Ok(String::new(alloc));
     };
     match task {
