@@ -1,0 +1,4 @@
+mod PartLemmas
+mod HeadLemmas
+mod HearLemmas
+pub mod Computed

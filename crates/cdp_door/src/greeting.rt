@@ -1,0 +1,78 @@
+//! What a door does with a connection in bytes: it reads the head of a request, and nothing past it, and answers.
+
+ghost use Rattle.std.specs.Prelude.{◌≡◌, ◌≢◌};
+ghost use Rattle.cdp_edge.specs.Outside.{Rose};
+ghost use Rattle.cdp_door.specs.Greetings.{Greets, Writes, EndsWith};
+ghost use Rattle.cdp_door.specs.Texts.{text_of as text_of_answer};
+
+use crate::answer::Answer;
+use crate::hear::{Heard, hear};
+use crate::reader::Reader;
+use crate::text::{status_of, text_of};
+use cdp_edge::SinkFault;
+use std::alloc::Global;
+use std::sync::Wait;
+use wire_edge::{Wire, put_all};
+
+/// How a greeting ended.
+#[derive(Clone, Copy)]
+pub enum Greeted {
+    /// The upgrade was answered: what comes next are WebSocket frames.
+    Upgraded,
+    /// Another answer was written, of this status.
+    Answered { status: u16 },
+    /// The peer went away within the head, after so many bytes.
+    Closed { taken: usize },
+    /// The wire failed, and its count rose.
+    Fault,
+    /// No memory was left.
+    Memory,
+}
+
+/// Greets a peer: reads a head of at most 8,192 bytes from the wire, byte by byte and nothing after it, and writes its
+/// answer (RFC 9110, RFC 6455). It waits for the peer where no byte has arrived.
+///
+/// `/json/version`, `/json/list` and `/json` are pages, `/session` is where the WebSocket begins. `port` is the port
+/// that the list names, and `url` the url of the first script, which the list has as title and url.
+pub fn greet<R: Wait, W: Wire>(rt: &R, alloc: Global, wire: &mut W, port: u16, url: &str) -> Greeted
+    ensures greets { Greets result port url.now (record { answers = W.answers wire.old; content = W.content wire.old }) (record { answers = W.answers wire.new; content = W.content wire.new }) }
+    ensures quiet { result ≢ Greeted.Fault → W.faults wire.new ≡ W.faults wire.old }
+    ensures failed { result ≡ Greeted.Fault → Rose (W.faults wire.old) (W.faults wire.new) }
+{
+    let Ok(mut reader) = Reader::new(alloc) else {
+        return Greeted::Memory;
+    };
+    match hear(rt, alloc, wire, &mut reader) {
+        Heard::Answer(answer) => say(alloc, wire, &answer, port, url),
+        Heard::Closed { taken } => Greeted::Closed { taken },
+        Heard::Fault => Greeted::Fault,
+        Heard::Memory => Greeted::Memory,
+    }
+}
+
+/// Writes an answer.
+fn say<W: Wire>(alloc: Global, wire: &mut W, answer: &Answer, port: u16, url: &str) -> Greeted
+    ensures writes { Writes result answer.now (text_of_answer port url.now answer.now) (record { answers = W.answers wire.old; content = W.content wire.old }) (record { answers = W.answers wire.new; content = W.content wire.new }) }
+    ensures answers { W.answers wire.new ≡ W.answers wire.old }
+    ensures quiet { result ≢ Greeted.Fault → W.faults wire.new ≡ W.faults wire.old }
+    ensures failed { result ≡ Greeted.Fault → Rose (W.faults wire.old) (W.faults wire.new) }
+{
+    let Ok(text) = text_of(alloc, answer, port, url) else {
+        return Greeted::Memory;
+    };
+    match put_all(wire, &text) {
+        Ok(()) => end_with(answer),
+        Err(SinkFault::Failed) => Greeted::Fault,
+        Err(SinkFault::Memory) => Greeted::Memory,
+    }
+}
+
+/// How a greeting ends whose answer was written.
+fn end_with(answer: &Answer) -> Greeted
+    ensures { EndsWith result answer.now }
+{
+    match status_of(answer) {
+        101 => Greeted::Upgraded,
+        status => Greeted::Answered { status },
+    }
+}

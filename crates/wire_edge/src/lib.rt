@@ -1,0 +1,17 @@
+//! A wire is a connection in bytes: it is asked for one byte at a time, and takes bytes as a sink does.
+//!
+//! It counts its faults, and may tell its content. Its words in contracts:
+//!
+//! - *answers*: what a wire has answered so far but its failures, in order (`Arrived`), where that is told (an option: a
+//!   socket tells nothing); `adds` says how they grow
+//! - *content*: the bytes that it took, where they are told, as a sink's (`gains`)
+//! - *faults*: how often a call has failed; `Rose` says that the count rose, or stands at the greatest `u64`
+//!
+//! `MemWire` is a wire in memory, for tests.
+#![tactic(auto)]
+
+mod mem_wire;
+mod wire;
+
+pub use mem_wire::MemWire;
+pub use wire::{Taken, Wire, put_all};
