@@ -13,20 +13,20 @@ const MOST_SESSIONS: u64 = 16;
 
 /// What was read of words.
 #[derive(Clone, Copy)]
-pub(crate) struct Read<'w> {
-    /// The option whose value is the next word, with its name.
-    pub(crate) awaiting: Option<(&'w str, OptionName)>,
+pub(crate) struct Read {
+    /// The option whose value is the next word.
+    pub(crate) awaiting: Option<OptionName>,
     /// Whether `--` was there.
     ended: bool,
     /// How many operands there were.
     pub(crate) operands: usize,
-    /// The second operand.
-    pub(crate) second: Option<&'w str>,
+    /// How many words stand before the second operand.
+    pub(crate) second: Option<usize>,
 }
 
-impl<'w> Read<'w> {
+impl Read {
     /// Of no words.
-    pub(crate) fn start() -> Read<'w> {
+    pub(crate) fn start() -> Read {
         Read {
             awaiting: None,
             ended: false,
@@ -35,10 +35,10 @@ impl<'w> Read<'w> {
         }
     }
 
-    /// With an operand more.
-    fn with_operand(self, word: &'w str) -> Read<'w> {
+    /// With an operand more, after so many words.
+    fn with_operand(self, before: usize) -> Read {
         let second = if self.operands == 1 {
-            Some(word)
+            Some(before)
         } else {
             self.second
         };
@@ -51,7 +51,7 @@ impl<'w> Read<'w> {
     }
 
     /// With an option, which may await its value.
-    fn with_option(self, awaiting: Option<(&'w str, OptionName)>) -> Read<'w> {
+    fn with_option(self, awaiting: Option<OptionName>) -> Read {
         Read {
             awaiting,
             ended: self.ended,
@@ -61,13 +61,24 @@ impl<'w> Read<'w> {
     }
 
     /// With `--`.
-    fn with_end(self) -> Read<'w> {
+    fn with_end(self) -> Read {
         Read {
             awaiting: None,
             ended: true,
             operands: self.operands,
             second: self.second,
         }
+    }
+}
+
+/// The name of an option.
+pub(crate) fn name_of(option: OptionName) -> &'static str {
+    match option {
+        OptionName::Port => "port",
+        OptionName::Sessions => "sessions",
+        OptionName::Input => "input",
+        OptionName::Wait => "wait",
+        OptionName::Explain => "explain",
     }
 }
 
@@ -79,20 +90,20 @@ impl<'w> Read<'w> {
 pub(crate) fn read_word<'w>(
     command: Command,
     before: &[String],
-    read: Read<'w>,
+    read: Read,
     word: &'w str,
-) -> Result<Read<'w>, WordFault<'w>> {
+) -> Result<Read, WordFault<'w>> {
     if read.ended {
-        return Ok(read.with_operand(word));
+        return Ok(read.with_operand(before.len()));
     }
-    if let Some((name, option)) = read.awaiting {
-        return match value_fault(name, option, word) {
+    if let Some(option) = read.awaiting {
+        return match value_fault(name_of(option), option, word) {
             Some(fault) => Err(fault),
             None => Ok(read.with_option(None)),
         };
     }
     if !is_dashed(word) {
-        Ok(read.with_operand(word))
+        Ok(read.with_operand(before.len()))
     } else if word == "--" {
         Ok(read.with_end())
     } else {
@@ -109,9 +120,9 @@ fn is_dashed(word: &str) -> bool {
 fn read_option<'w>(
     command: Command,
     before: &[String],
-    read: Read<'w>,
+    read: Read,
     word: &'w str,
-) -> Result<Read<'w>, WordFault<'w>> {
+) -> Result<Read, WordFault<'w>> {
     let Some(text) = behind(word, "--") else {
         return Err(short_fault(command, word));
     };
@@ -126,7 +137,7 @@ fn read_option<'w>(
         return Err(WordFault::Twice(name));
     }
     match (value, has_value(option)) {
-        (None, true) => Ok(read.with_option(Some((name, option)))),
+        (None, true) => Ok(read.with_option(Some(option))),
         (None, false) => Ok(read.with_option(None)),
         (Some(_), false) => Err(WordFault::NoValue(name)),
         (Some(value), true) => match number_fault(name, option, value) {

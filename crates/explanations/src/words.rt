@@ -1,6 +1,6 @@
 //! Why words ask for nothing.
 
-use crate::options::{Read, read_word};
+use crate::options::{Read, name_of, read_word};
 use crate::word_fault::WordFault;
 use command_words::{Command, command_named, help_text};
 use std::alloc::{AllocError, Global};
@@ -63,14 +63,19 @@ fn command_lines(alloc: Global, command: Command, words: &[String]) -> Result<St
 
 /// The first fault of the words after a command's name.
 fn fault_in(command: Command, words: &[String]) -> Option<WordFault<'_>> {
+    match read_all(command, words) {
+        Ok(read) => end_fault(command, words, read),
+        Err(fault) => Some(fault),
+    }
+}
+
+/// What the words after a command's name were read as, or the first fault of them.
+fn read_all(command: Command, words: &[String]) -> Result<Read, WordFault<'_>> {
     let mut read = Read::start();
     for (index, word) in words.iter().enumerate() {
-        match read_word(command, first_words(words, index), read, word.as_str()) {
-            Ok(after) => read = after,
-            Err(fault) => return Some(fault),
-        }
+        read = read_word(command, first_words(words, index), read, word.as_str())?;
     }
-    end_fault(command, read)
+    Ok(read)
 }
 
 /// The first of these words, so many of them.
@@ -79,16 +84,16 @@ fn first_words(words: &[String], count: usize) -> &[String] {
 }
 
 /// What is missing once all words are read, or is one too much.
-fn end_fault(command: Command, read: Read<'_>) -> Option<WordFault<'_>> {
-    if let Some((name, _)) = read.awaiting {
-        return Some(WordFault::NeedsValue(name));
+fn end_fault(command: Command, words: &[String], read: Read) -> Option<WordFault<'_>> {
+    if let Some(option) = read.awaiting {
+        return Some(WordFault::NeedsValue(name_of(option)));
     }
     match (command, read.operands) {
         (Command::Run | Command::Serve, 0) => Some(WordFault::NoScript(command)),
         (Command::Replay, 0) => Some(WordFault::NoJournal),
         (Command::Replay, 1) => Some(WordFault::NoScriptAfterJournal),
         (Command::Send, 0) => Some(WordFault::NoCommands),
-        (Command::Send, _) => Some(WordFault::OneMore(read.second?)),
+        (Command::Send, _) => Some(WordFault::OneMore(words.get(read.second?)?.as_str())),
         _ => None,
     }
 }
