@@ -1,13 +1,12 @@
 -- What the definitions come to, computed: the accept value of RFC 6455's example, and answers to some heads.
-use Rattle.std.proofs.Common.{◌≡◌, ℕ, List, [], ◌∷◌, ◌++◌, codes, length, true, refl}
+use Rattle.std.proofs.Common.{◌≡◌, ℕ, List, [], ◌∷◌, codes, length, true, refl}
 use Rattle.sha1.specs.Sha1.{first_words, schedule, rounds, compress, hash_after, digest_bytes, sha1}
 use Rattle.base64.specs.Decode.{groups_error, scan_steps, groups_bytes}
 use Rattle.base64.specs.Rfc4648.{encode_symbols}
 use Rattle.cdp_door.specs.Answers.{answer_of}
 use Rattle.cdp_door.specs.Keys.{is_key, accept_of}
 use Rattle.cdp_door.specs.Requests.{Asked}
-use Rattle.cdp_door.specs.Texts.{body_of, text_of}
-use Rattle.cdp_door.specs.declared.answer.Answer.{Answer}
+use Rattle.cdp_door.specs.Texts.{body_of}
 use Rattle.cdp_door.specs.declared.answer.Answer.TheVariants.{Page, Upgrade, Refusal}
 use Rattle.cdp_door.specs.declared.answer.Page.TheVariants.{Version, Scripts}
 use Rattle.cdp_door.specs.declared.answer.Refusal.TheVariants.{BadRequest, MethodNotAllowed, NotFound, Forbidden, UpgradeRequired}

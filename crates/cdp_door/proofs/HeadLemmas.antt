@@ -1,8 +1,8 @@
 -- Heads, and bytes that hold none.
-use Rattle.std.proofs.Common.{◌≡◌, ◌≢◌, ℕ, ◌+◌, ◌*◌, ◌<◌, ◌≤◌, inl, inr, List, [], ◌∷◌, ◌++◌, length, drop, flat_map, All, Option, Some, None, Result, Ok, Err, refl, ap, sym, subst, ◌∙◌, append-nil, arith}
+use Rattle.std.proofs.Common.{◌≡◌, ◌≢◌, ℕ, ◌+◌, ◌*◌, ◌<◌, ◌≤◌, inl, inr, List, [], ◌∷◌, ◌++◌, length, drop, flat_map, All, Some, None, Result, Err, ap, subst, ◌∙◌, append-nil, arith}
 use Rattle.std.proofs.lemmas.List.{length-append}
 use Rattle.std.proofs.lemmas.List.Elements.{All-head, All-tail}
-use Rattle.httparse.specs.Grammar.{LineEnd, crlf, lf, print_end, print_blank, print_version, Field, print_field, IsField, print_section, RequestHead, print_request, ReadsRequest, HasNoRequest, NeverHasRequest, MayBecomeRequest}
+use Rattle.httparse.specs.Grammar.{LineEnd, crlf, lf, print_end, print_blank, print_version, Field, print_field, IsField, print_section, RequestHead, ReadsRequest, HasNoRequest, NeverHasRequest, MayBecomeRequest}
 use Rattle.httparse.proofs.GrammarLemmas.{print_request-append}
 use Rattle.httparse.specs.Spans.{IsRequestAt, IsRequestOf, RequestExceeds}
 use Rattle.httparse.specs.declared.Error.{Error}
@@ -10,8 +10,8 @@ use Rattle.httparse.specs.declared.Error.TheVariants as error
 use Rattle.httparse.specs.declared.Status.{Status}
 use Rattle.httparse.specs.declared.spans.HeaderSpan.{HeaderSpan}
 use Rattle.httparse.specs.declared.spans.RequestSpans.{RequestSpans}
-use Rattle.cdp_door.specs.Answers.{answer_of, answer_to}
-use Rattle.cdp_door.specs.Greetings.{IsUnfinished, IsNoHead, Owes, answer_without_head}
+use Rattle.cdp_door.specs.Answers.{answer_of}
+use Rattle.cdp_door.specs.Greetings.{Owes, answer_without_head}
 use Rattle.cdp_door.specs.Requests.{asked_by, asked_at}
 use Rattle.cdp_door.specs.declared.answer.Answer.{Answer}
 

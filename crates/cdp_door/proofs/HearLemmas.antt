@@ -1,11 +1,11 @@
 -- The bytes of a head as they come, and what a greeting comes to.
-use Rattle.std.proofs.Common.{◌≡◌, ◌≢◌, ℕ, ◌+◌, ◌≤◌, inl, inr, List, [], ◌∷◌, ◌++◌, length, drop, get_or, All, Option, Some, None, refl, ap, sym, subst, ◌∙◌, append-nil, append_assoc, arith}
+use Rattle.std.proofs.Common.{◌≡◌, ◌≢◌, ℕ, ◌+◌, ◌≤◌, inl, inr, List, [], ◌∷◌, ◌++◌, length, drop, get_or, Option, Some, None, refl, ap, sym, subst, ◌∙◌, append-nil, append_assoc, arith}
 use Rattle.std.proofs.lemmas.List.{length-append, nil_from_length}
 use Rattle.std.proofs.lemmas.List.Elements.{All-nil, All-push}
 use Rattle.httparse.specs.Grammar.{print_request}
 use Rattle.cdp_edge.specs.Outside.{gains, GainsLess}
 use Rattle.wire_edge.specs.Arrived.{Arrived, Byte, Quiet, End, adds}
-use Rattle.cdp_door.specs.Greetings.{Traffic, Gave, Took, Came, Comes, Ends, Hears, Looks, Owes, IsAnswerTo, IsUnfinished, IsReadInTime, Answers, Stops, Greets, Writes, WritesLess, bytes_of}
+use Rattle.cdp_door.specs.Greetings.{Traffic, Gave, Took, Came, Comes, Hears, Looks, Owes, IsAnswerTo, IsUnfinished, IsReadInTime, Stops, Greets, Writes, WritesLess, bytes_of}
 use Rattle.cdp_door.specs.Texts.{text_of}
 use Rattle.cdp_door.specs.declared.answer.Answer.{Answer}
 use Rattle.cdp_door.specs.declared.greeting.Greeted.{Greeted}

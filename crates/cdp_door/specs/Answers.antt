@@ -1,5 +1,5 @@
 -- The answer to a request: RFC 9110 for the statuses, RFC 6455 for the upgrade.
-use Rattle.std.specs.Prelude.{ℕ, List, [], ◌∷◌, Bool, true, false, ◌&&◌, ◌||◌, not, ◌==◌, if◌then◌else◌, length, take, drop, codes, bytes_eq, Option, Some, None}
+use Rattle.std.specs.Prelude.{ℕ, List, [], ◌∷◌, Bool, true, ◌&&◌, ◌||◌, not, ◌==◌, if◌then◌else◌, length, take, drop, codes, bytes_eq, Option, Some, None}
 use Rattle.httparse.specs.Grammar.{RequestHead}
 use Rattle.cdp_door.specs.declared.answer.Answer.{Answer}
 use Rattle.cdp_door.specs.declared.answer.Answer.TheVariants.{Page, Upgrade, Refusal}

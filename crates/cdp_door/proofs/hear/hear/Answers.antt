@@ -1,4 +1,4 @@
-use Rattle.std.proofs.Common.{◌≡◌, ℕ, List, Some, None, refl, ap, sym, subst, ◌∙◌}
+use Rattle.std.proofs.Common.{ℕ, List, Some, refl, ap, sym, subst, ◌∙◌}
 use Rattle.cdp_edge.specs.Outside.{Rose}
 use Rattle.cdp_door.specs.Greetings.{Came, Traffic}
 use Rattle.cdp_door.proofs.HearLemmas.{came-none, looks-on, looks-end, same-end, no-end}
