@@ -28,24 +28,24 @@ def frame(opcode, data=b"", fin=True, masked=True, reserved=0, length=None):
     return head + key + (int.from_bytes(data, "big") ^ pad).to_bytes(len(data), "big")
 
 
-def head(port, extra="", host=None):
+def head(port, extra="", host=None, path="/session"):
     """A request for an upgrade."""
     key = base64.b64encode(os.urandom(16)).decode()
     host = host or "127.0.0.1:%d" % port
-    lines = ["GET /session HTTP/1.1", "Host: " + host, "Upgrade: websocket", "Connection: Upgrade"]
+    lines = ["GET %s HTTP/1.1" % path, "Host: " + host, "Upgrade: websocket", "Connection: Upgrade"]
     lines += ["Sec-WebSocket-Key: " + key, "Sec-WebSocket-Version: 13"]
     return ("\r\n".join(lines) + "\r\n" + extra + "\r\n").encode()
 
 
 class Client:
-    """A bare client."""
+    """A bare client; `after` goes out with its request."""
 
-    def __init__(self, port, extra="", host=None):
+    def __init__(self, port, extra="", host=None, path="/session", after=b""):
         self.stream = socket.create_connection(("127.0.0.1", port))
         self.stream.setsockopt(socket.IPPROTO_TCP, socket.TCP_NODELAY, 1)
         self.stream.settimeout(10)
         self.number, self.code = 0, None
-        self.stream.sendall(head(port, extra, host))
+        self.stream.sendall(head(port, extra, host, path) + after)
         self.rest, self.taken = b"", 0
         while b"\r\n\r\n" not in self.rest:
             part = self.stream.recv(4096)

@@ -37,9 +37,11 @@ SOME, MANY = 20_000, 100_000
 # ---- what the cases of `sockets.py` are to come to
 
 ENABLED = r"""1: b'\{"method":"Runtime\.executionContextCreated.*', then 1: 20 bytes, close 1000, end"""
+VERSION = r'HTTP/1\.1 200 OK [^{]*\{"Browser":"debug_host","Protocol-Version":"1\.3"\}'
 SEEN = {
     "head": r"HTTP/1\.1 101 .*",
     "text": ENABLED,
+    "text with the head": ENABLED,
     "fragments round a ping": r"10: b'p', then 1: \d+ bytes, 1: 20 bytes, close 1000, end",
     "ping": r"10: b'abc', then close 1000, end",
     "1 MiB and a byte": "close 1009, end",
@@ -55,6 +57,11 @@ SEEN = {
     "a web page": r"HTTP/1\.1 403 .*",
     "a browser's debugger": r"HTTP/1\.1 101 .*",
     "half a head": r"b'' after [56]\.\d s",
+    "the version, byte by byte": VERSION,
+    "two requests at once": VERSION,
+    "the list": r'HTTP/1\.1 200 .*"webSocketDebuggerUrl":"ws://127\.0\.0\.1:\d+/session"\}\]',
+    "the list for another host": r"HTTP/1\.1 403 .*",
+    "a head of 8192 bytes and more": r"HTTP/1\.1 431 .*",
     "16 clients at once": "16 answers to 16 clients",
     "never reads": r"\d+ texts of 60 kB in [\d.]+ s, then (BrokenPipe|ConnectionReset)Error.*",
     "text after all that": ENABLED,

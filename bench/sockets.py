@@ -38,9 +38,22 @@ def after(port, *frames):
     return told
 
 
-def answered(port, *frames):
-    """The first frame that a peer hears that sends these, and goes by a close."""
-    client = Client(port)
+def replied(port, pieces):
+    """All that a peer gets that sends these pieces of bytes, until the end, in one line."""
+    with socket.create_connection(("127.0.0.1", port)) as stream:
+        stream.setsockopt(socket.IPPROTO_TCP, socket.TCP_NODELAY, 1)
+        stream.settimeout(10)
+        for piece in pieces:
+            stream.sendall(piece)
+        heard = b""
+        while part := stream.recv(4096):
+            heard += part
+    return heard.decode().replace("\r\n", " | ")
+
+
+def answered(port, *frames, after=b""):
+    """The first frame that a peer hears that sends these, and goes by a close; `after` goes out with its request."""
+    client = Client(port, after=after)
     for each in frames:
         client.stream.sendall(each)
     opcode, data = client.hear()
@@ -120,9 +133,12 @@ def cases(port):
     one = frame(TEXT, command(1))
     long_text = b"a" * (MOST + 1)
     parts = [frame(TEXT, command(1)[:9], fin=False), frame(PING, b"p"), frame(REST, command(1)[9:])]
+    version = b"GET /json/version HTTP/1.1\r\n\r\n"
+    listed = b"GET /json HTTP/1.1\r\nHost: %s\r\n\r\n"
     return [
         ("head", lambda: upgraded(port)),
         ("text", lambda: answered(port, one)),
+        ("text with the head", lambda: answered(port, after=one)),
         ("fragments round a ping", lambda: answered(port, *parts)),
         ("ping", lambda: answered(port, frame(PING, b"abc"))),
         ("1 MiB and a byte", lambda: after(port, frame(TEXT, long_text))),
@@ -138,6 +154,11 @@ def cases(port):
         ("a web page", lambda: upgraded(port, "Origin: http://evil.example\r\n")),
         ("a browser's debugger", lambda: upgraded(port, "Origin: devtools://devtools\r\n")),
         ("half a head", lambda: half_head(port)),
+        ("the version, byte by byte", lambda: replied(port, [bytes([byte]) for byte in version])),
+        ("two requests at once", lambda: replied(port, [version + version])),
+        ("the list", lambda: replied(port, [listed % b"localhost"])),
+        ("the list for another host", lambda: replied(port, [listed % b"evil.example"])),
+        ("a head of 8192 bytes and more", lambda: replied(port, [b"GET / HTTP/1.1\r\nA: " + b"a" * 9000])),
         ("16 clients at once", lambda: many(port)),
         ("never reads", lambda: unread(port)),
         ("text after all that", lambda: answered(port, one)),

@@ -3,8 +3,9 @@
 
 use cdp_edge::{FileShelf, WriterSink, put};
 use command_line::debug_main;
+use command_words::{Request, Sources, read_words};
 use socket_edge::{SocketHarbor, SystemClock};
-use std::alloc::AllocError;
+use std::alloc::{AllocError, Global};
 use std::io::ErrorKind;
 use std::process::ExitCode;
 use std::rt::Env;
@@ -17,8 +18,12 @@ fn main(rt: HostRuntime) -> ExitCode {
         let _ = put(&mut err, b"debug_host: out of memory\n");
         return ExitCode::from(1);
     };
+    let Ok(url) = first_script(alloc, &words) else {
+        let _ = put(&mut err, b"debug_host: out of memory\n");
+        return ExitCode::from(1);
+    };
     let mut shelf = FileShelf::new(alloc, rt);
-    let mut harbor = SocketHarbor::new(alloc, rt);
+    let mut harbor = SocketHarbor::new(alloc, rt, url);
     let mut clock = SystemClock::new(rt);
     ExitCode::from(debug_main(
         &rt,
@@ -38,5 +43,25 @@ fn arguments(rt: &(impl Env + AllocGlobal)) -> Result<Vec<String>, AllocError> {
         Ok(args) => args.skip(1).collect(rt.alloc()),
         Err(error) if error.kind() == ErrorKind::OutOfMemory => Err(AllocError),
         Err(_) => Ok(Vec::new(rt.alloc())),
+    }
+}
+
+/// The name of the first script that these words name, which is its url; an empty text where they name none.
+fn first_script(alloc: Global, words: &[String]) -> Result<String, AllocError> {
+    let request = read_words(alloc, words)?;
+    let name = match &request {
+        Some(Request::Run(sources)) => first_of(sources),
+        Some(Request::Replay(replay)) => first_of(&replay.sources),
+        Some(Request::Serve(serve)) => first_of(&serve.sources),
+        _ => "",
+    };
+    String::from_str(alloc, name)
+}
+
+/// The name of the first script of a program; an empty text where it has none.
+fn first_of<'w>(sources: &Sources<'w>) -> &'w str {
+    match sources.scripts.first() {
+        Some(name) => *name,
+        None => "",
     }
 }

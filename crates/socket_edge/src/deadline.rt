@@ -3,7 +3,7 @@
 use std::rt::Clock;
 use std::time::{Duration, Instant};
 
-/// How long a send or a handshake may take, in seconds.
+/// How long a peer may be silent, or take nothing, while a call waits for it, in seconds.
 const PATIENCE: u64 = 5;
 
 /// The moment at which a call began.
@@ -20,14 +20,11 @@ impl Deadline {
         }
     }
 
-    /// Whether it has passed. Where the clock can't be read it has.
-    pub fn is_over<R: Clock>(&self, rt: &R) -> bool {
-        match &self.start {
-            Some(start) => match start.elapsed(rt) {
-                Ok(elapsed) => elapsed >= Duration::from_secs(PATIENCE),
-                Err(_) => true,
-            },
-            None => true,
-        }
+    /// How long it is until then. None where it has passed, or the clock can't be read.
+    pub fn left<R: Clock>(&self, rt: &R) -> Option<Duration> {
+        let start = self.start.as_ref()?;
+        let elapsed = start.elapsed(rt).ok()?;
+        let left = Duration::from_secs(PATIENCE).checked_sub(elapsed)?;
+        if left.is_zero() { None } else { Some(left) }
     }
 }

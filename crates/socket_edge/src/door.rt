@@ -3,36 +3,33 @@
 ghost use Rattle.std.specs.Prelude.{◌≡◌, None, IfOk};
 ghost use Rattle.socket_edge.specs.Counts.{IsNewDoor};
 
-use crate::handshakes::greet;
-use crate::line::Line;
+use crate::entrance::Entrance;
 use crate::link::SocketLink;
 use crate::waits::Waits;
 use mio::net::TcpListener;
 use server_edge::{Door, DoorAnswer};
 use std::alloc::Global;
-use std::io::ErrorKind;
 use std::marker::Model;
 use std::random::RandomSource;
 use std::rt::Clock;
-use std::time::Duration;
+use std::sync::Wait;
 use std::{io, net};
-use tungstenite::Error;
 
-/// A door at which WebSockets arrive. A contract sees how often it was asked and how often it failed.
+/// A door at which HTTP is spoken (RFC 9112), and from which WebSockets arrive. A contract sees how often it was asked and
+/// how often it failed.
 ///
-/// A connection that can't be accepted, that breaks off, whose head isn't whole after five seconds, or that may not come
-/// in is no fault of the door: nobody has arrived. A link takes along what the door waits with, until it is taken back.
+/// Each connection has one request and one answer, that of `cdp_door`; a link is one that was upgraded. Where a connection
+/// can't be accepted, breaks off, is silent for five seconds within its request, or gets another answer, nobody has arrived:
+/// that is no fault of the door. A link takes along what the door waits with, until it is taken back.
 #[derive(Drop)]
-pub struct SocketDoor<R: RandomSource + Clock + Copy + Drop> {
-    rt: R,
-    alloc: Global,
-    listener: TcpListener,
+pub struct SocketDoor<R: RandomSource + Clock + Wait + Copy + Drop> {
+    entrance: Entrance<R>,
     waits: Option<Waits>,
     asked: u64,
     faults: u64,
 }
 
-impl<R: RandomSource + Clock + Copy + Drop> Model for SocketDoor<R> {
+impl<R: RandomSource + Clock + Wait + Copy + Drop> Model for SocketDoor<R> {
     ghost use Rattle.socket_edge.specs.Counts.{DoorCounts};
 
     ghost Value = { DoorCounts };
@@ -40,22 +37,29 @@ impl<R: RandomSource + Clock + Copy + Drop> Model for SocketDoor<R> {
     ghost view = { λ a. record { asked = a.asked; faults = a.faults } };
 }
 
-impl<R: RandomSource + Clock + Copy + Drop> SocketDoor<R> {
-    /// A door on a listener that doesn't block.
+impl<R: RandomSource + Clock + Wait + Copy + Drop> SocketDoor<R> {
+    /// One more door on a listener that doesn't block, at this port, of a program whose first script has this url.
     pub(crate) fn new(
         rt: R,
         alloc: Global,
-        listener: net::TcpListener,
+        listener: &net::TcpListener,
+        port: u16,
+        url: &str,
         waits: Waits,
     ) -> io::Result<SocketDoor<R>>
         ensures { IfOk result IsNewDoor }
     {
-        let mut listener = TcpListener::from_std(listener);
+        let mut listener = TcpListener::from_std(listener.try_clone()?);
         waits.watch(&mut listener)?;
+        let url = String::from_str(alloc, url)?;
         Ok(SocketDoor {
-            rt,
-            alloc,
-            listener,
+            entrance: Entrance {
+                rt,
+                alloc,
+                listener,
+                port,
+                url,
+            },
             waits: Some(waits),
             asked: 0,
             faults: 0,
@@ -70,53 +74,7 @@ impl<R: RandomSource + Clock + Copy + Drop> SocketDoor<R> {
     }
 }
 
-/// A connection that waits at a listener; None where there is none, or none that can be accepted now.
-fn accepted(listener: &TcpListener) -> io::Result<Option<net::TcpStream>> {
-    match listener.accept() {
-        Ok((stream, _)) => Ok(Some(net::TcpStream::from(stream))),
-        Err(error) if error.kind() == ErrorKind::InvalidInput => Err(error),
-        Err(_) => Ok(None),
-    }
-}
-
-/// The next connection; None where none comes within a second or before the bell is rung.
-fn arrived(listener: &TcpListener, waits: &mut Waits) -> io::Result<Option<net::TcpStream>> {
-    let first = accepted(listener)?;
-    if first.is_some() {
-        return Ok(first);
-    }
-    waits.wait_or_ring(Duration::from_secs(1))?;
-    accepted(listener)
-}
-
-/// What a door answers with these waits, and the waits where no link took them.
-fn greet_next<R: RandomSource + Clock + Copy + Drop>(
-    rt: R,
-    alloc: Global,
-    listener: &TcpListener,
-    mut waits: Waits,
-) -> (DoorAnswer<Line<R>>, Option<Waits>) {
-    let stream = match arrived(listener, &mut waits) {
-        Ok(Some(stream)) => stream,
-        Ok(None) => return (DoorAnswer::Quiet, Some(waits)),
-        Err(_) => return (DoorAnswer::Failed, Some(waits)),
-    };
-    match greet(rt, alloc, stream, &mut waits) {
-        Ok(socket) => {
-            let line = Line {
-                rt,
-                alloc,
-                socket,
-                waits,
-            };
-            (DoorAnswer::Arrived(line), None)
-        }
-        Err(Error::OutOfMemory) => (DoorAnswer::Memory, Some(waits)),
-        Err(_) => (DoorAnswer::Quiet, Some(waits)),
-    }
-}
-
-impl<R: RandomSource + Clock + Copy + Drop> Door for SocketDoor<R> {
+impl<R: RandomSource + Clock + Wait + Copy + Drop> Door for SocketDoor<R> {
     type Link = SocketLink<R>;
 
     ghost faults = { λ door. door.faults };
@@ -135,7 +93,7 @@ impl<R: RandomSource + Clock + Copy + Drop> Door for SocketDoor<R> {
             self.faults = self.faults.saturating_add(1);
             return DoorAnswer::Failed;
         };
-        let (answer, left) = greet_next(self.rt, self.alloc, &self.listener, waits);
+        let (answer, left) = self.entrance.admit(waits);
         self.waits = left;
         match answer {
             DoorAnswer::Arrived(line) => DoorAnswer::Arrived(SocketLink::new(line)),

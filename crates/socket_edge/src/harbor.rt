@@ -5,8 +5,8 @@ ghost use Rattle.server_edge.specs.Contents.{no_calls};
 ghost use Rattle.socket_edge.specs.Counts.{IsNewDoor, any_failed, after_shut};
 
 use crate::bell::{Sleepers, SocketBell};
+use crate::dialing::dial_line;
 use crate::door::SocketDoor;
-use crate::handshakes::dial_line;
 use crate::link::SocketLink;
 use crate::waits::Waits;
 use server_edge::{Harbor, HarborFault};
@@ -17,7 +17,7 @@ use std::marker::Model;
 use std::net::{Ipv4Addr, Net, SocketAddr, TcpListener, TcpStream};
 use std::random::RandomSource;
 use std::rt::Clock;
-use std::sync::Arc;
+use std::sync::{Arc, Wait};
 use tungstenite::Error;
 
 /// A harbor whose doors listen on 127.0.0.1, and that dials ports of it. A contract sees what it was asked for, and how
@@ -30,12 +30,14 @@ pub struct SocketHarbor<
     R: Net<Listener = TcpListener, Stream = TcpStream>
         + RandomSource
         + Clock
+        + Wait
         + Eprint
         + Copy
         + Drop,
 > {
     rt: R,
     alloc: Global,
+    url: String,
     sleepers: Option<Arc<Sleepers, Global>>,
     port: Option<u16>,
     opens: u64,
@@ -49,6 +51,7 @@ impl<
     R: Net<Listener = TcpListener, Stream = TcpStream>
         + RandomSource
         + Clock
+        + Wait
         + Eprint
         + Copy
         + Drop,
@@ -68,17 +71,19 @@ impl<
     R: Net<Listener = TcpListener, Stream = TcpStream>
         + RandomSource
         + Clock
+        + Wait
         + Eprint
         + Copy
         + Drop,
 > SocketHarbor<R> {
-    /// A harbor that was asked for nothing. It takes no memory.
-    pub fn new(alloc: Global, rt: R) -> SocketHarbor<R>
+    /// A harbor that was asked for nothing, of a program whose first script has this url. It takes no memory.
+    pub fn new(alloc: Global, rt: R, url: String) -> SocketHarbor<R>
         ensures { result ≡ record { opens = no_calls; dials = no_calls; faults = 0 } }
     {
         SocketHarbor {
             rt,
             alloc,
+            url,
             sleepers: None,
             port: None,
             opens: 0,
@@ -104,16 +109,16 @@ impl<
 
 /// Doors on one port, and who waits there.
 #[derive(Drop)]
-struct Opened<R: RandomSource + Clock + Copy + Drop> {
+struct Opened<R: RandomSource + Clock + Wait + Copy + Drop> {
     port: u16,
     doors: Vec<SocketDoor<R>>,
     sleepers: Arc<Sleepers, Global>,
 }
 
-/// This many doors on one port.
+/// This many doors on one port, of a program whose first script has this url.
 fn open_doors<
-    R: Net<Listener = TcpListener, Stream = TcpStream> + RandomSource + Clock + Copy + Drop,
->(rt: R, alloc: Global, port: u16, count: usize) -> io::Result<Opened<R>>
+    R: Net<Listener = TcpListener, Stream = TcpStream> + RandomSource + Clock + Wait + Copy + Drop,
+>(rt: R, alloc: Global, port: u16, url: &str, count: usize) -> io::Result<Opened<R>>
     ensures number { IfOk result (λ opened. length opened.doors.items ≡ count) }
     ensures new { IfOk result (λ opened. All IsNewDoor opened.doors.items) }
 {
@@ -125,7 +130,7 @@ fn open_doors<
     for _ in 0..count {
         let waits = Waits::new(&rt, alloc)?;
         wakers.push(waits.waker()?)?;
-        doors.push(SocketDoor::new(rt, alloc, listener.try_clone()?, waits)?)?;
+        doors.push(SocketDoor::new(rt, alloc, &listener, port, url, waits)?)?;
     }
     let sleepers = Arc::new(alloc, Sleepers::new(wakers))?;
     Ok(Opened {
@@ -136,7 +141,7 @@ fn open_doors<
 }
 
 /// Whether one of these doors has failed.
-fn any_failed<R: RandomSource + Clock + Copy + Drop>(doors: &[SocketDoor<R>]) -> bool
+fn any_failed<R: RandomSource + Clock + Wait + Copy + Drop>(doors: &[SocketDoor<R>]) -> bool
     ensures { result ≡ any_failed doors.now }
 {
     for door in doors {
@@ -168,6 +173,7 @@ impl<
     R: Net<Listener = TcpListener, Stream = TcpStream>
         + RandomSource
         + Clock
+        + Wait
         + Eprint
         + Copy
         + Drop,
@@ -195,7 +201,7 @@ impl<
     fn open(&mut self, port: u16, count: usize) -> Result<Vec<SocketDoor<R>>, HarborFault> {
         self.opens = self.opens.saturating_add(1);
         self.opened_with = Some((port, count));
-        match open_doors(self.rt, self.alloc, port, count) {
+        match open_doors(self.rt, self.alloc, port, self.url.as_str(), count) {
             Ok(opened) => {
                 let Opened {
                     port,

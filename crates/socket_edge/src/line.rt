@@ -6,12 +6,12 @@ ghost use Rattle.socket_edge.specs.Received.{IsWithinLimit};
 
 use crate::deadline::Deadline;
 use crate::received::{Received, close_frame, read_as};
-use crate::waits::Waits;
+use crate::streams::let_go;
+use crate::waits::{ROUNDS, Waits};
 use mio::net::TcpStream;
 use server_edge::{LinkFault, Recv};
 use std::alloc::Global;
-use std::io::{ErrorKind, Read};
-use std::net::Shutdown;
+use std::io::ErrorKind;
 use std::random::RandomSource;
 use std::rt::Clock;
 use std::time::Duration;
@@ -19,15 +19,6 @@ use tungstenite::{Error, Message, RandomKeys, WebSocket};
 
 /// How many pings and pongs one call passes over.
 const CONTROLS: u32 = 1000;
-
-/// How many waits one call makes at most, whatever the clock says.
-pub const ROUNDS: u32 = 100_000;
-
-/// How many reads a farewell makes at most.
-const FAREWELL_READS: u32 = 1024;
-
-/// How often a farewell waits at most.
-const FAREWELL_WAITS: u32 = 64;
 
 /// A socket and what its thread waits with.
 #[derive(Drop)]
@@ -101,7 +92,7 @@ impl<R: RandomSource + Clock + Copy + Drop> Line<R> {
                 Err(Error::Io(error)) if error.kind() == ErrorKind::WouldBlock => {}
                 Err(_) => break,
             }
-            if self.waits.wait(Duration::from_millis(100)).is_err() || deadline.is_over(&self.rt) {
+            if self.waits.wait_until(&self.rt, &deadline).is_err() {
                 break;
             }
             result = self.socket.flush();
@@ -124,8 +115,7 @@ impl<R: RandomSource + Clock + Copy + Drop> Line<R> {
         self.push(first)
     }
 
-    /// Ends the connection so that the peer reads what it was sent: the way out is shut, and what still comes is passed
-    /// over for a while. Else the system would reset the connection, and a close might be lost.
+    /// Ends the connection, and gives back what its thread waits with.
     pub fn let_go(self) -> Waits {
         let Line {
             rt: _,
@@ -133,31 +123,7 @@ impl<R: RandomSource + Clock + Copy + Drop> Line<R> {
             socket,
             mut waits,
         } = self;
-        let mut stream = socket.into_inner();
-        let _ = stream.shutdown(Shutdown::Write);
-        pass_over(&mut stream, &mut waits);
+        let_go(socket.into_inner(), &mut waits);
         waits
-    }
-}
-
-/// Reads to the end, or for a while.
-fn pass_over(stream: &mut TcpStream, waits: &mut Waits) {
-    let mut part = [0u8; 4096];
-    let mut patience = FAREWELL_WAITS;
-    for _ in 0..FAREWELL_READS {
-        match stream.read(&mut part) {
-            Ok(0) => return,
-            Ok(_) => {}
-            Err(error) if error.kind() == ErrorKind::WouldBlock => {
-                if patience == 0 {
-                    return;
-                }
-                patience -= 1;
-                if waits.wait(Duration::from_millis(10)).is_err() {
-                    return;
-                }
-            }
-            Err(_) => return,
-        }
     }
 }

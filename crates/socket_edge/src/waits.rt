@@ -1,11 +1,17 @@
 //! What one thread waits with, for its sockets or for a ring of the bell.
 
+use crate::deadline::Deadline;
 use mio::event::Source;
 use mio::{Events, Interest, Poll, Token, Waker};
 use std::alloc::Global;
 use std::io;
+use std::io::ErrorKind;
 use std::net::Net;
+use std::rt::Clock;
 use std::time::Duration;
+
+/// How many waits one call makes at most, whatever the clock says.
+pub const ROUNDS: u32 = 100_000;
 
 /// A socket that is watched.
 const SOCKET: Token = Token(0);
@@ -49,6 +55,18 @@ impl Waits {
             self.is_rung = true;
         }
         Ok(())
+    }
+
+    /// Waits for a socket until the deadline, as `wait` does.
+    ///
+    /// # Errors
+    ///
+    /// `TimedOut` where the deadline has passed, and those of the system.
+    pub fn wait_until<R: Clock>(&mut self, rt: &R, deadline: &Deadline) -> io::Result<()> {
+        match deadline.left(rt) {
+            Some(left) => self.wait(left),
+            None => Err(io::Error::from(ErrorKind::TimedOut)),
+        }
     }
 
     /// Waits for a socket or a ring, this long. A ring since the last such wait isn't lost.

@@ -1,16 +1,19 @@
-//! A dialled link and a door of one harbor, in two threads.
+//! A door of one harbor, and who comes to it, in two threads: a request of HTTP, and a dialled link.
 
 use server_edge::{Bell, Clock, Door, DoorAnswer, Harbor, Link, Recv};
 use socket_edge::{SocketDoor, SocketHarbor, SocketLink, SystemClock};
-use std::net::{Net, TcpListener, TcpStream};
+use std::alloc::Global;
+use std::io::{Read, Write};
+use std::net::{Ipv4Addr, Net, SocketAddr, TcpListener, TcpStream};
 use std::random::RandomSource;
+use std::sync::Wait;
 use std::thread::join;
 
 /// How often one end waits for the other, a second each time.
 const WAITS: u32 = 30;
 
 /// The next link that arrives.
-fn arrived<R: RandomSource + std::rt::Clock + Copy + Drop>(
+fn arrived<R: RandomSource + std::rt::Clock + Wait + Copy + Drop>(
     door: &mut SocketDoor<R>,
 ) -> Option<SocketLink<R>> {
     for _ in 0..WAITS {
@@ -68,11 +71,30 @@ fn talk<L: Link>(link: &mut L, text: &str) -> bool {
     }
 }
 
+/// Whether the version is told at a port, and the connection is then closed.
+fn is_told<R: Net<Listener = TcpListener, Stream = TcpStream>>(
+    rt: &R,
+    alloc: Global,
+    port: u16,
+) -> bool {
+    let place = SocketAddr::from((Ipv4Addr::LOCALHOST, port));
+    let Ok(mut stream) = TcpStream::connect(rt, place) else {
+        return false;
+    };
+    let request = b"GET /json/version HTTP/1.1\r\nHost: x\r\n\r\n";
+    let mut answer = Vec::new(alloc);
+    stream.write_all(request).is_ok()
+        && stream.read_to_end(&mut answer).is_ok()
+        && answer.starts_with(b"HTTP/1.1 200 OK\r\n")
+        && answer.ends_with(br#"{"Browser":"debug_host","Protocol-Version":"1.3"}"#)
+}
+
 /// Dials a port, and sends a text that comes back.
 fn call<
     R: Net<Listener = TcpListener, Stream = TcpStream>
         + RandomSource
         + std::rt::Clock
+        + Wait
         + Eprint
         + Copy
         + Drop,
@@ -86,7 +108,7 @@ fn call<
 }
 
 /// Serves one link.
-fn serve<R: RandomSource + std::rt::Clock + Copy + Drop>(door: &mut SocketDoor<R>) -> bool {
+fn serve<R: RandomSource + std::rt::Clock + Wait + Copy + Drop>(door: &mut SocketDoor<R>) -> bool {
     let Some(mut link) = arrived(door) else {
         return false;
     };
@@ -97,7 +119,7 @@ fn serve<R: RandomSource + std::rt::Clock + Copy + Drop>(door: &mut SocketDoor<R
 
 #[test]
 fn a_text_goes_both_ways(rt: HostRuntime) {
-    let mut harbor = SocketHarbor::new(rt.alloc(), rt);
+    let mut harbor = SocketHarbor::new(rt.alloc(), rt, String::new(rt.alloc()));
     let mut doors = harbor.open(0, 1).expect(&rt, "a port is free");
     let port = harbor.port().expect(&rt, "the doors are open");
     let mut door = doors.pop().expect(&rt, "one was asked for");
@@ -109,7 +131,7 @@ fn a_text_goes_both_ways(rt: HostRuntime) {
             bell.ring();
             served
         },
-        || call(&mut harbor, port),
+        || is_told(&rt, rt.alloc(), port) && call(&mut harbor, port),
     );
     bell.wait(&rt);
     assert!(rt; served);

@@ -1,0 +1,98 @@
+#!/usr/bin/env python3
+"""What libraries of WebSockets get from a program that is served: `websockets` of Python, and `ws` of node.
+
+    NODE_PATH=/usr/share/nodejs /usr/bin/python3 bench/clients/libraries.py [--bin PROGRAM] [--ready SECONDS]
+
+Each finds the program by `/json/list`, stops it in `add`, evaluates there, lets it go on, and says what it heard. The packages
+are those of Debian, `python3-websockets` and `node-ws`; one that isn't there is passed over. It takes two seconds.
+"""
+
+import asyncio
+import json
+import subprocess
+import urllib.request
+
+from served import served, words
+
+COMMANDS = [
+    ("Debugger.enable", {}),
+    ("Debugger.setBreakpointByUrl", {"url": "sum.js", "lineNumber": 2}),
+    ("Runtime.runIfWaitingForDebugger", {}),
+    "Debugger.paused",
+    ("Debugger.resume", {}),
+    "Debugger.paused",
+    ("Runtime.evaluate", {"expression": "add(20, 22)"}),
+    ("Debugger.disable", {}),
+]
+
+NODE = """
+const { WebSocket } = require("ws");
+const steps = JSON.parse(process.argv[2]);
+fetch(process.argv[1]).then((list) => list.json()).then(([target]) => {
+  const host = new WebSocket(target.webSocketDebuggerUrl);
+  let at = 0;
+  const go = () => {
+    while (at < steps.length && typeof steps[at] !== "string") {
+      const [method, params] = steps[at++];
+      host.send(JSON.stringify({ id: at, method, params }));
+    }
+  };
+  host.on("open", go);
+  host.on("message", (text) => {
+    console.log(String(text));
+    if (JSON.parse(text).method === steps[at]) { at++; go(); }
+  });
+  host.on("close", (code) => console.log("closed with " + code));
+});
+"""
+
+
+def target_of(port):
+    """Where the program's list says that its WebSocket is."""
+    with urllib.request.urlopen("http://127.0.0.1:%d/json/list" % port, timeout=10) as answer:
+        return json.load(answer)[0]["webSocketDebuggerUrl"]
+
+
+async def talk(websockets, target):
+    """Says the commands, waits for the events, and gives what was heard."""
+    heard = []
+    async with websockets.connect(target, max_size=None) as host:
+        at = 0
+        while True:
+            while at < len(COMMANDS) and not isinstance(COMMANDS[at], str):
+                method, params = COMMANDS[at]
+                at += 1
+                await host.send(json.dumps({"id": at, "method": method, "params": params}))
+            try:
+                text = await asyncio.wait_for(host.recv(), 20)
+            except websockets.ConnectionClosed as closed:
+                return heard + ["closed with %d" % closed.code]
+            heard.append(text)
+            at += at < len(COMMANDS) and json.loads(text).get("method") == COMMANDS[at]
+
+
+def shown(heard):
+    """What was heard, a line for each message, the long ones cut."""
+    return "\n".join("  " + (line if len(line) < 150 else line[:147] + "..") for line in heard)
+
+
+def by_python(port):
+    try:
+        import websockets
+    except ImportError:
+        return "  there is no package `websockets`"
+    return shown(asyncio.run(talk(websockets, target_of(port))))
+
+
+def by_node(port):
+    command = ["node", "-e", NODE, "http://127.0.0.1:%d/json/list" % port, json.dumps(COMMANDS)]
+    done = subprocess.run(command, stdout=subprocess.PIPE, stderr=subprocess.STDOUT, timeout=30)
+    return shown(done.stdout.decode().splitlines())
+
+
+asked = words()
+for name, client in [("websockets (Python)", by_python), ("ws (node)", by_node)]:
+    with served(asked) as host:
+        print("%s\n%s" % (name, client(host.port)))
+        status, output, _ = host.end()
+        print("  the program ended with %d, and printed %r" % (status, output.decode()))
