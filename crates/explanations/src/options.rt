@@ -13,20 +13,20 @@ const MOST_SESSIONS: u64 = 16;
 
 /// What was read of words.
 #[derive(Clone, Copy)]
-pub(crate) struct Read<'w> {
-    /// The option whose value is the next word, with its name.
-    pub(crate) awaiting: Option<(&'w str, OptionName)>,
+pub(crate) struct Read {
+    /// The option whose value is the next word.
+    pub(crate) awaiting: Option<OptionName>,
     /// Whether `--` was there.
     ended: bool,
     /// How many operands there were.
     pub(crate) operands: usize,
-    /// The second operand.
-    pub(crate) second: Option<&'w str>,
+    /// How many words stand before the second operand.
+    pub(crate) second: Option<usize>,
 }
 
-impl<'w> Read<'w> {
+impl Read {
     /// Of no words.
-    pub(crate) fn start() -> Read<'w> {
+    pub(crate) fn start() -> Read {
         Read {
             awaiting: None,
             ended: false,
@@ -35,10 +35,10 @@ impl<'w> Read<'w> {
         }
     }
 
-    /// With an operand more.
-    fn with_operand(self, word: &'w str) -> Read<'w> {
+    /// With an operand more, behind so many words.
+    fn with_operand(self, index: usize) -> Read {
         let second = if self.operands == 1 {
-            Some(word)
+            Some(index)
         } else {
             self.second
         };
@@ -51,7 +51,7 @@ impl<'w> Read<'w> {
     }
 
     /// With an option, which may await its value.
-    fn with_option(self, awaiting: Option<(&'w str, OptionName)>) -> Read<'w> {
+    fn with_option(self, awaiting: Option<OptionName>) -> Read {
         Read {
             awaiting,
             ended: self.ended,
@@ -61,7 +61,7 @@ impl<'w> Read<'w> {
     }
 
     /// With `--`.
-    fn with_end(self) -> Read<'w> {
+    fn with_end(self) -> Read {
         Read {
             awaiting: None,
             ended: true,
@@ -71,33 +71,42 @@ impl<'w> Read<'w> {
     }
 }
 
-/// Reads a word behind these.
+/// Reads the word behind so many of these.
 ///
 /// # Errors
 ///
 /// Why it can't stand there.
 pub(crate) fn read_word<'w>(
     command: Command,
-    before: &[String],
-    read: Read<'w>,
-    word: &'w str,
-) -> Result<Read<'w>, WordFault<'w>> {
+    words: &'w [String],
+    index: usize,
+    read: Read,
+) -> Result<Read, WordFault<'w>> {
+    let Some(word) = words.get(index) else {
+        return Ok(read);
+    };
+    let word = word.as_str();
     if read.ended {
-        return Ok(read.with_operand(word));
+        return Ok(read.with_operand(index));
     }
-    if let Some((name, option)) = read.awaiting {
-        return match value_fault(name, option, word) {
+    if let Some(option) = read.awaiting {
+        return match value_fault(option, word) {
             Some(fault) => Err(fault),
             None => Ok(read.with_option(None)),
         };
     }
     if !is_dashed(word) {
-        Ok(read.with_operand(word))
+        Ok(read.with_operand(index))
     } else if word == "--" {
         Ok(read.with_end())
     } else {
-        read_option(command, before, read, word)
+        read_option(command, first_words(words, index), read, word)
     }
+}
+
+/// The first of these words, so many of them.
+fn first_words(words: &[String], count: usize) -> &[String] {
+    words.get(..count).unwrap_or(words)
 }
 
 /// Whether a word begins with `-` and is more than that.
@@ -109,9 +118,9 @@ fn is_dashed(word: &str) -> bool {
 fn read_option<'w>(
     command: Command,
     before: &[String],
-    read: Read<'w>,
+    read: Read,
     word: &'w str,
-) -> Result<Read<'w>, WordFault<'w>> {
+) -> Result<Read, WordFault<'w>> {
     let Some(text) = behind(word, "--") else {
         return Err(short_fault(command, word));
     };
@@ -126,10 +135,10 @@ fn read_option<'w>(
         return Err(WordFault::Twice(name));
     }
     match (value, has_value(option)) {
-        (None, true) => Ok(read.with_option(Some((name, option)))),
+        (None, true) => Ok(read.with_option(Some(option))),
         (None, false) => Ok(read.with_option(None)),
         (Some(_), false) => Err(WordFault::NoValue(name)),
-        (Some(value), true) => match number_fault(name, option, value) {
+        (Some(value), true) => match number_fault(option, value) {
             Some(fault) => Err(fault),
             None => Ok(read.with_option(None)),
         },
@@ -180,27 +189,27 @@ fn is_given(words: &[String], name: &str) -> bool {
 }
 
 /// Why a word is no value of the option before it.
-fn value_fault<'w>(name: &'w str, option: OptionName, word: &'w str) -> Option<WordFault<'w>> {
+fn value_fault(option: OptionName, word: &str) -> Option<WordFault<'_>> {
     if is_dashed(word) {
-        Some(WordFault::DashedValue { name, word })
+        Some(WordFault::DashedValue(option, word))
     } else {
-        number_fault(name, option, word)
+        number_fault(option, word)
     }
 }
 
 /// Why a text is no value of an option, where that takes a number.
-fn number_fault<'w>(name: &'w str, option: OptionName, text: &'w str) -> Option<WordFault<'w>> {
+fn number_fault(option: OptionName, text: &str) -> Option<WordFault<'_>> {
     match option {
-        OptionName::Port => range_fault(name, MOST_PORT, text),
-        OptionName::Sessions => range_fault(name, MOST_SESSIONS, text),
+        OptionName::Port => range_fault(option, MOST_PORT, text),
+        OptionName::Sessions => range_fault(option, MOST_SESSIONS, text),
         OptionName::Input | OptionName::Wait | OptionName::Explain => None,
     }
 }
 
 /// Why a text is no number from 1 to the greatest of an option.
-fn range_fault<'w>(name: &'w str, most: u64, text: &'w str) -> Option<WordFault<'w>> {
+fn range_fault(option: OptionName, most: u64, text: &str) -> Option<WordFault<'_>> {
     match read_decimal(text) {
         Some(number) if 1 <= number && number <= most => None,
-        _ => Some(WordFault::OutOfRange { name, most, text }),
+        _ => Some(WordFault::OutOfRange { option, most, text }),
     }
 }

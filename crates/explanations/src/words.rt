@@ -64,31 +64,26 @@ fn command_lines(alloc: Global, command: Command, words: &[String]) -> Result<St
 /// The first fault of the words after a command's name.
 fn fault_in(command: Command, words: &[String]) -> Option<WordFault<'_>> {
     let mut read = Read::start();
-    for (index, word) in words.iter().enumerate() {
-        match read_word(command, first_words(words, index), read, word.as_str()) {
+    for index in 0..words.len() {
+        match read_word(command, words, index, read) {
             Ok(after) => read = after,
             Err(fault) => return Some(fault),
         }
     }
-    end_fault(command, read)
-}
-
-/// The first of these words, so many of them.
-fn first_words(words: &[String], count: usize) -> &[String] {
-    words.get(..count).unwrap_or(words)
+    end_fault(command, words, read)
 }
 
 /// What is missing once all words are read, or is one too much.
-fn end_fault(command: Command, read: Read<'_>) -> Option<WordFault<'_>> {
-    if let Some((name, _)) = read.awaiting {
-        return Some(WordFault::NeedsValue(name));
+fn end_fault(command: Command, words: &[String], read: Read) -> Option<WordFault<'_>> {
+    if let Some(option) = read.awaiting {
+        return Some(WordFault::NeedsValue(option));
     }
     match (command, read.operands) {
         (Command::Run | Command::Serve, 0) => Some(WordFault::NoScript(command)),
         (Command::Replay, 0) => Some(WordFault::NoJournal),
         (Command::Replay, 1) => Some(WordFault::NoScriptAfterJournal),
         (Command::Send, 0) => Some(WordFault::NoCommands),
-        (Command::Send, _) => Some(WordFault::OneMore(read.second?)),
+        (Command::Send, _) => Some(WordFault::OneMore(words.get(read.second?)?.as_str())),
         _ => None,
     }
 }
