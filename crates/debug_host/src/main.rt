@@ -50,7 +50,7 @@ fn arguments(rt: &(impl Env + AllocGlobal)) -> Result<Vec<String>, AllocError> {
 fn first_script(alloc: Global, words: &[String]) -> Result<String, AllocError> {
     let request = read_words(alloc, words)?;
     let name = match &request {
-        Some(Request::Run(sources)) => first_of(sources),
+        Some(Request::Run(run)) => first_of(&run.sources),
         Some(Request::Replay(replay)) => first_of(&replay.sources),
         Some(Request::Serve(serve)) => first_of(&serve.sources),
         _ => "",

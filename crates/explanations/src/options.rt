@@ -107,13 +107,8 @@ pub(crate) fn read_word<'w>(
     } else if word == "--" {
         Ok(read.with_end())
     } else {
-        read_option(command, first_words(words, index), read, word)
+        read_option(command, before, read, word)
     }
-}
-
-/// The first of these words, so many of them.
-fn first_words(words: &[String], count: usize) -> &[String] {
-    words.get(..count).unwrap_or(words)
 }
 
 /// Whether a word begins with `-` and is more than that.
@@ -145,7 +140,7 @@ fn read_option<'w>(
         (None, true) => Ok(read.with_option(Some(option))),
         (None, false) => Ok(read.with_option(None)),
         (Some(_), false) => Err(WordFault::NoValue(name)),
-        (Some(value), true) => match number_fault(option, value) {
+        (Some(value), true) => match number_fault(name, option, value) {
             Some(fault) => Err(fault),
             None => Ok(read.with_option(None)),
         },
@@ -196,27 +191,27 @@ fn is_given(words: &[String], name: &str) -> bool {
 }
 
 /// Why a word is no value of the option before it.
-fn value_fault(option: OptionName, word: &str) -> Option<WordFault<'_>> {
+fn value_fault<'w>(name: &'w str, option: OptionName, word: &'w str) -> Option<WordFault<'w>> {
     if is_dashed(word) {
-        Some(WordFault::DashedValue(option, word))
+        Some(WordFault::DashedValue { name, word })
     } else {
-        number_fault(option, word)
+        number_fault(name, option, word)
     }
 }
 
 /// Why a text is no value of an option, where that takes a number.
-fn number_fault(option: OptionName, text: &str) -> Option<WordFault<'_>> {
+fn number_fault<'w>(name: &'w str, option: OptionName, text: &'w str) -> Option<WordFault<'w>> {
     match option {
-        OptionName::Port => range_fault(option, MOST_PORT, text),
-        OptionName::Sessions => range_fault(option, MOST_SESSIONS, text),
+        OptionName::Port => range_fault(name, MOST_PORT, text),
+        OptionName::Sessions => range_fault(name, MOST_SESSIONS, text),
         OptionName::Input | OptionName::Wait | OptionName::Explain => None,
     }
 }
 
 /// Why a text is no number from 1 to the greatest of an option.
-fn range_fault(option: OptionName, most: u64, text: &str) -> Option<WordFault<'_>> {
+fn range_fault<'w>(name: &'w str, most: u64, text: &'w str) -> Option<WordFault<'w>> {
     match read_decimal(text) {
         Some(number) if 1 <= number && number <= most => None,
-        _ => Some(WordFault::OutOfRange { option, most, text }),
+        _ => Some(WordFault::OutOfRange { name, most, text }),
     }
 }

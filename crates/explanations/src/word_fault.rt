@@ -1,7 +1,7 @@
 //! Why a word is wrong, as a text.
 
 use crate::shown::{Cut, Quoted};
-use command_words::{Command, OptionName};
+use command_words::Command;
 use std::fmt;
 
 /// Why a word is wrong, or one is missing.
@@ -23,13 +23,16 @@ pub(crate) enum WordFault<'w> {
     NoValue(&'w str),
     /// The option of this name is given twice.
     Twice(&'w str),
-    /// The option's value is missing.
-    NeedsValue(OptionName),
-    /// The word after the option begins with `-`.
-    DashedValue(OptionName, &'w str),
+    /// The value of the option of this name is missing.
+    NeedsValue(&'w str),
+    /// The word after an option begins with `-`.
+    DashedValue {
+        name: &'w str,
+        word: &'w str,
+    },
     /// An option's value is no number from 1 to the greatest.
     OutOfRange {
-        option: OptionName,
+        name: &'w str,
         most: u64,
         text: &'w str,
     },
@@ -81,13 +84,9 @@ impl fmt::Display for WordFault<'_> {
             }
             WordFault::NoValue(name) => write!(f, "--{name} takes no value"),
             WordFault::Twice(name) => write!(f, "--{name} is given twice"),
-            WordFault::NeedsValue(option) => {
-                let name = option_text(option);
-                write!(f, "--{name} needs a value")
-            }
-            WordFault::DashedValue(option, word) => write_dashed(f, option_text(option), word),
-            WordFault::OutOfRange { option, most, text } => {
-                let name = option_text(option);
+            WordFault::NeedsValue(name) => write!(f, "--{name} needs a value"),
+            WordFault::DashedValue { name, word } => write_dashed(f, name, word),
+            WordFault::OutOfRange { name, most, text } => {
                 let text = Quoted(text);
                 write!(
                     f,
@@ -131,16 +130,5 @@ fn name_of(command: Command) -> &'static str {
         Command::Drill => "drill",
         Command::Serve => "serve",
         Command::Send => "send",
-    }
-}
-
-/// The name of an option.
-fn option_text(option: OptionName) -> &'static str {
-    match option {
-        OptionName::Port => "port",
-        OptionName::Sessions => "sessions",
-        OptionName::Input => "input",
-        OptionName::Wait => "wait",
-        OptionName::Explain => "explain",
     }
 }

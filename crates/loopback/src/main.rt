@@ -64,7 +64,7 @@ fn call<
     let mut shelf = FileShelf::new(alloc, rt);
     let mut output = MemSink::new(Vec::new(alloc));
     let mut errors = MemSink::new(Vec::new(alloc));
-    let mut harbor = SocketHarbor::new(alloc, rt);
+    let mut harbor = SocketHarbor::new(alloc, rt, String::new(alloc));
     let mut clock = FixedClock::new(0);
     let status = debug_main(
         &rt,
