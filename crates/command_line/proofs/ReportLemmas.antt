@@ -1,11 +1,11 @@
 -- What is said of an end.
-use Rattle.std.proofs.Common.{◌≡◌, ◌≢◌, ℕ, List, [], ◌++◌, Bool, true, false, Option, Some, refl, ap, sym, subst, ◌∙◌, append_assoc}
+use Rattle.std.proofs.Common.{◌≡◌, ◌≢◌, ℕ, List, [], ◌++◌, Bool, true, false, Option, Some, None, map, string_bytes, refl, ap, sym, subst, ◌∙◌, append_assoc}
 use Rattle.std.proofs.lemmas.List.{append-nil}
 use Rattle.std.specs.declared.string.String.{String}
 use Rattle.std.specs.declared.alloc.Global.{Global}
 use Rattle.cdp_edge.specs.Outside.{GainsPrefix, gains}
 use Rattle.cdp_edge.proofs.Gains.{gains-next}
-use Rattle.command_words.specs.Explains.{explains}
+use Rattle.command_words.specs.Explains.{explains, names_explain}
 use Rattle.command_words.specs.Requests.{asked, Replay, ReplayWords, Run, RunWords, Send, SendWords, Serve, ServeWords}
 use Rattle.command_line.specs.Status.{Says}
 
@@ -48,3 +48,9 @@ serve-says words request old new line is says = rw is says
 pub send-says : (words : List (String Global)) (request : SendWords) (old new : Option (List ℕ)) (line : List ℕ)
     → asked words ≡ Some (Send request) → Says request.explain old new line → Says (explains words) old new line
 send-says words request old new line is says = rw is says
+
+-- what is said where words ask for nothing is said as the words themselves have it
+pub none-says : (words : List (String Global)) (names : Bool) (old new : Option (List ℕ)) (line : List ℕ)
+    → asked words ≡ None → names ≡ names_explain (map string_bytes words) → Says names old new line
+    → Says (explains words) old new line
+none-says words names old new line is names_is says = rw is (subst (λ (b : Bool). Says b old new line) names_is says)

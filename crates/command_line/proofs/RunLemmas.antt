@@ -9,7 +9,7 @@ use Rattle.script_files.specs.Input.{HoldsInput, HoldsNoText}
 use Rattle.script_files.proofs.ScriptLemmas.{none_refused, some_same}
 use Rattle.command_line.specs.Files.{HoldsLines, HoldsSources, IsNamed, IsReachedIn, IsRefusedIn}
 use Rattle.command_line.specs.RunCauses.{RunsToEnd, RunsToThrow, RunsShort, RunsInPart, BecauseSources, BecauseRun}
-use Rattle.command_line.specs.Status.{ForRun, GivenRun, said, status_of, unread_said, Says}
+use Rattle.command_line.specs.Status.{ForRun, GivenRun, said, status_of, unread_said, Says, uncaught_said}
 use Rattle.command_words.specs.Requests.{Request, Run, RunWords, Sources}
 use Rattle.command_line.specs.declared.outcome.Outcome.{Outcome}
 use Rattle.command_line.specs.declared.outcome.Outcome.TheVariants as ends
@@ -151,6 +151,41 @@ left_given o request told end before after was now old new status is e h =
     given_run o request told (IsLeft status) is
     (subst (λ (n : ℕ). Told told (IsLeft n request.sources)) (sym e)
     (left_of end request.sources told before after was now old new h))
+
+-- how a throw that ended its program is told
+abbrev IsToldThrow : Option (List ℕ) → Option (List ℕ) → Bool → Option (List ℕ) → Option (List ℕ) → Sources
+    → List Named → Type 0
+IsToldThrow old new explains said_before said_after sources files =
+    (text : List ℕ) × RunsToThrow files sources text old new × Says explains said_before said_after (uncaught_said text)
+
+threw-told : (end : Outcome) (sources : Sources) (told : Option (List Named)) (before after : Faults) (was now : ℕ)
+    (old new : Option (List ℕ)) (explains : Bool) (said_before said_after : Option (List ℕ)) → status_of end ≡ 8
+    → BecauseRun end sources told before after was now old new → Says explains said_before said_after (said end)
+    → Told told (IsToldThrow old new explains said_before said_after sources)
+threw-told (ends.Threw text) sources told before after was now old new explains said_before said_after is h says =
+    told_map told (λ files. RunsToThrow files sources (string_bytes text) old new)
+    (IsToldThrow old new explains said_before said_after sources) (λ files thrown. (string_bytes text, thrown, says)) h.2
+threw-told ends.Done sources told before after was now old new explains said_before said_after is h says = absurd cc
+threw-told ends.OutOfMemory sources told before after was now old new explains said_before said_after is h says = absurd cc
+threw-told (ends.Refused name r) sources told before after was now old new explains said_before said_after is h says = absurd cc
+threw-told (ends.CannotRead name) sources told before after was now old new explains said_before said_after is h says = absurd cc
+threw-told ends.CannotWrite sources told before after was now old new explains said_before said_after is h says = absurd cc
+threw-told ends.ThrewUnshown sources told before after was now old new explains said_before said_after is h says = absurd h
+threw-told ends.Usage sources told before after was now old new explains said_before said_after is h says = absurd h
+threw-told (ends.LineRefused n) sources told before after was now old new explains said_before said_after is h says = absurd h
+threw-told ends.NetworkFault sources told before after was now old new explains said_before said_after is h says = absurd h
+threw-told ends.TicketsSpent sources told before after was now old new explains said_before said_after is h says = absurd h
+threw-told (ends.PeerClosed replies) sources told before after was now old new explains said_before said_after is h says = absurd h
+
+pub threw_given : (o : Option Request) (request : RunWords) (told : Option (List Named)) (end : Outcome)
+    (before after : Faults) (was now : ℕ) (old new : Option (List ℕ)) (explains : Bool)
+    (said_before said_after : Option (List ℕ)) (status : ℕ)
+    → o ≡ Some (Run request) → status ≡ status_of end → BecauseRun end request.sources told before after was now old new
+    → Says explains said_before said_after (said end) → status ≡ 8
+    → GivenRun o told (IsToldThrow old new explains said_before said_after)
+threw_given o request told end before after was now old new explains said_before said_after status is ends_so h says eight =
+    given_run o request told (IsToldThrow old new explains said_before said_after) is
+    (threw-told end request.sources told before after was now old new explains said_before said_after (sym ends_so ∙ eight) h says)
 
 -- how a file that can't be read is told
 abbrev IsToldRead : Faults → Faults → Option (List Named) → Bool → Option (List ℕ) → Option (List ℕ) → Sources → Type 0

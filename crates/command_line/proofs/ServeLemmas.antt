@@ -41,10 +41,11 @@ use Rattle.ws_service.specs.declared.ends.DoorsEnd.{DoorsEnd}
 use Rattle.ws_service.specs.declared.ends.DoorsEnd.TheVariants as doors
 use Rattle.ws_service.specs.declared.program.RunEnd.{RunEnd}
 use Rattle.ws_service.specs.declared.program.RunEnd.TheVariants as runs
-use Rattle.command_line.specs.Files.{HoldsSources, IsNamed, IsReachedIn}
+use Rattle.command_line.specs.Files.{HoldsSources, IsNamed, IsReachedIn, IsRefusedIn}
 use Rattle.command_line.specs.RunCauses.{BecauseSources, RunsInPart, RunsToThrow}
 use Rattle.command_line.specs.ServeCauses.{BecauseServe, BecauseServed, Harbored, HasFinished, IsEndOf, IsOpened, IsShutEnd, IsUnserved, MayServe, ServesPort, ShowsThrow, outcome_of_serving}
-use Rattle.command_line.specs.Status.{ForServe, GivenServe, said, status_of, uncaught_said, unread_said, Says}
+use Rattle.script_files.specs.declared.fault.Refusal.{Refusal}
+use Rattle.command_line.specs.Status.{ForServe, GivenServe, said, status_of, uncaught_said, unread_said, Says, refusal_said}
 use Rattle.command_words.specs.Requests.{Request, Serve, ServeWords}
 use Rattle.command_words.specs.Requests as words
 use Rattle.command_line.specs.declared.outcome.Outcome.{Outcome}
@@ -663,6 +664,14 @@ not-past-7 P (inr (inl is)) = absurd cc
 not-past-7 P (inr (inr (inl is))) = absurd cc
 not-past-7 P (inr (inr (inr is))) = absurd cc
 
+-- how a file that is refused is told
+abbrev IsToldRefusal : Bool → Opt (List ℕ) → Opt (List ℕ) → ServeWords → List Named → Type 0
+IsToldRefusal explains before after request files =
+    (name : List ℕ)
+    × (refusal : Refusal)
+    × IsRefusedIn files request.sources name refusal
+    × Says explains before after (refusal_said name refusal)
+
 -- how a file that can't be read is told
 abbrev IsToldRead : Faults → Faults → Opt (List Named) → Bool → Opt (List ℕ) → Opt (List ℕ) → ServeWords → Type 0
 IsToldRead faults now_faults told explains before after request =
@@ -692,6 +701,23 @@ module _ (request : ServeWords) (told : Opt (List Named)) (faults now_faults : F
   read-told (ends.LineRefused n) explains before after is h says = absurd h
   read-told (ends.PeerClosed replies) explains before after is h says = absurd h
 
+  refusal-told : (end : Outcome) (explains : Bool) (before after : Opt (List ℕ)) → status_of end ≡ 3 → Ended end
+      → Says explains before after (said end) → Told told (IsToldRefusal explains before after request)
+  refusal-told (ends.Refused name r) explains before after is h says =
+      told_map told (λ files. IsRefusedIn files request.sources name.now r) (IsToldRefusal explains before after request)
+      (λ files refused. (name.now, r, refused, says)) h.2
+  refusal-told ends.Done explains before after is h says = absurd cc
+  refusal-told (ends.Threw text) explains before after is h says = absurd cc
+  refusal-told ends.ThrewUnshown explains before after is h says = absurd cc
+  refusal-told ends.OutOfMemory explains before after is h says = absurd cc
+  refusal-told (ends.CannotRead name) explains before after is h says = absurd cc
+  refusal-told ends.CannotWrite explains before after is h says = absurd cc
+  refusal-told ends.NetworkFault explains before after is h says = absurd cc
+  refusal-told ends.TicketsSpent explains before after is h says = absurd cc
+  refusal-told ends.Usage explains before after is h says = absurd h
+  refusal-told (ends.LineRefused n) explains before after is h says = absurd h
+  refusal-told (ends.PeerClosed replies) explains before after is h says = absurd h
+
   opened-told : (end : Outcome) → IsPast (status_of end) → Ended end → IsOpened request.port request.sessions was now
   opened-told ends.Done past h = h.2
   opened-told (ends.Threw text) past h = h.2
@@ -714,6 +740,12 @@ module _ (request : ServeWords) (told : Opt (List Named)) (faults now_faults : F
         let it : IsToldRead faults now_faults told explains before after request =
         read-told end explains before after (sym ends_so ∙ four) h says in rw is it
 
+    pub refusal_given : (explains : Bool) (before after : Opt (List ℕ)) → Says explains before after (said end) → status ≡ 3
+        → GivenServe o told (IsToldRefusal explains before after)
+    refusal_given explains before after says three =
+        given_serve o request told (IsToldRefusal explains before after) is
+        (refusal-told end explains before after (sym ends_so ∙ three) h says)
+
     pub opened_given : IsPast status → ForServe o (λ r. now.opens ≡ called (r.port, r.sessions) was.opens)
     opened_given past =
         let it : now.opens ≡ called (request.port, request.sessions) was.opens =
@@ -735,3 +767,16 @@ unasked (Some (words.Send request)) told moment old kept status one = tt
 unasked (Some (words.Drill n)) told moment old kept status one = tt
 unasked (Some (words.Help topic)) told moment old kept status one = tt
 unasked (Some words.Version) told moment old kept status one = tt
+
+-- and nothing was written
+pub unwritten : (o : Opt Request) (told : Opt (List Named)) (content : Opt (List ℕ))
+    → GivenServe o told (λ r files. (content ≡ content) ⊎ RunsInPart files r.sources content content)
+unwritten (Some (Serve request)) told content =
+    told_always told (λ files. (content ≡ content) ⊎ RunsInPart files request.sources content content) (λ files. inl refl)
+unwritten None told content = tt
+unwritten (Some (words.Run request)) told content = tt
+unwritten (Some (words.Replay request)) told content = tt
+unwritten (Some (words.Send request)) told content = tt
+unwritten (Some (words.Drill n)) told content = tt
+unwritten (Some (words.Help topic)) told content = tt
+unwritten (Some words.Version) told content = tt

@@ -1,5 +1,6 @@
 use Rattle.std.proofs.Common.{sym}
 use Rattle.command_words.specs.Held.{replay_held, run_held, send_held, serve_held}
+use Rattle.command_line.specs.declared.outcome.Outcome.TheVariants as ends
 use Rattle.command_line.proofs.ReportLemmas as reports
 use Rattle.command_line.proofs.RunLemmas as runs
 use Rattle.command_line.proofs.ReplayLemmas as replays
@@ -151,3 +152,30 @@ returns-in-Err-clause-sends g c = clients.unasked _ _ _ _ c.end.result c.end.ens
 
 pub returns-in-Err-clause-text_part : goal.returns-in-Err-clause-text_part
 returns-in-Err-clause-text_part g c = clients.untold _ _
+
+pub returns-in-Ok-Some-Run-clause-run_threw : goal.returns-in-Ok-Some-Run-clause-run_threw
+returns-in-Ok-Some-Run-clause-run_threw g c =
+    runs.threw_given _ (run_held c.in-Ok-Some-Run.request) _ c.run-outcome.result _ _ _ _ _ _ _ _ _ c.end_explained-in-Ok-Some-Run.result
+    (sym (rw c.in-Ok-Some-Run.field-0-0-is at (rw c.in-Ok-Some-Run.field-0-is at c.in-Ok-Some-Run.ensures.value)))
+    c.end_explained-in-Ok-Some-Run.ensures.status c.run-outcome.ensures.cause (reports.run-says c.args.words.now (run_held c.in-Ok-Some-Run.request) _ _ _ (sym (rw c.in-Ok-Some-Run.field-0-0-is at (rw c.in-Ok-Some-Run.field-0-is at c.in-Ok-Some-Run.ensures.value))) c.end_explained-in-Ok-Some-Run.ensures.says)
+
+pub returns-in-Ok-Some-Serve-clause-serve_refused : goal.returns-in-Ok-Some-Serve-clause-serve_refused
+returns-in-Ok-Some-Serve-clause-serve_refused g c =
+    serves.refusal_given (serve_held c.in-Ok-Some-Serve.request) _ _ _ _ _ _ _ _ c.serve-outcome.result
+    c.end_explained-in-Ok-Some-Serve.result
+    (sym (rw c.in-Ok-Some-Serve.field-0-0-is at (rw c.in-Ok-Some-Serve.field-0-is at c.in-Ok-Some-Serve.ensures.value)))
+    c.end_explained-in-Ok-Some-Serve.ensures.status c.serve-outcome.ensures.cause _ _ _ (reports.serve-says c.args.words.now (serve_held c.in-Ok-Some-Serve.request) _ _ _ (sym (rw c.in-Ok-Some-Serve.field-0-0-is at (rw c.in-Ok-Some-Serve.field-0-is at c.in-Ok-Some-Serve.ensures.value))) c.end_explained-in-Ok-Some-Serve.ensures.says)
+
+pub returns-in-Err-clause-says : goal.returns-in-Err-clause-says
+returns-in-Err-clause-says g c = (ends.OutOfMemory, c.end.ensures.status, c.end.ensures.says _)
+
+pub returns-in-Err-clause-serve_part : goal.returns-in-Err-clause-serve_part
+returns-in-Err-clause-serve_part g c = serves.unwritten _ _ _
+
+pub returns-in-Ok-None-clause-says : goal.returns-in-Ok-None-clause-says
+returns-in-Ok-None-clause-says g c = (
+  ends.Usage,
+  c.end_explained.ensures.status,
+  reports.none-says c.args.words.now _ _ _ _ (sym (rw c.in-Ok-None.field-0-is at c.in-Ok-None.ensures.value))
+      c.names_explain-explains.ensures c.end_explained.ensures.says,
+)
