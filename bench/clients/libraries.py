@@ -8,6 +8,7 @@ are those of Debian, `python3-websockets` and `node-ws`; one that isn't there is
 """
 
 import asyncio
+import importlib.util
 import json
 import subprocess
 import urllib.request
@@ -76,11 +77,17 @@ def shown(heard):
     return "\n".join("  " + (line if len(line) < 150 else line[:147] + "..") for line in heard)
 
 
+def has_websockets():
+    return importlib.util.find_spec("websockets") is not None
+
+
+def has_ws():
+    return subprocess.run(["node", "-e", 'require("ws")'], stderr=subprocess.DEVNULL).returncode == 0
+
+
 def by_python(port):
-    try:
-        import websockets
-    except ImportError:
-        return "  there is no package `websockets`"
+    import websockets
+
     return shown(asyncio.run(talk(websockets, target_of(port))))
 
 
@@ -91,7 +98,10 @@ def by_node(port):
 
 
 asked = words()
-for name, client in [("websockets (Python)", by_python), ("ws (node)", by_node)]:
+for name, is_there, client in [("websockets (Python)", has_websockets, by_python), ("ws (node)", has_ws, by_node)]:
+    if not is_there():
+        print("%s\n  the package isn't there" % name)
+        continue
     with served(asked) as host:
         print("%s\n%s" % (name, client(host.port)))
         status, output, _ = host.end()
