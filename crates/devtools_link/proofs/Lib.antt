@@ -1,0 +1,5 @@
+mod FateLemmas
+mod LawLemmas
+mod LinkLemmas
+mod ListLemmas
+mod MemberLemmas

@@ -1,0 +1,4 @@
+pub mod Fates
+pub mod Laws
+pub mod Links
+pub mod Texts
