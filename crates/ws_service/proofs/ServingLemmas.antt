@@ -527,3 +527,8 @@ as-many tended n back served same numbers =
     ∙ sym (length-map served (λ (s : ServedDoor). s.number))
     ∙ ap length numbers
     ∙ length-below n
+
+-- doors below others are as many as those, where each has the faults of its own
+pub as-many-below : {X Y : Type 0} (f : X → ℕ) (g : Y → ℕ) (below : List X) (above : List Y)
+    → map f below ≡ map g above → length below ≡ length above
+as-many-below f g below above same = sym (length-map below f) ∙ ap length same ∙ length-map above g

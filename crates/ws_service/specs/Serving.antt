@@ -2,10 +2,13 @@
 use Rattle.std.specs.Prelude.{◌≡◌, ◌⊎◌, ◌<◌, ◌||◌, ℕ, zero, suc, List, [], ◌∷◌, ◌++◌, map, All, Bool, true, false, Option, Some, None}
 use Rattle.isolation.specs.Histories.{Entry, Attach, Tell, Take, Detach, Ran, Shut}
 use Rattle.isolation.specs.Makers.{by, entries_of}
-use Rattle.server_edge.specs.Contents.{Tended}
+use Rattle.server_edge.specs.Contents.{Tended, adds}
+use Rattle.devtools_link.specs.Links.{seen}
 use Rattle.host_turns.specs.Debuggings.{Debugging, IsHistory}
 use Rattle.ws_service.specs.Joins.{IsServedDoor}
 use Rattle.ws_service.specs.Programs.{AreLeft, Counts, FindsDue, GainsLines, HasReason, Output, PrintsOn, may_cut}
+use Rattle.ws_service.specs.declared.clients.Clients.{Clients}
+use Rattle.ws_service.specs.declared.clients.Clients.TheVariants.{Plain, Devtools}
 use Rattle.ws_service.specs.declared.door.DoorEnd.{DoorEnd}
 use Rattle.ws_service.specs.declared.door.DoorEnd.TheVariants as one
 use Rattle.ws_service.specs.declared.ends.DoorsEnd.{DoorsEnd}
@@ -110,3 +113,14 @@ pub record IsServing (d : Debugging) (n : ℕ) (moment : Option ℕ) (old new : 
   pub others : (x : ℕ) → n < x → by x h ≡ []
   pub ended : IsEndOfDoors ends.doors (map (λ (door : ServedDoor). door.end) doors)
   pub shut : has_shut (entries_of h) ≡ true → MayHaveShut ends
+
+-- ---- doors of a harbor
+
+-- what a door through which these clients are let in tells, by what the harbor's own door tells
+abbrev pub seen_by : Clients → Tended → Tended
+seen_by Plain door = door
+seen_by Devtools door = seen door
+
+-- a harbor took back doors more, which tell this through doors over them
+abbrev pub AreKept : (Tended → Tended) → Option (List Tended) → Option (List Tended) → List Tended → Type 0
+AreKept seen old new doors = (kept : List Tended) × (new ≡ adds old kept) × (map seen kept ≡ doors)

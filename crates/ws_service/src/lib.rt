@@ -12,6 +12,7 @@
 #![tactic(auto)]
 
 mod beside;
+mod clients;
 mod desk;
 mod door;
 mod ends;
@@ -23,6 +24,7 @@ mod serving;
 mod session;
 mod shutdown;
 
+pub use clients::Clients;
 pub use door::{DoorEnd, serve_door};
 pub use ends::{DoorsEnd, Ends};
 pub use port::serve_port;

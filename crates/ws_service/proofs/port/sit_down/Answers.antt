@@ -24,10 +24,10 @@ loop-pass-preserved-in-Some-pop g c =
     let one-less = ap length c.in-Some-pop.ensures.items ∙ length-append left (door ∷ []) in
     let new = All-pop
     (λ o. IsNew (record {
-      faults = g.O.Door.faults o;
-      asked = g.O.Door.asked o;
-      served = g.O.Door.served o;
-      is_out = g.O.Door.is_out o;
+      faults = g.I.Door.faults o;
+      asked = g.I.Door.asked o;
+      served = g.I.Door.served o;
+      is_out = g.I.Door.is_out o;
     }))
     c.loop-pass.doors.items left (Some door) c.in-Some-pop.ensures.items i.2 in (
       ap (map (λ desk. desk.pass)) c.push_reserved.ensures.items
@@ -52,7 +52,7 @@ loop-pass-preserved-in-Some-pop g c =
             served = g.O.Door.served desk.door;
             is_out = g.O.Door.is_out desk.door;
           }))
-          desks _ i.4 (record { pass = unstarted; is_new = new.1 })),
+          desks _ i.4 (record { pass = unstarted; is_new = c.over.ensures })),
       omega (arith, i.5, c.push_reserved.ensures.len, length_push c.loop-pass.yielded pass),
       c.push_reserved.ensures.capacity ∙ i.6,
     )

@@ -8,10 +8,10 @@ invariant-loop-pass g l =
     (map (λ desk. desk.pass) l.desks.items ≡ l.yielded)
     × (length l.doors.items + length l.yielded ≡ length l.fn.doors.items)
     × All (λ door. IsNew (record {
-      faults = g.O.Door.faults door;
-      asked = g.O.Door.asked door;
-      served = g.O.Door.served door;
-      is_out = g.O.Door.is_out door;
+      faults = g.I.Door.faults door;
+      asked = g.I.Door.asked door;
+      served = g.I.Door.served door;
+      is_out = g.I.Door.is_out door;
     })) l.doors.items
     × All (λ desk. desk.lock.now ≡ l.fn.lock) l.desks.items
     × All (λ desk. IsAtFirst l.fn.lock desk.pass (record {
