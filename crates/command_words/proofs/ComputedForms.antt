@@ -21,9 +21,16 @@ abbrev replay : Bool → Bool → String → Sources → ReplayWords
 replay explain wait journal sources =
     record { explain = explain; wait = wait; journal = codes journal; sources = sources }
 
-abbrev serve : Bool → ℕ → ℕ → Bool → Sources → ServeWords
-serve explain port sessions wait sources =
-    record { explain = explain; port = port; sessions = sessions; wait = wait; sources = sources }
+abbrev serve : Bool → ℕ → ℕ → Bool → Bool → Sources → ServeWords
+serve explain port sessions wait devtools sources =
+    record {
+      explain = explain;
+      port = port;
+      sessions = sessions;
+      wait = wait;
+      devtools = devtools;
+      sources = sources;
+    }
 
 abbrev send : Bool → ℕ → String → SendWords
 send explain port commands = record { explain = explain; port = port; commands = codes commands }
@@ -431,17 +438,17 @@ form_96 : asked ("serve" ∷ []) ≡ None
 unfolding decimal_value
 form_96 = refl
 
-form_97 : asked ("serve" ∷ "a.js" ∷ []) ≡ Some (Serve (serve false 9229 4 false (program None ("a.js" ∷ []))))
+form_97 : asked ("serve" ∷ "a.js" ∷ []) ≡ Some (Serve (serve false 9229 4 false false (program None ("a.js" ∷ []))))
 unfolding decimal_value
 form_97 = refl
 
 form_98 : asked ("serve" ∷ "--port" ∷ "1" ∷ "a.js" ∷ [])
-    ≡ Some (Serve (serve false 1 4 false (program None ("a.js" ∷ []))))
+    ≡ Some (Serve (serve false 1 4 false false (program None ("a.js" ∷ []))))
 unfolding decimal_value
 form_98 = refl
 
 form_99 : asked ("serve" ∷ "--port" ∷ "65535" ∷ "a.js" ∷ [])
-    ≡ Some (Serve (serve false 65535 4 false (program None ("a.js" ∷ []))))
+    ≡ Some (Serve (serve false 65535 4 false false (program None ("a.js" ∷ []))))
 unfolding decimal_value
 form_99 = refl
 
@@ -482,12 +489,12 @@ unfolding decimal_value
 form_108 = refl
 
 form_109 : asked ("serve" ∷ "--sessions" ∷ "16" ∷ "a.js" ∷ [])
-    ≡ Some (Serve (serve false 9229 16 false (program None ("a.js" ∷ []))))
+    ≡ Some (Serve (serve false 9229 16 false false (program None ("a.js" ∷ []))))
 unfolding decimal_value
 form_109 = refl
 
 form_110 : asked ("serve" ∷ "--sessions=1" ∷ "a.js" ∷ [])
-    ≡ Some (Serve (serve false 9229 1 false (program None ("a.js" ∷ []))))
+    ≡ Some (Serve (serve false 9229 1 false false (program None ("a.js" ∷ []))))
 unfolding decimal_value
 form_110 = refl
 
@@ -500,7 +507,7 @@ unfolding decimal_value
 form_112 = refl
 
 form_113 : asked ("serve" ∷ "a.js" ∷ "--wait" ∷ "--sessions" ∷ "2" ∷ "b.js" ∷ "--port=80" ∷ "--input=f" ∷ [])
-    ≡ Some (Serve (serve false 80 2 true (program (Some "f") ("a.js" ∷ "b.js" ∷ []))))
+    ≡ Some (Serve (serve false 80 2 true false (program (Some "f") ("a.js" ∷ "b.js" ∷ []))))
 unfolding decimal_value
 form_113 = refl
 
@@ -517,7 +524,7 @@ unfolding decimal_value
 form_116 = refl
 
 form_117 : asked ("serve" ∷ "--wait" ∷ "--port" ∷ "5" ∷ "--" ∷ "--port" ∷ [])
-    ≡ Some (Serve (serve false 5 4 true (program None ("--port" ∷ []))))
+    ≡ Some (Serve (serve false 5 4 true false (program None ("--port" ∷ []))))
 unfolding decimal_value
 form_117 = refl
 
@@ -579,7 +586,7 @@ unfolding decimal_value
 form_130 = refl
 
 form_131 : asked ("serve" ∷ "a.js" ∷ "--explain" ∷ "--wait" ∷ [])
-    ≡ Some (Serve (serve true 9229 4 true (program None ("a.js" ∷ []))))
+    ≡ Some (Serve (serve true 9229 4 true false (program None ("a.js" ∷ []))))
 unfolding decimal_value
 form_131 = refl
 
@@ -606,3 +613,31 @@ form_136 = refl
 form_137 : asked ("run" ∷ "--" ∷ "--explain" ∷ []) ≡ Some (Run (run false (program None ("--explain" ∷ []))))
 unfolding decimal_value
 form_137 = refl
+
+-- ---- `--devtools`
+
+form_138 : asked ("serve" ∷ "--devtools" ∷ "a.js" ∷ [])
+    ≡ Some (Serve (serve false 9229 4 false true (program None ("a.js" ∷ []))))
+unfolding decimal_value
+form_138 = refl
+
+form_139 : asked ("serve" ∷ "a.js" ∷ "--wait" ∷ "--devtools" ∷ [])
+    ≡ Some (Serve (serve false 9229 4 true true (program None ("a.js" ∷ []))))
+unfolding decimal_value
+form_139 = refl
+
+form_140 : asked ("serve" ∷ "--devtools" ∷ "--devtools" ∷ "a.js" ∷ []) ≡ None
+unfolding decimal_value
+form_140 = refl
+
+form_141 : asked ("serve" ∷ "--devtools=1" ∷ "a.js" ∷ []) ≡ None
+unfolding decimal_value
+form_141 = refl
+
+form_142 : asked ("replay" ∷ "--devtools" ∷ "j" ∷ "a.js" ∷ []) ≡ None
+unfolding decimal_value
+form_142 = refl
+
+form_143 : asked ("run" ∷ "--devtools" ∷ "a.js" ∷ []) ≡ None
+unfolding decimal_value
+form_143 = refl

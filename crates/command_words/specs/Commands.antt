@@ -3,7 +3,7 @@ use Rattle.std.specs.Prelude.{ℕ, List, Bool, true, false, bytes_eq, codes, Opt
 use Rattle.command_words.specs.declared.command.Command.{Command}
 use Rattle.command_words.specs.declared.command.Command.TheVariants.{Run, Replay, Drill, Serve, Send}
 use Rattle.command_words.specs.declared.command.OptionName.{OptionName}
-use Rattle.command_words.specs.declared.command.OptionName.TheVariants.{Port, Sessions, Input, Wait, Explain}
+use Rattle.command_words.specs.declared.command.OptionName.TheVariants.{Port, Sessions, Input, Wait, Devtools, Explain}
 
 -- the command of this name
 abbrev pub command_named : List ℕ → Option Command
@@ -21,6 +21,7 @@ option_named name =
     else if bytes_eq name (codes "sessions") then Some Sessions
     else if bytes_eq name (codes "input") then Some Input
     else if bytes_eq name (codes "wait") then Some Wait
+    else if bytes_eq name (codes "devtools") then Some Devtools
     else if bytes_eq name (codes "explain") then Some Explain else None
 
 -- whether a command has an option
@@ -38,6 +39,7 @@ has_option command option = false
 -- whether an option has a value
 abbrev pub has_value : OptionName → Bool
 has_value Wait = false
+has_value Devtools = false
 has_value Explain = false
 has_value option = true
 
@@ -47,5 +49,6 @@ same_option Port Port = true
 same_option Sessions Sessions = true
 same_option Input Input = true
 same_option Wait Wait = true
+same_option Devtools Devtools = true
 same_option Explain Explain = true
 same_option option other = false

@@ -87,6 +87,7 @@ serve_held words =
       port = words.port;
       sessions = count_held words.sessions;
       wait = words.wait;
+      devtools = words.devtools;
       sources = sources_held words.sources;
     }
 

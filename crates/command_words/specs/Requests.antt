@@ -6,7 +6,7 @@ use Rattle.std.specs.declared.alloc.Global.{Global}
 use Rattle.cdp_text.specs.Decimal.{decimal_value}
 use Rattle.command_words.specs.declared.command.Command.{Command}
 use Rattle.command_words.specs.declared.command.Command.TheVariants as command
-use Rattle.command_words.specs.declared.command.OptionName.TheVariants.{Port, Sessions, Input, Wait, Explain}
+use Rattle.command_words.specs.declared.command.OptionName.TheVariants.{Port, Sessions, Input, Wait, Devtools, Explain}
 use Rattle.command_words.specs.declared.request.TheConstants.{DEFAULT_PORT, MOST_PORT, DEFAULT_SESSIONS, MOST_DRILLED}
 use Rattle.command_words.specs.declared.session_count.TheConstants.{MOST_SESSIONS}
 use Rattle.command_words.specs.Commands.{command_named}
@@ -30,12 +30,14 @@ pub record ReplayWords : Type 0 where
   pub journal : List ℕ
   pub sources : Sources
 
--- a server's port and the greatest number of its clients at once, with its program
+-- a server's port and the greatest number of its clients at once, which may be DevTools too where that is asked for, with
+-- its program
 pub record ServeWords : Type 0 where
   pub explain : Bool
   pub port : ℕ
   pub sessions : ℕ
   pub wait : Bool
+  pub devtools : Bool
   pub sources : Sources
 
 -- a file of commands by its name, and the port of a serving host
@@ -124,6 +126,7 @@ serve_over parts port sessions sources =
       port = port;
       sessions = sessions;
       wait = is_given Wait parts;
+      devtools = is_given Devtools parts;
       sources = sources;
     }
 
@@ -135,7 +138,7 @@ serve_to parts scripts port sessions = option_map (serve_over parts port session
 abbrev pub serve_at : List Part → List (List ℕ) → ℕ → Option Request
 serve_at parts scripts port = option_and_then (serve_to parts scripts port) (sessions_of parts)
 
--- `serve [--port P] [--sessions N] [--wait] [--input FILE] [--explain] SCRIPT...`
+-- `serve [--port P] [--sessions N] [--wait] [--devtools] [--input FILE] [--explain] SCRIPT...`
 abbrev pub serve_of : List Part → List (List ℕ) → Option Request
 serve_of parts scripts = option_and_then (serve_at parts scripts) (port_of parts)
 

@@ -3,7 +3,7 @@ use Rattle.std.specs.Prelude.{◌≡◌, ◌⊎◌, ℕ, List, [], ◌∷◌, �
 use Rattle.command_words.specs.declared.command.Command.{Command}
 use Rattle.command_words.specs.declared.command.Command.TheVariants.{Run, Replay, Drill, Serve, Send}
 use Rattle.command_words.specs.declared.command.OptionName.{OptionName}
-use Rattle.command_words.specs.declared.command.OptionName.TheVariants.{Port, Sessions, Input, Wait, Explain}
+use Rattle.command_words.specs.declared.command.OptionName.TheVariants.{Port, Sessions, Input, Wait, Devtools, Explain}
 use Rattle.command_words.specs.Commands.{has_option, has_value}
 use Rattle.command_words.specs.Parts.{Part, Operand, Valued, Flag, is_operand, operands_alone}
 use Rattle.command_words.specs.Requests.{Request, Help, Version, request_of}
@@ -22,6 +22,7 @@ option_text Port = codes "port"
 option_text Sessions = codes "sessions"
 option_text Input = codes "input"
 option_text Wait = codes "wait"
+option_text Devtools = codes "devtools"
 option_text Explain = codes "explain"
 
 -- `--NAME`

@@ -29,6 +29,8 @@ pub enum OptionName {
     Input,
     /// Whether the program waits for a client, `--wait`.
     Wait,
+    /// Whether DevTools is let in, `--devtools`.
+    Devtools,
     /// Whether the causes of faults are explained, `--explain`.
     Explain,
 }
@@ -64,6 +66,8 @@ pub fn option_named(name: &str) -> Option<OptionName>
         Some(OptionName::Input)
     } else if name == "wait" {
         Some(OptionName::Wait)
+    } else if name == "devtools" {
+        Some(OptionName::Devtools)
     } else if name == "explain" {
         Some(OptionName::Explain)
     } else {
@@ -93,6 +97,6 @@ pub fn has_value(option: OptionName) -> bool
 {
     match option {
         OptionName::Port | OptionName::Sessions | OptionName::Input => true,
-        OptionName::Wait | OptionName::Explain => false,
+        OptionName::Wait | OptionName::Devtools | OptionName::Explain => false,
     }
 }

@@ -34,7 +34,7 @@ Commands:
       replays a journal of debugging sessions over scripts
   drill N
       makes a script and a journal from N (1 to 10000), replays them and prints a summary
-  serve [--port P] [--sessions N] [--wait] [--input FILE] [--explain] SCRIPT...
+  serve [--port P] [--sessions N] [--wait] [--devtools] [--input FILE] [--explain] SCRIPT...
       runs scripts, and serves clients of the Chrome DevTools Protocol meanwhile
   send [--port P] [--explain] COMMANDS
       sends the commands of a file to a serving host, and prints what comes back
@@ -44,6 +44,7 @@ Options stand anywhere after the command's name, each at most once, as --NAME VA
   --wait         no step is made before a client lets the program begin (default: it begins at once)
   --port P       the port on 127.0.0.1, 1 to 65535 (default: 9229)
   --sessions N   the most clients at once, 1 to 16 (default: 4)
+  --devtools     lets in DevTools and node inspect, which send more commands than the host has (default: refused)
   --explain      further lines on the error stream say a fault's cause (default: one line)
   --             the words after it are no options, also where they begin with -
 
@@ -131,13 +132,14 @@ Exit status:
 
 /// Help with `serve`.
 const SERVE_HELP: &str =
-    "debug_host serve [--port P] [--sessions N] [--wait] [--input FILE] [--explain] SCRIPT...
+    "debug_host serve [--port P] [--sessions N] [--wait] [--devtools] [--input FILE] [--explain] SCRIPT...
 Runs scripts, and serves clients of the Chrome DevTools Protocol meanwhile; prints what the scripts print.
 
 Options:
   --port P       the port on 127.0.0.1, 1 to 65535 (default: 9229)
   --sessions N   the most clients at once, 1 to 16 (default: 4)
   --wait         no step is made before a client lets the program begin (default: it begins at once)
+  --devtools     lets in DevTools and node inspect, which send more commands than the host has (default: refused)
   --input FILE   the lines that readline() gives (default: none)
   --explain      further lines on the error stream say a fault's cause (default: one line)
 

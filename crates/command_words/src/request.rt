@@ -65,6 +65,8 @@ pub struct ServeWords<'w> {
     pub sessions: SessionCount,
     /// Whether the program waits for a client that lets it begin.
     pub wait: bool,
+    /// Whether DevTools and `node inspect` are let in too.
+    pub devtools: bool,
     /// The program.
     pub sources: Sources<'w>,
 }
@@ -154,7 +156,8 @@ fn drill_of(operands: &[&str]) -> Option<Request<'static>>
     }
 }
 
-/// `serve [--port P] [--sessions N] [--wait] [--input FILE] [--explain] SCRIPT...`, by its options and its scripts.
+/// `serve [--port P] [--sessions N] [--wait] [--devtools] [--input FILE] [--explain] SCRIPT...`, by its options and its
+/// scripts.
 fn serve_of<'w>(parts: &[Part<'w>], scripts: Vec<&'w str>) -> Option<Request<'w>>
     ensures { option_map request_held result ≡ serve_of (parts_held parts.now) (texts_held scripts.entry.items) }
 {
@@ -166,6 +169,7 @@ fn serve_of<'w>(parts: &[Part<'w>], scripts: Vec<&'w str>) -> Option<Request<'w>
         port,
         sessions,
         wait: is_given(parts, OptionName::Wait),
+        devtools: is_given(parts, OptionName::Devtools),
         sources,
     }))
 }

@@ -78,6 +78,7 @@ pub(crate) fn name_of(option: OptionName) -> &'static str {
         OptionName::Sessions => "sessions",
         OptionName::Input => "input",
         OptionName::Wait => "wait",
+        OptionName::Devtools => "devtools",
         OptionName::Explain => "explain",
     }
 }
