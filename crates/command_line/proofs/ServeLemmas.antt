@@ -26,7 +26,7 @@ use Rattle.js_semantics.specs.Sources.{terms_of_scripts}
 use Rattle.script_runs.specs.Runs.{HasThrown, IsFirstPart}
 use Rattle.printing.specs.Printing.{printed_lines}
 use Rattle.printing.proofs.PrintingLemmas.{lines-append}
-use Rattle.server_edge.specs.Contents.{Tended, adds, called}
+use Rattle.server_edge.specs.Contents.{Tended, called}
 use Rattle.cdp_host.specs.Debugged.{debugging}
 use Rattle.cdp_host.specs.Histories.{whole}
 use Rattle.cdp_host.specs.Hosts.{HostState, Stands, meaning_with}
@@ -36,14 +36,15 @@ use Rattle.cdp_host.proofs.LawLemmas.{goes-plainly}
 use Rattle.cdp_host.proofs.ProgramLemmas.{plain-grows, plain-start, start-prints}
 use Rattle.ws_service.specs.Joins.{AnswersForAll}
 use Rattle.ws_service.specs.Programs.{GainsLines, Output, PrintsOn, may_cut}
-use Rattle.ws_service.specs.Serving.{IsServing, MayHaveShut, ServedDoor, has_shut, shuts}
+use Rattle.ws_service.specs.Serving.{AreKept, IsServing, MayHaveShut, ServedDoor, has_shut, seen_by, shuts}
+use Rattle.ws_service.specs.declared.clients.Clients.{Clients}
 use Rattle.ws_service.specs.declared.ends.DoorsEnd.{DoorsEnd}
 use Rattle.ws_service.specs.declared.ends.DoorsEnd.TheVariants as doors
 use Rattle.ws_service.specs.declared.program.RunEnd.{RunEnd}
 use Rattle.ws_service.specs.declared.program.RunEnd.TheVariants as runs
 use Rattle.command_line.specs.Files.{HoldsSources, IsNamed, IsReachedIn, IsRefusedIn}
 use Rattle.command_line.specs.RunCauses.{BecauseSources, RunsInPart, RunsToThrow}
-use Rattle.command_line.specs.ServeCauses.{BecauseServe, BecauseServed, Harbored, HasFinished, IsEndOf, IsOpened, IsShutEnd, IsUnserved, MayServe, ServesPort, ShowsThrow, outcome_of_serving}
+use Rattle.command_line.specs.ServeCauses.{BecauseServe, BecauseServed, Harbored, HasFinished, IsEndOf, IsOpened, IsShutEnd, IsUnserved, MayServe, ServesPort, ShowsThrow, clients_of, outcome_of_serving}
 use Rattle.script_files.specs.declared.fault.Refusal.{Refusal}
 use Rattle.command_line.specs.Status.{ForServe, GivenServe, said, status_of, uncaught_said, unread_said, Says, refusal_said}
 use Rattle.command_words.specs.Requests.{Request, Serve, ServeWords}
@@ -253,11 +254,12 @@ module _ (scripts : List Script) (input : List (List ℕ)) (wait : Bool) (n : �
   shut-end run together end r (inl is) may = subst AtShut is (at-shut run together may)
   shut-end run together end r (inr shown) may = absurd (subst AtShut shown.0 (at-shut run together may))
 
-  pub served-port : (run : RunEnd) (together : DoorsEnd) (end : Outcome) (before after : Opt (List Tended)) → Is run together
-      → after ≡ adds before (map (λ (door : ServedDoor). door.door) served)
+  pub served-port : (run : RunEnd) (together : DoorsEnd) (end : Outcome) (clients : Clients)
+      (before after : Opt (List Tended)) → Is run together
+      → AreKept (seen_by clients) before after (map (λ (door : ServedDoor). door.door) served)
       → IsEndOf end (record { run = run; doors = together }) (whole scripts input wait (entries_of h)).program
-      → ServesPort scripts input wait n moment old new before after end
-  served-port run together end before after s kept is_end = record {
+      → ServesPort scripts input wait n clients moment old new before after end
+  served-port run together end clients before after s kept is_end = record {
     history = h;
     doors = served;
     ended = record { run = run; doors = together };
@@ -535,7 +537,7 @@ pub serves : (request : ServeWords) (told : Opt (List Named)) (moment : Opt ℕ)
     (before after : Opt (List Tended)) (end : Outcome) (scripts : List Script) (input : List (List ℕ))
     → Told told (λ files. HoldsSources files request.sources scripts input)
     → (IsUnserved end × (new.content ≡ old.content))
-    ⊎ ServesPort scripts input request.wait request.sessions moment old new before after end
+    ⊎ ServesPort scripts input request.wait request.sessions (clients_of request.devtools) moment old new before after end
     → Told told (λ files. MayServe files request moment old new before after end)
 serves request told moment old new before after end scripts input holds (inl unserved) =
     told_map told (λ files. HoldsSources files request.sources scripts input) _ (λ files at. inl unserved) holds

@@ -10,7 +10,7 @@ use Rattle.js_semantics.specs.Run.{Run}
 use Rattle.js_semantics.specs.Sources.{terms_of_scripts}
 use Rattle.script_runs.specs.Runs.{HasThrown}
 use Rattle.printing.specs.Printing.{printed_lines}
-use Rattle.server_edge.specs.Contents.{Calls, Tended, adds, called}
+use Rattle.server_edge.specs.Contents.{Calls, Tended, called}
 use Rattle.server_edge.specs.declared.harbor.HarborFault.{HarborFault}
 use Rattle.server_edge.specs.declared.harbor.HarborFault.TheVariants as harbor
 use Rattle.cdp_host.specs.Debugged.{debugging}
@@ -18,7 +18,9 @@ use Rattle.cdp_host.specs.Histories.{begin, sent_alone, sent_to, view, whole}
 use Rattle.cdp_host.specs.Programs.{has_thrown, is_over, plain, printed_of, start, uncaught_text}
 use Rattle.cdp_host.specs.Protocols.{protocol}
 use Rattle.ws_service.specs.Programs.{Output}
-use Rattle.ws_service.specs.Serving.{IsServing, ServedDoor, has_shut}
+use Rattle.ws_service.specs.Serving.{AreKept, IsServing, ServedDoor, has_shut, seen_by}
+use Rattle.ws_service.specs.declared.clients.Clients.{Clients}
+use Rattle.ws_service.specs.declared.clients.Clients.TheVariants.{Plain, Devtools}
 use Rattle.ws_service.specs.declared.ends.DoorsEnd.{DoorsEnd}
 use Rattle.ws_service.specs.declared.ends.DoorsEnd.TheVariants as doors
 use Rattle.ws_service.specs.declared.ends.Ends.{Ends}
@@ -99,24 +101,29 @@ pub record ServesToEnd (files : List Named) (request : ServeWords) (before now :
 
 -- ---- a port that was served
 
+-- the clients that are let in where DevTools is asked for, or isn't
+abbrev pub clients_of : Bool → Clients
+clients_of true = Devtools
+clients_of false = Plain
+
 -- what a harbor tells of the doors of ports
 pub record Harbored : Type 0 where
   pub faults : ℕ
   pub opens : Calls (ℕ × ℕ)
   pub kept : Option (List Tended)
 
--- A port was served for a program of these scripts and this input, over one history, and that ended so. In the history
+-- A port was served to these clients for a program of these scripts and this input, over one history, and that ended so. In the history
 -- the program stopped at exactly the steps that the rules of its sessions or the start rule name, and each session was
 -- sent exactly what a host with no other session sends it, given what it sees of the history.
-pub record ServesPort (scripts : List Script) (input : List (List ℕ)) (wait : Bool) (sessions : ℕ) (moment : Option ℕ)
-    (old new : Output) (before after : Option (List Tended)) (end : Outcome) : Type 0 where
+pub record ServesPort (scripts : List Script) (input : List (List ℕ)) (wait : Bool) (sessions : ℕ) (clients : Clients)
+    (moment : Option ℕ) (old new : Output) (before after : Option (List Tended)) (end : Outcome) : Type 0 where
   pub history : List (ℕ × Entry)
   pub doors : List ServedDoor
   pub ended : Ends
   pub serving : IsServing (debugging scripts input wait) sessions moment old new ended history doors
   pub is_end : IsEndOf end ended (whole scripts input wait (entries_of history)).program
   pub shut : has_shut (entries_of history) ≡ true → IsShutEnd end
-  pub kept : after ≡ adds before (map (λ (door : ServedDoor). door.door) doors)
+  pub kept : AreKept (seen_by clients) before after (map (λ (door : ServedDoor). door.door) doors)
   pub exactly : AllStopExactly (protocol scripts) (start scripts input) 0 (begin scripts input wait) (entries_of history)
   pub alone : (s : ℕ) → sent_to scripts input wait s (entries_of history)
       ≡ sent_alone scripts input wait s (view scripts input wait s (entries_of history))
@@ -127,7 +134,8 @@ pub record Serves (files : List Named) (request : ServeWords) (moment : Option �
   pub scripts : List Script
   pub input : List (List ℕ)
   pub holds : HoldsSources files request.sources scripts input
-  pub port : ServesPort scripts input request.wait request.sessions moment old new before after end
+  pub port : ServesPort scripts input request.wait request.sessions (clients_of request.devtools) moment old new before
+      after end
 
 -- no port was served, and nothing was written; or one was, and that ended so
 abbrev pub MayServe : List Named → ServeWords → Option ℕ → Output → Output → Option (List Tended)

@@ -10,7 +10,7 @@ ghost use Rattle.cdp_host.specs.Hosts.{Stands};
 ghost use Rattle.ws_service.specs.Joins.{AnswersForAll};
 ghost use Rattle.command_words.specs.Held.{serve_held};
 ghost use Rattle.command_line.specs.RunCauses.{IsUnbegun};
-ghost use Rattle.command_line.specs.ServeCauses.{BecauseServe, BecauseServed, IsUnserved, MayServe, ServesPort, ShowsThrow, or_doors, outcome_of_serving, unopened};
+ghost use Rattle.command_line.specs.ServeCauses.{BecauseServe, BecauseServed, IsUnserved, MayServe, ServesPort, ShowsThrow, clients_of, or_doors, outcome_of_serving, unopened};
 
 use crate::explaining::Remains;
 use crate::outcome::Outcome;
@@ -29,7 +29,7 @@ use std::collections::VecDeque;
 use std::marker::Brand;
 use std::sync::Wait;
 use std::thread::Threads;
-use ws_service::{DoorsEnd, Ends, RunEnd, serve_port};
+use ws_service::{Clients, DoorsEnd, Ends, RunEnd, serve_port};
 
 /// The end that the doors decide, or else this one.
 fn or_doors(end: Option<Outcome<'static>>, doors: DoorsEnd) -> Option<Outcome<'static>>
@@ -106,6 +106,17 @@ fn thrown<'p, B: Beginning, R: Wait>(
     }
 }
 
+/// The clients that are let in where DevTools is asked for, or isn't.
+fn clients_of(devtools: bool) -> Clients
+    ensures { result ≡ clients_of devtools }
+{
+    if devtools {
+        Clients::Devtools
+    } else {
+        Clients::Plain
+    }
+}
+
 /// The end of a port whose doors weren't opened.
 fn unopened(fault: HarborFault) -> Outcome<'static>
     ensures is { result ≡ unopened fault }
@@ -129,6 +140,7 @@ fn serve_host<
     rt: &R,
     alloc: Global,
     opened: Opened<'p, B>,
+    clients: Clients,
     port: u16,
     out: &mut O,
     harbor: &mut P,
@@ -142,12 +154,14 @@ where
     requires pass { opened.pass ≡ initial_pass opened.lock (length opened.doors.items + 1) (length opened.doors.items) }
     requires doors { opened.doors.items ≡ initial_passes opened.lock (length opened.doors.items + 1) (length opened.doors.items) }
     ensures cause { BecauseServed result B.scripts B.input port (length opened.entry.doors.items) (record { content = O.content out.old; faults = O.faults out.old }) (record { content = O.content out.new; faults = O.faults out.new }) (record { faults = P.faults harbor.old; opens = P.opens harbor.old; kept = P.kept harbor.old }) (record { faults = P.faults harbor.new; opens = P.opens harbor.new; kept = P.kept harbor.new }) }
-    ensures part { (IsUnserved result × (O.content out.new ≡ O.content out.old)) ⊎ ServesPort B.scripts B.input B.wait (length opened.entry.doors.items) (C.moment clock.old) (record { content = O.content out.old; faults = O.faults out.old }) (record { content = O.content out.new; faults = O.faults out.new }) (P.kept harbor.old) (P.kept harbor.new) result }
+    ensures part { (IsUnserved result × (O.content out.new ≡ O.content out.old)) ⊎ ServesPort B.scripts B.input B.wait (length opened.entry.doors.items) clients (C.moment clock.old) (record { content = O.content out.old; faults = O.faults out.old }) (record { content = O.content out.new; faults = O.faults out.new }) (P.kept harbor.old) (P.kept harbor.new) result }
     ensures once { (P.opens harbor.new ≡ P.opens harbor.old) ⊎ (P.opens harbor.new ≡ called (port, length opened.entry.doors.items) (P.opens harbor.old)) }
     ensures dials { P.dials harbor.new ≡ P.dials harbor.old }
 {
     let Opened { lock, pass, doors } = opened;
-    match serve_port(rt, alloc, &lock, pass, doors, harbor, port, out, clock) {
+    match serve_port(
+        rt, alloc, &lock, pass, doors, harbor, port, out, clock, clients,
+    ) {
         Ok((Ends { run, doors }, mut pass)) => match outcome_of_serving(run, doors) {
             Some(end) => end,
             None => thrown(rt, &lock, &mut pass),
@@ -169,6 +183,7 @@ fn serve_program<
     scripts: &[Script],
     input: VecDeque<Units>,
     wait: bool,
+    clients: Clients,
     port: u16,
     sessions: usize,
     out: &mut O,
@@ -184,7 +199,7 @@ where
     requires wait { B.wait ≡ wait }
     requires sessions { (1 ≤ sessions) × (sessions ≤ 16) }
     ensures cause { BecauseServed result scripts.now input.items port sessions (record { content = O.content out.old; faults = O.faults out.old }) (record { content = O.content out.new; faults = O.faults out.new }) (record { faults = P.faults harbor.old; opens = P.opens harbor.old; kept = P.kept harbor.old }) (record { faults = P.faults harbor.new; opens = P.opens harbor.new; kept = P.kept harbor.new }) }
-    ensures part { (IsUnserved result × (O.content out.new ≡ O.content out.old)) ⊎ ServesPort scripts.now input.items wait sessions (C.moment clock.old) (record { content = O.content out.old; faults = O.faults out.old }) (record { content = O.content out.new; faults = O.faults out.new }) (P.kept harbor.old) (P.kept harbor.new) result }
+    ensures part { (IsUnserved result × (O.content out.new ≡ O.content out.old)) ⊎ ServesPort scripts.now input.items wait sessions clients (C.moment clock.old) (record { content = O.content out.old; faults = O.faults out.old }) (record { content = O.content out.new; faults = O.faults out.new }) (P.kept harbor.old) (P.kept harbor.new) result }
     ensures once { (P.opens harbor.new ≡ P.opens harbor.old) ⊎ (P.opens harbor.new ≡ called (port, sessions) (P.opens harbor.old)) }
     ensures dials { P.dials harbor.new ≡ P.dials harbor.old }
 {
@@ -194,7 +209,7 @@ where
     let Ok(opened) = open_lock::<B>(alloc, host, sessions) else {
         return Outcome::OutOfMemory;
     };
-    serve_host(rt, alloc, opened, port, out, harbor, clock)
+    serve_host(rt, alloc, opened, clients, port, out, harbor, clock)
 }
 
 /// Serves the scripts of these names to clients: the input is read first, then the scripts in order, then the doors are
@@ -236,6 +251,7 @@ where
                 &scripts,
                 input,
                 request.wait,
+                clients_of(request.devtools),
                 request.port,
                 request.sessions.count,
                 out,

@@ -16,6 +16,8 @@ mod flag;
 pub mod laws;
 mod link;
 mod methods;
+#[cfg(test)]
+mod tests;
 mod text;
 mod unread;
 

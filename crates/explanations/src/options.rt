@@ -205,7 +205,7 @@ fn number_fault<'w>(name: &'w str, option: OptionName, text: &'w str) -> Option<
     match option {
         OptionName::Port => range_fault(name, MOST_PORT, text),
         OptionName::Sessions => range_fault(name, MOST_SESSIONS, text),
-        OptionName::Input | OptionName::Wait | OptionName::Explain => None,
+        OptionName::Input | OptionName::Wait | OptionName::Devtools | OptionName::Explain => None,
     }
 }
 

@@ -130,3 +130,53 @@ fn a_server_that_can_not_write_shuts_its_program(rt: HostRuntime) -> Result<(), 
     assert_eq!(rt; err.taken(), b"debug_host: cannot write\n".as_slice());
     Ok(())
 }
+
+// What a client is sent that asks for a method which DevTools asks for, with an option of `serve` or without.
+fn sent_to_devtools(rt: &HostRuntime, options: &str) -> Result<Vec<String>, Fail> {
+    let alloc = rt.alloc();
+    let words = words_of(alloc, options)?;
+    let mut shelf = shelf(alloc, b"")?;
+    let (opened, _unused) = Gate::pair(alloc)?;
+    let mut doors = Vec::new(alloc);
+    let text = r#"{"id":1,"method":"Profiler.enable"}"#;
+    doors.push(door(alloc, text, None, None, opened)?)?;
+    let mut harbor = MemHarbor::new(doors, Vec::new(alloc), Vec::new(alloc));
+    let mut clock = FixedClock::new(0);
+    let mut out = MemSink::new(Vec::new(alloc));
+    let mut err = MemSink::new(Vec::new(alloc));
+    let status = debug_main(
+        rt,
+        alloc,
+        &words,
+        &mut shelf,
+        &mut out,
+        &mut err,
+        &mut harbor,
+        &mut clock,
+    );
+    assert_eq!(rt; status, 0);
+    let mut sent = Vec::new(alloc);
+    for door in harbor.doors() {
+        for link in door.served() {
+            for text in link.sent() {
+                sent.push(text.clone()?)?;
+            }
+        }
+    }
+    Ok(sent)
+}
+
+// The same text is answered with `--devtools`, and refused without it.
+#[test]
+fn devtools_is_let_in_where_that_is_asked_for(rt: HostRuntime) -> Result<(), Fail> {
+    let sent = sent_to_devtools(&rt, "serve --sessions 1 --devtools a.js")?;
+    assert_eq!(rt; sent.len(), 1);
+    assert_eq!(rt; sent[0].as_str(), r#"{"id":1,"result":{}}"#);
+    let sent = sent_to_devtools(&rt, "serve --sessions 1 a.js")?;
+    assert_eq!(rt; sent.len(), 1);
+    assert_eq!(rt;
+        sent[0].as_str(),
+        r#"{"error":{"code":-32601,"message":"'Profiler.enable' wasn't found"},"id":1}"#
+    );
+    Ok(())
+}

@@ -39,7 +39,7 @@ returns-in-Some-clause-part g c =
     let after : Harbored = record { faults = g.P.Harbor.faults c.serve_port.new.harbor; opens = g.P.Harbor.opens c.serve_port.new.harbor; kept = g.P.Harbor.kept c.serve_port.new.harbor } in
     let ends = c.in-Ok.field-0-0 in
     inr
-    (served-port b.scripts b.input b.wait n moment old new c.in-Ok.pass.seen s.0 ends.run ends.doors c.in-Some.end before.kept
+    (served-port b.scripts b.input b.wait n moment old new c.in-Ok.pass.seen s.0 ends.run ends.doors c.in-Some.end c.args.clients before.kept
     after.kept s.1 s.2 (inl (sym c.in-Some.ensures)))
 
 pub returns-in-Ok-clause-cause : goal.returns-in-Ok-clause-cause
@@ -70,5 +70,5 @@ returns-in-Ok-clause-part g c =
     let after : Harbored = record { faults = g.P.Harbor.faults c.serve_port.new.harbor; opens = g.P.Harbor.opens c.serve_port.new.harbor; kept = g.P.Harbor.kept c.serve_port.new.harbor } in
     let ends = c.in-Ok.field-0-0 in
     inr
-    (served-port b.scripts b.input b.wait n moment old new c.in-Ok.pass.seen s.0 ends.run ends.doors c.thrown.result before.kept
+    (served-port b.scripts b.input b.wait n moment old new c.in-Ok.pass.seen s.0 ends.run ends.doors c.thrown.result c.args.clients before.kept
     after.kept s.1 s.2 (inr (sym c.in-None.ensures, c.thrown.ensures)))

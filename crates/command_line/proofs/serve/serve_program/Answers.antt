@@ -45,7 +45,7 @@ returns-clause-part g c =
     let new : Output = record { content = g.O.Sink.content c.serve_host.new.out; faults = g.O.Sink.faults c.serve_host.new.out } in
     subst
     (λ (z : List Script × List (List ℕ) × Bool × ℕ). (IsUnserved c.serve_host.result × (new.content ≡ old.content))
-    ⊎ ServesPort z.0 z.1 z.2 z.3 (g.C.Clock.moment c.args.clock.now) old new
+    ⊎ ServesPort z.0 z.1 z.2 z.3 c.args.clients (g.C.Clock.moment c.args.clock.now) old new
     (g.P.Harbor.kept c.args.harbor.now) (g.P.Harbor.kept c.serve_host.new.harbor) c.serve_host.result)
     (λ i. (c.requires.scripts i, c.requires.input i, c.requires.wait i, many i)) c.serve_host.ensures.part
 
