@@ -6,7 +6,7 @@
 Documents are README.md, CONTRIBUTING.md, bench/README.md and docs/*.md. Of what stands in backquotes it checks
 
 - paths: `command_line/src/run.rt`, `docs/GATE.md`. A path without a crate, as `specs/Alone.antt` or `run.rt`, is looked for in
-  the crates that its line or the heading above it names, or else, in documents for others than developers, in those of the page;
+  the crates that its line or the heading above it names, and in documents for users also in those of the page;
 - functions: `command_line::run::run`, `Type::method` where the repository has that type, and `name` before "in `path`";
 - clauses: `function`.`clause`, and `.clause` of any function of the same crates;
 - commands: the words after `rt`, `debug_host`, `python3` and `./`, here and in examples, but for those of docs/GUIDE.md, which
@@ -22,14 +22,14 @@ The status is 1 if anything is wrong; long lines are no fault.
 import re
 import sys
 from collections import Counter, defaultdict
-from fnmatch import fnmatch
+from fnmatch import filter as filter_names
 from functools import cache
 from pathlib import Path
 from typing import NamedTuple
 
 TOP = Path(__file__).resolve().parent.parent
 MAP = "docs/ARCHITECTURE.md"
-FOR_DEVELOPERS = (MAP, "docs/PROOFS.md", "docs/GATE.md", "CONTRIBUTING.md")
+FOR_DEVELOPERS = (MAP, "docs/PROOFS.md", "docs/PROVING.md", "docs/GATE.md", "CONTRIBUTING.md")
 # pages whose examples another program runs, and those on which `.name` is no clause
 PLAYED = ("docs/GUIDE.md",)
 WITHOUT_CLAUSES = ("docs/PROVING.md", "CONTRIBUTING.md")
@@ -95,8 +95,8 @@ def code():
 
 @cache
 def words():
-    """All words of the code and of the programs in bench/."""
-    programs = [path.read_text() for path in (TOP / "bench").rglob("*.py")]
+    """All words of the code and of the programs beside it."""
+    programs = [(TOP / path).read_text() for path in ["build", "debug_host", *filter_names(files(), "bench/*.py")]]
     return {word for text in [*code().values(), *programs] for word in re.findall(r"[\w'-]+", text)}
 
 
@@ -111,7 +111,8 @@ def functions():
     return found
 
 
-BEGIN = re.compile(r"^(?:( *)(?:pub(?:\([^)]*\))? )?(?:const )?(?:unsafe )?fn (\w+)|(?:pub )?(?:unsafe )?(?:impl|trait)\b([^{]*))", re.M)
+VISIBLE = r"(?:pub(?:\([^)]*\))? )?(?:const )?(?:unsafe )?"
+BEGIN = re.compile(rf"^(?:( *){VISIBLE}fn (\w+)|{VISIBLE}(?:impl|trait)\b([^{{]*))", re.M)
 CLAUSE = re.compile(r"\b(?:ensures|requires) (\w+) \{")
 
 
@@ -131,8 +132,12 @@ def functions_of(path, text):
 
 @cache
 def types():
-    """The names of all structs, enums and traits."""
-    return {name for text in code().values() for name in re.findall(r"\b(?:struct|enum|trait) (\w+)", text)}
+    """The paths of the files that declare structs, enums and traits, by the names of these."""
+    found = defaultdict(list)
+    for path, text in code().items():
+        for name in re.findall(r"\b(?:struct|enum|trait) (\w+)", text) if path.endswith(".rt") else ():
+            found[name].append(path)
+    return found
 
 
 @cache
@@ -147,7 +152,7 @@ def program_words():
 
 def pages():
     """The paths of the documents, from the top of the repository."""
-    return ["README.md", "CONTRIBUTING.md", "bench/README.md", *sorted(path for path in files() if fnmatch(path, "docs/*.md"))]
+    return ["README.md", "CONTRIBUTING.md", "bench/README.md", *sorted(filter_names(files(), "docs/*.md"))]
 
 
 def quoted(text):
@@ -201,7 +206,7 @@ def files_of(paths):
     """The files and folders at some paths, which may have `*`."""
     names = {path.rstrip("/") for path in paths}
     globs = [name for name in names if "*" in name]
-    return names & files() | {file for file in files() if any(fnmatch(file, name) for name in globs)}
+    return names & files() | {file for name in globs for file in filter_names(files(), name)}
 
 
 def missing_paths(line):
@@ -214,9 +219,10 @@ def missing_paths(line):
 # Functions and clauses.
 
 
-def has_function(owner, name):
-    """Whether a crate has a function of a type or trait."""
-    return any(owner in function.owners for function in functions()[name])
+def has_member(owner, name):
+    """Whether a type or trait has a function, or the file that declares it the name of a variant."""
+    is_function = any(owner in function.owners for function in functions()[name])
+    return is_function or any(has_word(name, code()[path]) for path in types()[owner])
 
 
 def has_path_function(part):
@@ -231,12 +237,12 @@ def missing_functions(line):
     """The functions with `::` that a line names, if they aren't there."""
     found = []
     for part in quoted(line.text):
-        *before, owner, name = ["", *part.split("::")]
         if not re.fullmatch(r"\w+(::\w+)+", part):
             continue
+        owner, name = part.split("::")[-2:]
         if part.split("::")[0] in uses():
             found += [] if has_path_function(part) else [part]
-        elif owner in types() and not has_function(owner, name) and name not in words():
+        elif owner in types() and not has_member(owner, name):
             found.append(part)
     return [line.says(f"no function `{part}`") for part in found]
 
@@ -248,14 +254,16 @@ def missing_words_of_paths(line):
     """The words of which a line says that they stand in a file, if they don't."""
     found = []
     for named, path in NAMES_IN_PATH.findall(line.text):
-        texts = [code().get(place.removeprefix("crates/"), "") for place in found_at(line, path)]
-        parts = [part.split("::")[-1].split()[0].lstrip(".") for part in quoted(named) if not is_path(part) and part not in uses()]
-        found += [line.says(f"no `{part}` in `{path}`") for part in parts if texts and not any(has_word(part, text) for text in texts)]
+        text = "\n".join(code().get(place.removeprefix("crates/"), "") for place in found_at(line, path))
+        names = [part for part in quoted(named) if not is_path(part) and part not in uses()]
+        words_there = [name.split("::")[-1].split()[0].lstrip(".") for name in names]
+        found += [line.says(f"no `{word}` in `{path}`") for word in words_there if text and not has_word(word, text)]
     return found
 
 
 def has_word(word, text):
-    return re.search(rf"(?<![\w-]){re.escape(word)}(?![\w-])", text)
+    """Whether a text has a word, of letters, digits, `_` and `-`."""
+    return re.search(rf"(?<![\w-]){re.escape(word)}(?![\w-])", text) is not None
 
 
 @cache
@@ -300,7 +308,8 @@ def faults_of_program(words_after):
         return []
     wrong = [] if words_after[0] in commands else [f"no command `debug_host {words_after[0]}`"]
     asked = [word.partition("=")[0] for word in words_after if re.match(r"--\w", word)]
-    return wrong + [f"no option `{word}` of `debug_host`" for word in asked if word not in texts and word[2:] not in options]
+    unknown = [word for word in asked if word not in texts and word[2:] not in options]
+    return wrong + [f"no option `{word}` of `debug_host`" for word in unknown]
 
 
 def faults_of_script(words_after):
@@ -319,7 +328,7 @@ def faults_of_command(text):
     first, *after = re.split(r"\s+", re.split(r"\s[|>&<#]|  ", text)[0]) if text else [""]
     if first == "rt" and after and re.fullmatch(r"[a-z][a-z-]+", after[0]):
         return [] if after[0] in RT_COMMANDS else [f"no command `rt {after[0]}`"]
-    if first in ("debug_host", "./debug_host"):
+    if first.rpartition("/")[2] == "debug_host":
         return faults_of_program(after)
     if first == "python3":
         return faults_of_script(after)
@@ -363,7 +372,7 @@ def table_crates(lines):
 
 def drawing_crates(lines):
     """The crates of the drawing with their lines and the number of their row."""
-    rows = [(line, re.match(r"    +(\d+)  +(.+)", line.text)) for line in lines]
+    rows = [(line, re.match(r" {4,}(\d+)  (.+)", line.text)) for line in lines]
     return [(line, int(row[1]), word) for line, row in rows if row for word in row[2].split()]
 
 
@@ -391,7 +400,7 @@ def faults_of_drawing(lines):
     named = drawing_crates(lines)
     wrong = faults_of_names([(line, name) for line, _, name in named], "drawing")
     misplaced = [(line, row, name) for line, row, name in named if name in uses() and row != layer(name)]
-    return wrong + [line.says(f"`{name}` is drawn in row {row}, and its layer is {layer(name)}") for line, row, name in misplaced]
+    return wrong + [line.says(f"`{name}` is drawn in row {row}, its layer is {layer(name)}") for line, row, name in misplaced]
 
 
 # Limits.
@@ -401,7 +410,8 @@ def faults_of_size(page):
     """Whether a document is longer than it may be."""
     text = (TOP / page).read_text()
     sizes = [(len(text.split()), MOST_WORDS, "words"), (len(text.splitlines()), MOST_LINES, "lines")]
-    return [f"{page}: {size} {unit}, and at most {most[page]} may be" for size, most, unit in sizes if size > most.get(page, size)]
+    too_long = [(size, most[page], unit) for size, most, unit in sizes if size > most.get(page, size)]
+    return [f"{page}: {size} {unit}, and at most {most} may be" for size, most, unit in too_long]
 
 
 def long_lines():
