@@ -1,10 +1,8 @@
 -- What becomes of a text, in the words of a link.
-use Rattle.std.proofs.Common.{◌≡◌, ◌⊎◌, inl, inr, ℕ, List, Bool, true, false, Option, Some, None, String, Global, string_bytes, refl, sym, ap, subst}
+use Rattle.std.proofs.Common.{◌≡◌, inl, inr, ℕ, List, Bool, true, false, Option, None, String, Global, string_bytes, refl, sym, ap, subst}
 use Rattle.std.proofs.lemmas.Bool.{false≢true}
 use Rattle.serde_json.specs.Data.{Data}
 use Rattle.serde_json.specs.Read.{read}
-use Rattle.server_edge.specs.declared.link.Recv.TheVariants as recv
-use Rattle.server_edge.specs.Heard as heard
 use Rattle.devtools_link.specs.Fates.{IsFate}
 use Rattle.devtools_link.specs.Links.{IsHandedIn}
 use Rattle.devtools_link.specs.Texts.{ClearsFlag, IsAnswered, IsPlain}

@@ -1,13 +1,13 @@
 -- A command without the flag is read as the same command.
-use Rattle.std.proofs.Common.{◌≡◌, ◌≢◌, ℕ, List, Bool, true, false, bytes_eq, codes, Option, Some, None, is_some, option_and_then, if◌then◌else◌, refl, sym, ap, subst, ◌∙◌}
+use Rattle.std.proofs.Common.{◌≡◌, ◌≢◌, ℕ, List, Bool, true, false, bytes_eq, codes, Option, Some, None, is_some, option_and_then, if◌then◌else◌, refl, sym, ap, ◌∙◌}
 use Rattle.std.proofs.lemmas.Bool.{false≢true}
 use Rattle.std.proofs.lemmas.Slice.Eq.{bytes_eq-Decides}
 use Rattle.serde_json.specs.Data.{Data}
-use Rattle.serde_json.specs.Find.{as_bool, as_number, as_object, as_str, as_u64, get}
-use Rattle.cdp_json.specs.Commands.{given_from, given_of, id_of, if_safe}
-use Rattle.cdp_json.specs.Members.{if_given, optional, required}
-use Rattle.devtools_link.specs.Laws.{IsReadAlike, ReadsAlike}
-use Rattle.devtools_link.specs.Texts.{IsWithoutFlag, flag_name}
+use Rattle.serde_json.specs.Find.{as_bool, as_number, as_object, as_str, as_u64}
+use Rattle.cdp_json.specs.Commands.{given_from, if_safe}
+use Rattle.cdp_json.specs.Members.{if_given}
+use Rattle.devtools_link.specs.Laws.{ReadsAlike}
+use Rattle.devtools_link.specs.Texts.{flag_name}
 
 -- an object is what a command is given
 is_given : (d : Data) → is_some (as_object d) ≡ true → given_from (Some d) ≡ Some d

@@ -1,12 +1,12 @@
 -- What was taken from the link below, and what was sent there, call by call.
-use Rattle.std.proofs.Common.{◌≡◌, ◌⊎◌, inl, inr, ℕ, List, [], ◌∷◌, ◌++◌, string_bytes, refl, ap, sym, subst, ◌∙◌, append_assoc, append-nil}
+use Rattle.std.proofs.Common.{◌≡◌, inr, ℕ, List, [], ◌∷◌, ◌++◌, refl, ap, sym, subst}
 use Rattle.server_edge.specs.Contents.{adds}
 use Rattle.server_edge.specs.Heard as heard
 use Rattle.server_edge.specs.Heard.{Heard}
 use Rattle.server_edge.specs.declared.link.Recv.{Recv}
 use Rattle.server_edge.specs.declared.link.Recv.TheVariants as recv
 use Rattle.server_edge.proofs.ToldLemmas.{adds-nil}
-use Rattle.devtools_link.specs.Links.{Answers, Below, Comes, Gives, HandsIn, unread_of}
+use Rattle.devtools_link.specs.Links.{Answers, Below, HandsIn, unread_of}
 use Rattle.devtools_link.specs.Texts.{IsAnswered, empty_reply}
 
 -- the whole of a text is taken
@@ -42,29 +42,3 @@ pub unsent : (old new : Below) (text : List ℕ) (id : ℕ) → unread_of old.un
     → HandsIn old new text recv.Failed
 unsent old new text id none is e = subst (λ (n : Below). HandsIn old n text recv.Failed) (sym e)
     (handed old text recv.Failed none (inr (text, id, (refl, refl), is)))
-
--- a text that came is handed in, answered or left
-pub gives-text : (old came new : Below) (text : List ℕ) (answer : Recv) (c : Comes old came answer)
-    → heard.heard_of answer ≡ heard.Text text ∷ [] → (last : Recv) → HandsIn came new text last → Gives old new last
-gives-text old came new text answer c is last h = record {
-  fresh = c.fresh;
-  taken = h.taken;
-  replies = h.replies;
-  answers = h.answers ∙ c.answers;
-  whole = c.whole ∙ is ∙ h.whole;
-  sent = h.sent ∙ ap (λ s. adds s h.replies) c.sent;
-  is = h.is;
-}
-
--- what came is handed on
-pub gives-other : (old new : Below) (answer : Recv) → Comes old new answer → Answers answer (heard.heard_of answer) []
-    → Gives old new answer
-gives-other old new answer c is = record {
-  fresh = c.fresh;
-  taken = heard.heard_of answer;
-  replies = [];
-  answers = c.answers;
-  whole = c.whole ∙ sym (append-nil (heard.heard_of answer)) ∙ ap (λ l. heard.heard_of answer ++ l) (sym c.left);
-  sent = c.sent ∙ sym (adds-nil old.sent);
-  is = is;
-}

@@ -1,5 +1,5 @@
 -- Objects of which a member was taken out or put in: what they have at each name, and how deep they are.
-use Rattle.std.proofs.Common.{◌≡◌, ◌<◌, ◌≤◌, ℕ, suc, max, List, [], ◌∷◌, Bool, true, false, cond, if◌then◌else◌, bytes_eq, Option, Some, None, option_map, Result, Ok, Err, IfOk, String, Global, BTreeMap, string_bytes, string_cmp, codes, Ordering, Less, Equal, Greater, nat_cmp, refl, sym, ap, subst, ◌∙◌, arith, is_some, unwrap_or, option_and_then}
+use Rattle.std.proofs.Common.{◌≡◌, ◌<◌, ◌≤◌, ℕ, max, List, [], ◌∷◌, Bool, true, false, cond, if◌then◌else◌, bytes_eq, Option, Some, None, option_map, Result, Ok, Err, IfOk, String, Global, BTreeMap, string_bytes, string_cmp, codes, Ordering, Less, Equal, Greater, nat_cmp, refl, sym, ap, subst, ◌∙◌, arith, is_some, unwrap_or, option_and_then}
 use Rattle.std.specs.BTreeMap.{UpdatesBy, insert_entry, is_at}
 use Rattle.std.specs.Cmp.Lexicographic.{slice_cmp}
 use Rattle.std.specs.Map.{lookup, remove_entry}

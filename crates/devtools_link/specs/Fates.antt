@@ -1,9 +1,9 @@
 -- What becomes of a text, as the code holds it.
-use Rattle.std.specs.Prelude.{◌≡◌, ◌≤◌, ◌⊎◌, ℕ, List, length, true, false, string_bytes, Option, Some, None}
+use Rattle.std.specs.Prelude.{◌≡◌, ◌≤◌, ◌⊎◌, ℕ, List, length, true, false, string_bytes, Some, None}
 use Rattle.serde_json.specs.Data.{Data}
 use Rattle.serde_json.specs.Read.{read}
 use Rattle.server_edge.specs.declared.link.TheConstants.{MOST_BYTES}
-use Rattle.devtools_link.specs.Texts.{IsWithoutFlag, IsPlain, answered_id, clears_flag}
+use Rattle.devtools_link.specs.Texts.{IsWithoutFlag, answered_id, clears_flag}
 use Rattle.devtools_link.specs.declared.text.Fate.{Fate}
 use Rattle.devtools_link.specs.declared.text.Fate.TheVariants.{HandedIn, Changed, TooBig, Answered}
 

@@ -1,5 +1,5 @@
 -- What becomes of a client's text: it is handed in as it came, or without a parameter, or it is answered.
-use Rattle.std.specs.Prelude.{◌≡◌, ◌≤◌, ◌<◌, ◌^◌, ◌||◌, ◌&&◌, ℕ, List, codes, bytes_eq, length, Bool, true, false, Option, Some, None, option_and_then, is_some, if◌then◌else◌}
+use Rattle.std.specs.Prelude.{◌≡◌, ◌≤◌, ◌||◌, ◌&&◌, ℕ, List, codes, bytes_eq, length, Bool, true, false, Option, Some, None, option_and_then, is_some, if◌then◌else◌}
 use Rattle.serde_json.specs.Data.{Data, Items, no_items, item}
 use Rattle.serde_json.specs.Find.{get, as_array, as_bool, as_object, as_str}
 use Rattle.serde_json.specs.Read.{read}

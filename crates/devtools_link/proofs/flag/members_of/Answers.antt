@@ -1,4 +1,4 @@
-use Rattle.std.proofs.Common.{◌≡◌, BTreeMap, String, Global, Option, Some, option_map, option_and_then, sym, ap, ◌∙◌}
+use Rattle.std.proofs.Common.{BTreeMap, String, Global, Option, Some, option_map, option_and_then, sym, ap, ◌∙◌}
 use Rattle.serde_json.specs.Find.{as_object}
 use Rattle.serde_json.specs.View.{members_view, view}
 use Rattle.serde_json.specs.declared.value.Value.{Value}

@@ -1,5 +1,4 @@
-use Rattle.std.proofs.Common.{◌≡◌, ◌<◌, codes, arith}
-use Rattle.serde_json.specs.Data.{depth, object}
+use Rattle.std.proofs.Common.{codes, arith}
 use Rattle.serde_json.specs.View.{members_view}
 use Rattle.devtools_link.proofs.MemberLemmas.{found_depth, given_params, has_params, removed, shallower}
 use Rattle.devtools_link.proofs.flag.take_params.Goals as goal

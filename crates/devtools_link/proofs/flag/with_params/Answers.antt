@@ -1,4 +1,4 @@
-use Rattle.std.proofs.Common.{◌≡◌, codes}
+use Rattle.std.proofs.Common.{codes}
 use Rattle.devtools_link.proofs.MemberLemmas.{deeper, inserted}
 use Rattle.devtools_link.proofs.flag.with_params.Goals as goal
 

@@ -1,7 +1,3 @@
-use Rattle.std.proofs.Common.{◌≡◌, Ok, Err, Result}
-use Rattle.serde_json.specs.View.{view}
-use Rattle.serde_json.specs.declared.value.Value.{Value}
-use Rattle.devtools_link.specs.Texts.{IsWithoutFlag}
 use Rattle.devtools_link.proofs.MemberLemmas.{without, without_result}
 use Rattle.devtools_link.proofs.flag.without_flag.Goals as goal
 

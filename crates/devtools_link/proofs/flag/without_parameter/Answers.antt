@@ -1,4 +1,3 @@
-use Rattle.std.proofs.Common.{◌≡◌}
 use Rattle.devtools_link.specs.Texts.{flag_name}
 use Rattle.devtools_link.proofs.MemberLemmas.{removed_value, shallower_value}
 use Rattle.devtools_link.proofs.flag.without_parameter.Goals as goal

@@ -1,5 +1,3 @@
-use Rattle.std.proofs.Common.{◌≡◌}
-use Rattle.devtools_link.specs.Links.{Below}
 use Rattle.devtools_link.proofs.LinkLemmas.{replied, unsent}
 use Rattle.devtools_link.proofs.link.DevtoolsLink.answer.Goals as goal
 

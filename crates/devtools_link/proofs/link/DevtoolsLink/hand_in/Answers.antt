@@ -1,4 +1,4 @@
-use Rattle.std.proofs.Common.{◌≡◌, inr, refl}
+use Rattle.std.proofs.Common.{inr, refl}
 use Rattle.devtools_link.proofs.FateLemmas.{answered, changed, comes, read_as, too_big}
 use Rattle.devtools_link.proofs.LinkLemmas.{handed}
 use Rattle.devtools_link.proofs.link.DevtoolsLink.hand_in.Goals as goal
