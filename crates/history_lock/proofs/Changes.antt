@@ -8,17 +8,17 @@ use Rattle.atomic_table.specs.Table.{State}
 use Rattle.history_lock.specs.declared.view.View.{View}
 use Rattle.history_lock.specs.Histories.{limit, has, by}
 use Rattle.history_lock.specs.Views.{held, Reserved}
-use Rattle.history_lock.specs.Rule.{total, Fits, Holds, KeptOf, IsWithin, WasSplit, Accounts}
+use Rattle.history_lock.specs.Rule.{total, Fits, Holds, Meets, KeptOf, IsWithin, WasSplit, Accounts}
 use Rattle.history_lock.proofs.Facts.{each_set, set_there, set_other}
 
 module _ {E : Type 0} where
   -- a later ticket word changes nothing for a view
-  pub fits_later : (n t u : ℕ) (log : List (ℕ × E)) (v : View E) → t ≤ u → Fits n t log v → Fits n u log v
-  fits_later n t u log v le f = record {
+  pub fits_later : (n served t u : ℕ) (log : List (ℕ × E)) (v : View E) → t ≤ u → Fits n served t log v → Fits n served u log v
+  fits_later n served t u log v le f = record {
     seen = f.seen;
     own_seen = f.own_seen;
     other_seen = f.other_seen;
-    waits = λ d. let x = f.waits d in (x.0, omega arith);
+    waits = λ d. let x = f.waits d in let high = x.1 in (x.0, omega (arith, high, le));
     turn = f.turn;
     whole = f.whole;
     own_whole = f.own_whole;
@@ -32,9 +32,16 @@ module _ {E : Type 0} where
     beyond = f.beyond;
   }
 
-  -- a changed view shares its ticket, its numbers and what it may give with no other
+  -- a pass without a ticket shares none
+  pub meets_none : (w u : View E) → w.tickets ≡ 0 → (Meets w u → ⊥) × (Meets u w → ⊥)
+  meets_none w u none = (
+    (λ (m : Meets w u). let a = m.1 in let b = m.2 in absurd (omega (arith, a, b, none))),
+    (λ (m : Meets u w). let a = m.0 in absurd (omega (arith, a, none))),
+  )
+
+  -- a changed view shares its tickets, its numbers and what it may give with no other
   pub record Alone (views : List (View E)) (id : ℕ) (w : View E) : Type 0 where
-    pub tickets : w.has_ticket ≡ true → (j : ℕ) (u : View E) → j ≢ id → get_elem? views j ≡ some u → u.has_ticket ≡ true → w.ticket ≢ u.ticket
+    pub tickets : (j : ℕ) (u : View E) → j ≢ id → get_elem? views j ≡ some u → (Meets w u → ⊥) × (Meets u w → ⊥)
     pub apart : (j : ℕ) (u : View E) (x : ℕ) → j ≢ id → get_elem? views j ≡ some u → has x w.numbers ≡ true → has x u.numbers ≡ true → ⊥
     pub reserves : (j : ℕ) (u : View E) (x : ℕ) → j ≢ id → get_elem? views j ≡ some u → Reserved w x → Reserved u x → ⊥
     pub untaken : (j : ℕ) (u : View E) (x : ℕ) → j ≢ id → get_elem? views j ≡ some u → has x w.numbers ≡ true → Reserved u x → ⊥
@@ -65,24 +72,26 @@ module _ {S E : Type 0} (stands : S → List (ℕ × E) → Type 0) (n : ℕ) wh
   abbrev St : Type 0
   St = State (Opt S) (View E)
 
-  abbrev At : List (ℕ × E) → St → Type 0
-  At log s = KeptOf stands n log s
+  abbrev At : ℕ → List (ℕ × E) → St → Type 0
+  At served log s = KeptOf stands n served log s
 
   -- One view changes, and with it the history and the words
-  pub changed : (s : St) (past : List (ℕ × E)) (r : At past s) (id : ℕ) (v w : View E) (log : List (ℕ × E)) (berths : List ℕ) (homes : List (Option (Opt S))) → get_elem? s.views id ≡ some v
-      → length log + total held (set s.views id w) ≤ limit
-      → ((j : ℕ) (u : View E) → j ≢ id → get_elem? s.views j ≡ some u → Fits n (length log + total held (set s.views id w)) log u)
-      → Fits n (length log + total held (set s.views id w)) log w
+  pub changed : (s : St) (before : ℕ) (past : List (ℕ × E)) (r : At before past s) (id : ℕ) (v w : View E) (served : ℕ) (log : List (ℕ × E)) (berths : List ℕ) (homes : List (Option (Opt S))) → get_elem? s.views id ≡ some v
+      → served + total held (set s.views id w) ≤ limit
+      → length log ≤ served
+      → ((j : ℕ) (u : View E) → j ≢ id → get_elem? s.views j ≡ some u → Fits n served (served + total held (set s.views id w)) log u)
+      → Fits n served (served + total held (set s.views id w)) log w
       → Alone s.views id w
       → Holds stands homes (set s.views id w) log
-      → At log record { words = (length log + total held (set s.views id w)) ∷ length log ∷ berths; homes = homes; views = set s.views id w }
-  changed s past r id v w log berths homes at bound others mine alone holds = record {
+      → At served log record { words = (served + total held (set s.views id w)) ∷ served ∷ berths; homes = homes; views = set s.views id w }
+  changed s before past r id v w served log berths homes at bound few others mine alone holds = record {
     words = (berths, refl);
     bound = bound;
-    each = each_set (λ _ u. Fits n (length log + total held (set s.views id w)) log u) s.views id w others mine;
-    tickets = λ i j u z ei ej. each_set (λ k y. y.has_ticket ≡ true → z.has_ticket ≡ true → y.ticket ≡ z.ticket → k ≡ j) s.views id w
-        (λ k y nk ek dy. each_set (λ l x. x.has_ticket ≡ true → y.ticket ≡ x.ticket → k ≡ l) s.views id w (λ l x nl el dx t. r.tickets k l y x ek el dy dx t) (λ dw t. absurd (alone.tickets dw k y nk ek dy (sym t))) j z ej)
-        (λ dw. each_set (λ l x. x.has_ticket ≡ true → w.ticket ≡ x.ticket → id ≡ l) s.views id w (λ l x nl el dx t. absurd (alone.tickets dw l x nl el dx t)) (λ _ _. refl) j z ej)
+    few = few;
+    each = each_set (λ _ u. Fits n served (served + total held (set s.views id w)) log u) s.views id w others mine;
+    tickets = λ i j u z ei ej. each_set (λ k y. Meets y z → k ≡ j) s.views id w
+        (λ k y nk ek. each_set (λ l x. Meets y x → k ≡ l) s.views id w (λ l x nl el m. r.tickets k l y x ek el m) (λ m. absurd ((alone.tickets k y nk ek).1 m)) j z ej)
+        (each_set (λ l x. Meets w x → id ≡ l) s.views id w (λ l x nl el m. absurd ((alone.tickets l x nl el).0 m)) (λ _. refl) j z ej)
         i u ei;
     apart = λ i j u z x ei ej. each_set (λ k y. has x y.numbers ≡ true → has x z.numbers ≡ true → k ≡ j) s.views id w
         (λ k y nk ek hy. each_set (λ l a. has x a.numbers ≡ true → k ≡ l) s.views id w (λ l a nl el ha. r.apart k l y a x ek el hy ha) (λ hw. absurd (alone.apart k y x nk ek hw hy)) j z ej)
@@ -100,12 +109,12 @@ module _ {S E : Type 0} (stands : S → List (ℕ × E) → Type 0) (n : ℕ) wh
   }
 
   -- a view that answers for nothing new and may give nothing new is alone as before
-  pub stays_alone : (s : St) (past : List (ℕ × E)) (r : At past s) (id : ℕ) (v w : View E) → get_elem? s.views id ≡ some v
-      → (w.has_ticket ≡ true → (j : ℕ) (u : View E) → j ≢ id → get_elem? s.views j ≡ some u → u.has_ticket ≡ true → w.ticket ≢ u.ticket)
+  pub stays_alone : (s : St) (served : ℕ) (past : List (ℕ × E)) (r : At served past s) (id : ℕ) (v w : View E) → get_elem? s.views id ≡ some v
+      → ((j : ℕ) (u : View E) → j ≢ id → get_elem? s.views j ≡ some u → (Meets w u → ⊥) × (Meets u w → ⊥))
       → ((x : ℕ) → has x w.numbers ≡ true → has x v.numbers ≡ true)
       → ((x : ℕ) → Reserved w x → Reserved v x)
       → Alone s.views id w
-  stays_alone s past r id v w at tickets numbers reserved = record {
+  stays_alone s served past r id v w at tickets numbers reserved = record {
     tickets = tickets;
     apart = λ j u x ne e hw hu. ne (r.apart j id u v x e at hu (numbers x hw));
     reserves = λ j u x ne e rw ru. ne (r.reserves j id u v x e at ru (reserved x rw));
@@ -115,8 +124,8 @@ module _ {S E : Type 0} (stands : S → List (ℕ × E) → Type 0) (n : ℕ) wh
   }
 
   -- nobody's turn changes where a view without the turn is put in the place of another without it
-  pub holds_on : (s : St) (past : List (ℕ × E)) (r : At past s) (id : ℕ) (v w : View E) → get_elem? s.views id ≡ some v → v.in_turn ≡ false → w.in_turn ≡ false → Holds stands s.homes (set s.views id w) past
-  holds_on s past r id v w at off off' = ⊎_elim
+  pub holds_on : (s : St) (served : ℕ) (past : List (ℕ × E)) (r : At served past s) (id : ℕ) (v w : View E) → get_elem? s.views id ≡ some v → v.in_turn ≡ false → w.in_turn ≡ false → Holds stands s.homes (set s.views id w) past
+  holds_on s served past r id v w at off off' = ⊎_elim
       (λ home. inl (home.0, home.1, home.2, each_set (λ _ (u : View E). u.in_turn ≡ false) s.views id w (λ j u _ e. home.3 j u e) off'))
       (λ away. inr (away.0, (away.1.0, away.1.1, still away.1.0 away.1.1 away.1.2 away.1.3, away.1.3)))
       r.slot

@@ -5,7 +5,7 @@ use mathlib.Core.Logic.{dite}
 use native.Mathlib.Decide.{ℕ_discrete}
 use lib.ListN.{get_elem?}
 use Rattle.atomic_table.proofs.Lists.{at_set}
-use Rattle.history_lock.specs.Histories.{has, by, Begins}
+use Rattle.history_lock.specs.Histories.{has, by, made, Begins}
 use Rattle.history_lock.specs.Rule.{total}
 
 pub append_nil : {A : Type 0} (xs : List A) → xs ++ [] ≡ xs
@@ -56,8 +56,14 @@ by_append {E} x (e ∷ es) fs = by_step e.1 (by x (es ++ fs)) (by x es) (by x fs
     by_step a l m n true p = ap (λ k. a ∷ k) p
     by_step a l m n false p = p
 
-pub by_else : {E : Type 0} (x k : ℕ) (e : E) → k ≢ x → by x ((k, e) ∷ []) ≡ []
-by_else x k e apart = ap (λ (b : Bool). if b then e ∷ [] else []) (ne_eqb k x apart)
+-- entries of one maker are none of another
+pub by_made : {E : Type 0} (x k : ℕ) (es : List E) → k ≢ x → by x (made k es) ≡ []
+by_made x k [] apart = refl
+by_made x k (e ∷ es) apart = ap (λ (b : Bool). if b then e ∷ by x (made k es) else by x (made k es)) (ne_eqb k x apart) ∙ by_made x k es apart
+
+pub length_made : {E : Type 0} (k : ℕ) (es : List E) → length (made k es) ≡ length es
+length_made k [] = refl
+length_made k (e ∷ es) = ap suc (length_made k es)
 
 -- what is behind a beginning that has all of a maker's entries has none of them
 pub by_behind : {E : Type 0} (x : ℕ) (seen between log : List (ℕ × E)) → log ≡ seen ++ between → by x log ≡ by x seen → by x between ≡ []

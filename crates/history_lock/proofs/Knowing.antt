@@ -10,10 +10,10 @@ use Rattle.history_lock.proofs.Facts.{by_none}
 
 module _ {S E : Type 0} (stands : S → List (ℕ × E) → Type 0) (n : ℕ) where
   -- if it answers for the first n and none was split off it, then nothing else was made
-  pub only_initial : (s : State (Opt S) (View E)) (past : List (ℕ × E)) (r : KeptOf stands n past s) → Accounts n s.views past → (id : ℕ) (v : View E) → get_elem? s.views id ≡ some v → has v.number v.numbers ≡ true
+  pub only_initial : (s : State (Opt S) (View E)) (served : ℕ) (past : List (ℕ × E)) (r : KeptOf stands n served past s) → Accounts n s.views past → (id : ℕ) (v : View E) → get_elem? s.views id ≡ some v → has v.number v.numbers ≡ true
       → (seen : List (ℕ × E)) → Begins seen past
       → ((x : ℕ) → x < v.initial → has x v.numbers ≡ true) → v.splits ≡ 0 → (x : ℕ) → v.initial ≤ x → by x seen ≡ []
-  only_initial s past r acc id v at own seen begun all none x le =
+  only_initial s served past r acc id v at own seen begun all none x le =
       let is : v.initial ≡ n = (r.each id v at).initial v.number own in
       by_none x seen past begun (⊎_elim
       (λ within. within.1 x (omega (arith, le, is)))

@@ -11,11 +11,11 @@ use Rattle.history_lock.specs.declared.view.View.{View}
 use Rattle.history_lock.specs.Histories.{limit, has, by, Begins, longer}
 use Rattle.history_lock.specs.Passes.{LockId, PassState, initial_pass, initial_passes}
 use Rattle.history_lock.specs.Views.{IsSeated, IsOpening, shown, held, Reserved, term, plain, opening, nobody, thinned, newborn, opened, newly_opened, divided, split_off, joined}
-use Rattle.history_lock.specs.Rule.{total, Fits, KeptOf, Kept, Accounts, IsWithin, WasSplit}
+use Rattle.history_lock.specs.Rule.{total, Fits, Meets, KeptOf, Kept, Accounts, IsWithin, WasSplit}
 use Rattle.history_lock.specs.Steps.{Recalled}
 use Rattle.history_lock.proofs.Facts.{begins_same, begins_nil, begins_both, by_none, by_within, has_append, has_front, has_behind, has_one, has_same, total_set, total_snoc, each_set, each_snoc, set_there, set_other, set_swap, not_true}
 use Rattle.history_lock.proofs.Reserves.{nobody_reserves, thinned_within, newborn_within, parted, base_taken, base_not_kept, unopened_taken, unopened_not_kept, from_base, base_within}
-use Rattle.history_lock.proofs.Changes.{Alone, fits_later, changed, stays_alone, accounts_set, holds_on}
+use Rattle.history_lock.proofs.Changes.{Alone, fits_later, meets_none, changed, stays_alone, accounts_set, holds_on}
 use Rattle.history_lock.proofs.Knowing.{only_initial}
 
 less : (a b : ℕ) → a < b → nat_lt a b ≡ true
@@ -34,20 +34,20 @@ module _ {S E : Type 0} (stands : S → List (ℕ × E) → Type 0) (n : ℕ) wh
   abbrev Rule : St → Type 0
   Rule s = Kept stands n s
 
-  abbrev At : List (ℕ × E) → St → Type 0
-  At log s = KeptOf stands n log s
+  abbrev At : ℕ → List (ℕ × E) → St → Type 0
+  At served log s = KeptOf stands n served log s
 
   -- ---- the beginning
 
   -- a pass that answers for its own number alone
-  plain_fits : (t : ℕ) (log seen : List (ℕ × E)) (k unopened base stride : ℕ) → Begins seen log → by k log ≡ by k seen → n ≤ base
+  plain_fits : (served t : ℕ) (log seen : List (ℕ × E)) (k unopened base stride : ℕ) → Begins seen log → by k log ≡ by k seen → n ≤ base
       → ((x : ℕ) → Reserved {E = E} (plain n k seen unopened base stride) x → by x log ≡ [])
-      → Fits n t log (plain n k seen unopened base stride)
-  plain_fits t log seen k unopened base stride begun same beyond unused = record {
+      → Fits n served t log (plain n k seen unopened base stride)
+  plain_fits served t log seen k unopened base stride begun same beyond unused = record {
     seen = begun;
     own_seen = begins_nil log;
     other_seen = begins_nil log;
-    waits = λ h. absurd (true≢false (sym h));
+    waits = λ h. absurd (omega (arith, h));
     turn = λ h. absurd (true≢false (sym h));
     whole = λ x h. subst (λ (y : ℕ). by y log ≡ by y seen) (has_one x k h) same;
     own_whole = λ x h. absurd (true≢false (sym h));
@@ -56,7 +56,7 @@ module _ {S E : Type 0} (stands : S → List (ℕ × E) → Type 0) (n : ℕ) wh
     other = λ x h. absurd (true≢false (sym h));
     disjoint = λ x h. absurd (true≢false (sym h));
     initial = λ x h. refl;
-    named = λ h. absurd (true≢false (sym h));
+    named = λ h. absurd (omega (arith, h));
     unused = unused;
     beyond = λ _. beyond;
   }
@@ -70,11 +70,13 @@ module _ {S E : Type 0} (stands : S → List (ℕ × E) → Type 0) (n : ℕ) wh
   pub begins : (x : S) (berths : List ℕ) → 0 < n → stands x [] → Rule record { words = 0 ∷ 0 ∷ berths; homes = some (Some x) ∷ []; views = opening n ∷ [] }
   begins x berths some_pass stood = (
     [],
+    0,
     record {
       words = (berths, refl);
       bound = omega arith;
-      each = λ i v e. one (λ _ u. Fits n 0 [] u) (plain_fits 0 [] [] (n - 1) 0 n 1 (begins_same []) refl (le_refl n) (λ _ _. refl)) i v e;
-      tickets = λ i j v w ei ej _ _ _. one (λ k _. k ≡ j) (one (λ l _. 0 ≡ l) refl j w ej) i v ei;
+      few = omega arith;
+      each = λ i v e. one (λ _ u. Fits n 0 0 [] u) (plain_fits 0 0 [] [] (n - 1) 0 n 1 (begins_same []) refl (le_refl n) (λ _ _. refl)) i v e;
+      tickets = λ i j v w ei ej _. one (λ k _. k ≡ j) (one (λ l _. 0 ≡ l) refl j w ej) i v ei;
       apart = λ i j v w x' ei ej _ _. one (λ k _. k ≡ j) (one (λ l _. 0 ≡ l) refl j w ej) i v ei;
       reserves = λ i j v w x' ei ej _ _. one (λ k _. k ≡ j) (one (λ l _. 0 ≡ l) refl j w ej) i v ei;
       fresh = λ i j v w x' ei ej. one (λ _ u. has x' u.numbers ≡ true → Reserved w x' → ⊥) (λ h. one (λ _ u. Reserved u x' → ⊥) (last_is_free some_pass x' h) j w ej) i v ei;
@@ -100,19 +102,19 @@ module _ {S E : Type 0} (stands : S → List (ℕ × E) → Type 0) (n : ℕ) wh
     pub unanswered : (j : ℕ) (u : V) (x : ℕ) → get_elem? views j ≡ some u → has x u.numbers ≡ true → Reserved w x → ⊥
     pub fresh : (x : ℕ) → has x w.numbers ≡ true → Reserved w x → ⊥
 
-  grown : (s : St) (past : List (ℕ × E)) (r : At past s) (w : V) → w.has_ticket ≡ false → w.in_turn ≡ false → Fits n (length past + total held s.views) past w → IsBeside s.views w
-      → At past record { words = s.words; homes = s.homes; views = s.views ++ w ∷ [] }
-  grown s past r w off free fits new =
-      let t : ℕ = length past + total held s.views in
-      let zero_held : held w ≡ 0 = ap (λ (b : Bool). if b then 1 else 0) off in
+  grown : (s : St) (served : ℕ) (past : List (ℕ × E)) (r : At served past s) (w : V) → w.tickets ≡ 0 → w.in_turn ≡ false → Fits n served (served + total held s.views) past w → IsBeside s.views w
+      → At served past record { words = s.words; homes = s.homes; views = s.views ++ w ∷ [] }
+  grown s served past r w off free fits new =
+      let t : ℕ = served + total held s.views in
       let more = total_snoc held s.views w in
-      let same : t ≡ length past + total held (s.views ++ w ∷ []) = omega (arith, more, zero_held) in record {
-        words = (r.words.0, r.words.1 ∙ ap (λ (k : ℕ). k ∷ length past ∷ r.words.0) same);
+      let same : t ≡ served + total held (s.views ++ w ∷ []) = omega (arith, more, off) in record {
+        words = (r.words.0, r.words.1 ∙ ap (λ (k : ℕ). k ∷ served ∷ r.words.0) same);
         bound = subst (λ (k : ℕ). k ≤ limit) same r.bound;
-        each = subst (λ (k : ℕ). (j : ℕ) (u : V) → get_elem? (s.views ++ w ∷ []) j ≡ some u → Fits n k past u) same (each_snoc (λ _ u. Fits n t past u) s.views w r.each fits);
-        tickets = λ i j u z ei ej. each_snoc (λ k y. y.has_ticket ≡ true → z.has_ticket ≡ true → y.ticket ≡ z.ticket → k ≡ j) s.views w
-            (λ k y ek dy dz tz. each_snoc (λ l a. a.has_ticket ≡ true → y.ticket ≡ a.ticket → k ≡ l) s.views w (λ l a el da ta. r.tickets k l y a ek el dy da ta) (λ dw _. absurd (true≢false (sym dw ∙ off))) j z ej dz tz)
-            (λ dw _ _. absurd (true≢false (sym dw ∙ off))) i u ei;
+        few = r.few;
+        each = subst (λ (k : ℕ). (j : ℕ) (u : V) → get_elem? (s.views ++ w ∷ []) j ≡ some u → Fits n served k past u) same (each_snoc (λ _ u. Fits n served t past u) s.views w r.each fits);
+        tickets = λ i j u z ei ej. each_snoc (λ k y. Meets y z → k ≡ j) s.views w
+            (λ k y ek. each_snoc (λ l a. Meets y a → k ≡ l) s.views w (λ l a el m. r.tickets k l y a ek el m) (λ m. absurd ((meets_none w y off).1 m)) j z ej)
+            (λ m. absurd ((meets_none w z off).0 m)) i u ei;
         apart = λ i j u z x ei ej. each_snoc (λ k y. has x y.numbers ≡ true → has x z.numbers ≡ true → k ≡ j) s.views w
             (λ k y ek hy. each_snoc (λ l a. has x a.numbers ≡ true → k ≡ l) s.views w (λ l a el ha. r.apart k l y a x ek el hy ha) (λ hw. absurd (new.apart k y x ek hw hy)) j z ej)
             (λ hw. each_snoc (λ l a. has x a.numbers ≡ true → length s.views ≡ l) s.views w (λ l a el ha. absurd (new.apart l a x el hw ha)) (λ _. refl) j z ej) i u ei;
@@ -128,8 +130,8 @@ module _ {S E : Type 0} (stands : S → List (ℕ × E) → Type 0) (n : ℕ) wh
             r.slot;
       }
 
-  thinned_fits : (t : ℕ) (log : List (ℕ × E)) (v : V) (unopened splits : ℕ) → Fits n t log v → v.unopened ≤ unopened → Fits n t log (thinned v unopened splits)
-  thinned_fits t log v unopened splits f le = record {
+  thinned_fits : (served t : ℕ) (log : List (ℕ × E)) (v : V) (unopened splits : ℕ) → Fits n served t log v → v.unopened ≤ unopened → Fits n served t log (thinned v unopened splits)
+  thinned_fits served t log v unopened splits f le = record {
     seen = f.seen;
     own_seen = f.own_seen;
     other_seen = f.other_seen;
@@ -148,33 +150,33 @@ module _ {S E : Type 0} (stands : S → List (ℕ × E) → Type 0) (n : ℕ) wh
   }
 
   -- a pass is parted in two: the second has a number that the first might give
-  parts : (s : St) (past : List (ℕ × E)) (r : At past s) (id : ℕ) (v : V) (unopened splits k : ℕ) → get_elem? s.views id ≡ some v → v.has_ticket ≡ false → v.in_turn ≡ false → has v.number v.numbers ≡ true → 0 < v.stride
+  parts : (s : St) (served : ℕ) (past : List (ℕ × E)) (r : At served past s) (id : ℕ) (v : V) (unopened splits k : ℕ) → get_elem? s.views id ≡ some v → v.tickets ≡ 0 → v.in_turn ≡ false → has v.number v.numbers ≡ true → 0 < v.stride
       → v.unopened ≤ unopened → Reserved v k
       → (v.initial ≤ v.base → Reserved (thinned v unopened splits) k → ⊥)
       → (v.initial ≤ v.base → Reserved (newborn v k) k → ⊥)
-      → At past record { words = s.words; homes = s.homes; views = set s.views id (thinned v unopened splits) ++ newborn v k ∷ [] }
-  parts s past r id v unopened splits k at off free own pos le may taken untaken =
+      → At served past record { words = s.words; homes = s.homes; views = set s.views id (thinned v unopened splits) ++ newborn v k ∷ [] }
+  parts s served past r id v unopened splits k at off free own pos le may taken untaken =
       let w : V = thinned v unopened splits in
       let b : V = newborn v k in
       let f = r.each id v at in
       let is : v.initial ≡ n = f.initial v.number own in
       let from = f.beyond pos in
       let far : v.initial ≤ v.base = omega (arith, is, from) in
-      let t : ℕ = length past + total held s.views in
+      let t : ℕ = served + total held s.views in
       let more = total_set held s.views id v w at in
-      let same : length past + total held (set s.views id w) ≡ t = omega (arith, more) in
+      let same : served + total held (set s.views id w) ≡ t = omega (arith, more) in
       let bound = r.bound in
       let none = f.unused k may in
-      let middle : At past record { words = s.words; homes = s.homes; views = set s.views id w } =
-      subst (λ ws. At past record { words = ws; homes = s.homes; views = set s.views id w }) (ap (λ (j : ℕ). j ∷ length past ∷ r.words.0) same ∙ sym r.words.1)
-      (changed stands n s past r id v w past r.words.0 s.homes at (omega (arith, same, bound))
-      (λ j u _ e. fits_later n t (length past + total held (set s.views id w)) past u (omega (arith, same)) (r.each j u e))
-      (fits_later n t (length past + total held (set s.views id w)) past w (omega (arith, same)) (thinned_fits t past v unopened splits f le))
-      (stays_alone stands n s past r id v w at (λ h. absurd (true≢false (sym h ∙ off))) (λ x h. h) (λ x h. thinned_within v unopened splits x le h))
-      (holds_on stands n s past r id v w at free free)) in
-      grown record { words = s.words; homes = s.homes; views = set s.views id w } past middle b refl refl
-      (subst (λ (m : ℕ). Fits n (length past + total held (set s.views id w)) past (plain m k v.seen m (v.base + (v.stride + v.stride)) (v.stride + v.stride))) (sym is)
-      (plain_fits (length past + total held (set s.views id w)) past v.seen k n (v.base + (v.stride + v.stride)) (v.stride + v.stride) f.seen (none ∙ sym (by_none k v.seen past f.seen none)) (omega (arith, from))
+      let middle : At served past record { words = s.words; homes = s.homes; views = set s.views id w } =
+      subst (λ ws. At served past record { words = ws; homes = s.homes; views = set s.views id w }) (ap (λ (j : ℕ). j ∷ served ∷ r.words.0) same ∙ sym r.words.1)
+      (changed stands n s served past r id v w served past r.words.0 s.homes at (omega (arith, same, bound)) r.few
+      (λ j u _ e. fits_later n served t (served + total held (set s.views id w)) past u (omega (arith, same)) (r.each j u e))
+      (fits_later n served t (served + total held (set s.views id w)) past w (omega (arith, same)) (thinned_fits served t past v unopened splits f le))
+      (stays_alone stands n s served past r id v w at (λ j u _ _. meets_none w u off) (λ x h. h) (λ x h. thinned_within v unopened splits x le h))
+      (holds_on stands n s served past r id v w at free free)) in
+      grown record { words = s.words; homes = s.homes; views = set s.views id w } served past middle b refl refl
+      (subst (λ (m : ℕ). Fits n served (served + total held (set s.views id w)) past (plain m k v.seen m (v.base + (v.stride + v.stride)) (v.stride + v.stride))) (sym is)
+      (plain_fits served (served + total held (set s.views id w)) past v.seen k n (v.base + (v.stride + v.stride)) (v.stride + v.stride) f.seen (none ∙ sym (by_none k v.seen past f.seen none)) (omega (arith, from))
       (λ x h. f.unused x (newborn_within v k x (subst (λ (m : ℕ). Reserved (plain m k v.seen m (v.base + (v.stride + v.stride)) (v.stride + v.stride)) x) (sym is) h)))))
       record {
         apart = λ j u x e hb. each_set (λ _ y. has x y.numbers ≡ true → ⊥) s.views id w
@@ -195,17 +197,19 @@ module _ {S E : Type 0} (stands : S → List (ℕ × E) → Type 0) (n : ℕ) wh
   was_snoc : (views : List V) (w : V) → WasSplit n views → WasSplit n (views ++ w ∷ [])
   was_snoc views w was = (was.0, was.1, was.2, at_longer views (w ∷ []) was.0 was.1 was.3, was.4, was.5, was.6)
 
-  pub opens : (id : ℕ) (v : V) → v.has_ticket ≡ false → v.in_turn ≡ false → has v.number v.numbers ≡ true → 0 < v.stride → v.unopened + 1 < v.initial → Splits Rule id v (opened v) (newly_opened v)
+  pub opens : (id : ℕ) (v : V) → v.tickets ≡ 0 → v.in_turn ≡ false → has v.number v.numbers ≡ true → 0 < v.stride → v.unopened + 1 < v.initial → Splits Rule id v (opened v) (newly_opened v)
   opens id v off free own pos more s kept_now at =
       let past : List (ℕ × E) = kept_now.0 in
-      let r = kept_now.1 in
+      let served : ℕ = kept_now.1 in
+      let r = kept_now.2 in
       let is : v.initial ≡ n = (r.each id v at).initial v.number own in (
         past,
-        parts s past r id v (v.unopened + 1) v.splits v.unopened at off free own pos (omega arith) (inl (le_refl v.unopened, more)) (λ far. unopened_taken v v.splits more far) (λ far. unopened_not_kept v v.unopened more far),
+        served,
+        parts s served past r id v (v.unopened + 1) v.splits v.unopened at off free own pos (omega arith) (inl (le_refl v.unopened, more)) (λ far. unopened_taken v v.splits more far) (λ far. unopened_not_kept v v.unopened more far),
         ⊎_elim
             (λ (within : IsWithin n (set s.views id (opened v)) past). inl ((λ i u x. each_snoc (λ _ y. has x y.numbers ≡ true → x < n) (set s.views id (opened v)) (newly_opened v) (λ j y e h. within.0 j y x e h) (λ h. let k = has_one x v.unopened h in omega (arith, k, more, is)) i u), within.1))
             (λ was. inr (was_snoc (set s.views id (opened v)) (newly_opened v) was))
-            (accounts_set n s.views id v (opened v) past past at refl (le_refl v.splits) (λ within. within.1) kept_now.2),
+            (accounts_set n s.views id v (opened v) past past at refl (le_refl v.splits) (λ within. within.1) kept_now.3),
       )
 
   -- where a pass is split, one that answers for one of the first n was split
@@ -216,13 +220,15 @@ module _ {S E : Type 0} (stands : S → List (ℕ × E) → Type 0) (n : ℕ) wh
       (accounts_set n s.views id v (divided v) past past at refl (omega arith) (λ within. within.1) acc))
       acc
 
-  pub splits_off : (id : ℕ) (v : V) → v.has_ticket ≡ false → v.in_turn ≡ false → has v.number v.numbers ≡ true → 0 < v.stride → Splits Rule id v (divided v) (split_off v)
+  pub splits_off : (id : ℕ) (v : V) → v.tickets ≡ 0 → v.in_turn ≡ false → has v.number v.numbers ≡ true → 0 < v.stride → Splits Rule id v (divided v) (split_off v)
   splits_off id v off free own pos s kept_now at =
       let past : List (ℕ × E) = kept_now.0 in
-      let r = kept_now.1 in (
+      let served : ℕ = kept_now.1 in
+      let r = kept_now.2 in (
         past,
-        parts s past r id v v.unopened (v.splits + 1) v.base at off free own pos (le_refl v.unopened) (base_within v pos) (λ far. base_taken v (v.splits + 1) far) (λ far. base_not_kept v v.base far),
-        inr (was_snoc (set s.views id (divided v)) (split_off v) (was_split s past id v at own kept_now.2)),
+        served,
+        parts s served past r id v v.unopened (v.splits + 1) v.base at off free own pos (le_refl v.unopened) (base_within v pos) (λ far. base_taken v (v.splits + 1) far) (λ far. base_not_kept v v.base far),
+        inr (was_snoc (set s.views id (divided v)) (split_off v) (was_split s past id v at own kept_now.3)),
       )
 
   -- ---- two passes become one
@@ -244,12 +250,12 @@ module _ {S E : Type 0} (stands : S → List (ℕ × E) → Type 0) (n : ℕ) wh
       (λ le. subst (λ (t : Bool). Begins ys (if t then ys else xs)) (sym (not_less (length xs) (length ys) le)) (begins_both ys xs log c b le))
       (λ more. subst (λ (t : Bool). Begins ys (if t then ys else xs)) (sym (less (length xs) (length ys) (lt_of_not-le more))) (begins_same ys))
 
-  joined_fits : (t : ℕ) (log : List (ℕ × E)) (v w : V) → Fits n t log v → Fits n t log w → v.has_ticket ≡ false → v.in_turn ≡ false → v.initial ≡ n → ((x : ℕ) → has x v.numbers ≡ true → has x w.numbers ≡ true → ⊥) → Fits n t log (joined v w)
-  joined_fits t log v w f g off free is apart = record {
+  joined_fits : (served t : ℕ) (log : List (ℕ × E)) (v w : V) → Fits n served t log v → Fits n served t log w → v.tickets ≡ 0 → v.in_turn ≡ false → v.initial ≡ n → ((x : ℕ) → has x v.numbers ≡ true → has x w.numbers ≡ true → ⊥) → Fits n served t log (joined v w)
+  joined_fits served t log v w f g off free is apart = record {
     seen = longer_begins v.seen w.seen log f.seen g.seen;
     own_seen = f.seen;
     other_seen = g.seen;
-    waits = λ h. absurd (true≢false (sym h ∙ off));
+    waits = λ h. absurd (omega (arith, h, off));
     turn = λ h. absurd (true≢false (sym h ∙ free));
     whole = λ x h. ⊎_elim
         (λ a. sym (by_within x v.seen (longer v.seen w.seen) log (in_front v.seen w.seen log f.seen g.seen) (longer_begins v.seen w.seen log f.seen g.seen) (f.whole x a) ∙ sym (f.whole x a)))
@@ -261,17 +267,17 @@ module _ {S E : Type 0} (stands : S → List (ℕ × E) → Type 0) (n : ℕ) wh
     other = λ x h. has_behind x v.numbers w.numbers h;
     disjoint = apart;
     initial = λ x h. is;
-    named = λ h. absurd (true≢false (sym h ∙ off));
+    named = λ h. absurd (omega (arith, h, off));
     unused = f.unused;
     beyond = f.beyond;
   }
 
-  nobody_fits : (t : ℕ) (log : List (ℕ × E)) → Fits n t log nobody
-  nobody_fits t log = record {
+  nobody_fits : (served t : ℕ) (log : List (ℕ × E)) → Fits n served t log nobody
+  nobody_fits served t log = record {
     seen = begins_nil log;
     own_seen = begins_nil log;
     other_seen = begins_nil log;
-    waits = λ h. absurd (true≢false (sym h));
+    waits = λ h. absurd (omega (arith, h));
     turn = λ h. absurd (true≢false (sym h));
     whole = λ x h. absurd (true≢false (sym h));
     own_whole = λ x h. absurd (true≢false (sym h));
@@ -280,26 +286,25 @@ module _ {S E : Type 0} (stands : S → List (ℕ × E) → Type 0) (n : ℕ) wh
     other = λ x h. absurd (true≢false (sym h));
     disjoint = λ x h. absurd (true≢false (sym h));
     initial = λ x h. absurd (true≢false (sym h));
-    named = λ h. absurd (true≢false (sym h));
+    named = λ h. absurd (omega (arith, h));
     unused = λ x h. absurd (nobody_reserves E x h);
     beyond = λ pos. absurd (omega (arith, pos));
   }
 
   -- the other's view is spent
-  spends : (s : St) (past : List (ℕ × E)) (r : At past s) (other : ℕ) (w : V) → get_elem? s.views other ≡ some w → w.has_ticket ≡ false → w.in_turn ≡ false
-      → At past record { words = s.words; homes = s.homes; views = set s.views other nobody }
-  spends s past r other w at off free =
-      let t : ℕ = length past + total held s.views in
-      let no_w : held w ≡ 0 = ap (λ (b : Bool). if b then 1 else 0) off in
+  spends : (s : St) (served : ℕ) (past : List (ℕ × E)) (r : At served past s) (other : ℕ) (w : V) → get_elem? s.views other ≡ some w → w.tickets ≡ 0 → w.in_turn ≡ false
+      → At served past record { words = s.words; homes = s.homes; views = set s.views other nobody }
+  spends s served past r other w at off free =
+      let t : ℕ = served + total held s.views in
       let bound = r.bound in
       let one = total_set held s.views other w nobody at in
-      let same : length past + total held (set s.views other nobody) ≡ t = omega (arith, one, no_w) in
-      subst (λ ws. At past record { words = ws; homes = s.homes; views = set s.views other nobody }) (ap (λ (k : ℕ). k ∷ length past ∷ r.words.0) same ∙ sym r.words.1)
-      (changed stands n s past r other w nobody past r.words.0 s.homes at (omega (arith, same, bound))
-      (λ j u _ e. fits_later n t (length past + total held (set s.views other nobody)) past u (omega (arith, same)) (r.each j u e))
-      (nobody_fits (length past + total held (set s.views other nobody)) past)
-      (stays_alone stands n s past r other w nobody at (λ h. absurd (true≢false (sym h))) (λ x h. absurd (true≢false (sym h))) (λ x h. absurd (nobody_reserves E x h)))
-      (holds_on stands n s past r other w nobody at free refl))
+      let same : served + total held (set s.views other nobody) ≡ t = omega (arith, one, off) in
+      subst (λ ws. At served past record { words = ws; homes = s.homes; views = set s.views other nobody }) (ap (λ (k : ℕ). k ∷ served ∷ r.words.0) same ∙ sym r.words.1)
+      (changed stands n s served past r other w nobody served past r.words.0 s.homes at (omega (arith, same, bound)) r.few
+      (λ j u _ e. fits_later n served t (served + total held (set s.views other nobody)) past u (omega (arith, same)) (r.each j u e))
+      (nobody_fits served (served + total held (set s.views other nobody)) past)
+      (stays_alone stands n s served past r other w nobody at (λ j u _ _. meets_none nobody u refl) (λ x h. absurd (true≢false (sym h))) (λ x h. absurd (nobody_reserves E x h)))
+      (holds_on stands n s served past r other w nobody at free refl))
 
   -- a view beside which the other was spent is another's, or it is spent
   beside : (P : V → Type 0) (views : List V) (other j : ℕ) (u : V) → get_elem? (set views other nobody) j ≡ some u → (P nobody → ⊥) → P u → (j ≢ other) × (get_elem? views j ≡ some u)
@@ -308,9 +313,9 @@ module _ {S E : Type 0} (stands : S → List (ℕ × E) → Type 0) (n : ℕ) wh
       (λ (t : (j ≢ other) × (get_elem? views j ≡ some u)). t)
       (at_set views other j nobody u e)
 
-  joined_alone : (s : St) (past : List (ℕ × E)) (r : At past s) (id other : ℕ) (v w : V) → get_elem? s.views id ≡ some v → get_elem? s.views other ≡ some w → v.has_ticket ≡ false → Alone (set s.views other nobody) id (joined v w)
-  joined_alone s past r id other v w at there off = record {
-    tickets = λ h. absurd (true≢false (sym h ∙ off));
+  joined_alone : (s : St) (served : ℕ) (past : List (ℕ × E)) (r : At served past s) (id other : ℕ) (v w : V) → get_elem? s.views id ≡ some v → get_elem? s.views other ≡ some w → v.tickets ≡ 0 → Alone (set s.views other nobody) id (joined v w)
+  joined_alone s served past r id other v w at there off = record {
+    tickets = λ j u _ _. meets_none (joined v w) u off;
     apart = λ j u x ne e hw hu. let b = beside (λ (y : V). has x y.numbers ≡ true) s.views other j u e (λ h. true≢false (sym h)) hu in
         ⊎_elim (λ a. ne (r.apart j id u v x b.1 at hu a)) (λ a. b.0 (r.apart j other u w x b.1 there hu a)) (has_append x v.numbers w.numbers hw);
     reserves = λ j u x ne e rw ru. let b = beside (λ (y : V). Reserved y x) s.views other j u e (nobody_reserves E x) ru in ne (r.reserves j id u v x b.1 at ru rw);
@@ -343,41 +348,41 @@ module _ {S E : Type 0} (stands : S → List (ℕ × E) → Type 0) (n : ℕ) wh
           (id, joined v w, y, here, low, has_behind y v.numbers w.numbers (ap (λ (z : V). has y z.numbers) (sym eq) ∙ h), omega (arith, count, pos)))
           (λ off'. (i, u, y, set_other (set s.views other nobody) id i (joined v w) off ∙ (set_other s.views other i nobody off' ∙ e), low, h, pos)))
 
-  pub joins : (id : ℕ) (v : V) (other : ℕ) (w : V) → v.has_ticket ≡ false → v.in_turn ≡ false → w.has_ticket ≡ false → w.in_turn ≡ false → has v.number v.numbers ≡ true → Unites Rule id v other w (joined v w) nobody
+  pub joins : (id : ℕ) (v : V) (other : ℕ) (w : V) → v.tickets ≡ 0 → v.in_turn ≡ false → w.tickets ≡ 0 → w.in_turn ≡ false → has v.number v.numbers ≡ true → Unites Rule id v other w (joined v w) nobody
   joins id v other w off free off' free' own s kept_now at ne there =
       let past : List (ℕ × E) = kept_now.0 in
-      let r = kept_now.1 in
+      let served : ℕ = kept_now.1 in
+      let r = kept_now.2 in
       let before : get_elem? s.views other ≡ some w = ⊎_elim (λ (t : (other ≡ id) × (joined v w ≡ w)). absurd (ne t.0)) (λ (t : (other ≢ id) × (get_elem? s.views other ≡ some w)). t.1) (at_set s.views id other (joined v w) w there) in
       let mid : St = record { words = s.words; homes = s.homes; views = set s.views other nobody } in
-      let middle : At past mid = spends s past r other w before off' free' in
+      let middle : At served past mid = spends s served past r other w before off' free' in
       let here : get_elem? mid.views id ≡ some v = set_other s.views other id nobody (λ e. ne (sym e)) ∙ at in
-      let no_v : held v ≡ 0 = ap (λ (b : Bool). if b then 1 else 0) off in
-      let no_w : held w ≡ 0 = ap (λ (b : Bool). if b then 1 else 0) off' in
-      let t : ℕ = length past + total held s.views in
+      let t : ℕ = served + total held s.views in
       let one = total_set held s.views other w nobody before in
       let two = total_set held mid.views id v (joined v w) here in
-      let u : ℕ = length past + total held (set mid.views id (joined v w)) in
-      let same : u ≡ t = omega (arith, one, two, no_v, no_w) in
-      let same_mid : length past + total held mid.views ≡ t = omega (arith, one, no_w) in
+      let u : ℕ = served + total held (set mid.views id (joined v w)) in
+      let same : u ≡ t = omega (arith, one, two, off, off') in
+      let same_mid : served + total held mid.views ≡ t = omega (arith, one, off') in
       let bound = r.bound in
-      let end : At past record { words = s.words; homes = s.homes; views = set mid.views id (joined v w) } =
-      subst (λ ws. At past record { words = ws; homes = s.homes; views = set mid.views id (joined v w) }) (ap (λ (k : ℕ). k ∷ length past ∷ r.words.0) same ∙ sym r.words.1)
-      (changed stands n mid past middle id v (joined v w) past r.words.0 s.homes here (omega (arith, same, bound))
-      (λ j y _ e. fits_later n (length past + total held mid.views) u past y (omega (arith, same, same_mid)) (middle.each j y e))
-      (fits_later n t u past (joined v w) (omega (arith, same)) (joined_fits t past v w (r.each id v at) (r.each other w before) off free ((r.each id v at).initial v.number own) (λ x hv hw. ne (sym (r.apart id other v w x at before hv hw)))))
-      (joined_alone s past r id other v w at before off)
-      (holds_on stands n mid past middle id v (joined v w) here free free)) in
+      let end : At served past record { words = s.words; homes = s.homes; views = set mid.views id (joined v w) } =
+      subst (λ ws. At served past record { words = ws; homes = s.homes; views = set mid.views id (joined v w) }) (ap (λ (k : ℕ). k ∷ served ∷ r.words.0) same ∙ sym r.words.1)
+      (changed stands n mid served past middle id v (joined v w) served past r.words.0 s.homes here (omega (arith, same, bound)) r.few
+      (λ j y _ e. fits_later n served (served + total held mid.views) u past y (omega (arith, same, same_mid)) (middle.each j y e))
+      (fits_later n served t u past (joined v w) (omega (arith, same)) (joined_fits served t past v w (r.each id v at) (r.each other w before) off free ((r.each id v at).initial v.number own) (λ x hv hw. ne (sym (r.apart id other v w x at before hv hw)))))
+      (joined_alone s served past r id other v w at before off)
+      (holds_on stands n mid served past middle id v (joined v w) here free free)) in
       let swap = set_swap s.views other id nobody (joined v w) ne in (
         past,
-        subst (λ vs. At past record { words = s.words; homes = s.homes; views = vs }) swap end,
-        subst (λ vs. Accounts n vs past) swap (joined_accounts s past id other v w at before ne kept_now.2),
+        served,
+        subst (λ vs. At served past record { words = s.words; homes = s.homes; views = vs }) swap end,
+        subst (λ vs. Accounts n vs past) swap (joined_accounts s past id other v w at before ne kept_now.3),
       )
 
   -- ---- what a pass may rely on
 
-  recalled : (s : St) (past : List (ℕ × E)) (r : At past s) (acc : Accounts n s.views past) (slots found id : ℕ) (me : Me (Opt S) V) → get_elem? s.views id ≡ some me.0 → has me.0.number me.0.numbers ≡ true
+  recalled : (s : St) (served : ℕ) (past : List (ℕ × E)) (r : At served past s) (acc : Accounts n s.views past) (slots found id : ℕ) (me : Me (Opt S) V) → get_elem? s.views id ≡ some me.0 → has me.0.number me.0.numbers ≡ true
       → Recalled (step slots 0 0 0 none) me found me
-  recalled s past r acc slots found id me at own =
+  recalled s served past r acc slots found id me at own =
       let v : V = me.0 in
       let f = r.each id v at in
       let is : v.initial ≡ n = f.initial v.number own in (
@@ -391,7 +396,7 @@ module _ {S E : Type 0} (stands : S → List (ℕ × E) → Type 0) (n : ℕ) wh
           (λ x h. by_within x v.other_seen v.seen past (behind v.own_seen v.other_seen v.seen past long f.own_seen f.other_seen) f.seen (f.other_whole x h)),
         )),
         (λ x h. not_true (has x v.other_numbers) (f.disjoint x h)),
-        only_initial stands n s past r acc id v at own v.seen f.seen,
+        only_initial stands n s served past r acc id v at own v.seen f.seen,
       )
     where
       front : (xs ys seen log : List (ℕ × E)) → seen ≡ longer xs ys → Begins xs log → Begins ys log → Begins xs seen
@@ -404,8 +409,9 @@ module _ {S E : Type 0} (stands : S → List (ℕ × E) → Type 0) (n : ℕ) wh
       → Allows Rule slots id me 0 (λ x. x) (Recalled (step slots 0 0 0 none) me)
   recalls slots id me own s kept_now _ at _ =
       let past : List (ℕ × E) = kept_now.0 in
-      let r = kept_now.1 in
-      let t : ℕ = length past + total held s.views in
+      let served : ℕ = kept_now.1 in
+      let r = kept_now.2 in
+      let t : ℕ = served + total held s.views in
       let Goal : List ℕ → Type 0 = λ ws. (w : V) × (a : Act (Opt S)) × Valid s.homes me.1 a
       × Rule record { words = set ws 0 (get_or ws 0 0); homes = homes_after s.homes me.1 a; views = set s.views id w }
       × Recalled (step slots 0 0 0 none) me (get_or ws 0 0) (w, carried_after me.1 a) in
@@ -415,19 +421,20 @@ module _ {S E : Type 0} (stands : S → List (ℕ × E) → Type 0) (n : ℕ) wh
         tt,
         (
           past,
-          subst (λ vs. At past record { words = t ∷ length past ∷ r.words.0; homes = s.homes; views = vs }) (sym (set_again s.views id me.0 at)) (subst (λ ws. At past record { words = ws; homes = s.homes; views = s.views }) r.words.1 r),
-          subst (λ vs. Accounts n vs past) (sym (set_again s.views id me.0 at)) kept_now.2,
+          served,
+          subst (λ vs. At served past record { words = t ∷ served ∷ r.words.0; homes = s.homes; views = vs }) (sym (set_again s.views id me.0 at)) (subst (λ ws. At served past record { words = ws; homes = s.homes; views = s.views }) r.words.1 r),
+          subst (λ vs. Accounts n vs past) (sym (set_again s.views id me.0 at)) kept_now.3,
         ),
-        recalled s past r kept_now.2 slots t id me at own,
+        recalled s served past r kept_now.3 slots t id me at own,
       )
 
 -- ---- what the calls need of a pass's seat
 
-pub seated_after : {S E : Type 0} (v w : View E) (joint you : Me (Opt S) (View E)) → joint.0 ≡ joined v w → you.0 ≡ joint.0 → you.1 ≡ [] → has v.number v.numbers ≡ true → 0 < v.stride → v.has_ticket ≡ false → v.in_turn ≡ false → IsSeated you
+pub seated_after : {S E : Type 0} (v w : View E) (joint you : Me (Opt S) (View E)) → joint.0 ≡ joined v w → you.0 ≡ joint.0 → you.1 ≡ [] → has v.number v.numbers ≡ true → 0 < v.stride → v.tickets ≡ 0 → v.in_turn ≡ false → IsSeated you
 seated_after {S} {E} v w joint you is same out own pos off free =
     let none_held : List (ℕ × Opt S) = [] in
     subst (λ (m : Me (Opt S) (View E)). IsSeated m) (λ i. (sym (same ∙ is) i, sym out i))
-    (has_front v.number v.numbers w.numbers own, pos, subst (λ (b : Bool). MatchBool b ((v.has_ticket ≡ true) × (none_held ≡ (0, None) ∷ [])) ((v.has_ticket ≡ false) × (none_held ≡ []))) (sym free) (off, refl))
+    (has_front v.number v.numbers w.numbers own, pos, subst (λ (b : Bool). MatchBool b ((0 < v.tickets) × (none_held ≡ (0, None) ∷ [])) ((v.tickets ≡ 0) × (none_held ≡ []))) (sym free) (off, refl))
 
 pub opening_initial : {S E : Type 0} (n k : ℕ) (lock : LockId) (me : Me (Opt S) (View E)) → IsOpening n k lock me → me.0.initial ≡ n
 opening_initial n k lock me o = ap (λ p. p.initial) o.last
@@ -467,5 +474,5 @@ opening_seated {S} {E} n k lock me o =
     let free : me.0.in_turn ≡ false = ap (λ p. p.in_turn) o.last in (
       subst (λ (z : ℕ × List ℕ). has z.0 z.1 ≡ true) (λ i. (sym number i, sym numbers i)) (has_same (n - 1)),
       o.reserve,
-      subst (λ (b : Bool). MatchBool b ((me.0.has_ticket ≡ true) × (me.1 ≡ (0, None) ∷ [])) ((me.0.has_ticket ≡ false) × (me.1 ≡ []))) (sym free) (o.free, o.empty),
+      subst (λ (b : Bool). MatchBool b ((0 < me.0.tickets) × (me.1 ≡ (0, None) ∷ [])) ((me.0.tickets ≡ 0) × (me.1 ≡ []))) (sym free) (ap (λ p. p.tickets) o.last, o.empty),
     )

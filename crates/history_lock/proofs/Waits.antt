@@ -1,5 +1,5 @@
 -- A look behind another, whose ticket wasn't served.
-use Rattle.std.proofs.Common.{◌≡◌, ◌≢◌, ℕ, List, [], ◌++◌, true, false, Option as Opt, sym, ap, ◌∙◌}
+use Rattle.std.proofs.Common.{◌≡◌, ◌≢◌, ℕ, ◌<◌, List, [], ◌++◌, true, false, Option as Opt, sym, ap, ◌∙◌, subst}
 use Rattle.atomic_table.specs.Table.{Me}
 use Rattle.history_lock.specs.declared.view.View.{View}
 use Rattle.history_lock.specs.Histories.{has, by}
@@ -24,8 +24,8 @@ module _ {S E : Type 0} (stands : S → List (ℕ × E) → Type 0) where
         λ miss'. let c = m.1 (λ hit. miss' (hit ∙ ticket)) in (c.0 ∙ ap (λ (z : View E). looked z u.0.seen false) a.0, c.1 ∙ a.1, sees_on v.0 w.0 u.0 a.0 a.2 c.2),
       )
 
-  pub still_has_ticket : (v w : Me (Opt S) (View E)) (served : ℕ) → served ≢ v.0.ticket → Looked stands v served w → v.0.has_ticket ≡ true → w.0.has_ticket ≡ true
-  still_has_ticket v w served miss l h = ap (λ (z : View E). z.has_ticket) (l.1 miss).0 ∙ h
+  pub still_has_ticket : (v w : Me (Opt S) (View E)) (served : ℕ) → served ≢ v.0.ticket → Looked stands v served w → 0 < v.0.tickets → 0 < w.0.tickets
+  still_has_ticket v w served miss l h = subst (λ (k : ℕ). 0 < k) (sym (ap (λ (z : View E). z.tickets) (l.1 miss).0)) h
 
   pub still_waits : (v w : Me (Opt S) (View E)) (served : ℕ) → served ≢ v.0.ticket → Looked stands v served w → w.0.in_turn ≡ false
   still_waits v w served miss l = ap (λ (z : View E). z.in_turn) (l.1 miss).0

@@ -11,6 +11,11 @@ abbrev pub has : ℕ → List ℕ → Bool
 has x [] = false
 has x (y ∷ ys) = if y == x then true else has x ys
 
+-- entries of one maker
+abbrev pub made : {E : Type 0} → ℕ → List E → List (ℕ × E)
+made k [] = []
+made k (e ∷ es) = (k, e) ∷ made k es
+
 -- a list is a beginning of another
 abbrev pub Begins : {A : Type 0} → List A → List A → Type 0
 Begins {A} xs ys = (rest : List A) × (ys ≡ xs ++ rest)

@@ -7,7 +7,7 @@ use Rattle.history_lock.specs.Histories.{has, by, longer}
 abbrev pub LockId : Type 0
 LockId = TableId
 
--- a pass: of which lock, its number, the numbers that it answers for, how many passes were split off any of these, what it has seen of the history, whether it has the turn, and how many passes the lock began with, whose numbers are those below
+-- a pass: of which lock, its number, the numbers that it answers for, how many passes were split off any of these, what it has seen of the history, whether it has the turn, for how many tickets, and how many passes the lock began with, whose numbers are those below
 pub record PassState (E : Type 0) : Type 0 where
   pub lock : LockId
   pub number : ℕ
@@ -15,12 +15,13 @@ pub record PassState (E : Type 0) : Type 0 where
   pub splits : ℕ
   pub seen : List (ℕ × E)
   pub in_turn : Bool
+  pub tickets : ℕ
   pub initial : ℕ
 
 module _ {E : Type 0} where
   -- the pass with this number of those that a lock of n passes begins with
   abbrev pub initial_pass : LockId → ℕ → ℕ → PassState E
-  initial_pass lock n number = record { lock = lock; number = number; numbers = number ∷ []; splits = 0; seen = []; in_turn = false; initial = n }
+  initial_pass lock n number = record { lock = lock; number = number; numbers = number ∷ []; splits = 0; seen = []; in_turn = false; tickets = 0; initial = n }
 
   -- the first of them, so many
   abbrev pub initial_passes : LockId → ℕ → ℕ → List (PassState E)
@@ -45,7 +46,7 @@ module _ {E : Type 0} where
 
   -- a pass with a number of its own, which has seen what the first has
   abbrev pub split_pass : PassState E → ℕ → PassState E
-  split_pass p number = record { lock = p.lock; number = number; numbers = number ∷ []; splits = 0; seen = p.seen; in_turn = false; initial = p.initial }
+  split_pass p number = record { lock = p.lock; number = number; numbers = number ∷ []; splits = 0; seen = p.seen; in_turn = false; tickets = 0; initial = p.initial }
 
   -- a number beyond those that the lock began with, for which the pass doesn't answer and of which it has seen no entry
   abbrev pub IsNewNumber : PassState E → ℕ → Type 0

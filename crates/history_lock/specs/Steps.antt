@@ -1,5 +1,5 @@
 -- What each kind of step tells the pass that makes it.
-use Rattle.std.specs.Prelude.{◌≡◌, ◌≢◌, ℕ, ◌<◌, ◌≤◌, List, [], ◌∷◌, ◌++◌, length, true, false, Some, Option as Opt}
+use Rattle.std.specs.Prelude.{◌≡◌, ◌≢◌, ℕ, ◌+◌, ◌<◌, ◌≤◌, List, [], ◌∷◌, ◌++◌, length, true, false, Some, Option as Opt}
 use Rattle.atomic_table.specs.Table.{Me, Step}
 use Rattle.history_lock.specs.declared.view.View.{View}
 use Rattle.history_lock.specs.Histories.{limit, has, by, longer, Begins}
@@ -15,16 +15,16 @@ module _ {E : Type 0} where
   OnlyInitial v = ((x : ℕ) → x < v.initial → has x v.numbers ≡ true) → v.splits ≡ 0 → (x : ℕ) → v.initial ≤ x → by x v.seen ≡ []
 
 module _ {S E : Type 0} where
-  -- a ticket is drawn where the word was the number expected, below the limit
+  -- so many tickets are drawn where the word was the number expected
   abbrev pub Drawn : Step (Opt S) → Me (Opt S) (View E) → ℕ → Me (Opt S) (View E) → Type 0
   Drawn s v found w = (found ≤ limit) × (w.1 ≡ v.1)
-      × (found ≡ s.first → found < limit → w.0 ≡ drawn v.0 found)
-      × (found ≡ s.first → limit ≤ found → w.0 ≡ v.0)
+      × ((tickets : ℕ) → found ≡ s.first → 0 < tickets → s.second ≡ found + tickets → w.0 ≡ drawn v.0 found tickets)
+      × (found ≡ s.first → s.second ≡ found → w.0 ≡ v.0)
       × (found ≢ s.first → w.0 ≡ v.0)
 
-  -- the history has the entry
-  abbrev pub Advanced : Opt E → Step (Opt S) → Me (Opt S) (View E) → ℕ → Me (Opt S) (View E) → Type 0
-  Advanced ending s v found w = (found < limit) × (w.1 ≡ []) × ((x : E) → ending ≡ Some x → w.0 ≡ advanced v.0 x) × OnlyInitial w.0
+  -- the history has the entries, and the tickets are served
+  abbrev pub Advanced : List E → Step (Opt S) → Me (Opt S) (View E) → ℕ → Me (Opt S) (View E) → Type 0
+  Advanced ending s v found w = (found + s.first ≤ limit) × (w.1 ≡ []) × ((es : List E) → ending ≡ es → w.0 ≡ advanced v.0 es) × OnlyInitial w.0
 
   -- a mark on a berth changes nothing that a pass knows or holds
   abbrev pub Marked : Step (Opt S) → Me (Opt S) (View E) → ℕ → Me (Opt S) (View E) → Type 0

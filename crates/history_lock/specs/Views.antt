@@ -1,8 +1,8 @@
 -- What passes know, and how each kind of step changes it.
-use Rattle.std.specs.Prelude.{◌≡◌, ◌⊎◌, ℕ, zero, suc, ◌+◌, ◌-◌, ◌<◌, ◌≤◌, List, [], ◌∷◌, ◌++◌, Bool, true, false, if◌then◌else◌, MatchBool, None, Option as Opt}
+use Rattle.std.specs.Prelude.{◌≡◌, ◌⊎◌, ℕ, zero, suc, ◌+◌, ◌-◌, ◌<◌, ◌≤◌, List, [], ◌∷◌, ◌++◌, Bool, true, false, MatchBool, None, Option as Opt}
 use Rattle.atomic_table.specs.Table.{Me}
 use Rattle.history_lock.specs.declared.view.View.{View}
-use Rattle.history_lock.specs.Histories.{has, longer}
+use Rattle.history_lock.specs.Histories.{has, longer, made}
 use Rattle.history_lock.specs.Passes.{LockId, PassState, initial_pass}
 
 -- the i-th of the numbers base, base + stride, and so on
@@ -13,7 +13,7 @@ term base stride (suc i) = term base stride i + stride
 module _ {E : Type 0} where
   -- how many tickets it holds
   abbrev pub held : View E → ℕ
-  held v = if v.has_ticket then 1 else 0
+  held v = v.tickets
 
   -- it may still give this number to a pass: to one of those that the lock begins with, but for the last, or to one that is split off
   abbrev pub Reserved : View E → ℕ → Type 0
@@ -21,7 +21,7 @@ module _ {E : Type 0} where
 
   -- a pass that answers for its own number alone, out of turn, with the numbers that it may give
   abbrev pub plain : ℕ → ℕ → List (ℕ × E) → ℕ → ℕ → ℕ → View E
-  plain initial number seen unopened base stride = record { number = number; numbers = number ∷ []; splits = 0; seen = seen; has_ticket = false; ticket = 0; in_turn = false; initial = initial; unopened = unopened; base = base; stride = stride; own_numbers = []; own_seen = []; other_numbers = []; other_seen = [] }
+  plain initial number seen unopened base stride = record { number = number; numbers = number ∷ []; splits = 0; seen = seen; tickets = 0; ticket = 0; in_turn = false; initial = initial; unopened = unopened; base = base; stride = stride; own_numbers = []; own_seen = []; other_numbers = []; other_seen = [] }
 
   -- the one that opens the others has the last number
   abbrev pub opening : ℕ → View E
@@ -29,7 +29,7 @@ module _ {E : Type 0} where
 
   -- a pass that was joined into another answers for nothing
   abbrev pub nobody : View E
-  nobody = record { number = 0; numbers = []; splits = 0; seen = []; has_ticket = false; ticket = 0; in_turn = false; initial = 0; unopened = 0; base = 0; stride = 0; own_numbers = []; own_seen = []; other_numbers = []; other_seen = [] }
+  nobody = record { number = 0; numbers = []; splits = 0; seen = []; tickets = 0; ticket = 0; in_turn = false; initial = 0; unopened = 0; base = 0; stride = 0; own_numbers = []; own_seen = []; other_numbers = []; other_seen = [] }
 
   -- of the numbers behind its first it keeps each second one
   abbrev pub thinned : View E → ℕ → ℕ → View E
@@ -51,17 +51,17 @@ module _ {E : Type 0} where
   abbrev pub split_off : View E → View E
   split_off v = newborn v v.base
 
-  -- it has drawn this ticket
-  abbrev pub drawn : View E → ℕ → View E
-  drawn v ticket = record v { has_ticket = true; ticket = ticket }
+  -- it has drawn so many tickets, of which this is the first
+  abbrev pub drawn : View E → ℕ → ℕ → View E
+  drawn v ticket tickets = record v { tickets = tickets; ticket = ticket }
 
   -- it has seen this, and has the turn or hasn't
   abbrev pub looked : View E → List (ℕ × E) → Bool → View E
   looked v seen in_turn = record v { seen = seen; in_turn = in_turn }
 
-  -- its turn has ended with this entry
-  abbrev pub advanced : View E → E → View E
-  advanced v entry = record v { seen = v.seen ++ (v.number, entry) ∷ []; has_ticket = false; in_turn = false; own_numbers = []; own_seen = []; other_numbers = []; other_seen = [] }
+  -- its turn has ended with these entries
+  abbrev pub advanced : View E → List E → View E
+  advanced v entries = record v { seen = v.seen ++ made v.number entries; tickets = 0; in_turn = false; own_numbers = []; own_seen = []; other_numbers = []; other_seen = [] }
 
   -- two passes joined, with what each of them knew
   abbrev pub joined : View E → View E → View E
@@ -69,18 +69,17 @@ module _ {E : Type 0} where
 
   -- what contracts see of it
   abbrev pub shown : LockId → View E → PassState E
-  shown lock v = record { lock = lock; number = v.number; numbers = v.numbers; splits = v.splits; seen = v.seen; in_turn = v.in_turn; initial = v.initial }
+  shown lock v = record { lock = lock; number = v.number; numbers = v.numbers; splits = v.splits; seen = v.seen; in_turn = v.in_turn; tickets = v.tickets; initial = v.initial }
 
 module _ {S E : Type 0} where
   -- a pass between the calls: in turn it holds the slot, from which the state was taken
   abbrev pub IsSeated : Me (Opt S) (View E) → Type 0
   IsSeated me = (has me.0.number me.0.numbers ≡ true) × (0 < me.0.stride)
-      × MatchBool me.0.in_turn ((me.0.has_ticket ≡ true) × (me.1 ≡ (0, None) ∷ [])) ((me.0.has_ticket ≡ false) × (me.1 ≡ []))
+      × MatchBool me.0.in_turn ((0 < me.0.tickets) × (me.1 ≡ (0, None) ∷ [])) ((me.0.tickets ≡ 0) × (me.1 ≡ []))
 
   -- of the n passes that a lock begins with k are opened, and this is the one that opens them
   pub record IsOpening (n k : ℕ) (lock : LockId) (me : Me (Opt S) (View E)) : Type 0 where
     pub last : shown lock me.0 ≡ initial_pass lock n (n - 1)
     pub unopened : me.0.unopened ≡ k
     pub reserve : 0 < me.0.stride
-    pub free : me.0.has_ticket ≡ false
     pub empty : me.1 ≡ []

@@ -4,7 +4,7 @@ use crate::view::View;
 use atomic_table::{Join, Play, Split};
 use std::marker::{Brand, PhantomData};
 
-/// A ticket is drawn.
+/// Tickets are drawn.
 pub struct Draws;
 
 impl<S, E> Play<Option<S>, View<E>> for Draws {
@@ -24,20 +24,20 @@ impl<S: Standing<E, B>, E, B> Play<Option<S>, View<E>> for Looks<S, E, B> {
     ghost then = { λ _. Looked S.stands };
 }
 
-/// The entry that a turn ends with.
+/// The entries that a turn ends with.
 pub trait Ending<E> {
-    ghost use Rattle.std.specs.Prelude.{Option};
+    ghost use Rattle.std.specs.Prelude.{List};
 
-    ghost entry: { Option E };
+    ghost entries: { List E };
 }
 
 impl<E> Ending<E> for Brand {
-    ghost use Rattle.std.specs.Prelude.{None};
+    ghost use Rattle.std.specs.Prelude.{[]};
 
-    ghost entry = { None };
+    ghost entries = { [] };
 }
 
-/// The next ticket is served, and the history has the entry.
+/// The ticket after those of the pass is served, and the history has the entries.
 pub struct Advances<X> {
     marker: PhantomData<X>,
 }
@@ -45,7 +45,7 @@ pub struct Advances<X> {
 impl<S, E, X: Ending<E>> Play<Option<S>, View<E>> for Advances<X> {
     ghost use Rattle.history_lock.specs.Steps.{Advanced};
 
-    ghost then = { Advanced X.entry };
+    ghost then = { Advanced X.entries };
 }
 
 /// A berth is marked, as somebody goes to sleep there, or its mark is taken away.

@@ -1,5 +1,5 @@
 //! The lock, its passes and turns.
-ghost use Rattle.std.specs.Prelude.{◌≡◌, ◌≢◌, ◌≤◌, ◌<◌, ◌+◌, ◌++◌, ℕ, List, [], ◌∷◌, true, false, length, IfOk, IfErr, OnOk, OnErr, IfSome, IfNone, Some, vec_len};
+ghost use Rattle.std.specs.Prelude.{◌≡◌, ◌≢◌, ◌≤◌, ◌<◌, ◌+◌, ◌++◌, ℕ, List, [], ◌∷◌, true, false, length, IfOk, IfErr, OnOk, OnErr, OnSome, IfSome, IfNone, Some, vec_len};
 ghost use Rattle.std.specs.Borrow.{Lends, sem};
 ghost use Rattle.history_lock.specs.Histories.{limit, has, by, longer, Begins};
 ghost use Rattle.history_lock.specs.Passes.{PassState, Follows, IsSamePass, IsNewNumber, HasInitialOnly, KeepsWhole, initial_pass, initial_passes, split_once, split_pass, joined_pass};
@@ -16,7 +16,7 @@ use std::hint::spin_loop;
 use std::marker::{Brand, Model, PhantomData};
 use std::sync::Wait;
 
-// The words of the table: how many tickets are drawn, which one is served, and the berths, on which threads sleep.
+// The words of the table: how many tickets are drawn, how many are served, and the berths, on which threads sleep.
 const TICKET: usize = 0;
 
 const SERVING: usize = 1;
@@ -79,7 +79,7 @@ impl<S, E, B> Model for Pass<S, E, B> {
     ghost invariant = { λ p. IsSeated p.seat.me };
 }
 
-/// The state, while a pass has the turn. It can't be dropped: `leave` alone ends it.
+/// The state, while a pass has the turn. It can't be dropped: a turn is always left.
 pub struct Turn<S> {
     state: S,
 }
@@ -104,23 +104,37 @@ pub struct Spent {
 }
 
 impl<S: Standing<E, B>, E, B> HistoryLock<S, E, B> {
-    // Draws a ticket, unless none is left.
-    fn draw<R: Wait>(&self, rt: &R, seat: &mut Seat<Option<S>, View<E>>) -> Option<u64>
+    // Draws so many tickets, one after another, and answers the first, unless fewer are left.
+    fn draw<R: Wait>(
+        &self,
+        rt: &R,
+        seat: &mut Seat<Option<S>, View<E>>,
+        tickets: u64,
+    ) -> Option<u64>
         requires lock { seat.old.table_id ≡ self.now }
-        requires free { (seat.old.me.0.has_ticket ≡ false) × (seat.old.me.0.in_turn ≡ false) × (has seat.old.me.0.number seat.old.me.0.numbers ≡ true) }
+        requires tickets { (0 < tickets) × (tickets ≤ 2) }
+        requires free { (seat.old.me.0.tickets ≡ 0) × (seat.old.me.0.in_turn ≡ false) × (has seat.old.me.0.number seat.old.me.0.numbers ≡ true) }
         ensures same { (seat.new.table_id ≡ seat.old.table_id) × (seat.new.id ≡ seat.old.id) × (seat.new.me.1 ≡ seat.old.me.1) }
-        ensures some { IfSome result (λ ticket. seat.new.me.0 ≡ drawn seat.old.me.0 ticket) }
+        ensures some { IfSome result (λ ticket. seat.new.me.0 ≡ drawn seat.old.me.0 ticket tickets) }
         ensures none { IfNone result (seat.new.me.0 ≡ seat.old.me.0) }
     {
         let mut old = self.table.shared.peek(TICKET);
         for _ in rt.forever() {
-            let new = if old < LIMIT { old + 1 } else { old };
+            let new = if old <= LIMIT - tickets {
+                old + tickets
+            } else {
+                old
+            };
             let found = self
                 .table
                 .shared
                 .compare_exchange::<Draws>(seat, TICKET, old, new);
             if found == old {
-                return if found < LIMIT { Some(found) } else { None };
+                return if found <= LIMIT - tickets {
+                    Some(found)
+                } else {
+                    None
+                };
             }
             old = found;
         }
@@ -130,7 +144,7 @@ impl<S: Standing<E, B>, E, B> HistoryLock<S, E, B> {
     // Looks at the ticket that is served. Where it is the pass's own, the seat then holds the slot.
     fn look(&self, seat: &mut Seat<Option<S>, View<E>>) -> u64
         requires lock { seat.old.table_id ≡ self.now }
-        requires waits { (seat.old.me.0.has_ticket ≡ true) × (seat.old.me.0.in_turn ≡ false) × (seat.old.me.1 ≡ []) }
+        requires waits { (0 < seat.old.me.0.tickets) × (seat.old.me.0.in_turn ≡ false) × (seat.old.me.1 ≡ []) }
         ensures same { (seat.new.table_id ≡ seat.old.table_id) × (seat.new.id ≡ seat.old.id) }
         ensures looked { Looked S.stands seat.old.me result seat.new.me }
     {
@@ -146,7 +160,7 @@ impl<S: Standing<E, B>, E, B> HistoryLock<S, E, B> {
     // doesn't. Either looks again, and marks the berth anew.
     fn sleep<R: Wait>(&self, rt: &R, seat: &mut Seat<Option<S>, View<E>>, ticket: u64) -> u64
         requires lock { seat.old.table_id ≡ self.now }
-        requires waits { (seat.old.me.0.has_ticket ≡ true) × (seat.old.me.0.in_turn ≡ false) × (seat.old.me.0.ticket ≡ ticket) × (seat.old.me.1 ≡ []) }
+        requires waits { (0 < seat.old.me.0.tickets) × (seat.old.me.0.in_turn ≡ false) × (seat.old.me.0.ticket ≡ ticket) × (seat.old.me.1 ≡ []) }
         ensures same { (seat.new.table_id ≡ seat.old.table_id) × (seat.new.id ≡ seat.old.id) }
         ensures looked { Looked S.stands seat.old.me result seat.new.me }
     {
@@ -192,7 +206,7 @@ impl<S: Standing<E, B>, E, B> HistoryLock<S, E, B> {
         looks: u32,
     ) -> u64
         requires lock { seat.old.table_id ≡ self.now }
-        requires waits { (seat.old.me.0.has_ticket ≡ true) × (seat.old.me.0.in_turn ≡ false) × (seat.old.me.0.ticket ≡ ticket) × (seat.old.me.1 ≡ []) }
+        requires waits { (0 < seat.old.me.0.tickets) × (seat.old.me.0.in_turn ≡ false) × (seat.old.me.0.ticket ≡ ticket) × (seat.old.me.1 ≡ []) }
         ensures same { (seat.new.table_id ≡ seat.old.table_id) × (seat.new.id ≡ seat.old.id) }
         ensures looked { Looked S.stands seat.old.me result seat.new.me }
     {
@@ -206,7 +220,7 @@ impl<S: Standing<E, B>, E, B> HistoryLock<S, E, B> {
     // Waits until the ticket is served.
     fn wait<R: Wait>(&self, rt: &R, seat: &mut Seat<Option<S>, View<E>>, ticket: u64)
         requires lock { seat.old.table_id ≡ self.now }
-        requires waits { (seat.old.me.0.has_ticket ≡ true) × (seat.old.me.0.in_turn ≡ false) × (seat.old.me.0.ticket ≡ ticket) × (seat.old.me.1 ≡ []) }
+        requires waits { (0 < seat.old.me.0.tickets) × (seat.old.me.0.in_turn ≡ false) × (seat.old.me.0.ticket ≡ ticket) × (seat.old.me.1 ≡ []) }
         ensures same { (seat.new.table_id ≡ seat.old.table_id) × (seat.new.id ≡ seat.old.id) }
         ensures turn { Comes S.stands seat.old.me seat.new.me }
     {
@@ -222,18 +236,40 @@ impl<S: Standing<E, B>, E, B> HistoryLock<S, E, B> {
         unreachable!()
     }
 
-    // Ends the turn with the entry, and wakes the pass with the next ticket.
-    fn advance<X: Ending<E>>(&self, seat: &mut Seat<Option<S>, View<E>>, entry: &E)
+    // Ends the turn with the entry, and wakes the pass with the ticket after those of this one.
+    fn advance<X: Ending<E>>(&self, seat: &mut Seat<Option<S>, View<E>>, tickets: u64, entry: &E)
         requires lock { seat.old.table_id ≡ self.now }
-        requires turn { (seat.old.me.0.has_ticket ≡ true) × (seat.old.me.0.in_turn ≡ true) }
-        requires ending { X.entry ≡ Some entry.now }
+        requires turn { (seat.old.me.0.tickets ≡ tickets) × (0 < tickets) × (seat.old.me.0.in_turn ≡ true) }
+        requires ending { X.entries ≡ entry.now ∷ [] }
         requires stands { (state : S) × (seat.old.me.1 ≡ (0, Some state) ∷ []) × S.stands state (seat.old.me.0.seen ++ (seat.old.me.0.number, entry.now) ∷ []) }
         ensures same { (seat.new.table_id ≡ seat.old.table_id) × (seat.new.id ≡ seat.old.id) }
-        ensures after { seat.new.me ≡ (advanced seat.old.me.0 entry.now, []) }
+        ensures after { seat.new.me ≡ (advanced seat.old.me.0 (entry.now ∷ []), []) }
         ensures only { OnlyInitial seat.new.me.0 }
     {
-        let served = self.table.shared.fetch_add::<Advances<X>>(seat, SERVING, 1);
-        self.wake(seat, served + 1);
+        let served = self
+            .table
+            .shared
+            .fetch_add::<Advances<X>>(seat, SERVING, tickets);
+        self.wake(seat, served + tickets);
+    }
+
+    // The same with the entries of two turns.
+    fn advance_twice<X: Ending<E>>(
+        &self,
+        seat: &mut Seat<Option<S>, View<E>>,
+        first: &E,
+        second: &E,
+    )
+        requires lock { seat.old.table_id ≡ self.now }
+        requires turn { (seat.old.me.0.tickets ≡ 2) × (seat.old.me.0.in_turn ≡ true) }
+        requires ending { X.entries ≡ first.now ∷ second.now ∷ [] }
+        requires stands { (state : S) × (seat.old.me.1 ≡ (0, Some state) ∷ []) × S.stands state (seat.old.me.0.seen ++ (seat.old.me.0.number, first.now) ∷ (seat.old.me.0.number, second.now) ∷ []) }
+        ensures same { (seat.new.table_id ≡ seat.old.table_id) × (seat.new.id ≡ seat.old.id) }
+        ensures after { seat.new.me ≡ (advanced seat.old.me.0 (first.now ∷ second.now ∷ []), []) }
+        ensures only { OnlyInitial seat.new.me.0 }
+    {
+        let served = self.table.shared.fetch_add::<Advances<X>>(seat, SERVING, 2);
+        self.wake(seat, served + 2);
     }
 }
 
@@ -317,6 +353,31 @@ impl<S: Standing<E, B>, E, B> HistoryLock<S, E, B> {
         Ok((lock, all))
     }
 
+    // Waits for a turn with so many tickets, unless fewer are left.
+    fn enter_with<R: Wait>(&self, rt: &R, p: &mut Pass<S, E, B>, tickets: u64) -> Option<Turn<S>>
+        requires lock { p.old.lock ≡ self.now }
+        requires tickets { (0 < tickets) × (tickets ≤ 2) }
+        requires free { p.old.in_turn ≡ false }
+        ensures state { IfSome result (λ turn. S.stands turn.state p.new.seen) }
+        ensures seen { OnSome result (Follows p.old p.new) }
+        ensures bound { OnSome result (length p.new.seen < limit) }
+        ensures turn { OnSome result (p.new.in_turn ≡ true) }
+        ensures tickets { OnSome result (p.new.tickets ≡ tickets) }
+        ensures only { OnSome result (HasInitialOnly p.new) }
+        ensures none { IfNone result (p.new ≡ p.old) }
+        ensures named { has p.new.number p.new.numbers ≡ true }
+        ensures same { IsSamePass p.old p.new }
+    {
+        let Some(ticket) = self.draw(rt, &mut p.seat, tickets) else {
+            return None;
+        };
+        self.wait(rt, &mut p.seat, ticket);
+        let Some(state) = self.table.shared.exchange(&mut p.seat, STATE, None) else {
+            unreachable!()
+        };
+        Some(Turn { state })
+    }
+
     /// Waits for a turn. The state stands for the history that the pass has then seen.
     ///
     /// `Spent` comes where the ticket word is 2^62; then no ticket is drawn.
@@ -327,26 +388,42 @@ impl<S: Standing<E, B>, E, B> HistoryLock<S, E, B> {
         ensures seen { OnOk result (Follows p.old p.new) }
         ensures bound { OnOk result (length p.new.seen < limit) }
         ensures turn { OnOk result (p.new.in_turn ≡ true) }
+        ensures ticket { OnOk result (p.new.tickets ≡ 1) }
         ensures only { OnOk result (HasInitialOnly p.new) }
         ensures spent { IfErr result (λ e. e.ticket ≡ limit) }
         ensures none { OnErr result (p.new ≡ p.old) }
         ensures named { has p.new.number p.new.numbers ≡ true }
         ensures same { IsSamePass p.old p.new }
     {
-        let Some(ticket) = self.draw(rt, &mut p.seat) else {
+        let Some(turn) = self.enter_with(rt, p, 1) else {
             return Err(Spent { ticket: LIMIT });
         };
-        self.wait(rt, &mut p.seat, ticket);
-        let Some(state) = self.table.shared.exchange(&mut p.seat, STATE, None) else {
-            unreachable!()
-        };
-        Ok(Turn { state })
+        Ok(turn)
+    }
+
+    /// Waits for two turns, one right after the other, which end together. It answers `None`, and nothing has changed,
+    /// where fewer than two tickets are left.
+    pub fn enter_twice<R: Wait>(&self, rt: &R, p: &mut Pass<S, E, B>) -> Option<Turn<S>>
+        requires lock { p.old.lock ≡ self.now }
+        requires free { p.old.in_turn ≡ false }
+        ensures state { IfSome result (λ turn. S.stands turn.state p.new.seen) }
+        ensures seen { OnSome result (Follows p.old p.new) }
+        ensures bound { OnSome result (length p.new.seen < limit) }
+        ensures turn { OnSome result (p.new.in_turn ≡ true) }
+        ensures tickets { OnSome result (p.new.tickets ≡ 2) }
+        ensures only { OnSome result (HasInitialOnly p.new) }
+        ensures none { IfNone result (p.new ≡ p.old) }
+        ensures named { has p.new.number p.new.numbers ≡ true }
+        ensures same { IsSamePass p.old p.new }
+    {
+        self.enter_with(rt, p, 2)
     }
 
     /// Ends a turn with its entry. The state stands for the history with it, and the pass has seen both.
     pub fn leave(&self, p: &mut Pass<S, E, B>, turn: Turn<S>, entry: &E)
         requires lock { p.old.lock ≡ self.now }
         requires turn { p.old.in_turn ≡ true }
+        requires ticket { p.old.tickets ≡ 1 }
         requires stands { S.stands turn.state (p.old.seen ++ (p.old.number, entry.now) ∷ []) }
         ensures seen { p.new.seen ≡ p.old.seen ++ (p.old.number, entry.now) ∷ [] }
         ensures free { p.new.in_turn ≡ false }
@@ -355,7 +432,39 @@ impl<S: Standing<E, B>, E, B> HistoryLock<S, E, B> {
     {
         let Turn { state } = turn;
         self.table.shared.exchange(&mut p.seat, STATE, Some(state));
-        self.advance::<Brand>(&mut p.seat, entry);
+        self.advance::<Brand>(&mut p.seat, 1, entry);
+    }
+
+    /// Ends two turns with the entry of the first. The second leaves none.
+    pub fn leave_once(&self, p: &mut Pass<S, E, B>, turn: Turn<S>, entry: &E)
+        requires lock { p.old.lock ≡ self.now }
+        requires turn { p.old.in_turn ≡ true }
+        requires tickets { p.old.tickets ≡ 2 }
+        requires stands { S.stands turn.state (p.old.seen ++ (p.old.number, entry.now) ∷ []) }
+        ensures seen { p.new.seen ≡ p.old.seen ++ (p.old.number, entry.now) ∷ [] }
+        ensures free { p.new.in_turn ≡ false }
+        ensures only { HasInitialOnly p.new }
+        ensures same { IsSamePass p.old p.new }
+    {
+        let Turn { state } = turn;
+        self.table.shared.exchange(&mut p.seat, STATE, Some(state));
+        self.advance::<Brand>(&mut p.seat, 2, entry);
+    }
+
+    /// Ends two turns with an entry of each. The state stands for the history with both, and the pass has seen them.
+    pub fn leave_twice(&self, p: &mut Pass<S, E, B>, turn: Turn<S>, first: &E, second: &E)
+        requires lock { p.old.lock ≡ self.now }
+        requires turn { p.old.in_turn ≡ true }
+        requires tickets { p.old.tickets ≡ 2 }
+        requires stands { S.stands turn.state ((p.old.seen ++ (p.old.number, first.now) ∷ []) ++ (p.old.number, second.now) ∷ []) }
+        ensures seen { p.new.seen ≡ (p.old.seen ++ (p.old.number, first.now) ∷ []) ++ (p.old.number, second.now) ∷ [] }
+        ensures free { p.new.in_turn ≡ false }
+        ensures only { HasInitialOnly p.new }
+        ensures same { IsSamePass p.old p.new }
+    {
+        let Turn { state } = turn;
+        self.table.shared.exchange(&mut p.seat, STATE, Some(state));
+        self.advance_twice::<Brand>(&mut p.seat, first, second);
     }
 
     /// A further pass with a new number, which has seen what this one has.

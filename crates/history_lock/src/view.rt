@@ -9,8 +9,8 @@ pub struct View<E> {
     pub splits: u64,
     /// The history so far, each entry with its maker.
     pub seen: LinkedList<(u64, E)>,
-    /// Whether it holds a ticket, which one, and whether that is its turn.
-    pub has_ticket: bool,
+    /// How many tickets it holds, one after another, the first of them, and whether it has the turn.
+    pub tickets: u64,
     pub ticket: u64,
     pub in_turn: bool,
     /// How many passes the lock begins with, and the first of them that this one is still to open.

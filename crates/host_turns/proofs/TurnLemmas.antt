@@ -1,5 +1,5 @@
 -- What a turn leaves, from what it found and the entry that it left.
-use Rattle.std.proofs.Common.{◌≡◌, ℕ, ◌+◌, List, [], ◌∷◌, ◌++◌, length, Result, Ok, Err, true, false, ap, sym, subst, ◌∙◌}
+use Rattle.std.proofs.Common.{◌≡◌, ℕ, ◌+◌, List, [], ◌∷◌, ◌++◌, length, Option, Some, None, is_some, Result, Ok, Err, true, false, true≢false, refl, ap, sym, subst, ◌∙◌, append-nil}
 use Rattle.isolation.specs.Histories.{Entry, Attach, Take, Detach, Ran, waiting}
 use Rattle.isolation.specs.Makers.{AreOwned, Owns}
 use Rattle.isolation.specs.Seats.{seat_of}
@@ -9,7 +9,9 @@ use Rattle.history_lock.specs.Histories.{has}
 use Rattle.history_lock.specs.Passes.{Follows, IsSamePass, PassState}
 use Rattle.host_turns.specs.Debuggings.{Debugging, IsHistory, IsLongest, IsNew, handed, meaning}
 use Rattle.host_turns.specs.States.{HasState, IsShut, tells_over}
-use Rattle.host_turns.specs.Turns.{Acts, Attaches, AttachesAs, Finds, FindsShut, IsOverIf, IsStateOf, Leaves, Prints, Runs, RunsAs, Steps, TakesAs, Tells, TellsAs}
+use Rattle.host_turns.specs.Turns.{Acts, Attaches, AttachesAs, Finds, FindsShut, IsOverIf, IsStateOf, Leaves, Prints, Runs, RunsAs, Steps, TakesAs, Tells, TellsAndTakes, TellsAs, unless_kept}
+use Rattle.host_turns.specs.declared.answers.Answered.{Answered}
+use Rattle.host_turns.specs.declared.answers.Answered.TheVariants as answered
 use Rattle.host_turns.specs.declared.answers.Attached.{Attached}
 use Rattle.host_turns.specs.declared.answers.Attached.TheVariants as attached
 use Rattle.host_turns.specs.declared.answers.Gone.{Gone}
@@ -17,8 +19,13 @@ use Rattle.host_turns.specs.declared.answers.Gone.TheVariants as gone
 use Rattle.host_turns.specs.declared.answers.Progress.{Progress}
 use Rattle.host_turns.specs.declared.answers.Progress.TheVariants as progress
 use Rattle.host_turns.specs.declared.answers.Told.{Told}
+use Rattle.host_turns.specs.declared.answers.Told.TheVariants.{Kept, Overrun, Memory}
 use Rattle.host_turns.specs.declared.state.State.{State}
 use Rattle.host_turns.specs.declared.state.State.TheVariants as states
+
+abbrev or-else : {A : Type 0} → A → Option A → A
+or-else x None = x
+or-else x (Some y) = y
 
 -- a pass entered its turn and left it with this entry
 pub record Turn (d : Debugging) (p m q : PassState Entry) (entry : Entry) : Type 0 where
@@ -51,6 +58,13 @@ still-owns p m s follows same owns =
 -- a pass answers for its own number already before its turn
 answers-for : (p m : PassState Entry) → IsSamePass p m → has m.number m.numbers ≡ true → has p.number p.numbers ≡ true
 answers-for p m same named = subst (λ (z : ℕ × List ℕ). has z.0 z.1 ≡ true) (λ i. (same.1 i, same.2 i)) named
+
+-- and after it
+pub owns-after : (d : Debugging) (s : ℕ) (p q : PassState Entry) (entry : Entry) → Acts d p q entry → Owns p.number s p.seen
+    → Owns q.number s q.seen
+owns-after d s p q entry a owns =
+    subst (λ (z : ℕ × List (ℕ × Entry)). Owns z.0 s z.1) (λ i. (sym a.same.1 i, sym a.seen i))
+    (owns-longer p.number s (p.seen ++ a.between) ((p.number, entry) ∷ []) (owns-longer p.number s p.seen a.between owns))
 
 -- ---- what it leaves
 
@@ -160,6 +174,54 @@ over-if d states.Ended h is = is.1.0
 over-if d states.Paused h is = tt
 over-if d states.Waiting h is = tt
 over-if d states.Ready h is = tt
+
+-- ---- two turns that end together
+
+-- the pass between them, after the first, which left this entry
+abbrev pub midway : PassState Entry → Entry → PassState Entry
+midway m entry = record m { seen = m.seen ++ (m.number, entry) ∷ []; in_turn = false; tickets = 0 }
+
+pub first-turn : (d : Debugging) (p m : PassState Entry) (entry : Entry) → Follows p m → IsSamePass p m
+    → has m.number m.numbers ≡ true → IsHistory d (m.seen ++ (m.number, entry) ∷ []) → Turn d p m (midway m entry) entry
+first-turn d p m entry follows same named history =
+    turn d p m (midway m entry) entry follows same named refl refl (refl, refl, refl, refl, refl) history
+
+pub second-turn : (d : Debugging) (m q : PassState Entry) (first entry : Entry) → has m.number m.numbers ≡ true
+    → q.seen ≡ (m.seen ++ (m.number, first) ∷ []) ++ (m.number, entry) ∷ [] → q.in_turn ≡ false → IsSamePass m q
+    → IsHistory d ((m.seen ++ (m.number, first) ∷ []) ++ (m.number, entry) ∷ [])
+    → Turn d (midway m first) (midway m first) q entry
+second-turn d m q first entry named seen free kept history =
+    turn d (midway m first) (midway m first) q entry
+    ([], sym (append-nil (m.seen ++ (m.number, first) ∷ [])), λ x h. refl) (refl, refl, refl, refl, refl) named seen free kept
+    history
+
+-- the pass owns its sessions still
+pub owns-midway : (p m : PassState Entry) (s : ℕ) (entry : Entry) → Follows p m → IsSamePass p m → Owns p.number s p.seen
+    → Owns m.number s (m.seen ++ (m.number, entry) ∷ [])
+owns-midway p m s entry follows same owns =
+    owns-longer m.number s m.seen ((m.number, entry) ∷ []) (still-owns p m s follows same owns)
+
+-- a command that was kept
+pub is-kept : (answer : Result Told Gone) → unless_kept answer ≡ None → answer ≡ Ok Kept
+is-kept (Ok Kept) is = refl
+is-kept (Ok Overrun) is = absurd (true≢false (ap is_some is))
+is-kept (Ok Memory) is = absurd (true≢false (ap is_some is))
+is-kept (Err why) is = absurd (true≢false (ap is_some is))
+
+pub tells-kept : (d : Debugging) (s : ℕ) (text : List ℕ) (p m : PassState Entry) (answer : Result Told Gone) (entry : Entry)
+    → Turn d p m (midway m entry) entry → unless_kept answer ≡ None → TellsAs s text answer entry
+    → Tells d s text p (midway m entry) (Ok Kept)
+tells-kept d s text p m answer entry t is told =
+    tells d s text p m (midway m entry) (Ok Kept) entry t
+    (subst (λ (a : Result Told Gone). TellsAs s text a entry) (is-kept answer is) told) tt
+
+-- one that wasn't
+pub tells-alone : (d : Debugging) (s : ℕ) (text : List ℕ) (p q : PassState Entry) (answer : Result Told Gone)
+    (result : Answered) → Tells d s text p q answer → unless_kept answer ≡ Some result → TellsAndTakes d s text p q result
+tells-alone d s text p q (Ok Kept) result t is = absurd (true≢false (sym (ap is_some is)))
+tells-alone d s text p q (Ok Overrun) result t is = subst (TellsAndTakes d s text p q) (ap (or-else answered.Overrun) is) t
+tells-alone d s text p q (Ok Memory) result t is = subst (TellsAndTakes d s text p q) (ap (or-else answered.Memory) is) t
+tells-alone d s text p q (Err why) result t is = subst (TellsAndTakes d s text p q) (ap (or-else (answered.Gone why)) is) t
 
 -- ---- the program
 

@@ -1,13 +1,15 @@
 -- What a turn of a pass leaves.
-use Rattle.std.specs.Prelude.{◌≡◌, ◌≢◌, ◌+◌, ℕ, List, [], ◌∷◌, ◌++◌, length, map, string_bytes, Bool, true, false, Result, Ok, Err}
+use Rattle.std.specs.Prelude.{◌≡◌, ◌≢◌, ◌+◌, ℕ, List, [], ◌∷◌, ◌++◌, length, map, string_bytes, Bool, true, false, Option, Some, None, Result, Ok, Err}
 use Rattle.isolation.specs.Histories.{Entry, Attach, Take, Detach, Ran, steps_made}
 use Rattle.isolation.specs.Makers.{Owns, by, entries_of}
 use Rattle.isolation.specs.Stops.{plain}
-use Rattle.history_lock.specs.Histories.{has}
+use Rattle.history_lock.specs.Histories.{has, limit}
 use Rattle.history_lock.specs.Passes.{PassState, IsSamePass}
 use Rattle.host_turns.specs.Debuggings.{Debugging, IsHistory, IsLongest, IsNew, handed, meaning}
 use Rattle.host_turns.specs.Entries.{told_entry}
 use Rattle.host_turns.specs.States.{HasState, IsOver, IsShut}
+use Rattle.host_turns.specs.declared.answers.Answered.{Answered}
+use Rattle.host_turns.specs.declared.answers.Answered.TheVariants as answered
 use Rattle.host_turns.specs.declared.answers.Attached.{Attached}
 use Rattle.host_turns.specs.declared.answers.Attached.TheVariants as attached
 use Rattle.host_turns.specs.declared.answers.Gone.{Gone}
@@ -16,6 +18,7 @@ use Rattle.host_turns.specs.declared.answers.Progress.{Progress}
 use Rattle.host_turns.specs.declared.answers.Progress.TheVariants as progress
 use Rattle.host_turns.specs.declared.answers.Taken.{Taken}
 use Rattle.host_turns.specs.declared.answers.Told.{Told}
+use Rattle.host_turns.specs.declared.answers.Told.TheVariants.{Kept, Overrun, Memory}
 use Rattle.host_turns.specs.declared.state.State.TheVariants as states
 
 -- ---- calls of a host
@@ -35,6 +38,13 @@ TellsAs s text (Err why) entry = entry ≡ Detach s
 abbrev pub TakesAs : {A : Type 0} → ℕ → Result A Gone → Entry → Type 0
 TakesAs s (Ok taken) entry = entry ≡ Take s
 TakesAs s (Err why) entry = entry ≡ Detach s
+
+-- what became of a command that wasn't kept: nothing is handed out after it
+abbrev pub unless_kept : Result Told Gone → Option Answered
+unless_kept (Ok Kept) = None
+unless_kept (Ok Overrun) = Some answered.Overrun
+unless_kept (Ok Memory) = Some answered.Memory
+unless_kept (Err why) = Some (answered.Gone why)
 
 -- a session that was shut out found the program shut
 abbrev pub FindsShut : {A : Type 0} → Debugging → List (ℕ × Entry) → Result A Gone → Type 0
@@ -108,6 +118,17 @@ IsOverIf d false h = Unit {0}
 abbrev pub Takes : Debugging → ℕ → PassState Entry → PassState Entry → Result Taken Gone → Type 0
 Takes d s p q (Ok taken) = Finds d (IsOverIf d taken.is_over) p q (Take s) × Hands d s p q taken
 Takes d s p q (Err why) = Leaves d s p q why
+
+-- a session was told a text; where that was kept, the texts that wait were handed out by a second turn
+abbrev pub TellsAndTakes : Debugging → ℕ → List ℕ → PassState Entry → PassState Entry → Answered → Type 0
+TellsAndTakes d s text p q (answered.Taken taken) =
+    (m : PassState Entry) × Tells d s text p m (Ok Kept) × Takes d s m q (Ok taken)
+TellsAndTakes d s text p q answered.Overrun = Tells d s text p q (Ok Overrun)
+TellsAndTakes d s text p q answered.Memory = Tells d s text p q (Ok Memory)
+TellsAndTakes d s text p q (answered.Gone why) = Tells d s text p q (Err why)
+TellsAndTakes d s text p q (answered.GoneAfter why) =
+    (m : PassState Entry) × Tells d s text p m (Ok Kept) × Takes d s m q (Err why)
+TellsAndTakes d s text p q (answered.SpentAfter spent) = Tells d s text p q (Ok Kept) × (spent.ticket ≡ limit)
 
 -- ---- turns of the program
 

@@ -2,6 +2,7 @@
 
 use crate::state::State;
 use cdp_text::units::Units;
+use history_lock::Spent;
 use isolation::Loss;
 
 /// What became of a command.
@@ -42,6 +43,23 @@ pub struct Taken {
     pub texts: Vec<String>,
     /// Whether the program has ended: nothing more will come by itself.
     pub is_over: bool,
+}
+
+/// What became of a command, and of the texts that wait after it.
+#[derive(Drop)]
+pub enum Answered {
+    /// It was answered, and the texts that waited were handed out.
+    Taken(Taken),
+    /// The texts of the answer don't fit behind those that wait, and the session is detached.
+    Overrun,
+    /// There was no memory for the answer, and the session is detached.
+    Memory,
+    /// The session was gone before it was told the command.
+    Gone(Gone),
+    /// The command was answered, and the session was gone before its texts were handed out.
+    GoneAfter(Gone),
+    /// The command was answered, and no ticket was left for a turn that hands out the texts.
+    SpentAfter(Spent),
 }
 
 /// What a turn of the program did.

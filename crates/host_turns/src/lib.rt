@@ -16,8 +16,8 @@ mod hosted;
 mod state;
 mod turns;
 
-pub use answers::{Attached, Gone, Progress, Taken, Told};
+pub use answers::{Answered, Attached, Gone, Progress, Taken, Told};
 pub use entry::Entry;
 pub use hosted::{Hosted, Ran};
 pub use state::State;
-pub use turns::{Lock, Worker, attach, detach, look, run, shut, take, tell};
+pub use turns::{Lock, Worker, attach, detach, look, run, shut, take, tell_and_take};

@@ -5,9 +5,9 @@ ghost use Rattle.isolation.specs.Histories.{Detach, Shut, Take};
 ghost use Rattle.isolation.specs.Makers.{Owns};
 ghost use Rattle.history_lock.specs.Histories.{limit};
 ghost use Rattle.host_turns.specs.States.{HasState, tells_over};
-ghost use Rattle.host_turns.specs.Turns.{Acts, Attaches, Finds, Runs, Takes, Tells};
+ghost use Rattle.host_turns.specs.Turns.{Acts, Attaches, Finds, Runs, Takes, Tells, TellsAndTakes, unless_kept};
 
-use crate::answers::{Attached, Gone, Progress, Taken, Told};
+use crate::answers::{Answered, Attached, Gone, Progress, Taken, Told};
 use crate::calls::{self, Called};
 use crate::entry::Entry;
 use crate::hosted::Hosted;
@@ -70,7 +70,7 @@ pub fn attach<H: Hosted<B>, B, R: Wait>(
 }
 
 /// Answers a text of a session of this pass.
-pub fn tell<H: Hosted<B>, B, L: Bell, R: Wait>(
+fn tell<H: Hosted<B>, B, L: Bell, R: Wait>(
     rt: &R,
     lock: &Lock<H, B>,
     bell: &L,
@@ -120,6 +120,87 @@ pub fn take<H: Hosted<B>, B, L: Bell, R: Wait>(
     match answer {
         Ok(texts) => Ok(Ok(taken(texts, before))),
         Err(gone) => Ok(Err(gone)),
+    }
+}
+
+/// What became of a command, unless it was kept.
+fn unless_kept(answer: Result<Told, Gone>) -> Option<Answered>
+    ensures { result ≡ unless_kept answer }
+{
+    match answer {
+        Ok(Told::Kept) => None,
+        Ok(Told::Overrun) => Some(Answered::Overrun),
+        Ok(Told::Memory) => Some(Answered::Memory),
+        Err(gone) => Some(Answered::Gone(gone)),
+    }
+}
+
+/// Answers a text of a session of this pass, and hands out the texts that wait for it then, by two turns.
+fn tell_then_take<H: Hosted<B>, B, L: Bell, R: Wait>(
+    rt: &R,
+    lock: &Lock<H, B>,
+    bell: &L,
+    p: &mut Worker<H, B>,
+    session: u64,
+    text: String,
+) -> Result<Answered, Spent>
+    requires lock { p.old.lock ≡ lock.now }
+    requires free { p.old.in_turn ≡ false }
+    requires session { Owns p.old.number session p.old.seen }
+    ensures answers { IfOk result (λ answered. TellsAndTakes H.debugs session (string_bytes text) p.old p.new answered) }
+    ensures spent { IfErr result (λ e. e.ticket ≡ limit) }
+    ensures none { OnErr result (p.new ≡ p.old) }
+{
+    let answer = tell(rt, lock, bell, p, session, text)?;
+    if let Some(ended) = unless_kept(answer) {
+        return Ok(ended);
+    }
+    match take(rt, lock, bell, p, session) {
+        Ok(Ok(taken)) => Ok(Answered::Taken(taken)),
+        Ok(Err(gone)) => Ok(Answered::GoneAfter(gone)),
+        Err(spent) => Ok(Answered::SpentAfter(spent)),
+    }
+}
+
+/// Answers a text of a session of this pass, and hands out the texts that wait for it then. It waits once for both turns,
+/// as long as two tickets are left.
+pub fn tell_and_take<H: Hosted<B>, B, L: Bell, R: Wait>(
+    rt: &R,
+    lock: &Lock<H, B>,
+    bell: &L,
+    p: &mut Worker<H, B>,
+    session: u64,
+    text: String,
+) -> Result<Answered, Spent>
+    requires lock { p.old.lock ≡ lock.now }
+    requires free { p.old.in_turn ≡ false }
+    requires session { Owns p.old.number session p.old.seen }
+    ensures answers { IfOk result (λ answered. TellsAndTakes H.debugs session (string_bytes text) p.old p.new answered) }
+    ensures spent { IfErr result (λ e. e.ticket ≡ limit) }
+    ensures none { OnErr result (p.new ≡ p.old) }
+{
+    let Some(mut turn) = lock.enter_twice(rt, p) else {
+        return tell_then_take(rt, lock, bell, p, session, text);
+    };
+    let host = turn.state();
+    let before = host.state();
+    let Called { answer, entry } = calls::tell(host, session, text);
+    let between = host.state();
+    if let Some(ended) = unless_kept(answer) {
+        lock.leave_once(p, turn, &entry);
+        ring_if_on(bell, before, between);
+        return Ok(ended);
+    }
+    let Called {
+        answer: found,
+        entry: second,
+    } = calls::take(host, session);
+    let after = host.state();
+    lock.leave_twice(p, turn, &entry, &second);
+    ring_if_on(bell, before, after);
+    match found {
+        Ok(texts) => Ok(Answered::Taken(taken(texts, between))),
+        Err(gone) => Ok(Answered::GoneAfter(gone)),
     }
 }
 

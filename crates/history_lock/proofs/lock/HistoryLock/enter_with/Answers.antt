@@ -1,6 +1,6 @@
 use Rattle.std.proofs.Common.{rules, Some, sym, ◌∷◌, ap, ◌∙◌}
 use Rattle.atomic_table.specs.Table.{rest}
-use Rattle.history_lock.proofs.lock.HistoryLock.enter.Goals as goal
+use Rattle.history_lock.proofs.lock.HistoryLock.enter_with.Goals as goal
 
 pub exchange-requires : goal.exchange-requires
 exchange-requires g c =
