@@ -22,7 +22,7 @@ use Rattle.ws_service.specs.Passing.{Serves}
 use Rattle.ws_service.specs.Sessions.{Answers, EndsTaking, HandsOut, HasCause, Hears, IsEnded, IsServed, Talk, Waits, WasOverIf, talks}
 use Rattle.ws_service.specs.declared.served.Served.{Served}
 use Rattle.ws_service.specs.declared.served.Served.TheVariants as served
-use Rattle.ws_service.proofs.PassingLemmas.{found-was, goes, goes-on, serves, serves-none, serves-on, serves-take, was-longer}
+use Rattle.ws_service.proofs.PassingLemmas.{found-was, goes, goes-on, serves, serves-none, serves-on, serves-take, still-owns, was-longer}
 use Rattle.ws_service.proofs.ConnectionLemmas.{connection-after, ends-here, go-on-more, gone-at-text, memory-at-text, over-spent, overrun-at-text, sent-after, spent-at, taking-after-text, taking-alone, turns-more}
 use Rattle.ws_service.proofs.SendLemmas.{adds-none, adds-on}
 
@@ -156,7 +156,19 @@ hands-some d s p m q old new taken part fault end t owns answers begins sent (in
       tt,
     )
 
+-- the pass owns the session still
+pub owns-taken : (d : Debugging) (s : ℕ) (p q : PassState Entry) (taken : Taken) → Takes d s p q (Ok taken)
+    → Owns p.number s p.seen → Owns q.number s q.seen
+owns-taken d s p q taken t owns =
+    let texts = map string_bytes taken.texts.items in
+    still-owns d s p q (Take s ∷ []) texts (serves-take d s p q texts t.0.0 owns t.1)
+
 -- ---- a text is told
+
+pub owns-told : (d : Debugging) (s : ℕ) (p q : PassState Entry) (text : List ℕ) → Acts d p q (Tell s text)
+    → Owns p.number s p.seen → Owns q.number s q.seen
+owns-told d s p q text a owns =
+    still-owns d s p q (Tell s text ∷ []) [] (serves d s p q (Tell s text) a owns tt)
 
 pub answers-on : (d : Debugging) (s : ℕ) (p m q : PassState Entry) (text : List ℕ) (old new : Talk) (is_over : Bool)
     → Acts d p m (Tell s text) → Owns p.number s p.seen → HandsOut d s m q old new (Ok is_over) → Answers d s p q text old new None
@@ -205,6 +217,22 @@ answers-spent d s ticket p q text old new is stays free owns same = (
   refl,
   tt,
 )
+
+-- the session was gone after it, before its texts were handed out
+pub answers-gone-after : (d : Debugging) (s : ℕ) (p m q : PassState Entry) (text : List ℕ) (old new : Talk) (why : Gone)
+    → Acts d p m (Tell s text) → Leaves d s m q why → Owns p.number s p.seen → new ≡ old
+    → Answers d s p q text old new (Some (end_of why))
+answers-gone-after d s p m q text old new why a l owns same =
+    answers-end d s p m q text old new (end_of why) a owns
+    (hands-gone d s m q old new why l (owns-told d s p m text a owns) same)
+
+-- or no ticket was left for that
+pub answers-spent-after : (d : Debugging) (s ticket : ℕ) (p q : PassState Entry) (text : List ℕ) (old new : Talk)
+    → Acts d p q (Tell s text) → ticket ≡ limit → Owns p.number s p.seen → new ≡ old
+    → Answers d s p q text old new (Some (served.Spent ticket))
+answers-spent-after d s ticket p q text old new a is owns same =
+    answers-end d s p q q text old new (served.Spent ticket) a owns
+    (hands-spent d s ticket q q old new is refl a.free (owns-told d s p q text a owns) same)
 
 -- ---- nothing is told
 

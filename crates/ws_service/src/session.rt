@@ -1,8 +1,11 @@
 //! Serves a link: a session is attached, told what the link answers, and its texts are sent.
 
-ghost use Rattle.std.specs.Prelude.{◌≡◌, ◌≤◌, ℕ, List, Some, map, string_bytes, OnOk, OnErr, IfErr, IfSome, IsErrOf, false};
+ghost use Rattle.std.specs.Prelude.{◌≡◌, ◌≤◌, ℕ, List, Some, map, string_bytes, OnOk, OnErr, IfErr, IfSome, IsErrOf, Ok, false};
 ghost use Rattle.cdp_edge.specs.Outside.{Rose};
 ghost use Rattle.history_lock.specs.Histories.{Begins};
+ghost use Rattle.history_lock.specs.Passes.{PassState};
+ghost use Rattle.host_turns.specs.Turns.{Takes};
+ghost use Rattle.isolation.specs.Histories.{Entry};
 ghost use Rattle.isolation.specs.Makers.{Owns};
 ghost use Rattle.server_edge.specs.Contents.{adds};
 ghost use Rattle.ws_service.specs.Connections.{code_of, end_at, end_of};
@@ -10,7 +13,9 @@ ghost use Rattle.ws_service.specs.Sessions.{Answers, HandsOut, Hears, IsClosedBy
 
 use crate::served::Served;
 use history_lock::Spent;
-use host_turns::{Attached, Gone, Hosted, Lock, Taken, Told, Worker, attach, detach, take, tell};
+use host_turns::{
+    Answered, Attached, Gone, Hosted, Lock, Taken, Worker, attach, detach, take, tell_and_take,
+};
 use isolation::Loss;
 use server_edge::{Bell, Link, LinkFault, Recv};
 use std::sync::Wait;
@@ -90,6 +95,35 @@ fn leave<H: Hosted<B>, B, L: Bell, R: Wait>(
     }
 }
 
+/// Sends the texts that were handed out to a session. Answers whether the program has ended.
+///
+/// # Errors
+///
+/// How the session ended, where a send failed.
+fn send_taken<H: Hosted<B>, B, D: Bell, L: Link, R: Wait>(
+    rt: &R,
+    lock: &Lock<H, B>,
+    bell: &D,
+    p: &mut Worker<H, B>,
+    link: &mut L,
+    session: u64,
+    taken: Taken,
+) -> Result<bool, Served>
+    requires lock { p.old.lock ≡ lock.now }
+    requires free { p.old.in_turn ≡ false }
+    requires session { Owns p.old.number session p.old.seen }
+    ensures hands { (m : PassState Entry) → Takes H.debugs session m p.old (Ok taken) → Owns m.number session m.seen → HandsOut H.debugs session m p.new (record { answers = L.answers link.old; sent = L.sent link.old }) (record { answers = L.answers link.new; sent = L.sent link.new }) result }
+    ensures closed { L.closed link.new ≡ L.closed link.old }
+    ensures count { L.faults link.old ≤ L.faults link.new }
+    ensures fault { IfErr result (λ end. end ≡ Served.Fault → Rose (L.faults link.old) (L.faults link.new)) }
+{
+    let Taken { texts, is_over } = taken;
+    match send_all(link, texts.as_slice()) {
+        Ok(()) => Ok(is_over),
+        Err(fault) => Err(leave(rt, lock, bell, p, session, end_at(fault))),
+    }
+}
+
 /// Takes the texts that wait for a session and sends them. Answers whether the program has ended.
 ///
 /// # Errors
@@ -111,14 +145,10 @@ fn hand_out<H: Hosted<B>, B, D: Bell, L: Link, R: Wait>(
     ensures count { L.faults link.old ≤ L.faults link.new }
     ensures fault { IfErr result (λ end. end ≡ Served.Fault → Rose (L.faults link.old) (L.faults link.new)) }
 {
-    let Taken { texts, is_over } = match take(rt, lock, bell, p, session) {
-        Ok(Ok(taken)) => taken,
-        Ok(Err(gone)) => return Err(end_of(gone)),
-        Err(Spent { ticket }) => return Err(Served::Spent { ticket }),
-    };
-    match send_all(link, texts.as_slice()) {
-        Ok(()) => Ok(is_over),
-        Err(fault) => Err(leave(rt, lock, bell, p, session, end_at(fault))),
+    match take(rt, lock, bell, p, session) {
+        Ok(Ok(taken)) => send_taken(rt, lock, bell, p, link, session, taken),
+        Ok(Err(gone)) => Err(end_of(gone)),
+        Err(Spent { ticket }) => Err(Served::Spent { ticket }),
     }
 }
 
@@ -140,14 +170,18 @@ fn answer<H: Hosted<B>, B, D: Bell, L: Link, R: Wait>(
     ensures count { L.faults link.old ≤ L.faults link.new }
     ensures fault { IfSome result (λ end. end ≡ Served.Fault → Rose (L.faults link.old) (L.faults link.new)) }
 {
-    match tell(rt, lock, bell, p, session, text) {
-        Ok(Ok(Told::Kept)) => match hand_out(rt, lock, bell, p, link, session) {
-            Ok(_) => None,
-            Err(end) => Some(end),
-        },
-        Ok(Ok(Told::Overrun)) => Some(Served::Overrun),
-        Ok(Ok(Told::Memory)) => Some(Served::Memory),
-        Ok(Err(gone)) => Some(end_of(gone)),
+    match tell_and_take(rt, lock, bell, p, session, text) {
+        Ok(Answered::Taken(taken)) => {
+            match send_taken(rt, lock, bell, p, link, session, taken) {
+                Ok(_) => None,
+                Err(end) => Some(end),
+            }
+        }
+        Ok(Answered::Overrun) => Some(Served::Overrun),
+        Ok(Answered::Memory) => Some(Served::Memory),
+        Ok(Answered::Gone(gone)) => Some(end_of(gone)),
+        Ok(Answered::GoneAfter(gone)) => Some(end_of(gone)),
+        Ok(Answered::SpentAfter(Spent { ticket })) => Some(Served::Spent { ticket }),
         Err(Spent { ticket }) => Some(Served::Spent { ticket }),
     }
 }
