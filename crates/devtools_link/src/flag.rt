@@ -34,7 +34,6 @@ fn members_of(value: Option<Value>) -> Option<Map<String, Value>>
 }
 
 /// Takes the parameters out of a command that has some.
-
 fn take_params(command: &mut Map<String, Value>) -> Map<String, Value>
     requires { clears_flag (object (members_view command.old.entries)) ≡ true }
     ensures given { get (codes "params") (object (members_view command.old.entries)) ≡ Some (object (members_view result.entries)) }
