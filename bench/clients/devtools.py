@@ -1,155 +1,199 @@
 #!/usr/bin/env python3
-"""Chromium's DevTools on a program that is served: its source, a breakpoint set by a click, a stop there, and the end.
+"""Chromium's DevTools on a program that is served: what they show of it while a person would click and type.
 
-    python3 bench/clients/devtools.py [--bin PROGRAM] [--ready SECONDS] [--picture FILE]
+    python3 bench/clients/devtools.py [--bin PROGRAM] [--ready SECONDS] [--pictures FOLDER]
 
-A Chromium without a window opens the front end that it brings along as a page, and is driven by its own debugging port. What
-the page shows is read off its text. The picture is taken at the stop. It wants `chromium`, takes some ten seconds, and gives up
-a step after 30.
+A Chromium without a window opens the front end that it brings along as a page, and is driven by its own debugging port: the
+source, a breakpoint by a click, scopes, a variable under the pointer, a watch, steps, the console, a condition, a stop at a
+throw, and the end. What the page shows is read off its text, and compared with the script. The pictures are taken at a stop, and
+at a question in the console. It wants `chromium` (tried with 156), and takes half a minute.
 """
 
 import argparse
-import base64
-import contextlib
 import json
 import os
-import subprocess
-import tempfile
 import time
 
-from served import served, words
-
-from clients import Client
+from browser import ALT, CONTROL, PATIENCE, SHIFT, browser
+from served import SHOP, SHOP_PRINTS, Findings, served, words
 
 FRONT_END = "devtools://devtools/bundled/js_app.html?ws=127.0.0.1:%d/session"
-PATIENCE = 30
+RESUME, OVER, INTO = ("F8", 119), ("F10", 121), ("F11", 122)
+ENTER, ESCAPE = ("Enter", 13), ("Escape", 27)
 
-# What the page's scripts are asked: all its elements, within shadow roots too; its text; the middle of an element.
-LOOK = """
-function* elements(root) {
-  for (const element of root.querySelectorAll("*")) {
-    yield element;
-    if (element.shadowRoot) yield* elements(element.shadowRoot);
+# Where a word of a line of the source is.
+WORD = """(() => {
+  for (const line of all(".cm-line").filter((each) => each.textContent.includes(%s))) {
+    const texts = document.createNodeIterator(line, NodeFilter.SHOW_TEXT);
+    for (let text; (text = texts.nextNode()); ) {
+      const at = text.data.indexOf(%s);
+      if (at < 0) continue;
+      const range = document.createRange();
+      range.setStart(text, at);
+      range.setEnd(text, at + 1);
+      return middle(range);
+    }
   }
-}
-const text_of = (element) => [...element.childNodes].filter((node) => node.nodeType === 3).map((node) => node.data).join("");
-const is_seen = (element) => !element.matches("style, script");
-const shown = () => [...elements(document)].filter(is_seen).map(text_of).join(" ").replace(/\\s+/g, " ");
-const middle = (element) => {
-  const box = element.getBoundingClientRect();
-  return [box.x + box.width / 2, box.y + box.height / 2];
-};
-"""
+})()"""
+NUMBER = 'middle(all(".cm-lineNumbers .cm-gutterElement").find((each) => text_in(each) === "%d"))'
+TITLE = 'all("*").filter((each) => text_of(each).trim() === %s).map(middle).find(Boolean)'
+STANDS = 'all(".cm-executionLine").map(text_in).join()'
+POPOVER = '[...document.querySelectorAll("body > .no-pointer-events")].map(text_in).join(" ")'
+CONSOLE = 'all(".console-message-wrapper").map(text_in)'
 
 
-class Browser:
-    """A Chromium without a window, and one page of it."""
+class DevTools:
+    """The page, and what is found on it."""
 
-    def __init__(self, folder, url):
-        command = ["chromium", "--headless=new", "--no-sandbox", "--no-first-run", "--disable-gpu", "--window-size=1000,620"]
-        command += ["--remote-debugging-port=0", "--user-data-dir=" + folder, "about:blank"]
-        self.process = subprocess.Popen(command, stdout=subprocess.DEVNULL, stderr=subprocess.DEVNULL)
-        port, path = self.listens(os.path.join(folder, "DevToolsActivePort"))
-        self.client = Client(port, path=path)
-        self.page = None
-        target = self.call("Target.createTarget", url=url)["targetId"]
-        self.page = self.call("Target.attachToTarget", targetId=target, flatten=True)["sessionId"]
+    def __init__(self, page, findings):
+        self.page, self.see = page, findings.see
 
-    def listens(self, file):
-        """The port and the path of its own debugger, which it writes into a file."""
-        end = time.monotonic() + PATIENCE
-        while time.monotonic() < end and self.process.poll() is None:
-            with contextlib.suppress(FileNotFoundError, ValueError), open(file) as told:
-                port, path = told.read().split("\n")[:2]
-                return int(port), path
-            time.sleep(0.1)
-        self.process.kill()
-        raise SystemExit("chromium doesn't say where it listens")
+    def shows(self, what, text):
+        """The page is to show a text."""
+        self.page.until("shown().includes(%s)" % json.dumps(text), what)
+        self.see(what, True)
 
-    def call(self, method, **params):
-        """The result of a command to the page, or to the browser where there is none yet."""
-        self.client.number += 1
-        command = {"id": self.client.number, "method": method, "params": params}
-        if self.page:
-            command["sessionId"] = self.page
-        self.client.send(json.dumps(command).encode())
-        reply = self.client.reply(self.client.number)
-        if "error" in reply:
-            raise SystemExit("chromium refuses %s: %s" % (method, reply["error"]))
-        return reply["result"]
+    def matches(self, what, expression, pattern):
+        """An expression over the page is to match a pattern, soon."""
+        seen = self.page.until("(%s).match(%s)?.[0]" % (expression, pattern), what)
+        self.see("%s: %s" % (what, seen.strip()), True)
 
-    def look(self, expression):
-        """What an expression over the page's elements is."""
-        code = "(() => { %s return %s; })()" % (LOOK, expression)
-        result = self.call("Runtime.evaluate", expression=code, returnByValue=True)
-        return result["result"].get("value")
+    def stands(self, what, line):
+        """The program is to stand at a line of the source, soon."""
+        self.page.until("%s === %s" % (STANDS, json.dumps(line)), what)
+        self.see("%s, it stands at `%s`" % (what, line), True)
 
-    def until(self, expression, what):
-        """Waits until an expression is true of the page, and gives it."""
-        end = time.monotonic() + PATIENCE
-        while not (seen := self.look(expression)):
-            if time.monotonic() > end:
-                raise SystemExit("the front end doesn't show %s; its text is: %s" % (what, self.look("shown()")[:3000]))
-            time.sleep(0.1)
-        print("the front end shows", what)
-        return seen
+    def click(self, expression, what):
+        self.page.click(self.page.until(expression, what))
 
-    def click(self, place):
-        """Clicks at a place of the page."""
-        x, y = place
-        for kind in ["mouseMoved", "mousePressed", "mouseReleased"]:
-            self.call("Input.dispatchMouseEvent", type=kind, x=x, y=y, button="left", clickCount=1)
+    def press(self, key, modifiers=0):
+        self.page.press(*key, modifiers)
 
-    def press(self, key, code):
-        """Presses a key."""
-        for kind in ["rawKeyDown", "keyUp"]:
-            self.call("Input.dispatchKeyEvent", type=kind, key=key, code=key, windowsVirtualKeyCode=code)
+    def enter(self, text):
+        """Types a line, and ends it without what is suggested for it."""
+        self.page.type(text)
+        time.sleep(0.5)
+        if self.page.look('all(".cm-tooltip-autocomplete").length'):
+            self.press(ESCAPE)
+        self.press(ENTER)
 
-    def picture(self, file):
-        """Writes a picture of the page."""
-        with open(file, "wb") as picture:
-            picture.write(base64.b64decode(self.call("Page.captureScreenshot", format="png")["data"]))
-
-    def end(self):
-        """Ends it."""
-        self.process.terminate()
-        self.process.wait(10)
+    def answers(self, text, pattern):
+        """What the console says to a line."""
+        self.click('reached(all("#console-prompt")[0])', "the console's prompt")
+        self.enter(text)
+        self.matches("the console says to `%s`" % text, "%s.at(-1) || ''" % CONSOLE, pattern)
 
 
-@contextlib.contextmanager
-def browser(url):
-    """A Chromium that opens this page."""
-    with tempfile.TemporaryDirectory(ignore_cleanup_errors=True) as folder:
-        opened = Browser(folder, url)
-        try:
-            yield opened
-        finally:
-            opened.end()
+def opens(tools):
+    """The program is stopped after its first step, and its source is there."""
+    tools.shows("the program is paused", "Debugger paused")
+    tools.stands("after its first step", SHOP.split("\n")[0])
 
 
-def debug(page, picture):
-    """Stops in the function `add`, and lets the program go on to its end."""
-    page.until('shown().includes("Debugger paused")', "that the program is paused, after its first step")
-    page.until('shown().includes("const sum")', "the source")
-    line = '[...elements(document)].find((e) => e.matches(".cm-lineNumbers .cm-gutterElement") && text_of(e) === "3")'
-    place = page.until("(%s) && middle(%s)" % (line, line), "line 3")
-    page.click(place)
-    page.until('[...elements(document)].some((e) => e.matches(".cm-breakpoint"))', "a breakpoint at line 3, after a click")
-    page.press("F8", 119)
-    page.until('shown().includes("Paused on breakpoint")', "that the program is paused at the breakpoint")
-    scope = page.until('shown().match(/ Local .*sum : 5/)?.[0]', "the local scope, and the sum in it")
-    print("it is:", scope.strip())
-    if picture:
-        page.picture(picture)
-    page.click(place)
-    page.until('![...elements(document)].some((e) => e.matches(".cm-breakpoint"))', "no breakpoint, after a second click")
-    page.press("F8", 119)
+def breakpoint_by_click(tools):
+    """A click sets a breakpoint, and the program stops there, with its scopes and its calls."""
+    tools.click(NUMBER % 5, "line 5")
+    tools.page.until('all(".cm-breakpoint").length === 1', "a breakpoint")
+    tools.press(RESUME)
+    tools.shows("the program stops", "Paused on breakpoint")
+    tools.stands("at the breakpoint", "total = total + doubled;")
+    tools.matches("the local scope", "shown()", r"/Local\s*this: \w+\s*doubled: 8\s*item: \{name: 'tea', price: 4\}/")
+    tools.matches("the script's scope", "shown()", r"/Script\s*items: \(2\) \[\{…\}, \{…\}\]\s*total: 0/")
+    calls = tools.page.look('all(".call-frame-item").map(text_in)')
+    tools.see("the calls", calls, ["addshop.js:5", "(anonymous)shop.js:8"])
 
 
-parser = argparse.ArgumentParser()
-parser.add_argument("--picture", help="where to write a picture of the stop")
-asked = words(parser)
-with served(asked) as host, browser(FRONT_END % host.port) as page:
-    debug(page, asked.picture)
-    status, output, _ = host.end(PATIENCE)
-    print("the program ended with %d, and printed %r" % (status, output.decode()))
+def hovers(tools):
+    """A variable under the pointer is shown."""
+    for line, word, pattern in [("total = total", "doubled", "/^8$/"), ("item.price", "item", "/name: .tea.\\s*price: 4/")]:
+        tools.page.move(tools.page.until(WORD % (json.dumps(line), json.dumps(word)), word))
+        tools.matches("the pointer over `%s`" % word, POPOVER, pattern)
+        if word == "doubled":
+            tools.picture("devtools.png")
+        tools.page.move((300, 20))
+        tools.page.until('%s === ""' % POPOVER, "no popover")
+
+
+def watches(tools):
+    """A watch is shown at once."""
+    tools.click(TITLE % '"Watch"', "the watches")
+    tools.click('labelled("Add watch expression")', "the button for a watch")
+    time.sleep(0.5)
+    tools.page.type("total * 2")
+    time.sleep(0.5)
+    tools.press(ENTER)
+    tools.shows("a watch", "total * 2: 0")
+
+
+def steps(tools):
+    """Steps over a statement, out of the function and into its next call; the watch follows."""
+    tools.press(OVER)
+    tools.stands("a step over", "return total;")
+    tools.shows("the watch has changed", "total * 2: 16")
+    tools.press(INTO, SHIFT)
+    tools.stands("a step out", "for (const item of items) add(item);")
+    tools.press(INTO)
+    tools.stands("a step into", "const doubled = item.price * 2;")
+
+
+def console(tools):
+    """The console evaluates, opens an object, and says what an effect is."""
+    tools.press(ESCAPE)
+    tools.answers("items", r"/\(2\) \[\{…\}, \{…\}\]/")
+    tools.click('reached(all(".console-user-command-result .console-view-object-properties-section").at(-1))', "the answer")
+    tools.matches("the list is opened", "%s.at(-1)" % CONSOLE, r"/0: ?\{name: 'tea', price: 4\}\s*1: ?\{name: 'cake', price: 9\}\s*length: 2/")
+    tools.click('reached(all(".name-and-value").filter((each) => text_in(each).startsWith("1: {")).at(-1))', "its element 1")
+    tools.matches("the object in it is opened", "%s.at(-1)" % CONSOLE, r"/name: .cake.\s*price: 9/")
+    tools.answers("item.name + total", "/'cake8'/")
+    tools.picture("devtools_console.png")
+    tools.answers("total = 5", "/EvalError: Possible side-effect in debug-evaluate/")
+    tools.answers("total", "/^8$/")
+    tools.answers("missing", "/ReferenceError: missing is not defined/")
+    tools.press(ESCAPE)
+    tools.page.until(NUMBER % 19, "the whole source")
+
+
+def condition(tools):
+    """A breakpoint with a condition, instead of the one that a click takes away."""
+    tools.click(NUMBER % 5, "line 5")
+    tools.page.until('all(".cm-breakpoint").length === 0', "no breakpoint")
+    tools.click(WORD % ('"total > limit"', '"limit"'), "line 11")
+    tools.press(("b", 66), CONTROL | ALT)
+    tools.page.until('all(".cm-editor").length === 2', "the field for the condition")
+    tools.enter("limit < 25")
+    tools.page.until('all(".cm-breakpoint-conditional").length === 1', "a breakpoint with a condition")
+    tools.press(RESUME)
+    tools.stands("where the condition holds", 'if (total > limit) throw RangeError("over " + limit);')
+    tools.matches("its scope", "shown()", r"/Local\s*this: \w+\s*limit: 20/")
+    tools.press(ESCAPE)
+    tools.matches("the program's print in the console", "%s.find((each) => each.startsWith('total 26')) || ''" % CONSOLE, "/^total 26 tea$/")
+    tools.press(ESCAPE)
+
+
+def exceptions(tools):
+    """The program stops at a throw."""
+    tools.click(TITLE % '"Pause on caught exceptions"', "the box for exceptions")
+    time.sleep(0.5)
+    tools.press(RESUME)
+    tools.matches("the program stops", "shown()", "/Paused on exception\\s*RangeError: over 20/")
+    tools.click(TITLE % '"Pause on caught exceptions"', "the box for exceptions")
+    time.sleep(0.5)
+    tools.press(RESUME)
+
+
+def main():
+    parser = argparse.ArgumentParser()
+    parser.add_argument("--pictures", help="the folder for the pictures")
+    asked, findings = words(parser), Findings()
+    with served(asked, "--devtools", name="shop.js", script=SHOP) as host, browser(FRONT_END % host.port) as page:
+        tools = DevTools(page, findings)
+        tools.picture = lambda name: asked.pictures and page.picture(os.path.join(asked.pictures, name))
+        for subject in [opens, breakpoint_by_click, watches, hovers, steps, console, condition, exceptions]:
+            subject(tools)
+        findings.ended(host, SHOP_PRINTS, PATIENCE)
+        findings.see("what the front end's own scripts throw", [fault for fault in page.faults if not fault.startswith("Request ")], [])
+    findings.end()
+
+
+if __name__ == "__main__":
+    main()

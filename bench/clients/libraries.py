@@ -3,8 +3,9 @@
 
     NODE_PATH=/usr/share/nodejs /usr/bin/python3 bench/clients/libraries.py [--bin PROGRAM] [--ready SECONDS]
 
-Each finds the program by `/json/list`, stops it in `add`, evaluates there, lets it go on, and says what it heard. The packages
-are those of Debian, `python3-websockets` and `node-ws`; one that isn't there is passed over. It takes two seconds.
+Each finds the program by `/json/list`, stops it in `add`, evaluates there and lets it go on, and what it heard is compared with
+what `docs/PROTOCOL.md` says. The packages are those of Debian, `python3-websockets` and `node-ws`; one that isn't there is passed
+over. It takes two seconds.
 """
 
 import asyncio
@@ -13,7 +14,7 @@ import json
 import subprocess
 import urllib.request
 
-from served import served, words
+from served import SUM_PRINTS, Findings, served, words
 
 COMMANDS = [
     ("Debugger.enable", {}),
@@ -72,9 +73,28 @@ async def talk(websockets, target):
             at += at < len(COMMANDS) and json.loads(text).get("method") == COMMANDS[at]
 
 
-def shown(heard):
-    """What was heard, a line for each message, the long ones cut."""
-    return "\n".join("  " + (line if len(line) < 150 else line[:147] + "..") for line in heard)
+# What is to be heard, but for what the events say of frames and scripts: the methods of events, and the results of commands.
+HEARD = [
+    "Debugger.scriptParsed",
+    {"debuggerId": "1"},
+    {"breakpointId": "1:2:0:sum.js", "locations": [{"columnNumber": 2, "lineNumber": 2, "scriptId": "1"}]},
+    {},
+    "Debugger.paused",
+    {},
+    "Debugger.resumed",
+    "Debugger.paused",
+    {"result": {"description": "42", "type": "number", "value": 42}},
+    {},
+    "closed with 1000",
+]
+
+
+def brief(line):
+    """What is compared of a message."""
+    if not line.startswith("{"):
+        return line
+    message = json.loads(line)
+    return message.get("method") or message.get("result") or message.get("error") or {}
 
 
 def has_websockets():
@@ -88,21 +108,23 @@ def has_ws():
 def by_python(port):
     import websockets
 
-    return shown(asyncio.run(talk(websockets, target_of(port))))
+    return asyncio.run(talk(websockets, target_of(port)))
 
 
 def by_node(port):
     command = ["node", "-e", NODE, "http://127.0.0.1:%d/json/list" % port, json.dumps(COMMANDS)]
     done = subprocess.run(command, stdout=subprocess.PIPE, stderr=subprocess.STDOUT, timeout=30)
-    return shown(done.stdout.decode().splitlines())
+    return done.stdout.decode().splitlines()
 
 
-asked = words()
+asked, findings = words(), Findings()
 for name, is_there, client in [("websockets (Python)", has_websockets, by_python), ("ws (node)", has_ws, by_node)]:
     if not is_there():
         print("%s\n  the package isn't there" % name)
         continue
     with served(asked) as host:
-        print("%s\n%s" % (name, client(host.port)))
-        status, output, _ = host.end()
-        print("  the program ended with %d, and printed %r" % (status, output.decode()))
+        heard = client(host.port)
+        print("\n".join([name] + ["  " + line for line in heard]))
+        findings.see("what is heard by " + name, [brief(line) for line in heard], HEARD)
+        findings.ended(host, SUM_PRINTS)
+findings.end()
