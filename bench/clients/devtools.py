@@ -145,8 +145,8 @@ def console(tools):
     tools.click('reached(all(".name-and-value").filter((each) => text_in(each).startsWith("1: {")).at(-1))', "its element 1")
     tools.matches("the object in it is opened", "%s.at(-1)" % CONSOLE, r"/name: .cake.\s*price: 9/")
     tools.answers("item.name + total", "/'cake8'/")
-    tools.picture("devtools_console.png")
     tools.answers("total = 5", "/EvalError: Possible side-effect in debug-evaluate/")
+    tools.picture("devtools_console.png")
     tools.answers("total", "/^8$/")
     tools.answers("missing", "/ReferenceError: missing is not defined/")
     tools.press(ESCAPE)
@@ -171,13 +171,17 @@ def condition(tools):
 
 
 def exceptions(tools):
-    """The program stops at a throw."""
-    tools.click(TITLE % '"Pause on caught exceptions"', "the box for exceptions")
-    time.sleep(0.5)
+    """The program stops at a throw, where both boxes are ticked, and goes on to its end."""
+    boxes = [TITLE % '"Pause on uncaught exceptions"', TITLE % '"Pause on caught exceptions"']
+    for box in boxes:
+        tools.click(box, "a box for exceptions")
+        time.sleep(0.3)
     tools.press(RESUME)
     tools.matches("the program stops", "shown()", "/Paused on exception\\s*RangeError: over 20/")
-    tools.click(TITLE % '"Pause on caught exceptions"', "the box for exceptions")
-    time.sleep(0.5)
+    tools.picture("devtools_exception.png")
+    for box in reversed(boxes):
+        tools.click(box, "a box for exceptions")
+        time.sleep(0.3)
     tools.press(RESUME)
 
 
