@@ -45,8 +45,8 @@ CONSOLE = 'all(".console-message-wrapper").map(text_in)'
 class DevTools:
     """The page, and what is found on it."""
 
-    def __init__(self, page, findings):
-        self.page, self.see = page, findings.see
+    def __init__(self, page, findings, folder=None):
+        self.page, self.see, self.folder = page, findings.see, folder
 
     def shows(self, what, text):
         """The page is to show a text."""
@@ -76,6 +76,11 @@ class DevTools:
         if self.page.look('all(".cm-tooltip-autocomplete").length'):
             self.press(ESCAPE)
         self.press(ENTER)
+
+    def picture(self, name):
+        """Writes a picture of the page, where pictures are asked for."""
+        if self.folder:
+            self.page.picture(os.path.join(self.folder, name))
 
     def answers(self, text, pattern):
         """What the console says to a line."""
@@ -190,8 +195,7 @@ def main():
     parser.add_argument("--pictures", help="the folder for the pictures")
     asked, findings = words(parser), Findings()
     with served(asked, "--devtools", name="shop.js", script=SHOP) as host, browser(FRONT_END % host.port) as page:
-        tools = DevTools(page, findings)
-        tools.picture = lambda name: asked.pictures and page.picture(os.path.join(asked.pictures, name))
+        tools = DevTools(page, findings, asked.pictures)
         for subject in [opens, breakpoint_by_click, watches, hovers, steps, console, condition, exceptions]:
             subject(tools)
         findings.ended(host, SHOP_PRINTS, PATIENCE)
