@@ -103,7 +103,7 @@ def breakpoint_by_click(tools):
     tools.shows("the program stops", "Paused on breakpoint")
     tools.stands("at the breakpoint", "total = total + doubled;")
     tools.matches("the local scope", "shown()", r"/Local\s*this: \w+\s*doubled: 8\s*item: \{name: 'tea', price: 4\}/")
-    tools.matches("the script's scope", "shown()", r"/Script\s*items: \(2\) \[\{…\}, \{…\}\]\s*total: 0/")
+    tools.matches("the script's scope", "shown()", r"/Script\s*add: ƒ add\(item\)\s*check: ƒ check\(limit\)\s*items: \(2\) \[\{…\}, \{…\}\]\s*total: 0/")
     calls = tools.page.look('all(".call-frame-item").map(text_in)')
     tools.see("the calls", calls, ["addshop.js:5", "(anonymous)shop.js:8"])
 

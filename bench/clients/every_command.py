@@ -1,5 +1,5 @@
 #!/usr/bin/env python3
-"""A client of one's own over the library `websockets`: some seventy commands.
+"""A client of one's own over the library `websockets`: more than fifty commands.
 
     /usr/bin/python3 bench/clients/every_command.py [--bin PROGRAM] [--ready SECONDS]
 
