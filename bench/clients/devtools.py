@@ -182,7 +182,8 @@ def exceptions(tools):
         tools.click(box, "a box for exceptions")
         time.sleep(0.3)
     tools.press(RESUME)
-    tools.matches("the program stops", "shown()", "/Paused on exception\\s*RangeError: over 20/")
+    tools.shows("the program stops", "Paused on exception")
+    tools.matches("the value that was thrown", "shown()", r"/Local\s*Exception: RangeError: over 20/")
     tools.picture("devtools_exception.png")
     for box in reversed(boxes):
         tools.click(box, "a box for exceptions")
