@@ -1,4 +1,4 @@
-"""A Chromium without a window, and a page of it that is driven by its own debugging port; the other files of this folder use it."""
+"""A Chromium without a window, and a page of it that is driven by its own debugging port; `devtools.py` uses it."""
 
 import base64
 import contextlib
@@ -87,7 +87,8 @@ class Browser:
         """Keeps what the page's own scripts throw, and what they say to be wrong."""
         params = message.get("params", {})
         if message.get("method") == "Runtime.exceptionThrown":
-            self.faults.append(params["exceptionDetails"].get("exception", {}).get("description", params["exceptionDetails"]["text"]))
+            details = params["exceptionDetails"]
+            self.faults.append(details.get("exception", {}).get("description", details["text"]))
         if message.get("method") == "Runtime.consoleAPICalled" and params["type"] == "error":
             self.faults.append(" ".join(str(value.get("value")) for value in params["args"]))
 

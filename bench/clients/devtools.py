@@ -103,7 +103,8 @@ def breakpoint_by_click(tools):
     tools.shows("the program stops", "Paused on breakpoint")
     tools.stands("at the breakpoint", "total = total + doubled;")
     tools.matches("the local scope", "shown()", r"/Local\s*this: \w+\s*doubled: 8\s*item: \{name: 'tea', price: 4\}/")
-    tools.matches("the script's scope", "shown()", r"/Script\s*add: ƒ add\(item\)\s*check: ƒ check\(limit\)\s*items: \(2\) \[\{…\}, \{…\}\]\s*total: 0/")
+    names = r"add: ƒ add\(item\)\s*check: ƒ check\(limit\)\s*items: \(2\) \[\{…\}, \{…\}\]\s*total: 0"
+    tools.matches("the script's scope", "shown()", r"/Script\s*%s/" % names)
     calls = tools.page.look('all(".call-frame-item").map(text_in)')
     tools.see("the calls", calls, ["addshop.js:5", "(anonymous)shop.js:8"])
 
@@ -146,7 +147,8 @@ def console(tools):
     tools.press(ESCAPE)
     tools.answers("items", r"/\(2\) \[\{…\}, \{…\}\]/")
     tools.click('reached(all(".console-user-command-result .console-view-object-properties-section").at(-1))', "the answer")
-    tools.matches("the list is opened", "%s.at(-1)" % CONSOLE, r"/0: ?\{name: 'tea', price: 4\}\s*1: ?\{name: 'cake', price: 9\}\s*length: 2/")
+    elements = r"0: ?\{name: 'tea', price: 4\}\s*1: ?\{name: 'cake', price: 9\}\s*length: 2"
+    tools.matches("the list is opened", "%s.at(-1)" % CONSOLE, "/%s/" % elements)
     tools.click('reached(all(".name-and-value").filter((each) => text_in(each).startsWith("1: {")).at(-1))', "its element 1")
     tools.matches("the object in it is opened", "%s.at(-1)" % CONSOLE, r"/name: .cake.\s*price: 9/")
     tools.answers("item.name + total", "/'cake8'/")
@@ -171,7 +173,8 @@ def condition(tools):
     tools.stands("where the condition holds", 'if (total > limit) throw RangeError("over " + limit);')
     tools.matches("its scope", "shown()", r"/Local\s*this: \w+\s*limit: 20/")
     tools.press(ESCAPE)
-    tools.matches("the program's print in the console", "%s.find((each) => each.startsWith('total 26')) || ''" % CONSOLE, "/^total 26 tea$/")
+    printed = "%s.find((each) => each.startsWith('total 26')) || ''" % CONSOLE
+    tools.matches("the program's print in the console", printed, "/^total 26 tea$/")
     tools.press(ESCAPE)
 
 
@@ -200,7 +203,8 @@ def main():
         for subject in [opens, breakpoint_by_click, watches, hovers, steps, console, condition, exceptions]:
             subject(tools)
         findings.ended(host, SHOP_PRINTS, PATIENCE)
-        findings.see("what the front end's own scripts throw", [fault for fault in page.faults if not fault.startswith("Request ")], [])
+        faults = [fault for fault in page.faults if not fault.startswith("Request ")]
+        findings.see("what the front end's own scripts throw", faults, [])
     findings.end()
 
 

@@ -99,12 +99,14 @@ def thrown(result):
 async def before_it_begins(me, see):
     """Enabling, sources, breakpoints and refusals, while the program waits."""
     see("Runtime.enable", await me.ask("Runtime.enable"), {})
-    see("its event", await me.event("Runtime.executionContextCreated"), {"context": {"id": 1, "name": "debug_host", "origin": ""}})
+    context = {"id": 1, "name": "debug_host", "origin": ""}
+    see("its event", await me.event("Runtime.executionContextCreated"), {"context": context})
     see("Runtime.disable", await me.ask("Runtime.disable"), {})
     see("a command of a domain that isn't enabled", await me.ask("Debugger.pause"), (-32000, "Debugger agent is not enabled"))
     see("Debugger.enable", await me.ask("Debugger.enable"), {"debuggerId": "1"})
-    script = {"endColumn": 0, "endLine": 19, "executionContextId": 1, "scriptId": "1", "startColumn": 0, "startLine": 0, "url": "shop.js"}
-    see("its event", await me.event("Debugger.scriptParsed"), {**script, "hash": hashlib.sha256(SHOP.encode()).hexdigest()})
+    script = {"scriptId": "1", "url": "shop.js", "executionContextId": 1, "hash": hashlib.sha256(SHOP.encode()).hexdigest()}
+    script.update({"startLine": 0, "startColumn": 0, "endLine": 19, "endColumn": 0})
+    see("its event", await me.event("Debugger.scriptParsed"), script)
     see("Debugger.disable", await me.ask("Debugger.disable"), {})
     see("Debugger.enable once more", await me.ask("Debugger.enable"), {"debuggerId": "1"})
     see("its event", (await me.event("Debugger.scriptParsed"))["url"], "shop.js")
@@ -169,7 +171,8 @@ async def objects(me, see, stop):
     see("a frame of the last stop", gone, (-32000, "Could not find call frame with given id"))
     source = SHOP[SHOP.index("function add") : SHOP.index("\nfor (")]
     see("Runtime.evaluate", (await me.ask("Runtime.evaluate", expression="add"))["result"]["description"], source)
-    of_this = await me.ask("Runtime.callFunctionOn", functionDeclaration="function(n) { return this.price + n; }", objectId=item, arguments=[{"value": 3}])
+    adds = "function(n) { return this.price + n; }"
+    of_this = await me.ask("Runtime.callFunctionOn", functionDeclaration=adds, objectId=item, arguments=[{"value": 3}])
     see("Runtime.callFunctionOn", of_this, {"result": number(7)})
     of_two = [{"objectId": listed["objectId"]}, {"value": 1}]
     called = await me.ask("Runtime.callFunctionOn", functionDeclaration="(a, b) => a.length + b", arguments=of_two)

@@ -23,7 +23,8 @@ async def asks(me, stop, number):
     frame = stop["callFrames"][0]["callFrameId"]
     right = 0
     for turn in range(QUESTIONS):
-        result = await me.ask("Debugger.evaluateOnCallFrame", callFrameId=frame, expression="item.price * 1000 + %d + %d" % (number, turn))
+        expression = "item.price * 1000 + %d + %d" % (number, turn)
+        result = await me.ask("Debugger.evaluateOnCallFrame", callFrameId=frame, expression=expression)
         right += result["result"]["value"] == 4000 + number + turn
     return right
 
@@ -46,14 +47,16 @@ async def together(port, see):
         await client.event("Debugger.resumed")
     stops = [await client.event("Debugger.paused") for client in clients]
     see("sixteen are told of one stop", [where(stop)[:2] for stop in stops], [(["add", ""], 3)] * CLIENTS)
-    see("the first one's breakpoint is its own", [stop["hitBreakpoints"] for stop in stops], [["1:3:0:shop.js"]] + [[]] * (CLIENTS - 1))
+    hits = [stop["hitBreakpoints"] for stop in stops]
+    see("the first one's breakpoint is its own", hits, [["1:3:0:shop.js"]] + [[]] * (CLIENTS - 1))
     see("each has ids of its own", len({stop["callFrames"][0]["callFrameId"] for stop in stops}), CLIENTS)
     right = await asyncio.gather(*[asks(client, stop, number) for number, (client, stop) in enumerate(zip(clients, stops))])
     see("each is answered its own questions", right, [QUESTIONS] * CLIENTS)
     scope = stops[0]["callFrames"][0]["scopeChain"][0]["object"]["objectId"]
     others = [await client.ask("Runtime.getProperties", objectId=scope) for client in clients[1:]]
     see("an id of the first one is nothing to another", others, [(-32000, "Could not find object with given id")] * (CLIENTS - 1))
-    see("the first one takes its breakpoint away", await clients[0].ask("Debugger.removeBreakpoint", breakpointId="1:3:0:shop.js"), {})
+    removed = await clients[0].ask("Debugger.removeBreakpoint", breakpointId="1:3:0:shop.js")
+    see("the first one takes its breakpoint away", removed, {})
     see("the last one lets it go on", await clients[-1].ask("Debugger.resume"), {})
     ends = await asyncio.gather(*[client.closed() for client in clients])
     end = ["Debugger.resumed", "Runtime.consoleAPICalled", "Runtime.consoleAPICalled", "Runtime.executionContextDestroyed"]
