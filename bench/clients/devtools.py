@@ -17,6 +17,7 @@ import time
 from browser import ALT, CONTROL, PATIENCE, SHIFT, browser
 from served import SHOP, SHOP_PRINTS, Findings, served, words
 
+REFUSED = ["Debugger.setBlackboxPatterns", "Network.emulateNetworkConditionsByRule"]
 FRONT_END = "devtools://devtools/bundled/js_app.html?ws=127.0.0.1:%d/session"
 RESUME, OVER, INTO = ("F8", 119), ("F10", 121), ("F11", 122)
 ENTER, ESCAPE = ("Enter", 13), ("Escape", 27)
@@ -203,6 +204,8 @@ def main():
         for subject in [opens, breakpoint_by_click, watches, hovers, steps, console, condition, exceptions]:
             subject(tools)
         findings.ended(host, SHOP_PRINTS, PATIENCE)
+        unknown = sorted({fault.split()[1] for fault in page.faults if "wasn't found" in fault})
+        findings.see("the methods that are refused as unknown", unknown, REFUSED)
         faults = [fault for fault in page.faults if not fault.startswith("Request ")]
         findings.see("what the front end's own scripts throw", faults, [])
     findings.end()
