@@ -7,7 +7,9 @@ use cdp_edge::{MemShelf, MemSink};
 use command_line::debug_main;
 use server_edge::{FixedClock, Gate, Incoming, MemDoor, MemHarbor, MemLink};
 use std::alloc::{AllocError, Global};
+use std::sync::Wait;
 use std::test::Fail;
+use std::thread::Threads;
 
 // How often a link may be asked while it is held.
 const PATIENCE: u64 = 10_000_000;
@@ -132,8 +134,11 @@ fn a_server_that_can_not_write_shuts_its_program(rt: HostRuntime) -> Result<(), 
 }
 
 // The status of a server, and what its client is sent that asks for a method which DevTools asks for.
-fn serve_devtools(rt: &HostRuntime, options: &str) -> Result<(u8, Vec<String>), AllocError> {
-    let alloc = rt.alloc();
+fn serve_devtools<R: Threads + Wait + Sync>(
+    rt: &R,
+    alloc: Global,
+    options: &str,
+) -> Result<(u8, Vec<String>), AllocError> {
     let words = words_of(alloc, options)?;
     let mut shelf = shelf(alloc, b"")?;
     let (opened, _unused) = Gate::pair(alloc)?;
@@ -168,11 +173,12 @@ fn serve_devtools(rt: &HostRuntime, options: &str) -> Result<(u8, Vec<String>), 
 // The same text is answered with `--devtools`, and refused without it.
 #[test]
 fn devtools_is_let_in_where_that_is_asked_for(rt: HostRuntime) -> Result<(), Fail> {
-    let (status, sent) = serve_devtools(&rt, "serve --sessions 1 --devtools a.js")?;
+    let alloc = rt.alloc();
+    let (status, sent) = serve_devtools(&rt, alloc, "serve --sessions 1 --devtools a.js")?;
     assert_eq!(rt; status, 0);
     assert_eq!(rt; sent.len(), 1);
     assert_eq!(rt; sent[0].as_str(), r#"{"id":1,"result":{}}"#);
-    let (status, sent) = serve_devtools(&rt, "serve --sessions 1 a.js")?;
+    let (status, sent) = serve_devtools(&rt, alloc, "serve --sessions 1 a.js")?;
     assert_eq!(rt; status, 0);
     assert_eq!(rt; sent.len(), 1);
     assert_eq!(rt;
