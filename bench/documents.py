@@ -32,7 +32,7 @@ MAP = "docs/ARCHITECTURE.md"
 FOR_DEVELOPERS = (MAP, "docs/PROOFS.md", "docs/PROVING.md", "docs/GATE.md", "CONTRIBUTING.md")
 # pages whose examples another program runs, and those on which `.name` is no clause
 PLAYED = ("docs/GUIDE.md",)
-WITHOUT_CLAUSES = ("docs/PROVING.md", "CONTRIBUTING.md")
+WITHOUT_CLAUSES = ("docs/PROVING.md", "docs/GUIDE.md", "CONTRIBUTING.md")
 MOST_WORDS = {"README.md": 1000, MAP: 2500}
 MOST_LINES = {"docs/GATE.md": 60}
 MOST_CHARACTERS = 120
