@@ -248,10 +248,10 @@ module _ {S E : Type 0} (stands : S → List (ℕ × E) → Type 0) (n : ℕ) wh
   not_theirs : (past : List (ℕ × E)) (k : ℕ) (es : List E) (x : ℕ) → k ≢ x → by x (past ++ made k es) ≡ by x past
   not_theirs past k es x ne = by_append x past (made k es) ∙ (ap (λ l. by x past ++ l) (by_made x k es ne) ∙ append_nil (by x past))
 
-  -- another's tickets are behind those of the turn
-  behind_turn : (s : St) (served : ℕ) (past : List (ℕ × E)) (r : At served past s) (id : ℕ) (v : V) → get_elem? s.views id ≡ some v → v.in_turn ≡ true
+  -- another's tickets come after those of the turn
+  after_turn : (s : St) (served : ℕ) (past : List (ℕ × E)) (r : At served past s) (id : ℕ) (v : V) → get_elem? s.views id ≡ some v → v.in_turn ≡ true
       → (j : ℕ) (u : V) → j ≢ id → get_elem? s.views j ≡ some u → 0 < u.tickets → served + v.tickets ≤ u.ticket
-  behind_turn s served past r id v at on j u ne eu du =
+  after_turn s served past r id v at on j u ne eu du =
       let first = ((r.each id v at).turn on).1 in
       let low = ((r.each j u eu).waits du).0 in
       dite (dec_le (served + v.tickets) u.ticket)
@@ -271,7 +271,7 @@ module _ {S E : Type 0} (stands : S → List (ℕ × E) → Type 0) (n : ℕ) wh
         seen = begins_more u.seen past (made v.number es) f.seen;
         own_seen = begins_more u.own_seen past (made v.number es) f.own_seen;
         other_seen = begins_more u.other_seen past (made v.number es) f.other_seen;
-        waits = λ du. let b = f.waits du in let b1 = b.1 in (behind_turn s served past r id v at on j u ne eu du, omega (arith, is, b1));
+        waits = λ du. let b = f.waits du in let b1 = b.1 in (after_turn s served past r id v at on j u ne eu du, omega (arith, is, b1));
         turn = λ onu. let b = f.turn onu in absurd (ne (same_first s served past r j id u v eu at b.0 turn.0 (b.1 ∙ sym turn.1)));
         whole = λ x h. stays x h ∙ f.whole x h;
         own_whole = λ x h. stays x (f.own x h) ∙ f.own_whole x h;

@@ -2,7 +2,8 @@
 //!
 //! Threads share a state through a `HistoryLock`. Each has a `Pass`; between `enter` and `leave` it has the turn, and
 //! with it the state. What a turn did to the state is its entry, and the entries of all turns, in their order, are the
-//! history. Its words in contracts:
+//! history. A pass may take two turns by one wait (`enter_twice`), one right after the other. They end together, with an
+//! entry of each (`leave_twice`) or with that of the first alone (`leave_once`). Its words in contracts:
 //!
 //! - *history*: a list of entries, each with the number of the pass that made it, the maker
 //! - *seen*: the part of the history that a pass knows of, always a beginning of it

@@ -1,5 +1,5 @@
 //! The lock, its passes and turns.
-ghost use Rattle.std.specs.Prelude.{◌≡◌, ◌≢◌, ◌≤◌, ◌<◌, ◌+◌, ◌++◌, ℕ, List, [], ◌∷◌, true, false, length, IfOk, IfErr, OnOk, OnErr, OnSome, IfSome, IfNone, Some, vec_len};
+ghost use Rattle.std.specs.Prelude.{◌≡◌, ◌≢◌, ◌≤◌, ◌<◌, ◌+◌, ◌++◌, ℕ, List, [], ◌∷◌, true, false, length, IfOk, IfErr, OnOk, OnErr, OnSome, IfSome, IfNone, Some, None, vec_len};
 ghost use Rattle.std.specs.Borrow.{Lends, sem};
 ghost use Rattle.history_lock.specs.Histories.{limit, has, by, longer, Begins};
 ghost use Rattle.history_lock.specs.Passes.{PassState, Follows, IsSamePass, IsNewNumber, HasInitialOnly, KeepsWhole, initial_pass, initial_passes, split_once, split_pass, joined_pass};
@@ -236,6 +236,17 @@ impl<S: Standing<E, B>, E, B> HistoryLock<S, E, B> {
         unreachable!()
     }
 
+    // Puts the state back into the slot.
+    fn put_back(&self, seat: &mut Seat<Option<S>, View<E>>, turn: Turn<S>)
+        requires lock { seat.old.table_id ≡ self.now }
+        requires empty { seat.old.me.1 ≡ (0, None) ∷ [] }
+        ensures same { (seat.new.table_id ≡ seat.old.table_id) × (seat.new.id ≡ seat.old.id) }
+        ensures back { seat.new.me ≡ (seat.old.me.0, (0, Some turn.state) ∷ []) }
+    {
+        let Turn { state } = turn;
+        self.table.shared.exchange(seat, STATE, Some(state));
+    }
+
     // Ends the turn with the entry, and wakes the pass with the ticket after those of this one.
     fn advance<X: Ending<E>>(&self, seat: &mut Seat<Option<S>, View<E>>, tickets: u64, entry: &E)
         requires lock { seat.old.table_id ≡ self.now }
@@ -419,6 +430,21 @@ impl<S: Standing<E, B>, E, B> HistoryLock<S, E, B> {
         self.enter_with(rt, p, 2)
     }
 
+    // Ends a turn that has so many tickets with one entry.
+    fn leave_with(&self, p: &mut Pass<S, E, B>, turn: Turn<S>, tickets: u64, entry: &E)
+        requires lock { p.old.lock ≡ self.now }
+        requires turn { p.old.in_turn ≡ true }
+        requires tickets { p.old.tickets ≡ tickets }
+        requires stands { S.stands turn.state (p.old.seen ++ (p.old.number, entry.now) ∷ []) }
+        ensures seen { p.new.seen ≡ p.old.seen ++ (p.old.number, entry.now) ∷ [] }
+        ensures free { p.new.in_turn ≡ false }
+        ensures only { HasInitialOnly p.new }
+        ensures same { IsSamePass p.old p.new }
+    {
+        self.put_back(&mut p.seat, turn);
+        self.advance::<Brand>(&mut p.seat, tickets, entry);
+    }
+
     /// Ends a turn with its entry. The state stands for the history with it, and the pass has seen both.
     pub fn leave(&self, p: &mut Pass<S, E, B>, turn: Turn<S>, entry: &E)
         requires lock { p.old.lock ≡ self.now }
@@ -430,12 +456,10 @@ impl<S: Standing<E, B>, E, B> HistoryLock<S, E, B> {
         ensures only { HasInitialOnly p.new }
         ensures same { IsSamePass p.old p.new }
     {
-        let Turn { state } = turn;
-        self.table.shared.exchange(&mut p.seat, STATE, Some(state));
-        self.advance::<Brand>(&mut p.seat, 1, entry);
+        self.leave_with(p, turn, 1, entry);
     }
 
-    /// Ends two turns with the entry of the first. The second leaves none.
+    /// Ends two turns with the entry of the first, and the second leaves none. The state stands for the history with it.
     pub fn leave_once(&self, p: &mut Pass<S, E, B>, turn: Turn<S>, entry: &E)
         requires lock { p.old.lock ≡ self.now }
         requires turn { p.old.in_turn ≡ true }
@@ -446,9 +470,7 @@ impl<S: Standing<E, B>, E, B> HistoryLock<S, E, B> {
         ensures only { HasInitialOnly p.new }
         ensures same { IsSamePass p.old p.new }
     {
-        let Turn { state } = turn;
-        self.table.shared.exchange(&mut p.seat, STATE, Some(state));
-        self.advance::<Brand>(&mut p.seat, 2, entry);
+        self.leave_with(p, turn, 2, entry);
     }
 
     /// Ends two turns with an entry of each. The state stands for the history with both, and the pass has seen them.
@@ -462,8 +484,7 @@ impl<S: Standing<E, B>, E, B> HistoryLock<S, E, B> {
         ensures only { HasInitialOnly p.new }
         ensures same { IsSamePass p.old p.new }
     {
-        let Turn { state } = turn;
-        self.table.shared.exchange(&mut p.seat, STATE, Some(state));
+        self.put_back(&mut p.seat, turn);
         self.advance_twice::<Brand>(&mut p.seat, first, second);
     }
 

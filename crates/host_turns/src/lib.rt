@@ -1,4 +1,4 @@
-//! The calls of a host, each as one turn of the history lock, over any host.
+//! The calls of a host over any host: each as one turn of the history lock, and a command with the taking after it as two.
 //!
 //! Its words in contracts:
 //!

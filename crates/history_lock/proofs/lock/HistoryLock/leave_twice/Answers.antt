@@ -1,5 +1,4 @@
-use Rattle.std.proofs.Common.{◌≡◌, rules, Some, None, sym, [], ◌∷◌, ◌++◌, ap, ◌∙◌, subst}
-use Rattle.atomic_table.specs.Table.{rest}
+use Rattle.std.proofs.Common.{[], ◌∷◌, ◌++◌, ap, sym, subst}
 use Rattle.history_lock.specs.declared.view.View.{View}
 use Rattle.history_lock.specs.Passes.{PassState}
 use Rattle.history_lock.proofs.Facts.{append_assoc}
@@ -7,8 +6,7 @@ use Rattle.history_lock.proofs.lock.HistoryLock.leave_twice.Goals as goal
 
 pub advance_twice-requires-clause-stands : goal.advance_twice-requires-clause-stands
 advance_twice-requires-clause-stands g c =
-    let e = c.exchange.ensures in
-    let out : c.p.inside.seat.me.1 ≡ (0, None) ∷ [] = search rules in
+    let back = c.put_back.ensures.back in
     let v = c.p.inside.seat.me.0 in
     let first = c.args.first.now in
     let second = c.args.second.now in
@@ -17,6 +15,6 @@ advance_twice-requires-clause-stands g c =
     let both : g.S.Standing.stands c.args.turn.state (v.seen ++ (v.number, first) ∷ (v.number, second) ∷ []) =
     subst (g.S.Standing.stands c.args.turn.state) (append_assoc v.seen ((v.number, first) ∷ []) ((v.number, second) ∷ [])) stood in (
       c.args.turn.state,
-      ap (λ m. m.1) e.3 ∙ ap (λ l. (0, Some c.args.turn.state) ∷ rest l) out,
-      subst (λ (w : View g.row.E.Denot). g.S.Standing.stands c.args.turn.state (w.seen ++ (w.number, first) ∷ (w.number, second) ∷ [])) (sym (ap (λ m. m.0) e.3)) both,
+      ap (λ m. m.1) back,
+      subst (λ (w : View g.row.E.Denot). g.S.Standing.stands c.args.turn.state (w.seen ++ (w.number, first) ∷ (w.number, second) ∷ [])) (sym (ap (λ m. m.0) back)) both,
     )
