@@ -43,6 +43,7 @@ pub(crate) struct Block {
 }
 
 impl Case {
+    /// A call with these words, of which nothing else is said yet.
     fn new(alloc: Global, words: Vec<String>) -> Case {
         Case {
             words,
@@ -124,6 +125,7 @@ fn parts(line: &str) -> Option<(&str, u64, &str)> {
 }
 
 impl Block {
+    /// A block of no lines.
     fn new(alloc: Global) -> Block {
         Block {
             files: Vec::new(alloc),
@@ -145,6 +147,7 @@ impl Block {
         }
     }
 
+    /// Takes a file, by its name and the text that it begins with.
     fn begin_file(&mut self, alloc: Global, text: &str) -> Result<bool, AllocError> {
         let (name, text) = text.split_once(' ').unwrap_or((text, ""));
         let bytes = bytes_of(alloc, text)?;
@@ -152,6 +155,7 @@ impl Block {
         Ok(true)
     }
 
+    /// Takes a call, by its words.
     fn begin_case(&mut self, alloc: Global, text: &str) -> Result<bool, AllocError> {
         let words = words_of(alloc, text)?;
         self.cases.push(Case::new(alloc, words))?;

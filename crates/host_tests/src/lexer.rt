@@ -205,6 +205,7 @@ pub(crate) fn tokens_of(alloc: Global, source: &[u16]) -> Result<String, AllocEr
     Ok(all)
 }
 
+/// A token, or the place of a bad one, as the table has it.
 fn shown(alloc: Global, item: Result<Token<'_>, BadToken>) -> Result<String, AllocError> {
     match item {
         Ok(token) if token.newline_before => format!(in alloc; "{:?}@{}!", token.kind, token.start),
@@ -221,6 +222,7 @@ pub(crate) fn value_of(alloc: Global, source: &[u16]) -> Result<String, AllocErr
     }
 }
 
+/// The value of a number, or the units of a string.
 fn value_of_token(alloc: Global, token: Token<'_>) -> Result<String, AllocError> {
     if token.kind == TokenKind::Number {
         return format!(in alloc; "{}", number_value(token.text));

@@ -19,6 +19,7 @@ fn told(alloc: Global, parsed: Result<Script, ParseFault>) -> Result<String, All
     }
 }
 
+/// What a script is parsed as.
 pub(crate) fn script_of(alloc: Global, source: &[u16]) -> Result<String, AllocError> {
     told(alloc, parse_script(alloc, source, "", 1, &[]))
 }
@@ -32,6 +33,7 @@ pub(crate) fn later_of(alloc: Global, source: &[u16]) -> Result<String, AllocErr
     told(alloc, parse_script(alloc, source, "", 2, &declared))
 }
 
+/// Whether an expression is parsed, or its fault.
 pub(crate) fn expression_of(alloc: Global, source: &[u16]) -> Result<String, AllocError> {
     match parse_expression(alloc, source).err() {
         None => String::from_str(alloc, "parsed"),
@@ -39,6 +41,7 @@ pub(crate) fn expression_of(alloc: Global, source: &[u16]) -> Result<String, All
     }
 }
 
+/// Whether a function is parsed, or its fault.
 pub(crate) fn function_of(alloc: Global, source: &[u16]) -> Result<String, AllocError> {
     match parse_function(alloc, source).err() {
         None => String::from_str(alloc, "parsed"),

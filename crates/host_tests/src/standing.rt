@@ -84,6 +84,7 @@ fn stands_of(alloc: Global, source: &str) -> Result<String, Fail> {
     Ok(told?)
 }
 
+// Each script's machine stands where its row says.
 fn each_stands(rt: &(impl Abort + AllocGlobal), rows: &[(&str, &str)]) -> Result<(), Fail> {
     for (source, stands) in rows {
         assert_eq!(rt;

@@ -167,12 +167,14 @@ fn loop_entry(stage: Stage, scope: Option<Addr>) -> Option<Entry>
     }
 }
 
+/// An entry that needs no number.
 fn bare_entry(op: Op) -> Option<Entry>
     ensures { result ≡ bare_entry op }
 {
     Some(Entry { op, info: 0 })
 }
 
+/// An entry whose number is that of a node of the source.
 fn placed_entry(op: Op, node: u32) -> Option<Entry>
     ensures { result ≡ placed_entry op node }
 {

@@ -90,6 +90,7 @@ fn add_terms(
     add_items(alloc, names, table, &terms.items)
 }
 
+/// Nodes for a list of terms, in order; none where one of them has none.
 #[cycle(add_term)]
 fn add_items(
     alloc: Global,

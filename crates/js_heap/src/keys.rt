@@ -34,6 +34,7 @@ fn is_shortest(key: &[u16]) -> bool
     }
 }
 
+/// Whether all units are decimal digits.
 fn is_digits(key: &[u16]) -> bool
     ensures { result ≡ all_ascii_digits key.now }
 {

@@ -89,6 +89,7 @@ fn pop<W: World>(world: &mut W, names: &Names, a: Addr) -> Result<Value, ActionE
     Ok(last)
 }
 
+/// A new string of texts with a separator between each two; where one is an object, the TypeError of that.
 fn joined_or_fail<W: World>(
     alloc: Global,
     world: &mut W,
@@ -173,6 +174,7 @@ pub fn on_array<W: World>(
     array_call(alloc, world, names, f, a, arguments)
 }
 
+/// A method of the array at an address.
 fn array_call<W: World>(
     alloc: Global,
     world: &mut W,

@@ -53,6 +53,7 @@ pub fn line_value<W: World>(
 
 // ---- errors and strings
 
+/// A new error of this class with these properties.
 fn new_error<W: World>(
     world: &mut W,
     names: &Names,
@@ -85,6 +86,7 @@ fn error_of<W: World>(
     }
 }
 
+/// A new string with this text; where there is none, the TypeError of an object in place of a text.
 fn text_or_fail<W: World>(
     alloc: Global,
     world: &mut W,

@@ -69,6 +69,7 @@ fn add_key(keys: &mut Vec<Units>, property: Option<&Property>) -> Result<(), All
     Ok(())
 }
 
+/// The keys of the enumerable properties, in order.
 fn enumerable_keys(alloc: Global, properties: &PropertyMap) -> Result<Vec<Units>, AllocError>
     ensures { IfOk result (λ keys. keys.items ≡ enumerable_keys properties.now) }
 {
@@ -116,6 +117,7 @@ pub(crate) fn keys_at<W: World>(
 
 // ---- arrays
 
+/// Whether a cell is an array's.
 fn is_array_cell(cell: Option<&Stored>) -> bool
     ensures { (names : List (List ℕ)) → result ≡ is_array_cell (cell_at names (option_copied cell.entry)) }
 {
@@ -135,6 +137,7 @@ pub fn is_array<W: World>(world: &W, names: &Names, value: Value) -> bool
     }
 }
 
+/// The elements of an array's cell; of another cell none.
 fn elements_of(cell: Option<&Stored>) -> &[Value]
     ensures { (names : List (List ℕ)) → result.now ≡ elements_of_cell (cell_at names (option_copied cell.entry)) }
 {

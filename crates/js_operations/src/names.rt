@@ -25,6 +25,7 @@ use js_world::stored::FoundSlot;
 use js_world::world::World;
 use std::alloc::{AllocError, Global};
 
+/// The message of a name that isn't defined.
 fn not_defined(alloc: Global, names: &Names, name: NameId) -> Result<Units, AllocError>
     ensures { IfOk result (λ units. units ≡ name_of names.now name.number ++ codes " is not defined") }
 {

@@ -18,6 +18,7 @@ use js_world::stored::{FunctionName, Stored};
 use js_world::world::World;
 use std::alloc::{AllocError, Global};
 
+/// The name of a class, and behind a colon the message where it isn't empty.
 fn with_message(alloc: Global, class: &[u8], message: &[u16]) -> Result<Units, AllocError>
     ensures { IfOk result (λ units. units ≡ with_message class.now message.now) }
 {
@@ -30,6 +31,7 @@ fn with_message(alloc: Global, class: &[u8], message: &[u16]) -> Result<Units, A
     joined(alloc, opened.as_slice(), message)
 }
 
+/// The text of a message; empty where the value isn't a string.
 fn message_units<C: Cells>(cells: &C, value: Value) -> &[u16]
     ensures { result.now ≡ message_units (C.world cells.now) value }
 {
@@ -39,6 +41,7 @@ fn message_units<C: Cells>(cells: &C, value: Value) -> &[u16]
     }
 }
 
+/// The text of an error of this class, whose message is this property.
 fn error_text<C: Cells>(
     alloc: Global,
     cells: &C,
@@ -57,6 +60,7 @@ fn error_text<C: Cells>(
     }
 }
 
+/// The text of a function with this name.
 fn function_text(alloc: Global, names: &Names, name: &FunctionName) -> Result<Units, AllocError>
     ensures { IfOk result (λ units. units ≡ codes "function " ++ name_text names.now name.now) }
 {
@@ -65,6 +69,7 @@ fn function_text(alloc: Global, names: &Names, name: &FunctionName) -> Result<Un
     joined(alloc, opened.as_slice(), name)
 }
 
+/// The text of what an object's address holds.
 fn cell_text<W: World>(
     alloc: Global,
     world: &W,

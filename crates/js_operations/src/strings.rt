@@ -58,6 +58,7 @@ fn string_slice<W: World>(
     make_text(world, names, part)
 }
 
+/// A unit as a number; where there is none, the RangeError of a result that isn't a safe integer.
 fn unit_or_fail<W: World>(
     alloc: Global,
     world: &mut W,

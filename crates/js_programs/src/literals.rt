@@ -59,6 +59,7 @@ fn add_literals(term: &Term, found: &mut Vec<Units>) -> Result<(), AllocError>
     }
 }
 
+// adds the literals of parts at the end
 #[cycle(add_literals)]
 #[tactic(auto, using(js_terms::proofs::TermLemmas::terms_listed))]
 fn add_all_literals(terms: &Terms, found: &mut Vec<Units>) -> Result<(), AllocError>
@@ -67,6 +68,7 @@ fn add_all_literals(terms: &Terms, found: &mut Vec<Units>) -> Result<(), AllocEr
     add_item_literals(&terms.items, found)
 }
 
+// adds the literals of a list of parts at the end
 #[cycle(add_literals)]
 fn add_item_literals(items: &Vec<Term>, found: &mut Vec<Units>) -> Result<(), AllocError>
     ensures { OnOk result (found.new.items ≡ found.old.items ++ run.literals_of (listed_view items.now.items)) }
@@ -150,6 +152,7 @@ fn literal_placed(space: Space, next: &mut u32) -> Result<Term, AllocError>
     }
 }
 
+// parts with the addresses of their literals, and the number after them
 #[cycle(placed)]
 #[tactic(auto, using(js_terms::proofs::TermLemmas::terms_listed))]
 fn terms_placed(
@@ -164,6 +167,7 @@ fn terms_placed(
     Ok(terms_of(items_placed(alloc, space, &terms.items, next)?))
 }
 
+// a list of parts with the addresses of its literals, and the number after them
 #[cycle(placed)]
 fn items_placed(
     alloc: Global,

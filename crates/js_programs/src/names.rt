@@ -38,6 +38,7 @@ pub fn names_of(alloc: Global, statements: &Stmts) -> Result<ScopeNames, AllocEr
     Ok(ScopeNames::from_vec(names))
 }
 
+// adds the names of a list of statements at the end
 fn add_item_names(items: &[Stmt], names: &mut Vec<Binding>) -> Result<(), AllocError>
     ensures { OnOk result (names.new.items ≡ names.old.items ++ (makers.items_of (map statement_source items.now)).names) }
 {
@@ -107,6 +108,7 @@ pub fn declarators_names(
     Ok(ScopeNames::from_vec(names))
 }
 
+// adds the names of a `let` or `const` at the end
 #[tactic(auto, using(js_semantics::proofs::TreeLemmas::source_declarators))]
 fn add_declared(
     constant: bool,
@@ -118,6 +120,7 @@ fn add_declared(
     add_declared_items(constant, &declarators.items, names)
 }
 
+// adds the names of a list of declarators at the end
 fn add_declared_items(
     constant: bool,
     items: &[Declarator],

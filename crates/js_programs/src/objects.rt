@@ -90,6 +90,7 @@ pub fn members_of(alloc: Global, properties: &PropertyDefinitions) -> Result<Mem
     Ok(Members::from_vec(members_in(alloc, &properties.items)?))
 }
 
+// the members of a list of properties
 fn members_in(alloc: Global, items: &[PropertyDefinition]) -> Result<Vec<Member>, AllocError>
     ensures { IfOk result (λ ms. ms.items ≡ map makers.member_of (map property_source items.now)) }
 {
@@ -100,6 +101,7 @@ fn members_in(alloc: Global, items: &[PropertyDefinition]) -> Result<Vec<Member>
     Ok(members)
 }
 
+// the member of a property
 #[tactic(auto, using(js_semantics::proofs::TreeLemmas::property_laws))]
 fn member_of(alloc: Global, property: &PropertyDefinition) -> Result<Member, AllocError>
     ensures { IfOk result (λ m. m ≡ makers.member_of (property_source property.now)) }
@@ -111,6 +113,7 @@ fn member_of(alloc: Global, property: &PropertyDefinition) -> Result<Member, All
     }
 }
 
+// the member with this key, which may be computed
 #[tactic(auto, using(js_semantics::proofs::TreeLemmas::key_laws))]
 fn member_of_key(alloc: Global, key: &PropertyName) -> Result<Member, AllocError>
     ensures { IfOk result (λ m. m ≡ makers.member_of_key (key_source key.now)) }

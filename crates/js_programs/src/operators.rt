@@ -29,6 +29,7 @@ pub fn unary_term(alloc: Global, operator: UnaryOperator, operand: Term) -> Resu
     }
 }
 
+// an operator on the value of its operand
 fn plain_unary(alloc: Global, operator: UnaryOperator, operand: Term) -> Result<Term, AllocError>
     ensures { IfOk result (λ t. term_view t ≡ semantics.part (forms.Unary operator) (semantics.one (term_view operand)) semantics.end) }
 {
@@ -63,6 +64,7 @@ fn deciding_form(operator: BinaryOperator) -> Option<Form>
     }
 }
 
+// `&&` or `||`, whose right operand is kept for later
 fn deciding(alloc: Global, form: Form, left: Term, right: Term) -> Result<Term, AllocError>
     ensures { IfOk result (λ t. term_view t ≡ semantics.part form (semantics.one (term_view left)) (semantics.one (term_view right))) }
 {
@@ -71,6 +73,7 @@ fn deciding(alloc: Global, form: Form, left: Term, right: Term) -> Result<Term, 
     part(alloc, form, now, later)
 }
 
+// an operator on the values of both operands
 fn plain_binary(
     alloc: Global,
     operator: BinaryOperator,
@@ -104,6 +107,7 @@ pub fn comma_term(alloc: Global, expressions: Terms) -> Result<Term, AllocError>
     comma_of(alloc, expressions.into_vec())
 }
 
+// `a, b` of a list of terms; undefined where it is empty
 fn comma_of(alloc: Global, mut expressions: Vec<Term>) -> Result<Term, AllocError>
     ensures { IfOk result (λ t. term_view t ≡ makers.comma_term (listed_view expressions.items)) }
 {

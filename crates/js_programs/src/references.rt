@@ -34,6 +34,7 @@ fn target_of(alloc: Global, term: Term) -> Result<Target, AllocError>
     }
 }
 
+// a form with its parts, taken apart where it is read
 fn read_target(alloc: Global, form: Form, now: Terms, later: Terms) -> Result<Target, AllocError>
     ensures { IfOk result (λ target. IsTarget (semantics.part form (terms_view now) (terms_view later)) target) }
 {
@@ -123,6 +124,7 @@ pub(crate) fn type_of(alloc: Global, operand: Term) -> Result<Term, AllocError>
     }
 }
 
+// `typeof` of a reference; one that is a name needn't be defined
 fn type_of_read(
     alloc: Global,
     reference: Reference,
@@ -144,6 +146,7 @@ fn type_of_read(
     }
 }
 
+// `typeof` of the value of its operand
 fn type_of_value(alloc: Global, operand: Term) -> Result<Term, AllocError>
     ensures { IfOk result (λ t. term_view t ≡ semantics.part (forms.Unary unaries.Typeof) (semantics.one (term_view operand)) semantics.end) }
 {

@@ -50,6 +50,7 @@ use std::alloc::{AllocError, Global};
 
 // ---- arrays
 
+/// A new array with these elements.
 fn array_of<W: World>(
     alloc: Global,
     names: &Names,
@@ -158,6 +159,7 @@ fn made_function<W: World>(
     }
 }
 
+/// The function of an entry, made in the active frame.
 fn function_with<W: World>(
     alloc: Global,
     names: &Names,
@@ -344,6 +346,7 @@ fn before_part<W: World>(
     }
 }
 
+/// An object literal before its next part; where none is left, the object with these values.
 fn object_with<W: World>(
     alloc: Global,
     table: &NodeTable,

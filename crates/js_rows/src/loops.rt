@@ -127,6 +127,7 @@ fn initializes_in(outcome: Result<Addr, ActionEnd>, constant: bool) -> Reduced
     }
 }
 
+/// Entering the `for` of an entry.
 fn enter_for_with<W: World>(
     alloc: Global,
     names: &Names,
@@ -172,6 +173,7 @@ fn lists_in(outcome: Result<Addr, ActionEnd>) -> Reduced
     }
 }
 
+/// Entering the `for .. of` of an entry.
 fn enter_for_of_with<W: World>(
     alloc: Global,
     table: &NodeTable,
@@ -216,6 +218,7 @@ pub fn enter_for_of<W: World>(
     }
 }
 
+/// The `for .. of` of an entry with the value that it goes over; a TypeError where that is no array.
 fn list_with<W: World>(
     alloc: Global,
     table: &NodeTable,
@@ -299,6 +302,7 @@ fn iterated_in(outcome: Result<Addr, ActionEnd>) -> Reduced
     }
 }
 
+/// A turn of the `for .. of` of an entry with the element at an index, or its end where there is no such element.
 fn turn_with<W: World>(
     alloc: Global,
     table: &NodeTable,

@@ -41,6 +41,7 @@ pub fn value_of_name<W: World>(world: &W, names: &Names, scope: Addr, name: Name
     slot_value(lookup(world, names, scope, name))
 }
 
+/// A name that is read by the general call, which makes the error of a name without a value.
 #[cold]
 #[inline(never)]
 fn read_name_slowly<W: World>(
@@ -105,6 +106,7 @@ pub fn open_slot(found: Option<FoundSlot>) -> Option<FoundSlot>
     }
 }
 
+/// `=` to a name by the general call, which makes the error of a name that takes no value.
 #[cold]
 #[inline(never)]
 fn assign_name_slowly<W: World>(

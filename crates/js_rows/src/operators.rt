@@ -74,6 +74,7 @@ fn product(y: i64, z: i64) -> Option<Value>
     }
 }
 
+/// A boolean as a value.
 #[inline(always)]
 fn truth(b: bool) -> Option<Value>
     ensures { result ≡ Some (value.Bool b) }

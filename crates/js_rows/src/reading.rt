@@ -25,6 +25,7 @@ use std::alloc::Global;
 
 // ---- names
 
+/// The value of a name by the general call, which makes the error of a name without one.
 #[cold]
 #[inline(never)]
 fn name_slowly<W: World>(
@@ -93,6 +94,7 @@ pub fn value_of_member<W: World>(
     own_value(world.find(a), text)
 }
 
+/// The value of a property with a fixed key of any value, looked up by the key's text.
 #[cold]
 #[inline(never)]
 fn member_slowly<W: World>(
@@ -195,6 +197,7 @@ pub fn value_of_index<W: World>(
     indexed_value(world.find(a), at)
 }
 
+/// The value of a property with a computed key of any value.
 #[cold]
 #[inline(never)]
 fn index_slowly<W: World>(

@@ -219,6 +219,7 @@ fn declare_script<W: World>(
     with_functions(alloc, world, names, table, scope, from, to)
 }
 
+/// The script of an entry.
 fn script_of<W: World>(
     alloc: Global,
     table: &NodeTable,
@@ -261,6 +262,7 @@ pub fn script<W: World>(
     }
 }
 
+/// A block that declares these names; with none of them it needs no scope.
 fn block_of<W: World>(
     alloc: Global,
     table: &NodeTable,

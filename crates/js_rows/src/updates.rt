@@ -199,6 +199,7 @@ pub fn update_index_slowly<W: World>(
 
 // ---- rows of properties
 
+/// `++` and `--` of a property with a fixed key of any value, looked up by the key's text.
 #[cold]
 #[inline(never)]
 fn update_member_slowly<W: World>(
@@ -332,6 +333,7 @@ fn unread(outcome: Result<Value, ActionEnd>) -> ActionEnd
     }
 }
 
+/// `++` and `--` of a name by the general calls, or the error of a name without a value.
 #[cold]
 #[inline(never)]
 fn update_name_slowly<W: World>(

@@ -24,6 +24,7 @@ use std::alloc::Global;
 
 // ---- properties with a fixed key
 
+/// Whether a cell is an object's, and no other thing's.
 #[inline(always)]
 fn is_object_cell(cell: Option<&Stored>) -> bool
     ensures { (names : List (List ℕ)) → result ≡ is_object_cell (cell_at names (option_copied cell.entry)) }
@@ -81,6 +82,7 @@ pub fn put_member_value<W: World>(
 
 // ---- properties with a computed key
 
+/// Whether a cell is that of an array with an element at this index, or of this length.
 #[inline(always)]
 fn has_place_in(cell: Option<&Stored>, at: u32) -> bool
     ensures { (names : List (List ℕ)) → result ≡ has_place (cell_at names (option_copied cell.entry)) at }
@@ -100,6 +102,7 @@ fn has_place<W: World>(world: &W, names: &Names, a: Addr, at: u32) -> bool
     has_place_in(world.find(a), at)
 }
 
+/// Writes a property with a computed key of any value.
 #[cold]
 #[inline(never)]
 fn put_index_slowly<W: World>(

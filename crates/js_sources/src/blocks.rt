@@ -78,6 +78,7 @@ fn catching(
     part(alloc, Form::Catching(name), one(alloc, term)?, later)
 }
 
+/// A copy of a name that may be absent.
 fn optional_name(name: &Option<Units>) -> Result<Option<Units>, AllocError>
     ensures { IfOk result (λ n. n ≡ name.now) }
 {

@@ -31,6 +31,7 @@ pub fn declarators_term<'a>(
     part(alloc, Form::Sequence, terms, end(alloc))
 }
 
+/// The terms of a list of declarators.
 #[cycle(source)]
 fn declarator_items<'a>(
     alloc: Global,
@@ -46,6 +47,7 @@ fn declarator_items<'a>(
     Ok(terms)
 }
 
+/// The term of a declarator, which gives its name to its value.
 #[cycle(source)]
 #[tactic(auto, using(js_semantics::proofs::TreeLemmas::source_declarator, js_programs::proofs::SourceLemmas::initializer_named))]
 fn declarator<'a>(alloc: Global, d: &Declarator, place: Place<'a>) -> Result<Term, AllocError>

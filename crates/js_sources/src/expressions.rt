@@ -201,6 +201,7 @@ pub fn parts_terms<'a>(alloc: Global, es: &Exprs, place: Place<'a>) -> Result<Te
     Ok(terms_of(expression_items(alloc, &es.items, place)?))
 }
 
+/// The terms of a list of expressions.
 #[cycle(source)]
 fn expression_items<'a>(
     alloc: Global,

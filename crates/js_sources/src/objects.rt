@@ -75,6 +75,7 @@ fn property_items<'a>(
     Ok(parts)
 }
 
+/// The parts of a property, before those of the properties after it.
 #[cycle(source)]
 #[tactic(auto, using(js_semantics::proofs::TreeLemmas::property_laws, js_semantics::proofs::TreeLemmas::key_laws))]
 fn property_parts<'a>(

@@ -36,6 +36,7 @@ pub fn statements_terms<'a>(
     Ok(terms_of(statement_items(alloc, &ss.items, place)?))
 }
 
+/// The terms of a list of statements.
 #[cycle(source)]
 fn statement_items<'a>(
     alloc: Global,
@@ -60,6 +61,7 @@ pub fn functions_terms<'a>(alloc: Global, ss: &Stmts, place: Place<'a>) -> Resul
     function_items(alloc, &ss.items, place)
 }
 
+/// The functions that each statement of a list declares, in order.
 #[cycle(source)]
 fn function_items<'a>(
     alloc: Global,
@@ -75,6 +77,7 @@ fn function_items<'a>(
     Ok(functions)
 }
 
+/// The function that a statement declares, where it is a function declaration.
 #[cycle(source)]
 fn statement_functions<'a>(alloc: Global, s: &Stmt, place: Place<'a>) -> Result<Terms, AllocError>
     ensures { IfOk result (λ ts. terms_view ts ≡ (statement_source s.now).functions (context_of place.entry)) }
@@ -108,6 +111,7 @@ fn statement_functions<'a>(alloc: Global, s: &Stmt, place: Place<'a>) -> Result<
     }
 }
 
+/// The term of a statement.
 #[cycle(source)]
 fn statement_term<'a>(alloc: Global, s: &Stmt, place: Place<'a>) -> Result<Term, AllocError>
     ensures { IfOk result (λ t. term_view t ≡ (statement_source s.now).term (context_of place.entry)) }

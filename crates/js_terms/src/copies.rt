@@ -66,6 +66,7 @@ fn function_form_copy(alloc: Global, form: &FunctionForm) -> Result<FunctionForm
     })
 }
 
+/// A copy of a member of an object literal.
 fn member_copy(member: &Member) -> Result<Member, AllocError>
     ensures { IfOk result (λ m. m ≡ member.now) }
 {

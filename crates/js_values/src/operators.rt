@@ -68,6 +68,7 @@ fn answer_of(alloc: Global, answer: Option<bool>) -> Result<Computed, AllocError
     }
 }
 
+/// The other answer to a comparison; none where the values don't compare.
 fn negated(answer: Option<bool>) -> Option<bool>
     ensures { result ≡ negated answer }
 {
@@ -110,6 +111,7 @@ pub(crate) fn numeric(
     }
 }
 
+/// The lesser of two lengths.
 fn shorter(first: usize, second: usize) -> usize
     ensures { result ≡ min first second }
 {
@@ -204,6 +206,7 @@ pub fn binary_result<C: Cells>(
     }
 }
 
+/// `+`, `-` and `~` of a number; the TypeError of any other value.
 fn number_result(alloc: Global, operator: UnaryOperator, v: Value) -> Result<Computed, AllocError>
     requires { IsSafe v }
     ensures { IfOk result (λ r. r ≡ number_result operator v) }

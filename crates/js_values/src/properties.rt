@@ -57,12 +57,14 @@ fn cannot_read_null(alloc: Global, key: &[u16]) -> Result<Computed, AllocError>
 
 // ---- reading
 
+/// A built-in function as a value.
 fn method(f: BuiltIn) -> Computed
     ensures { result ≡ a_value (function_value f) }
 {
     Computed::Value(Value::Object(built_in_at(f)))
 }
 
+/// The method of arrays with this key; undefined where there is none.
 fn array_method(key: &[u16]) -> Computed
     ensures { result ≡ array_method key.now }
 {
@@ -84,6 +86,7 @@ fn array_method(key: &[u16]) -> Computed
     Computed::Value(Value::Undefined)
 }
 
+/// The method of strings with this key; undefined where there is none.
 fn string_method(key: &[u16]) -> Computed
     ensures { result ≡ string_method key.now }
 {
@@ -99,6 +102,7 @@ fn string_method(key: &[u16]) -> Computed
     Computed::Value(Value::Undefined)
 }
 
+/// The value of a property that isn't there.
 fn undefined() -> Computed
     ensures { result ≡ a_value values.Undefined }
 {
@@ -212,6 +216,7 @@ pub fn not_changeable(alloc: Global, key: &[u16]) -> Result<Written, AllocError>
     Ok(Written::Refused(ErrorClass::TypeError, message))
 }
 
+/// The TypeError of writing a property of undefined.
 fn cannot_set_undefined(alloc: Global, key: &[u16]) -> Result<Written, AllocError>
     ensures { IfOk result (λ r. r ≡ refused classes.TypeError (cannot_set (codes "undefined") key.now)) }
 {
@@ -224,6 +229,7 @@ fn cannot_set_undefined(alloc: Global, key: &[u16]) -> Result<Written, AllocErro
     Ok(Written::Refused(ErrorClass::TypeError, message))
 }
 
+/// The TypeError of writing a property of null.
 fn cannot_set_null(alloc: Global, key: &[u16]) -> Result<Written, AllocError>
     ensures { IfOk result (λ r. r ≡ refused classes.TypeError (cannot_set (codes "null") key.now)) }
 {
@@ -236,6 +242,7 @@ fn cannot_set_null(alloc: Global, key: &[u16]) -> Result<Written, AllocError>
     Ok(Written::Refused(ErrorClass::TypeError, message))
 }
 
+/// The RangeError of a length that an array can't be given.
 fn bad_length(alloc: Global) -> Result<Written, AllocError>
     ensures { IfOk result (λ r. r ≡ bad_length) }
 {
@@ -243,6 +250,7 @@ fn bad_length(alloc: Global) -> Result<Written, AllocError>
     Ok(Written::Refused(ErrorClass::RangeError, message))
 }
 
+/// An element at an index up to the length; further on the RangeError of a length.
 fn element_change(
     alloc: Global,
     a: Addr,

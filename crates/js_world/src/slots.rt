@@ -58,6 +58,7 @@ pub enum Looked {
     Nowhere,
 }
 
+/// A name that isn't in a scope is looked for in the scope around, if there is one.
 fn outward(outer: Option<Addr>) -> Looked
     ensures place { IsNotHere result }
     ensures value { (further : AnyAddr → Option Found) → kept_found (found_outward outer further) ≡ looked_on result (λ a. kept_found (further a)) }

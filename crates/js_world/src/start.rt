@@ -49,6 +49,7 @@ fn add_name(alloc: Global, names: &mut Names, text: &[u8]) -> Result<(), AllocEr
     Ok(())
 }
 
+/// Adds names in ASCII to a table, in order.
 fn add_names(alloc: Global, names: &mut Names, texts: &[&[u8]]) -> Result<(), AllocError>
     ensures { GoesOn names.old names.new }
 {
