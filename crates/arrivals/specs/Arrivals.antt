@@ -41,7 +41,7 @@ IsLocated script m kind =
 pub record Arrives (scripts : List Script) (t : Term) (s : State) : Type 0 where
   -- the top frame is of one of the scripts
   pub in_a_script : (script : Script) × Contains scripts script × RunsIn script s
-  -- and so is each active frame
+  -- each active frame is of one of the scripts
   pub each_frame : (d : ℕ) (f : Frame)
       → frame_at d script_scope t s ≡ Some f
       → (script : Script) × Contains scripts script × (f.source ≡ script_source script.number)

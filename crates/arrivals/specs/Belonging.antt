@@ -71,7 +71,7 @@ pub record Sources : Type 1 where
   pub marks : Source → Marked → Type 0
   pub raises : Type 0
 
--- the same behind a step that told this: a throw that stands was raised by it
+-- behind a step that told this, a throw that stands was raised by it
 abbrev pub behind_step : Sources → Option Told → Sources
 behind_step R told = record R { raises = told ≡ Some raised }
 

@@ -36,7 +36,7 @@ fault_of id s =
     if list_any (has_id id) s.set then Some (faults.Exists id) else if nat_le most (length s.set) then Some
     (faults.Full most) else None
 
--- the same of one at a place
+-- why none is set at a place, by the place to which it resolves, if there is one
 abbrev pub fault_for : Option Place → Place → State → Option AddFault
 fault_for None place s = Some faults.Unresolved
 fault_for (Some resolved) place s = fault_of (place_id place) s

@@ -21,7 +21,7 @@ asked_by head = record {
   fields = map name_and_value head.fields;
 }
 
--- the same by where its parts lie
+-- what a head asks whose parts lie at these places of its bytes
 abbrev pub asked_at : List ℕ → List HeaderSpan → RequestSpans → Asked
 asked_at bytes headers spans = record {
   minor = spans.version;

@@ -64,7 +64,7 @@ machine_arrival scripts m = record {
 abbrev pub machine_standing : List Script → Machine → Heap → Standing
 machine_standing scripts m h = standing_of scripts (machine_run m h [])
 
--- the same of the parts that a meaning holds
+-- how a program stands whose machine and cells a meaning holds
 abbrev pub parts_standing : List Script → Parts → Standing
 parts_standing scripts p = machine_standing scripts p.machine p.heap
 
@@ -96,7 +96,7 @@ beside first stops seats r =
 abbrev pub pause_behind : ℕ → ℕ → Pause
 pause_behind stops depth = record { number = next_number stops; depth = depth }
 
--- the same behind a step that stopped the program with so many calls active, or didn't stop it
+-- all but the program of a host whose last step stopped it with so many calls active, or didn't stop it
 abbrev pub beside_behind : Option ℕ → ℕ → List (Seat Session) → Run → Meaning Run
 beside_behind stopped stops seats r = record {
   program = r;

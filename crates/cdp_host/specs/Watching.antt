@@ -44,7 +44,7 @@ step_held s t =
       first = t.first;
     }
 
--- the same behind a program that is lent to the session
+-- what a step tells of a program that is lent to the session
 abbrev pub step_seen : {P : Type 0} → (P → Standing) → Held P → HeldStep → Step
 step_seen standing s t = step_held (standing s.program.now) t
 
@@ -64,7 +64,7 @@ AnswersAs (Kept asks) answer new =
 AnswersAs Overran answer new = (new ≡ Left) × (fits answer.session.outbox ≡ false)
 AnswersAs Failed answer new = new ≡ Left
 
--- the same among all seats
+-- what became of a text with this answer, and of the seats of all sessions
 abbrev pub AnswersIn : Answered → Answer → ℕ → List (Seat Session) → List (Seat Session) → Type 0
 AnswersIn (Kept asks) answer s old new =
     (new ≡ put s (Attached answer.session) old) × (asks ≡ answer.asks) × (fits answer.session.outbox ≡ true)

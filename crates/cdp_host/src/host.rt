@@ -502,7 +502,7 @@ impl<'p> Host<'p> {
         self.try_run(n, moment)
     }
 
-    /// The same of a host that works. After an error it fell back.
+    /// A run of a host that works: its steps, and the losses that it reports. After an error the host fell back.
     fn try_run(&mut self, n: u64, moment: u64) -> Result<Ran, AllocError>
         requires moment { moment < 2 ^ 53 }
         requires works { self.old.broken ≡ false }
@@ -533,7 +533,7 @@ impl<'p> Host<'p> {
         }
     }
 
-    /// The same without reporting the losses. It takes memory only where a step may be made.
+    /// The steps of a run, without the report of losses. It takes memory only where a step may be made.
     fn make(&mut self, n: u64, moment: u64) -> Result<Made, AllocError>
         requires moment { moment < 2 ^ 53 }
         requires works { self.old.broken ≡ false }
@@ -557,7 +557,7 @@ impl<'p> Host<'p> {
         }
     }
 
-    /// The same. It takes memory for a flag of each session, also where no step may be made.
+    /// Goes on while a step may be made. It takes memory for a flag of each session, also where none may be.
     fn make_steps(&mut self, n: u64, moment: u64) -> Result<Made, AllocError>
         requires moment { moment < 2 ^ 53 }
         requires works { self.old.broken ≡ false }

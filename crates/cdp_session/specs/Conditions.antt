@@ -53,7 +53,7 @@ answer_at_top s w source e =
     evaluate w.program s.world w.scratch (top_scope s.frames) (top_this s.frames) source (expression_literals e)
     (numbered_made e)
 
--- the same of an expression that was parsed
+-- an expression that was parsed comes to a value that counts as true in the top frame
 abbrev pub expression_holds : Standing → Workspace → Expression → Bool
 expression_holds s w e =
     comes_true s.world (evaluate_expression w.program s.world w.scratch (top_scope s.frames) (top_this s.frames) e)

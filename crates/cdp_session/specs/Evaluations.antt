@@ -84,7 +84,7 @@ sight_with s x scratch =
       session = x.number;
     }
 
--- the same as it is lent
+-- what a describer over the cells of evaluations describes by, as it is lent
 abbrev pub described_over : {S : Type 0} → Describer Over S → Sight
 described_over d = views.sight_of node_text (over_world d.names.now d.world.now) d.scripts.now d.session
 

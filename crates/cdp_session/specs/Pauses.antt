@@ -23,7 +23,7 @@ use Rattle.cdp_session.specs.declared.situation.Pause.{Pause}
 abbrev pub sight_for : Situation → ℕ → Sight
 sight_for s number = record { node_text = node_text; world = s.standing.world; scripts = s.scripts; session = number }
 
--- the same as it is lent
+-- what a describer over the program's cells describes by, as it is lent
 abbrev pub described_by : {S : Type 0} → Describer Heap S → Sight
 described_by d = views.sight_of node_text (heap_world d.names.now d.world.now) d.scripts.now d.session
 

@@ -81,7 +81,7 @@ pub(crate) fn value_of(
     describer.remote_with(value, detail, handles, group)
 }
 
-/// The same by value, without a handle.
+/// A value to which an evaluation came, by value and without a handle.
 pub(crate) fn given_of(
     alloc: Global,
     opened: &Opened<'_>,

@@ -304,7 +304,7 @@ impl Session {
         self.add_in(situation, place, condition)
     }
 
-    /// The same at a place.
+    /// `Debugger.setBreakpoint` at a place of one of the scripts.
     fn add_in<P: Program>(
         &mut self,
         situation: &Situation<'_, P>,

@@ -17,7 +17,7 @@ pub(crate) struct Spelled<'t> {
     pub(crate) last: &'t str,
     /// What the source goes on with from the token on.
     pub(crate) ahead: &'t str,
-    /// The same from the token before it on, where nothing stands between them.
+    /// What the source goes on with from the token before it on, where nothing stands between the two.
     pub(crate) joined: &'t str,
 }
 

@@ -64,7 +64,7 @@ pub record IsNested (w : World) : Type 0 where
   pub outward : (a : Addr) → IsWithinOlder a (read_cell w a)
   pub own : HasOwnCells w.start w.scratch
 
--- the same behind a step
+-- the scope around each scope is older than it in the world of a move
 abbrev pub MoveNested : {T : Type 0} → Move T → Type 0
 MoveNested (goes t s told) = IsNested s.world
 MoveNested (travels c s) = IsNested s.world

@@ -26,12 +26,12 @@ pub fn making_keeps_nested()
     ensures { (w : World) (c : Cell) → IsNested w → SoundCell w c → AfterFine (make_cell w c) (λ a v. IsNested v) }
 {}
 
-/// So does every change.
+/// Every change leaves the scope around each scope older than it.
 pub fn writing_keeps_nested()
     ensures { (w : World) (a : Addr) (c : Change) → IsNested w → AfterFine (write_cell w a c) (λ u v. IsNested v) }
 {}
 
-/// So does every step of a sound configuration.
+/// Every step of a sound configuration leaves the scope around each scope older than it.
 pub fn a_step_keeps_nested()
     ensures { (p : Program) (scope : Addr) (t : Term) (s : State) → SoundState p s → SoundScope s.world (Some scope) → SoundTerm s.world t → IsNested s.world → MoveNested (next p scope t s) }
 {}
@@ -41,7 +41,8 @@ pub fn chains_end_by_themselves()
     ensures { (w : World) (a : Addr) → IsSound w → IsNested w → SoundScope w (Some a) → HasWholeChain w a }
 {}
 
-/// So they are for each active frame in each configuration of the run of the parser's scripts.
+/// The scopes of each active frame are all that are around its innermost one, in each configuration of the run of the
+/// parser's scripts.
 pub fn frames_have_whole_chains()
     ensures { (k : ℕ) (scripts : List Script) (input : List (List ℕ)) → RunHasWholeChains (plain k (terms_of_scripts scripts) input) }
 {}

@@ -89,7 +89,7 @@ fn report_seat<X: Drop>(seat: &mut Seat<X>)
     }
 }
 
-/// The same of all seats.
+/// What waited for a run in any of the seats was reported by it.
 pub fn report_all<X: Drop>(seats: &mut [Seat<X>])
     ensures { seats.new ≡ each reported seats.old }
 {

@@ -15,7 +15,7 @@ pub(crate) enum Question {
     Value,
     /// A script, and what it is parsed as.
     Script,
-    /// The same behind scripts that declare `a` and `c`.
+    /// A script behind others that declare `a` and `c`, and what it is parsed as.
     Later,
     /// An expression, and what it is parsed as.
     Expression,
@@ -23,7 +23,7 @@ pub(crate) enum Question {
     Function,
     /// What a script does again and again, and how often it can where few cells are left.
     FilledCells,
-    /// The same where few units are left.
+    /// What a script does again and again, and how often it can where few units are left.
     FilledUnits,
 }
 

@@ -6,10 +6,11 @@ use Rattle.host_turns.specs.Debuggings.{Debugging, meaning}
 use Rattle.host_turns.specs.declared.state.State.{State}
 use Rattle.host_turns.specs.declared.state.State.TheVariants.{Broken, Shut, Threw, Ended, Paused, Waiting, Ready}
 
--- the program has ended by a throw, or not by one
+-- the program has ended by a throw
 abbrev pub HasThrown : Debugging → List (ℕ × Entry) → Type 0
 HasThrown d h = (d.protocol.is_over (meaning d h).program ≡ true) × (d.has_thrown (meaning d h).program ≡ true)
 
+-- the program has ended, and not by a throw
 abbrev pub HasEnded : Debugging → List (ℕ × Entry) → Type 0
 HasEnded d h = (d.protocol.is_over (meaning d h).program ≡ true) × (d.has_thrown (meaning d h).program ≡ false)
 

@@ -34,7 +34,7 @@ abbrev pub TellsAs : ℕ → List ℕ → Result Told Gone → Entry → Type 0
 TellsAs s text (Ok told) entry = entry ≡ told_entry told s text
 TellsAs s text (Err why) entry = entry ≡ Detach s
 
--- the same of a taking of texts
+-- the entry of a taking of texts, or of a session that was gone
 abbrev pub TakesAs : {A : Type 0} → ℕ → Result A Gone → Entry → Type 0
 TakesAs s (Ok taken) entry = entry ≡ Take s
 TakesAs s (Err why) entry = entry ≡ Detach s
@@ -85,7 +85,7 @@ pub record Acts (d : Debugging) (p q : PassState Entry) (entry : Entry) : Type 0
   pub free : q.in_turn ≡ false
   pub named : has p.number p.numbers ≡ true
 
--- the same, where this is so of the history that the turn found
+-- a turn left this entry, and this is so of the history that it found
 abbrev pub Finds : (d : Debugging) → (List (ℕ × Entry) → Type 0) → PassState Entry → PassState Entry → Entry → Type 0
 Finds d R p q entry = (act : Acts d p q entry) × R (p.seen ++ act.between)
 

@@ -53,7 +53,7 @@ GoesAlong R (suc i) (old ∷ olds) [] flags = ⊥
 GoesAlong R (suc i) (old ∷ olds) (new ∷ news) [] = ⊥
 GoesAlong R (suc i) (old ∷ olds) (new ∷ news) (flag ∷ flags) = R old new flag × GoesAlong R i olds news flags
 
--- the same without flags
+-- a relation that asks for no flag holds of the first seats, so many; the others are as they were
 abbrev pub GoesOn : {X : Type 0} → (Seat X → Seat X → Type 0) → ℕ → List (Seat X) → List (Seat X) → Type 0
 GoesOn R zero olds news = news ≡ olds
 GoesOn R (suc i) [] news = ⊥
@@ -71,7 +71,7 @@ Over R (old ∷ olds) [] flags = ⊥
 Over R (old ∷ olds) (new ∷ news) [] = ⊥
 Over R (old ∷ olds) (new ∷ news) (flag ∷ flags) = R old new flag × Over R olds news flags
 
--- the same without flags
+-- a relation that asks for no flag holds of all seats
 abbrev pub OverAll : {X : Type 0} → (Seat X → Seat X → Type 0) → List (Seat X) → List (Seat X) → Type 0
 OverAll R [] [] = Unit {0}
 OverAll R [] (new ∷ news) = ⊥

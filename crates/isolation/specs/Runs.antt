@@ -45,7 +45,7 @@ pub record IsQuiet {C T Q X : Type 0} (P : Protocol C T Q X) (moment : ℕ) (t :
 abbrev pub mid : {X : Type 0} → Seat X → Seat X → Seat X
 mid old new = if fell new then fallen old else old
 
--- the same of each seat; one that nothing was done to yet stays as it is
+-- the seats before what was done to each of them; one that nothing was done to yet stays as it is
 abbrev pub mids : {X : Type 0} → List (Seat X) → List (Seat X) → List (Seat X)
 mids [] news = []
 mids (old ∷ olds) [] = old ∷ olds
@@ -57,7 +57,7 @@ watched P number moment t (Attached x) = kept P (session_behind P number moment 
 watched P number moment t (Lost loss is_reported is_told) = Lost loss is_reported is_told
 watched P number moment t Left = Left
 
--- and one that was then told of the stop that another named
+-- a seat that was told of the stop that another session named
 abbrev pub stopped_seat : {C T Q X : Type 0} → Protocol C T Q X → ℕ → T → Seat X → Seat X
 stopped_seat P number t (Attached x) = kept P (P.stopped number t x)
 stopped_seat P number t (Lost loss is_reported is_told) = Lost loss is_reported is_told

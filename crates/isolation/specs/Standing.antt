@@ -23,7 +23,7 @@ abbrev pub fallen_from : {X : Type 0} → ℕ → List (Seat X) → List ℕ
 fallen_from s [] = []
 fallen_from s (seat ∷ seats) = if fell seat then s ∷ fallen_from (s + 1) seats else fallen_from (s + 1) seats
 
--- the same from the first session on
+-- their numbers, where the first seat is that of session 1
 abbrev pub fallen_in : {X : Type 0} → List (Seat X) → List ℕ
 fallen_in seats = fallen_from 1 seats
 

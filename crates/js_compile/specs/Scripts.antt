@@ -56,7 +56,7 @@ HaveNodes ts xs (Some c) = HasNodes ts xs c.table c.root
 abbrev pub with_sources : NodeTable → Vec SourceEntry → NodeTable
 with_sources t es = record t { sources = es }
 
--- the same code, with an index for each source
+-- the code has an index for each source, and is otherwise the same
 pub record IsIndexedCode (c d : ScriptCode) : Type 0 where
   pub sources : AreIndexed c.table c.table.sources.items d.table.sources.items
   pub others : d.table ≡ with_sources c.table d.table.sources

@@ -45,7 +45,7 @@ pub fn arguments_before<'t, 's>(
     Ok((expressions_of(items), height, rest))
 }
 
-// The same in a vector.
+// The elements in a vector.
 #[cycle(parser)]
 fn elements_before<'t, 's>(
     nodes: &mut Nodes,

@@ -54,7 +54,7 @@ pub fn properties_at<'t, 's>(
     Ok((properties_of(members), height, rest))
 }
 
-// The same in a vector.
+// The members in a vector.
 #[cycle(parser)]
 fn members_before<'t, 's>(
     nodes: &mut Nodes,

@@ -20,7 +20,7 @@ pub type ParsedPrimary<'t, 's> = Result<(Expr, u32, &'t [Token<'s>]), ParseError
 /// Expressions, the greatest of their heights, and the tokens after them.
 pub type ParsedExpressions<'t, 's> = Result<(Exprs, u32, &'t [Token<'s>]), ParseError>;
 
-/// The same in a vector.
+/// A vector of expressions, the greatest of their heights, and the tokens after them.
 pub type ParsedItems<'t, 's> = Result<(Vec<Expr>, u32, &'t [Token<'s>]), ParseError>;
 
 /// A key of an object literal, its height, and the tokens after it.
@@ -32,7 +32,7 @@ pub type ParsedProperty<'t, 's> = Result<(PropertyDefinition, u32, &'t [Token<'s
 /// The members of an object literal, the greatest of their heights, and the tokens after them.
 pub type ParsedProperties<'t, 's> = Result<(PropertyDefinitions, u32, &'t [Token<'s>]), ParseError>;
 
-/// The same in a vector.
+/// A vector of members, the greatest of their heights, and the tokens after them.
 pub type ParsedMembers<'t, 's> = Result<
     (Vec<PropertyDefinition>, u32, &'t [Token<'s>]),
     ParseError,

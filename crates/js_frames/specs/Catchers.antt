@@ -22,7 +22,7 @@ abbrev pub catches : List Wide → Bool
 catches [] = false
 catches (w ∷ ws) = if is_catcher w.op then true else catches ws
 
--- as the definition names it
+-- a throw that stands, as the definition names it
 abbrev pub standing_throw : Option Thrown → Option StandingThrow
 standing_throw None = None
 standing_throw (Some t) = Some (record { value = t.value; uncaught = t.uncaught })

@@ -5,7 +5,7 @@ use Rattle.std.specs.Str.Parse.{digits_value}
 use Rattle.js_heap.specs.declared.value.Value.{Value}
 use Rattle.js_heap.specs.declared.cell.Property.{Property}
 
--- the same units
+-- two texts have the same units
 abbrev pub same_units : List ℕ → List ℕ → Bool
 same_units [] [] = true
 same_units [] (v ∷ vs) = false

@@ -31,7 +31,7 @@ pub fn making_keeps_sound()
     ensures { (w : World) (c : Cell) → IsSound w → SoundCell w c → AfterFine (make_cell w c) (λ a v. IsSound v) }
 {}
 
-/// So does such a change.
+/// A change that names only live cells of the right kinds keeps a world sound.
 pub fn writing_keeps_sound()
     ensures { (w : World) (a : Addr) (c : Change) → IsSound w → SoundChange w c → AfterFine (write_cell w a c) (λ u v. IsSound v) }
 {}

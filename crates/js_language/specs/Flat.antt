@@ -119,7 +119,7 @@ an_identifier n = token (identifier n) ∷ []
 abbrev pub ends : End → List Mark
 ends end = semicolon end ∷ []
 
--- the same pieces, of which the first token has no line terminator before it
+-- pieces of which the first token has no line terminator before it
 abbrev pub on_line : List Mark → List Mark
 on_line (token s ∷ ms) = beside s ∷ ms
 on_line ms = ms

@@ -178,7 +178,7 @@ absent_before after_do kind line = true
 absent_before after_word kind line = line
 absent_before (after_expression edge) kind line = line && not (continues edge kind)
 
--- the same before the next token, or at the end of the source
+-- whether that semicolon may be absent before the next token, or at the end of the source
 abbrev pub absent : End → Option Token → Bool
 -- 12.10.1: at the end of the input
 absent end None = true

@@ -117,7 +117,7 @@ impl Machine {
         Machine::of_terms(alloc, &terms, input)
     }
 
-    /// The same for scripts that are given as terms.
+    /// A machine at the start of scripts that are given as terms.
     fn of_terms(
         alloc: Global,
         scripts: &Terms,

@@ -52,7 +52,7 @@ Yields {A} f v (Ok a) w =
     (s : State) (k : A → Action) → performed (f k) (with_world s v) ≡ performed (k a) (with_world s w)
 Yields {A} f v (Err e) w = (s : State) (k : A → Action) → Stops (f k) (with_world s v) e (with_world s w)
 
--- the same where the continuation takes no value
+-- the action goes on in that world, without a value, or it ends
 abbrev pub Passes : {A : Type 0} → (Action → Action) → World → Result A ActionEnd → World → Type 0
 Passes f v (Ok a) w = (s : State) (k : Action) → performed (f k) (with_world s v) ≡ performed k (with_world s w)
 Passes f v (Err e) w = (s : State) (k : Action) → Stops (f k) (with_world s v) e (with_world s w)

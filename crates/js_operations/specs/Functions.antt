@@ -15,7 +15,7 @@ use Rattle.js_semantics.specs.State.{Action, make, write, give}
 abbrev pub function_of : Code → ℕ → List ℕ → Addr → Value → Cell
 function_of code count name scope receiver = cells.Function code name count (Some scope) receiver
 
--- as `named_function`
+-- a function expression with a name is made, in a scope of that name, as by `named_function`
 abbrev pub named_of : Code → ℕ → List ℕ → Addr → Action
 named_of code count name scope =
     make (cells.Bindings scopes.Named name (Some scope) (declared name true ∷ []))

@@ -12,12 +12,12 @@ use Rattle.js_semantics.specs.State.{Action, make_text, give}
 use Rattle.js_world.specs.declared.stored.FoundSlot.{FoundSlot}
 use Rattle.js_world.specs.Calls.{HasPlace}
 
--- as `value_of_found`
+-- the value of a name that was found or not, as `value_of_found`
 abbrev pub value_of_slot : List ℕ → Option FoundSlot → Computed
 value_of_slot name None = not_defined name
 value_of_slot name (Some f) = value_or_uninitialized name f.value
 
--- as `name_written`
+-- what a write to a name that was found or not changes, as `name_written`
 abbrev pub slot_written : List ℕ → Option FoundSlot → Value → Written
 slot_written name None v = refused classes.ReferenceError (name ++ codes " is not defined")
 slot_written name (Some f) v = bound_unless name f.constant f.value f.scope v
@@ -26,7 +26,7 @@ slot_written name (Some f) v = bound_unless name f.constant f.value f.scope v
 abbrev pub type_of_bound : World → List ℕ → Option Value → Action
 type_of_bound w name v = with_result (value_or_uninitialized name v) (λ u. make_text (type_text w u) give)
 
--- as `type_of_found`
+-- the type of a name that was found or not, as `type_of_found`
 abbrev pub type_of_slot : World → List ℕ → Option FoundSlot → Action
 type_of_slot w name None = make_text (codes "undefined") give
 type_of_slot w name (Some f) = type_of_bound w name f.value

@@ -19,10 +19,10 @@ IsOfProperty _ = Unit {0}
 abbrev pub indexed : World → Value → Value → (Value → Action) → Action
 indexed w o i k = with_result (keyed_result (key_of w i) (property_of w o)) k
 
--- and written
+-- a property with a computed key is written
 abbrev pub index_written : World → Value → Value → Value → Action → Action
 index_written w o i v k = with_key (key_of w i) (λ key. with_written (property_written w o key v) k)
 
--- and deleted
+-- a property with a computed key is deleted
 abbrev pub index_deleted : World → Value → Value → Action → Action
 index_deleted w o i k = with_key (key_of w i) (λ key. with_written (property_deleted w o key) k)

@@ -92,7 +92,7 @@ IsCause Is source f = ⊥
 abbrev pub IsNoLater : ℕ → ℕ → ℕ → ℕ → Type 0
 IsNoLater a rank b other = (a < b) ⊎ ((a ≡ b) × (rank ≤ other))
 
--- the same of a place of this rank and a fault
+-- a place of this rank comes no later than the place of a fault, if the fault has one
 abbrev pub IsNoLaterThan : ℕ → ℕ → ParseFault → Type 0
 IsNoLaterThan a rank (faults.Token b) = IsNoLater a rank b 0
 IsNoLaterThan a rank (faults.Syntax b) = IsNoLater a rank b 1

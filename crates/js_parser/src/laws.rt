@@ -15,7 +15,8 @@ pub fn texts_of_expressions()
     ensures none { (source : _) → ((e : _) → IsSource IsExpression height source e → ⊥) → expression_of source ≡ None }
 {}
 
-/// The same of function expressions and arrow functions.
+/// The tree of a text, as a function of it, is the tree of the function expression or arrow function
+/// that the text is, within the limits; where the text is none, there is no tree.
 #[tactic(auto, using(crate::proofs::ExpressionLemmas::function_some, crate::proofs::ExpressionLemmas::function_lacks))]
 pub fn texts_of_functions()
     ensures some { (source : _) (e : _) → IsSource IsFunction height source e → function_of source ≡ Some e }

@@ -43,11 +43,11 @@ abbrev pub callee_view : List (List ℕ) → Option Callee → Option Called
 callee_view ts None = None
 callee_view ts (Some c) = Some (view_of ts c)
 
--- as `call_cell`, of a function's cell; its length isn't needed
+-- a callee is called, as `call_cell` calls a function's cell; its length isn't needed
 abbrev pub callee_called : Program → State → Addr → Called → Value → List Value → Action
 callee_called p s a c given args = call_cell p s a (Some (cells.Function c.code c.name 0 c.outer c.made)) given args
 
--- and of any cell
+-- a callee is called where one was found; anything else is not a function
 abbrev pub called : Program → State → Addr → Option Called → Value → List Value → Action
 called p s a (Some c) given args = callee_called p s a c given args
 called p s a None given args = not_a_function
@@ -134,7 +134,7 @@ EntersFrame node body source a receiver own c r d =
     → tree ts t body ≡ code.body →
     Does ts t e (frame_entered code source a receiver own) (state_of w c taken) r (state_of w d taken)
 
--- as `call_code`, of code that is there
+-- code that is there is entered, as by `call_code`
 abbrev pub entered_within : State → FunctionCode → Source → Addr → List ℕ → Addr → Value → List Value → Action
 entered_within s code source a name outer receiver args =
     if nat_lt (length s.frames) frame_limit then entered code source a name outer receiver args else too_deep

@@ -20,7 +20,7 @@ abbrev pub member_result : World → List Value → List ℕ → Computed
 member_result w (o ∷ vs) key = property_of w o key
 member_result w [] key = a_value values.Undefined
 
--- and with the second value as its key
+-- a property of the first value with the second value as its key
 abbrev pub index_result : World → List Value → Computed
 index_result w (o ∷ i ∷ vs) = keyed_result (key_of w i) (property_of w o)
 index_result w _ = a_value values.Undefined

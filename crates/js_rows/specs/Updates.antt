@@ -36,12 +36,12 @@ keyed_updated w o prefix v (Some key) = property_updated w o prefix v key
 abbrev pub index_updated : World → UpdateOperator → Bool → Value → Value → Action
 index_updated w o prefix v i = keyed_updated w o prefix v (key_of w i)
 
--- of the first value
+-- a property with this key of the first value is updated
 abbrev pub member_updated : World → UpdateOperator → Bool → List Value → List ℕ → Action
 member_updated w o prefix (v ∷ vs) key = property_updated w o prefix v key
 member_updated w o prefix [] key = updated_by o (a_value values.Undefined) (λ old new. give values.Undefined)
 
--- and by the second
+-- a property of the first value whose key is the second is updated
 abbrev pub element_updated : World → UpdateOperator → Bool → List Value → Action
 element_updated w o prefix (v ∷ i ∷ vs) = index_updated w o prefix v i
 element_updated w o prefix _ = updated_by o (a_value values.Undefined) (λ old new. give values.Undefined)

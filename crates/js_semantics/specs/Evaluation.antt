@@ -199,7 +199,7 @@ evaluate_call p w x source order callee receiver args =
     answered (with_arguments receiver args (prepared w x source order callee))
     (evaluated (with_source p x callee) script_scope values.Undefined)
 
--- ---- the same of the parser's trees
+-- ---- evaluations of the parser's trees
 
 -- evaluates an expression of the parser in a scope with a `this`
 abbrev pub evaluate_expression : Program → World → ScratchSpace → Addr → Value → Expression → Answer

@@ -97,7 +97,7 @@ abbrev mutual
   is_caught (standing v place) = false
   is_caught (part f now later) = if is_catching f then true else is_caught_in now
 
-  -- the same of parts: of the first one that isn't done
+  -- of parts, the first one that isn't done has the part about to be reduced within the block of such a `try`
   pub is_caught_in : Terms → Bool
   is_caught_in end = false
   is_caught_in (more (done v) ts) = is_caught_in ts
@@ -144,7 +144,7 @@ abbrev mutual
   scopes_at scope (part (frame node a) now later) = scope ∷ scopes_in a now
   scopes_at scope (part f now later) = scopes_in (scope_in f scope) now
 
-  -- the same of parts: those of the first one that isn't done, in the scope around them
+  -- the innermost scopes in parts: those of the first one that isn't done, in the scope around them
   pub scopes_in : Addr → Terms → List Addr
   scopes_in scope end = scope ∷ []
   scopes_in scope (more (done v) ts) = scopes_in scope ts

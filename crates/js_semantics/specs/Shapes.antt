@@ -38,7 +38,7 @@ reduced_parts (call place node) = 2
 reduced_parts (call_of r place node) = reference_size r
 reduced_parts _ = 0
 
--- and that are kept for later
+-- how many parts a form has at least that are kept for later
 abbrev pub later_parts : Form → ℕ
 later_parts (script number names) = 1
 later_parts (enter node) = 1

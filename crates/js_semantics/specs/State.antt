@@ -44,7 +44,7 @@ pub data Move (T : Type 0) : Type 0 where
   has_effect : State → Move T
   is_full : Counted → State → Move T
 
--- the same inside something larger
+-- a move of a part, as the move of what the part stands in
 abbrev pub inside : {T S : Type 0} → (T → S) → Move T → Move S
 inside f (goes t s told) = goes (f t) s told
 inside f (travels c s) = travels c s

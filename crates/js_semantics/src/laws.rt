@@ -40,7 +40,7 @@ pub fn a_step_keeps()
     ensures { (p : Program) (scope : Addr) (t : Term) (s : State) → MoveFollows s (next p scope t s) }
 {}
 
-/// So do any number of steps of a run.
+/// Any number of steps of a run leave what was printed, and the cells, as one step leaves them.
 pub fn steps_keep()
     ensures { (k : ℕ) (p : Program) (scope : Addr) (r : Run) → RunFollows r (steps_in k p scope r) }
 {}
@@ -65,7 +65,7 @@ pub fn a_step_keeps_sound()
     ensures { (p : Program) (scope : Addr) (t : Term) (s : State) → SoundState p s → SoundScope s.world (Some scope) → SoundTerm s.world t → SoundMove p (next p scope t s) }
 {}
 
-/// So do any number of steps of a run.
+/// Any number of steps keep a run sound.
 pub fn steps_keep_sound()
     ensures { (k : ℕ) (p : Program) (scope : Addr) (r : Run) → SoundScope (state_of r).world (Some scope) → SoundRun p r → SoundRun p (steps_in k p scope r) }
 {}
@@ -75,7 +75,7 @@ pub fn an_evaluation_disturbs_nothing()
     ensures { (p : Program) (w : World) (x : ScratchSpace) (scope : Addr) (receiver : Value) (source : List ℕ) (order : List (List ℕ)) (e : Made) → AnswerKeeps w x (evaluate p w x scope receiver source order e) }
 {}
 
-/// So does a call of a function.
+/// A call of a function leaves the program's cells as they are, and those that its session made before.
 pub fn an_evaluated_call_disturbs_nothing()
     ensures { (p : Program) (w : World) (x : ScratchSpace) (source : List ℕ) (order : List (List ℕ)) (callee : Made) (receiver : Value) (arguments : List Argument) → AnswerKeeps w x (evaluate_call p w x source order callee receiver arguments) }
 {}
@@ -86,7 +86,8 @@ pub fn an_evaluation_keeps_sound()
     ensures { (p : Program) (w : World) (x : ScratchSpace) (scope : Addr) (receiver : Value) (e : Expression) → IsReady p (copied_world w x) scope receiver → SoundAnswer (with_source p x (expression_source e.tree)) (evaluate_expression p w x scope receiver e) }
 {}
 
-/// So does a call of a function whose arguments are live, or are made of JSON values.
+/// A call of a function in such a world, whose arguments are live or are made of JSON values, answers a live value in a
+/// sound world.
 pub fn an_evaluated_call_keeps_sound()
     ensures { (p : Program) (w : World) (x : ScratchSpace) (f : FunctionCode) (receiver : Value) (arguments : List Argument) → IsReady p (copied_world w x) script_scope receiver → SoundArguments (copied_world w x) arguments → SoundAnswer (with_source p x (expression_source f.tree)) (evaluate_function p w x f receiver arguments) }
 {}
@@ -111,7 +112,7 @@ pub fn a_plain_run_is_sound()
     ensures { (k : ℕ) (scripts : Terms) (input : List (List ℕ)) → AreUntouched scripts → SoundRun (program_of scripts) (plain k scripts input) }
 {}
 
-/// So is each configuration of the run of the parser's scripts.
+/// Each configuration of the run of the parser's scripts is sound.
 pub fn a_run_of_trees_is_sound()
     ensures { (k : ℕ) (scripts : List Script) (input : List (List ℕ)) → SoundRun (program_of (terms_of_scripts scripts)) (plain k (terms_of_scripts scripts) input) }
 {}
@@ -128,7 +129,7 @@ pub fn a_step_keeps_shape()
     ensures { (p : Program) (scope : Addr) (t : Term) (s : State) → ShapedProgram p → IsShaped t → ShapedMove (next p scope t s) }
 {}
 
-/// So do any number of steps of a run.
+/// Any number of steps keep the term of a run well-shaped.
 pub fn steps_keep_shape()
     ensures { (k : ℕ) (p : Program) (scope : Addr) (r : Run) → ShapedProgram p → ShapedRun r → ShapedRun (steps_in k p scope r) }
 {}

@@ -18,7 +18,7 @@ values_told went = None
 values_told raised = None
 values_told (printed_values vs) = Some vs
 
--- the same of a move
+-- the values that a move tells of as printed, if it prints
 abbrev pub values_moved : Move Term → Option (List Value)
 values_moved (goes t s told) = values_told told
 values_moved (travels c s) = None

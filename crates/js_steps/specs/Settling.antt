@@ -199,7 +199,7 @@ StandsWithin t new n entereds.Leaf = IsLeafAt (slice_get t.nodes.items n)
 StandsWithin t new n entereds.Row = IsAtRow new
 StandsWithin t new n (entereds.Part k) = IsDeeper t n k
 
--- the same scope around the new tasks
+-- the new tasks are in this scope, and each in its own, where the old ones were
 pub record Inward (t : NodeTable) (old new : List Wide) (inner : Addr) : Type 0 where
   pub scope : (root : Addr) → scope_of root old ≡ inner → scope_of root new ≡ inner
   pub scoped : (root : Addr) → scope_of root old ≡ inner → InScopes t root old → InScopes t root new

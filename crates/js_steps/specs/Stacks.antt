@@ -76,13 +76,13 @@ abbrev pub within : Addr → List Wide → List Wide
 within a [] = []
 within a (w ∷ ws) = record w { inner = a } ∷ ws
 
--- the same list at its next turn
+-- what a task owns, at the next turn of the list that it goes over
 abbrev pub next_turn : Extra → Extra
 next_turn (extras.Kept c) = extras.Kept c
 next_turn (extras.Turn list i) = extras.Turn list (i + 1)
 next_turn (extras.Rest from) = extras.Rest from
 
--- the same, where there is one
+-- what a task owns at its next turn, if it owns something
 abbrev pub turned_extra : Option Extra → Option Extra
 turned_extra None = None
 turned_extra (Some e) = Some (next_turn e)
@@ -110,7 +110,7 @@ first_extra false es = None
 first_extra true [] = None
 first_extra true (e ∷ es) = Some e
 
--- and what the tasks around it own
+-- what the tasks around it own
 abbrev pub other_extras : Bool → List Extra → List Extra
 other_extras false es = es
 other_extras true [] = []
@@ -129,7 +129,7 @@ widened (t ∷ ts) vs es =
     wide t (drop t.base vs) (first_extra (has_extra t.op t.info) es) ∷ widened ts (take t.base vs)
     (other_extras (has_extra t.op t.info) es)
 
--- the same of lists in which the innermost task comes last
+-- the tasks with their values, of lists in which the innermost task comes last
 abbrev pub widened_back : List Task → List Value → List Extra → List Wide
 widened_back ts vs es = widened (reverse ts) vs (reverse es)
 

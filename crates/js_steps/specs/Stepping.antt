@@ -30,7 +30,7 @@ use Rattle.js_steps.specs.Answers.{resumed, reduced_term}
 
 -- ---- ends
 
--- as the definition of runs names it
+-- how a run ended, as the definition of runs names it
 abbrev pub finish_of : Finish → AnyFinish
 finish_of (finishes.Ended v) = ended v
 finish_of (finishes.Threw v place) = threw v place

@@ -11,7 +11,7 @@ pub struct Prepared {
     pub source: Units,
     /// Its string literals, in its own order.
     pub order: Vec<Units>,
-    /// The same, in the order of its term.
+    /// Its string literals, in the order of its term.
     pub literals: Vec<Units>,
     /// Its term.
     pub term: Term,

@@ -43,7 +43,7 @@ abbrev pub all_given : {A B : Type 0} → (A → Given (List B)) → List A → 
 all_given f [] = no_parts
 all_given f (x ∷ xs) = behind (f x) (all_given f xs)
 
--- the same in another form
+-- what is given, in another form: as deep, and of as many values
 abbrev pub mapped : {A B : Type 0} → (A → B) → Given A → Given B
 mapped f g = record { given = f g.given; depth = g.depth; met = g.met }
 

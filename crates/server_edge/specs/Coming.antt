@@ -54,7 +54,7 @@ Takes answer now left =
 abbrev pub Gives : Recv → List Coming → List Coming → Type 0
 Gives answer old left = (now : List Coming) × IsBehindHolds old now × Takes answer now left
 
--- the same where what is to come is told
+-- a link answers so, and has that left, where it tells what is to come
 abbrev pub GivesTold : Recv → Option (List Coming) → Option (List Coming) → Type 0
 GivesTold answer None new = new ≡ None
 GivesTold answer (Some old) new = (left : List Coming) × (new ≡ Some left) × Gives answer old left

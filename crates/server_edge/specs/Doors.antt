@@ -19,7 +19,7 @@ AnswersWaiting answers.Quiet old new = (old ≡ 0) × (new ≡ 0)
 AnswersWaiting answers.Failed old new = new ≡ old
 AnswersWaiting answers.Memory old new = new ≡ old
 
--- the same where it is told how many wait
+-- a door answers so, where it tells how many wait
 abbrev pub AnswersOf : {L : Type 0} → DoorAnswer L → Option ℕ → Option ℕ → Type 0
 AnswersOf answer None new = new ≡ None
 AnswersOf answer (Some old) new = (left : ℕ) × (new ≡ Some left) × AnswersWaiting answer old left

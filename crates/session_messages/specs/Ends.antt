@@ -28,7 +28,7 @@ throw_pairs place exception id url =
     ∷ (codes "text", text (codes "Uncaught"))
     ∷ (codes "url", text url) ∷ []
 
--- the same as an object
+-- what is told of a throw, as an object
 abbrev pub throw_details : Place → Json → ℕ → List ℕ → Json
 throw_details place exception id url = object_of (throw_pairs place exception id url)
 

@@ -7,6 +7,6 @@ use Rattle.stepping.specs.declared.rules.Exceptions.TheVariants as throws
 abbrev pub no_rules : Rules
 no_rules = record { enabled = false; skip = false; exceptions = throws.Never; pause = false; step = None; to = None }
 
--- the same with no request
+-- what a session asks for, without its requests
 abbrev pub without_requests : Rules → Rules
 without_requests r = record r { pause = false; step = None; to = None }

@@ -23,6 +23,7 @@ GoesOn heard.Quiet = Unit {0}
 GoesOn heard.Closed = ⊥
 GoesOn heard.Failed = ⊥
 
+-- each of these answers is one after which the session goes on
 abbrev pub AllGoOn : List Heard → Type 0
 AllGoOn [] = Unit {0}
 AllGoOn (answer ∷ answers) = GoesOn answer × AllGoOn answers
@@ -36,7 +37,7 @@ turns_at s heard.Quiet = Take s ∷ []
 turns_at s heard.Closed = []
 turns_at s heard.Failed = []
 
--- for answers in order
+-- the entries for answers in order
 abbrev pub turns : ℕ → List Heard → List Entry
 turns s [] = []
 turns s (answer ∷ answers) = turns_at s answer ++ turns s answers

@@ -14,7 +14,7 @@ pub record Goes (d : Debugging) (p q : PassState Entry) (entries : List Entry) :
   pub same : IsSamePass p q
   pub free : q.in_turn ≡ false
 
--- the same for one of its sessions, to which these texts were handed out
+-- it left these entries, and these texts were handed out to one of its sessions
 pub record Serves (d : Debugging) (s : ℕ) (p q : PassState Entry) (entries : List Entry) (texts : List (List ℕ)) : Type 0 where
   pub goes : Goes d p q entries
   pub handed_out : handed d s q.seen ≡ handed d s p.seen ++ texts
