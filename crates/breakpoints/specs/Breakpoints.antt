@@ -16,7 +16,7 @@ pub record State : Type 0 where
   pub set : List Breakpoint
   pub active : Bool
 
--- as many as may be
+-- how many breakpoints a session may have
 abbrev pub most : ℕ
 most = MOST
 

@@ -16,6 +16,6 @@ has_place place places = list_any (λ p. same_place p place) places
 abbrev pub stands_at : Place → Breakpoint → Bool
 stands_at place b = has_place place b.places
 
--- those of a list that did, in its order
+-- the breakpoints of a list that resolved to a place, in its order
 abbrev pub hits_in : Place → List Breakpoint → List Breakpoint
 hits_in place bs = filter (stands_at place) bs

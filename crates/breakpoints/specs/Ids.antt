@@ -7,11 +7,11 @@ use Rattle.cdp_text.specs.declared.position.Place.{Place}
 abbrev pub position_text : Pos → List ℕ
 position_text p = decimal p.line ++ (codes ":" ++ (decimal p.col ++ codes ":"))
 
--- of a breakpoint at a position of the scripts of a URL
+-- the id of a breakpoint at a position of the scripts of a URL
 abbrev pub url_id : Pos → List ℕ → List ℕ
 url_id p url = (codes "1:" ++ position_text p) ++ url
 
--- of a breakpoint at a place of one script
+-- the id of a breakpoint at a place of one script
 abbrev pub place_id : Place → List ℕ
 place_id place =
     codes "4:" ++

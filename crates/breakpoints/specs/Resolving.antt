@@ -16,16 +16,16 @@ place_in number spot = record { script = number; pos = spot.pos }
 abbrev pub resolved_in : Pos → Script → Option Place
 resolved_in p s = option_map (place_in s.number) (first_from p (break_locations s))
 
--- in a script, if it is of this URL
+-- the place to which a position of a URL resolves in a script, if the script is of this URL
 abbrev pub resolved_of : List ℕ → Pos → Script → Option Place
 resolved_of url p s = if bytes_eq s.url url then resolved_in p s else None
 
--- in each script of a URL that has such a location, in the order of the scripts
+-- the places to which a position of a URL resolves, one in each script of the URL that has such a location, in order
 abbrev pub resolved_by_url : List ℕ → Pos → List Script → List Place
 resolved_by_url url p [] = []
 resolved_by_url url p (s ∷ ss) = option_to_list (resolved_of url p s) ++ resolved_by_url url p ss
 
--- in the script of a place's number
+-- the place to which a place resolves, in the script of its number
 abbrev pub resolved_at : Place → List Script → Option Place
 resolved_at place [] = None
 resolved_at place (s ∷ ss) = if nat_eq s.number place.script then resolved_in place.pos s else resolved_at place ss

@@ -5,7 +5,7 @@ use Rattle.base64.specs.Engines.{standard}
 use Rattle.base64.specs.GeneralPurpose.{encode_of, decode_of}
 use Rattle.sha1.specs.Sha1.{sha1}
 
--- it was read, as 16 bytes
+-- a text in base64 was read, as 16 bytes
 abbrev pub is_nonce : Result (List ℕ) DecodeError → Bool
 is_nonce (Ok bytes) = length bytes == 16
 is_nonce (Err error) = false

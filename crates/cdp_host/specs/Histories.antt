@@ -16,11 +16,11 @@ use Rattle.cdp_host.specs.Protocols.{protocol}
 abbrev pub Meaning : Type 0 → Type 0
 Meaning A = meanings.Meaning A Pause Session
 
--- before the first entry
+-- what a host means before the first entry
 abbrev pub begin : List Script → List (List ℕ) → Bool → Meaning Run
 begin scripts input wait = meanings.begin (start scripts input) wait
 
--- behind one entry
+-- what a host means behind one entry
 abbrev pub apply : List Script → Meaning Run → Entry → Meaning Run
 apply scripts m entry = histories.apply (protocol scripts) m entry
 

@@ -24,14 +24,14 @@ use Rattle.cdp_host.specs.Steps.{Step, end_texts, names, print_texts, print_told
 abbrev pub situation : List Script → Option Pause → Standing → Situation
 situation scripts q s = record { scripts = scripts; paused = q; standing = s }
 
--- it asks a paused program to go on
+-- a command asks a paused program to go on
 abbrev pub asks_to_resume : Asks → Bool
 asks_to_resume Nothing = false
 asks_to_resume Wake = false
 asks_to_resume Resume = true
 asks_to_resume Leave = false
 
--- it asks a program that waits to begin
+-- a command asks a program that waits to begin
 abbrev pub asks_to_wake : Asks → Bool
 asks_to_wake Nothing = false
 asks_to_wake Wake = true
@@ -52,7 +52,7 @@ pause_at scripts number r = record { number = number; depth = (arrival_of script
 abbrev pub begun_with : List Script → ℕ → Session
 begun_with scripts number = fresh number (begun (code_of scripts))
 
--- it has the debugger enabled
+-- a session has the debugger enabled
 abbrev pub has_enabled : Session → Bool
 has_enabled x = x.rules.enabled
 
@@ -60,11 +60,11 @@ has_enabled x = x.rules.enabled
 abbrev pub waiting_for : Session → List (List ℕ)
 waiting_for x = x.outbox
 
--- so many texts may wait
+-- no more texts wait for a session than may
 abbrev pub texts_fit : Session → Bool
 texts_fit x = fits x.outbox
 
--- it was told a text
+-- a session that was told a text
 abbrev pub replied : List Script → Option Pause → Run → List ℕ → Session → Session
 replied scripts q r text x = (answer_at scripts q r text x).session
 
@@ -76,11 +76,11 @@ asks_on scripts q r text x = asks_to_resume (answer_at scripts q r text x).asks
 abbrev pub asks_begin : List Script → Option Pause → Run → List ℕ → Session → Bool
 asks_begin scripts q r text x = asks_to_wake (answer_at scripts q r text x).asks
 
--- it was told of a step at a moment
+-- a session that was told of a step at a moment
 abbrev pub step_told : List Script → ℕ → Step → Session → Session
 step_told scripts moment t x = told (seen_behind scripts t) moment t x
 
--- it was told of a stop of this number behind a step
+-- a session that was told of a stop of this number behind a step
 abbrev pub stop_told : List Script → ℕ → Step → Session → Session
 stop_told scripts number t x = stopped (seen_behind scripts t) number t.arrival x
 
@@ -107,25 +107,25 @@ protocol scripts = record {
 
 -- ---- the texts that it is told
 
--- those of an answer
+-- the texts of an answer
 abbrev pub reply_texts : List Script → Option Pause → Run → List ℕ → Session → List (List ℕ)
 reply_texts scripts q r text x = answer_texts (outcome_of (situation scripts q (standing_of scripts r)) x text)
 
--- that of a resume
+-- the text of a resume
 abbrev pub resume_texts : Session → List (List ℕ)
 resume_texts x = if_enabled x resumed_text
 
--- those of what a step printed and of the end
+-- the texts of what a step printed, and of the end of the run
 abbrev pub step_texts : List Script → ℕ → Step → Session → List (List ℕ)
 step_texts scripts moment t x =
     print_texts (seen_behind scripts t) t.values moment x
     ++ end_texts (seen_behind scripts t) t.ending moment (print_told (seen_behind scripts t) t.values moment x)
 
--- that of a stop
+-- the text of a stop
 abbrev pub stop_texts_of : List Script → ℕ → Step → Session → List (List ℕ)
 stop_texts_of scripts number t x = stop_texts (seen_behind scripts t) number t.arrival x
 
--- those of each kind
+-- the texts of each kind that a session is told
 abbrev pub texts : (scripts : List Script) → Texts (protocol scripts)
 texts scripts =
     record {

@@ -23,17 +23,17 @@ stops_seat s a (Attached x) = is_some (cause_of s a x)
 stops_seat s a (Lost loss is_reported is_told) = false
 stops_seat s a Left = false
 
--- one of these does
+-- a rule of one of these sessions names a stop
 abbrev pub stops_at : Standing → Arrival → List (Seat Session) → Bool
 stops_at s a seats = some (stops_seat s a) seats
 
--- it does, or would if the conditions of its breakpoints held
+-- a rule of the session that is attached there names a stop, or would if the conditions of its breakpoints held
 abbrev pub may_stop_seat : Arrival → Seat Session → Bool
 may_stop_seat a (Attached x) = session_may_name a x
 may_stop_seat a (Lost loss is_reported is_told) = false
 may_stop_seat a Left = false
 
--- one of these does, or would
+-- a rule of one of these sessions names a stop, or would
 abbrev pub may_stop : Arrival → List (Seat Session) → Bool
 may_stop a seats = some (may_stop_seat a) seats
 

@@ -41,7 +41,7 @@ standing_of scripts r =
 
 -- ---- the end of a run
 
--- where no script is
+-- a place at which no script is
 abbrev pub nowhere : Place
 nowhere = record { script = 0; pos = record { line = 0; col = 0 } }
 

@@ -49,21 +49,21 @@ names step x = is_some (cause_of step.standing step.arrival x) || is_started ste
 
 -- ---- what a session is told
 
--- of values that were printed at a moment
+-- a session that is told of values that were printed at a moment, if some were
 abbrev pub print_told : Situation → Option (List Value) → ℕ → Session → Session
 print_told s None moment x = x
 print_told s (Some values) moment x = printed s values moment x
 
--- of the end of the run at a moment
+-- a session that is told of the end of the run at a moment, if it has ended
 abbrev pub end_told : Situation → Option Ending → ℕ → Session → Session
 end_told s None moment x = x
 end_told s (Some ending) moment x = ended s ending moment x
 
--- of both
+-- a session that is told of what a step printed, and of the end of the run
 abbrev pub told : Situation → ℕ → Step → Session → Session
 told s moment step x = end_told s step.ending moment (print_told s step.values moment x)
 
--- and then of the stop of this number, where it is named
+-- a session that is told of a step, and then of the stop of this number, where it names one
 abbrev pub session_behind : Situation → ℕ → ℕ → Step → Session → Session
 session_behind s number moment step x =
     if names step x then stopped s number step.arrival (told s moment step x) else told s moment step x

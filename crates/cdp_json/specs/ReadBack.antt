@@ -48,12 +48,12 @@ abbrev mutual
   ordered (list js) = list (ordered_items js)
   ordered (object ms) = object (members_of (in_order (λ m. m.0) (ordered_members ms)))
 
-  -- each value so
+  -- each value of a list, with its objects in that order
   pub ordered_items : Items → Items
   ordered_items no_items = no_items
   ordered_items (item j js) = item (ordered j) (ordered_items js)
 
-  -- each key with its value so, as they were given
+  -- each key with its value, whose objects are in that order; the keys as they were given
   pub ordered_members : Members → List (List ℕ × Json)
   ordered_members no_members = []
   ordered_members (member k j ms) = (k, ordered j) ∷ ordered_members ms
@@ -96,12 +96,12 @@ abbrev mutual
   NumbersFit (list js) = ItemsFit js
   NumbersFit (object ms) = MembersFit ms
 
-  -- those in the values of a list
+  -- the numbers in the values of a list are such
   pub ItemsFit : Items → Type 0
   ItemsFit no_items = ⊤
   ItemsFit (item j js) = NumbersFit j × ItemsFit js
 
-  -- those in the values of an object
+  -- the numbers in the values of an object are such
   pub MembersFit : Members → Type 0
   MembersFit no_members = ⊤
   MembersFit (member k j ms) = NumbersFit j × MembersFit ms
@@ -128,7 +128,7 @@ abbrev mutual
   KeysStandApart (list js) = ItemsStandApart js
   KeysStandApart (object ms) = MembersStandApart ms
 
-  -- in each value of a list
+  -- the keys stand apart in each value of a list
   pub ItemsStandApart : Items → Type 0
   ItemsStandApart no_items = ⊤
   ItemsStandApart (item j js) = KeysStandApart j × ItemsStandApart js

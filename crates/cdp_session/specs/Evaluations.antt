@@ -124,7 +124,7 @@ limit_of counted.Units = refusals.ScratchFull scratch_room.units limits.Units
 abbrev pub as_it_is : Session → Session
 as_it_is x = x
 
--- by what an evaluation answered
+-- what an evaluation comes to for the session, by what it answered
 abbrev pub outcome_of_answer : Situation → Session → Showing → Source → Answer → Evaluates
 outcome_of_answer s x how e (a_result v w) =
     answered_by value_result as_it_is (behind_value x how e v w) (described s x how v w)
@@ -142,11 +142,11 @@ answer_in s x scope receiver source e =
     evaluate x.workspace.program s.standing.world x.workspace.scratch scope receiver source (expression_literals e)
     (numbered_made e)
 
--- where a text is no expression
+-- what the evaluation of a text comes to that is no expression
 abbrev pub no_expression : Session → Evaluates
 no_expression x = Answers (syntax_result (with_exception x).exceptions) (with_exception x)
 
--- of a text, by its tree, if it has one
+-- what the evaluation of a text comes to, by its tree, if it has one
 abbrev pub outcome_of_tree : Situation → Session → Addr → Value → Showing → List ℕ → Option Expression → Evaluates
 outcome_of_tree s x scope receiver how source None = no_expression x
 outcome_of_tree s x scope receiver how source (Some e) =
@@ -159,7 +159,7 @@ evaluates_in s x scope receiver ev =
     (expression_of ev.expression)
     else Stops refusals.NeedsNoSideEffect
 
--- in the scope of the scripts
+-- an evaluation in the scope of the scripts
 abbrev pub evaluates : Situation → Session → Evaluation → Evaluates
 evaluates s x ev = evaluates_in s x script_scope values.Undefined ev
 

@@ -36,27 +36,27 @@ fresh number workspace =
       outbox = [];
     }
 
--- with texts behind those that wait
+-- a session with texts behind those that wait
 abbrev pub sent : List (List ℕ) → Session → Session
 sent texts x = record x { outbox = x.outbox ++ texts }
 
--- all of its texts were handed out
+-- a session whose texts were all handed out
 abbrev pub emptied : Session → Session
 emptied x = record x { outbox = [] }
 
--- with other rules, and with other breakpoints
+-- a session with other rules
 abbrev pub with_rules : Rules → Session → Session
 with_rules r x = record x { rules = r }
 
--- with the domain Runtime enabled, or not
+-- a session with the domain Runtime enabled, or not
 abbrev pub with_runtime : Bool → Session → Session
 with_runtime b x = record x { runtime = b }
 
--- with other breakpoints
+-- a session with other breakpoints
 abbrev pub with_breakpoints : breakpoints.State → Session → Session
 with_breakpoints b x = record x { breakpoints = b }
 
--- with other objects that it holds
+-- a session that holds other objects
 abbrev pub with_handles : handles.State → Session → Session
 with_handles h x = record x { handles = h }
 
@@ -64,7 +64,7 @@ with_handles h x = record x { handles = h }
 abbrev pub no_workspace : Workspace
 no_workspace = begun []
 
--- with what other evaluations made and kept
+-- a session with what other evaluations made and kept
 abbrev pub with_workspace : Workspace → Session → Session
 with_workspace w x = record x { workspace = w }
 

@@ -13,7 +13,7 @@ pub record Halves : Type 0 where
   pub front : List ℕ
   pub back : List ℕ
 
--- with one more byte at its beginning
+-- a text with one more byte at its beginning
 abbrev pub longer : ℕ → Halves → Halves
 longer byte halves = record halves { front = byte ∷ halves.front }
 

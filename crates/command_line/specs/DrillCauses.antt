@@ -32,7 +32,7 @@ pub record DrillsWhole (n : ℕ) (before now : Option (List ℕ)) : Type 0 where
   pub replay : IsDrilled n script None output
   pub whole : now ≡ gains before (summary output)
 
--- a first part of it is
+-- a first part of the summary of a drill is written
 pub record DrillsInPart (n : ℕ) (before now : Option (List ℕ)) : Type 0 where
   pub script : Script
   pub is : IsDrillScript n script
@@ -40,7 +40,7 @@ pub record DrillsInPart (n : ℕ) (before now : Option (List ℕ)) : Type 0 wher
   pub replay : IsDrilled n script None output
   pub part : GainsPrefix before now (summary output)
 
--- and not all of it
+-- a first part of the summary of a drill is written, and not all of it
 pub record DrillsShort (n : ℕ) (before now : Option (List ℕ)) : Type 0 where
   pub script : Script
   pub is : IsDrillScript n script

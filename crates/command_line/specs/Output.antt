@@ -60,7 +60,7 @@ abbrev pub overrun_in : List SessionLost → List ℕ
 overrun_in [] = []
 overrun_in (lost ∷ losses) = if is_for_memory lost.loss then overrun_in losses else lost.session ∷ overrun_in losses
 
--- those of which a run tells, in ascending order
+-- the numbers of the sessions that a run tells were lost by too many texts, in ascending order
 abbrev pub overrun_at : List Script → ℕ → List ℕ → ℕ → Meaning Program → List ℕ
 overrun_at scripts moment gone n m = overrun_in (losses_from 1 (after_run (protocol scripts) moment gone n m).seats)
 

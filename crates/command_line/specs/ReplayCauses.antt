@@ -22,7 +22,7 @@ pub record ReplaysWhole (files : List Named) (request : ReplayWords) (line : Opt
   pub holds : HoldsReplay files request journal scripts input
   pub writes : WritesReplay scripts input request.wait journal line before now
 
--- a first part of it is written
+-- a first part of a replay's output is written
 pub record ReplaysInPart (files : List Named) (request : ReplayWords) (before now : Option (List ℕ)) : Type 0 where
   pub journal : List ℕ
   pub scripts : List Script
@@ -30,7 +30,7 @@ pub record ReplaysInPart (files : List Named) (request : ReplayWords) (before no
   pub holds : HoldsReplay files request journal scripts input
   pub writes : WritesPart scripts input request.wait journal before now
 
--- and not all of it
+-- a first part of a replay's output is written, and not all of it
 pub record ReplaysShort (files : List Named) (request : ReplayWords) (before now : Option (List ℕ)) : Type 0 where
   pub journal : List ℕ
   pub scripts : List Script

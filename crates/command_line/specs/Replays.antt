@@ -26,14 +26,14 @@ pub record IsReplay (scripts : List Script) (input : List (List ℕ)) (wait : Bo
 
 -- ---- of a sink that had this content before and after
 
--- all of its output is written
+-- all output of a replay is written
 pub record WritesReplay (scripts : List Script) (input : List (List ℕ)) (wait : Bool) (journal : List ℕ)
     (line : Option ℕ) (before now : Option (List ℕ)) : Type 0 where
   pub output : List ℕ
   pub replay : IsReplay scripts input wait journal line output
   pub whole : now ≡ gains before output
 
--- a first part of it is written
+-- a first part of a replay's output is written
 pub record WritesPart (scripts : List Script) (input : List (List ℕ)) (wait : Bool) (journal : List ℕ)
     (before now : Option (List ℕ)) : Type 0 where
   pub line : Option ℕ
@@ -41,7 +41,7 @@ pub record WritesPart (scripts : List Script) (input : List (List ℕ)) (wait : 
   pub replay : IsReplay scripts input wait journal line output
   pub part : GainsPrefix before now output
 
--- and not all of it
+-- a first part of a replay's output is written, and not all of it
 pub record WritesLess (scripts : List Script) (input : List (List ℕ)) (wait : Bool) (journal : List ℕ)
     (before now : Option (List ℕ)) : Type 0 where
   pub line : Option ℕ

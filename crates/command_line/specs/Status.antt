@@ -27,11 +27,11 @@ status_of ends.TicketsSpent = 10
 
 -- ---- the line on the second sink, ended by LF
 
--- of words that aren't of a form
+-- what is said of words that ask for nothing
 abbrev pub usage_said : List ℕ
 usage_said = codes "usage: debug_host run/replay/serve/send/drill" ++ 10 ∷ []
 
--- of a refused file of this name: lines and columns count from 0
+-- what is said of a refused file of this name: lines and columns count from 0
 abbrev pub refusal_said : List ℕ → Refusal → List ℕ
 refusal_said name refusals.NotUtf8 = codes "debug_host: " ++ name ++ (codes ": not UTF-8" ++ 10 ∷ [])
 refusal_said name (refusals.UnexpectedToken pos) =
@@ -42,23 +42,23 @@ refusal_said name (refusals.TooLong units) =
 refusal_said name refusals.TooDeep = codes "debug_host: " ++ name ++ (codes ": too deep" ++ 10 ∷ [])
 refusal_said name refusals.TooManyTokens = codes "debug_host: " ++ name ++ (codes ": too many tokens" ++ 10 ∷ [])
 
--- of a file that can't be read
+-- what is said of a file that can't be read
 abbrev pub unread_said : List ℕ → List ℕ
 unread_said name = codes "debug_host: cannot read " ++ name ++ 10 ∷ []
 
--- of a line that is refused, of a journal or of a file of commands
+-- what is said of a line that is refused, of a journal or of a file of commands
 abbrev pub line_said : ℕ → List ℕ
 line_said number = codes "debug_host: line " ++ decimal number ++ (codes " refused" ++ 10 ∷ [])
 
--- of a peer that closed after so many replies
+-- what is said of a peer that closed after so many replies
 abbrev pub closed_said : ℕ → List ℕ
 closed_said replies = codes "debug_host: peer closed after " ++ decimal replies ++ (codes " replies" ++ 10 ∷ [])
 
--- of an uncaught throw of a value that is shown so
+-- what is said of an uncaught throw of a value that is shown so
 abbrev pub uncaught_said : List ℕ → List ℕ
 uncaught_said text = codes "Uncaught " ++ text ++ 10 ∷ []
 
--- of each end
+-- what is said of each end
 abbrev pub said : Outcome → List ℕ
 said ends.Done = []
 said ends.OutOfMemory = codes "debug_host: out of memory" ++ 10 ∷ []

@@ -35,7 +35,7 @@ abbrev pub HasNoLocal : List ListedScope → Type 0
 HasNoLocal [] = Unit {0}
 HasNoLocal (l ∷ ls) = (l.kind ≡ as_local → ⊥) × HasNoLocal ls
 
--- at most one is
+-- at most one scope of a list is listed as the frame's own call
 abbrev pub HasOneLocal : List ListedScope → Type 0
 HasOneLocal [] = Unit {0}
 HasOneLocal (l ∷ ls) = (l.kind ≡ as_local → HasNoLocal ls) × HasOneLocal ls
@@ -77,7 +77,7 @@ MoveNested (is_full what s) = IsNested s.world
 abbrev pub HasWholeChains : Term → State → Type 0
 HasWholeChains t s = (d : ℕ) (f : Frame) → frame_at d script_scope t s ≡ Some f → HasWholeChain s.world f.scope
 
--- in each configuration but the end
+-- the scopes of each active frame are all around its innermost one, in each configuration of a run but the end
 abbrev pub RunHasWholeChains : Run → Type 0
 RunHasWholeChains (running t s) = HasWholeChains t s
 RunHasWholeChains (over f s) = Unit {0}

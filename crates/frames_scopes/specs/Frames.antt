@@ -46,7 +46,7 @@ abbrev pub code_place : List Script → Code → Option Place
 code_place scripts (code.Script number node) = Some (shown_place scripts (script_source number) (start node))
 code_place scripts c = None
 
--- that of a function, if there is one
+-- the first token of a function, if there is one
 abbrev pub function_place : List Script → Option FunctionParts → Option Place
 function_place scripts None = None
 function_place scripts (Some f) = code_place scripts f.code

@@ -31,11 +31,11 @@ module _ {E : Type 0} where
   abbrev pub nobody : View E
   nobody = record { number = 0; numbers = []; splits = 0; seen = []; tickets = 0; ticket = 0; in_turn = false; initial = 0; unopened = 0; base = 0; stride = 0; own_numbers = []; own_seen = []; other_numbers = []; other_seen = [] }
 
-  -- of the numbers behind its first it keeps each second one
+  -- a pass that keeps each second one of the numbers behind its first
   abbrev pub thinned : View E → ℕ → ℕ → View E
   thinned v unopened splits = record v { unopened = unopened; splits = splits; base = v.base + v.stride; stride = v.stride + v.stride }
 
-  -- and the new pass has the others
+  -- the new pass, which has the other numbers
   abbrev pub newborn : View E → ℕ → View E
   newborn v number = plain v.initial number v.seen v.initial (v.base + (v.stride + v.stride)) (v.stride + v.stride)
 
@@ -51,15 +51,15 @@ module _ {E : Type 0} where
   abbrev pub split_off : View E → View E
   split_off v = newborn v v.base
 
-  -- it has drawn so many tickets, of which this is the first
+  -- a pass that has drawn so many tickets, of which this is the first
   abbrev pub drawn : View E → ℕ → ℕ → View E
   drawn v ticket tickets = record v { tickets = tickets; ticket = ticket }
 
-  -- it has seen this, and has the turn or hasn't
+  -- a pass that has seen this, and has the turn or hasn't
   abbrev pub looked : View E → List (ℕ × E) → Bool → View E
   looked v seen in_turn = record v { seen = seen; in_turn = in_turn }
 
-  -- its turn has ended with these entries
+  -- a pass whose turn has ended with these entries
   abbrev pub advanced : View E → List E → View E
   advanced v entries = record v { seen = v.seen ++ made v.number entries; tickets = 0; in_turn = false; own_numbers = []; own_seen = []; other_numbers = []; other_seen = [] }
 

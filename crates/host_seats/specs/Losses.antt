@@ -6,7 +6,7 @@ use Rattle.isolation.specs.declared.seat.Seat.{Seat}
 use Rattle.isolation.specs.declared.seat.Seat.TheVariants.{Attached, Lost, Left}
 use Rattle.host_seats.specs.declared.losses.SessionLost.{SessionLost}
 
--- it is for want of memory
+-- a loss is for want of memory
 abbrev pub is_for_memory : Loss → Bool
 is_for_memory Overrun = false
 is_for_memory Memory = true

@@ -48,7 +48,7 @@ tell P s text m (Attached x) = told P s text m x
 tell P s text m (Lost loss is_reported is_told) = m
 tell P s text m Left = m
 
--- its texts are handed out
+-- the texts of a session are handed out, if it is attached
 abbrev pub take : {C T Q X : Type 0} → Protocol C T Q X → ℕ → Meaning C Q X → Seat X → Meaning C Q X
 take P s m (Attached x) = with_seat s (Attached (P.emptied x)) m
 take P s m (Lost loss is_reported is_told) = m
@@ -89,7 +89,7 @@ FitsEntry P m (Detach s) = Unit {0}
 FitsEntry P m (Ran n moment gone) = (j : ℕ) → j < n → is_ready P (after_steps P moment j m) ≡ true
 FitsEntry P m Shut = Unit {0}
 
--- each entry of a history does so
+-- each step of each run of a history is made where the program is ready
 abbrev pub FitsAll : {C T Q X : Type 0} → Protocol C T Q X → Meaning C Q X → List Entry → Type 0
 FitsAll P m [] = Unit {0}
 FitsAll P m (entry ∷ history) = FitsEntry P m entry × FitsAll P (apply P m entry) history

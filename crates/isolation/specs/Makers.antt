@@ -28,7 +28,7 @@ owners_behind owners k (Detach s) = owners
 owners_behind owners k (Ran n moment gone) = owners
 owners_behind owners k Shut = owners
 
--- behind a whole history
+-- who owns each session behind a whole history
 abbrev pub owners_from : List ℕ → List (ℕ × Entry) → List ℕ
 owners_from owners [] = owners
 owners_from owners (made ∷ history) = owners_from (owners_behind owners made.0 made.1) history
@@ -75,6 +75,6 @@ IsNoTake s (Detach r) = Unit {0}
 IsNoTake s (Ran n moment gone) = Unit {0}
 IsNoTake s Shut = Unit {0}
 
--- none of these entries does
+-- none of these entries takes the texts of this session
 abbrev pub TakesNone : ℕ → List Entry → Type 0
 TakesNone s entries = All (IsNoTake s) entries

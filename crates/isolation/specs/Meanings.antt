@@ -18,12 +18,12 @@ pub record Meaning (C Q X : Type 0) : Type 0 where
   pub shut : Bool
   pub seats : List (Seat X)
 
--- with the program seen in another way
+-- a meaning with its program seen in another way
 abbrev pub mapped : {C D Q X : Type 0} → (C → D) → Meaning C Q X → Meaning D Q X
 mapped f m =
     record { program = f m.program; phase = m.phase; stop = m.stop; stops = m.stops; shut = m.shut; seats = m.seats }
 
--- with other seats
+-- a meaning with other seats
 abbrev pub with_seats : {C Q X : Type 0} → List (Seat X) → Meaning C Q X → Meaning C Q X
 with_seats seats m = record m { seats = seats }
 
@@ -31,7 +31,7 @@ with_seats seats m = record m { seats = seats }
 abbrev pub phase_of : Bool → Phase
 phase_of wait = if wait then Waiting else Running
 
--- before the first entry
+-- what is meant before the first entry
 abbrev pub begin : {C Q X : Type 0} → C → Bool → Meaning C Q X
 begin c wait = record { program = c; phase = phase_of wait; stop = None; stops = 0; shut = false; seats = [] }
 
@@ -82,7 +82,7 @@ next_number n = if nat_lt n (2 ^ 62) then n + 1 else n
 abbrev pub session_behind : {C T Q X : Type 0} → Protocol C T Q X → ℕ → ℕ → T → X → X
 session_behind P number moment t x = if P.names t x then P.stopped number t (P.told moment t x) else P.told moment t x
 
--- its texts fit then
+-- the texts that wait for a session behind a step fit
 abbrev pub survives : {C T Q X : Type 0} → Protocol C T Q X → ℕ → ℕ → T → X → Bool
 survives P number moment t x = P.fits (session_behind P number moment t x)
 

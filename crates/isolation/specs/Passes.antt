@@ -62,7 +62,7 @@ GoesOn R (suc i) (old ∷ olds) (new ∷ news) = R old new × GoesOn R i olds ne
 
 -- ---- all seats
 
--- it holds of all, with their flags
+-- the relation holds of all seats, with their flags
 abbrev pub Over : {X : Type 0} → (Seat X → Seat X → Bool → Type 0) → List (Seat X) → List (Seat X) → List Bool → Type 0
 Over R [] [] [] = Unit {0}
 Over R [] [] (flag ∷ flags) = ⊥

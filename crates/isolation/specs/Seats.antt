@@ -7,7 +7,7 @@ use Rattle.isolation.specs.declared.seat.Seat.TheVariants.{Attached, Lost, Left}
 
 -- ---- one seat
 
--- its session is attached
+-- the session of a seat is attached
 abbrev pub is_attached : {X : Type 0} → Seat X → Bool
 is_attached (Attached x) = true
 is_attached (Lost loss is_reported is_told) = false
@@ -58,13 +58,13 @@ abbrev pub seat_of : {X : Type 0} → ℕ → List (Seat X) → Seat X
 seat_of zero seats = Left
 seat_of (suc i) seats = seat_in i seats
 
--- with another seat at a place
+-- the seats, with another one at a place
 abbrev pub put_in : {X : Type 0} → ℕ → Seat X → List (Seat X) → List (Seat X)
 put_in i new [] = []
 put_in zero new (seat ∷ seats) = new ∷ seats
 put_in (suc i) new (seat ∷ seats) = seat ∷ put_in i new seats
 
--- with another seat of the session of this number
+-- the seats, with another one of the session of this number
 abbrev pub put : {X : Type 0} → ℕ → Seat X → List (Seat X) → List (Seat X)
 put zero new seats = seats
 put (suc i) new seats = put_in i new seats

@@ -23,11 +23,11 @@ abbrev pub fallen_from : {X : Type 0} → ℕ → List (Seat X) → List ℕ
 fallen_from s [] = []
 fallen_from s (seat ∷ seats) = if fell seat then s ∷ fallen_from (s + 1) seats else fallen_from (s + 1) seats
 
--- their numbers, where the first seat is that of session 1
+-- the numbers of the sessions that fell, of all seats
 abbrev pub fallen_in : {X : Type 0} → List (Seat X) → List ℕ
 fallen_in seats = fallen_from 1 seats
 
--- without those of a host that held these seats
+-- a meaning without the sessions that fell, of a host that held these seats
 abbrev pub less : {C Q X : Type 0} → List (Seat X) → Meaning C Q X → Meaning C Q X
 less seats m = with_seats (without (fallen_in seats) m.seats) m
 

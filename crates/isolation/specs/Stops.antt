@@ -32,7 +32,7 @@ StopsAt P c made m (Detach s) = Unit {0}
 StopsAt P c made m (Ran n moment gone) = StopsExactly P c made moment gone m n
 StopsAt P c made m Shut = Unit {0}
 
--- each run of the history does so
+-- `StopsExactly` holds of each run of a history
 abbrev pub AllStopExactly : {C T Q X : Type 0} → Protocol C T Q X → C → ℕ → Meaning C Q X → List Entry → Type 0
 AllStopExactly P c made m [] = Unit {0}
 AllStopExactly P c made m (entry ∷ history) =

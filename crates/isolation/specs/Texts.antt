@@ -24,14 +24,14 @@ pub record AreSent {C T Q X : Type 0} (P : Protocol C T Q X) (E : Texts P) : Typ
   pub emptied : (x : X) → P.outbox (P.emptied x) ≡ []
   pub fresh : (s : ℕ) → P.outbox (P.fresh s) ≡ []
 
--- those of a resume, where the program is said to go on
+-- the texts of a resume, where the program is said to go on
 abbrev pub resume_texts : {C T Q X : Type 0} → (P : Protocol C T Q X) → Texts P → Bool → Seat X → List (List ℕ)
 resume_texts P E true (Attached x) = E.resumed x
 resume_texts P E true (Lost loss is_reported is_told) = []
 resume_texts P E true Left = []
 resume_texts P E false seat = []
 
--- those of a text
+-- the texts for what a session told
 abbrev pub reply_texts : {C T Q X : Type 0}
     → (P : Protocol C T Q X)
     → Texts P
@@ -61,13 +61,13 @@ step_texts P E moment stops a (Attached x) =
 step_texts P E moment stops a (Lost loss is_reported is_told) = []
 step_texts P E moment stops a Left = []
 
--- those of so many steps at which it doesn't
+-- the texts of so many steps at which the program doesn't stop
 abbrev pub passing_texts : {C T Q X : Type 0} → (P : Protocol C T Q X) → Texts P → ℕ → ℕ → Alone C Q X → List (List ℕ)
 passing_texts P E moment zero a = []
 passing_texts P E moment (suc n) a =
     step_texts P E moment false a a.seat ++ passing_texts P E moment n (one_step P moment false a)
 
--- those of a run
+-- the texts of a run
 abbrev pub run_texts : {C T Q X : Type 0}
     → (P : Protocol C T Q X)
     → Texts P
@@ -92,7 +92,7 @@ made_at P E a (Passed n moment stops listed resumed) =
     run_texts P E moment n stops listed a ++ resume_texts P E resumed (run P moment n stops listed a).seat
 made_at P E a Resumed = resume_texts P E true a.seat
 
--- those of a whole view
+-- the texts of a whole view
 abbrev pub made_of : {C T Q X : Type 0} → (P : Protocol C T Q X) → Texts P → ℕ → Alone C Q X → List Seen → List (List ℕ)
 made_of P E s a [] = []
 made_of P E s a (seen ∷ view) = made_at P E a seen ++ made_of P E s (see P s a seen) view
@@ -104,7 +104,7 @@ Keeps P handed (Attached x) made = handed ++ P.outbox x ≡ made
 Keeps P handed (Lost loss is_reported is_told) made = (rest : List (List ℕ)) × (made ≡ handed ++ rest)
 Keeps P handed Left made = (rest : List (List ℕ)) × (made ≡ handed ++ rest)
 
--- as many texts wait as may, and no more
+-- no more texts wait for a session than may
 abbrev pub Fits : {C T Q X : Type 0} → Protocol C T Q X → Seat X → Type 0
 Fits P (Attached x) = P.fits x ≡ true
 Fits P (Lost loss is_reported is_told) = Unit {0}

@@ -15,7 +15,7 @@ abbrev pub code_of_parts : FunctionForm → Terms → Option FunctionCode
 code_of_parts f end = None
 code_of_parts f (more body functions) = Some (record { form = f; body = body; functions = functions })
 
--- they are the kept parts of the function's node
+-- the code of a function, of the kept parts of its node
 abbrev pub code_of_node : List (List ℕ) → NodeTable → FunctionEntry → Option Node → Option FunctionCode
 code_of_node ts t f None = None
 code_of_node ts t f (Some node) = code_of_parts (function_of ts f) (trees ts t node.mid node.end)
@@ -25,13 +25,13 @@ abbrev pub code_of_entry : List (List ℕ) → NodeTable → Option FunctionEntr
 code_of_entry ts t None = None
 code_of_entry ts t (Some f) = code_of_node ts t f (slice_get t.nodes.items f.at)
 
--- by the number of its entry, counted from 1; 0 is none
+-- the code of the entry of a number, counted from 1; 0 is none
 abbrev pub code_of_number : List (List ℕ) → NodeTable → Option ℕ → Option FunctionCode
 code_of_number ts t None = None
 code_of_number ts t (Some zero) = None
 code_of_number ts t (Some (suc n)) = code_of_entry ts t (slice_get t.functions.items n)
 
--- by the node of a source
+-- the code of the function at a node, by the index of its source
 abbrev pub indexed_code : List (List ℕ) → NodeTable → SourceEntry → ℕ → Option FunctionCode
 indexed_code ts t e node = code_of_number ts t (slice_get e.functions.items node)
 

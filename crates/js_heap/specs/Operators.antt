@@ -66,7 +66,7 @@ shifted_right (negsuc n) c = negsuc (n / 2 ^ c)
 
 -- ---- comparisons
 
--- by units (7.2.13)
+-- a text stands before another, by units (7.2.13)
 abbrev pub units_before : List ℕ → List ℕ → Bool
 units_before [] [] = false
 units_before [] (v ∷ vs) = true
@@ -107,7 +107,7 @@ is_equal w _ _ = None
 
 -- ---- two operands
 
--- on two numbers (13.7, 13.8.2, 13.9, 13.12)
+-- an operator on two numbers (13.7, 13.8.2, 13.9, 13.12)
 abbrev pub on_numbers : BinaryOperator → ℤ → ℤ → Result
 on_numbers binaries.Add y z = safe (y +ℤ z)
 on_numbers binaries.Subtract y z = safe (y -ℤ z)

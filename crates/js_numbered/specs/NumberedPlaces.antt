@@ -109,12 +109,12 @@ abbrev mutual
       node_placed (expression_placed t ∷ tokens (a (assign_kind o)) ∷ expression_placed e ∷ [])
   expression_placed (trees.comma es) = node_placed (comma_separated (expressions_placed es) ∷ [])
 
-  -- of each of these expressions
+  -- the places of each of these expressions
   pub expressions_placed : Expressions → List Placing
   expressions_placed trees.no_expressions = []
   expressions_placed (trees.an_expression e es) = expression_placed e ∷ expressions_placed es
 
-  -- of an expression that may be left out
+  -- the places of an expression that may be left out
   pub optional_placed : OptionalExpression → Placing
   optional_placed trees.omitted = in_row []
   optional_placed (trees.present e) = expression_placed e
@@ -134,7 +134,7 @@ abbrev mutual
   property_placed (trees.method k ps body) =
       node_placed (key_placed k ∷ tokens (flat_parameters ps) ∷ braced (in_row (statements_placed body)) ∷ [])
 
-  -- of each of these members
+  -- the places of each of these members
   pub properties_placed : Properties → List Placing
   properties_placed trees.no_properties = []
   properties_placed (trees.a_property p ps) = property_placed p ∷ properties_placed ps
@@ -148,7 +148,7 @@ abbrev mutual
   pub declarator_placed : trees.Declarator → Placing
   declarator_placed (trees.declarator n i) = before (tokens (an_identifier n)) (initializer_placed i)
 
-  -- of each of these declarators
+  -- the places of each of these declarators
   pub declarators_placed : trees.Declarators → List Placing
   declarators_placed trees.no_declarators = []
   declarators_placed (trees.a_declarator d ds) = declarator_placed d ∷ declarators_placed ds
@@ -217,7 +217,7 @@ abbrev mutual
   finalizer_placed (trees.finally ss) =
       before (tokens (a kinds.Finally)) (node_placed (braced (in_row (statements_placed ss)) ∷ []))
 
-  -- of each of these statements
+  -- the places of each of these statements
   pub statements_placed : Statements → List Placing
   statements_placed trees.no_statements = []
   statements_placed (trees.a_statement s ss) = statement_placed s ∷ statements_placed ss

@@ -22,7 +22,7 @@ abbrev pub state_of : World → Context → List (List ℕ) → State
 state_of w c taken =
     record { world = w; frames = c.frames; outer_this = c.outer_this; input = c.input; printed = taken ++ c.printed }
 
--- before the first step of a run
+-- the context before the first step of a run
 abbrev pub start_context : List (List ℕ) → Context
 start_context input = record { frames = bottom_frame ∷ []; outer_this = values.Undefined; input = input; printed = [] }
 

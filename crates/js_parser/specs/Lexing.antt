@@ -30,7 +30,7 @@ pub record Lexed : Type 0 where
 abbrev pub with_token : Lent → Lexed → Lexed
 with_token t rest = record { tokens = lent_view t ∷ rest.tokens; stop = rest.stop }
 
--- at most so many tokens, and one more
+-- what is read of at most so many tokens, and one more
 abbrev pub lexed : ℕ → List (Result Lent ℕ) → Lexed
 lexed n [] = record { tokens = []; stop = None }
 lexed n (Err at ∷ is) = record { tokens = []; stop = Some (bad at) }

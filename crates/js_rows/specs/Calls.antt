@@ -80,11 +80,11 @@ abbrev pub Acts : List (List ℕ)
 Acts ts t e f v c r w d =
     (taken : List (List ℕ)) → Does ts t e (f (state_of v c taken)) (state_of v c taken) r (state_of w d taken)
 
--- in every task of every table with these arguments
+-- it acts so in every task of every table with these arguments
 abbrev pub ActsOn : List (List ℕ) → List Value → (State → Action) → World → Context → Reduced → World → Context → Type 0
 ActsOn ts args f v c r w d = (t : NodeTable) (e : Wide) → args ≡ drop 2 e.values → Acts ts t e f v c r w d
 
--- of this table
+-- it acts so in every task of this table with these arguments
 abbrev pub ActsIn : List (List ℕ)
     → NodeTable
     → List Value
@@ -97,7 +97,7 @@ abbrev pub ActsIn : List (List ℕ)
     → Type 0
 ActsIn ts t args f v c r w d = (e : Wide) → args ≡ drop 2 e.values → Acts ts t e f v c r w d
 
--- in every task with these values
+-- it acts so in every task with these values
 abbrev pub ActsOf : List (List ℕ)
     → NodeTable
     → List Value

@@ -21,19 +21,19 @@ use Rattle.js_steps.specs.Answers.{Reduces, called, assigned}
 abbrev pub Does : List (List ℕ) → NodeTable → Wide → Action → State → Reduced → State → Type 0
 Does ts t e a s r u = Reduces ts t e (performed a s) r u
 
--- in every state that has this world
+-- it does so in every state that has this world
 abbrev pub DoesIn : List (List ℕ) → NodeTable → Wide → Action → World → Reduced → World → Type 0
 DoesIn ts t e a v r w = (s : State) → Does ts t e a (with_world s v) r (with_world s w)
 
--- whatever the task
+-- it does so whatever the task, in every state that has this world
 abbrev pub Replies : List (List ℕ) → Action → World → Reduced → World → Type 0
 Replies ts a v r w = (t : NodeTable) (e : Wide) → DoesIn ts t e a v r w
 
--- in a context, behind any texts that were taken
+-- it does so in a context, behind any texts that were taken
 abbrev pub DoesWith : List (List ℕ) → NodeTable → Wide → Action → World → Context → Reduced → World → Context → Type 0
 DoesWith ts t e a v c r w d = (taken : List (List ℕ)) → Does ts t e a (state_of v c taken) r (state_of w d taken)
 
--- whatever the task
+-- it does so whatever the task, in a context
 abbrev pub RepliesWith : List (List ℕ) → Action → World → Context → Reduced → World → Context → Type 0
 RepliesWith ts a v c r w d = (t : NodeTable) (e : Wide) → DoesWith ts t e a v c r w d
 

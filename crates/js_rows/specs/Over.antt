@@ -60,7 +60,7 @@ IsTurn ts t e b v r w =
 
 -- ---- object literals
 
--- with these members and values, and these kept parts
+-- a task is an object literal with these members and values, and these kept parts
 pub record IsLiteralOf (ts : List (List ℕ)) (t : NodeTable) (e : Wide) (ms : List Member) (vs : List Value)
     (later : Terms) : Type 0 where
   pub form : task_form ts t e ≡ object ms

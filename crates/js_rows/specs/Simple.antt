@@ -8,7 +8,7 @@ use Rattle.js_steps.specs.declared.reduced.Reduced.{Reduced}
 use Rattle.js_steps.specs.Tasks.{Wide, later_of}
 use Rattle.js_rows.specs.Does.{Does}
 
--- in every task with these kept parts
+-- a comma's row in every task with these kept parts
 abbrev pub CommaOf : NodeTable → ℕ → ℕ → Reduced → Type 0
 CommaOf t from to r =
     (ts : List (List ℕ)) (e : Wide) (s : State)

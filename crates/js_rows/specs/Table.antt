@@ -30,7 +30,7 @@ IsRow ts t form vs x v c r w d =
     (outer : Addr) (before : List (List ℕ))
     → RowOf ts t (redex form vs x) outer (state_of v c before) r (state_of w d before)
 
--- of any table, names and values, in every state
+-- the answer is the row's for any table, names and values, in every state
 abbrev pub IsRowAnywhere : Redex → Option Extra → Reduced → Type 0
 IsRowAnywhere form x r =
     (ts : List (List ℕ)) (t : NodeTable) (vs : List Value) (v : World) (c : Context) → IsRow ts t form vs x v c r v c

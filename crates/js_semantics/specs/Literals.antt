@@ -95,6 +95,6 @@ abbrev mutual
   statements_literals trees.no_statements = []
   statements_literals (trees.a_statement s ss) = declared_literals s ++ statement_literals s ++ statements_literals ss
 
--- of a parser's tree
+-- the string literals of a parser's tree
 abbrev pub source_literals : Expr → List (List ℕ)
 source_literals e = expression_literals (expression_view e)

@@ -20,23 +20,23 @@ abbrev pub at_of : List Wide → ℕ
 at_of [] = 0
 at_of (w ∷ ws) = w.at
 
--- where the parts end that come
+-- where those parts of the innermost task end that are still to come
 abbrev pub mid_of : List Wide → ℕ
 mid_of [] = 0
 mid_of (w ∷ ws) = w.mid
 
--- its parts: values, and then the trees of those that come
+-- the parts of the innermost task: values, and then the trees of those that come
 abbrev pub parts_of : List (List ℕ) → NodeTable → List Wide → Terms
 parts_of ts t [] = end
 parts_of ts t (w ∷ ws) = joined (dones w.values) (trees ts t w.at w.mid)
 
--- its parts with this node in the gap; without one, all are values
+-- the parts of the innermost task with this node in the gap; without one, all are values
 abbrev pub parts_with : List (List ℕ) → NodeTable → List Wide → Option ℕ → Terms
 parts_with ts t [] n = end
 parts_with ts t (w ∷ ws) None = dones w.values
 parts_with ts t (w ∷ ws) (Some n) = gap_parts (gap_of ts t w) (tree ts t n)
 
--- other values, and another next part
+-- the innermost task has other values, and another next part
 abbrev pub moved : ℕ → List Value → List Wide → List Wide
 moved at vs [] = []
 moved at vs (w ∷ ws) = record w { at = at; values = vs } ∷ ws

@@ -57,7 +57,7 @@ abbrev pub IsRunning : Run → Type 0
 IsRunning (running t s) = Unit {0}
 IsRunning (over f s) = ⊥
 
--- before each of so many steps it isn't
+-- the run isn't over before each of so many steps
 abbrev pub RunsFor : ℕ → Program → Addr → Run → Type 0
 RunsFor zero p scope r = Unit {0}
 RunsFor (suc k) p scope r = IsRunning r × RunsFor k p scope (step_in p scope r)

@@ -56,7 +56,7 @@ abbrev pub ended_term : Option Completion → Terms → Terms → Term
 ended_term None now later = done values.Undefined
 ended_term (Some c) now later = part (ending (Some c)) now later
 
--- it waits for its row
+-- a form that closes waits for its row
 abbrev pub is_waiting : Closing → Bool
 is_waiting closings.Waits = true
 is_waiting c = false
@@ -165,7 +165,7 @@ abbrev pub restaged : Op → List Wide → List Wide
 restaged op [] = []
 restaged op (w ∷ ws) = record w { op = op; at = w.mid; values = [] } ∷ ws
 
--- it owns something exactly where the innermost task does
+-- a task that does this owns something exactly where the innermost task does
 abbrev pub StagesAs : Op → List Wide → Type 0
 StagesAs op [] = Unit {0}
 StagesAs op (w ∷ ws) = has_extra op w.info ≡ has_extra w.op w.info

@@ -19,17 +19,17 @@ has_extra op info = false
 
 -- ---- the innermost task
 
--- its values
+-- the values of the innermost task
 abbrev pub values_of : List Wide → List Value
 values_of [] = []
 values_of (w ∷ ws) = w.values
 
--- what it owns
+-- what the innermost task owns
 abbrev pub extra_of : List Wide → Option Extra
 extra_of [] = None
 extra_of (w ∷ ws) = w.extra
 
--- the tasks around it
+-- the tasks around the innermost one
 abbrev pub outer_of : List Wide → List Wide
 outer_of [] = []
 outer_of (w ∷ ws) = ws
@@ -51,27 +51,27 @@ OwnsOnly (w ∷ ws) = has_extra w.op w.info ≡ false → w.extra ≡ None
 
 -- ---- what a call makes of it
 
--- it has one more value
+-- the innermost task has one more value
 abbrev pub with_value : Value → List Wide → List Wide
 with_value v [] = []
 with_value v (w ∷ ws) = record w { values = w.values ++ v ∷ [] } ∷ ws
 
--- it has no values
+-- the innermost task has no values
 abbrev pub without_values : List Wide → List Wide
 without_values [] = []
 without_values (w ∷ ws) = record w { values = [] } ∷ ws
 
--- its next part stands at this place
+-- the next part of the innermost task stands at this place
 abbrev pub at_part : ℕ → List Wide → List Wide
 at_part at [] = []
 at_part at (w ∷ ws) = record w { at = at } ∷ ws
 
--- it does something else, with other parts
+-- the innermost task does something else, with other parts
 abbrev pub changed : Op → ℕ → ℕ → ℕ → List Wide → List Wide
 changed op info at mid [] = []
 changed op info at mid (w ∷ ws) = record w { op = op; info = info; at = at; mid = mid } ∷ ws
 
--- its parts are in this scope
+-- the parts of the innermost task are in this scope
 abbrev pub within : Addr → List Wide → List Wide
 within a [] = []
 within a (w ∷ ws) = record w { inner = a } ∷ ws
@@ -87,17 +87,17 @@ abbrev pub turned_extra : Option Extra → Option Extra
 turned_extra None = None
 turned_extra (Some e) = Some (next_turn e)
 
--- the index of its next turn is one more
+-- the innermost task is at its next turn
 abbrev pub turned : List Wide → List Wide
 turned [] = []
 turned (w ∷ ws) = record w { extra = turned_extra w.extra } ∷ ws
 
--- it does something else that owns this, with other parts
+-- the innermost task does something else that owns this, with other parts
 abbrev pub owning : Op → ℕ → ℕ → ℕ → Extra → List Wide → List Wide
 owning op info at mid e [] = []
 owning op info at mid e (w ∷ ws) = record w { op = op; info = info; at = at; mid = mid; extra = Some e } ∷ ws
 
--- it owns something exactly where one with this does
+-- the innermost task owns something exactly where one that does this would
 abbrev pub OwnsAs : Op → ℕ → List Wide → Type 0
 OwnsAs op info [] = Unit {0}
 OwnsAs op info (w ∷ ws) = has_extra op info ≡ has_extra w.op w.info
@@ -116,7 +116,7 @@ other_extras false es = es
 other_extras true [] = []
 other_extras true (e ∷ es) = es
 
--- with the first index of a turn one more
+-- what the tasks own, the first of it at its next turn, if it is the innermost task's
 abbrev pub turned_extras : Bool → List Extra → List Extra
 turned_extras false es = es
 turned_extras true [] = []

@@ -67,7 +67,7 @@ task_form ts t w = form_in ts t w.op w.info w.inner w.extra
 
 -- ---- parts
 
--- where the kept parts begin
+-- where the kept parts of a task begin
 abbrev pub kept_from : Option Extra → ℕ → ℕ
 kept_from (Some (extras.Rest from)) mid = from
 kept_from _ mid = mid

@@ -476,7 +476,7 @@ below (suc n) = record {
 
 -- ---- whole sources
 
--- all of the tokens
+-- a tree that was read of all of the tokens, or the fault where some are left
 abbrev pub ended_by : {A : Type 0} → A → List Token → Result A Fault
 ended_by t [] = Ok t
 ended_by t (x ∷ ts) = Err (stuck (suc (length ts)))

@@ -13,7 +13,7 @@ pub record State : Type 0 where
   pub held : List Handle
   pub made : ℕ
 
--- before the first handle is made
+-- the handles of a session before the first is made
 abbrev pub none_made : State
 none_made = record { held = []; made = 0 }
 
@@ -52,7 +52,7 @@ has_number n h = nat_eq n h.number
 abbrev pub has_another_number : ℕ → Handle → Bool
 has_another_number n h = not (has_number n h)
 
--- without the handle of a number
+-- the handles of a session without that of a number
 abbrev pub without : ℕ → State → State
 without n s = record s { held = filter (has_another_number n) s.held }
 
@@ -69,7 +69,7 @@ is_in g h = is_named g h.group
 abbrev pub is_outside : List ℕ → Handle → Bool
 is_outside g h = not (is_in g h)
 
--- without a group's handles
+-- the handles of a session without those of a group
 abbrev pub without_group : List ℕ → State → State
 without_group g s = record s { held = filter (is_outside g) s.held }
 

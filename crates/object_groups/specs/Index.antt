@@ -14,7 +14,7 @@ pub record IsIndexed (held : List Handle) (made : ℕ) (groups : Groups) : Type 
   pub few : made ≤ MOST_MADE
   pub grouped : AreGroupsOf held groups
 
--- without the handles of these numbers, one after another
+-- a list without the handles of these numbers, taken out one after another
 abbrev pub without_all : List ℕ → List Handle → List Handle
 without_all [] hs = hs
 without_all (n ∷ ns) hs = without_all ns (filter (has_another_number n) hs)

@@ -20,11 +20,11 @@ pub record Workspace : Type 0 where
   pub scripts : ℕ
   pub scratch : ScratchSpace
 
--- by an evaluator and the cells
+-- the workspace of an evaluator and the cells of its evaluations
 abbrev pub workspace_of : Evaluator → ℕ → Heap → Workspace
 workspace_of e n h = record { program = program_of e.names e.table; scripts = n; scratch = space_of e.names h }
 
--- before the first of them
+-- the workspace before the first evaluation
 abbrev pub begun : Program → Workspace
 begun p = record { program = p; scripts = length p; scratch = first_space }
 
@@ -36,7 +36,7 @@ source_kept x e = record { source = kept_source (next_kept x); tree = kept_tree 
 abbrev pub with_evaluated : Made → World → Workspace → Workspace
 with_evaluated e w x = record x { program = x.program ++ source_kept x.scratch e ∷ []; scratch = space_after w }
 
--- without all that evaluations made and kept
+-- a workspace without all that evaluations made and kept
 abbrev pub emptied_workspace : Workspace → Workspace
 emptied_workspace x = record x { program = take x.scripts x.program; scratch = first_space }
 

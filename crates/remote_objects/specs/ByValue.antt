@@ -38,7 +38,7 @@ left_out = record { given = []; depth = 0; met = 1 }
 abbrev pub behind : {B : Type 0} → Given (List B) → Given (List B) → Given (List B)
 behind g h = record { given = g.given ++ h.given; depth = max g.depth h.depth; met = g.met + h.met }
 
--- each of a list in turn
+-- what is given of each of a list, in turn
 abbrev pub all_given : {A B : Type 0} → (A → Given (List B)) → List A → Given (List B)
 all_given f [] = no_parts
 all_given f (x ∷ xs) = behind (f x) (all_given f xs)
@@ -86,7 +86,7 @@ member_of key j = (key, j) ∷ []
 abbrev pub value_member : World → (Value → Given Json) → Property → Given (List Pair)
 value_member w way p = if is_left_out w p.value then left_out else mapped (member_of p.key) (way p.value)
 
--- of its properties the enumerable ones are given
+-- the member of a property of an object, if it is enumerable
 abbrev pub member_given : World → (Value → Given Json) → Property → Given (List Pair)
 member_given w way p = if p.enumerable then value_member w way p else no_parts
 

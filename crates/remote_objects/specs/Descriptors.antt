@@ -72,7 +72,7 @@ abbrev pub fixed_slot : List ℕ → Content → Slot
 fixed_slot name content =
     record { name = name; content = content; writable = false; enumerable = false; configurable = true }
 
--- those of a function of this length and name
+-- the slots of a function of this length and name
 abbrev pub function_slots : ℕ → List ℕ → List Slot
 function_slots len name =
     fixed_slot (codes "length") (a_value (values.Number (pos len))) ∷ fixed_slot (codes "name") (a_text name) ∷ []
@@ -103,7 +103,7 @@ abbrev pub scope_slots : Option Cell → List Slot
 scope_slots (Some (cells.Bindings kind name outer names)) = names_slots names
 scope_slots cell = []
 
--- those of a target
+-- the slots of a target, an object or a scope
 abbrev pub slots_of : World → Target → List Slot
 slots_of w (targets.Object a) = object_slots (read_cell w a)
 slots_of w (targets.Scope a) = scope_slots (read_cell w a)

@@ -32,13 +32,13 @@ value_text w v = shown w v
 
 -- ---- subtypes; empty where there is none
 
--- that of a cell
+-- the subtype of a cell
 abbrev pub cell_subtype : Option Cell → List ℕ
 cell_subtype (Some (cells.Error class ps)) = codes "error"
 cell_subtype (Some (cells.Array vs)) = codes "array"
 cell_subtype cell = []
 
--- that of a value
+-- the subtype of a value
 abbrev pub value_subtype : World → Value → List ℕ
 value_subtype w values.Null = codes "null"
 value_subtype w (values.Object a) = cell_subtype (read_cell w a)
@@ -56,7 +56,7 @@ pub record Entry : Type 0 where
   pub name : List ℕ
   pub value : Value
 
--- one of this name and value
+-- the entry of this name and value
 abbrev pub entry : List ℕ → Value → Entry
 entry name value = record { name = name; value = value }
 
@@ -74,14 +74,14 @@ abbrev pub indexed : ℕ → List Value → List Entry
 indexed i [] = []
 indexed i (v ∷ vs) = entry (decimal i) v ∷ indexed (i + 1) vs
 
--- those of a cell, in order (ECMA-262, 10.1.11)
+-- the entries of a cell, in order (ECMA-262, 10.1.11)
 abbrev pub entries : Option Cell → List Entry
 entries (Some (cells.Object ps)) = enumerable ps
 entries (Some (cells.Error class ps)) = enumerable ps
 entries (Some (cells.Array vs)) = indexed 0 vs
 entries cell = []
 
--- one of them in short
+-- an entry in short
 abbrev pub property_preview : World → Entry → Json
 property_preview w e = object_of (
     (codes "name", text (shortened e.name))
@@ -118,7 +118,7 @@ preview_of description l subtype = object_of (
     ∷ (codes "type", text (codes "object"))
     ∷ subtype_pairs subtype)
 
--- that of a cell
+-- the preview of a cell
 abbrev pub preview : World → Option Cell → Json
 preview w cell = preview_of (cell_description w cell) (listed w cell) (cell_subtype cell)
 

@@ -16,6 +16,6 @@ abbrev pub names_of_cell : Option Cell → List (List ℕ)
 names_of_cell (Some (cells.Bindings kind name outer names)) = map binding_name names
 names_of_cell cell = []
 
--- those of the scope at an address
+-- the names of the scope at an address, in that order
 abbrev pub declared_names : World → Addr → List (List ℕ)
 declared_names w a = names_of_cell (read_cell w a)

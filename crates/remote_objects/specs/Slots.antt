@@ -22,11 +22,11 @@ slot_with name content flags =
 abbrev pub described : List ℕ → Flags → Json → Json
 described name flags value = descriptor_of (slot_with name (a_text name) flags) value
 
--- one that holds a value
+-- the slot of a property that holds a value
 abbrev pub value_slot : List ℕ → Value → Flags → Slot
 value_slot name value flags = slot_with name (a_value value) flags
 
--- one that holds a text without a cell
+-- the slot of a property that holds a text without a cell
 abbrev pub text_slot : List ℕ → List ℕ → Flags → Slot
 text_slot name units flags = slot_with name (a_text units) flags
 
@@ -35,6 +35,6 @@ abbrev pub bound_slot : List ℕ → Bool → Value → Slot
 bound_slot name constant value =
     record { name = name; content = a_value value; writable = not constant; enumerable = true; configurable = true }
 
--- those of a name whose text a table has
+-- the slots of a name whose text a table has: one where it has a value
 abbrev pub slots_at : List (List ℕ) → StoredSlot → List Slot
 slots_at names s = binding_slots (name_of names s.name.number) s.constant s.value

@@ -22,7 +22,7 @@ frame_front session stop depth f =
     ((codes "callFrameId", text (frame_id session stop depth)) ∷ function_pairs f.function_place) ++
     ((codes "functionName", text f.name) ∷ (codes "location", location f.place) ∷ [])
 
--- those of its scopes, its `this` and its URL
+-- the members for a frame's scopes, its `this` and its URL
 abbrev pub frame_back : List Json → Json → List ℕ → List Pair
 frame_back scopes receiver url =
     (codes "scopeChain", list_of scopes) ∷ (codes "this", receiver) ∷ (codes "url", text url) ∷ []

@@ -42,7 +42,7 @@ pub record IsCut (ts : Terms) (input : List (List ℕ)) (before now : Option (Li
   pub steps : ℕ
   pub part : GainsPrefix before now (output_after steps ts input)
 
--- and not all of it
+-- a first part of what some steps print was written, and not all of it
 pub record IsCutShort (ts : Terms) (input : List (List ℕ)) (before now : Option (List ℕ)) : Type 0 where
   pub steps : ℕ
   pub less : GainsLess before now (output_after steps ts input)

@@ -20,7 +20,7 @@ pub record HasTurned (m : Machine) (v : World) (n : Machine) (w : World) (texts 
   pub rest : n.context.printed ≡ []
   pub run : (taken : List (List ℕ)) → run_at n w (taken ++ texts) ≡ run_from m v taken steps
 
--- they were written, too
+-- some steps lead from one machine with its cells to the other, and what they print was written
 pub record HasCome (m : Machine) (v : World) (n : Machine) (w : World) (before now : Option (List ℕ)) : Type 0 where
   pub texts : List (List ℕ)
   pub turned : HasTurned m v n w texts
@@ -31,13 +31,13 @@ pub record Prints (m : Machine) (v : World) (texts : List (List ℕ)) : Type 0 w
   pub steps : ℕ
   pub are : (taken : List (List ℕ)) → printed_of (run_from m v taken steps) ≡ taken ++ texts
 
--- a first part of their lines was written
+-- a first part of the lines that some steps print was written
 pub record IsCutFrom (m : Machine) (v : World) (before now : Option (List ℕ)) : Type 0 where
   pub texts : List (List ℕ)
   pub prints : Prints m v texts
   pub part : GainsPrefix before now (printed_lines texts)
 
--- and not all of them
+-- a first part of the lines that some steps print was written, and not all of it
 pub record IsLessFrom (m : Machine) (v : World) (before now : Option (List ℕ)) : Type 0 where
   pub texts : List (List ℕ)
   pub prints : Prints m v texts

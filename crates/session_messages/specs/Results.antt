@@ -9,7 +9,7 @@ use Rattle.locations.specs.declared.spot.SpotKind.{SpotKind}
 use Rattle.locations.specs.declared.spot.SpotKind.TheVariants as kinds
 use Rattle.breakpoints.specs.Resolving.{place_in}
 
--- that of enabling the debugger
+-- the result of enabling the debugger
 abbrev pub debugger_id : Json
 debugger_id = object_of ((codes "debuggerId", text (codes "1")) ∷ [])
 

@@ -131,7 +131,7 @@ IsRunOf k maker (Detach s) = Unit {0}
 IsRunOf k maker (Ran steps moment lost) = maker ≡ k
 IsRunOf k maker Shut = Unit {0}
 
--- each of these entries that makes steps has
+-- each of these entries that makes steps has this maker
 abbrev pub OnlyRuns : ℕ → List (ℕ × Entry) → Type 0
 OnlyRuns k [] = Unit {0}
 OnlyRuns k (made ∷ history) = IsRunOf k made.0 made.1 × OnlyRuns k history

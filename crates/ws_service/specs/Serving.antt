@@ -67,7 +67,7 @@ shuts (Detach s) = false
 shuts (Ran steps moment lost) = false
 shuts Shut = true
 
--- one of these does
+-- one of these entries shuts the program
 abbrev pub has_shut : List Entry → Bool
 has_shut [] = false
 has_shut (entry ∷ entries) = shuts entry || has_shut entries

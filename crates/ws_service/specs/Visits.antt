@@ -122,7 +122,7 @@ IsAct d k h (Visited visit) = IsVisit d k h visit
 IsAct d k h (Refused refusal) = IsRefusal d h refusal
 IsAct d k h Looked = Unit {0}
 
--- each of the acts
+-- each of these is an act over a history
 abbrev pub AreActs : Debugging → ℕ → List (ℕ × Entry) → List DoorAct → Type 0
 AreActs d k h [] = Unit {0}
 AreActs d k h (act ∷ acts) = IsAct d k h act × AreActs d k h acts
