@@ -54,11 +54,13 @@ FormBelongs P f later = Unit {0}
 
 -- a part of a source with these marks that has no `frame`, and in which no throw stands
 abbrev mutual
+  -- a part belongs to the source
   pub Belongs : (Marked → Type 0) → Term → Type 0
   Belongs P (done v) = Unit {0}
   Belongs P (standing v place) = ⊥
   Belongs P (part f now later) = FormBelongs P f later × AllBelong P now × AllBelong P later
 
+  -- each of these parts belongs to the source
   pub AllBelong : (Marked → Type 0) → Terms → Type 0
   AllBelong P end = Unit {0}
   AllBelong P (more t ts) = Belongs P t × AllBelong P ts
@@ -92,6 +94,7 @@ sources_of (f ∷ fs) = f.source ∷ sources_of fs
 -- A term within the frames of these sources, where all active frames are of those: each `frame` around the part about
 -- to be reduced is one frame more, and what is within it belongs to the source of that frame.
 abbrev mutual
+  -- a term stands within the frames of these sources
   pub TermStands : Sources → List Source → Term → List Source → Type 0
   TermStands R around (done v) all = all ≡ around
   TermStands R around (standing v place) all = (all ≡ around) × R.raises
@@ -104,6 +107,7 @@ abbrev mutual
   TermStands R around (part f now later) all =
       FormBelongs (top_marks R around) f later × AllStand R around now all × AllBelong (top_marks R around) later
 
+  -- of these parts the first that isn't done stands so, and those behind it belong to the source of the top frame
   pub AllStand : Sources → List Source → Terms → List Source → Type 0
   AllStand R around end all = all ≡ around
   AllStand R around (more (done v) ts) all = AllStand R around ts all

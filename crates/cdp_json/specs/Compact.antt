@@ -34,6 +34,7 @@ ordered_text ms = with_commas (map member_text (in_order (λ m. m.0) ms))
 
 -- the text of a value, and those of the values of a list and of an object
 abbrev mutual
+  -- the text of a value
   pub compact_text : Json → List ℕ
   compact_text null = codes "null"
   compact_text (boolean true) = codes "true"

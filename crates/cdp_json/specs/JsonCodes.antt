@@ -28,10 +28,12 @@ abbrev mutual
   json_words (list js) ws = items_words js (a_list ∷ ws)
   json_words (object ms) ws = members_words ms (an_object ∷ ws)
 
+  -- the words of the values of a list, behind which others come
   pub items_words : Items → List Word → List Word
   items_words no_items ws = end_of_items ∷ ws
   items_words (item j js) ws = json_words j (items_words js (an_item ∷ ws))
 
+  -- the words of the members of an object, behind which others come
   pub members_words : Members → List Word → List Word
   members_words no_members ws = end_of_members ∷ ws
   members_words (member k j ms) ws = json_words j (members_words ms (a_member k ∷ ws))
@@ -83,6 +85,7 @@ top_json r = null
 
 -- the words of a value are read as the value
 abbrev mutual
+  -- the words of a value are read as the value
   json_is_read : (j : Json) (ws : List Word) (r : Read)
       → fold read_word r (json_words j ws) ≡ fold read_word (json_read j r) ws
   json_is_read null ws r = refl
@@ -92,12 +95,14 @@ abbrev mutual
   json_is_read (list js) ws r = items_are_read js (a_list ∷ ws) r
   json_is_read (object ms) ws r = members_are_read ms (an_object ∷ ws) r
 
+  -- the words of the values of a list are read as these values
   items_are_read : (js : Items) (ws : List Word) (r : Read)
       → fold read_word r (items_words js ws) ≡ fold read_word (items_read js r) ws
   items_are_read no_items ws r = refl
   items_are_read (item j js) ws r =
       json_is_read j (items_words js (an_item ∷ ws)) r ∙ items_are_read js (an_item ∷ ws) (json_read j r)
 
+  -- the words of the members of an object are read as these members
   members_are_read : (ms : Members) (ws : List Word) (r : Read)
       → fold read_word r (members_words ms ws) ≡ fold read_word (members_read ms r) ws
   members_are_read no_members ws r = refl

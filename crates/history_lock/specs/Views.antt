@@ -39,15 +39,19 @@ module _ {E : Type 0} where
   abbrev pub newborn : View E → ℕ → View E
   newborn v number = plain v.initial number v.seen v.initial (v.base + (v.stride + v.stride)) (v.stride + v.stride)
 
+  -- a pass that has opened one pass more
   abbrev pub opened : View E → View E
   opened v = thinned v (v.unopened + 1) v.splits
 
+  -- the pass that it opens next
   abbrev pub newly_opened : View E → View E
   newly_opened v = newborn v v.unopened
 
+  -- a pass that was split once more
   abbrev pub divided : View E → View E
   divided v = thinned v v.unopened (v.splits + 1)
 
+  -- the pass that is split off it next
   abbrev pub split_off : View E → View E
   split_off v = newborn v v.base
 

@@ -18,11 +18,13 @@ is_plain_form f = true
 
 -- a term that a node has, and some of them
 abbrev mutual
+  -- a node has the term
   pub is_plain : Term → Bool
   is_plain (done v) = true
   is_plain (standing v s) = false
   is_plain (part f now later) = is_plain_form f && (are_plain now && are_plain later)
 
+  -- nodes have all of these terms
   pub are_plain : Terms → Bool
   are_plain end = true
   are_plain (more t ts) = is_plain t && are_plain ts

@@ -73,6 +73,7 @@ assign_kind assigns.BitwiseXor = kinds.BitwiseXorAssign
 
 -- what the last token of an expression ends
 abbrev mutual
+  -- what the last token of an expression ends
   pub edge : Expression → Edge
   edge (arrow ps e) = edge e
   edge (arrow_block ps body) = braces
@@ -84,6 +85,7 @@ abbrev mutual
   edge (comma es) = edge_of_last es
   edge _ = plain
 
+  -- what the last token of the last of some expressions ends
   pub edge_of_last : Expressions → Edge
   edge_of_last no_expressions = plain
   edge_of_last (an_expression e no_expressions) = edge e
@@ -179,6 +181,7 @@ in_braces ms = in_order (a kinds.LeftBrace ∷ ms ∷ a kinds.RightBrace ∷ [])
 
 -- the flat tokens of each form
 abbrev mutual
+  -- the flat tokens of an expression
   pub flat : Expression → List Mark
   flat this = a kinds.This
   flat (name n) = an_identifier n
@@ -216,41 +219,50 @@ abbrev mutual
   more_expressions no_expressions = []
   more_expressions (an_expression e es) = in_order (a kinds.Comma ∷ flat e ∷ more_expressions es ∷ [])
 
+  -- the flat tokens of an expression that may be left out
   pub flat_optional : OptionalExpression → List Mark
   flat_optional omitted = []
   flat_optional (present e) = flat e
 
+  -- the flat tokens of a key
   pub flat_key : Key → List Mark
   flat_key (word_key n) = token (identifier_name n) ∷ []
   flat_key (string_key v) = token (string_literal v) ∷ []
   flat_key (number_key v) = token (numeric_literal v) ∷ []
   flat_key (computed_key e) = in_order (a kinds.LeftBracket ∷ flat e ∷ a kinds.RightBracket ∷ [])
 
+  -- the flat tokens of a member of an object literal
   pub flat_property : Property → List Mark
   flat_property (shorthand n) = an_identifier n
   flat_property (value k e) = in_order (flat_key k ∷ a kinds.Colon ∷ flat e ∷ [])
   flat_property (method k ps body) = in_order (flat_key k ∷ flat_parameters ps ∷ in_braces (flat_statements body) ∷ [])
 
+  -- members with commas between
   pub flat_properties : Properties → List Mark
   flat_properties no_properties = []
   flat_properties (a_property p ps) = flat_property p ++ more_properties ps
 
+  -- members behind the first, each behind a comma
   pub more_properties : Properties → List Mark
   more_properties no_properties = []
   more_properties (a_property p ps) = in_order (a kinds.Comma ∷ flat_property p ∷ more_properties ps ∷ [])
 
+  -- the flat tokens of a declarator
   pub flat_declarator : Declarator → List Mark
   flat_declarator (declarator n omitted) = an_identifier n
   flat_declarator (declarator n (present e)) = in_order (an_identifier n ∷ a kinds.Assign ∷ flat e ∷ [])
 
+  -- declarators with commas between
   pub flat_declarators : Declarators → List Mark
   flat_declarators no_declarators = []
   flat_declarators (a_declarator d ds) = flat_declarator d ++ more_declarators ds
 
+  -- declarators behind the first, each behind a comma
   pub more_declarators : Declarators → List Mark
   more_declarators no_declarators = []
   more_declarators (a_declarator d ds) = in_order (a kinds.Comma ∷ flat_declarator d ∷ more_declarators ds ∷ [])
 
+  -- the flat tokens of a statement or a declaration
   pub flat_statement : Statement → List Mark
   flat_statement (block ss) = in_braces (flat_statements ss)
   flat_statement (lexical c ds) = in_order (let_or_const c ∷ flat_declarators ds ∷ ends (end_of_declarators ds) ∷ [])
@@ -287,14 +299,17 @@ abbrev mutual
   flat_statement (declared_function n ps body) =
       in_order (a kinds.Function ∷ an_identifier n ∷ flat_parameters ps ∷ in_braces (flat_statements body) ∷ [])
 
+  -- the flat tokens of a catch, which may be left out
   pub flat_handler : Handler → List Mark
   flat_handler no_catch = []
   flat_handler (catch n ss) = in_order (a kinds.Catch ∷ flat_catch_parameter n ∷ in_braces (flat_statements ss) ∷ [])
 
+  -- the flat tokens of a finally, which may be left out
   pub flat_finalizer : Finalizer → List Mark
   flat_finalizer no_finally = []
   flat_finalizer (finally ss) = in_order (a kinds.Finally ∷ in_braces (flat_statements ss) ∷ [])
 
+  -- statements one after another
   pub flat_statements : Statements → List Mark
   flat_statements no_statements = []
   flat_statements (a_statement s ss) = flat_statement s ++ flat_statements ss

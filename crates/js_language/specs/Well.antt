@@ -208,6 +208,7 @@ is_handled _ _ = true
 
 -- the tree is well-formed, for each type of trees; a statement by what it stands in
 abbrev mutual
+  -- an expression is well-formed
   pub Well : Expression → Type 0
   -- 13.2.4
   Well (array es) = AreAssignments es
@@ -249,6 +250,7 @@ abbrev mutual
   AreAssignments no_expressions = Unit {0}
   AreAssignments (an_expression e es) = Well e × (an_assignment ≤ level e) × AreAssignments es
 
+  -- an expression that may be left out is well-formed
   pub WellOptional : OptionalExpression → Type 0
   WellOptional omitted = Unit {0}
   WellOptional (present e) = Well e
@@ -265,6 +267,7 @@ abbrev mutual
   -- 15.4
   WellProperty (method k ps body) = WellKey k × DifferIn ps body × WellStatements function_body body
 
+  -- each of these members is well-formed
   pub WellProperties : Properties → Type 0
   WellProperties no_properties = Unit {0}
   WellProperties (a_property p ps) = WellProperty p × WellProperties ps
@@ -274,10 +277,12 @@ abbrev mutual
   WellDeclarator (declarator n omitted) = Unit {0}
   WellDeclarator (declarator n (present e)) = Well e × (an_assignment ≤ level e)
 
+  -- each of these declarators is well-formed
   pub WellDeclarators : Declarators → Type 0
   WellDeclarators no_declarators = Unit {0}
   WellDeclarators (a_declarator d ds) = WellDeclarator d × WellDeclarators ds
 
+  -- a statement or a declaration is well-formed in what it stands in
   pub WellStatement : Context → Statement → Type 0
   -- 14.2, 14.2.1: the names that a block declares differ
   WellStatement c (block ss) = AreFresh [] (declared_names ss) × WellStatements c ss
@@ -342,10 +347,12 @@ abbrev mutual
   WellHandler c (catch None ss) = AreFresh [] (declared_names ss) × WellStatements c ss
   WellHandler c (catch (Some n) ss) = AreFresh (n ∷ []) (declared_names ss) × WellStatements c ss
 
+  -- a finally, which may be left out, is well-formed
   pub WellFinalizer : Context → Finalizer → Type 0
   WellFinalizer c no_finally = Unit {0}
   WellFinalizer c (finally ss) = AreFresh [] (declared_names ss) × WellStatements c ss
 
+  -- each of these statements is well-formed
   pub WellStatements : Context → Statements → Type 0
   WellStatements c no_statements = Unit {0}
   WellStatements c (a_statement s ss) = WellStatement c s × WellStatements c ss

@@ -32,6 +32,7 @@ a_present x = Some x
 
 -- what is made of each type of tree, from the first number for its nodes
 abbrev mutual
+  -- what is made of an expression
   pub expression_numbered : Expression → Numbering Made
   expression_numbered trees.this = leaf (λ n. this_made n)
   expression_numbered (trees.name x) = leaf (λ n. name_made n x)
@@ -65,21 +66,25 @@ abbrev mutual
       node (λ n x. assign_made n o x.0 x.1) (both (expression_numbered t) (expression_numbered e))
   expression_numbered (trees.comma es) = node (λ n xs. comma_made n xs) (expressions_numbered es)
 
+  -- what is made of each of these expressions
   pub expressions_numbered : Expressions → Numbering (List Made)
   expressions_numbered trees.no_expressions = give []
   expressions_numbered (trees.an_expression e es) =
       of_part (λ x. x.0 ∷ x.1) (both (expression_numbered e) (expressions_numbered es))
 
+  -- what is made of an expression that may be left out
   pub optional_numbered : OptionalExpression → Numbering (Option Made)
   optional_numbered trees.omitted = give None
   optional_numbered (trees.present e) = of_part (λ x. a_present x) (expression_numbered e)
 
+  -- what is made of a key
   pub key_numbered : Key → Numbering PropertyKey
   key_numbered (trees.word_key us) = give (fixed_key us)
   key_numbered (trees.string_key us) = give (fixed_key us)
   key_numbered (trees.number_key v) = give (fixed_key (decimal v))
   key_numbered (trees.computed_key e) = of_part (λ x. a_computed_key x) (expression_numbered e)
 
+  -- what is made of a member of an object literal, of which a method alone is a node
   pub property_numbered : Property → Numbering PropertyMade
   property_numbered (trees.shorthand n) = give (value_property (fixed_key n) (name_made 0 n))
   property_numbered (trees.value k e) =
@@ -87,19 +92,23 @@ abbrev mutual
   property_numbered (trees.method k ps body) =
       node (λ n x. method_property n x.0 ps x.1) (both (key_numbered k) (statements_numbered body))
 
+  -- what is made of each of these members
   pub properties_numbered : Properties → Numbering (List PropertyMade)
   properties_numbered trees.no_properties = give []
   properties_numbered (trees.a_property p ps) =
       of_part (λ x. x.0 ∷ x.1) (both (property_numbered p) (properties_numbered ps))
 
+  -- what is made of a declarator, which is no node of its own
   pub declarator_numbered : trees.Declarator → Numbering DeclaratorMade
   declarator_numbered (trees.declarator n e) = of_part (λ x. a_declarator_made n x) (optional_numbered e)
 
+  -- what is made of each of these declarators
   pub declarators_numbered : trees.Declarators → Numbering (List DeclaratorMade)
   declarators_numbered trees.no_declarators = give []
   declarators_numbered (trees.a_declarator d ds) =
       of_part (λ x. x.0 ∷ x.1) (both (declarator_numbered d) (declarators_numbered ds))
 
+  -- what is made of a statement or a declaration
   pub statement_numbered : Statement → Numbering Item
   statement_numbered (trees.block ss) = of_part (λ b. block_item b) (block_node (statements_numbered ss))
   statement_numbered (trees.lexical constant ds) = node (λ n x. lexical_item n constant x) (declarators_numbered ds)
@@ -134,14 +143,17 @@ abbrev mutual
   statement_numbered (trees.declared_function name ps body) =
       node (λ n b. function_item n name ps b) (statements_numbered body)
 
+  -- what is made of a catch, which may be left out and is no node of its own
   pub handler_numbered : Handler → Numbering (Option CatchMade)
   handler_numbered trees.no_catch = give None
   handler_numbered (trees.catch n ss) = of_part (λ b. a_catch_made n b) (block_node (statements_numbered ss))
 
+  -- what is made of a finally, which may be left out and is no node of its own
   pub finalizer_numbered : Finalizer → Numbering (Option Items)
   finalizer_numbered trees.no_finally = give None
   finalizer_numbered (trees.finally ss) = of_part (λ b. a_present b) (block_node (statements_numbered ss))
 
+  -- what is made of these statements
   pub statements_numbered : Statements → Numbering Items
   statements_numbered trees.no_statements = give no_items
   statements_numbered (trees.a_statement s ss) =

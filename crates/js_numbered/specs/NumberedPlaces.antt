@@ -58,6 +58,7 @@ comma_separated (f ∷ fs) = before f (each_behind_comma fs)
 
 -- the places of each type of tree, from the first number for its nodes
 abbrev mutual
+  -- the places of an expression
   pub expression_placed : Expression → Placing
   expression_placed trees.this = node_placed (tokens (a kinds.This) ∷ [])
   expression_placed (trees.name x) = node_placed (tokens (an_identifier x) ∷ [])
@@ -153,6 +154,7 @@ abbrev mutual
   declarators_placed trees.no_declarators = []
   declarators_placed (trees.a_declarator d ds) = declarator_placed d ∷ declarators_placed ds
 
+  -- the places of a statement or a declaration
   pub statement_placed : Statement → Placing
   statement_placed (trees.block ss) = node_placed (braced (in_row (statements_placed ss)) ∷ [])
   statement_placed (trees.lexical constant ds) =

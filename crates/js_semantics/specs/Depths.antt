@@ -10,24 +10,28 @@ use Rattle.js_semantics.specs.Run.{Run, running, over}
 
 -- no active call stands anywhere in a term
 abbrev mutual
+  -- no active call stands in a term
   pub HasNoFrame : Term → Type 0
   HasNoFrame (done v) = Unit {0}
   HasNoFrame (standing v place) = Unit {0}
   HasNoFrame (part (frame node a) now later) = ⊥
   HasNoFrame (part f now later) = HaveNoFrame now × HaveNoFrame later
 
+  -- no active call stands in any of these terms
   pub HaveNoFrame : Terms → Type 0
   HaveNoFrame end = Unit {0}
   HaveNoFrame (more t ts) = HasNoFrame t × HaveNoFrame ts
 
 -- the frames around the part about to be reduced
 abbrev mutual
+  -- how many frames are around the part about to be reduced of a term
   pub calls : Term → ℕ
   calls (done v) = 0
   calls (standing v place) = 0
   calls (part (frame node a) now later) = suc (calls_of now)
   calls (part f now later) = calls_of now
 
+  -- how many frames are around it, in the first of these parts that isn't done
   pub calls_of : Terms → ℕ
   calls_of end = 0
   calls_of (more (done v) ts) = calls_of ts
@@ -36,11 +40,13 @@ abbrev mutual
 
 -- only around the part about to be reduced are there frames
 abbrev mutual
+  -- frames stand in a term only around the part about to be reduced
   pub IsFramed : Term → Type 0
   IsFramed (done v) = Unit {0}
   IsFramed (standing v place) = Unit {0}
   IsFramed (part f now later) = AreFramed now × HaveNoFrame later
 
+  -- frames stand in these parts only around what is about to be reduced in the first that isn't done
   pub AreFramed : Terms → Type 0
   AreFramed end = Unit {0}
   AreFramed (more (done v) ts) = AreFramed ts

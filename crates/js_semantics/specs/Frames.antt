@@ -38,11 +38,13 @@ active_of f (inner a) = a
 
 -- the part about to be reduced, of a term, and of the parts of a form
 abbrev mutual
+  -- the part about to be reduced of a term
   pub active : Term → Active
   active (done v) = nothing_left
   active (standing v place) = stands v place
   active (part f now later) = active_of f (leftmost now)
 
+  -- the first of these parts that isn't done, by what is about to be reduced in it; or the values of all
   pub leftmost : Terms → Leftmost
   leftmost end = only_values []
   leftmost (more (done v) ts) = behind v (leftmost ts)

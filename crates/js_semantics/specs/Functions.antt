@@ -55,12 +55,14 @@ code_here _ node later = None
 
 -- the code of a node's function in a term, and in several: of the first such function from the left
 abbrev mutual
+  -- the code of a node's function in a term
   pub function_in : ℕ → Term → Option FunctionCode
   function_in node (done v) = None
   function_in node (standing v s) = None
   function_in node (part f now later) =
       first_code (code_here f node later) (first_code (function_in_all node now) (function_in_all node later))
 
+  -- the code of a node's function in the first of these terms that has it
   pub function_in_all : ℕ → Terms → Option FunctionCode
   function_in_all node end = None
   function_in_all node (more t ts) = first_code (function_in node t) (function_in_all node ts)

@@ -10,6 +10,7 @@ use Rattle.js_tree.specs.Views.{expression_view}
 
 -- the string literals of each type of tree, in order
 abbrev mutual
+  -- the string literals of an expression
   pub expression_literals : Expression → List (List ℕ)
   expression_literals (trees.string us) = us ∷ []
   expression_literals (trees.array es) = expressions_literals es
@@ -32,34 +33,42 @@ abbrev mutual
   expression_literals (trees.comma es) = expressions_literals es
   expression_literals _ = []
 
+  -- the string literals of each of these expressions
   pub expressions_literals : Expressions → List (List ℕ)
   expressions_literals trees.no_expressions = []
   expressions_literals (trees.an_expression e es) = expression_literals e ++ expressions_literals es
 
+  -- the string literals of an expression that may be left out
   pub optional_literals : OptionalExpression → List (List ℕ)
   optional_literals trees.omitted = []
   optional_literals (trees.present e) = expression_literals e
 
+  -- the string literals of a computed key; another key has none
   pub key_literals : Key → List (List ℕ)
   key_literals (trees.computed_key e) = expression_literals e
   key_literals _ = []
 
+  -- the string literals of a member of an object literal
   pub property_literals : Property → List (List ℕ)
   property_literals (trees.shorthand x) = []
   property_literals (trees.value k e) = key_literals k ++ expression_literals e
   property_literals (trees.method k ps body) = key_literals k ++ statements_literals body
 
+  -- the string literals of each of these members
   pub properties_literals : Properties → List (List ℕ)
   properties_literals trees.no_properties = []
   properties_literals (trees.a_property p ps) = property_literals p ++ properties_literals ps
 
+  -- the string literals of a declarator's value, if it has one
   pub declarator_literals : trees.Declarator → List (List ℕ)
   declarator_literals (trees.declarator x e) = optional_literals e
 
+  -- the string literals of each of these declarators
   pub declarators_literals : trees.Declarators → List (List ℕ)
   declarators_literals trees.no_declarators = []
   declarators_literals (trees.a_declarator d ds) = declarator_literals d ++ declarators_literals ds
 
+  -- the string literals of a statement, but for those of a function that it declares
   pub statement_literals : Statement → List (List ℕ)
   statement_literals (trees.block ss) = statements_literals ss
   statement_literals (trees.lexical constant ds) = declarators_literals ds
@@ -78,19 +87,22 @@ abbrev mutual
   statement_literals (trees.try ss h f) = statements_literals ss ++ handler_literals h ++ finalizer_literals f
   statement_literals _ = []
 
-  -- of a function that a list of statements declares; every other statement has those above
+  -- the string literals of a function that a statement declares; every other statement has those above
   pub declared_literals : Statement → List (List ℕ)
   declared_literals (trees.declared_function x ps body) = statements_literals body
   declared_literals _ = []
 
+  -- the string literals of a catch, which may be left out
   pub handler_literals : Handler → List (List ℕ)
   handler_literals trees.no_catch = []
   handler_literals (trees.catch x ss) = statements_literals ss
 
+  -- the string literals of a finally, which may be left out
   pub finalizer_literals : Finalizer → List (List ℕ)
   finalizer_literals trees.no_finally = []
   finalizer_literals (trees.finally ss) = statements_literals ss
 
+  -- the string literals of each of these statements
   pub statements_literals : Statements → List (List ℕ)
   statements_literals trees.no_statements = []
   statements_literals (trees.a_statement s ss) = declared_literals s ++ statement_literals s ++ statements_literals ss

@@ -34,11 +34,13 @@ around p scope f later s (moved (is_full what t)) = is_full what t
 
 -- the step of a term in a scope, and of the leftmost of some parts that isn't a value
 abbrev mutual
+  -- the step of a term in a scope
   pub next : Program → Addr → Term → State → Move Term
   next p scope (done v) s = perform (give v) s
   next p scope (standing v place) s = travels (throws v place) s
   next p scope (part f now later) s = around p scope f later s (walk p (scope_in f scope) now s)
 
+  -- the step of the first of these parts that isn't done, or the values of all
   pub walk : Program → Addr → Terms → State → Walked
   walk p scope end s = all_values []
   walk p scope (more (done v) ts) s = with_value v (walk p scope ts s)

@@ -106,11 +106,13 @@ pub record Shape (f : Form) (n : ℕ) (later : Terms) : Type 0 where
 
 -- all forms in a term have the parts that they want
 abbrev mutual
+  -- each form in a term has the parts that it wants
   pub IsShaped : Term → Type 0
   IsShaped (done v) = Unit {0}
   IsShaped (standing v place) = Unit {0}
   IsShaped (part f now later) = Shape f (size now) later × AreShaped now × AreShaped later
 
+  -- each form in these terms has the parts that it wants
   pub AreShaped : Terms → Type 0
   AreShaped end = Unit {0}
   AreShaped (more t ts) = IsShaped t × AreShaped ts

@@ -46,11 +46,13 @@ SoundForm w _ = Unit {0}
 
 -- all that the forms and values of a term name is live
 abbrev mutual
+  -- all that a term names is live
   pub SoundTerm : World → Term → Type 0
   SoundTerm w (done v) = SoundValue w v
   SoundTerm w (standing v place) = SoundValue w v
   SoundTerm w (part f now later) = SoundForm w f × SoundTerms w now × SoundTerms w later
 
+  -- all that these terms name is live
   pub SoundTerms : World → Terms → Type 0
   SoundTerms w end = Unit {0}
   SoundTerms w (more t ts) = SoundTerm w t × SoundTerms w ts

@@ -35,11 +35,13 @@ UntouchedForm _ = Unit {0}
 
 -- no form and no value in a term holds an address, and no throw stands in it
 abbrev mutual
+  -- a term holds no address, and no throw stands in it
   pub IsUntouched : Term → Type 0
   IsUntouched (done v) = HasNoAddress v
   IsUntouched (standing v place) = ⊥
   IsUntouched (part f now later) = UntouchedForm f × AreUntouched now × AreUntouched later
 
+  -- none of these terms holds an address, and no throw stands in one
   pub AreUntouched : Terms → Type 0
   AreUntouched end = Unit {0}
   AreUntouched (more t ts) = IsUntouched t × AreUntouched ts

@@ -40,6 +40,7 @@ ByCase false A B = B
 -- every form in a term waits for its step once its parts have their values, but for a part that is settled when it is
 -- uncovered
 abbrev mutual
+  -- every form in a term waits so
   pub Waits : (Terms → Bool) → Term → Type 0
   Waits ready (done v) = Unit {0}
   Waits ready (standing v place) = Unit {0}
@@ -48,6 +49,7 @@ abbrev mutual
       × AllWait ready now
       × ByCase (uncovers f) (RestWaits ready later) (AllWait ready later)
 
+  -- every form in each of these terms waits so
   pub AllWait : (Terms → Bool) → Terms → Type 0
   AllWait ready end = Unit {0}
   AllWait ready (more t ts) = Waits ready t × AllWait ready ts

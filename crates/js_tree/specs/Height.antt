@@ -6,6 +6,7 @@ use Rattle.js_tree.specs.Trees.{Expression, array, object, function, arrow, arro
 -- Each statement, expression and method counts one over its parts. Lists, declarators, other members, names and a catch
 -- count nothing of their own; the blocks of a try are statements.
 abbrev mutual
+  -- the height of an expression
   pub height : Expression → ℕ
   height (array es) = suc (height_of_expressions es)
   height (object ps) = suc (height_of_properties ps)
@@ -25,34 +26,42 @@ abbrev mutual
   height (comma es) = suc (height_of_expressions es)
   height _ = 1
 
+  -- the greatest height of these expressions
   pub height_of_expressions : Expressions → ℕ
   height_of_expressions no_expressions = 0
   height_of_expressions (an_expression e es) = max (height e) (height_of_expressions es)
 
+  -- the height of an expression that may be left out
   pub height_of_optional : OptionalExpression → ℕ
   height_of_optional omitted = 0
   height_of_optional (present e) = height e
 
+  -- the height of a computed key's expression; another key has none
   pub height_of_key : Key → ℕ
   height_of_key (computed_key e) = height e
   height_of_key _ = 0
 
+  -- the height of a member of an object literal
   pub height_of_property : Property → ℕ
   height_of_property (shorthand n) = 0
   height_of_property (value k e) = max (height_of_key k) (height e)
   height_of_property (method k ps body) = suc (max (height_of_key k) (height_of_statements body))
 
+  -- the greatest height of these members
   pub height_of_properties : Properties → ℕ
   height_of_properties no_properties = 0
   height_of_properties (a_property p ps) = max (height_of_property p) (height_of_properties ps)
 
+  -- the height of a declarator's value, if it has one
   pub height_of_declarator : Declarator → ℕ
   height_of_declarator (declarator n e) = height_of_optional e
 
+  -- the greatest height of these declarators
   pub height_of_declarators : Declarators → ℕ
   height_of_declarators no_declarators = 0
   height_of_declarators (a_declarator d ds) = max (height_of_declarator d) (height_of_declarators ds)
 
+  -- the height of a statement or a declaration
   pub height_of_statement : Statement → ℕ
   height_of_statement (block ss) = suc (height_of_statements ss)
   height_of_statement (lexical c ds) = suc (height_of_declarators ds)
@@ -74,14 +83,17 @@ abbrev mutual
   height_of_statement (declared_function n ps body) = suc (height_of_statements body)
   height_of_statement _ = 1
 
+  -- the height of a catch's block, if there is a catch
   pub height_of_handler : Handler → ℕ
   height_of_handler no_catch = 0
   height_of_handler (catch n ss) = suc (height_of_statements ss)
 
+  -- the height of a finally's block, if there is a finally
   pub height_of_finalizer : Finalizer → ℕ
   height_of_finalizer no_finally = 0
   height_of_finalizer (finally ss) = suc (height_of_statements ss)
 
+  -- the greatest height of these statements
   pub height_of_statements : Statements → ℕ
   height_of_statements no_statements = 0
   height_of_statements (a_statement s ss) = max (height_of_statement s) (height_of_statements ss)

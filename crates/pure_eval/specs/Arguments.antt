@@ -17,10 +17,12 @@ abbrev mutual
   json_of (list js) = json_array (jsons_of js)
   json_of (object ms) = json_object (members_of ms)
 
+  -- the values of a list as the definition has them
   pub jsons_of : Items → Jsons
   jsons_of no_items = no_jsons
   jsons_of (item j js) = a_json (json_of j) (jsons_of js)
 
+  -- the members of an object as the definition has them
   pub members_of : AnyMembers → Members
   members_of no_pairs = no_members
   members_of (pair key j ms) = a_member key (json_of j) (members_of ms)
@@ -39,6 +41,7 @@ arguments_of (a ∷ rest) = argument_of a ∷ arguments_of rest
 
 -- the number of values in a JSON value, in the values of a list and in the members of an object
 abbrev mutual
+  -- the number of values in a JSON value
   pub json_size : AnyJson → ℕ
   json_size null = 1
   json_size (boolean b) = 1
@@ -47,10 +50,12 @@ abbrev mutual
   json_size (list js) = items_size js + 1
   json_size (object ms) = members_size ms + 1
 
+  -- the number of values in the values of a list
   pub items_size : Items → ℕ
   items_size no_items = 0
   items_size (item j js) = json_size j + items_size js
 
+  -- the number of values in the members of an object
   pub members_size : AnyMembers → ℕ
   members_size no_pairs = 0
   members_size (pair key j ms) = json_size j + members_size ms

@@ -24,6 +24,7 @@ abbrev mutual
   term_words (standing v s) ws = a_throw v s ∷ ws
   term_words (part f now later) ws = terms_words now (terms_words later (a_form f ∷ ws))
 
+  -- the words of a list of terms, behind which others come
   pub terms_words : Terms → List Word → List Word
   terms_words end ws = no_parts ∷ ws
   terms_words (more t ts) ws = term_words t (terms_words ts (a_part ∷ ws))
@@ -59,6 +60,7 @@ top_term r = done values.Undefined
 
 -- the words of a term are read as the term
 abbrev mutual
+  -- the words of a term are read as the term
   term_is_read : (t : Term) (ws : List Word) (r : Read)
       → fold read_word r (term_words t ws) ≡ fold read_word (term_read t r) ws
   term_is_read (done v) ws r = refl
@@ -66,6 +68,7 @@ abbrev mutual
   term_is_read (part f now later) ws r =
       terms_are_read now (terms_words later (a_form f ∷ ws)) r ∙ terms_are_read later (a_form f ∷ ws) (terms_read now r)
 
+  -- the words of a list of terms are read as the list
   terms_are_read : (ts : Terms) (ws : List Word) (r : Read)
       → fold read_word r (terms_words ts ws) ≡ fold read_word (terms_read ts r) ws
   terms_are_read end ws r = refl
