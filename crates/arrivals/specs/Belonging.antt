@@ -73,7 +73,7 @@ pub record Sources : Type 1 where
   pub marks : Source → Marked → Type 0
   pub raises : Type 0
 
--- behind a step that told this, a throw that stands was raised by it
+-- after a step that told this, a throw that stands was raised by it
 abbrev pub behind_step : Sources → Option Told → Sources
 behind_step R told = record R { raises = told ≡ Some raised }
 
@@ -107,7 +107,7 @@ abbrev mutual
   TermStands R around (part f now later) all =
       FormBelongs (top_marks R around) f later × AllStand R around now all × AllBelong (top_marks R around) later
 
-  -- of these parts the first that isn't done stands so, and those behind it belong to the source of the top frame
+  -- of these parts the first that isn't done stands so, and those after it belong to the source of the top frame
   pub AllStand : Sources → List Source → Terms → List Source → Type 0
   AllStand R around end all = all ≡ around
   AllStand R around (more (done v) ts) all = AllStand R around ts all

@@ -104,7 +104,7 @@ pub record Talk : Type 0 where
   pub sent : List (List ℕ)
   pub written : List (List ℕ)
 
--- a talk behind the sending of this command, if one is sent
+-- a talk after the sending of this command, if one is sent
 abbrev pub sends : Talk → Option Command → Talk
 sends talk None = talk
 sends talk (Some command) = record talk {
@@ -112,11 +112,11 @@ sends talk (Some command) = record talk {
   sent = talk.sent ++ command_text command ∷ [];
 }
 
--- a talk behind the sending of the command that is to be sent now, if one is
+-- a talk after the sending of the command that is to be sent now, if one is
 abbrev pub goes_on : Talk → Talk
 goes_on talk = sends talk (next_command talk.course)
 
--- a talk behind an answer that was heard
+-- a talk after an answer that was heard
 abbrev pub hears : Talk → Heard → Talk
 hears talk answer = record {
   course = course_heard talk.course answer;

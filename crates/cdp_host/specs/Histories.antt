@@ -20,7 +20,7 @@ Meaning A = meanings.Meaning A Pause Session
 abbrev pub begin : List Script → List (List ℕ) → Bool → Meaning Run
 begin scripts input wait = meanings.begin (start scripts input) wait
 
--- what a host means behind one entry
+-- what a host means after one entry
 abbrev pub apply : List Script → Meaning Run → Entry → Meaning Run
 apply scripts m entry = histories.apply (protocol scripts) m entry
 

@@ -80,7 +80,7 @@ asks_begin scripts q r text x = asks_to_wake (answer_at scripts q r text x).asks
 abbrev pub step_told : List Script → ℕ → Step → Session → Session
 step_told scripts moment t x = told (seen_behind scripts t) moment t x
 
--- a session that was told of a stop of this number behind a step
+-- a session that was told of a stop of this number after a step
 abbrev pub stop_told : List Script → ℕ → Step → Session → Session
 stop_told scripts number t x = stopped (seen_behind scripts t) number t.arrival x
 

@@ -219,7 +219,7 @@ fn make_steps(
     Ok(made)
 }
 
-/// Makes steps as `make_steps` does, and puts the texts that they print behind the other texts.
+/// Makes steps as `make_steps` does, and puts the texts that they print after the other texts.
 ///
 /// # Errors
 ///

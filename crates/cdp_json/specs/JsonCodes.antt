@@ -28,12 +28,12 @@ abbrev mutual
   json_words (list js) ws = items_words js (a_list ∷ ws)
   json_words (object ms) ws = members_words ms (an_object ∷ ws)
 
-  -- the words of the values of a list, behind which others come
+  -- the words of the values of a list, after which others come
   pub items_words : Items → List Word → List Word
   items_words no_items ws = end_of_items ∷ ws
   items_words (item j js) ws = json_words j (items_words js (an_item ∷ ws))
 
-  -- the words of the members of an object, behind which others come
+  -- the words of the members of an object, after which others come
   pub members_words : Members → List Word → List Word
   members_words no_members ws = end_of_members ∷ ws
   members_words (member k j ms) ws = json_words j (members_words ms (a_member k ∷ ws))

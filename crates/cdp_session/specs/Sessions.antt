@@ -36,7 +36,7 @@ fresh number workspace =
       outbox = [];
     }
 
--- a session with texts behind those that wait
+-- a session with texts after those that wait
 abbrev pub sent : List (List ℕ) → Session → Session
 sent texts x = record x { outbox = x.outbox ++ texts }
 

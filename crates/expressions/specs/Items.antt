@@ -10,7 +10,7 @@ use Rattle.js_semantics.specs.Literals.{statement_literals, declared_literals}
 abbrev pub literals_of : Stmt → List (List ℕ)
 literals_of s = statement_literals (statement_view s)
 
--- the string literals of the statement behind `else`, where there is one
+-- the string literals of the statement after `else`, where there is one
 abbrev pub alternate_literals : Option (Box Stmt) → List (List ℕ)
 alternate_literals None = []
 alternate_literals (Some b) = literals_of b.value

@@ -31,7 +31,7 @@ module _ {E : Type 0} where
   abbrev pub nobody : View E
   nobody = record { number = 0; numbers = []; splits = 0; seen = []; tickets = 0; ticket = 0; in_turn = false; initial = 0; unopened = 0; base = 0; stride = 0; own_numbers = []; own_seen = []; other_numbers = []; other_seen = [] }
 
-  -- a pass that keeps each second one of the numbers behind its first
+  -- a pass that keeps each second one of the numbers after its first
   abbrev pub thinned : View E → ℕ → ℕ → View E
   thinned v unopened splits = record v { unopened = unopened; splits = splits; base = v.base + v.stride; stride = v.stride + v.stride }
 

@@ -15,7 +15,7 @@ pub(crate) enum Question {
     Value,
     /// A script, and what it is parsed as.
     Script,
-    /// A script behind others that declare `a` and `c`, and what it is parsed as.
+    /// A script after others that declare `a` and `c`, and what it is parsed as.
     Later,
     /// An expression, and what it is parsed as.
     Expression,

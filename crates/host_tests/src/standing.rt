@@ -54,7 +54,7 @@ fn told(alloc: Global, machine: &Machine, scripts: &[Script]) -> Result<String, 
     }
 }
 
-// What is told behind each step of a machine, at most a hundred.
+// What is told after each step of a machine, at most a hundred.
 fn steps_told(
     alloc: Global,
     machine: &mut Machine,
@@ -72,7 +72,7 @@ fn steps_told(
     Ok(text)
 }
 
-// What is told behind each step of a script.
+// What is told after each step of a script.
 fn stands_of(alloc: Global, source: &str) -> Result<String, Fail> {
     let units = units_of(alloc, source)?;
     let Ok(script) = parse_script(alloc, units.as_slice(), "", 1, &[]) else {

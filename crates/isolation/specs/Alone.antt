@@ -71,26 +71,26 @@ abbrev pub goes_on : {C T Q X : Type 0} → Protocol C T Q X → Bool → Alone 
 goes_on P true a = record a { stop = None; seat = resumed_seat P a.seat }
 goes_on P false a = a
 
--- the session's seat behind a text that it told
+-- the session's seat after a text that it told
 abbrev pub replied : {C T Q X : Type 0} → Protocol C T Q X → List ℕ → Alone C Q X → Seat X → Seat X
 replied P text a (Attached x) =
     if P.fits (P.reply a.stop a.program text x) then Attached (P.reply a.stop a.program text x) else Left
 replied P text a (Lost loss is_reported is_told) = Lost loss is_reported is_told
 replied P text a Left = Left
 
--- the session's seat behind the taking of its texts
+-- the session's seat after the taking of its texts
 abbrev pub took : {C T Q X : Type 0} → Protocol C T Q X → Seat X → Seat X
 took P (Attached x) = Attached (P.emptied x)
 took P (Lost loss is_reported is_told) = Lost loss is_reported is_told
 took P Left = Left
 
--- the session's seat behind its detach
+-- the session's seat after its detach
 abbrev pub went : {X : Type 0} → Seat X → Seat X
 went (Attached x) = Left
 went (Lost loss is_reported is_told) = Lost loss is_reported true
 went Left = Left
 
--- the host behind one step at a moment, at which the program stops, or doesn't
+-- the host after one step at a moment, at which the program stops, or doesn't
 abbrev pub one_step : {C T Q X : Type 0} → Protocol C T Q X → ℕ → Bool → Alone C Q X → Alone C Q X
 one_step P moment stops a = record {
   program = P.next a.program;
@@ -115,7 +115,7 @@ abbrev pub run : {C T Q X : Type 0} → Protocol C T Q X → ℕ → ℕ → Boo
 run P moment zero stops listed a = unless_listed listed a
 run P moment (suc n) stops listed a = one_step P moment stops (unless_listed listed (passing P moment n a))
 
--- the host behind what a session of this number sees
+-- the host after what a session of this number sees
 abbrev pub see : {C T Q X : Type 0} → Protocol C T Q X → ℕ → Alone C Q X → Seen → Alone C Q X
 see P s a Came = record a { seat = Attached (P.fresh s) }
 see P s a (Told text resumed) = goes_on P resumed (record a { seat = replied P text a a.seat })

@@ -28,7 +28,7 @@ owners_behind owners k (Detach s) = owners
 owners_behind owners k (Ran n moment gone) = owners
 owners_behind owners k Shut = owners
 
--- who owns each session behind a whole history
+-- who owns each session after a whole history
 abbrev pub owners_from : List ℕ → List (ℕ × Entry) → List ℕ
 owners_from owners [] = owners
 owners_from owners (made ∷ history) = owners_from (owners_behind owners made.0 made.1) history

@@ -82,7 +82,7 @@ next_number n = if nat_lt n (2 ^ 62) then n + 1 else n
 abbrev pub session_behind : {C T Q X : Type 0} → Protocol C T Q X → ℕ → ℕ → T → X → X
 session_behind P number moment t x = if P.names t x then P.stopped number t (P.told moment t x) else P.told moment t x
 
--- the texts that wait for a session behind a step fit
+-- the texts that wait for a session after a step fit
 abbrev pub survives : {C T Q X : Type 0} → Protocol C T Q X → ℕ → ℕ → T → X → Bool
 survives P number moment t x = P.fits (session_behind P number moment t x)
 

@@ -37,7 +37,7 @@ pub fn functions()
     ensures alike { (ts : _) (us : _) (e : _) → AreAlike ts us → IsFunction ts e → IsFunction us e }
 {}
 
-/// What `expressions` says of expressions holds of scripts, behind scripts that declare these names (16.1).
+/// What `expressions` says of expressions holds of scripts, after scripts that declare these names (16.1).
 #[tactic(auto, using(crate::proofs::Soundness::script_read, crate::proofs::Completeness::script_again_whole, crate::proofs::Completeness::one_script, crate::proofs::Exactness::script_leaves_at, crate::proofs::DeepWhole::script_too_deep, crate::proofs::BegunLaws::script_written, crate::proofs::BegunLaws::script_alike))]
 pub fn scripts()
     ensures sound { (n : _) (earlier : _) (ts : _) (body : _) → parse_script n earlier ts ≡ Ok body → IsScript earlier ts body × (height_of_statements body ≤ n) }

@@ -242,7 +242,7 @@ abbrev mutual
   flat_properties no_properties = []
   flat_properties (a_property p ps) = flat_property p ++ more_properties ps
 
-  -- members behind the first, each behind a comma
+  -- members after the first, each after a comma
   pub more_properties : Properties → List Mark
   more_properties no_properties = []
   more_properties (a_property p ps) = in_order (a kinds.Comma ∷ flat_property p ∷ more_properties ps ∷ [])
@@ -257,7 +257,7 @@ abbrev mutual
   flat_declarators no_declarators = []
   flat_declarators (a_declarator d ds) = flat_declarator d ++ more_declarators ds
 
-  -- declarators behind the first, each behind a comma
+  -- declarators after the first, each after a comma
   pub more_declarators : Declarators → List Mark
   more_declarators no_declarators = []
   more_declarators (a_declarator d ds) = in_order (a kinds.Comma ∷ flat_declarator d ∷ more_declarators ds ∷ [])

@@ -46,7 +46,7 @@ program_of m = trees.program_of m.names m.table
 abbrev pub term_of : Machine → Term
 term_of m = term_at m.names m.table m.tasks m.point
 
--- the state of a machine with a world, behind the texts that were taken
+-- the state of a machine with a world, after the texts that were taken
 abbrev pub state_of : Machine → World → List (List ℕ) → State
 state_of m w taken = contexts.state_of w m.context taken
 

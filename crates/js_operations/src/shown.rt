@@ -18,7 +18,7 @@ use js_world::stored::{FunctionName, Stored};
 use js_world::world::World;
 use std::alloc::{AllocError, Global};
 
-/// The name of a class, and behind a colon the message where it isn't empty.
+/// The name of a class, and after a colon the message where it isn't empty.
 fn with_message(alloc: Global, class: &[u8], message: &[u16]) -> Result<Units, AllocError>
     ensures { IfOk result (λ units. units ≡ with_message class.now message.now) }
 {

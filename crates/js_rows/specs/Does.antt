@@ -29,7 +29,7 @@ DoesIn ts t e a v r w = (s : State) → Does ts t e a (with_world s v) r (with_w
 abbrev pub Replies : List (List ℕ) → Action → World → Reduced → World → Type 0
 Replies ts a v r w = (t : NodeTable) (e : Wide) → DoesIn ts t e a v r w
 
--- it does so in a context, behind any texts that were taken
+-- it does so in a context, after any texts that were taken
 abbrev pub DoesWith : List (List ℕ) → NodeTable → Wide → Action → World → Context → Reduced → World → Context → Type 0
 DoesWith ts t e a v c r w d = (taken : List (List ℕ)) → Does ts t e a (state_of v c taken) r (state_of w d taken)
 

@@ -101,7 +101,7 @@ is_array w _ = false
 
 -- ---- arrays (23.1.3)
 
--- each value is put behind the last element
+-- each value is put after the last element
 abbrev pub push_all : Addr → ℕ → List Value → Action
 push_all a l [] = give (values.Number (pos l))
 push_all a l (v ∷ vs) = write a (changes.Element l v) (push_all a (l + 1) vs)

@@ -24,7 +24,7 @@ abbrev mutual
   term_words (standing v s) ws = a_throw v s ∷ ws
   term_words (part f now later) ws = terms_words now (terms_words later (a_form f ∷ ws))
 
-  -- the words of a list of terms, behind which others come
+  -- the words of a list of terms, after which others come
   pub terms_words : Terms → List Word → List Word
   terms_words end ws = no_parts ∷ ws
   terms_words (more t ts) ws = term_words t (terms_words ts (a_part ∷ ws))

@@ -32,7 +32,7 @@ abbrev pub id_pairs : ℕ → Option ℕ → List Pair
 id_pairs session None = []
 id_pairs session (Some n) = (codes "objectId", text (object_id session n)) ∷ []
 
--- what is made of each of a list, in turn, with the handles behind all of it
+-- what is made of each of a list, in turn, with the handles after all of it
 abbrev pub made_all : {A B : Type 0} → (A → handles.State → Made B) → List A → handles.State → Made (List B)
 made_all f [] h = record { made = []; handles = h }
 made_all f (x ∷ xs) h =
