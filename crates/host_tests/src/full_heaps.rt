@@ -159,12 +159,12 @@ fn run_full(alloc: Global, filling: &str, text: &str) -> Result<String, Fail> {
     Ok(told_of_end(alloc, &outcome)?)
 }
 
-/// A run that fails where few cells are left.
+/// A run of a script where few cells are left, until it fails.
 pub(crate) fn run_with_few_cells(alloc: Global, text: &str) -> Result<String, Fail> {
     run_full(alloc, CELLS, text)
 }
 
-/// A run that fails where few units are left.
+/// A run of a script where few units are left, until it fails.
 pub(crate) fn run_with_few_units(alloc: Global, text: &str) -> Result<String, Fail> {
     run_full(alloc, UNITS, text)
 }

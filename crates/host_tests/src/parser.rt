@@ -33,7 +33,7 @@ pub(crate) fn later_of(alloc: Global, source: &[u16]) -> Result<String, AllocErr
     told(alloc, parse_script(alloc, source, "", 2, &declared))
 }
 
-/// Whether an expression is parsed, or its fault.
+/// Whether a source is parsed as an expression, or why it isn't.
 pub(crate) fn expression_of(alloc: Global, source: &[u16]) -> Result<String, AllocError> {
     match parse_expression(alloc, source).err() {
         None => String::from_str(alloc, "parsed"),
@@ -41,7 +41,7 @@ pub(crate) fn expression_of(alloc: Global, source: &[u16]) -> Result<String, All
     }
 }
 
-/// Whether a function is parsed, or its fault.
+/// Whether a source is parsed as a function, or why it isn't.
 pub(crate) fn function_of(alloc: Global, source: &[u16]) -> Result<String, AllocError> {
     match parse_function(alloc, source).err() {
         None => String::from_str(alloc, "parsed"),

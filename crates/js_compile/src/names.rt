@@ -69,7 +69,7 @@ pub fn parameters_of(
     Ok(parameters)
 }
 
-/// A member of an object literal.
+/// The entry of a member of an object literal.
 fn member_of(names: &mut Names, member: &Member) -> Result<MemberEntry, AllocError>
     ensures goes_on { OnOk result (GoesOn names.old names.new) }
     ensures member { IfOk result (λ m. IsMember names.new m member.now) }

@@ -89,7 +89,7 @@ fn pop<W: World>(world: &mut W, names: &Names, a: Addr) -> Result<Value, ActionE
     Ok(last)
 }
 
-/// A new string of texts with a separator between each two; where one is an object, the TypeError of that.
+/// A new string of texts with a separator between each two; where one is an object, its TypeError.
 fn joined_or_fail<W: World>(
     alloc: Global,
     world: &mut W,

@@ -47,7 +47,7 @@ fn declarator_items<'a>(
     Ok(terms)
 }
 
-/// The term of a declarator, which gives its name to its value.
+/// The term of a declarator, by which its name gets its value.
 #[cycle(source)]
 #[tactic(auto, using(js_semantics::proofs::TreeLemmas::source_declarator, js_programs::proofs::SourceLemmas::initializer_named))]
 fn declarator<'a>(alloc: Global, d: &Declarator, place: Place<'a>) -> Result<Term, AllocError>

@@ -37,7 +37,7 @@ pub record IsCutFrom (m : Machine) (v : World) (before now : Option (List ℕ)) 
   pub prints : Prints m v texts
   pub part : GainsPrefix before now (printed_lines texts)
 
--- a first part of the lines that some steps print was written, and not all of it
+-- a first part of the lines that some steps print was written, and not all of them
 pub record IsLessFrom (m : Machine) (v : World) (before now : Option (List ℕ)) : Type 0 where
   pub texts : List (List ℕ)
   pub prints : Prints m v texts
