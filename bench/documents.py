@@ -5,9 +5,9 @@
 
 Documents are README.md, CONTRIBUTING.md, bench/README.md and docs/*.md. Of what stands in backquotes it checks
 
-- paths: `command_line/src/run.rt`, `docs/GATE.md`. A path without a crate, as `specs/Alone.antt` or `run.rt`, is looked for in
+- paths: `debug_host_commands/src/run.rt`, `docs/GATE.md`. A path without a crate, as `specs/Alone.antt` or `run.rt`, is looked for in
   the crates that its line or the heading above it names, and in documents for users also in those of the page;
-- functions: `command_line::run::run`, `Type::method` where the repository has that type, and `name` before "in `path`";
+- functions: `debug_host_commands::run::run`, `Type::method` where the repository has that type, and `name` before "in `path`";
 - clauses: `function`.`clause`, and `.clause` of any function of the same crates;
 - commands: the words after `rt`, `debug_host`, `python3` and `./`, here and in examples, but for those of docs/GUIDE.md, which
   bench/guide.py runs;
@@ -143,7 +143,7 @@ def types():
 @cache
 def program_words():
     """The names of the program's commands and options, as its definitions have them."""
-    text = code()["command_words/specs/Commands.antt"]
+    text = code()["debug_host_options/specs/Commands.antt"]
     return set(re.findall(r'word \(codes "(\w+)"\)', text)), set(re.findall(r'name \(codes "(\w+)"\)', text))
 
 

@@ -401,9 +401,9 @@ PROGRAM = r"""// Runs programs by the machine.
 use cdp_text::units::{Units, units_of};
 use js_machine::end::End;
 use js_machine::plain::{Outcome, run_scripts};
-use js_operations::shown::shown;
+use js_machine_actions::shown::shown;
 use js_parser::parse::parse_script;
-use js_steps::stepped::Finish;
+use js_machine_engine::stepped::Finish;
 use std::alloc::{AllocError, Global};
 use std::collections::VecDeque;
 
@@ -474,7 +474,7 @@ fn push_escaped(alloc: Global, line: &mut String, units: &[u16]) -> Result<(), A
 }
 """
 
-USES = ["cdp_text", "js_machine", "js_operations", "js_parser", "js_steps", "js_world", "anyhow"]
+USES = ["cdp_text", "js_machine", "js_machine_actions", "js_parser", "js_machine_engine", "js_heap_memory", "anyhow"]
 
 
 def counted(sources):

@@ -3,7 +3,7 @@
 
     python3 bench/served_journals.py [--bin PROGRAM]
 
-The journals are those of `crates/cases/data` over programs that wait for a client, as far as a server can play them: whenever
+The journals are those of `crates/debug_host_cases/data` over programs that wait for a client, as far as a server can play them: whenever
 the program may go on, the next line runs it to where it pauses or ends. Each line is played once all sessions were sent what
 the lines before hand out. Moments are left out of the comparison. Prints the journals that differ, and how many were played
 and left out; the status is 1 where one differs. It takes some seconds, and is no part of the gate.
@@ -22,7 +22,7 @@ from clients import TEXT, Client
 from debugging import PROGRAM
 from hosts import Host
 
-DATA = os.path.join(os.path.dirname(os.path.dirname(os.path.abspath(__file__))), "crates", "cases", "data")
+DATA = os.path.join(os.path.dirname(os.path.dirname(os.path.abspath(__file__))), "crates", "debug_host_cases", "data")
 MOMENT = re.compile(rb'"timestamp":[0-9]+')
 
 

@@ -11,7 +11,7 @@ the cycle ends.
 
 The first form checks the functions, written `module::function`; with none it checks the whole crate, so all of them.
 It prints what isn't proved, and the status is then 1. The second form tries each `*.edit` of a folder (the form of
-crates/NAME/must-fail, e.g. `bench/stand_ins` for `js_descent`): first the functions that the edits change must be
+crates/NAME/must-fail, e.g. `bench/stand_ins` for `js_parser_descent`): first the functions that the edits change must be
 proved without them, and then each edit must be refused by an open goal. A bad edit doesn't apply, changes no function
 of a cycle, or makes no program; it refuses nothing.
 
@@ -32,7 +32,7 @@ import tempfile
 
 from programs import TOP, below, dependencies
 
-STAND_IN = "Err(js_syntax::fault::ParseError::Memory)"
+STAND_IN = "Err(js_parser_readers::fault::ParseError::Memory)"
 
 FUNCTION = re.compile(r"((?:^(?://|#\[)[^\n]*\n)*)^((?:pub )?fn (\w+).*?)[ \n]\{\n(.*?)^\}\n", re.M | re.S)
 CYCLE = re.compile(r"^#\[cycle\((\w+)\)\]\n", re.M)

@@ -3,7 +3,7 @@
 
     python3 bench/turns.py [TURNS]        (default 400000)
 
-1, 2, 4 and 16 threads take so many turns in all, each of which puts a row into a log: by the program `crates/turns`, which
+1, 2, 4 and 16 threads take so many turns in all, each of which puts a row into a log: by the program `crates/history_lock_trial`, which
 `rt run` proves and builds first, and by the same with `std::sync::Mutex`, which rustc builds. Either then looks at all rows.
 Prints for each how many turns a second it made, the ratio, and the processor seconds of a million turns; and at last what
 waiting costs: four and sixteen threads hold each of 160 turns for 20 milliseconds, while all others wait. It is no part of
@@ -58,9 +58,9 @@ def mutex_program(folder):
 
 def lock_program():
     """Proves and builds the program over the lock; gives its path."""
-    crate = os.path.join(TOP, "crates", "turns")
+    crate = os.path.join(TOP, "crates", "history_lock_trial")
     subprocess.run(["rt", "run"], cwd=crate, check=True, stdout=subprocess.DEVNULL)
-    return os.path.join(crate, "out", "turns")
+    return os.path.join(crate, "out", "history_lock_trial")
 
 
 def least(path, folder, threads, turns):

@@ -3,10 +3,10 @@ use Rattle.std.proofs.Common.{◌≡◌, inl, inr, true, false, ℕ, List, [], �
 use Rattle.cdp_edge.specs.Outside.{GainsPrefix, gains}
 use Rattle.cdp_edge.proofs.Gains.{GainsLess-behind, GainsPrefix-behind}
 use Rattle.cdp_text.specs.Lines.{ended}
-use Rattle.server_edge.specs.Contents.{adds}
-use Rattle.server_edge.specs.Heard as heard
-use Rattle.server_edge.specs.Heard.{Heard}
-use Rattle.server_edge.proofs.ToldLemmas.{adds-append}
+use Rattle.cdp_edge_server.specs.Contents.{adds}
+use Rattle.cdp_edge_server.specs.Heard as heard
+use Rattle.cdp_edge_server.specs.Heard.{Heard}
+use Rattle.cdp_edge_server.proofs.ToldLemmas.{adds-append}
 use Rattle.cdp_client.specs.Lines.{Command, Line, file_read}
 use Rattle.cdp_client.specs.Talks.{Course, Talk, goes_on, hears, is_over, lines_heard, next_command, silent, start, talk_from}
 use Rattle.cdp_client.specs.Conversations.{Begins, Closes, Converses, CountsLink, CountsSink, EndsTalk, GoesOn, Hears, IsClosedBy, IsCut, IsCutOff, IsUnread, Traffic, Turns, TurnsBy, passes}

@@ -2,8 +2,8 @@
 use Rattle.std.proofs.Common.{◌≡◌, ℕ, ◌+◌, ◌-◌, List, [], ◌∷◌, drop, Bool, true, false, Option, Some, None, bytes_eq, refl, ap, ◌∙◌, arith}
 use Rattle.std.specs.Prelude.{fold}
 use Rattle.std.proofs.lemmas.Slice.Eq.{bytes_eq-Decides}
-use Rattle.server_edge.specs.Heard as heard
-use Rattle.server_edge.specs.Heard.{Heard}
+use Rattle.cdp_edge_server.specs.Heard as heard
+use Rattle.cdp_edge_server.specs.Heard.{Heard}
 use Rattle.cdp_client.specs.Lines.{Command, Line, Send, Wait}
 use Rattle.cdp_client.specs.Arrivals.{Arrival, Reply, Event, Other, arrival_of}
 use Rattle.cdp_client.specs.Talks.{Course, Talk, after, command_first, course_heard, goes_on, hears, is_wait_for, next_command, sends, silent, talk_from, turns, without_wait}

@@ -5,8 +5,8 @@ use Rattle.std.specs.Str.{is_utf8}
 use Rattle.serde_json.specs.Data.{Data}
 use Rattle.serde_json.specs.Find.{get}
 use Rattle.serde_json.specs.Read.{read}
-use Rattle.server_edge.specs.Heard as heard
-use Rattle.server_edge.specs.Heard.{Heard}
+use Rattle.cdp_edge_server.specs.Heard as heard
+use Rattle.cdp_edge_server.specs.Heard.{Heard}
 use Rattle.cdp_text.specs.Parts.{Halves, behind, halves}
 use Rattle.cdp_client.specs.Lines.{Command, Line, Send, Wait, command_from, is_method, is_object, led_by, line_from, line_of, line_of_text, next_id, read_from}
 use Rattle.cdp_client.specs.Arrivals.{Arrival, Reply, Event, Other, arrival_of, event_of, has_id, read_arrival, unasked, value_arrival}

@@ -2,7 +2,7 @@
 use Rattle.std.proofs.Common.{◌≡◌, List, [], ◌∷◌, ◌++◌, false, Option, Some, None, refl, ap, sym, ◌∙◌, append-nil}
 use Rattle.std.specs.Prelude.{fold}
 use Rattle.std.proofs.lemmas.List.Sums.{fold-append}
-use Rattle.server_edge.specs.Heard.{Heard}
+use Rattle.cdp_edge_server.specs.Heard.{Heard}
 use Rattle.cdp_client.specs.Lines.{Command}
 use Rattle.cdp_client.specs.Talks.{Course, Talk, command_text, course_heard, goes_on, hears, is_over, lines_heard, next_command, sends, silent, taken, talk_from, turns}
 use Rattle.cdp_client.specs.Conversations.{AreHeard, Begins, GoesOn, HasHeard, Traffic, passes}

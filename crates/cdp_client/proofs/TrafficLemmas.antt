@@ -3,8 +3,8 @@ use Rattle.std.proofs.Common.{◌≡◌, ℕ, List, [], ◌∷◌, ◌++◌, Opt
 use Rattle.cdp_edge.specs.Outside.{gains}
 use Rattle.cdp_edge.proofs.Gains.{gains-append, gains-nil}
 use Rattle.cdp_text.specs.Lines.{ended}
-use Rattle.server_edge.specs.Heard.{Heard}
-use Rattle.server_edge.proofs.ToldLemmas.{adds-append, adds-nil}
+use Rattle.cdp_edge_server.specs.Heard.{Heard}
+use Rattle.cdp_edge_server.proofs.ToldLemmas.{adds-append, adds-nil}
 use Rattle.cdp_client.specs.Conversations.{Traffic, passes}
 
 -- lines one after another

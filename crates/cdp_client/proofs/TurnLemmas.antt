@@ -1,10 +1,10 @@
 -- One turn of a conversation.
 use Rattle.std.proofs.Common.{◌≡◌, inl, inr, ℕ, List, [], ◌∷◌, Option, Some, None, true, false, refl, ap, sym, subst, ◌∙◌}
 use Rattle.cdp_edge.proofs.Gains.{gains-nil}
-use Rattle.server_edge.specs.Contents.{adds}
-use Rattle.server_edge.specs.Heard as heard
-use Rattle.server_edge.specs.Heard.{Heard}
-use Rattle.server_edge.proofs.ToldLemmas.{adds-nil}
+use Rattle.cdp_edge_server.specs.Contents.{adds}
+use Rattle.cdp_edge_server.specs.Heard as heard
+use Rattle.cdp_edge_server.specs.Heard.{Heard}
+use Rattle.cdp_edge_server.proofs.ToldLemmas.{adds-nil}
 use Rattle.cdp_client.specs.Lines.{Command}
 use Rattle.cdp_client.specs.Talks.{Course, is_over, next_command, taken}
 use Rattle.cdp_client.specs.Conversations.{Closes, CountsLink, CountsSink, Hears, IsClosedBy, Sends, Traffic, Turns, TurnsBy, Writes, passes}

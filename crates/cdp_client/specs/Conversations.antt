@@ -3,9 +3,9 @@
 use Rattle.std.specs.Prelude.{◌≡◌, ◌⊎◌, ℕ, List, [], ◌∷◌, ◌++◌, true, false, Option, Some, None, Ok, Err}
 use Rattle.cdp_edge.specs.Outside.{Rose, gains, GainsLess, GainsPrefix}
 use Rattle.cdp_text.specs.Lines.{ended}
-use Rattle.server_edge.specs.Contents.{adds, becomes}
-use Rattle.server_edge.specs.Heard as heard
-use Rattle.server_edge.specs.Heard.{Heard}
+use Rattle.cdp_edge_server.specs.Contents.{adds, becomes}
+use Rattle.cdp_edge_server.specs.Heard as heard
+use Rattle.cdp_edge_server.specs.Heard.{Heard}
 use Rattle.cdp_client.specs.Lines.{Command, Line, file_read}
 use Rattle.cdp_client.specs.Talks.{Course, Talk, command_text, course_heard, goes_on, is_over, lines_heard, next_command, silent, start, taken, talk_from, turns}
 use Rattle.cdp_client.specs.declared.conversed.Conversed.{Conversed}

@@ -1,7 +1,7 @@
 -- Commands are numbered and sent in order, and replies counted.
 use Rattle.std.specs.Prelude.{◌≡◌, ℕ, ◌+◌, List, [], ◌∷◌, Bool, true, false}
-use Rattle.server_edge.specs.Heard as heard
-use Rattle.server_edge.specs.Heard.{Heard}
+use Rattle.cdp_edge_server.specs.Heard as heard
+use Rattle.cdp_edge_server.specs.Heard.{Heard}
 use Rattle.cdp_client.specs.Lines.{Line, Send, Wait}
 use Rattle.cdp_client.specs.Arrivals.{Arrival, Reply, Event, Other, arrival_of}
 use Rattle.cdp_client.specs.Talks.{Course, Talk, command_text, turns}

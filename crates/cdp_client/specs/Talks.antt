@@ -1,8 +1,8 @@
 -- Conversations: which texts are sent and which lines are written, as a fold over the answers of a link.
 use Rattle.std.specs.Prelude.{ℕ, List, [], ◌∷◌, ◌++◌, drop, fold, Bool, true, false, if◌then◌else◌, codes, decimal, bytes_eq, Option, Some, None}
 use Rattle.json.specs.Print.{quoted}
-use Rattle.server_edge.specs.Heard as heard
-use Rattle.server_edge.specs.Heard.{Heard}
+use Rattle.cdp_edge_server.specs.Heard as heard
+use Rattle.cdp_edge_server.specs.Heard.{Heard}
 use Rattle.cdp_client.specs.Lines.{Command, Line, Send, Wait}
 use Rattle.cdp_client.specs.Arrivals.{Arrival, Reply, Event, Other, arrival_of, line_written}
 

@@ -1,7 +1,7 @@
 -- How many waits events meet.
 use Rattle.std.specs.Prelude.{ℕ, ◌+◌, List, [], ◌∷◌, Bool, true, false, bytes_eq, Some, None}
-use Rattle.server_edge.specs.Heard as heard
-use Rattle.server_edge.specs.Heard.{Heard}
+use Rattle.cdp_edge_server.specs.Heard as heard
+use Rattle.cdp_edge_server.specs.Heard.{Heard}
 use Rattle.cdp_client.specs.Lines.{Line}
 use Rattle.cdp_client.specs.Arrivals.{Arrival, Reply, Event, Other, arrival_of}
 use Rattle.cdp_client.specs.Talks.{Course, Talk, is_wait_for, turns}

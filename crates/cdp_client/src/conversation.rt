@@ -3,8 +3,8 @@
 ghost use Rattle.std.specs.Prelude.{◌≡◌, ◌∷◌, [], OnOk, OnErr, IsErrOf, Some};
 ghost use Rattle.cdp_edge.specs.Outside.{Rose, gains, GainsLess};
 ghost use Rattle.cdp_text.specs.Lines.{ended};
-ghost use Rattle.server_edge.specs.Contents.{adds};
-ghost use Rattle.server_edge.specs.Heard.{Text};
+ghost use Rattle.cdp_edge_server.specs.Contents.{adds};
+ghost use Rattle.cdp_edge_server.specs.Heard.{Text};
 ghost use Rattle.cdp_client.specs.Conversations.{Closes, Converses, CountsLink, CountsSink, EndsTalk, Hears, IsClosedBy, Sends, Turns, Writes};
 ghost use Rattle.cdp_client.specs.LineRead.{command_held};
 ghost use Rattle.cdp_client.specs.Talks.{course_heard, lines_heard, command_text};
@@ -15,7 +15,7 @@ use crate::file::read_file;
 use crate::line::Command;
 use crate::texts::command_text;
 use cdp_edge::{Sink, SinkFault, put};
-use server_edge::{Link, LinkFault, Recv};
+use cdp_edge_server::{Link, LinkFault, Recv};
 use std::alloc::{AllocError, Global};
 use std::sync::Wait;
 

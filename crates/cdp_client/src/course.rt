@@ -3,7 +3,7 @@
 ghost use Rattle.std.specs.Prelude.{◌≡◌, ◌∷◌, [], Some, None, map, IfOk, OnOk, string_bytes};
 ghost use Rattle.std.specs.Option.{option_map};
 ghost use Rattle.serde_json.specs.View.{view};
-ghost use Rattle.server_edge.specs.Heard.{Text};
+ghost use Rattle.cdp_edge_server.specs.Heard.{Text};
 ghost use Rattle.cdp_text.specs.Lines.{ended};
 ghost use Rattle.cdp_client.specs.ArrivalRead.{arrival_held};
 ghost use Rattle.cdp_client.specs.Arrivals.{line_written, value_arrival};

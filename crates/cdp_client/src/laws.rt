@@ -1,7 +1,7 @@
 //! The laws of conversations. Each function does nothing: its contract is the law.
 
 ghost use Rattle.std.specs.Prelude.{◌≡◌, ◌+◌, ◌-◌, ◌++◌, ℕ, List, Ok, is_some, length};
-ghost use Rattle.server_edge.specs.Heard.{Heard};
+ghost use Rattle.cdp_edge_server.specs.Heard.{Heard};
 ghost use Rattle.cdp_client.specs.Lines.{Line, file_read};
 ghost use Rattle.cdp_client.specs.Numbers.{AreNumbered, replies_in, texts_of};
 ghost use Rattle.cdp_client.specs.Talks.{Course, goes_on, silent, start, talk_from};

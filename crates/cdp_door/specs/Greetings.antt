@@ -2,7 +2,7 @@
 use Rattle.std.specs.Prelude.{◌≡◌, ◌≢◌, ◌<◌, ◌≤◌, ◌⊎◌, ◌==◌, if◌then◌else◌, ℕ, List, [], ◌∷◌, ◌++◌, length, All, Option, Some, None}
 use Rattle.httparse.specs.Grammar.{RequestHead, ReadsRequest, HasNoRequest, NeverHasRequest, MayBecomeRequest}
 use Rattle.cdp_edge.specs.Outside.{gains, GainsLess}
-use Rattle.wire_edge.specs.Arrived.{Arrived, Byte, Quiet, End, adds}
+use Rattle.cdp_edge_wire.specs.Arrived.{Arrived, Byte, Quiet, End, adds}
 use Rattle.cdp_door.specs.declared.answer.Answer.{Answer}
 use Rattle.cdp_door.specs.declared.answer.Answer.TheVariants.{Refusal}
 use Rattle.cdp_door.specs.declared.answer.Refusal.TheVariants.{HeadTooLarge, BadRequest}

@@ -10,9 +10,9 @@ use crate::hear::{Heard, hear};
 use crate::reader::Reader;
 use crate::text::{status_of, text_of};
 use cdp_edge::SinkFault;
+use cdp_edge_wire::{Wire, put_all};
 use std::alloc::Global;
 use std::sync::Wait;
-use wire_edge::{Wire, put_all};
 
 /// How a greeting ended.
 #[derive(Clone, Copy)]

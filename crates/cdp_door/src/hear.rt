@@ -6,9 +6,9 @@ ghost use Rattle.cdp_door.specs.Greetings.{Hears, Looks};
 
 use crate::answer::Answer;
 use crate::reader::Reader;
+use cdp_edge_wire::{Taken, Wire};
 use std::alloc::Global;
 use std::sync::Wait;
-use wire_edge::{Taken, Wire};
 
 /// How the reading of a head ended.
 #[derive(Clone, Copy)]

@@ -2,22 +2,22 @@
 use Rattle.std.proofs.Common.{◌≡◌, ℕ, zero, suc, ◌-◌, ◌<◌, List, [], ◌∷◌, Bool, true, false, ◌||◌, ◌&&◌, not, is_some, IfSome, refl, ap, sym, subst, ◌∙◌, arith, if◌then◌else◌, Option, Some, None}
 use Rattle.std.specs.Option.{option_map}
 use Rattle.std.proofs.lemmas.Bool.{and_parts, not-true}
-use Rattle.isolation.specs.Meanings.{behind, is_first, is_held, is_ready, next_number, seat_behind, stops_for, waits}
-use Rattle.isolation.specs.Passes.{Behind, Over, any_set}
-use Rattle.isolation.specs.Runs.{AllFit, HasMade, IsQuiet, names_seat}
-use Rattle.isolation.specs.Seats.{each, some, waits_for_report}
-use Rattle.isolation.specs.Standing.{fallen_in}
-use Rattle.isolation.specs.Stops as stops_
-use Rattle.isolation.specs.declared.phase.Phase.{Phase}
-use Rattle.isolation.specs.declared.phase.Phase.TheVariants.{Waiting, Woken, Running}
-use Rattle.isolation.specs.declared.seat.Seat.{Seat}
-use Rattle.isolation.specs.declared.seat.Seat.TheVariants.{Attached, Lost, Left}
-use Rattle.isolation.proofs.MadeLemmas.{stretch-made}
-use Rattle.isolation.proofs.PassLemmas.{behind-each, over-mids}
+use Rattle.cdp_host_isolation.specs.Meanings.{behind, is_first, is_held, is_ready, next_number, seat_behind, stops_for, waits}
+use Rattle.cdp_host_isolation.specs.Passes.{Behind, Over, any_set}
+use Rattle.cdp_host_isolation.specs.Runs.{AllFit, HasMade, IsQuiet, names_seat}
+use Rattle.cdp_host_isolation.specs.Seats.{each, some, waits_for_report}
+use Rattle.cdp_host_isolation.specs.Standing.{fallen_in}
+use Rattle.cdp_host_isolation.specs.Stops as stops_
+use Rattle.cdp_host_isolation.specs.declared.phase.Phase.{Phase}
+use Rattle.cdp_host_isolation.specs.declared.phase.Phase.TheVariants.{Waiting, Woken, Running}
+use Rattle.cdp_host_isolation.specs.declared.seat.Seat.{Seat}
+use Rattle.cdp_host_isolation.specs.declared.seat.Seat.TheVariants.{Attached, Lost, Left}
+use Rattle.cdp_host_isolation.proofs.MadeLemmas.{stretch-made}
+use Rattle.cdp_host_isolation.proofs.PassLemmas.{behind-each, over-mids}
 use Rattle.js_tree.specs.declared.script.Script.{Script}
 use Rattle.js_heap.specs.declared.value.Value.{Value}
 use Rattle.js_semantics.specs.Run.{Run}
-use Rattle.js_world.specs.Heaps.{Heap}
+use Rattle.js_heap_memory.specs.Heaps.{Heap}
 use Rattle.js_machine.specs.Machines.{Machine, IsKept}
 use Rattle.stepping.specs.declared.arrival.Arrival.{Arrival}
 use Rattle.cdp_session.specs.declared.ending.Ending.{Ending}

@@ -1,25 +1,25 @@
 -- Calls that change one seat, or add one.
 use Rattle.std.proofs.Common.{◌≡◌, ℕ, ◌+◌, List, [], ◌∷◌, ◌++◌, length, take as first, Bool, true, false, refl, ap, sym, subst, ◌∙◌}
-use Rattle.isolation.specs.Histories.{Attach, Entry, Take, apply, take}
-use Rattle.isolation.specs.Meanings.{with_seats}
-use Rattle.isolation.specs.Runs.{AllFit}
-use Rattle.isolation.specs.Seats.{is_attached, put, seat_of, some}
-use Rattle.isolation.specs.Standing.{fell, less}
-use Rattle.isolation.specs.declared.seat.Seat.{Seat}
-use Rattle.isolation.specs.declared.seat.Seat.TheVariants.{Attached, Lost, Left}
-use Rattle.isolation.proofs.BrokenLemmas.{none-at}
-use Rattle.isolation.proofs.FallenLemmas.{fallen-none, fell-put, less-self, none-fallen}
+use Rattle.cdp_host_isolation.specs.Histories.{Attach, Entry, Take, apply, take}
+use Rattle.cdp_host_isolation.specs.Meanings.{with_seats}
+use Rattle.cdp_host_isolation.specs.Runs.{AllFit}
+use Rattle.cdp_host_isolation.specs.Seats.{is_attached, put, seat_of, some}
+use Rattle.cdp_host_isolation.specs.Standing.{fell, less}
+use Rattle.cdp_host_isolation.specs.declared.seat.Seat.{Seat}
+use Rattle.cdp_host_isolation.specs.declared.seat.Seat.TheVariants.{Attached, Lost, Left}
+use Rattle.cdp_host_isolation.proofs.BrokenLemmas.{none-at}
+use Rattle.cdp_host_isolation.proofs.FallenLemmas.{fallen-none, fell-put, less-self, none-fallen}
 use Rattle.js_tree.specs.declared.script.Script.{Script}
 use Rattle.js_machine.specs.Machines.{Machine}
 use Rattle.locations.specs.declared.spot.Spot.{Spot}
 use Rattle.pure_eval.specs.Workspaces.{Workspace, begun}
-use Rattle.session_messages.specs.Outboxes.{fits}
+use Rattle.cdp_session_messages.specs.Outboxes.{fits}
 use Rattle.cdp_session.specs.Replies.{Answer}
 use Rattle.cdp_session.specs.Sessions.{Session, emptied, fresh}
-use Rattle.host_seats.specs.Fallbacks.{HasRoom, fallback_held}
-use Rattle.host_seats.specs.declared.fallback.Fallback.{Fallback}
-use Rattle.host_seats.specs.declared.losses.SessionLost.{SessionLost}
-use Rattle.host_seats.proofs.PlacedLemmas.{put-back}
+use Rattle.cdp_host_seats.specs.Fallbacks.{HasRoom, fallback_held}
+use Rattle.cdp_host_seats.specs.declared.fallback.Fallback.{Fallback}
+use Rattle.cdp_host_seats.specs.declared.losses.SessionLost.{SessionLost}
+use Rattle.cdp_host_seats.proofs.PlacedLemmas.{put-back}
 use Rattle.cdp_host.specs.Hosts.{CarriesOn, HostState, IsSound, Leaves, NoneAttached, meaning_with}
 use Rattle.cdp_host.specs.Programs.{code_of}
 use Rattle.cdp_host.specs.Protocols.{protocol}
@@ -27,8 +27,8 @@ use Rattle.cdp_host.specs.Watching.{AnswersIn}
 use Rattle.cdp_host.specs.declared.telling.Answered.{Answered}
 use Rattle.cdp_host.specs.declared.telling.Answered.TheVariants.{Kept, Overran, Failed}
 use Rattle.cdp_host.proofs.HistoryLemmas.{stands-call}
-use Rattle.isolation.proofs.RoomLemmas.{put-fits, append-fits}
-use Rattle.isolation.proofs.StandingLemmas.{none-append}
+use Rattle.cdp_host_isolation.proofs.RoomLemmas.{put-fits, append-fits}
+use Rattle.cdp_host_isolation.proofs.StandingLemmas.{none-append}
 
 -- ---- who is attached
 

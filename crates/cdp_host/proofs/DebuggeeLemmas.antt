@@ -10,14 +10,14 @@ use Rattle.js_semantics.specs.Frames.{thrown}
 use Rattle.js_semantics.specs.Run as runs
 use Rattle.js_semantics.specs.Run.{Run, over, run_of}
 use Rattle.js_semantics.proofs.FollowLemmas.{run_of-state}
-use Rattle.js_world.specs.Heaps.{Heap, heap_world}
-use Rattle.js_operations.specs.Contexts as contexts
-use Rattle.js_operations.specs.Contexts.{Context}
-use Rattle.js_code.specs.declared.table.NodeTable.{NodeTable}
-use Rattle.js_steps.specs.declared.task.Point.{Point}
-use Rattle.js_steps.specs.Tasks.{Wide}
-use Rattle.js_steps.specs.Points.{term_at}
-use Rattle.js_steps.specs.Running.{IsRunning}
+use Rattle.js_heap_memory.specs.Heaps.{Heap, heap_world}
+use Rattle.js_machine_actions.specs.Contexts as contexts
+use Rattle.js_machine_actions.specs.Contexts.{Context}
+use Rattle.js_machine_nodes.specs.declared.table.NodeTable.{NodeTable}
+use Rattle.js_machine_engine.specs.declared.task.Point.{Point}
+use Rattle.js_machine_engine.specs.Tasks.{Wide}
+use Rattle.js_machine_engine.specs.Points.{term_at}
+use Rattle.js_machine_engine.specs.Running.{IsRunning}
 use Rattle.js_machine.specs.declared.end.End.{End}
 use Rattle.js_machine.specs.declared.end.End.TheVariants as ends
 use Rattle.js_machine.specs.Machines.{Machine, term_of, state_of, run_by, IsKept}

@@ -5,10 +5,10 @@ use Rattle.js_semantics.specs.Run as runs
 use Rattle.js_semantics.specs.Run.{Run, running, over}
 use Rattle.js_semantics.specs.Terms.{Term, done, standing, part}
 use Rattle.js_semantics.specs.State.{State}
-use Rattle.js_world.specs.Heaps.{Heap, heap_world}
-use Rattle.js_steps.specs.Running.{IsRunning}
-use Rattle.js_steps.specs.Stepping.{finish_of}
-use Rattle.js_steps.specs.declared.stepped.Finish.{Finish}
+use Rattle.js_heap_memory.specs.Heaps.{Heap, heap_world}
+use Rattle.js_machine_engine.specs.Running.{IsRunning}
+use Rattle.js_machine_engine.specs.Stepping.{finish_of}
+use Rattle.js_machine_engine.specs.declared.stepped.Finish.{Finish}
 use Rattle.js_machine.specs.declared.end.End.{End}
 use Rattle.js_machine.specs.declared.end.End.TheVariants as ends
 use Rattle.js_machine.specs.Machines.{Machine, finish_at, run_by, state_of, term_of, IsKept}

@@ -13,7 +13,7 @@ use Rattle.cdp_json.specs.declared.params.FunctionCall.{FunctionCall}
 use Rattle.cdp_json.specs.declared.params.Params.TheVariants as params
 use Rattle.cdp_json.specs.declared.refusal.Refusal.{Refusal}
 use Rattle.cdp_json.specs.declared.refusal.Refusal.TheVariants as refusals
-use Rattle.call_frames.specs.Frames.{ShownFrame}
+use Rattle.frames_scopes_types.specs.Frames.{ShownFrame}
 use Rattle.js_heap.specs.declared.value.Value.{Value}
 use Rattle.js_semantics.specs.Evaluation.{given}
 use Rattle.remote_objects.specs.Ids.{point, object_id, frame_id, number_behind, number_in_id}

@@ -1,11 +1,11 @@
 -- Whom a host holds as attached, and whom the history has for which it stands.
 use Rattle.std.proofs.Common.{◌≡◌, ℕ, Bool, true, false, if◌then◌else◌, refl, ap, sym, ◌∙◌}
-use Rattle.isolation.specs.Meanings.{Meaning}
-use Rattle.isolation.specs.Seats.{fallen, is_attached, is_listed, seat_of}
-use Rattle.isolation.specs.Standing.{StandsAs, fallen_in, fell}
-use Rattle.isolation.specs.declared.seat.Seat.{Seat}
-use Rattle.isolation.specs.declared.seat.Seat.TheVariants.{Attached, Lost, Left}
-use Rattle.isolation.proofs.SeatLemmas.{without-at}
+use Rattle.cdp_host_isolation.specs.Meanings.{Meaning}
+use Rattle.cdp_host_isolation.specs.Seats.{fallen, is_attached, is_listed, seat_of}
+use Rattle.cdp_host_isolation.specs.Standing.{StandsAs, fallen_in, fell}
+use Rattle.cdp_host_isolation.specs.declared.seat.Seat.{Seat}
+use Rattle.cdp_host_isolation.specs.declared.seat.Seat.TheVariants.{Attached, Lost, Left}
+use Rattle.cdp_host_isolation.proofs.SeatLemmas.{without-at}
 
 -- ---- one seat
 

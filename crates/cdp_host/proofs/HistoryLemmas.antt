@@ -1,12 +1,12 @@
 -- Hosts and histories: one entry behind others.
 use Rattle.std.proofs.Common.{◌≡◌, ℕ, zero, List, [], ◌∷◌, ◌++◌, Bool, true, false, refl, ap, sym, subst, ◌∙◌}
-use Rattle.isolation.specs.Histories.{Entry, FitsEntry, steps_of}
-use Rattle.isolation.specs.Standing.{BrokenAs, IsHeld, LeavesAs, StandsAs}
-use Rattle.isolation.proofs.LongerLemmas.{call-program, fits-more, whole-more}
-use Rattle.isolation.proofs.StandingLemmas.{stands-more}
+use Rattle.cdp_host_isolation.specs.Histories.{Entry, FitsEntry, steps_of}
+use Rattle.cdp_host_isolation.specs.Standing.{BrokenAs, IsHeld, LeavesAs, StandsAs}
+use Rattle.cdp_host_isolation.proofs.LongerLemmas.{call-program, fits-more, whole-more}
+use Rattle.cdp_host_isolation.proofs.StandingLemmas.{stands-more}
 use Rattle.js_tree.specs.declared.script.Script.{Script}
 use Rattle.js_semantics.specs.Run.{Run}
-use Rattle.host_seats.specs.declared.losses.SessionLost.{SessionLost}
+use Rattle.cdp_host_seats.specs.declared.losses.SessionLost.{SessionLost}
 use Rattle.cdp_host.specs.Histories.{Meaning, apply, begin, whole}
 use Rattle.cdp_host.specs.Hosts.{HostState, Leaves, Stands, meaning_with}
 use Rattle.cdp_host.specs.Programs.{printed_of, start}

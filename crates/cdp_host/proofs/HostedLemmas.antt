@@ -2,36 +2,36 @@
 use Rattle.std.specs.declared.alloc.AllocError.{AllocError}
 use Rattle.std.proofs.Common.{Result, Ok, Err, IfOk, IsErr, OnOk, ◌≡◌, ◌≢◌, ◌⊎◌, inl, inr, ℕ, zero, suc, ◌+◌, List, [], ◌∷◌, ◌++◌, length, Bool, true, false, ◌||◌, if◌then◌else◌, refl, ap, sym, subst, ◌∙◌, arith}
 use Rattle.std.proofs.lemmas.List.{map-append}
-use Rattle.isolation.specs.Histories.{Entry, Tell, Take, Detach, Ran, apply as apply_any, steps_made, waiting}
-use Rattle.isolation.specs.Makers.{IsOwned, Owns, entries_of, entry_of, owners_from}
-use Rattle.isolation.specs.Meanings.{is_paused, is_ready, settle, waits, with_seats}
-use Rattle.isolation.specs.Runs.{IsLongest, mid, mids}
-use Rattle.isolation.specs.Seats.{each, fallen, is_attached, is_listed, numbers_from, reported, seat_of, some, without, without_from}
-use Rattle.isolation.specs.Standing.{BrokenAs, StandsAs, broken_seat, fallen_in, fell}
-use Rattle.isolation.specs.Stops as stops
-use Rattle.isolation.specs.declared.seat.Loss.TheVariants.{Overrun, Memory}
-use Rattle.isolation.specs.declared.seat.Seat.{Seat}
-use Rattle.isolation.specs.declared.seat.Seat.TheVariants.{Attached, Lost, Left}
-use Rattle.isolation.proofs.BrokenLemmas.{broken-ran, none-at, stands-length}
-use Rattle.isolation.proofs.FallenLemmas.{itself, mids-less, without-below, without-none}
-use Rattle.isolation.proofs.LongerLemmas.{fits-more, whole-more}
-use Rattle.isolation.proofs.MakerLemmas.{owned-more, owner-may}
-use Rattle.isolation.proofs.StepLemmas.{ready-none}
-use Rattle.isolation.proofs.StopLemmas.{entry-program, plain-more, plain-way-from}
+use Rattle.cdp_host_isolation.specs.Histories.{Entry, Tell, Take, Detach, Ran, apply as apply_any, steps_made, waiting}
+use Rattle.cdp_host_isolation.specs.Makers.{IsOwned, Owns, entries_of, entry_of, owners_from}
+use Rattle.cdp_host_isolation.specs.Meanings.{is_paused, is_ready, settle, waits, with_seats}
+use Rattle.cdp_host_isolation.specs.Runs.{IsLongest, mid, mids}
+use Rattle.cdp_host_isolation.specs.Seats.{each, fallen, is_attached, is_listed, numbers_from, reported, seat_of, some, without, without_from}
+use Rattle.cdp_host_isolation.specs.Standing.{BrokenAs, StandsAs, broken_seat, fallen_in, fell}
+use Rattle.cdp_host_isolation.specs.Stops as stops
+use Rattle.cdp_host_isolation.specs.declared.seat.Loss.TheVariants.{Overrun, Memory}
+use Rattle.cdp_host_isolation.specs.declared.seat.Seat.{Seat}
+use Rattle.cdp_host_isolation.specs.declared.seat.Seat.TheVariants.{Attached, Lost, Left}
+use Rattle.cdp_host_isolation.proofs.BrokenLemmas.{broken-ran, none-at, stands-length}
+use Rattle.cdp_host_isolation.proofs.FallenLemmas.{itself, mids-less, without-below, without-none}
+use Rattle.cdp_host_isolation.proofs.LongerLemmas.{fits-more, whole-more}
+use Rattle.cdp_host_isolation.proofs.MakerLemmas.{owned-more, owner-may}
+use Rattle.cdp_host_isolation.proofs.StepLemmas.{ready-none}
+use Rattle.cdp_host_isolation.proofs.StopLemmas.{entry-program, plain-more, plain-way-from}
 use Rattle.js_tree.specs.declared.script.Script.{Script}
 use Rattle.js_semantics.specs.Run as runs
 use Rattle.js_semantics.specs.Run.{Run}
 use Rattle.cdp_session.specs.Sessions.{Session}
-use Rattle.host_seats.specs.Losses.{losses_from}
-use Rattle.host_seats.specs.declared.losses.SessionLost.{SessionLost}
-use Rattle.host_turns.specs.Debuggings as debuggings
-use Rattle.host_turns.specs.Debuggings.{Debugging, meaning}
-use Rattle.host_turns.specs.Entries.{lost_for_memory, told_entry}
-use Rattle.host_turns.specs.States.{HasState}
-use Rattle.host_turns.specs.declared.answers.Told.{Told}
-use Rattle.host_turns.specs.declared.answers.Told.TheVariants as told
-use Rattle.host_turns.specs.declared.state.State.{State}
-use Rattle.host_turns.specs.declared.state.State.TheVariants.{Broken, Shut, Threw, Ended, Paused, Waiting, Ready}
+use Rattle.cdp_host_seats.specs.Losses.{losses_from}
+use Rattle.cdp_host_seats.specs.declared.losses.SessionLost.{SessionLost}
+use Rattle.cdp_host_turns.specs.Debuggings as debuggings
+use Rattle.cdp_host_turns.specs.Debuggings.{Debugging, meaning}
+use Rattle.cdp_host_turns.specs.Entries.{lost_for_memory, told_entry}
+use Rattle.cdp_host_turns.specs.States.{HasState}
+use Rattle.cdp_host_turns.specs.declared.answers.Told.{Told}
+use Rattle.cdp_host_turns.specs.declared.answers.Told.TheVariants as told
+use Rattle.cdp_host_turns.specs.declared.state.State.{State}
+use Rattle.cdp_host_turns.specs.declared.state.State.TheVariants.{Broken, Shut, Threw, Ended, Paused, Waiting, Ready}
 use Rattle.cdp_host.specs.Debugged.{StandsOwned, debugging}
 use Rattle.cdp_host.specs.Histories.{Meaning, begin, whole}
 use Rattle.cdp_host.specs.Hosts.{CarriesOn, HostState, PrintsOn, RunsTo, Stands, meaning_with, state_at}

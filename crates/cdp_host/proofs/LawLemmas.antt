@@ -1,7 +1,7 @@
 -- The laws of histories of any protocol, said of a host's.
 use Rattle.std.proofs.Common.{◌≡◌, ℕ, List, Bool, ap, sym, subst, ◌∙◌}
-use Rattle.isolation.specs.Histories.{Entry, steps_made}
-use Rattle.isolation.proofs.StopLemmas.{paused-well, plain-way}
+use Rattle.cdp_host_isolation.specs.Histories.{Entry, steps_made}
+use Rattle.cdp_host_isolation.proofs.StopLemmas.{paused-well, plain-way}
 use Rattle.js_tree.specs.declared.script.Script.{Script}
 use Rattle.js_semantics.specs.Run.{Run}
 use Rattle.cdp_host.specs.Histories.{whole}

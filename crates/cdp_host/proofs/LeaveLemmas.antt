@@ -1,16 +1,16 @@
 -- Calls behind which a paused program may go on: texts, and sessions that leave.
 use Rattle.std.proofs.Common.{◌≡◌, ℕ, List, Bool, true, false, is_some, if◌then◌else◌, refl, ap, sym, ◌∙◌, None}
-use Rattle.isolation.specs.Histories.{Detach, Entry, Shut, Tell, apply, asked, detach, tell, with_seat}
-use Rattle.isolation.specs.Meanings as meanings
-use Rattle.isolation.specs.Meanings.{is_enabled_seat, is_paused, resume, resumed_seat, settle, with_seats}
-use Rattle.isolation.specs.Passes.{HearsOn, OverAll}
-use Rattle.isolation.specs.Protocols.{Protocol}
-use Rattle.isolation.specs.Seats.{each, put, seat_of, some, without}
-use Rattle.isolation.specs.Standing.{fallen_in, fell, less}
-use Rattle.isolation.specs.declared.seat.Seat.{Seat}
-use Rattle.isolation.specs.declared.seat.Seat.TheVariants.{Attached, Left}
-use Rattle.isolation.proofs.FallenLemmas.{fallen-none, fell-put, less-self, none-fallen}
-use Rattle.isolation.proofs.PassLemmas.{on-each}
+use Rattle.cdp_host_isolation.specs.Histories.{Detach, Entry, Shut, Tell, apply, asked, detach, tell, with_seat}
+use Rattle.cdp_host_isolation.specs.Meanings as meanings
+use Rattle.cdp_host_isolation.specs.Meanings.{is_enabled_seat, is_paused, resume, resumed_seat, settle, with_seats}
+use Rattle.cdp_host_isolation.specs.Passes.{HearsOn, OverAll}
+use Rattle.cdp_host_isolation.specs.Protocols.{Protocol}
+use Rattle.cdp_host_isolation.specs.Seats.{each, put, seat_of, some, without}
+use Rattle.cdp_host_isolation.specs.Standing.{fallen_in, fell, less}
+use Rattle.cdp_host_isolation.specs.declared.seat.Seat.{Seat}
+use Rattle.cdp_host_isolation.specs.declared.seat.Seat.TheVariants.{Attached, Left}
+use Rattle.cdp_host_isolation.proofs.FallenLemmas.{fallen-none, fell-put, less-self, none-fallen}
+use Rattle.cdp_host_isolation.proofs.PassLemmas.{on-each}
 use Rattle.cdp_session.specs.declared.asks.Asks.{Asks}
 use Rattle.cdp_session.specs.Replies.{Answer, answer_of}
 use Rattle.cdp_session.specs.Sessions.{Session}

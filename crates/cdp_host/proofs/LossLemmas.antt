@@ -1,21 +1,21 @@
 -- Owners who are told of a loss.
 use Rattle.std.proofs.Common.{◌≡◌, ℕ, zero, suc, List, [], ◌∷◌, Bool, true, false, refl, ap, sym, subst, ◌∙◌}
 use Rattle.std.proofs.lemmas.Bool.{or_parts, or_from}
-use Rattle.isolation.specs.Histories.{Detach, apply, detach, with_seat}
-use Rattle.isolation.specs.Seats.{is_attached, put, put_in, seat_of, some, waits_for_report}
-use Rattle.isolation.specs.Standing.{BrokenAs, StandsAs}
-use Rattle.isolation.specs.Texts.{Fits}
-use Rattle.isolation.specs.declared.seat.Loss.TheVariants.{Overrun, Memory}
-use Rattle.isolation.specs.declared.seat.Seat.{Seat}
-use Rattle.isolation.specs.declared.seat.Seat.TheVariants.{Attached, Lost, Left}
-use Rattle.isolation.proofs.LongerLemmas.{call-program}
-use Rattle.isolation.proofs.BrokenLemmas.{unset-at, unset-put}
-use Rattle.isolation.proofs.StandingLemmas.{fallen-attached, stands-detach-fallen, stands-detach-left, stands-detach-lost, whole-none}
+use Rattle.cdp_host_isolation.specs.Histories.{Detach, apply, detach, with_seat}
+use Rattle.cdp_host_isolation.specs.Seats.{is_attached, put, put_in, seat_of, some, waits_for_report}
+use Rattle.cdp_host_isolation.specs.Standing.{BrokenAs, StandsAs}
+use Rattle.cdp_host_isolation.specs.Texts.{Fits}
+use Rattle.cdp_host_isolation.specs.declared.seat.Loss.TheVariants.{Overrun, Memory}
+use Rattle.cdp_host_isolation.specs.declared.seat.Seat.{Seat}
+use Rattle.cdp_host_isolation.specs.declared.seat.Seat.TheVariants.{Attached, Lost, Left}
+use Rattle.cdp_host_isolation.proofs.LongerLemmas.{call-program}
+use Rattle.cdp_host_isolation.proofs.BrokenLemmas.{unset-at, unset-put}
+use Rattle.cdp_host_isolation.proofs.StandingLemmas.{fallen-attached, stands-detach-fallen, stands-detach-left, stands-detach-lost, whole-none}
 use Rattle.js_tree.specs.declared.script.Script.{Script}
 use Rattle.js_semantics.specs.Run.{Run}
 use Rattle.cdp_session.specs.Sessions.{Session}
-use Rattle.host_seats.specs.Losses.{owner_told}
-use Rattle.host_seats.proofs.PlacedLemmas.{put-same}
+use Rattle.cdp_host_seats.specs.Losses.{owner_told}
+use Rattle.cdp_host_seats.proofs.PlacedLemmas.{put-same}
 use Rattle.cdp_host.specs.Histories.{Meaning, apply as applied, whole}
 use Rattle.cdp_host.specs.Hosts.{CarriesOn, HostState, meaning_with}
 use Rattle.cdp_host.specs.Programs.{printed_of, start}

@@ -1,11 +1,11 @@
 -- Where no session may name a stop.
 use Rattle.std.proofs.Common.{◌≡◌, ℕ, ◌-◌, List, [], ◌∷◌, length, Bool, true, false, not, ◌||◌, is_some, Option, Some, None, refl, ap, sym, ◌∙◌}
 use Rattle.std.specs.Option.{option_map}
-use Rattle.isolation.specs.declared.seat.Seat.{Seat}
-use Rattle.isolation.specs.declared.seat.Seat.TheVariants.{Attached, Lost, Left}
-use Rattle.js_frames.specs.Catchers.{standing_throw}
-use Rattle.js_frames.specs.Sources.{spans_in}
-use Rattle.js_frames.specs.declared.standing.Thrown.{Thrown}
+use Rattle.cdp_host_isolation.specs.declared.seat.Seat.{Seat}
+use Rattle.cdp_host_isolation.specs.declared.seat.Seat.TheVariants.{Attached, Lost, Left}
+use Rattle.js_machine_inspection.specs.Catchers.{standing_throw}
+use Rattle.js_machine_inspection.specs.Sources.{spans_in}
+use Rattle.js_machine_inspection.specs.declared.standing.Thrown.{Thrown}
 use Rattle.js_semantics.specs.Frames.{active, at, is_debugger, thrown, StandingThrow}
 use Rattle.js_semantics.specs.State.{Frame, top_spot}
 use Rattle.js_semantics.specs.Terms.{Term}

@@ -3,8 +3,8 @@
 use Rattle.std.proofs.Common.{◌≡◌, ℕ, zero, suc, ◌-◌, ◌<◌, ◌≤◌, List, [], ◌∷◌, ◌++◌, length, Bool, true, false, not, ◌||◌, is_some, if◌then◌else◌, refl, ap, sym, subst, ◌∙◌, arith, append_assoc, append-nil, Option, Some, None}
 use Rattle.std.proofs.lemmas.Bool.{or_parts}
 use Rattle.std.specs.Option.{option_map}
-use Rattle.isolation.specs.declared.seat.Seat.{Seat}
-use Rattle.isolation.specs.declared.seat.Seat.TheVariants.{Attached, Lost, Left}
+use Rattle.cdp_host_isolation.specs.declared.seat.Seat.{Seat}
+use Rattle.cdp_host_isolation.specs.declared.seat.Seat.TheVariants.{Attached, Lost, Left}
 use Rattle.js_tree.specs.declared.script.Script.{Script}
 use Rattle.js_heap.specs.declared.value.Addr.{Addr}
 use Rattle.js_heap.specs.BuiltIns.{script_scope}
@@ -17,14 +17,14 @@ use Rattle.js_semantics.specs.Frames.{active, at, is_debugger, thrown}
 use Rattle.js_semantics.specs.Run as runs
 use Rattle.js_semantics.specs.Run.{Run, running, over, steps_in}
 use Rattle.js_semantics.proofs.FollowLemmas.{run_of-state}
-use Rattle.js_world.specs.Heaps.{Heap, heap_world}
-use Rattle.js_steps.specs.declared.run.Why.{Why}
-use Rattle.js_steps.specs.declared.run.Why.TheVariants as whys
-use Rattle.js_steps.specs.declared.stepped.Finish.{Finish}
-use Rattle.js_steps.specs.Prints.{IsSilent, PrintsAs, last_printed, values_printed}
-use Rattle.js_steps.specs.Running.{CountsAs, IsRunning, RunsFor, asks_at, HasPassed, passed_steps}
-use Rattle.js_steps.specs.Stepping.{finish_of}
-use Rattle.js_frames.specs.Sources.{spans_in}
+use Rattle.js_heap_memory.specs.Heaps.{Heap, heap_world}
+use Rattle.js_machine_engine.specs.declared.run.Why.{Why}
+use Rattle.js_machine_engine.specs.declared.run.Why.TheVariants as whys
+use Rattle.js_machine_engine.specs.declared.stepped.Finish.{Finish}
+use Rattle.js_machine_engine.specs.Prints.{IsSilent, PrintsAs, last_printed, values_printed}
+use Rattle.js_machine_engine.specs.Running.{CountsAs, IsRunning, RunsFor, asks_at, HasPassed, passed_steps}
+use Rattle.js_machine_engine.specs.Stepping.{finish_of}
+use Rattle.js_machine_inspection.specs.Sources.{spans_in}
 use Rattle.js_machine.specs.declared.end.End.{End}
 use Rattle.js_machine.specs.declared.end.End.TheVariants as ends
 use Rattle.js_machine.specs.Machines.{Machine, program_of, term_of, state_of, run_by, run_at, IsKept, finish_at, end_of_run}

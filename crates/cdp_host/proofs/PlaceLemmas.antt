@@ -12,11 +12,11 @@ use Rattle.js_semantics.specs.Terms.{Term}
 use Rattle.js_semantics.specs.State.{State, spot_of}
 use Rattle.js_semantics.specs.Frames.{at}
 use Rattle.js_semantics.specs.Run.{Run, running, over}
-use Rattle.js_frames.specs.Sources.{spans_in, script_spans}
+use Rattle.js_machine_inspection.specs.Sources.{spans_in, script_spans}
 use Rattle.locations.specs.Locations.{break_locations}
 use Rattle.locations.specs.Order.{IsAt}
-use Rattle.arrivals.specs.Arrivals.{ScriptsAreNumbered, Arrives, RunArrives, RunsIn}
-use Rattle.arrivals.proofs.StartLemmas.{number-at, plain-arrives}
+use Rattle.locations_arrivals.specs.Arrivals.{ScriptsAreNumbered, Arrives, RunArrives, RunsIn}
+use Rattle.locations_arrivals.proofs.StartLemmas.{number-at, plain-arrives}
 use Rattle.cdp_host.specs.Arrivals.{place_at, place_in}
 use Rattle.cdp_host.specs.Programs.{arrival_of, plain}
 use Rattle.cdp_host.specs.Places.{ArrivesAtLocations, IsBreakLocation}

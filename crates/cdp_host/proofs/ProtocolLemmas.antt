@@ -1,14 +1,14 @@
 -- What the sessions and programs of a host keep, so that the laws of histories of any protocol hold of them.
 use Rattle.std.proofs.Common.{◌≡◌, ℕ, zero, suc, List, ◌++◌, Bool, true, false, refl, ap, ◌∙◌, append_assoc}
-use Rattle.isolation.specs.Stops as stops_
-use Rattle.isolation.specs.Stops.{KeepsEnabled}
-use Rattle.isolation.specs.Texts.{AreSent, HasRoom}
+use Rattle.cdp_host_isolation.specs.Stops as stops_
+use Rattle.cdp_host_isolation.specs.Stops.{KeepsEnabled}
+use Rattle.cdp_host_isolation.specs.Texts.{AreSent, HasRoom}
 use Rattle.js_tree.specs.declared.script.Script.{Script}
-use Rattle.session_messages.specs.Outboxes.{fits}
+use Rattle.cdp_session_messages.specs.Outboxes.{fits}
 use Rattle.cdp_session.specs.Sessions.{Session}
 use Rattle.cdp_session.specs.Stops.{stop_texts, stopped}
 use Rattle.cdp_session.proofs.OutboxLemmas.{answer-outbox}
-use Rattle.session_messages.proofs.OutboxSizes.{unfit-as}
+use Rattle.cdp_session_messages.proofs.OutboxSizes.{unfit-as}
 use Rattle.cdp_host.specs.Programs.{plain, start}
 use Rattle.cdp_host.specs.Protocols.{protocol, situation, texts}
 use Rattle.cdp_host.specs.Standings.{standing_of}

@@ -1,13 +1,13 @@
 -- A command that is refused changes only the texts that wait for its session.
 use Rattle.std.proofs.Common.{◌≡◌, ℕ, List, [], ◌∷◌, Bool, true, false, refl, ap, sym, ◌∙◌, Option}
-use Rattle.isolation.specs.Histories.{Entry, with_seat}
-use Rattle.isolation.specs.Meanings.{is_enabled_seat, is_paused}
-use Rattle.isolation.specs.Seats.{put, seat_of, some}
-use Rattle.isolation.specs.Standing.{StandsAs}
-use Rattle.isolation.specs.Stops.{IsPausedWell}
-use Rattle.isolation.specs.declared.seat.Seat.{Seat}
-use Rattle.isolation.specs.declared.seat.Seat.TheVariants.{Attached}
-use Rattle.isolation.proofs.StopLemmas.{paused-well, some-put}
+use Rattle.cdp_host_isolation.specs.Histories.{Entry, with_seat}
+use Rattle.cdp_host_isolation.specs.Meanings.{is_enabled_seat, is_paused}
+use Rattle.cdp_host_isolation.specs.Seats.{put, seat_of, some}
+use Rattle.cdp_host_isolation.specs.Standing.{StandsAs}
+use Rattle.cdp_host_isolation.specs.Stops.{IsPausedWell}
+use Rattle.cdp_host_isolation.specs.declared.seat.Seat.{Seat}
+use Rattle.cdp_host_isolation.specs.declared.seat.Seat.TheVariants.{Attached}
+use Rattle.cdp_host_isolation.proofs.StopLemmas.{paused-well, some-put}
 use Rattle.js_tree.specs.declared.script.Script.{Script}
 use Rattle.js_semantics.specs.Run.{Run}
 use Rattle.cdp_json.specs.Messages.{refusal_text}

@@ -5,41 +5,41 @@ use Rattle.std.proofs.Common.{Result, Ok, Err, IfOk, OnErr, OnOk, ◌≡◌, ◌
 use Rattle.std.specs.Option.{option_map}
 use Rattle.std.proofs.Math.Seq.{drop-append_seam}
 use Rattle.std.proofs.lemmas.Bool.{lt-ltb, or_parts}
-use Rattle.isolation.specs.Histories.{Entry, FitsEntry, Ran}
-use Rattle.isolation.specs.Meanings as meanings
-use Rattle.isolation.specs.Meanings.{is_enabled_seat, is_first, is_held, is_paused, is_ready, longest, next_number, resume, resumed_seat, settle, with_seats}
-use Rattle.isolation.specs.Protocols.{Protocol}
-use Rattle.isolation.specs.Runs.{AllFit, HasMade, IsLongest}
-use Rattle.isolation.specs.Seats.{each, is_attached, reported, some, waits_for_report, without}
-use Rattle.isolation.specs.Standing.{BrokenAs, StandsAs, broken_seat, fallen_from, fallen_in, fell, less}
-use Rattle.isolation.specs.Texts.{Fits}
-use Rattle.isolation.specs.declared.phase.Phase.TheVariants.{Running}
-use Rattle.isolation.specs.declared.seat.Loss.TheVariants.{Overrun, Memory}
-use Rattle.isolation.specs.declared.seat.Seat.{Seat}
-use Rattle.isolation.specs.declared.seat.Seat.TheVariants.{Attached, Lost, Left}
-use Rattle.isolation.proofs.FallenLemmas.{fallen-none, without-none}
-use Rattle.isolation.proofs.MadeLemmas.{made-more, made-none}
-use Rattle.isolation.proofs.BrokenLemmas.{broken-alone, broken-ran, broken-stays}
-use Rattle.isolation.proofs.StandingLemmas.{fits-ran, none-reported, none-resumed, stands-ran}
-use Rattle.isolation.proofs.StopLemmas.{entry-program}
+use Rattle.cdp_host_isolation.specs.Histories.{Entry, FitsEntry, Ran}
+use Rattle.cdp_host_isolation.specs.Meanings as meanings
+use Rattle.cdp_host_isolation.specs.Meanings.{is_enabled_seat, is_first, is_held, is_paused, is_ready, longest, next_number, resume, resumed_seat, settle, with_seats}
+use Rattle.cdp_host_isolation.specs.Protocols.{Protocol}
+use Rattle.cdp_host_isolation.specs.Runs.{AllFit, HasMade, IsLongest}
+use Rattle.cdp_host_isolation.specs.Seats.{each, is_attached, reported, some, waits_for_report, without}
+use Rattle.cdp_host_isolation.specs.Standing.{BrokenAs, StandsAs, broken_seat, fallen_from, fallen_in, fell, less}
+use Rattle.cdp_host_isolation.specs.Texts.{Fits}
+use Rattle.cdp_host_isolation.specs.declared.phase.Phase.TheVariants.{Running}
+use Rattle.cdp_host_isolation.specs.declared.seat.Loss.TheVariants.{Overrun, Memory}
+use Rattle.cdp_host_isolation.specs.declared.seat.Seat.{Seat}
+use Rattle.cdp_host_isolation.specs.declared.seat.Seat.TheVariants.{Attached, Lost, Left}
+use Rattle.cdp_host_isolation.proofs.FallenLemmas.{fallen-none, without-none}
+use Rattle.cdp_host_isolation.proofs.MadeLemmas.{made-more, made-none}
+use Rattle.cdp_host_isolation.proofs.BrokenLemmas.{broken-alone, broken-ran, broken-stays}
+use Rattle.cdp_host_isolation.proofs.StandingLemmas.{fits-ran, none-reported, none-resumed, stands-ran}
+use Rattle.cdp_host_isolation.proofs.StopLemmas.{entry-program}
 use Rattle.js_tree.specs.declared.script.Script.{Script}
 use Rattle.js_semantics.specs.Run.{Run}
 use Rattle.cdp_session.specs.declared.situation.Pause.{Pause}
 use Rattle.cdp_session.specs.Sessions.{Session}
-use Rattle.host_seats.specs.Fallbacks.{fallback_of}
-use Rattle.host_seats.specs.Losses.{losses_from}
-use Rattle.host_seats.specs.declared.losses.SessionLost.{SessionLost}
+use Rattle.cdp_host_seats.specs.Fallbacks.{fallback_of}
+use Rattle.cdp_host_seats.specs.Losses.{losses_from}
+use Rattle.cdp_host_seats.specs.declared.losses.SessionLost.{SessionLost}
 use Rattle.cdp_host.specs.Histories.{Meaning, apply, whole}
 use Rattle.cdp_host.specs.Hosts.{CarriesOn, FallsBack, HostState, KeepsFallback, NoneAttached, Parts, PrintsOn, RunsTo, Stands, beside, beside_behind, everybody, meaning_with, pause_behind, run_with}
-use Rattle.host_turns.specs.Entries.{lost_for_memory}
+use Rattle.cdp_host_turns.specs.Entries.{lost_for_memory}
 use Rattle.cdp_host.specs.Programs.{printed_of}
 use Rattle.cdp_host.specs.Protocols.{protocol}
 use Rattle.cdp_host.specs.Rules.{printed_between}
-use Rattle.host_turns.specs.declared.hosted.Ran.{Ran as Made}
+use Rattle.cdp_host_turns.specs.declared.hosted.Ran.{Ran as Made}
 use Rattle.cdp_host.proofs.AdvanceLemmas.{free-beside, free-shut, ready-parts}
 use Rattle.cdp_host.proofs.HistoryLemmas.{stands-behind, stands-broken}
 use Rattle.cdp_host.proofs.PartLemmas.{run-printed}
-use Rattle.isolation.proofs.RoomLemmas.{reported-fits}
+use Rattle.cdp_host_isolation.proofs.RoomLemmas.{reported-fits}
 
 -- ---- a stretch, as a host keeps it
 

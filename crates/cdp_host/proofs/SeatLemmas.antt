@@ -1,15 +1,15 @@
 -- What one seat among others is, and what a resume does to each.
 use Rattle.std.proofs.Common.{◌≡◌, ◌<◌, ℕ, zero, suc, List, [], ◌∷◌, length, slice_index_or, Bool, true, if◌then◌else◌, ap, sym, ◌∙◌, arith}
-use Rattle.isolation.specs.Protocols.{Protocol}
-use Rattle.isolation.specs.Meanings.{kept}
-use Rattle.isolation.specs.Passes.{GoesAlong, GoesOn, HearsOn, Over, Watches}
-use Rattle.isolation.specs.Runs.{AllFit}
-use Rattle.isolation.specs.Seats.{lost_by}
-use Rattle.isolation.specs.Texts.{Fits}
-use Rattle.isolation.specs.declared.seat.Loss.TheVariants.{Overrun}
-use Rattle.isolation.specs.declared.seat.Seat.{Seat}
-use Rattle.isolation.specs.declared.seat.Seat.TheVariants.{Attached}
-use Rattle.session_messages.specs.Outboxes.{fits}
+use Rattle.cdp_host_isolation.specs.Protocols.{Protocol}
+use Rattle.cdp_host_isolation.specs.Meanings.{kept}
+use Rattle.cdp_host_isolation.specs.Passes.{GoesAlong, GoesOn, HearsOn, Over, Watches}
+use Rattle.cdp_host_isolation.specs.Runs.{AllFit}
+use Rattle.cdp_host_isolation.specs.Seats.{lost_by}
+use Rattle.cdp_host_isolation.specs.Texts.{Fits}
+use Rattle.cdp_host_isolation.specs.declared.seat.Loss.TheVariants.{Overrun}
+use Rattle.cdp_host_isolation.specs.declared.seat.Seat.{Seat}
+use Rattle.cdp_host_isolation.specs.declared.seat.Seat.TheVariants.{Attached}
+use Rattle.cdp_session_messages.specs.Outboxes.{fits}
 use Rattle.cdp_session.specs.Sessions.{Session}
 use Rattle.cdp_session.specs.Stops.{resumed}
 use Rattle.js_tree.specs.declared.script.Script.{Script}

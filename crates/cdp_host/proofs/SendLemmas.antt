@@ -8,14 +8,14 @@ use Rattle.std.proofs.option.Option.TheSendSync as options
 use Rattle.std.proofs.vec.Vec.TheSendSync as vectors
 use Rattle.cdp_text.proofs.line_table.LineTable.TheSendSync as lines
 use Rattle.cdp_text.proofs.units.Units.TheSendSync as units
-use Rattle.isolation.proofs.phase.Phase.TheSendSync as phase
-use Rattle.isolation.proofs.seat.Seat.TheSendSync as seat
-use Rattle.host_seats.proofs.fallback.Fallback.TheSendSync as fallback
-use Rattle.host_seats.proofs.losses.SessionLost.TheSendSync as lost
-use Rattle.js_operators.proofs.operator.AssignmentOperator.TheSendSync as assignment
-use Rattle.js_operators.proofs.operator.BinaryOperator.TheSendSync as binary
-use Rattle.js_operators.proofs.operator.UnaryOperator.TheSendSync as unary
-use Rattle.js_operators.proofs.operator.UpdateOperator.TheSendSync as update
+use Rattle.cdp_host_isolation.proofs.phase.Phase.TheSendSync as phase
+use Rattle.cdp_host_isolation.proofs.seat.Seat.TheSendSync as seat
+use Rattle.cdp_host_seats.proofs.fallback.Fallback.TheSendSync as fallback
+use Rattle.cdp_host_seats.proofs.losses.SessionLost.TheSendSync as lost
+use Rattle.js_tree_operators.proofs.operator.AssignmentOperator.TheSendSync as assignment
+use Rattle.js_tree_operators.proofs.operator.BinaryOperator.TheSendSync as binary
+use Rattle.js_tree_operators.proofs.operator.UnaryOperator.TheSendSync as unary
+use Rattle.js_tree_operators.proofs.operator.UpdateOperator.TheSendSync as update
 use Rattle.js_tree.proofs.integer.SafeInteger.TheSendSync as integer
 use Rattle.js_tree.proofs.names.Names.TheSendSync as names
 use Rattle.js_tree.proofs.node.NodeId.TheSendSync as node
@@ -23,7 +23,7 @@ use Rattle.js_tree.proofs.node.Spans.TheSendSync as spans
 use Rattle.js_tree.proofs.tree.ArrowParameters.TheSendSync as arrow
 use Rattle.js_tree.proofs.tree.Expr.TheLaws.TheKnot as tree
 use Rattle.js_tree.specs.contracts.script.Script as script
-use Rattle.js_world.proofs.heap.BaseHeap.TheSendSync as heap
+use Rattle.js_heap_memory.proofs.heap.BaseHeap.TheSendSync as heap
 use Rattle.js_machine.proofs.machine.Machine.TheSendSync as machine
 use Rattle.breakpoints.proofs.script_spots.ScriptSpots.TheSendSync as spots
 use Rattle.cdp_session.proofs.SendLemmas.{session-send}

@@ -4,7 +4,7 @@ use Rattle.js_tree.specs.declared.script.Script.{Script}
 use Rattle.js_semantics.specs.Run as runs
 use Rattle.js_semantics.specs.Terms.{Term, done, standing, part}
 use Rattle.js_semantics.specs.State.{State}
-use Rattle.js_world.specs.Heaps.{heap_world}
+use Rattle.js_heap_memory.specs.Heaps.{heap_world}
 use Rattle.js_machine.specs.declared.end.End.{End}
 use Rattle.js_machine.specs.declared.end.End.TheVariants as ends
 use Rattle.js_machine.specs.Machines.{term_of, state_of, run_by}

@@ -10,11 +10,11 @@ use Rattle.js_machine.specs.declared.end.End.{End}
 use Rattle.js_machine.specs.declared.machine.Started.{Started}
 use Rattle.js_machine.specs.Machines.{IsKept}
 use Rattle.js_machine.specs.Starts.{IsStarted}
-use Rattle.host_seats.specs.Fallbacks.{HasRoom, fallback_held, fallback_of}
-use Rattle.host_seats.specs.declared.fallback.Fallback.{Fallback}
+use Rattle.cdp_host_seats.specs.Fallbacks.{HasRoom, fallback_held, fallback_of}
+use Rattle.cdp_host_seats.specs.declared.fallback.Fallback.{Fallback}
 use Rattle.cdp_host.specs.Programs.{code_of, start, printed_of}
-use Rattle.isolation.specs.Meanings.{phase_of}
-use Rattle.isolation.specs.Seats.{is_attached, some}
+use Rattle.cdp_host_isolation.specs.Meanings.{phase_of}
+use Rattle.cdp_host_isolation.specs.Seats.{is_attached, some}
 use Rattle.cdp_host.specs.Histories.{Meaning, begin}
 use Rattle.pure_eval.specs.Workspaces.{Workspace, begun}
 use Rattle.cdp_session.specs.Sessions.{Session}

@@ -4,12 +4,12 @@ use Rattle.std.proofs.lemmas.Bool.{and_parts, not-true, ltb-true, le-ltb, lt-ltb
 use Rattle.js_tree.specs.declared.script.Script.{Script}
 use Rattle.js_semantics.specs.Run.{Run}
 use Rattle.cdp_host.specs.Programs.{is_over, has_thrown}
-use Rattle.isolation.specs.Meanings.{is_held, is_paused, is_ready, waits}
+use Rattle.cdp_host_isolation.specs.Meanings.{is_held, is_paused, is_ready, waits}
 use Rattle.cdp_host.specs.Histories.{Meaning}
 use Rattle.cdp_host.specs.Protocols.{protocol}
 use Rattle.cdp_host.specs.States.{state_of}
 use Rattle.cdp_host.specs.Hosts.{HostState, meaning_with, state_at}
-use Rattle.host_turns.specs.declared.state.State.TheVariants.{Broken, Shut, Threw, Ended, Paused, Waiting, Ready}
+use Rattle.cdp_host_turns.specs.declared.state.State.TheVariants.{Broken, Shut, Threw, Ended, Paused, Waiting, Ready}
 
 -- ---- states
 

@@ -2,15 +2,15 @@
 use Rattle.std.proofs.Common.{◌≡◌, ℕ, suc, ◌+◌, List, Bool, true, false, ◌&&◌, ◌||◌, not, is_some, refl, ap, sym, ◌∙◌, arith, if◌then◌else◌, Option, Some, None}
 use Rattle.std.proofs.lemmas.Bool.{and_right}
 use Rattle.cdp_text.specs.declared.position.Place.{Place}
-use Rattle.isolation.specs.Histories.{FitsEntry, Ran}
-use Rattle.isolation.specs.Meanings.{after_run, is_first}
-use Rattle.isolation.specs.Names.{IsSteady, NamesAlone, StopsAtFirstNamed}
-use Rattle.isolation.specs.Runs.{names_seat}
-use Rattle.isolation.specs.Seats.{is_attached, seat_of}
-use Rattle.isolation.specs.Stops as stops_
-use Rattle.isolation.specs.declared.seat.Seat.{Seat}
-use Rattle.isolation.specs.declared.seat.Seat.TheVariants.{Attached, Lost, Left}
-use Rattle.isolation.proofs.NamesLemmas.{stops-first}
+use Rattle.cdp_host_isolation.specs.Histories.{FitsEntry, Ran}
+use Rattle.cdp_host_isolation.specs.Meanings.{after_run, is_first}
+use Rattle.cdp_host_isolation.specs.Names.{IsSteady, NamesAlone, StopsAtFirstNamed}
+use Rattle.cdp_host_isolation.specs.Runs.{names_seat}
+use Rattle.cdp_host_isolation.specs.Seats.{is_attached, seat_of}
+use Rattle.cdp_host_isolation.specs.Stops as stops_
+use Rattle.cdp_host_isolation.specs.declared.seat.Seat.{Seat}
+use Rattle.cdp_host_isolation.specs.declared.seat.Seat.TheVariants.{Attached, Lost, Left}
+use Rattle.cdp_host_isolation.proofs.NamesLemmas.{stops-first}
 use Rattle.js_tree.specs.declared.script.Script.{Script}
 use Rattle.js_semantics.specs.Run.{Run}
 use Rattle.stepping.specs.Causes.{cause_at, ends_at}

@@ -1,5 +1,5 @@
 -- What a host is seen as.
-use Rattle.host_seats.specs.Fallbacks.{fallback_held}
+use Rattle.cdp_host_seats.specs.Fallbacks.{fallback_held}
 use Rattle.cdp_host.specs.Hosts.{HostState}
 use Rattle.cdp_host.specs.declared.host.Host.TheInside.{Inside}
 

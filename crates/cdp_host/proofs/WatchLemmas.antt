@@ -1,15 +1,15 @@
 -- What a session is told of a step: what it names then, what is told comes behind what waits, and what doesn't fit.
 use Rattle.std.proofs.Common.{◌≡◌, ℕ, List, [], ◌∷◌, ◌++◌, Bool, true, false, refl, ap, sym, ◌∙◌, append_assoc, append-nil, if◌then◌else◌, Option, Some, None}
 use Rattle.js_heap.specs.declared.value.Value.{Value}
-use Rattle.session_messages.specs.Ends.{context_destroyed_text}
+use Rattle.cdp_session_messages.specs.Ends.{context_destroyed_text}
 use Rattle.cdp_session.specs.Endings.{ending_told, ending_texts}
-use Rattle.session_messages.specs.Outboxes.{fits}
+use Rattle.cdp_session_messages.specs.Outboxes.{fits}
 use Rattle.cdp_session.specs.Sessions.{Session, sent}
 use Rattle.cdp_session.specs.Situations.{Situation}
 use Rattle.cdp_session.specs.Stops.{stop_texts, stopped}
 use Rattle.cdp_session.specs.declared.ending.Ending.{Ending}
 use Rattle.cdp_session.specs.declared.ending.Ending.TheVariants as endings
-use Rattle.session_messages.proofs.OutboxSizes.{unfit-as}
+use Rattle.cdp_session_messages.proofs.OutboxSizes.{unfit-as}
 use Rattle.cdp_host.specs.Steps.{Step, end_texts, end_told, names, print_texts, print_told, session_behind, told}
 
 -- ---- what a session asks for

@@ -11,7 +11,7 @@ use Rattle.js_semantics.specs.declared.form.Source.TheVariants.{Script as script
 use Rattle.js_semantics.specs.declared.form.Mark.{Mark}
 use Rattle.js_semantics.specs.State.{Frame, State, top_spot}
 use Rattle.js_semantics.specs.Frames.{active, at, depth, is_debugger, offset_of, thrown, StandingThrow}
-use Rattle.js_frames.specs.Sources.{spans_in}
+use Rattle.js_machine_inspection.specs.Sources.{spans_in}
 use Rattle.stepping.specs.declared.arrival.Arrival.{Arrival}
 
 -- ---- places

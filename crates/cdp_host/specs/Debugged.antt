@@ -1,12 +1,12 @@
 -- A host's program and its sessions as turns of its history see them.
 use Rattle.std.specs.Prelude.{ℕ, List, [], Bool}
-use Rattle.isolation.specs.Histories.{Entry}
-use Rattle.isolation.specs.Makers.{AreOwned, entries_of}
+use Rattle.cdp_host_isolation.specs.Histories.{Entry}
+use Rattle.cdp_host_isolation.specs.Makers.{AreOwned, entries_of}
 use Rattle.js_tree.specs.declared.script.Script.{Script}
 use Rattle.js_semantics.specs.Run.{Run}
 use Rattle.cdp_session.specs.declared.situation.Pause.{Pause}
 use Rattle.cdp_session.specs.Sessions.{Session}
-use Rattle.host_turns.specs.Debuggings.{Debugging}
+use Rattle.cdp_host_turns.specs.Debuggings.{Debugging}
 use Rattle.cdp_host.specs.Hosts.{HostState, Stands}
 use Rattle.cdp_host.specs.Programs.{has_thrown, printed_of, start}
 use Rattle.cdp_host.specs.Protocols.{protocol}

@@ -1,10 +1,10 @@
 -- Histories of a host of any scripts, and what they mean.
 use Rattle.std.specs.Prelude.{ℕ, List, Bool}
-use Rattle.isolation.specs.Alone as alone
-use Rattle.isolation.specs.Alone.{Seen}
-use Rattle.isolation.specs.Histories as histories
-use Rattle.isolation.specs.Histories.{Entry}
-use Rattle.isolation.specs.Meanings as meanings
+use Rattle.cdp_host_isolation.specs.Alone as alone
+use Rattle.cdp_host_isolation.specs.Alone.{Seen}
+use Rattle.cdp_host_isolation.specs.Histories as histories
+use Rattle.cdp_host_isolation.specs.Histories.{Entry}
+use Rattle.cdp_host_isolation.specs.Meanings as meanings
 use Rattle.js_tree.specs.declared.script.Script.{Script}
 use Rattle.js_semantics.specs.Run.{Run}
 use Rattle.cdp_session.specs.declared.situation.Pause.{Pause}

@@ -1,19 +1,19 @@
 -- What a host is.
 use Rattle.std.specs.Prelude.{◌≡◌, ◌-◌, ◌++◌, ◌∷◌, List, [], ℕ, map, length, All, Bool, true, false, is_some, if◌then◌else◌, Option, None}
 use Rattle.std.specs.Option.{option_map}
-use Rattle.isolation.specs.Histories.{Entry}
-use Rattle.isolation.specs.Meanings.{is_paused, mapped, next_number, settle, with_seats}
-use Rattle.isolation.specs.Runs.{AllFit, IsLongest}
-use Rattle.isolation.specs.Seats.{each, is_attached, numbers_from, reported, some}
-use Rattle.isolation.specs.Standing.{BrokenAs, LeavesAs, StandsAs, fallen_in, less}
-use Rattle.isolation.specs.declared.phase.Phase.TheVariants.{Woken, Running}
-use Rattle.isolation.specs.declared.seat.Seat.{Seat}
+use Rattle.cdp_host_isolation.specs.Histories.{Entry}
+use Rattle.cdp_host_isolation.specs.Meanings.{is_paused, mapped, next_number, settle, with_seats}
+use Rattle.cdp_host_isolation.specs.Runs.{AllFit, IsLongest}
+use Rattle.cdp_host_isolation.specs.Seats.{each, is_attached, numbers_from, reported, some}
+use Rattle.cdp_host_isolation.specs.Standing.{BrokenAs, LeavesAs, StandsAs, fallen_in, less}
+use Rattle.cdp_host_isolation.specs.declared.phase.Phase.TheVariants.{Woken, Running}
+use Rattle.cdp_host_isolation.specs.declared.seat.Seat.{Seat}
 use Rattle.js_tree.specs.declared.script.Script.{Script}
 use Rattle.js_heap.specs.declared.value.Value.{Value}
 use Rattle.js_semantics.specs.Run.{Run}
 use Rattle.js_semantics.specs.Frames.{active, at, is_debugger, thrown}
-use Rattle.js_frames.specs.Sources.{spans_in}
-use Rattle.js_world.specs.Heaps.{Heap, heap_world}
+use Rattle.js_machine_inspection.specs.Sources.{spans_in}
+use Rattle.js_heap_memory.specs.Heaps.{Heap, heap_world}
 use Rattle.js_machine.specs.Machines.{Machine, program_of, term_of, run_at, IsKept}
 use Rattle.js_machine.specs.Standing.{source_of, until_end, holds_until_end}
 use Rattle.locations.specs.declared.spot.Spot.{Spot}
@@ -23,10 +23,10 @@ use Rattle.cdp_session.specs.declared.situation.Pause.{Pause}
 use Rattle.cdp_session.specs.Sessions.{Session}
 use Rattle.cdp_session.specs.Situations.{Standing}
 use Rattle.frames_scopes.specs.Places.{starts_of}
-use Rattle.host_seats.specs.Fallbacks.{Fallback, HasRoom}
-use Rattle.host_seats.specs.Losses.{losses_from}
-use Rattle.host_seats.specs.declared.fallback.Fallback.{Fallback as HeldFallback}
-use Rattle.host_seats.specs.declared.losses.SessionLost.{SessionLost}
+use Rattle.cdp_host_seats.specs.Fallbacks.{Fallback, HasRoom}
+use Rattle.cdp_host_seats.specs.Losses.{losses_from}
+use Rattle.cdp_host_seats.specs.declared.fallback.Fallback.{Fallback as HeldFallback}
+use Rattle.cdp_host_seats.specs.declared.losses.SessionLost.{SessionLost}
 use Rattle.cdp_host.specs.Arrivals.{place_at, is_uncaught, IsShort}
 use Rattle.cdp_host.specs.Histories.{IsHistory, Meaning, apply, whole}
 use Rattle.cdp_host.specs.Programs.{code_of, printed_of}
@@ -35,8 +35,8 @@ use Rattle.cdp_host.specs.Rules.{printed_between}
 use Rattle.cdp_host.specs.Standings.{ending_of, standing_of}
 use Rattle.cdp_host.specs.States.{state_of}
 use Rattle.cdp_host.specs.Steps.{Step}
-use Rattle.host_turns.specs.declared.state.State.{State}
-use Rattle.host_turns.specs.declared.state.State.TheVariants.{Broken}
+use Rattle.cdp_host_turns.specs.declared.state.State.{State}
+use Rattle.cdp_host_turns.specs.declared.state.State.TheVariants.{Broken}
 
 -- a program as a host keeps it
 pub record Parts : Type 0 where

@@ -10,7 +10,7 @@ use Rattle.js_semantics.specs.Frames.{at}
 use Rattle.js_semantics.specs.Run.{Run, running}
 use Rattle.locations.specs.Locations.{break_locations}
 use Rattle.locations.specs.Order.{IsAt}
-use Rattle.arrivals.specs.Arrivals.{RunsIn}
+use Rattle.locations_arrivals.specs.Arrivals.{RunsIn}
 use Rattle.cdp_host.specs.Arrivals.{place_in}
 use Rattle.cdp_host.specs.Programs.{arrival_of}
 

@@ -9,7 +9,7 @@ use Rattle.js_semantics.specs.Functions.{Program}
 use Rattle.js_semantics.specs.Run as runs
 use Rattle.js_semantics.specs.Run.{Run, running, over, ended, threw, by_effect, by_full}
 use Rattle.js_semantics.specs.Sources.{terms_of_scripts}
-use Rattle.js_steps.specs.Prints.{values_printed}
+use Rattle.js_machine_engine.specs.Prints.{values_printed}
 use Rattle.stepping.specs.declared.arrival.Arrival.{Arrival}
 use Rattle.cdp_host.specs.Arrivals.{arrival_at, at_the_end}
 

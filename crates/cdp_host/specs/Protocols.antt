@@ -1,15 +1,15 @@
 -- A host's program and its sessions, in the words of a program and any sessions that debug it.
 use Rattle.std.specs.Prelude.{ℕ, List, ◌++◌, Bool, true, false, Option}
-use Rattle.isolation.specs.Protocols.{Protocol}
-use Rattle.isolation.specs.Texts.{Texts}
+use Rattle.cdp_host_isolation.specs.Protocols.{Protocol}
+use Rattle.cdp_host_isolation.specs.Texts.{Texts}
 use Rattle.js_tree.specs.declared.script.Script.{Script}
 use Rattle.js_semantics.specs.Run.{Run}
 use Rattle.cdp_session.specs.declared.asks.Asks.{Asks}
 use Rattle.cdp_session.specs.declared.asks.Asks.TheVariants.{Nothing, Wake, Resume, Leave}
 use Rattle.cdp_session.specs.declared.situation.Pause.{Pause}
-use Rattle.session_messages.specs.Outboxes.{fits}
+use Rattle.cdp_session_messages.specs.Outboxes.{fits}
 use Rattle.cdp_session.specs.Replies.{Answer, answer_of, answer_texts, outcome_of}
-use Rattle.session_messages.specs.Results.{resumed_text}
+use Rattle.cdp_session_messages.specs.Results.{resumed_text}
 use Rattle.cdp_session.specs.Sessions.{Session, emptied, fresh, if_enabled}
 use Rattle.cdp_session.specs.Situations.{Situation, Standing}
 use Rattle.cdp_session.specs.Stops.{resumed, stopped, stop_texts}

@@ -1,8 +1,8 @@
 -- What a stretch of a host's run makes.
 use Rattle.std.specs.Prelude.{◌≡◌, ℕ, ◌+◌, ◌<◌, ◌≤◌, false, is_some, List, Bool, None}
-use Rattle.isolation.specs.Seats.{some}
-use Rattle.isolation.specs.declared.seat.Seat.{Seat}
-use Rattle.isolation.specs.declared.seat.Seat.TheVariants.{Attached, Lost, Left}
+use Rattle.cdp_host_isolation.specs.Seats.{some}
+use Rattle.cdp_host_isolation.specs.declared.seat.Seat.{Seat}
+use Rattle.cdp_host_isolation.specs.declared.seat.Seat.TheVariants.{Attached, Lost, Left}
 use Rattle.js_tree.specs.declared.script.Script.{Script}
 use Rattle.js_semantics.specs.Run.{Run}
 use Rattle.cdp_session.specs.Sessions.{Session}

@@ -1,9 +1,9 @@
 -- What holds of a history, in the words of the run without a debugger.
 use Rattle.std.specs.Prelude.{◌≡◌, ◌≢◌, ◌<◌, ℕ, ◌+◌, List, drop, length, Bool, true, false, ◌&&◌, ◌||◌, is_some, Some}
 use Rattle.cdp_text.specs.declared.position.Place.{Place}
-use Rattle.isolation.specs.Meanings.{after_run, is_paused}
-use Rattle.isolation.specs.Seats.{is_attached, seat_of}
-use Rattle.isolation.specs.declared.seat.Seat.TheVariants.{Attached}
+use Rattle.cdp_host_isolation.specs.Meanings.{after_run, is_paused}
+use Rattle.cdp_host_isolation.specs.Seats.{is_attached, seat_of}
+use Rattle.cdp_host_isolation.specs.declared.seat.Seat.TheVariants.{Attached}
 use Rattle.js_tree.specs.declared.script.Script.{Script}
 use Rattle.js_semantics.specs.Run.{Run}
 use Rattle.js_semantics.specs.Laws.{IsPrefix}

@@ -11,7 +11,7 @@ use Rattle.js_semantics.specs.Run.{Run, running, over, Finish, ended, threw, by_
 use Rattle.js_machine.specs.declared.end.End.{End}
 use Rattle.js_machine.specs.declared.end.End.TheVariants as ends
 use Rattle.js_machine.specs.Machines.{IsKept}
-use Rattle.call_frames.specs.Frames.{ShownFrame}
+use Rattle.frames_scopes_types.specs.Frames.{ShownFrame}
 use Rattle.frames_scopes.specs.Frames.{walk}
 use Rattle.cdp_text.specs.declared.position.Place.{Place}
 use Rattle.cdp_session.specs.declared.ending.Ending.{Ending}

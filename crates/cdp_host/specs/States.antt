@@ -1,11 +1,11 @@
 -- The state that a host tells.
 use Rattle.std.specs.Prelude.{if◌then◌else◌}
-use Rattle.isolation.specs.Meanings.{is_paused, waits}
+use Rattle.cdp_host_isolation.specs.Meanings.{is_paused, waits}
 use Rattle.js_semantics.specs.Run.{Run}
 use Rattle.cdp_host.specs.Histories.{Meaning}
 use Rattle.cdp_host.specs.Programs.{is_over, has_thrown}
-use Rattle.host_turns.specs.declared.state.State.{State}
-use Rattle.host_turns.specs.declared.state.State.TheVariants.{Shut, Threw, Ended, Paused, Waiting, Ready}
+use Rattle.cdp_host_turns.specs.declared.state.State.{State}
+use Rattle.cdp_host_turns.specs.declared.state.State.TheVariants.{Shut, Threw, Ended, Paused, Waiting, Ready}
 
 -- the state of a program that no want of memory broke: the first that holds
 abbrev pub state_of : Meaning Run → State

@@ -1,18 +1,18 @@
 -- What a step tells, and what became of a text, as the code holds it.
 use Rattle.std.specs.Prelude.{◌≡◌, ℕ, ◌-◌, List, true, false, Option}
 use Rattle.std.specs.Option.{option_map}
-use Rattle.isolation.specs.Seats.{put}
-use Rattle.isolation.specs.declared.seat.Loss.{Loss}
-use Rattle.isolation.specs.declared.seat.Loss.TheVariants.{Overrun, Memory}
-use Rattle.isolation.specs.declared.seat.Seat.{Seat}
-use Rattle.isolation.specs.declared.seat.Seat.TheVariants.{Attached, Left}
+use Rattle.cdp_host_isolation.specs.Seats.{put}
+use Rattle.cdp_host_isolation.specs.declared.seat.Loss.{Loss}
+use Rattle.cdp_host_isolation.specs.declared.seat.Loss.TheVariants.{Overrun, Memory}
+use Rattle.cdp_host_isolation.specs.declared.seat.Seat.{Seat}
+use Rattle.cdp_host_isolation.specs.declared.seat.Seat.TheVariants.{Attached, Left}
 use Rattle.js_heap.specs.declared.value.Value.{Value}
 use Rattle.js_tree.specs.declared.script.Script.{Script}
 use Rattle.js_semantics.specs.Run.{Run}
-use Rattle.session_messages.specs.declared.session_end.SessionEnd.{SessionEnd}
-use Rattle.session_messages.specs.declared.session_end.SessionEnd.TheVariants as ends
+use Rattle.cdp_session_messages.specs.declared.session_end.SessionEnd.{SessionEnd}
+use Rattle.cdp_session_messages.specs.declared.session_end.SessionEnd.TheVariants as ends
 use Rattle.cdp_session.specs.declared.situation.Situation.{Situation as Held}
-use Rattle.session_messages.specs.Outboxes.{fits}
+use Rattle.cdp_session_messages.specs.Outboxes.{fits}
 use Rattle.cdp_session.specs.Replies.{Answer}
 use Rattle.cdp_session.specs.Sessions.{Session}
 use Rattle.cdp_session.specs.Situations.{Standing}

@@ -1,26 +1,26 @@
 //! Where a step leaves a machine, in the words of the rules by which it is stopped. Nothing here takes memory.
 
 ghost use Rattle.std.specs.Prelude.{◌≡◌, ◌-◌, ℕ, List, slice_get, option_and_then, option_map};
-ghost use Rattle.js_code.specs.Trees.{IsTable};
-ghost use Rattle.js_frames.specs.Catchers.{standing_throw};
-ghost use Rattle.js_steps.specs.Points.{term_at, IsAt};
+ghost use Rattle.js_machine_nodes.specs.Trees.{IsTable};
+ghost use Rattle.js_machine_inspection.specs.Catchers.{standing_throw};
+ghost use Rattle.js_machine_engine.specs.Points.{term_at, IsAt};
 ghost use Rattle.frames_scopes.specs.Places.{starts_of};
 ghost use Rattle.cdp_host.specs.Arrivals.{arrival_at, is_uncaught, place_at, place_in, place_of, script_in, IsShort};
 ghost use Rattle.cdp_host.specs.Hosts.{machine_arrival, AreLines};
 
 use cdp_text::line_table::LineTable;
 use cdp_text::position::Place;
-use js_code::table::NodeTable;
-use js_frames::arrivals::{arrival, is_at_debugger};
-use js_frames::frames::depth;
-use js_frames::standing::Thrown;
-use js_frames::throws::thrown;
 use js_machine::machine::Machine;
-use js_operations::context::Context;
+use js_machine_actions::context::Context;
+use js_machine_engine::stack::Stack;
+use js_machine_engine::task::Point;
+use js_machine_inspection::arrivals::{arrival, is_at_debugger};
+use js_machine_inspection::frames::depth;
+use js_machine_inspection::standing::Thrown;
+use js_machine_inspection::throws::thrown;
+use js_machine_nodes::table::NodeTable;
 use js_semantics::form::{Mark, Source};
 use js_semantics::offsets::offset_of;
-use js_steps::stack::Stack;
-use js_steps::task::Point;
 use js_tree::script::Script;
 use stepping::Arrival;
 

@@ -2,27 +2,27 @@
 
 ghost use Rattle.std.specs.Prelude.{◌≡◌, ℕ, List, [], map, IfOk, None, option_map};
 ghost use Rattle.js_heap.specs.BuiltIns.{script_scope};
-ghost use Rattle.js_frames.specs.Catchers.{standing_throw};
+ghost use Rattle.js_machine_inspection.specs.Catchers.{standing_throw};
 ghost use Rattle.js_machine.specs.Machines.{IsKept, state_of, term_of};
-ghost use Rattle.js_world.specs.Heaps.{Heap, heap_world};
-ghost use Rattle.call_frames.specs.Views.{frame_of};
+ghost use Rattle.js_heap_memory.specs.Heaps.{Heap, heap_world};
+ghost use Rattle.frames_scopes_types.specs.Views.{frame_of};
 ghost use Rattle.frames_scopes.specs.Frames.{walk};
 ghost use Rattle.cdp_host.specs.Hosts.{AreLines, machine_run};
 ghost use Rattle.cdp_host.specs.Programs.{is_over};
 ghost use Rattle.cdp_host.specs.Standings.{value_of, IsKept-prop};
 
-use call_frames::CallFrame;
 use cdp_session::{Program, ProgramCells};
 use cdp_text::line_table::LineTable;
-use expressions::{prepare, prepare_function};
 use frames_scopes::Standing;
-use js_frames::standing::Thrown;
+use frames_scopes_types::CallFrame;
 use js_heap::built_in::script_scope;
 use js_heap::value::{Addr, Value};
+use js_heap_memory::heap::BaseHeap;
 use js_machine::machine::Machine;
+use js_machine_inspection::standing::Thrown;
 use js_tree::script::{Expression, FunctionCode, Script};
-use js_world::heap::BaseHeap;
 use pure_eval::Prepared;
+use pure_eval_preparation::{prepare, prepare_function};
 use std::alloc::{AllocError, Global};
 
 /// A machine that wasn't given up, with its heap, the scripts that it runs, and where the lines of each of them begin.

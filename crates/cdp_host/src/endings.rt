@@ -2,8 +2,8 @@
 
 ghost use Rattle.std.specs.Prelude.{◌≡◌, ℕ, List};
 ghost use Rattle.js_machine.specs.Machines.{IsKept};
-ghost use Rattle.js_steps.specs.Stepping.{finish_of};
-ghost use Rattle.js_world.specs.Heaps.{Heap};
+ghost use Rattle.js_machine_engine.specs.Stepping.{finish_of};
+ghost use Rattle.js_heap_memory.specs.Heaps.{Heap};
 ghost use Rattle.cdp_host.specs.Hosts.{machine_run, AreLines};
 ghost use Rattle.cdp_host.specs.Standings.{ending_by, ending_of, place_or_nowhere};
 
@@ -12,7 +12,7 @@ use cdp_session::Ending;
 use cdp_text::line_table::LineTable;
 use cdp_text::position::{Place, Pos};
 use js_machine::machine::Machine;
-use js_steps::stepped::Finish;
+use js_machine_engine::stepped::Finish;
 use js_tree::script::Script;
 
 /// This place, or nowhere: script 0.

@@ -1,12 +1,12 @@
 //! The host and its calls, each of which is one entry of its history.
 
 ghost use Rattle.std.specs.Prelude.{◌≡◌, ◌++◌, ◌∷◌, ◌+◌, ◌&&◌, ◌||◌, ◌<◌, ◌^◌, [], not, ℕ, List, Bool, IfOk, OnOk, OnErr, IsErr, map, length, string_bytes, true, false, nat_lt, Option, ◌⊎◌};
-ghost use Rattle.isolation.specs.Histories.{Entry, Attach, Tell, Take, Detach, Ran as RanEntry, Shut, asked, waiting, with_seat};
-ghost use Rattle.isolation.specs.Meanings.{is_enabled_seat, is_held, is_paused, is_ready, longest, resume, settle, waits};
-ghost use Rattle.isolation.specs.Runs.{HasMade, IsLongest};
-ghost use Rattle.isolation.specs.Seats.{is_attached, each, fallen, seat_of, some, waits_for_report};
-ghost use Rattle.isolation.specs.Standing.{broken_seat, fell, less};
-ghost use Rattle.isolation.specs.declared.seat.Seat.TheVariants.{Attached};
+ghost use Rattle.cdp_host_isolation.specs.Histories.{Entry, Attach, Tell, Take, Detach, Ran as RanEntry, Shut, asked, waiting, with_seat};
+ghost use Rattle.cdp_host_isolation.specs.Meanings.{is_enabled_seat, is_held, is_paused, is_ready, longest, resume, settle, waits};
+ghost use Rattle.cdp_host_isolation.specs.Runs.{HasMade, IsLongest};
+ghost use Rattle.cdp_host_isolation.specs.Seats.{is_attached, each, fallen, seat_of, some, waits_for_report};
+ghost use Rattle.cdp_host_isolation.specs.Standing.{broken_seat, fell, less};
+ghost use Rattle.cdp_host_isolation.specs.declared.seat.Seat.TheVariants.{Attached};
 ghost use Rattle.js_tree.specs.declared.script.Script.{Script as AnyScript};
 ghost use Rattle.locations.specs.Locations.{break_locations};
 ghost use Rattle.cdp_json.specs.Messages.{refusal_text};
@@ -15,14 +15,14 @@ ghost use Rattle.cdp_session.specs.Replies.{answer_of, outcome_of, IsRefused};
 ghost use Rattle.cdp_session.specs.Sessions.{Session as Kept, sent};
 ghost use Rattle.cdp_session.specs.Situations.{HasSpots, seen};
 ghost use Rattle.pure_eval.specs.Workspaces.{begun};
-ghost use Rattle.host_seats.specs.Fallbacks.{fallback_of};
-ghost use Rattle.host_seats.specs.Losses.{loss_told, losses_from};
+ghost use Rattle.cdp_host_seats.specs.Fallbacks.{fallback_of};
+ghost use Rattle.cdp_host_seats.specs.Losses.{loss_told, losses_from};
 ghost use Rattle.cdp_host.specs.Histories.{begin};
 ghost use Rattle.std.specs.Option.{option_map};
 ghost use Rattle.cdp_host.specs.Programs.{code_of, is_over, has_thrown, uncaught_text};
 ghost use Rattle.cdp_host.specs.Protocols.{asks_to_resume, asks_to_wake, protocol, situation, texts_fit};
 ghost use Rattle.cdp_host.specs.Hosts.{CarriesOn, FallsBack, KeepsFallback, Leaves, NoneAttached, PrintsOn, RunsTo, Stands, everybody, meaning_with, parts_standing, state_at};
-ghost use Rattle.host_turns.specs.Entries.{lost_for_memory};
+ghost use Rattle.cdp_host_turns.specs.Entries.{lost_for_memory};
 ghost use Rattle.cdp_host.specs.Ran.{IsStretch};
 ghost use Rattle.cdp_host.specs.Rules.{printed_between};
 ghost use Rattle.cdp_host.specs.Watching.{AnswersIn};
@@ -34,23 +34,23 @@ use crate::seats::{resume_all, some_enabled};
 use crate::stops::{is_first, pause_behind, phase_of, stops_behind, waits, woken};
 use crate::telling::{Answered, answer, take};
 use breakpoints::ScriptSpots;
-use cdp_session::{Asks, Pause, Program, Session, Situation};
-use cdp_text::line_table::LineTable;
-use cdp_text::units::{Units, text_of};
-use host_seats::{
+use cdp_host_isolation::{Phase, Seat};
+use cdp_host_seats::{
     Fallback, SessionLost, fell, is_attached, leave, losses_of, report_all, seat_index,
     some_wait_for_report, tell_loss,
 };
-use host_turns::{Ran, State, Told};
-use isolation::{Phase, Seat};
+use cdp_host_turns::{Ran, State, Told};
+use cdp_session::{Asks, Pause, Program, Session, Situation};
+use cdp_text::line_table::LineTable;
+use cdp_text::units::{Units, text_of};
+use js_heap_memory::heap::BaseHeap;
+use js_heap_memory::names::Names;
 use js_machine::machine::{Machine, Started};
 use js_machine::scripts::terms_of_scripts;
-use js_operations::shown::shown;
-use js_programs::literals::placed_scripts;
-use js_steps::stepped::Finish;
+use js_machine_actions::shown::shown;
+use js_machine_engine::stepped::Finish;
+use js_machine_lowering_parts::literals::placed_scripts;
 use js_tree::script::Script;
-use js_world::heap::BaseHeap;
-use js_world::names::Names;
 use pure_eval::Workspace;
 use std::alloc::{AllocError, Global};
 use std::collections::VecDeque;
@@ -82,7 +82,7 @@ impl<'p> Model for Host<'p> {
     ghost use Rattle.js_tree.specs.contracts.tree.Stmt as stmt;
     ghost use Rattle.std.specs.Coded.{codes};
     ghost use Rattle.pure_eval.specs.TermCodes.{term_coded};
-    ghost use Rattle.host_seats.specs.Fallbacks.{fallback_held};
+    ghost use Rattle.cdp_host_seats.specs.Fallbacks.{fallback_held};
     ghost use Rattle.cdp_host.specs.Hosts.{HostState, IsSound};
 
     ghost Value = { HostState };

@@ -3,9 +3,9 @@
 ghost use Rattle.std.specs.Prelude.{[], false};
 
 use crate::host::Host;
+use cdp_host_seats::SessionLost;
+use cdp_host_turns::{Entry, Hosted, Ran, State, Told};
 use history_lock::Standing;
-use host_seats::SessionLost;
-use host_turns::{Entry, Hosted, Ran, State, Told};
 use std::alloc::AllocError;
 use std::marker::Brand;
 
@@ -40,7 +40,7 @@ impl<'p, B: Beginning> Standing<Entry, B> for Host<'p> {
 
 impl<'p, B: Beginning> Hosted<B> for Host<'p> {
     ghost use Rattle.std.specs.Prelude.{[]};
-    ghost use Rattle.isolation.specs.Seats.{is_attached, seat_of};
+    ghost use Rattle.cdp_host_isolation.specs.Seats.{is_attached, seat_of};
     ghost use Rattle.cdp_host.specs.Debugged.{debugging};
     ghost use Rattle.cdp_host.specs.Hosts.{state_at};
 

@@ -1,15 +1,15 @@
 //! The laws of histories. Each function does nothing: its contract is the law, for every history of any scripts.
 
 ghost use Rattle.std.specs.Prelude.{◌≡◌, ℕ, List, Bool, true, false};
-ghost use Rattle.arrivals.specs.Arrivals.{ScriptsAreNumbered};
-ghost use Rattle.isolation.specs.Histories.{Entry, FitsEntry, Ran, steps_made};
-ghost use Rattle.isolation.specs.Meanings.{is_first, is_paused, longest, after_steps, is_enabled_seat};
-ghost use Rattle.isolation.specs.Runs.{IsLongest};
-ghost use Rattle.isolation.specs.Seats.{seat_of, some};
-ghost use Rattle.isolation.specs.Stops.{AllStopExactly};
-ghost use Rattle.isolation.specs.Texts.{Fits, Keeps, made_of};
-ghost use Rattle.isolation.specs.Alone.{unborn};
-ghost use Rattle.isolation.specs.declared.seat.Seat.TheVariants.{Attached};
+ghost use Rattle.locations_arrivals.specs.Arrivals.{ScriptsAreNumbered};
+ghost use Rattle.cdp_host_isolation.specs.Histories.{Entry, FitsEntry, Ran, steps_made};
+ghost use Rattle.cdp_host_isolation.specs.Meanings.{is_first, is_paused, longest, after_steps, is_enabled_seat};
+ghost use Rattle.cdp_host_isolation.specs.Runs.{IsLongest};
+ghost use Rattle.cdp_host_isolation.specs.Seats.{seat_of, some};
+ghost use Rattle.cdp_host_isolation.specs.Stops.{AllStopExactly};
+ghost use Rattle.cdp_host_isolation.specs.Texts.{Fits, Keeps, made_of};
+ghost use Rattle.cdp_host_isolation.specs.Alone.{unborn};
+ghost use Rattle.cdp_host_isolation.specs.declared.seat.Seat.TheVariants.{Attached};
 ghost use Rattle.js_tree.specs.declared.script.Script.{Script};
 ghost use Rattle.remote_objects.specs.Ids.{frame_id, object_id};
 ghost use Rattle.stepping.specs.declared.rules.StepKind.{StepKind};

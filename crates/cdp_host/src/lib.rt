@@ -25,7 +25,7 @@ mod stretch;
 mod telling;
 mod watching;
 
+pub use cdp_host_seats::SessionLost;
+pub use cdp_host_turns::{Ran, State, Told};
 pub use host::Host;
-pub use host_seats::SessionLost;
-pub use host_turns::{Ran, State, Told};
 pub use hosted::Beginning;

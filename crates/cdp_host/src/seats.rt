@@ -1,18 +1,18 @@
 //! The seats of a host's sessions: who has the debugger enabled, and what a resume does.
 
 ghost use Rattle.std.specs.Prelude.{◌≡◌, List};
-ghost use Rattle.isolation.specs.Meanings.{is_enabled_seat};
-ghost use Rattle.isolation.specs.Passes.{HearsOn, OverAll};
-ghost use Rattle.isolation.specs.Runs.{AllFit};
-ghost use Rattle.isolation.specs.Seats.{lost_by, some};
-ghost use Rattle.isolation.specs.Texts.{Fits};
+ghost use Rattle.cdp_host_isolation.specs.Meanings.{is_enabled_seat};
+ghost use Rattle.cdp_host_isolation.specs.Passes.{HearsOn, OverAll};
+ghost use Rattle.cdp_host_isolation.specs.Runs.{AllFit};
+ghost use Rattle.cdp_host_isolation.specs.Seats.{lost_by, some};
+ghost use Rattle.cdp_host_isolation.specs.Texts.{Fits};
 ghost use Rattle.js_tree.specs.declared.script.Script.{Script};
 ghost use Rattle.cdp_host.specs.Protocols.{protocol};
 ghost use Rattle.cdp_host.specs.Watching.{loss_of};
 
+use cdp_host_isolation::{Loss, Seat};
 use cdp_session::Session;
-use isolation::{Loss, Seat};
-use session_messages::SessionEnd;
+use cdp_session_messages::SessionEnd;
 
 /// Why a session is lost that ended so.
 fn loss_of(end: SessionEnd) -> Loss

@@ -2,11 +2,11 @@
 
 ghost use Rattle.std.specs.Prelude.{◌≡◌, is_some, if◌then◌else◌};
 ghost use Rattle.std.specs.Option.{option_map};
-ghost use Rattle.isolation.specs.Meanings.{is_first, next_number, phase_of, waits, woken};
+ghost use Rattle.cdp_host_isolation.specs.Meanings.{is_first, next_number, phase_of, waits, woken};
 ghost use Rattle.cdp_host.specs.Hosts.{pause_behind};
 
+use cdp_host_isolation::Phase;
 use cdp_session::Pause;
-use isolation::Phase;
 
 /// The greatest number of a stop.
 const GREATEST_STOP: u64 = 1 << 62;

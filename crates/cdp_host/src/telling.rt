@@ -1,17 +1,17 @@
 //! What one session is told, and what it hands out.
 
 ghost use Rattle.std.specs.Prelude.{◌≡◌, map, string_bytes};
-ghost use Rattle.isolation.specs.Seats.{put, seat_of};
-ghost use Rattle.isolation.specs.declared.seat.Seat.TheVariants.{Attached};
+ghost use Rattle.cdp_host_isolation.specs.Seats.{put, seat_of};
+ghost use Rattle.cdp_host_isolation.specs.declared.seat.Seat.TheVariants.{Attached};
 ghost use Rattle.cdp_session.specs.Replies.{answer_of};
 ghost use Rattle.cdp_session.specs.Sessions.{Session as Kept, emptied};
 ghost use Rattle.cdp_session.specs.Situations.{HasSpots, seen};
 ghost use Rattle.cdp_host.specs.Watching.{AnswersAs, AnswersIn};
 
+use cdp_host_isolation::Seat;
+use cdp_host_seats::seat_index;
 use cdp_session::{Asks, Program, Session, Situation};
-use host_seats::seat_index;
-use isolation::Seat;
-use session_messages::SessionEnd;
+use cdp_session_messages::SessionEnd;
 use std::alloc::Global;
 
 /// What became of a text.

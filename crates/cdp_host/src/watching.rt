@@ -1,20 +1,20 @@
 //! How sessions watch the steps of a program.
 
 ghost use Rattle.std.specs.Prelude.{◌≡◌, ◌<◌, ◌^◌, length, true, false, IfOk, OnOk, IsErrOf, None};
-ghost use Rattle.isolation.specs.Passes.{Behind, HearsOf, Over, Watches, any_set};
-ghost use Rattle.isolation.specs.Runs.{AllFit};
-ghost use Rattle.isolation.specs.Texts.{Fits};
-ghost use Rattle.session_messages.specs.Outboxes.{fits};
+ghost use Rattle.cdp_host_isolation.specs.Passes.{Behind, HearsOf, Over, Watches, any_set};
+ghost use Rattle.cdp_host_isolation.specs.Runs.{AllFit};
+ghost use Rattle.cdp_host_isolation.specs.Texts.{Fits};
+ghost use Rattle.cdp_session_messages.specs.Outboxes.{fits};
 ghost use Rattle.cdp_session.specs.Situations.{seen};
 ghost use Rattle.cdp_host.specs.Protocols.{protocol};
 ghost use Rattle.cdp_host.specs.Steps.{end_told, is_started, names, print_told, session_behind, told};
 ghost use Rattle.cdp_host.specs.Watching.{step_seen};
 
 use crate::seats::lost_by;
+use cdp_host_isolation::Seat;
 use cdp_session::{Ending, Program, Session, Situation};
-use isolation::Seat;
+use cdp_session_messages::SessionEnd;
 use js_heap::value::Value;
-use session_messages::SessionEnd;
 use std::alloc::AllocError;
 use stepping::Arrival;
 

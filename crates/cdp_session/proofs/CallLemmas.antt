@@ -8,9 +8,9 @@ use Rattle.js_heap.specs.declared.value.Value.{Value}
 use Rattle.js_tree.specs.declared.script.FunctionCode.{FunctionCode}
 use Rattle.js_tree.specs.Views.{expression_view}
 use Rattle.js_parser.specs.Expressions.{function_of, UnlessMemory}
-use Rattle.js_syntax.specs.declared.fault.ParseFault.{ParseFault}
-use Rattle.js_syntax.specs.declared.fault.ParseFault.TheVariants as parse_faults
-use Rattle.js_numbered.specs.Numbered.{numbered_made}
+use Rattle.js_parser_readers.specs.declared.fault.ParseFault.{ParseFault}
+use Rattle.js_parser_readers.specs.declared.fault.ParseFault.TheVariants as parse_faults
+use Rattle.js_parser_numbering.specs.Numbered.{numbered_made}
 use Rattle.js_semantics.specs.Evaluation.{Argument, evaluate_call, evaluate_function as definition, next_kept}
 use Rattle.js_semantics.specs.Literals.{source_literals}
 use Rattle.js_semantics.specs.Makers.{Made as Source}

@@ -3,8 +3,8 @@ use Rattle.std.proofs.Common.{◌≡◌, ℕ, List, ◌++◌, Bool, false, filte
 use Rattle.js_heap.specs.World.{World}
 use Rattle.js_heap.specs.declared.value.Addr.{Addr}
 use Rattle.js_heap.specs.declared.value.Value.{Value}
-use Rattle.js_numbered.specs.Numbered.{numbered_made}
-use Rattle.js_numbered.proofs.NumberedLaws.{numbered_same}
+use Rattle.js_parser_numbering.specs.Numbered.{numbered_made}
+use Rattle.js_parser_numbering.proofs.NumberedLaws.{numbered_same}
 use Rattle.js_parser.specs.Expressions.{expression_of}
 use Rattle.js_semantics.specs.Evaluation.{Answer, evaluate, evaluate_expression as definition, next_kept}
 use Rattle.js_semantics.specs.Literals.{source_literals}
@@ -14,7 +14,7 @@ use Rattle.js_tree.specs.Views.{expression_view}
 use Rattle.js_tree.specs.declared.script.Expression.{Expression}
 use Rattle.breakpoints.specs.Breakpoints.{id_of}
 use Rattle.breakpoints.specs.declared.breakpoint.Breakpoint.{Breakpoint}
-use Rattle.call_frames.specs.Frames.{ShownFrame}
+use Rattle.frames_scopes_types.specs.Frames.{ShownFrame}
 use Rattle.pure_eval.specs.Preparing.{IsPrepared}
 use Rattle.pure_eval.specs.Workspaces.{Opened, Workspace, opened, EvaluatesTo}
 use Rattle.pure_eval.specs.declared.evaluated.Evaluated.{Evaluated}

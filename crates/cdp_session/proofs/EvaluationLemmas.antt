@@ -6,10 +6,10 @@ use Rattle.js_heap.specs.declared.value.Value.{Value}
 use Rattle.js_tree.specs.declared.script.Expression.{Expression}
 use Rattle.js_tree.specs.Views.{expression_view}
 use Rattle.js_parser.specs.Expressions.{expression_of, UnlessMemory}
-use Rattle.js_syntax.specs.declared.fault.ParseFault.{ParseFault}
-use Rattle.js_syntax.specs.declared.fault.ParseFault.TheVariants as parse_faults
+use Rattle.js_parser_readers.specs.declared.fault.ParseFault.{ParseFault}
+use Rattle.js_parser_readers.specs.declared.fault.ParseFault.TheVariants as parse_faults
 use Rattle.cdp_session.specs.declared.done.Fault.TheVariants as faults
-use Rattle.js_numbered.specs.Numbered.{numbered_made}
+use Rattle.js_parser_numbering.specs.Numbered.{numbered_made}
 use Rattle.js_semantics.specs.Evaluation.{Answer, evaluate, evaluate_expression as definition, next_kept}
 use Rattle.js_semantics.specs.Literals.{source_literals}
 use Rattle.js_semantics.specs.Sources.{expression_source}

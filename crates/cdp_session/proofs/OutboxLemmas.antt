@@ -25,14 +25,14 @@ use Rattle.js_tree.specs.Trees.{Expression}
 use Rattle.js_semantics.specs.Evaluation.{Argument, Answer, a_result, a_throw, an_effect, is_full_of, spent}
 use Rattle.js_semantics.specs.Makers.{Made as Source}
 use Rattle.js_parser.specs.Expressions.{expression_of, function_of}
-use Rattle.call_frames.specs.Frames.{ShownFrame}
+use Rattle.frames_scopes_types.specs.Frames.{ShownFrame}
 use Rattle.cdp_json.specs.declared.params.Evaluation.{Evaluation}
 use Rattle.cdp_json.specs.declared.params.FunctionCall.{FunctionCall}
 use Rattle.remote_objects.specs.Making.{Made}
 use Rattle.cdp_json.specs.declared.refusal.Refusal.TheVariants as refusals
 use Rattle.cdp_session.specs.Calls.{arguments_of, calls, calls_given, outcome_of_function, receiver_of, showing_for}
 use Rattle.cdp_session.specs.declared.showing.Showing.{Showing}
-use Rattle.session_messages.specs.Exceptions.{thrown_result, value_result}
+use Rattle.cdp_session_messages.specs.Exceptions.{thrown_result, value_result}
 use Rattle.cdp_session.specs.Evaluations.{Evaluates, Stops, Answers, answered_by, as_it_is, behind_value, described, evaluates, evaluates_in, evaluates_at, frame_of, keeps, kept_by, outcome_of_answer, outcome_of_tree, showing_of}
 use Rattle.cdp_session.specs.Rows.{Row, Refuses, Does, does, row, row_of, step_from, in_script, continue_at, adds, adds_at, properties_of, releases}
 use Rattle.cdp_session.specs.Replies.{IsDone, refusal_of, comes_to, outcome_by, outcome_for, outcome_of, answer_by, answer_texts, answer_of}

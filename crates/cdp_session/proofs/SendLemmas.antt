@@ -6,10 +6,10 @@ use Rattle.std.proofs.alloc.Global.TheSendSync as global
 use Rattle.std.proofs.option.Option.TheSendSync as options
 use Rattle.std.proofs.vec.Vec.TheSendSync as vectors
 use Rattle.cdp_text.proofs.units.Units.TheSendSync as units
-use Rattle.js_operators.proofs.operator.AssignmentOperator.TheSendSync as assignment
-use Rattle.js_operators.proofs.operator.BinaryOperator.TheSendSync as binary
-use Rattle.js_operators.proofs.operator.UnaryOperator.TheSendSync as unary
-use Rattle.js_operators.proofs.operator.UpdateOperator.TheSendSync as update
+use Rattle.js_tree_operators.proofs.operator.AssignmentOperator.TheSendSync as assignment
+use Rattle.js_tree_operators.proofs.operator.BinaryOperator.TheSendSync as binary
+use Rattle.js_tree_operators.proofs.operator.UnaryOperator.TheSendSync as unary
+use Rattle.js_tree_operators.proofs.operator.UpdateOperator.TheSendSync as update
 use Rattle.js_tree.proofs.integer.SafeInteger.TheSendSync as integer
 use Rattle.js_tree.proofs.names.Names.TheSendSync as names
 use Rattle.js_tree.proofs.node.NodeId.TheSendSync as node
@@ -20,7 +20,7 @@ use Rattle.js_tree.specs.contracts.script.Expression as expression
 use Rattle.breakpoints.proofs.breakpoints.Breakpoints.TheSendSync as breakpoints
 use Rattle.object_groups.proofs.handles.Handles.TheSendSync as handles
 use Rattle.pure_eval.proofs.workspace.Workspace.TheSendSync as workspace
-use Rattle.session_messages.proofs.outbox.Outbox.TheSendSync as outbox
+use Rattle.cdp_session_messages.proofs.outbox.Outbox.TheSendSync as outbox
 use Rattle.stepping.proofs.rules.Rules.TheSendSync as rules
 use Rattle.cdp_session.specs.contracts.conditions.Condition as condition
 use Rattle.cdp_session.specs.contracts.conditions.Condition.TheInside as condition_inside

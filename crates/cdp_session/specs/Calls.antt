@@ -6,7 +6,7 @@ use Rattle.js_heap.specs.declared.value.Value.TheVariants as values
 use Rattle.js_tree.specs.Trees.{Expression}
 use Rattle.js_semantics.specs.Evaluation.{Answer, Argument, evaluate_call, given, made_of}
 use Rattle.js_semantics.specs.Literals.{expression_literals}
-use Rattle.js_numbered.specs.Numbered.{numbered_made}
+use Rattle.js_parser_numbering.specs.Numbered.{numbered_made}
 use Rattle.js_parser.specs.Expressions.{function_of}
 use Rattle.object_groups.specs.declared.handle.Handle.{Handle}
 use Rattle.object_groups.specs.declared.handle.Target.{Target}

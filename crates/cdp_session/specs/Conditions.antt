@@ -9,19 +9,19 @@ use Rattle.js_heap.specs.World.{World}
 use Rattle.js_heap.specs.declared.value.Addr.{Addr}
 use Rattle.js_heap.specs.declared.value.Value.{Value}
 use Rattle.js_heap.specs.declared.value.Value.TheVariants as values
-use Rattle.js_language.specs.Places.{expression_places, numbers_of}
-use Rattle.js_numbered.specs.Numbered.{numbered_made}
+use Rattle.js_parser_language.specs.Places.{expression_places, numbers_of}
+use Rattle.js_parser_numbering.specs.Numbered.{numbered_made}
 use Rattle.js_parser.specs.Expressions.{expression_of}
 use Rattle.js_semantics.specs.Evaluation.{Answer, a_result, evaluate, evaluate_expression}
 use Rattle.js_semantics.specs.Literals.{expression_literals}
 use Rattle.js_tree.specs.Trees as trees
 use Rattle.js_tree.specs.Views.{expression_view}
 use Rattle.js_tree.specs.declared.script.Expression.{Expression}
-use Rattle.js_world.specs.Overlays.{space_after}
+use Rattle.js_heap_memory.specs.Overlays.{space_after}
 use Rattle.breakpoints.specs.Breakpoints as breakpoints
 use Rattle.breakpoints.specs.Breakpoints.{hits_at}
 use Rattle.breakpoints.specs.declared.breakpoint.Breakpoint.{Breakpoint}
-use Rattle.call_frames.specs.Frames.{ShownFrame}
+use Rattle.frames_scopes_types.specs.Frames.{ShownFrame}
 use Rattle.pure_eval.specs.Workspaces.{Workspace}
 use Rattle.cdp_session.specs.Evaluations.{innermost}
 use Rattle.cdp_session.specs.Situations.{Standing}

@@ -6,7 +6,7 @@ use Rattle.cdp_json.specs.Json.{Json}
 use Rattle.remote_objects.specs.Making.{Made, made_all}
 use Rattle.remote_objects.specs.Remote.{remote}
 use Rattle.remote_objects.specs.Sights.{Sight}
-use Rattle.session_messages.specs.Prints.{print_text}
+use Rattle.cdp_session_messages.specs.Prints.{print_text}
 use Rattle.cdp_session.specs.Pauses.{sight_of}
 use Rattle.cdp_session.specs.Sessions.{Session, sent, with_handles}
 use Rattle.cdp_session.specs.Situations.{Situation}

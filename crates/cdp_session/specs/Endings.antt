@@ -5,7 +5,7 @@ use Rattle.cdp_text.specs.declared.position.Place.{Place}
 use Rattle.js_heap.specs.declared.value.Value.{Value}
 use Rattle.cdp_json.specs.Json.{Json}
 use Rattle.remote_objects.specs.Making.{Made}
-use Rattle.session_messages.specs.Ends.{context_destroyed_text, throw_details, throw_text, url_at}
+use Rattle.cdp_session_messages.specs.Ends.{context_destroyed_text, throw_details, throw_text, url_at}
 use Rattle.cdp_session.specs.Consoles.{value_made}
 use Rattle.cdp_session.specs.Pauses.{sight_of}
 use Rattle.cdp_session.specs.Sessions.{Session, sent, with_exception, with_handles}

@@ -14,12 +14,12 @@ use Rattle.js_tree.specs.Trees.{Expression}
 use Rattle.js_semantics.specs.Evaluation.{Answer, a_result, a_throw, an_effect, is_full_of, spent, evaluate}
 use Rattle.js_semantics.specs.Literals.{expression_literals}
 use Rattle.js_semantics.specs.Makers.{Made as Source}
-use Rattle.js_numbered.specs.Numbered.{numbered_made}
-use Rattle.js_world.specs.Overlays.{Over, over_world, space_after}
+use Rattle.js_parser_numbering.specs.Numbered.{numbered_made}
+use Rattle.js_heap_memory.specs.Overlays.{Over, over_world, space_after}
 use Rattle.js_parser.specs.Expressions.{expression_of}
 use Rattle.js_parser.specs.NodeTexts.{node_text}
 use Rattle.pure_eval.specs.Workspaces.{with_evaluated}
-use Rattle.call_frames.specs.Frames.{ShownFrame, ShownScope}
+use Rattle.frames_scopes_types.specs.Frames.{ShownFrame, ShownScope}
 use Rattle.object_groups.specs.Handles as handles
 use Rattle.object_groups.specs.Handles.{fault_of}
 use Rattle.cdp_json.specs.Json.{Json}
@@ -36,7 +36,7 @@ use Rattle.remote_objects.specs.declared.detail.Detail.TheVariants as previews
 use Rattle.remote_objects.specs.Sights.{Sight}
 use Rattle.remote_objects.specs.Views as views
 use Rattle.remote_objects.specs.declared.describer.Describer.{Describer}
-use Rattle.session_messages.specs.Exceptions.{effect_object, syntax_result, thrown_result, value_result}
+use Rattle.cdp_session_messages.specs.Exceptions.{effect_object, syntax_result, thrown_result, value_result}
 use Rattle.cdp_session.specs.Sessions.{Session, with_handles, with_workspace, with_exception}
 use Rattle.cdp_session.specs.Situations.{Situation}
 use Rattle.cdp_session.specs.declared.showing.Showing.{Showing}

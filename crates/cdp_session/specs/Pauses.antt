@@ -12,9 +12,9 @@ use Rattle.remote_objects.specs.Remote.{remote}
 use Rattle.remote_objects.specs.Sights.{Sight}
 use Rattle.remote_objects.specs.Views as views
 use Rattle.remote_objects.specs.declared.describer.Describer.{Describer}
-use Rattle.js_world.specs.Heaps.{Heap, heap_world}
+use Rattle.js_heap_memory.specs.Heaps.{Heap, heap_world}
 use Rattle.js_parser.specs.NodeTexts.{node_text}
-use Rattle.session_messages.specs.Results.{paused_text}
+use Rattle.cdp_session_messages.specs.Results.{paused_text}
 use Rattle.cdp_session.specs.Sessions.{Session}
 use Rattle.cdp_session.specs.Situations.{Situation}
 use Rattle.cdp_session.specs.declared.situation.Pause.{Pause}

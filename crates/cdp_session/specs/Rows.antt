@@ -37,8 +37,8 @@ use Rattle.cdp_session.specs.Evaluations.{Answers, Evaluates, Stops, detail_of, 
 use Rattle.cdp_session.specs.Calls.{calls}
 use Rattle.cdp_session.specs.Pauses.{enabling_told}
 use Rattle.cdp_session.specs.Sessions.{Session, holding, with_rules, with_runtime, with_breakpoints, with_handles, without_backtrace}
-use Rattle.session_messages.specs.Results.{context_created_text, debugger_id, declared_names as names_result, set_by_url, set_at, spot_locations, script_source, properties}
-use Rattle.session_messages.specs.Scripts.{scripts_told}
+use Rattle.cdp_session_messages.specs.Results.{context_created_text, debugger_id, declared_names as names_result, set_by_url, set_at, spot_locations, script_source, properties}
+use Rattle.cdp_session_messages.specs.Scripts.{scripts_told}
 use Rattle.cdp_session.specs.declared.situation.Pause.{Pause}
 use Rattle.cdp_session.specs.declared.asks.Asks.{Asks}
 use Rattle.cdp_session.specs.declared.asks.Asks.TheVariants.{Nothing, Wake, Resume, Leave}

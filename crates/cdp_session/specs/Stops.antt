@@ -14,7 +14,7 @@ use Rattle.cdp_session.specs.Conditions.{hits, is_some_hit}
 use Rattle.cdp_session.specs.Pauses.{pause_told}
 use Rattle.cdp_session.specs.Sessions.{Session, sent, with_handles, with_rules, without_backtrace, if_enabled}
 use Rattle.cdp_session.specs.Situations.{Situation, Standing}
-use Rattle.session_messages.specs.Results.{resumed_text}
+use Rattle.cdp_session_messages.specs.Results.{resumed_text}
 
 -- ---- the rules
 

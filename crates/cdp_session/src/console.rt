@@ -6,7 +6,7 @@ ghost use Rattle.cdp_session.specs.Consoles as consoles;
 ghost use Rattle.cdp_session.specs.Pauses.{described_by};
 ghost use Rattle.cdp_session.specs.Sessions.{with_handles};
 ghost use Rattle.cdp_session.specs.Situations.{seen};
-ghost use Rattle.session_messages.specs.Prints.{print_text};
+ghost use Rattle.cdp_session_messages.specs.Prints.{print_text};
 
 use crate::pausing::describer;
 use crate::program::Program;
@@ -14,11 +14,11 @@ use crate::session::Session;
 use crate::situation::Situation;
 use crate::sources::EvaluatedTexts;
 use cdp_json::value::Json;
+use cdp_session_messages::print_text;
 use js_heap::value::Value;
-use js_world::heap::BaseHeap;
+use js_heap_memory::heap::BaseHeap;
 use object_groups::Handles;
 use remote_objects::Describer;
-use session_messages::print_text;
 use std::alloc::{AllocError, Global};
 
 /// `console`

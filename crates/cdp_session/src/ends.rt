@@ -13,9 +13,9 @@ use crate::session::Session;
 use crate::situation::Situation;
 use crate::sources::EvaluatedTexts;
 use cdp_json::value::Json;
+use cdp_session_messages::{throw_details, throw_text, url_at};
 use cdp_text::position::Place;
 use js_heap::value::Value;
-use session_messages::{throw_details, throw_text, url_at};
 use std::alloc::{AllocError, Global};
 
 impl Session {

@@ -2,12 +2,12 @@
 
 ghost use Rattle.std.specs.Prelude.{◌≡◌, Err, IfOk, None, OnOk, bytes_eq, map, option_copied, option_map, unwrap_or, if◌then◌else◌};
 ghost use Rattle.js_heap.specs.BuiltIns.{script_scope};
-ghost use Rattle.js_syntax.specs.declared.fault.ParseFault.TheVariants as parse_faults;
+ghost use Rattle.js_parser_readers.specs.declared.fault.ParseFault.TheVariants as parse_faults;
 ghost use Rattle.cdp_session.specs.declared.done.Fault.TheVariants as faults;
 ghost use Rattle.js_semantics.specs.Evaluation.{Answer, evaluate_expression as definition};
 ghost use Rattle.js_semantics.specs.Makers.{Made as Source};
 ghost use Rattle.js_semantics.specs.Sources.{expression_source};
-ghost use Rattle.call_frames.specs.Views.{frame_of, scope_of};
+ghost use Rattle.frames_scopes_types.specs.Views.{frame_of, scope_of};
 ghost use Rattle.js_heap.specs.ScratchSpaces.{copied_world};
 ghost use Rattle.pure_eval.specs.Workspaces.{opened as just_opened, EvaluatesTo};
 ghost use Rattle.remote_objects.specs.Views.{sight_of};
@@ -28,23 +28,23 @@ use crate::rows::answering;
 use crate::session::Session;
 use crate::showing::{Showing, detail_of};
 use crate::situation::Situation;
-use call_frames::{CallFrame, Scope};
 use cdp_json::params::Evaluation as Asked;
 use cdp_json::refusal::{Refusal, ScratchLimit};
 use cdp_json::value::Json;
+use cdp_session_messages::{effect_object, syntax_result, thrown_result, value_result};
 use cdp_text::units::Units;
+use frames_scopes_types::{CallFrame, Scope};
 use js_heap::built_in::script_scope;
 use js_heap::change::Counted;
 use js_heap::limits::{MOST_SCRATCH_CELLS, MOST_SCRATCH_UNITS};
 use js_heap::value::{Addr, Value};
+use js_machine_rows::table::Table;
 use js_parser::parse::parse_expression;
-use js_rows::table::Table;
-use js_syntax::fault::ParseFault;
+use js_parser_readers::fault::ParseFault;
 use js_tree::script::{Expression, Script};
 use object_groups::Handles;
 use pure_eval::{Evaluated, Opened, Workspace, is_memory};
 use remote_objects::frame_id;
-use session_messages::{effect_object, syntax_result, thrown_result, value_result};
 use std::alloc::{AllocError, Global};
 
 /// The refusal for a limit of a session's cells that an evaluation would pass.

@@ -12,12 +12,12 @@ use crate::situation::{Pause, Situation};
 use crate::sources::EvaluatedTexts;
 use cdp_json::parts::member;
 use cdp_json::value::{Json, Member};
+use cdp_session_messages::paused_text;
 use cdp_text::units::Units;
 use js_heap::value::Value;
-use js_world::heap::BaseHeap;
+use js_heap_memory::heap::BaseHeap;
 use object_groups::Handles;
 use remote_objects::{Describer, backtrace};
-use session_messages::paused_text;
 use std::alloc::{AllocError, Global};
 use stepping::Cause;
 

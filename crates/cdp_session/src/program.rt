@@ -1,10 +1,10 @@
 //! The program that a session debugs, where it stands still.
 
-use call_frames::CallFrame;
+use frames_scopes_types::CallFrame;
 use js_heap::value::{Addr, Value};
+use js_heap_memory::heap::BaseHeap;
+use js_heap_memory::names::Names;
 use js_tree::script::{Expression, FunctionCode};
-use js_world::heap::BaseHeap;
-use js_world::names::Names;
 use pure_eval::Prepared;
 use std::alloc::{AllocError, Global};
 
@@ -20,9 +20,9 @@ pub struct ProgramCells<'p> {
 /// What a session asks of a program that stands still. Contracts see how it stands.
 pub trait Program {
     ghost use Rattle.std.specs.Prelude.{◌≡◌, map, IfOk};
-    ghost use Rattle.call_frames.specs.Views.{frame_of};
+    ghost use Rattle.frames_scopes_types.specs.Views.{frame_of};
     ghost use Rattle.cdp_session.specs.Situations.{Standing};
-    ghost use Rattle.js_world.specs.Heaps.{heap_world};
+    ghost use Rattle.js_heap_memory.specs.Heaps.{heap_world};
     ghost use Rattle.pure_eval.specs.Preparing.{IsPrepared, IsPreparedFunction};
 
     ghost standing: { Self → Standing };

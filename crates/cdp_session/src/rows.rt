@@ -26,16 +26,16 @@ use cdp_json::params::{ExceptionPauses, Location, Params};
 use cdp_json::parts::nothing;
 use cdp_json::refusal::Refusal;
 use cdp_json::value::Json;
+use cdp_session_messages::{
+    context_created_text, debugger_id, declared_names, properties, script_source, scripts_told,
+    set_at, set_by_url, spot_locations,
+};
 use cdp_text::position::{Place, Pos};
 use cdp_text::units::Units;
 use js_heap::built_in::script_scope;
 use locations::spot::{between, first_at_or_after};
 use object_groups::Handle;
 use remote_objects::{Detail, backtrace};
-use session_messages::{
-    context_created_text, debugger_id, declared_names, properties, script_source, scripts_told,
-    set_at, set_by_url, spot_locations,
-};
 use std::alloc::{AllocError, Global};
 use stepping::{Exceptions, Rules, StepKind, StepRequest};
 

@@ -3,12 +3,12 @@
 ghost use Rattle.std.specs.Prelude.{◌≡◌, ◌<◌, ◌≤◌, ◌^◌, ◌∷◌, [], ◌++◌, List, true, false, map, IfOk, OnOk, IsErrOf, option_to_list, string_bytes, if◌then◌else◌};
 ghost use Rattle.cdp_session.specs.Situations.{HasSpots, seen};
 ghost use Rattle.cdp_session.specs.Sessions.{emptied, fresh, holding, is_silent, sent, with_exception, with_handles};
-ghost use Rattle.session_messages.specs.Outboxes.{fits};
+ghost use Rattle.cdp_session_messages.specs.Outboxes.{fits};
 ghost use Rattle.breakpoints.specs.Breakpoints.{id_of};
 ghost use Rattle.breakpoints.specs.declared.breakpoint.Breakpoint.{Breakpoint};
 ghost use Rattle.stepping.specs.Causes.{first_cause};
 ghost use Rattle.cdp_session.specs.Conditions.{is_some_hit};
-ghost use Rattle.session_messages.specs.Results.{resumed_text};
+ghost use Rattle.cdp_session_messages.specs.Results.{resumed_text};
 ghost use Rattle.cdp_session.specs.Stops.{cause_of, hits_of, may_be_hit, may_name, resumed, stop_told, stopped};
 ghost use Rattle.cdp_session.specs.Consoles.{printed};
 ghost use Rattle.cdp_session.specs.Endings.{ended, ending_told};
@@ -27,13 +27,15 @@ use cdp_json::command::Reading;
 use cdp_json::params::Params;
 use cdp_json::refusal::Refusal;
 use cdp_json::{read_command, refusal_text, result_text};
+use cdp_session_messages::{
+    Outbox, RESUMED_SIZE, SessionEnd, context_destroyed_text, resumed_text,
+};
 use cdp_text::position::Place;
 use cdp_text::units::Units;
 use js_heap::value::Value;
 use object_groups::Handles;
 use pure_eval::Workspace;
 use remote_objects::backtrace;
-use session_messages::{Outbox, RESUMED_SIZE, SessionEnd, context_destroyed_text, resumed_text};
 use std::alloc::{AllocError, Global};
 use std::marker::Model;
 use stepping::{Arrival, Cause, Rules, names};
@@ -254,7 +256,7 @@ impl Session {
     }
 
     /// Whether the event of a resume may wait behind the other texts.
-    #[tactic(auto, using(session_messages::proofs::OutboxSizes::resumed_size))]
+    #[tactic(auto, using(cdp_session_messages::proofs::OutboxSizes::resumed_size))]
     fn has_room_to_resume(&self) -> bool
         ensures { result ≡ fits (self.now.outbox ++ resumed_text ∷ []) }
     {

@@ -2,9 +2,9 @@
 #![tactic(auto)]
 
 use cdp_edge::{FileShelf, WriterSink, put};
-use command_line::debug_main;
-use command_words::{Request, Sources, read_words};
-use socket_edge::{SocketHarbor, SystemClock};
+use cdp_edge_sockets::{SocketHarbor, SystemClock};
+use debug_host_commands::debug_main;
+use debug_host_options::{Request, Sources, read_words};
 use std::alloc::{AllocError, Global};
 use std::io::ErrorKind;
 use std::process::ExitCode;

@@ -8,11 +8,11 @@ use Rattle.js_semantics.specs.declared.form.Mark.{Mark}
 use Rattle.js_semantics.specs.Terms.{Term}
 use Rattle.js_semantics.specs.State.{Frame, State, spot_of}
 use Rattle.js_semantics.specs.Frames.{active, at, shown_frames, scopes_at, reversed_onto, frames, frame_at}
-use Rattle.js_frames.specs.Sources.{spans_in}
+use Rattle.js_machine_inspection.specs.Sources.{spans_in}
 use Rattle.std.specs.Iterator.{YieldsFirstBy}
 use Rattle.frames_scopes.specs.declared.frames.FrameView.{FrameView}
 use Rattle.frames_scopes.specs.FrameViews.{frame_shown}
-use Rattle.call_frames.specs.Frames.{ShownFrame}
+use Rattle.frames_scopes_types.specs.Frames.{ShownFrame}
 use Rattle.frames_scopes.specs.Frames.{arrived, here_at, shown_frame, listed_frames, walk}
 use Rattle.js_semantics.proofs.DepthLaws.{shown-length, scopes-length}
 

@@ -1,6 +1,6 @@
 -- Scopes and functions that are lent from a heap, with texts for the numbers of names.
 use Rattle.std.specs.Prelude.{ℕ, List, Option, Some, None}
-use Rattle.js_world.specs.Cells.{name_text}
+use Rattle.js_heap_memory.specs.Cells.{name_text}
 use Rattle.frames_scopes.specs.declared.cells.ScopeCell.{ScopeCell}
 use Rattle.frames_scopes.specs.declared.cells.FunctionRef.{FunctionRef}
 use Rattle.frames_scopes.specs.Scopes.{ScopeParts}

@@ -1,6 +1,6 @@
 -- What a view of a frame shows.
 use Rattle.frames_scopes.specs.declared.frames.FrameView.{FrameView}
-use Rattle.call_frames.specs.Frames.{ShownFrame}
+use Rattle.frames_scopes_types.specs.Frames.{ShownFrame}
 
 -- a view of a frame shows its name, place, function's place, `this` and scopes
 abbrev pub frame_shown : FrameView → ShownFrame

@@ -14,9 +14,9 @@ use Rattle.js_semantics.specs.declared.form.Mark.TheVariants.{Start as start}
 use Rattle.js_semantics.specs.Terms.{Term}
 use Rattle.js_semantics.specs.State.{Frame, State, spot_of}
 use Rattle.js_semantics.specs.Frames.{at, frames}
-use Rattle.js_frames.specs.Sources.{spans_in}
+use Rattle.js_machine_inspection.specs.Sources.{spans_in}
 use Rattle.frames_scopes.specs.Places.{shown_place}
-use Rattle.call_frames.specs.Frames.{ShownFrame}
+use Rattle.frames_scopes_types.specs.Frames.{ShownFrame}
 use Rattle.frames_scopes.specs.Scopes.{shown_scopes}
 
 -- ---- functions

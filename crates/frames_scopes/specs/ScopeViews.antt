@@ -1,6 +1,6 @@
 -- What a view of a scope shows.
 use Rattle.frames_scopes.specs.declared.scopes.ScopeView.{ScopeView}
-use Rattle.call_frames.specs.Frames.{ShownScope}
+use Rattle.frames_scopes_types.specs.Frames.{ShownScope}
 
 -- a view of a scope shows its kind, name and address
 abbrev pub scope_shown : ScopeView → ShownScope

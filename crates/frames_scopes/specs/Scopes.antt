@@ -6,9 +6,9 @@ use Rattle.js_heap.specs.declared.cell.Cell.{Cell}
 use Rattle.js_heap.specs.declared.cell.Cell.TheVariants as cells
 use Rattle.js_heap.specs.World.{World, read_cell}
 use Rattle.js_semantics.specs.Frames.{Listed, as_block, as_catch, as_local, as_closure, as_script, as_global, ListedScope, listed_within, scope_chain}
-use Rattle.call_frames.specs.declared.kind.ListedKind.{ListedKind}
-use Rattle.call_frames.specs.declared.kind.ListedKind.TheVariants as listed
-use Rattle.call_frames.specs.Frames.{ShownScope}
+use Rattle.frames_scopes_types.specs.declared.kind.ListedKind.{ListedKind}
+use Rattle.frames_scopes_types.specs.declared.kind.ListedKind.TheVariants as listed
+use Rattle.frames_scopes_types.specs.Frames.{ShownScope}
 
 -- the code's word for it
 abbrev pub shown_kind : Listed → ListedKind

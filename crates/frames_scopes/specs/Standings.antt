@@ -2,11 +2,11 @@
 use Rattle.std.specs.Prelude.{◌≡◌, ◌<◌, ◌^◌, ℕ, List, length, map, All}
 use Rattle.js_heap.specs.declared.value.Addr.{Addr}
 use Rattle.js_tree.specs.declared.script.Script.{Script}
-use Rattle.js_code.specs.declared.table.NodeTable.{NodeTable}
-use Rattle.js_code.specs.Trees.{IsTable}
-use Rattle.js_steps.specs.declared.task.Point.{Point}
-use Rattle.js_steps.specs.Tasks.{Wide, InScopes}
-use Rattle.js_steps.specs.Points.{IsAt}
+use Rattle.js_machine_nodes.specs.declared.table.NodeTable.{NodeTable}
+use Rattle.js_machine_nodes.specs.Trees.{IsTable}
+use Rattle.js_machine_engine.specs.declared.task.Point.{Point}
+use Rattle.js_machine_engine.specs.Tasks.{Wide, InScopes}
+use Rattle.js_machine_engine.specs.Points.{IsAt}
 use Rattle.frames_scopes.specs.Places.{starts_of}
 
 -- the tasks of a machine stand in its code, which is in order; the lines are those of the scripts, none of which is

@@ -2,8 +2,8 @@
 
 ghost use Rattle.std.specs.Prelude.{◌≡◌, ℕ, List, option_copied};
 ghost use Rattle.js_heap.specs.World.{read_cell};
-ghost use Rattle.js_world.specs.Heaps.{heap_world};
-ghost use Rattle.js_world.specs.Cells.{cell_at};
+ghost use Rattle.js_heap_memory.specs.Heaps.{heap_world};
+ghost use Rattle.js_heap_memory.specs.Cells.{cell_at};
 ghost use Rattle.frames_scopes.specs.Scopes.{scope_parts};
 ghost use Rattle.frames_scopes.specs.Frames.{function_parts};
 ghost use Rattle.frames_scopes.specs.Cells.{scope_seen, function_seen};
@@ -11,9 +11,9 @@ ghost use Rattle.frames_scopes.specs.Cells.{scope_seen, function_seen};
 use js_heap::built_in::Code;
 use js_heap::cell::ScopeKind;
 use js_heap::value::Addr;
-use js_world::heap::BaseHeap;
-use js_world::stored::{FunctionName, Stored};
-use js_world::world::World;
+use js_heap_memory::heap::BaseHeap;
+use js_heap_memory::stored::{FunctionName, Stored};
+use js_heap_memory::world::World;
 
 /// A scope but for its names.
 #[derive(Clone, Copy)]

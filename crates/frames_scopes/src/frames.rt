@@ -1,16 +1,16 @@
 //! The active frames.
 
 ghost use Rattle.std.specs.Prelude.{◌≡◌, ◌^◌, ◌<◌, ℕ, List, length, map, All};
-ghost use Rattle.js_world.specs.Heaps.{heap_world};
-ghost use Rattle.js_operations.specs.Contexts.{state_of};
+ghost use Rattle.js_heap_memory.specs.Heaps.{heap_world};
+ghost use Rattle.js_machine_actions.specs.Contexts.{state_of};
 ghost use Rattle.js_semantics.specs.Frames.{at};
 ghost use Rattle.js_semantics.specs.State.{top_spot};
-ghost use Rattle.js_frames.specs.Sources.{spans_in};
+ghost use Rattle.js_machine_inspection.specs.Sources.{spans_in};
 ghost use Rattle.frames_scopes.specs.Cells.{function_seen};
 ghost use Rattle.frames_scopes.specs.Frames.{function_name, function_of, function_place, here_at, shown_frame, walk};
 ghost use Rattle.frames_scopes.specs.Places.{starts_of};
-ghost use Rattle.js_code.specs.Trees.{IsTable};
-ghost use Rattle.js_steps.specs.Points.{IsAt, term_at};
+ghost use Rattle.js_machine_nodes.specs.Trees.{IsTable};
+ghost use Rattle.js_machine_engine.specs.Points.{IsAt, term_at};
 ghost use Rattle.frames_scopes.specs.FrameViews.{frame_shown};
 ghost use Rattle.frames_scopes.specs.Standings.{CanWalk};
 
@@ -20,14 +20,14 @@ use crate::places::shown_place;
 use crate::scopes::Scopes;
 use crate::standing::Standing;
 use cdp_text::position::Place;
-use js_frames::arrivals::arrival;
-use js_frames::frames::active_frame;
 use js_heap::built_in::Code;
 use js_heap::value::{Addr, Value};
-use js_operations::frame::Frame;
+use js_heap_memory::heap::BaseHeap;
+use js_heap_memory::names::Names;
+use js_machine_actions::frame::Frame;
+use js_machine_inspection::arrivals::arrival;
+use js_machine_inspection::frames::active_frame;
 use js_semantics::form::{Mark, Source};
-use js_world::heap::BaseHeap;
-use js_world::names::Names;
 use std::marker::Model;
 
 /// An active frame.
@@ -55,10 +55,10 @@ pub struct Frames<'m> {
 
 impl<'m> Model for Frames<'m> {
     ghost use Rattle.std.specs.Prelude.{List, drop, []};
-    ghost use Rattle.js_world.specs.Heaps.{heap_world};
-    ghost use Rattle.js_operations.specs.Contexts.{state_of};
-    ghost use Rattle.js_steps.specs.Points.{term_at};
-    ghost use Rattle.call_frames.specs.Frames.{ShownFrame};
+    ghost use Rattle.js_heap_memory.specs.Heaps.{heap_world};
+    ghost use Rattle.js_machine_actions.specs.Contexts.{state_of};
+    ghost use Rattle.js_machine_engine.specs.Points.{term_at};
+    ghost use Rattle.frames_scopes_types.specs.Frames.{ShownFrame};
     ghost use Rattle.frames_scopes.specs.Frames.{walk};
     ghost use Rattle.frames_scopes.specs.Standings.{CanWalk};
 

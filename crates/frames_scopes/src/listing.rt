@@ -1,10 +1,10 @@
 //! The active frames as a list, in memory of their own. Names are lent all the same.
 
 ghost use Rattle.std.specs.Prelude.{◌≡◌, ℕ, List, map, IfOk};
-ghost use Rattle.call_frames.specs.Views.{frame_of, scope_of};
-ghost use Rattle.js_world.specs.Heaps.{heap_world};
-ghost use Rattle.js_operations.specs.Contexts.{state_of};
-ghost use Rattle.js_steps.specs.Points.{term_at};
+ghost use Rattle.frames_scopes_types.specs.Views.{frame_of, scope_of};
+ghost use Rattle.js_heap_memory.specs.Heaps.{heap_world};
+ghost use Rattle.js_machine_actions.specs.Contexts.{state_of};
+ghost use Rattle.js_machine_engine.specs.Points.{term_at};
 ghost use Rattle.frames_scopes.specs.Frames.{walk};
 ghost use Rattle.frames_scopes.specs.FrameViews.{frame_shown};
 ghost use Rattle.frames_scopes.specs.ScopeViews.{scope_shown};
@@ -13,7 +13,7 @@ ghost use Rattle.frames_scopes.specs.Standings.{CanWalk};
 use crate::frames::{FrameView, Frames};
 use crate::scopes::{ScopeView, Scopes};
 use crate::standing::Standing;
-use call_frames::{CallFrame, Scope};
+use frames_scopes_types::{CallFrame, Scope};
 use std::alloc::{AllocError, Global};
 
 /// A scope with the text of its name.

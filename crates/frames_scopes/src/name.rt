@@ -3,9 +3,9 @@
 ghost use Rattle.std.specs.Prelude.{◌≡◌, IfOk, option_copied};
 ghost use Rattle.frames_scopes.specs.Names.{shown_name};
 
-use js_operations::seen::name_text;
-use js_world::names::Names;
-use js_world::stored::FunctionName;
+use js_heap_memory::names::Names;
+use js_heap_memory::stored::FunctionName;
+use js_machine_actions::seen::name_text;
 use std::alloc::AllocError;
 use std::marker::Model;
 

@@ -1,20 +1,20 @@
 //! The scopes of a frame.
 
 ghost use Rattle.std.specs.Prelude.{◌≡◌};
-ghost use Rattle.js_world.specs.Heaps.{heap_world};
+ghost use Rattle.js_heap_memory.specs.Heaps.{heap_world};
 ghost use Rattle.js_semantics.specs.Frames.{listed_as, still_inside};
 ghost use Rattle.frames_scopes.specs.Scopes.{name_on, shown_kind, shown_scopes};
-ghost use Rattle.js_world.specs.Cells.{name_text};
+ghost use Rattle.js_heap_memory.specs.Cells.{name_text};
 
 use crate::cells::scope_at;
 use crate::name::Name;
-use call_frames::ListedKind;
+use frames_scopes_types::ListedKind;
 use js_heap::cell::ScopeKind;
 use js_heap::value::Addr;
-use js_world::heap::BaseHeap;
-use js_world::names::Names;
-use js_world::stored::FunctionName;
-use js_world::world::World;
+use js_heap_memory::heap::BaseHeap;
+use js_heap_memory::names::Names;
+use js_heap_memory::stored::FunctionName;
+use js_heap_memory::world::World;
 use std::marker::Model;
 
 /// A scope of a frame.
@@ -41,8 +41,8 @@ pub struct Scopes<'m> {
 
 impl<'m> Model for Scopes<'m> {
     ghost use Rattle.std.specs.Prelude.{List};
-    ghost use Rattle.js_world.specs.Heaps.{heap_world};
-    ghost use Rattle.call_frames.specs.Frames.{ShownScope};
+    ghost use Rattle.js_heap_memory.specs.Heaps.{heap_world};
+    ghost use Rattle.frames_scopes_types.specs.Frames.{ShownScope};
     ghost use Rattle.frames_scopes.specs.Scopes.{scopes_from};
 
     ghost Value = { List ShownScope };

@@ -1,14 +1,14 @@
 //! What frames are walked over.
 
 use cdp_text::line_table::LineTable;
-use js_code::table::NodeTable;
 use js_heap::value::Addr;
-use js_operations::context::Context;
-use js_steps::stack::Stack;
-use js_steps::task::Point;
+use js_heap_memory::heap::BaseHeap;
+use js_heap_memory::names::Names;
+use js_machine_actions::context::Context;
+use js_machine_engine::stack::Stack;
+use js_machine_engine::task::Point;
+use js_machine_nodes::table::NodeTable;
 use js_tree::script::Script;
-use js_world::heap::BaseHeap;
-use js_world::names::Names;
 
 /// A machine of scripts that has something left to reduce, with its cells: what is walked over.
 #[derive(Clone, Copy)]

@@ -1,5 +1,5 @@
 -- Histories: lists of entries, each with the number of the pass that made it.
-pub use Rattle.isolation.specs.Makers.{by}
+pub use Rattle.cdp_host_isolation.specs.Makers.{by}
 use Rattle.std.specs.Prelude.{◌≡◌, ℕ, ◌==◌, List, [], ◌∷◌, ◌++◌, length, Bool, true, false, if◌then◌else◌, nat_lt}
 
 -- the greatest value of the ticket word: a history has no more entries

@@ -1,11 +1,11 @@
 -- Operators on values.
 use Rattle.std.specs.Prelude.{ℕ, ◌-◌, ◌*◌, ◌/◌, ◌%◌, ◌^◌, Bool, true, false, ◌&&◌, ◌||◌, not, List, [], ◌∷◌, ◌++◌, Option, Some, None, ℤ, pos, negsuc, ◌+ℤ◌, ◌-ℤ◌, ◌*ℤ◌, neg_ℤ, nat_abs, int_lt, int_div, int_rem, nat_eq, nat_lt, bit_and, bit_or, bit_xor, codes, if◌then◌else◌}
-use Rattle.js_operators.specs.declared.operator.UnaryOperator.{UnaryOperator}
-use Rattle.js_operators.specs.declared.operator.UnaryOperator.TheVariants as unaries
-use Rattle.js_operators.specs.declared.operator.UpdateOperator.{UpdateOperator}
-use Rattle.js_operators.specs.declared.operator.UpdateOperator.TheVariants as updates
-use Rattle.js_operators.specs.declared.operator.BinaryOperator.{BinaryOperator}
-use Rattle.js_operators.specs.declared.operator.BinaryOperator.TheVariants as binaries
+use Rattle.js_tree_operators.specs.declared.operator.UnaryOperator.{UnaryOperator}
+use Rattle.js_tree_operators.specs.declared.operator.UnaryOperator.TheVariants as unaries
+use Rattle.js_tree_operators.specs.declared.operator.UpdateOperator.{UpdateOperator}
+use Rattle.js_tree_operators.specs.declared.operator.UpdateOperator.TheVariants as updates
+use Rattle.js_tree_operators.specs.declared.operator.BinaryOperator.{BinaryOperator}
+use Rattle.js_tree_operators.specs.declared.operator.BinaryOperator.TheVariants as binaries
 use Rattle.js_heap.specs.declared.value.Value.{Value}
 use Rattle.js_heap.specs.declared.value.Value.TheVariants as values
 use Rattle.js_heap.specs.declared.built_in.ErrorClass.TheVariants as classes

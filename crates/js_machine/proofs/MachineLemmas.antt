@@ -3,15 +3,15 @@ use Rattle.std.proofs.Common.{◌≡◌, ℕ, List, Option, None, ap, subst, ◌
 use Rattle.js_heap.specs.declared.value.Value.{Value}
 use Rattle.js_semantics.specs.State.{State}
 use Rattle.js_semantics.specs.Run.{over, run_of}
-use Rattle.js_code.specs.declared.table.NodeTable.{NodeTable}
-use Rattle.js_steps.specs.declared.stepped.Finish.TheVariants as finishes
-use Rattle.js_steps.specs.declared.task.Point.{Point}
-use Rattle.js_steps.specs.declared.task.Point.TheVariants as points
-use Rattle.js_steps.specs.Tasks.{Wide}
-use Rattle.js_steps.specs.Points.{term_at, IsAt}
-use Rattle.js_steps.specs.Running.{IsRunning}
-use Rattle.js_steps.specs.Stepping.{finish_of}
-use Rattle.js_steps.proofs.RunLemmas.{at-open, going, open_runs, done_at}
+use Rattle.js_machine_nodes.specs.declared.table.NodeTable.{NodeTable}
+use Rattle.js_machine_engine.specs.declared.stepped.Finish.TheVariants as finishes
+use Rattle.js_machine_engine.specs.declared.task.Point.{Point}
+use Rattle.js_machine_engine.specs.declared.task.Point.TheVariants as points
+use Rattle.js_machine_engine.specs.Tasks.{Wide}
+use Rattle.js_machine_engine.specs.Points.{term_at, IsAt}
+use Rattle.js_machine_engine.specs.Running.{IsRunning}
+use Rattle.js_machine_engine.specs.Stepping.{finish_of}
+use Rattle.js_machine_engine.proofs.RunLemmas.{at-open, going, open_runs, done_at}
 use Rattle.js_machine.specs.declared.end.End.{End}
 use Rattle.js_machine.specs.Machines.{StandsUntilEnd}
 

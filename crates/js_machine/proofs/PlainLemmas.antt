@@ -9,10 +9,10 @@ use Rattle.js_semantics.specs.State.{State}
 use Rattle.js_semantics.specs.Functions.{Program}
 use Rattle.js_semantics.specs.Run as runs
 use Rattle.js_semantics.specs.Run.{Run, running, over, step_in, steps_in, steps_taken, start, plain}
-use Rattle.js_world.specs.Heaps.{heap_world}
-use Rattle.js_steps.specs.declared.run.Why.{Why}
-use Rattle.js_steps.specs.declared.run.Why.TheVariants as whys
-use Rattle.js_steps.specs.Running.{CountsAs, RunsFor}
+use Rattle.js_heap_memory.specs.Heaps.{heap_world}
+use Rattle.js_machine_engine.specs.declared.run.Why.{Why}
+use Rattle.js_machine_engine.specs.declared.run.Why.TheVariants as whys
+use Rattle.js_machine_engine.specs.Running.{CountsAs, RunsFor}
 use Rattle.js_machine.specs.declared.end.End.{End}
 use Rattle.js_machine.specs.declared.end.End.TheVariants as ends
 use Rattle.js_machine.specs.Machines.{Machine, program_of, term_of, state_of, run_by, run_at, IsKept, end_of_run, HasSameCode}

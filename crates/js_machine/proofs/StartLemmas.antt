@@ -5,13 +5,13 @@ use Rattle.js_heap.specs.BuiltIns.{first_world}
 use Rattle.js_semantics.specs.declared.form.Form.TheVariants.{Scripts as scripts}
 use Rattle.js_semantics.specs.Terms.{Term, Terms, end, settle, settled}
 use Rattle.js_semantics.specs.Run.{run_of, literals_of, placed_scripts, start}
-use Rattle.js_operations.specs.Contexts.{Context, state_of, start_context}
-use Rattle.js_code.specs.declared.table.NodeTable.{NodeTable}
-use Rattle.js_code.specs.Trees.{tree}
-use Rattle.js_steps.specs.Gaps.{resettled}
-use Rattle.js_steps.specs.Tasks.{Wide, gaps_of}
-use Rattle.js_compile.specs.Scripts.{IsCompiled}
-use Rattle.js_compile.proofs.NameLemmas.{goes_on_same}
+use Rattle.js_machine_actions.specs.Contexts.{Context, state_of, start_context}
+use Rattle.js_machine_nodes.specs.declared.table.NodeTable.{NodeTable}
+use Rattle.js_machine_nodes.specs.Trees.{tree}
+use Rattle.js_machine_engine.specs.Gaps.{resettled}
+use Rattle.js_machine_engine.specs.Tasks.{Wide, gaps_of}
+use Rattle.js_machine_compiler.specs.Scripts.{IsCompiled}
+use Rattle.js_machine_compiler.proofs.NameLemmas.{goes_on_same}
 
 -- the term and the state are those of the start
 pub starts-so : (xs : Terms) (input : List (List ℕ)) (ts : List (List ℕ)) (t : NodeTable) (root : ℕ) (u : Term)

@@ -6,23 +6,23 @@ use Rattle.js_semantics.specs.Terms.{Term}
 use Rattle.js_semantics.specs.State.{State}
 use Rattle.js_semantics.specs.Functions.{Program}
 use Rattle.js_semantics.specs.Run.{Run, over, by_effect, by_full, run_of}
-use Rattle.js_operations.specs.Contexts as contexts
-use Rattle.js_operations.specs.Contexts.{Context}
-use Rattle.js_code.specs.declared.table.NodeTable.{NodeTable}
-use Rattle.js_code.specs.Codes.{HasFunctions}
-use Rattle.js_code.specs.Trees as trees
-use Rattle.js_code.specs.Trees.{IsTable}
-use Rattle.js_steps.specs.declared.run.Why.{Why}
-use Rattle.js_steps.specs.declared.run.Why.TheVariants as whys
-use Rattle.js_steps.specs.declared.stepped.Finish.{Finish}
-use Rattle.js_steps.specs.declared.stepped.Finish.TheVariants as finishes
-use Rattle.js_steps.specs.declared.stepped.Stepped.{Stepped}
-use Rattle.js_steps.specs.declared.stepped.Stepped.TheVariants as steppeds
-use Rattle.js_steps.specs.declared.task.Point.{Point}
-use Rattle.js_steps.specs.declared.task.Point.TheVariants as points
-use Rattle.js_steps.specs.Tasks.{Wide}
-use Rattle.js_steps.specs.Points.{term_at}
-use Rattle.js_steps.specs.Stepping.{finish_of, StandsIn}
+use Rattle.js_machine_actions.specs.Contexts as contexts
+use Rattle.js_machine_actions.specs.Contexts.{Context}
+use Rattle.js_machine_nodes.specs.declared.table.NodeTable.{NodeTable}
+use Rattle.js_machine_nodes.specs.Codes.{HasFunctions}
+use Rattle.js_machine_nodes.specs.Trees as trees
+use Rattle.js_machine_nodes.specs.Trees.{IsTable}
+use Rattle.js_machine_engine.specs.declared.run.Why.{Why}
+use Rattle.js_machine_engine.specs.declared.run.Why.TheVariants as whys
+use Rattle.js_machine_engine.specs.declared.stepped.Finish.{Finish}
+use Rattle.js_machine_engine.specs.declared.stepped.Finish.TheVariants as finishes
+use Rattle.js_machine_engine.specs.declared.stepped.Stepped.{Stepped}
+use Rattle.js_machine_engine.specs.declared.stepped.Stepped.TheVariants as steppeds
+use Rattle.js_machine_engine.specs.declared.task.Point.{Point}
+use Rattle.js_machine_engine.specs.declared.task.Point.TheVariants as points
+use Rattle.js_machine_engine.specs.Tasks.{Wide}
+use Rattle.js_machine_engine.specs.Points.{term_at}
+use Rattle.js_machine_engine.specs.Stepping.{finish_of, StandsIn}
 use Rattle.js_machine.specs.declared.end.End.{End}
 use Rattle.js_machine.specs.declared.end.End.TheVariants as ends
 

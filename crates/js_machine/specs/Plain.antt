@@ -3,7 +3,7 @@ use Rattle.std.specs.Prelude.{◌≡◌, ℕ, List}
 use Rattle.js_heap.specs.BuiltIns.{script_scope}
 use Rattle.js_heap.specs.World.{World}
 use Rattle.js_semantics.specs.Run.{steps_in, steps_taken}
-use Rattle.js_steps.specs.Running.{RunsFor}
+use Rattle.js_machine_engine.specs.Running.{RunsFor}
 use Rattle.js_machine.specs.Machines.{Machine, program_of, run_at, IsKept, HasSameCode}
 
 -- a machine that was one thing with a world is another with another world, so many steps further, each of them one of a

@@ -3,8 +3,8 @@ use Rattle.std.specs.Prelude.{◌≡◌, ℕ, List, [], None}
 use Rattle.js_heap.specs.BuiltIns.{first_world}
 use Rattle.js_semantics.specs.Terms.{Terms}
 use Rattle.js_semantics.specs.Run as runs
-use Rattle.js_world.specs.Heaps.{heap_world}
-use Rattle.js_compile.specs.Scripts.{IsCompiled}
+use Rattle.js_heap_memory.specs.Heaps.{heap_world}
+use Rattle.js_machine_compiler.specs.Scripts.{IsCompiled}
 use Rattle.js_machine.specs.declared.start.Prepared.{Prepared}
 use Rattle.js_machine.specs.declared.machine.Started.{Started}
 use Rattle.js_machine.specs.Machines.{program_of, run_at}

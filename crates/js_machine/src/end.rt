@@ -1,7 +1,7 @@
 //! How a machine's run ended.
 
 use js_heap::change::Counted;
-use js_steps::stepped::Finish;
+use js_machine_engine::stepped::Finish;
 
 /// How a run ended.
 #[derive(Clone, Copy)]

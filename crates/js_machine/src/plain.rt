@@ -3,20 +3,20 @@
 ghost use Rattle.std.specs.Prelude.{◌≡◌, [], false, IfOk};
 ghost use Rattle.js_semantics.specs.Run.{plain, program_of as program_of_terms, start, steps_taken};
 ghost use Rattle.js_semantics.specs.Sources.{terms_of_scripts};
-ghost use Rattle.js_world.specs.Heaps.{heap_world};
+ghost use Rattle.js_heap_memory.specs.Heaps.{heap_world};
 ghost use Rattle.js_machine.specs.Machines.{run_at, IsKept};
 ghost use Rattle.js_machine.specs.Plain.{HasRunWithin};
 
 use crate::machine::{Machine, Started};
 use cdp_text::units::Units;
-use js_code::table::NodeTable;
-use js_operations::context::Context;
-use js_steps::run::{Asks, Why};
-use js_steps::stack::Stack;
-use js_steps::task::Point;
+use js_heap_memory::heap::BaseHeap;
+use js_heap_memory::world::World;
+use js_machine_actions::context::Context;
+use js_machine_engine::run::{Asks, Why};
+use js_machine_engine::stack::Stack;
+use js_machine_engine::task::Point;
+use js_machine_nodes::table::NodeTable;
 use js_tree::script::Script;
-use js_world::heap::BaseHeap;
-use js_world::world::World;
 use std::alloc::{AllocError, Global};
 use std::collections::VecDeque;
 

@@ -2,10 +2,10 @@
 
 ghost use Rattle.std.specs.Prelude.{◌≡◌, IfOk, map};
 ghost use Rattle.js_semantics.specs.Sources.{term_of_script, terms_of_scripts};
-ghost use Rattle.js_terms.specs.Views.{term_view, terms_view};
+ghost use Rattle.js_machine_terms.specs.Views.{term_view, terms_view};
 
-use js_sources::script::term_of_script;
-use js_terms::term::{Term, Terms, terms_of};
+use js_machine_lowering::script::term_of_script;
+use js_machine_terms::term::{Term, Terms, terms_of};
 use js_tree::script::Script;
 use std::alloc::{AllocError, Global};
 

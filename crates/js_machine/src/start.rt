@@ -1,15 +1,15 @@
 //! What a run needs before its first step.
 
 ghost use Rattle.std.specs.Prelude.{IfOk};
-ghost use Rattle.js_terms.specs.Views.{terms_view};
+ghost use Rattle.js_machine_terms.specs.Views.{terms_view};
 ghost use Rattle.js_machine.specs.Starts.{IsPrepared};
 
-use js_compile::scripts::{ScriptCode, code_of_scripts};
-use js_programs::literals::{literals_of, placed_scripts};
-use js_terms::term::Terms;
-use js_world::heap::BaseHeap;
-use js_world::names::Names;
-use js_world::start::add_built_in_names;
+use js_heap_memory::heap::BaseHeap;
+use js_heap_memory::names::Names;
+use js_heap_memory::start::add_built_in_names;
+use js_machine_compiler::scripts::{ScriptCode, code_of_scripts};
+use js_machine_lowering_parts::literals::{literals_of, placed_scripts};
+use js_machine_terms::term::Terms;
 use std::alloc::{AllocError, Global};
 
 /// The code of scripts, the names in it, and the cells before the first step.

@@ -4,19 +4,19 @@ use Rattle.std.proofs.Common.{◌≡◌, ℕ, zero, suc, ◌-◌, ◌≤◌, ◌
 use Rattle.std.specs.Prelude.{slice_get, Bool, true, false, nat_lt, IfOk}
 use borrow.Author.Tests.{ltb-true, ltb-false}
 use Rattle.std.proofs.lemmas.List.{append-nil, length-append}
-use Rattle.js_language.specs.Tokens.{Token}
-use Rattle.js_language.specs.Language.{InLanguage, Begins}
-use Rattle.js_grammar.specs.Exact.{Leaves, LeavesAt, TooDeepFrom}
-use Rattle.js_syntax.specs.declared.fault.ParseError.{ParseError}
-use Rattle.js_syntax.specs.declared.fault.ParseError.TheVariants as errors
-use Rattle.js_syntax.specs.declared.fault.ParseFault.{ParseFault}
-use Rattle.js_syntax.specs.declared.fault.ParseFault.TheVariants as faults
-use Rattle.js_syntax.specs.Reading.{Fault, stuck, deep}
-use Rattle.js_syntax.specs.Giving.{Gives}
+use Rattle.js_parser_language.specs.Tokens.{Token}
+use Rattle.js_parser_language.specs.Language.{InLanguage, Begins}
+use Rattle.js_parser_laws.specs.Exact.{Leaves, LeavesAt, TooDeepFrom}
+use Rattle.js_parser_readers.specs.declared.fault.ParseError.{ParseError}
+use Rattle.js_parser_readers.specs.declared.fault.ParseError.TheVariants as errors
+use Rattle.js_parser_readers.specs.declared.fault.ParseFault.{ParseFault}
+use Rattle.js_parser_readers.specs.declared.fault.ParseFault.TheVariants as faults
+use Rattle.js_parser_readers.specs.Reading.{Fault, stuck, deep}
+use Rattle.js_parser_readers.specs.Giving.{Gives}
 use Rattle.js_parser.specs.Lexing.{Stop, Lexed, bad, many, lexed_of, start_or, stop_fault, fault_of, unless_deep, complete, told}
 use Rattle.js_parser.specs.Answers.{FailsBy, Answers}
 use Rattle.js_parser.specs.Faults.{LeavesLanguage, Stands, BeginsTooDeep, Caused}
-use Rattle.js_descent.specs.declared.limits.TheConstants.{MOST_HEIGHT}
+use Rattle.js_parser_descent.specs.declared.limits.TheConstants.{MOST_HEIGHT}
 use Rattle.js_parser.specs.declared.limits.TheConstants.{MOST_UNITS, MOST_TOKENS}
 use Rattle.js_parser.specs.Sources.{tokens_of, bad_place, IsSource, IsTreeOf}
 use Rattle.js_parser.proofs.FaultLemmas.{IsPlaced, begins_whole, one_fault, no_tree}

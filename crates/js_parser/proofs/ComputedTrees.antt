@@ -1,13 +1,13 @@
 -- Trees of short texts, computed by the definition.
 use Rattle.std.proofs.Common.{◌≡◌, [], Some, None, refl, codes}
 use Rattle.js_tree.specs.Trees as trees
-use Rattle.js_operators.specs.declared.operator.BinaryOperator.TheVariants as binaries
+use Rattle.js_tree_operators.specs.declared.operator.BinaryOperator.TheVariants as binaries
 use Rattle.js_lexer.specs.Punctuators.{punctuators}
 use Rattle.js_lexer.specs.Scanning.{gap_len, token_at, items}
 use Rattle.js_lexer.specs.Words.{reserved_words}
-use Rattle.js_syntax.specs.Parsing.{key_at, property_at, properties_at, function_at, primary, links, call, postfix, unary, chain, operation, arrow_rest, arrow_of_one, arrow_of_list, joined, assignment, expression, if_at, for_at, handler_at, finalizer_at, try_at, statement, lexical_at, declaration_at, item, below, parse_script, parse_expression, parse_function}
-use Rattle.js_syntax.specs.Productions.{arguments_before, more_assignments, names_before, parameters_at, items_at, braces, code_at, declarator_at, declarators_at, optional_before, ended_expression, expect_name}
-use Rattle.js_syntax.specs.Reading.{expect, expect_near, name_at, fresh_name, word_at, semicolon_at, elements, others, items as items_reading}
+use Rattle.js_parser_readers.specs.Parsing.{key_at, property_at, properties_at, function_at, primary, links, call, postfix, unary, chain, operation, arrow_rest, arrow_of_one, arrow_of_list, joined, assignment, expression, if_at, for_at, handler_at, finalizer_at, try_at, statement, lexical_at, declaration_at, item, below, parse_script, parse_expression, parse_function}
+use Rattle.js_parser_readers.specs.Productions.{arguments_before, more_assignments, names_before, parameters_at, items_at, braces, code_at, declarator_at, declarators_at, optional_before, ended_expression, expect_name}
+use Rattle.js_parser_readers.specs.Reading.{expect, expect_near, name_at, fresh_name, word_at, semicolon_at, elements, others, items as items_reading}
 use Rattle.js_parser.specs.Expressions.{expression_of, function_of}
 
 -- 1

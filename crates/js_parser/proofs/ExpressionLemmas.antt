@@ -4,17 +4,17 @@ use Rattle.std.specs.Prelude.{nat_le, if◌then◌else◌, IfErr}
 use Rattle.std.proofs.lemmas.Bool.{leb-true, le-leb}
 use Rattle.js_tree.specs.Trees.{Expression}
 use Rattle.js_tree.specs.Height.{height}
-use Rattle.js_language.specs.Tokens.{Token}
-use Rattle.js_language.specs.Language.{IsExpression, IsFunction}
-use Rattle.js_syntax.specs.declared.fault.ParseFault.{ParseFault}
-use Rattle.js_syntax.specs.declared.fault.ParseFault.TheVariants as faults
-use Rattle.js_syntax.specs.Reading.{Fault}
-use Rattle.js_syntax.specs.Parsing.{parse_expression, parse_function}
-use Rattle.js_grammar.proofs.Soundness.{expression_read, function_read}
-use Rattle.js_grammar.proofs.Completeness.{expression_again_whole, function_again_whole}
+use Rattle.js_parser_language.specs.Tokens.{Token}
+use Rattle.js_parser_language.specs.Language.{IsExpression, IsFunction}
+use Rattle.js_parser_readers.specs.declared.fault.ParseFault.{ParseFault}
+use Rattle.js_parser_readers.specs.declared.fault.ParseFault.TheVariants as faults
+use Rattle.js_parser_readers.specs.Reading.{Fault}
+use Rattle.js_parser_readers.specs.Parsing.{parse_expression, parse_function}
+use Rattle.js_parser_laws.proofs.Soundness.{expression_read, function_read}
+use Rattle.js_parser_laws.proofs.Completeness.{expression_again_whole, function_again_whole}
 use Rattle.js_parser.specs.Answers.{OkOrMemory}
 use Rattle.js_parser.specs.Expressions.{TreeReader, if_read, tree_of_tokens, tree_by, expression_of, function_of, UnlessMemory}
-use Rattle.js_descent.specs.declared.limits.TheConstants.{MOST_HEIGHT}
+use Rattle.js_parser_descent.specs.declared.limits.TheConstants.{MOST_HEIGHT}
 use Rattle.js_parser.specs.declared.limits.TheConstants.{MOST_UNITS, MOST_TOKENS}
 use Rattle.js_parser.specs.Sources.{tokens_of, bad_place, IsSource, IsTreeOf}
 

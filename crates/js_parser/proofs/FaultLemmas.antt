@@ -2,11 +2,11 @@
 use Rattle.std.proofs.Common.{◌≡◌, ℕ, ◌≤◌, ◌<◌, inl, inr, List, [], ◌∷◌, ◌++◌, length, Option, Some, None, refl, sym, ap, subst, ◌∙◌, append_assoc, arith}
 use Rattle.std.proofs.lemmas.Bool.{cases_lt}
 use Rattle.std.proofs.lemmas.List.{append-nil, length-append}
-use Rattle.js_language.specs.Tokens.{Token}
-use Rattle.js_language.specs.Language.{Begins}
-use Rattle.js_grammar.specs.Exact.{Leaves}
-use Rattle.js_syntax.specs.declared.fault.ParseFault.{ParseFault}
-use Rattle.js_syntax.specs.declared.fault.ParseFault.TheVariants as faults
+use Rattle.js_parser_language.specs.Tokens.{Token}
+use Rattle.js_parser_language.specs.Language.{Begins}
+use Rattle.js_parser_laws.specs.Exact.{Leaves}
+use Rattle.js_parser_readers.specs.declared.fault.ParseFault.{ParseFault}
+use Rattle.js_parser_readers.specs.declared.fault.ParseFault.TheVariants as faults
 use Rattle.js_parser.specs.Faults.{IsPlace, LeavesLanguage, PassesLimit, HasBadToken, HasSyntaxFault, HasTooMany, Stands}
 use Rattle.js_parser.specs.Sources.{tokens_of, bad_place, IsTreeOf}
 

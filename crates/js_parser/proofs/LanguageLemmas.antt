@@ -1,15 +1,15 @@
 -- The readers of expressions, functions and scripts read exactly their trees.
 use Rattle.std.proofs.Common.{List}
 use Rattle.js_tree.specs.Height.{height, height_of_statements}
-use Rattle.js_language.specs.Language.{IsExpression, IsFunction, IsScript}
-use Rattle.js_language.specs.Tokens.{Token}
+use Rattle.js_parser_language.specs.Language.{IsExpression, IsFunction, IsScript}
+use Rattle.js_parser_language.specs.Tokens.{Token}
 use Rattle.js_tree.specs.Trees.{Identifier}
-use Rattle.js_syntax.specs.Parsing.{parse_expression, parse_function, parse_script}
-use Rattle.js_grammar.proofs.Soundness.{expression_read, function_read, script_read}
-use Rattle.js_grammar.proofs.Completeness.{expression_again_whole, function_again_whole, script_again_whole, one_expression, one_function, one_script}
-use Rattle.js_grammar.proofs.DeepWhole.{expression_too_deep, function_too_deep, script_too_deep}
-use Rattle.js_grammar.proofs.Exactness.{expression_leaves_at, function_leaves_at, script_leaves_at}
-use Rattle.js_descent.specs.declared.limits.TheConstants.{MOST_HEIGHT, MOST_ROOM}
+use Rattle.js_parser_readers.specs.Parsing.{parse_expression, parse_function, parse_script}
+use Rattle.js_parser_laws.proofs.Soundness.{expression_read, function_read, script_read}
+use Rattle.js_parser_laws.proofs.Completeness.{expression_again_whole, function_again_whole, script_again_whole, one_expression, one_function, one_script}
+use Rattle.js_parser_laws.proofs.DeepWhole.{expression_too_deep, function_too_deep, script_too_deep}
+use Rattle.js_parser_laws.proofs.Exactness.{expression_leaves_at, function_leaves_at, script_leaves_at}
+use Rattle.js_parser_descent.specs.declared.limits.TheConstants.{MOST_HEIGHT, MOST_ROOM}
 use Rattle.js_parser.proofs.AnswerLemmas.{ReadsExactly}
 
 pub reads_expression : (ts : List Token) → ReadsExactly IsExpression height MOST_ROOM ts (parse_expression MOST_ROOM ts)

@@ -3,8 +3,8 @@ use Rattle.std.proofs.Common.{◌≡◌, ℕ, zero, suc, ◌+◌, List, [], ◌�
 use Rattle.std.proofs.lemmas.List.{length-append}
 use Rattle.js_lexer.specs.declared.token.Token as lexer
 use Rattle.js_lexer.specs.Tokens.{Lent}
-use Rattle.js_language.specs.Tokens.{Token}
-use Rattle.js_syntax.specs.Views.{tokens_view, token_view}
+use Rattle.js_parser_language.specs.Tokens.{Token}
+use Rattle.js_parser_readers.specs.Views.{tokens_view, token_view}
 use Rattle.js_parser.specs.Lexing.{Lexed, lexed}
 use Rattle.js_parser.specs.declared.limits.TheConstants.{MOST_TOKENS}
 use Rattle.js_parser.specs.Sources.{lent_view}

@@ -7,13 +7,13 @@ use Rattle.js_tree.specs.Height.{height}
 use Rattle.js_tree.specs.Spans.{span_of, units_in}
 use Rattle.js_tree.specs.Trees.{Expression}
 use Rattle.js_tree.specs.Views.{expression_view}
-use Rattle.js_language.specs.Language.{IsExpression, IsFunction}
-use Rattle.js_language.specs.Places.{Place, expression_places, numbers_of}
-use Rattle.js_syntax.specs.declared.fault.ParseFault.{ParseFault}
-use Rattle.js_syntax.specs.declared.fault.ParseFault.TheVariants as faults
-use Rattle.js_numbered.specs.NodeSpans.{node_span}
-use Rattle.js_numbered.proofs.NodeSpanLemmas.{span_found}
-use Rattle.js_numbered.proofs.NumberedPlaceLaws.{placed_same}
+use Rattle.js_parser_language.specs.Language.{IsExpression, IsFunction}
+use Rattle.js_parser_language.specs.Places.{Place, expression_places, numbers_of}
+use Rattle.js_parser_readers.specs.declared.fault.ParseFault.{ParseFault}
+use Rattle.js_parser_readers.specs.declared.fault.ParseFault.TheVariants as faults
+use Rattle.js_parser_numbering.specs.NodeSpans.{node_span}
+use Rattle.js_parser_numbering.proofs.NodeSpanLemmas.{span_found}
+use Rattle.js_parser_numbering.proofs.NumberedPlaceLaws.{placed_same}
 use Rattle.js_parser.specs.Answers.{OkOrMemory}
 use Rattle.js_parser.specs.Expressions.{expression_of, function_of, UnlessMemory}
 use Rattle.js_parser.specs.NodeTexts.{node_units, node_text, lacks_memory}

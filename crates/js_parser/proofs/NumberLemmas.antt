@@ -2,8 +2,8 @@
 use Rattle.std.proofs.Common.{◌≡◌, ℕ, zero, suc, ◌+◌, ◌≤◌, List, [], ◌∷◌, length, refl, ap, subst, arith}
 use Rattle.std.specs.List.{range_with_len}
 use Rattle.js_tree.specs.declared.node.Span.{Span}
-use Rattle.js_language.specs.Places.{Place, stands, stands_maybe, opens, closes, numbers_of}
-use Rattle.js_syntax.specs.Placed.{AreNumbered}
+use Rattle.js_parser_language.specs.Places.{Place, stands, stands_maybe, opens, closes, numbers_of}
+use Rattle.js_parser_readers.specs.Placed.{AreNumbered}
 
 no_lower : (first next : ℕ) (ps : List Place) → AreNumbered first ps next → first ≤ next
 no_lower first next [] h = omega (arith, h)

@@ -1,9 +1,9 @@
 -- The fault that stands in a source comes first of those for which the source has a cause.
 use Rattle.std.proofs.Common.{◌≡◌, ℕ, ◌<◌, inl, inr, List, [], ◌∷◌, ◌++◌, length, None, Some, sym, ap, subst, ◌∙◌, append_assoc, arith}
 use Rattle.std.proofs.lemmas.Bool.{cases_lt}
-use Rattle.js_language.specs.Tokens.{Token}
-use Rattle.js_syntax.specs.declared.fault.ParseFault.{ParseFault}
-use Rattle.js_syntax.specs.declared.fault.ParseFault.TheVariants as faults
+use Rattle.js_parser_language.specs.Tokens.{Token}
+use Rattle.js_parser_readers.specs.declared.fault.ParseFault.{ParseFault}
+use Rattle.js_parser_readers.specs.declared.fault.ParseFault.TheVariants as faults
 use Rattle.js_parser.specs.Faults.{IsPlace, LeavesLanguage, PassesLimit, HasSyntaxFault, HasTooMany, Stands, IsCause, IsNoLater, ComesFirst}
 use Rattle.js_parser.specs.Sources.{tokens_of, bad_place}
 use Rattle.js_parser.proofs.FaultLemmas.{GoesOn, goes_on, past, syntax_once, many_once, bad_syntax, bad_many, some_is}

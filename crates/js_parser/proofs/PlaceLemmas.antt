@@ -7,7 +7,7 @@ use Rattle.js_lexer.specs.State.{items_of}
 use Rattle.js_lexer.specs.Tokens.{Lent}
 use Rattle.js_lexer.proofs.FrontLemmas.{longest_here}
 use Rattle.js_lexer.proofs.TilingLemmas.{gap_within}
-use Rattle.js_language.specs.Tokens.{Token}
+use Rattle.js_parser_language.specs.Tokens.{Token}
 use Rattle.js_parser.specs.Sources.{lent_view, tokens_in, bad_in, tokens_of, bad_place}
 
 -- each item stands behind the one before it, none before the lower place, and all before the end

@@ -3,7 +3,7 @@ use Rattle.std.proofs.Common.{◌≡◌, ℕ, zero, suc, ◌≤◌, List, [], �
 use Rattle.std.proofs.lemmas.List.{append-nil, length-append}
 use Rattle.js_lexer.specs.State.{items_of}
 use Rattle.js_lexer.specs.Tokens.{Lent}
-use Rattle.js_language.specs.Tokens.{Token}
+use Rattle.js_parser_language.specs.Tokens.{Token}
 use Rattle.js_parser.specs.Lexing.{Stop, bad, many, lexed, lexed_of}
 use Rattle.js_parser.specs.declared.limits.TheConstants.{MOST_TOKENS}
 use Rattle.js_parser.specs.Sources.{lent_view, tokens_in, bad_in, tokens_of, bad_place}

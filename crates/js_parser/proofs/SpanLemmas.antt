@@ -11,15 +11,15 @@ use Rattle.js_lexer.specs.Tokens.{Lent}
 use Rattle.js_lexer.proofs.FrontLemmas.{longest_here}
 use Rattle.js_lexer.proofs.TilingLemmas.{gap_within}
 use Rattle.js_tree.specs.declared.node.Span.{Span}
-use Rattle.js_language.specs.Tokens.{Token, head_of, tail_of}
-use Rattle.js_language.specs.Places.{Place, stands, stands_maybe, opens, closes, start_of, end_of, AreSpans}
+use Rattle.js_parser_language.specs.Tokens.{Token, head_of, tail_of}
+use Rattle.js_parser_language.specs.Places.{Place, stands, stands_maybe, opens, closes, start_of, end_of, AreSpans}
 use Rattle.js_tree.specs.Spans.{span_of}
-use Rattle.js_syntax.specs.Places.{cut_at}
-use Rattle.js_syntax.specs.Placed.{Behind, AreInOrder, AreNumbered, IsForward}
-use Rattle.js_syntax.specs.declared.fault.ParseError.{ParseError}
-use Rattle.js_syntax.specs.declared.fault.ParseFault.{ParseFault}
+use Rattle.js_parser_readers.specs.Places.{cut_at}
+use Rattle.js_parser_readers.specs.Placed.{Behind, AreInOrder, AreNumbered, IsForward}
+use Rattle.js_parser_readers.specs.declared.fault.ParseError.{ParseError}
+use Rattle.js_parser_readers.specs.declared.fault.ParseFault.{ParseFault}
 use Rattle.js_parser.specs.Lexing.{Lexed, Stop, lexed, lexed_of, unless_deep, complete, told}
-use Rattle.js_descent.specs.declared.limits.TheConstants.{MOST_HEIGHT}
+use Rattle.js_parser_descent.specs.declared.limits.TheConstants.{MOST_HEIGHT}
 use Rattle.js_parser.specs.declared.limits.TheConstants.{MOST_TOKENS}
 use Rattle.js_parser.specs.Sources.{lent_view, tokens_in, tokens_of}
 use Rattle.js_parser.specs.Spans.{AreSpansIn, PlacedIn}

@@ -6,10 +6,10 @@ use Rattle.js_lexer.specs.Tokens.{Lent}
 use Rattle.js_lexer.specs.Written.{Written, written, lent, tokens_then, end_after}
 use Rattle.js_lexer.proofs.FirstLaws.{first_tokens}
 use Rattle.js_tree.specs.Trees.{Identifier}
-use Rattle.js_language.specs.Tokens.{Token}
-use Rattle.js_language.specs.Language.{IsExpression, IsFunction, IsScript, Begins}
-use Rattle.js_grammar.specs.Exact.{written_view, AreAlike, BeginsWritten}
-use Rattle.js_grammar.proofs.BegunLaws.{expression_written, expression_alike, function_written, function_alike, script_written, script_alike}
+use Rattle.js_parser_language.specs.Tokens.{Token}
+use Rattle.js_parser_language.specs.Language.{IsExpression, IsFunction, IsScript, Begins}
+use Rattle.js_parser_laws.specs.Exact.{written_view, AreAlike, BeginsWritten}
+use Rattle.js_parser_laws.proofs.BegunLaws.{expression_written, expression_alike, function_written, function_alike, script_written, script_alike}
 use Rattle.js_parser.specs.Sources.{lent_view, tokens_in, bad_in, tokens_of}
 use Rattle.js_parser.specs.Texts.{end_of_last, BeginsText}
 

@@ -1,8 +1,8 @@
 -- What an answer says of its source.
 use Rattle.std.specs.Prelude.{◌≡◌, ◌<◌, ℕ, List, length, Result, Ok, Err, IfOk, IfErr}
-use Rattle.js_language.specs.Tokens.{Token}
-use Rattle.js_syntax.specs.declared.fault.ParseFault.{ParseFault}
-use Rattle.js_syntax.specs.declared.fault.ParseFault.TheVariants as faults
+use Rattle.js_parser_language.specs.Tokens.{Token}
+use Rattle.js_parser_readers.specs.declared.fault.ParseFault.{ParseFault}
+use Rattle.js_parser_readers.specs.declared.fault.ParseFault.TheVariants as faults
 use Rattle.js_parser.specs.declared.limits.TheConstants.{MOST_UNITS}
 use Rattle.js_parser.specs.Sources.{IsSource}
 use Rattle.js_parser.specs.Faults.{Stands, Caused, IsCause, ComesFirst}

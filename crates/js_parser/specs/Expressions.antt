@@ -1,12 +1,12 @@
 -- The trees of texts, as functions of the texts.
 use Rattle.std.specs.Prelude.{ℕ, List, length, Option, Some, None, Result, Ok, Err, nat_le, if◌then◌else◌}
-use Rattle.js_language.specs.Tokens.{Token}
+use Rattle.js_parser_language.specs.Tokens.{Token}
 use Rattle.js_tree.specs.Trees.{Expression}
-use Rattle.js_syntax.specs.declared.fault.ParseFault.{ParseFault}
-use Rattle.js_syntax.specs.declared.fault.ParseFault.TheVariants as faults
-use Rattle.js_syntax.specs.Reading.{Fault}
-use Rattle.js_syntax.specs.Parsing.{parse_expression, parse_function}
-use Rattle.js_descent.specs.declared.limits.TheConstants.{MOST_HEIGHT}
+use Rattle.js_parser_readers.specs.declared.fault.ParseFault.{ParseFault}
+use Rattle.js_parser_readers.specs.declared.fault.ParseFault.TheVariants as faults
+use Rattle.js_parser_readers.specs.Reading.{Fault}
+use Rattle.js_parser_readers.specs.Parsing.{parse_expression, parse_function}
+use Rattle.js_parser_descent.specs.declared.limits.TheConstants.{MOST_HEIGHT}
 use Rattle.js_parser.specs.declared.limits.TheConstants.{MOST_UNITS, MOST_TOKENS}
 use Rattle.js_parser.specs.Sources.{tokens_of, bad_place}
 

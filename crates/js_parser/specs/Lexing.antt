@@ -3,18 +3,18 @@
 use Rattle.std.specs.Prelude.{ℕ, zero, suc, List, [], ◌∷◌, length, ◌-◌, slice_get, Bool, true, false, nat_lt, Option, Some, None, Result, Ok, Err}
 use Rattle.js_lexer.specs.State.{items_of}
 use Rattle.js_lexer.specs.Tokens.{Lent}
-use Rattle.js_language.specs.Tokens.{Token}
+use Rattle.js_parser_language.specs.Tokens.{Token}
 use Rattle.js_parser.specs.declared.lexing.Lexed as code
 use Rattle.js_parser.specs.declared.lexing.Stop as declared
 use Rattle.js_parser.specs.declared.lexing.Stop.TheVariants as stops
-use Rattle.js_descent.specs.declared.limits.TheConstants.{MOST_HEIGHT}
+use Rattle.js_parser_descent.specs.declared.limits.TheConstants.{MOST_HEIGHT}
 use Rattle.js_parser.specs.declared.limits.TheConstants.{MOST_TOKENS}
 use Rattle.js_parser.specs.Sources.{lent_view}
-use Rattle.js_syntax.specs.declared.fault.ParseError.{ParseError}
-use Rattle.js_syntax.specs.declared.fault.ParseError.TheVariants as errors
-use Rattle.js_syntax.specs.declared.fault.ParseFault.{ParseFault}
-use Rattle.js_syntax.specs.declared.fault.ParseFault.TheVariants as faults
-use Rattle.js_syntax.specs.Views.{tokens_view}
+use Rattle.js_parser_readers.specs.declared.fault.ParseError.{ParseError}
+use Rattle.js_parser_readers.specs.declared.fault.ParseError.TheVariants as errors
+use Rattle.js_parser_readers.specs.declared.fault.ParseFault.{ParseFault}
+use Rattle.js_parser_readers.specs.declared.fault.ParseFault.TheVariants as faults
+use Rattle.js_parser_readers.specs.Views.{tokens_view}
 
 -- why no further tokens are read: one is bad, or one is too many
 pub data Stop : Type 0 where

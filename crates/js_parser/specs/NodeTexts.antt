@@ -2,10 +2,10 @@
 use Rattle.std.specs.Prelude.{ℕ, List, [], Bool, true, false, Option, Some, None}
 use Rattle.js_tree.specs.Spans.{units_in}
 use Rattle.js_tree.specs.Trees.{Expression}
-use Rattle.js_syntax.specs.declared.fault.ParseFault.{ParseFault}
-use Rattle.js_syntax.specs.declared.fault.ParseFault.TheVariants as faults
-use Rattle.js_numbered.specs.NumberedPlaces.{numbered_places}
-use Rattle.js_numbered.specs.NodeSpans.{node_span}
+use Rattle.js_parser_readers.specs.declared.fault.ParseFault.{ParseFault}
+use Rattle.js_parser_readers.specs.declared.fault.ParseFault.TheVariants as faults
+use Rattle.js_parser_numbering.specs.NumberedPlaces.{numbered_places}
+use Rattle.js_parser_numbering.specs.NodeSpans.{node_span}
 use Rattle.js_parser.specs.Expressions.{expression_of}
 use Rattle.js_parser.specs.Sources.{tokens_of}
 

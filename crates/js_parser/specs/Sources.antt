@@ -2,9 +2,9 @@
 use Rattle.std.specs.Prelude.{◌≡◌, ◌≤◌, ◌<◌, ℕ, ◌+◌, List, [], ◌∷◌, length, Option, Some, None, Result, Ok, Err}
 use Rattle.js_lexer.specs.State.{items_of}
 use Rattle.js_lexer.specs.Tokens.{Lent}
-use Rattle.js_language.specs.Tokens.{Token}
-use Rattle.js_syntax.specs.Views.{string_value_of, numeric_value_of}
-use Rattle.js_descent.specs.declared.limits.TheConstants.{MOST_HEIGHT}
+use Rattle.js_parser_language.specs.Tokens.{Token}
+use Rattle.js_parser_readers.specs.Views.{string_value_of, numeric_value_of}
+use Rattle.js_parser_descent.specs.declared.limits.TheConstants.{MOST_HEIGHT}
 use Rattle.js_parser.specs.declared.limits.TheConstants.{MOST_UNITS, MOST_TOKENS}
 
 -- ---- tokens

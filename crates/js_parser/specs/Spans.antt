@@ -1,8 +1,8 @@
 -- Where the nodes of a source's tree stand.
 use Rattle.std.specs.Prelude.{ℕ, List, [], length, All}
 use Rattle.js_tree.specs.declared.node.Span.{Span}
-use Rattle.js_language.specs.Places.{Place, AreSpans}
-use Rattle.js_syntax.specs.Placed.{AreNumbered, IsForward}
+use Rattle.js_parser_language.specs.Places.{Place, AreSpans}
+use Rattle.js_parser_readers.specs.Placed.{AreNumbered, IsForward}
 use Rattle.js_parser.specs.Sources.{tokens_of}
 
 -- each node's span goes from the start of its first token in the source to the end of its last one

@@ -1,7 +1,7 @@
 -- Texts that begin as a source does.
 use Rattle.std.specs.Prelude.{◌≡◌, ℕ, List, [], ◌∷◌, ◌++◌, take, None}
-use Rattle.js_language.specs.Tokens.{Token}
-use Rattle.js_language.specs.Language.{InLanguage}
+use Rattle.js_parser_language.specs.Tokens.{Token}
+use Rattle.js_parser_language.specs.Language.{InLanguage}
 use Rattle.js_parser.specs.Sources.{tokens_of, bad_place}
 
 -- where the last of these tokens ends; of none, this place

@@ -3,7 +3,7 @@
 ghost use Rattle.std.specs.Prelude.{◌≡◌, IfOk};
 
 use cdp_text::units::Units;
-use js_syntax::name_set::NameSet;
+use js_parser_readers::name_set::NameSet;
 use std::alloc::{AllocError, Global};
 
 /// The names that earlier scripts declare, the first of them the one taken last.

@@ -3,11 +3,11 @@
 ghost use Rattle.std.specs.Prelude.{◌≡◌, ◌-◌, length, nat_lt, slice_get};
 ghost use Rattle.js_parser.specs.Lexing as spec;
 ghost use Rattle.js_parser.specs.Lexing.{lexed_view, stop_view};
-ghost use Rattle.js_syntax.specs.Views.{tokens_view};
+ghost use Rattle.js_parser_readers.specs.Views.{tokens_view};
 
 use crate::lexing::{Lexed, Stop};
-use js_descent::limits::MOST_HEIGHT;
-use js_syntax::fault::{ParseError, ParseFault};
+use js_parser_descent::limits::MOST_HEIGHT;
+use js_parser_readers::fault::{ParseError, ParseFault};
 
 /// The fault for want of further tokens, or else at the end of the source.
 fn stop_fault(end: usize, stop: Option<Stop>) -> ParseFault

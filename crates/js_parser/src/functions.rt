@@ -2,24 +2,24 @@
 
 ghost use Rattle.std.specs.Prelude.{◌<◌, ◌+◌};
 ghost use Rattle.js_tree.specs.Height.{height};
-ghost use Rattle.js_language.specs.Tokens.{head_of};
-ghost use Rattle.js_syntax.specs.Classes.{parenthesis, start};
-ghost use Rattle.js_syntax.specs.Parsing as reading;
-ghost use Rattle.js_syntax.specs.Parsing.{below};
-ghost use Rattle.js_syntax.specs.Views.{tokens_view};
-ghost use Rattle.js_descent.specs.ReadTrees.{ReadsExpression, ExpressionWithin, ExpressionPlaced};
+ghost use Rattle.js_parser_language.specs.Tokens.{head_of};
+ghost use Rattle.js_parser_readers.specs.Classes.{parenthesis, start};
+ghost use Rattle.js_parser_readers.specs.Parsing as reading;
+ghost use Rattle.js_parser_readers.specs.Parsing.{below};
+ghost use Rattle.js_parser_readers.specs.Views.{tokens_view};
+ghost use Rattle.js_parser_descent.specs.ReadTrees.{ReadsExpression, ExpressionWithin, ExpressionPlaced};
 
-use js_descent::arrows::{arrow_of_one, arrow_rest};
-use js_descent::limits::MOST_ROOM;
-use js_descent::parsed::Parsed;
-use js_descent::primaries::function_at;
-use js_language::boxes::boxed;
 use js_lexer::token::Token;
-use js_syntax::classes::expressions::{Start, start_of};
-use js_syntax::fault::ParseError;
-use js_syntax::names::parameters_at;
-use js_syntax::nodes::Nodes;
-use js_syntax::token::tail;
+use js_parser_descent::arrows::{arrow_of_one, arrow_rest};
+use js_parser_descent::limits::MOST_ROOM;
+use js_parser_descent::parsed::Parsed;
+use js_parser_descent::primaries::function_at;
+use js_parser_language::boxes::boxed;
+use js_parser_readers::classes::expressions::{Start, start_of};
+use js_parser_readers::fault::ParseError;
+use js_parser_readers::names::parameters_at;
+use js_parser_readers::nodes::Nodes;
+use js_parser_readers::token::tail;
 use js_tree::tree::ArrowParameters;
 
 /// A function expression or an arrow function, and the tokens after it. Other expressions are

@@ -2,15 +2,15 @@
 
 ghost use Rattle.std.specs.Prelude.{◌≡◌, length, All, IfErr, IfOk, List};
 ghost use Rattle.cdp_text.specs.Units.{utf16_of};
-ghost use Rattle.js_syntax.specs.declared.fault.ParseFault.TheVariants.{Memory};
-ghost use Rattle.js_language.specs.Places.{Place};
+ghost use Rattle.js_parser_readers.specs.declared.fault.ParseFault.TheVariants.{Memory};
+ghost use Rattle.js_parser_language.specs.Places.{Place};
 ghost use Rattle.js_tree.specs.Spans.{IsWithin};
-ghost use Rattle.js_syntax.specs.Placed.{IsForward};
+ghost use Rattle.js_parser_readers.specs.Placed.{IsForward};
 ghost use Rattle.js_parser.specs.Spans.{AreSpansIn};
 
 use cdp_text::units::{Units, units_of};
-use js_syntax::fault::ParseFault;
-use js_syntax::nodes::Nodes;
+use js_parser_readers::fault::ParseFault;
+use js_parser_readers::nodes::Nodes;
 use js_tree::node::Spans;
 use std::alloc::Global;
 

@@ -2,7 +2,7 @@
 
 ghost use Rattle.std.specs.Prelude.{◌≡◌, None, Some};
 ghost use Rattle.js_tree.specs.Height.{height};
-ghost use Rattle.js_language.specs.Language.{IsExpression, IsFunction};
+ghost use Rattle.js_parser_language.specs.Language.{IsExpression, IsFunction};
 ghost use Rattle.js_parser.specs.Expressions.{expression_of, function_of};
 ghost use Rattle.js_parser.specs.Sources.{IsSource};
 

@@ -1,8 +1,8 @@
 //! The tokens of a source, within the limits.
 
 ghost use Rattle.std.specs.Prelude.{◌≡◌, ◌≤◌, ◌<◌, length, IfOk, IfErr};
-ghost use Rattle.js_syntax.specs.Views.{tokens_view};
-ghost use Rattle.js_syntax.specs.declared.fault.ParseFault.TheVariants.{Memory, TooLong};
+ghost use Rattle.js_parser_readers.specs.Views.{tokens_view};
+ghost use Rattle.js_parser_readers.specs.declared.fault.ParseFault.TheVariants.{Memory, TooLong};
 ghost use Rattle.js_lexer.specs.State.{tokens_left};
 ghost use Rattle.js_parser.specs.Lexing as spec;
 ghost use Rattle.js_parser.specs.Lexing.{lexed_of, lexed_view, stop_view};
@@ -10,7 +10,7 @@ ghost use Rattle.js_parser.specs.Lexing.{lexed_of, lexed_view, stop_view};
 use crate::limits::{MOST_TOKENS, MOST_UNITS};
 use js_lexer::token::Token;
 use js_lexer::tokens::Tokens;
-use js_syntax::fault::ParseFault;
+use js_parser_readers::fault::ParseFault;
 use std::alloc::{AllocError, Global};
 
 /// Why a source has no further tokens. A place counts the code units before it.

@@ -5,7 +5,7 @@ ghost use Rattle.js_parser.specs.NodeTexts as texts;
 
 use crate::parse::parse_expression;
 use cdp_text::units::Units;
-use js_syntax::fault::ParseFault;
+use js_parser_readers::fault::ParseFault;
 use js_tree::node::NodeId;
 use js_tree::span::units_in;
 use std::alloc::{AllocError, Global};

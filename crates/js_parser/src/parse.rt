@@ -4,10 +4,10 @@ ghost use Rattle.std.specs.Prelude.{◌++◌, ◌≡◌, ◌<◌, length, Err, I
 ghost use Rattle.std.specs.List.{range_with_len};
 ghost use Rattle.cdp_text.specs.Units.{utf16_of};
 ghost use Rattle.js_tree.specs.Height.{height, height_of_statements};
-ghost use Rattle.js_language.specs.Language.{Begins, IsExpression, IsFunction, IsScript};
-ghost use Rattle.js_language.specs.Places.{expression_places, numbers_of, statements_places};
+ghost use Rattle.js_parser_language.specs.Language.{Begins, IsExpression, IsFunction, IsScript};
+ghost use Rattle.js_parser_language.specs.Places.{expression_places, numbers_of, statements_places};
 ghost use Rattle.js_tree.specs.Views.{expression_view, statements_view};
-ghost use Rattle.js_syntax.specs.declared.fault.ParseFault.TheVariants.{TooLong};
+ghost use Rattle.js_parser_readers.specs.declared.fault.ParseFault.TheVariants.{TooLong};
 ghost use Rattle.js_parser.specs.Answers.{FailsBy, OkOrMemory};
 ghost use Rattle.js_parser.specs.Faults.{Caused, ComesFirst, IsCause, Stands};
 ghost use Rattle.js_parser.specs.Sources.{IsSource, tokens_of};
@@ -18,8 +18,8 @@ use crate::kept::{spans_of, text_of, url_of};
 use crate::limits::MOST_UNITS;
 use crate::source_trees::{expression_tree, function_tree, script_tree};
 use cdp_text::units::Units;
-use js_syntax::fault::ParseFault;
-use js_syntax::nodes::Nodes;
+use js_parser_readers::fault::ParseFault;
+use js_parser_readers::nodes::Nodes;
 use js_tree::script::{Expression, FunctionCode, Script};
 use std::alloc::Global;
 
@@ -28,7 +28,7 @@ use std::alloc::Global;
 /// # Errors
 ///
 /// As the fault says, the one that stands first in the source; `TooLong` before all else.
-#[tactic(auto, using(js_grammar::proofs::Completeness::one_expression, crate::proofs::TextLemmas::expression_texts))]
+#[tactic(auto, using(js_parser_laws::proofs::Completeness::one_expression, crate::proofs::TextLemmas::expression_texts))]
 pub fn parse_expression(alloc: Global, source: &[u16]) -> Result<Expression, ParseFault>
     // What is answered is the source's tree.
     ensures found { IfOk result (λ x. IsSource IsExpression height source.now (expression_view x.tree)) }
@@ -68,7 +68,7 @@ pub fn parse_expression(alloc: Global, source: &[u16]) -> Result<Expression, Par
 /// # Errors
 ///
 /// As the fault says, the one that stands first in the source; `TooLong` before all else.
-#[tactic(auto, using(js_grammar::proofs::Completeness::one_function, crate::proofs::TextLemmas::function_texts))]
+#[tactic(auto, using(js_parser_laws::proofs::Completeness::one_function, crate::proofs::TextLemmas::function_texts))]
 pub fn parse_function(alloc: Global, source: &[u16]) -> Result<FunctionCode, ParseFault>
     // What is answered is the source's tree.
     ensures found { IfOk result (λ x. IsSource IsFunction height source.now (expression_view x.tree)) }
@@ -108,7 +108,7 @@ pub fn parse_function(alloc: Global, source: &[u16]) -> Result<FunctionCode, Par
 /// # Errors
 ///
 /// As the fault says, the one that stands first in the source; `TooLong` before all else.
-#[tactic(auto, using(js_grammar::proofs::Completeness::one_script, crate::proofs::TextLemmas::script_texts))]
+#[tactic(auto, using(js_parser_laws::proofs::Completeness::one_script, crate::proofs::TextLemmas::script_texts))]
 pub fn parse_script(
     alloc: Global,
     source: &[u16],

@@ -2,10 +2,10 @@
 
 ghost use Rattle.std.specs.Prelude.{◌≡◌, IfErr, IfOk};
 ghost use Rattle.js_tree.specs.Height.{height, height_of_statements};
-ghost use Rattle.js_language.specs.Language.{IsExpression, IsFunction, IsScript};
-ghost use Rattle.js_language.specs.Places.{expression_places, statements_places};
+ghost use Rattle.js_parser_language.specs.Language.{IsExpression, IsFunction, IsScript};
+ghost use Rattle.js_parser_language.specs.Places.{expression_places, statements_places};
 ghost use Rattle.js_tree.specs.Views.{expression_view, statements_view};
-ghost use Rattle.js_syntax.specs.declared.fault.ParseFault.TheVariants.{Memory};
+ghost use Rattle.js_parser_readers.specs.declared.fault.ParseFault.TheVariants.{Memory};
 ghost use Rattle.js_parser.specs.Answers.{Answers};
 ghost use Rattle.js_parser.specs.Spans.{PlacedIn};
 
@@ -14,9 +14,9 @@ use crate::faults::told;
 use crate::lexing::lex;
 use crate::token_trees::{expression_of, function_of, script_of};
 use cdp_text::units::Units;
-use js_syntax::fault::ParseFault;
-use js_syntax::name_set::NameSet;
-use js_syntax::nodes::Nodes;
+use js_parser_readers::fault::ParseFault;
+use js_parser_readers::name_set::NameSet;
+use js_parser_readers::nodes::Nodes;
 use js_tree::tree::{Expr, Stmts};
 use std::alloc::Global;
 

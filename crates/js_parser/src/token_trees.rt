@@ -3,25 +3,25 @@
 ghost use Rattle.std.specs.Prelude.{◌≡◌, IfOk, [], length, All};
 ghost use Rattle.js_tree.specs.Height.{height, height_of_statements};
 ghost use Rattle.js_tree.specs.Views.{expression_view, statements_view};
-ghost use Rattle.js_syntax.specs.Giving.{Gives};
-ghost use Rattle.js_syntax.specs.Parsing.{parse_expression, parse_function, parse_script};
-ghost use Rattle.js_syntax.specs.Views.{tokens_view};
-ghost use Rattle.js_syntax.specs.Placed.{AreInOrder, AreNumbered, IsForward};
-ghost use Rattle.js_language.specs.Places.{AreSpans, expression_places, statements_places};
+ghost use Rattle.js_parser_readers.specs.Giving.{Gives};
+ghost use Rattle.js_parser_readers.specs.Parsing.{parse_expression, parse_function, parse_script};
+ghost use Rattle.js_parser_readers.specs.Views.{tokens_view};
+ghost use Rattle.js_parser_readers.specs.Placed.{AreInOrder, AreNumbered, IsForward};
+ghost use Rattle.js_parser_language.specs.Places.{AreSpans, expression_places, statements_places};
 
 use crate::functions::function_code_at;
-use js_descent::blocks::items_at;
-use js_descent::expressions::expression_below;
-use js_descent::limits::MOST_ROOM;
 use js_lexer::token::Token;
-use js_syntax::context::Context;
-use js_syntax::fault::ParseError;
-use js_syntax::name_set::NameSet;
-use js_syntax::nodes::Nodes;
+use js_parser_descent::blocks::items_at;
+use js_parser_descent::expressions::expression_below;
+use js_parser_descent::limits::MOST_ROOM;
+use js_parser_readers::context::Context;
+use js_parser_readers::fault::ParseError;
+use js_parser_readers::name_set::NameSet;
+use js_parser_readers::nodes::Nodes;
 use js_tree::tree::{Expr, Stmts};
 
 /// The expression that the tokens are, with its height.
-#[tactic(auto, unfolding(js_syntax::specs::Parsing::parse_expression))]
+#[tactic(auto, unfolding(js_parser_readers::specs::Parsing::parse_expression))]
 pub fn expression_of(nodes: &mut Nodes, tokens: &[Token<'_>]) -> Result<(Expr, u32), ParseError>
     ensures gives { Gives (λ x. expression_view x.0) result (parse_expression MOST_ROOM (tokens_view tokens.now)) }
     ensures height { IfOk result (λ x. x.1 ≡ height (expression_view x.0)) }
@@ -37,7 +37,7 @@ pub fn expression_of(nodes: &mut Nodes, tokens: &[Token<'_>]) -> Result<(Expr, u
 }
 
 /// The function expression or arrow function that the tokens are, with its height.
-#[tactic(auto, unfolding(js_syntax::specs::Parsing::parse_function))]
+#[tactic(auto, unfolding(js_parser_readers::specs::Parsing::parse_function))]
 pub fn function_of(nodes: &mut Nodes, tokens: &[Token<'_>]) -> Result<(Expr, u32), ParseError>
     ensures gives { Gives (λ x. expression_view x.0) result (parse_function MOST_ROOM (tokens_view tokens.now)) }
     ensures height { IfOk result (λ x. x.1 ≡ height (expression_view x.0)) }
@@ -53,7 +53,7 @@ pub fn function_of(nodes: &mut Nodes, tokens: &[Token<'_>]) -> Result<(Expr, u32
 }
 
 /// The statements of the script that the tokens are, behind scripts that declare these names, with their height.
-#[tactic(auto, unfolding(js_syntax::specs::Parsing::parse_script))]
+#[tactic(auto, unfolding(js_parser_readers::specs::Parsing::parse_script))]
 pub fn script_of<'s>(
     nodes: &mut Nodes,
     names: NameSet<'s>,

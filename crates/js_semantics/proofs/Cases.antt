@@ -1,9 +1,9 @@
 -- Runs of small scripts, computed: how many steps, how they end, what they print.
 use Rattle.std.specs.Prelude.{◌≡◌, true, false, [], ◌∷◌, Some, None, codes, refl}
-use Rattle.js_operators.specs.declared.operator.UnaryOperator.TheVariants as unaries
-use Rattle.js_operators.specs.declared.operator.UpdateOperator.TheVariants as updates
-use Rattle.js_operators.specs.declared.operator.BinaryOperator.TheVariants as binaries
-use Rattle.js_operators.specs.declared.operator.AssignmentOperator.TheVariants as assigns
+use Rattle.js_tree_operators.specs.declared.operator.UnaryOperator.TheVariants as unaries
+use Rattle.js_tree_operators.specs.declared.operator.UpdateOperator.TheVariants as updates
+use Rattle.js_tree_operators.specs.declared.operator.BinaryOperator.TheVariants as binaries
+use Rattle.js_tree_operators.specs.declared.operator.AssignmentOperator.TheVariants as assigns
 use Rattle.js_tree.specs.Trees as t
 use Rattle.std.specs.Fmt.{digits}
 use Rattle.js_semantics.proofs.Reports.{ended_normally, threw_text, report, ran, outcome, ended_as}

@@ -1,9 +1,9 @@
 -- Evaluations, computed.
 use Rattle.std.specs.Prelude.{◌≡◌, ℕ, true, false, List, [], ◌∷◌, None, Some, codes, refl}
 use Rattle.std.specs.Fmt.{digits}
-use Rattle.js_operators.specs.declared.operator.BinaryOperator.TheVariants as binaries
-use Rattle.js_operators.specs.declared.operator.UnaryOperator.TheVariants as unaries
-use Rattle.js_operators.specs.declared.operator.AssignmentOperator.TheVariants as assigns
+use Rattle.js_tree_operators.specs.declared.operator.BinaryOperator.TheVariants as binaries
+use Rattle.js_tree_operators.specs.declared.operator.UnaryOperator.TheVariants as unaries
+use Rattle.js_tree_operators.specs.declared.operator.AssignmentOperator.TheVariants as assigns
 use Rattle.js_tree.specs.Trees as t
 use Rattle.js_tree.specs.Trees.{Expression}
 use Rattle.js_heap.specs.declared.value.Addr.{Addr}

@@ -1,7 +1,7 @@
 -- Runs at their limits, computed: a world with little room, and many frames.
 use Rattle.std.specs.Prelude.{◌≡◌, ℕ, true, false, [], ◌∷◌, Some, None, replicate, codes, refl}
 use Rattle.std.specs.Fmt.{digits}
-use Rattle.js_operators.specs.declared.operator.UpdateOperator.TheVariants as updates
+use Rattle.js_tree_operators.specs.declared.operator.UpdateOperator.TheVariants as updates
 use Rattle.js_tree.specs.Trees as t
 use Rattle.js_heap.specs.World.{World, Room}
 use Rattle.js_semantics.specs.Terms.{scripts, Terms, end, one, settled}

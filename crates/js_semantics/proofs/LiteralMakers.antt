@@ -1,11 +1,11 @@
 -- What the makers give has the string literals of its tree, counted by any measure.
 use Rattle.std.proofs.Common.{◌≡◌, ℕ, ◌+◌, Bool, true, false, List, [], ◌∷◌, ◌++◌, if◌then◌else◌, Option, None, Some, sum_by, refl, sym, ap, ◌∙◌, arith}
 use Rattle.std.proofs.lemmas.List.Sums.{sum_by-cons}
-use Rattle.js_operators.specs.declared.operator.UnaryOperator.{UnaryOperator}
-use Rattle.js_operators.specs.declared.operator.UnaryOperator.TheVariants as unaries
-use Rattle.js_operators.specs.declared.operator.UpdateOperator.{UpdateOperator}
-use Rattle.js_operators.specs.declared.operator.BinaryOperator.{BinaryOperator}
-use Rattle.js_operators.specs.declared.operator.BinaryOperator.TheVariants as binaries
+use Rattle.js_tree_operators.specs.declared.operator.UnaryOperator.{UnaryOperator}
+use Rattle.js_tree_operators.specs.declared.operator.UnaryOperator.TheVariants as unaries
+use Rattle.js_tree_operators.specs.declared.operator.UpdateOperator.{UpdateOperator}
+use Rattle.js_tree_operators.specs.declared.operator.BinaryOperator.{BinaryOperator}
+use Rattle.js_tree_operators.specs.declared.operator.BinaryOperator.TheVariants as binaries
 use Rattle.js_heap.specs.declared.value.Value.{Value}
 use Rattle.js_heap.specs.declared.value.Value.TheVariants as values
 use Rattle.js_tree.specs.declared.tree.Expr.{Expr}

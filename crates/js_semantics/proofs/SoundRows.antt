@@ -1,8 +1,8 @@
 -- Every row of the tables keeps configurations sound; so does every step, and every run.
 use Rattle.std.proofs.Common.{◌≡◌, ℕ, ◌+◌, Bool, true, false, List, [], ◌∷◌, Option, None, Some, refl}
 use Rattle.std.specs.Prelude.{codes}
-use Rattle.js_operators.specs.declared.operator.BinaryOperator.{BinaryOperator}
-use Rattle.js_operators.specs.declared.operator.UpdateOperator.{UpdateOperator}
+use Rattle.js_tree_operators.specs.declared.operator.BinaryOperator.{BinaryOperator}
+use Rattle.js_tree_operators.specs.declared.operator.UpdateOperator.{UpdateOperator}
 use Rattle.js_heap.specs.declared.value.Addr.{Addr}
 use Rattle.js_heap.specs.declared.value.Value.{Value}
 use Rattle.js_heap.specs.declared.value.Value.TheVariants as values

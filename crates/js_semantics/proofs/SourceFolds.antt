@@ -20,10 +20,10 @@ use Rattle.js_tree.specs.Trees as trees
 use Rattle.js_tree.specs.Trees.{Parameters, Expression, Expressions, OptionalExpression, Key, Property, Properties, Statement, Statements, Handler, Finalizer}
 use Rattle.js_tree.specs.Views.{parameters_view, expressions, statements, properties, declarators, optional, expression_step, property_step, key_step, statement_step, block_step, catch_step, declarator_step, declarators_step, expressions_step, properties_step, statements_step, expression_view, property_view, key_view, statement_view, block_view, catch_view, declarator_view, declarators_view, expressions_view, properties_view, statements_view}
 use Rattle.js_tree.proofs.ViewLemmas.{Layer as Level, expression_roll, property_roll, key_roll, statement_roll, block_roll, catch_roll, declarator_roll, declarators_roll, expressions_roll, properties_roll, statements_roll}
-use Rattle.js_operators.specs.declared.operator.UnaryOperator.{UnaryOperator}
-use Rattle.js_operators.specs.declared.operator.UpdateOperator.{UpdateOperator}
-use Rattle.js_operators.specs.declared.operator.BinaryOperator.{BinaryOperator}
-use Rattle.js_operators.specs.declared.operator.AssignmentOperator.{AssignmentOperator}
+use Rattle.js_tree_operators.specs.declared.operator.UnaryOperator.{UnaryOperator}
+use Rattle.js_tree_operators.specs.declared.operator.UpdateOperator.{UpdateOperator}
+use Rattle.js_tree_operators.specs.declared.operator.BinaryOperator.{BinaryOperator}
+use Rattle.js_tree_operators.specs.declared.operator.AssignmentOperator.{AssignmentOperator}
 use Rattle.js_heap.specs.declared.value.Value.TheVariants as values
 use Rattle.js_semantics.specs.Makers.{parameter_names, Made, Item, Items, PropertyKey, fixed_key, computed_key, PropertyMade, value_property, method_property, DeclaratorMade, CatchMade, value_made, number_made, string_made, this_made, name_made, array_made, parenthesized_made, member_made, index_made, assign_made, update_made, unary_made, binary_made, conditional_made, comma_made, call_made, function_made, returned_body, arrow_made, object_made, no_items, and_items, items_of, block_item, empty_item, expression_item, lexical_item, if_item, while_item, do_while_item, for_item, for_lexical_item, for_of_item, continue_item, break_item, return_item, throw_item, try_item, debugger_item, function_item}
 use Rattle.js_semantics.specs.Sources.{Layer, expression_layer, property_layer, key_layer, statement_layer, block_layer, catch_layer, declarator_layer, declarators_layer, expressions_layer, properties_layer, statements_layer, expression_source, property_source, key_source, statement_source, block_source, catch_source, declarator_source, declarators_source, expressions_source, properties_source, statements_source}

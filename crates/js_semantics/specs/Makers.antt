@@ -3,13 +3,13 @@
 use Rattle.std.specs.Prelude.{ℕ, Bool, true, false, List, [], ◌∷◌, ◌++◌, map, length, Option, Some, None, pos}
 use Rattle.js_tree.specs.Trees as trees
 use Rattle.js_tree.specs.Trees.{Parameters}
-use Rattle.js_operators.specs.declared.operator.UnaryOperator.{UnaryOperator}
-use Rattle.js_operators.specs.declared.operator.UnaryOperator.TheVariants as unaries
-use Rattle.js_operators.specs.declared.operator.UpdateOperator.{UpdateOperator}
-use Rattle.js_operators.specs.declared.operator.BinaryOperator.{BinaryOperator}
-use Rattle.js_operators.specs.declared.operator.BinaryOperator.TheVariants as binaries
-use Rattle.js_operators.specs.declared.operator.AssignmentOperator.{AssignmentOperator}
-use Rattle.js_operators.specs.declared.operator.AssignmentOperator.TheVariants as assigns
+use Rattle.js_tree_operators.specs.declared.operator.UnaryOperator.{UnaryOperator}
+use Rattle.js_tree_operators.specs.declared.operator.UnaryOperator.TheVariants as unaries
+use Rattle.js_tree_operators.specs.declared.operator.UpdateOperator.{UpdateOperator}
+use Rattle.js_tree_operators.specs.declared.operator.BinaryOperator.{BinaryOperator}
+use Rattle.js_tree_operators.specs.declared.operator.BinaryOperator.TheVariants as binaries
+use Rattle.js_tree_operators.specs.declared.operator.AssignmentOperator.{AssignmentOperator}
+use Rattle.js_tree_operators.specs.declared.operator.AssignmentOperator.TheVariants as assigns
 use Rattle.js_heap.specs.declared.value.Value.{Value}
 use Rattle.js_heap.specs.declared.value.Value.TheVariants as values
 use Rattle.js_heap.specs.declared.built_in.Code.{Code}

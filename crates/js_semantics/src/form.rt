@@ -6,8 +6,8 @@ use cdp_text::units::Units;
 use js_heap::built_in::Code;
 use js_heap::cell::{Binding, Names as ScopeNames};
 use js_heap::value::{Addr, Value};
-use js_operators::operator::{BinaryOperator, UnaryOperator, UpdateOperator};
 use js_tree::names::Names;
+use js_tree_operators::operator::{BinaryOperator, UnaryOperator, UpdateOperator};
 use std::marker::Model;
 
 /// Which source: a script by its number, or one that an evaluation kept.

@@ -3,10 +3,10 @@ use Rattle.std.proofs.Common.{◌≡◌, ℕ, Bool, List, Option, Some, None, ma
 use Rattle.std.specs.Global.{Vec, Box}
 use Rattle.js_tree.specs.declared.node.NodeId.{NodeId}
 use Rattle.js_tree.specs.declared.integer.SafeInteger.{SafeInteger}
-use Rattle.js_operators.specs.declared.operator.UnaryOperator.{UnaryOperator}
-use Rattle.js_operators.specs.declared.operator.UpdateOperator.{UpdateOperator}
-use Rattle.js_operators.specs.declared.operator.BinaryOperator.{BinaryOperator}
-use Rattle.js_operators.specs.declared.operator.AssignmentOperator.{AssignmentOperator}
+use Rattle.js_tree_operators.specs.declared.operator.UnaryOperator.{UnaryOperator}
+use Rattle.js_tree_operators.specs.declared.operator.UpdateOperator.{UpdateOperator}
+use Rattle.js_tree_operators.specs.declared.operator.BinaryOperator.{BinaryOperator}
+use Rattle.js_tree_operators.specs.declared.operator.AssignmentOperator.{AssignmentOperator}
 use Rattle.js_tree.specs.declared.tree.ArrowParameters.{ArrowParameters}
 use Rattle.js_tree.specs.declared.tree.Expr.{Expr}
 use Rattle.js_tree.specs.declared.tree.PropertyDefinition.{PropertyDefinition}

@@ -1,9 +1,9 @@
 -- Trees without places and numbers.
 use Rattle.std.specs.Prelude.{ℕ, Bool, List, Option}
-use Rattle.js_operators.specs.declared.operator.UnaryOperator.{UnaryOperator}
-use Rattle.js_operators.specs.declared.operator.UpdateOperator.{UpdateOperator}
-use Rattle.js_operators.specs.declared.operator.BinaryOperator.{BinaryOperator}
-use Rattle.js_operators.specs.declared.operator.AssignmentOperator.{AssignmentOperator}
+use Rattle.js_tree_operators.specs.declared.operator.UnaryOperator.{UnaryOperator}
+use Rattle.js_tree_operators.specs.declared.operator.UpdateOperator.{UpdateOperator}
+use Rattle.js_tree_operators.specs.declared.operator.BinaryOperator.{BinaryOperator}
+use Rattle.js_tree_operators.specs.declared.operator.AssignmentOperator.{AssignmentOperator}
 
 -- a name, by its code units
 abbrev pub Identifier : Type 0

@@ -6,7 +6,9 @@ use crate::integer::SafeInteger;
 use crate::names::Names;
 use crate::node::NodeId;
 use cdp_text::units::Units;
-use js_operators::operator::{AssignmentOperator, BinaryOperator, UnaryOperator, UpdateOperator};
+use js_tree_operators::operator::{
+    AssignmentOperator, BinaryOperator, UnaryOperator, UpdateOperator,
+};
 
 /// The parameters of an arrow function (ECMA-262, 15.3, ArrowParameters).
 #[derive(Drop)]

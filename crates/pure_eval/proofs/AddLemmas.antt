@@ -6,20 +6,20 @@ use Rattle.js_heap.specs.declared.value.Addr.{Addr}
 use Rattle.js_semantics.specs.declared.form.Source.TheVariants.{Kept as kept_source}
 use Rattle.js_semantics.specs.Terms.{Term}
 use Rattle.js_semantics.specs.Functions.{SourceTree, function_in}
-use Rattle.js_world.specs.Names.{GoesOn}
-use Rattle.js_code.specs.declared.node.SourceEntry.{SourceEntry}
-use Rattle.js_code.specs.declared.table.NodeTable.{NodeTable}
-use Rattle.js_code.specs.Codes.{indexed_code}
-use Rattle.js_code.specs.Trees.{tree, IsTable, source_tree, source_trees}
-use Rattle.js_compile.specs.Grown.{Extends, Keeps, Grows, HasTree, Holds}
-use Rattle.js_compile.specs.Index.{IsIndexed}
-use Rattle.js_compile.specs.Scripts.{with_sources}
-use Rattle.js_compile.proofs.GrownLemmas.{begins_same, extends_twice, same_nodes, same_places}
+use Rattle.js_heap_memory.specs.Names.{GoesOn}
+use Rattle.js_machine_nodes.specs.declared.node.SourceEntry.{SourceEntry}
+use Rattle.js_machine_nodes.specs.declared.table.NodeTable.{NodeTable}
+use Rattle.js_machine_nodes.specs.Codes.{indexed_code}
+use Rattle.js_machine_nodes.specs.Trees.{tree, IsTable, source_tree, source_trees}
+use Rattle.js_machine_compiler.specs.Grown.{Extends, Keeps, Grows, HasTree, Holds}
+use Rattle.js_machine_compiler.specs.Index.{IsIndexed}
+use Rattle.js_machine_compiler.specs.Scripts.{with_sources}
+use Rattle.js_machine_compiler.proofs.GrownLemmas.{begins_same, extends_twice, same_nodes, same_places}
 use Rattle.pure_eval.specs.Whole.{AreClosed, ArePlaced, IsWithin, IsWhole}
 use Rattle.pure_eval.specs.Adding.{kept_tree_at, IsAdded}
 use Rattle.pure_eval.proofs.StayLemmas.{Finds, finds-stay, sources-stay}
 use Rattle.pure_eval.proofs.WholeLemmas.{closed-more, placed-more, within-more, closed-end, placed-end}
-use Rattle.js_compile.proofs.ScriptLemmas.{sources_push, tree_of}
+use Rattle.js_machine_compiler.proofs.ScriptLemmas.{sources_push, tree_of}
 
 -- ---- other sources
 

@@ -13,9 +13,9 @@ use Rattle.js_heap.specs.World.{World, Tried, fine, effect, full}
 use Rattle.js_heap.specs.Worlds.{Keeps}
 use Rattle.js_heap.proofs.KeepLemmas.{keeps-trans}
 use Rattle.js_semantics.specs.Evaluation.{Json, after_try, make_json, make_jsons, make_members, make_argument, make_arguments}
-use Rattle.js_world.specs.declared.world.Refused.{Refused}
-use Rattle.js_world.specs.declared.world.Refused.TheVariants.{Effect, Full, Memory}
-use Rattle.js_world.specs.Calls.{Tries}
+use Rattle.js_heap_memory.specs.declared.world.Refused.{Refused}
+use Rattle.js_heap_memory.specs.declared.world.Refused.TheVariants.{Effect, Full, Memory}
+use Rattle.js_heap_memory.specs.Calls.{Tries}
 use Rattle.pure_eval.specs.declared.arguments.Argument.{Argument}
 use Rattle.pure_eval.specs.Arguments.{json_of, jsons_of, members_of, argument_of, arguments_of, json_size, items_size, members_size}
 use Rattle.cdp_text.proofs.ListLemmas.{from-here}

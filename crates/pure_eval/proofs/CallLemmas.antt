@@ -19,30 +19,30 @@ use Rattle.js_semantics.specs.Functions.{Program}
 use Rattle.js_semantics.specs.Next.{next, scope_in}
 use Rattle.js_semantics.specs.Run.{Finish as AnyFinish, Run, over, by_effect, by_full, run_after, run_of, steps_in}
 use Rattle.js_semantics.specs.Evaluation.{Argument, answer_of, answered, after_try, budget, call_with_values, evaluated, evaluation_state, make_arguments}
-use Rattle.js_operations.specs.Contexts.{Context, state_of, bare_context}
-use Rattle.js_operations.specs.Flow.{performed}
-use Rattle.js_world.specs.declared.world.Refused.{Refused}
-use Rattle.js_world.specs.declared.world.Refused.TheVariants.{Effect, Full, Memory}
-use Rattle.js_world.specs.Calls.{Tries}
-use Rattle.js_code.specs.declared.node.CallEntry.{CallEntry}
-use Rattle.js_code.specs.declared.op.Op.TheVariants as ops
-use Rattle.js_code.specs.declared.table.NodeTable.{NodeTable}
-use Rattle.js_code.specs.Forms.{call_form, form_of}
-use Rattle.js_code.specs.Trees.{program_of}
-use Rattle.js_compile.specs.Grown.{Extends}
-use Rattle.js_compile.proofs.GrownLemmas.{begins_same, same_nodes, same_places}
-use Rattle.js_steps.specs.declared.stepped.Finish.{Finish}
-use Rattle.js_steps.specs.declared.stepped.Stepped.{Stepped}
-use Rattle.js_steps.specs.declared.stepped.Stepped.TheVariants as steppeds
-use Rattle.js_steps.specs.declared.task.Point.{Point}
-use Rattle.js_steps.specs.declared.task.Point.TheVariants as points
-use Rattle.js_steps.specs.Gaps.{Gap, gap_parts, risen, resettled}
-use Rattle.js_steps.specs.Points.{term_at, IsAt}
-use Rattle.js_steps.specs.Stacks.{begun, with_value}
-use Rattle.js_steps.specs.Stepping.{finish_of, EndsSo, Tells, IfGoesOn, IsGoing, StandsIn}
-use Rattle.js_steps.specs.Tasks.{Wide, task_form, gaps_of}
-use Rattle.js_steps.proofs.GapLemmas.{next-within}
-use Rattle.js_steps.proofs.RunLemmas.{at-open, done_at}
+use Rattle.js_machine_actions.specs.Contexts.{Context, state_of, bare_context}
+use Rattle.js_machine_actions.specs.Flow.{performed}
+use Rattle.js_heap_memory.specs.declared.world.Refused.{Refused}
+use Rattle.js_heap_memory.specs.declared.world.Refused.TheVariants.{Effect, Full, Memory}
+use Rattle.js_heap_memory.specs.Calls.{Tries}
+use Rattle.js_machine_nodes.specs.declared.node.CallEntry.{CallEntry}
+use Rattle.js_machine_nodes.specs.declared.op.Op.TheVariants as ops
+use Rattle.js_machine_nodes.specs.declared.table.NodeTable.{NodeTable}
+use Rattle.js_machine_nodes.specs.Forms.{call_form, form_of}
+use Rattle.js_machine_nodes.specs.Trees.{program_of}
+use Rattle.js_machine_compiler.specs.Grown.{Extends}
+use Rattle.js_machine_compiler.proofs.GrownLemmas.{begins_same, same_nodes, same_places}
+use Rattle.js_machine_engine.specs.declared.stepped.Finish.{Finish}
+use Rattle.js_machine_engine.specs.declared.stepped.Stepped.{Stepped}
+use Rattle.js_machine_engine.specs.declared.stepped.Stepped.TheVariants as steppeds
+use Rattle.js_machine_engine.specs.declared.task.Point.{Point}
+use Rattle.js_machine_engine.specs.declared.task.Point.TheVariants as points
+use Rattle.js_machine_engine.specs.Gaps.{Gap, gap_parts, risen, resettled}
+use Rattle.js_machine_engine.specs.Points.{term_at, IsAt}
+use Rattle.js_machine_engine.specs.Stacks.{begun, with_value}
+use Rattle.js_machine_engine.specs.Stepping.{finish_of, EndsSo, Tells, IfGoesOn, IsGoing, StandsIn}
+use Rattle.js_machine_engine.specs.Tasks.{Wide, task_form, gaps_of}
+use Rattle.js_machine_engine.proofs.GapLemmas.{next-within}
+use Rattle.js_machine_engine.proofs.RunLemmas.{at-open, done_at}
 use Rattle.pure_eval.specs.declared.calling.Callee.TheVariants as callees
 use Rattle.pure_eval.specs.declared.evaluated.Evaluated.{Evaluated}
 use Rattle.pure_eval.specs.declared.evaluated.Evaluated.TheVariants as ends

@@ -2,13 +2,13 @@
 use Rattle.std.proofs.Common.{◌≡◌, ℕ, ◌≤◌, List, [], length, take, Option, None, Some, sym, ap, ◌∙◌, subst, arith, append-nil}
 use Rattle.std.specs.Prelude.{slice_get}
 use Rattle.std.proofs.Math.Seq.{take-append_seam}
-use Rattle.js_code.specs.declared.op.Op.{Op}
-use Rattle.js_code.specs.declared.op.Op.TheVariants as ops
-use Rattle.js_code.specs.declared.node.Node.{Node}
-use Rattle.js_code.specs.declared.node.SourceEntry.{SourceEntry}
-use Rattle.js_code.specs.declared.table.NodeTable.{NodeTable}
-use Rattle.js_code.specs.Trees.{EachBelow, IsNodeAt, source_trees}
-use Rattle.js_compile.specs.Grown.{Begins, Extends, IsPlacedAt, IsPlacedNode}
+use Rattle.js_machine_nodes.specs.declared.op.Op.{Op}
+use Rattle.js_machine_nodes.specs.declared.op.Op.TheVariants as ops
+use Rattle.js_machine_nodes.specs.declared.node.Node.{Node}
+use Rattle.js_machine_nodes.specs.declared.node.SourceEntry.{SourceEntry}
+use Rattle.js_machine_nodes.specs.declared.table.NodeTable.{NodeTable}
+use Rattle.js_machine_nodes.specs.Trees.{EachBelow, IsNodeAt, source_trees}
+use Rattle.js_machine_compiler.specs.Grown.{Begins, Extends, IsPlacedAt, IsPlacedNode}
 use Rattle.pure_eval.specs.declared.cutting.TableMark.{TableMark}
 use Rattle.pure_eval.specs.Whole.{IsWhole}
 use Rattle.pure_eval.specs.Adding.{GoesOnWith}

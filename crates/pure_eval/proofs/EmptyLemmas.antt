@@ -3,9 +3,9 @@ use Rattle.std.proofs.Common.{◌≡◌, ℕ, List, [], Some, sym, ap, ◌∙◌
 use Rattle.std.specs.Prelude.{slice_get}
 use Rattle.std.proofs.lemmas.Option.{none-some}
 use Rattle.js_semantics.specs.Functions.{Program, function_at}
-use Rattle.js_code.specs.declared.table.NodeTable.{NodeTable}
-use Rattle.js_code.specs.Trees.{IsEmpty, source_trees, program_of}
-use Rattle.js_compile.proofs.ScriptLemmas.{empty_is_table, empty_places}
+use Rattle.js_machine_nodes.specs.declared.table.NodeTable.{NodeTable}
+use Rattle.js_machine_nodes.specs.Trees.{IsEmpty, source_trees, program_of}
+use Rattle.js_machine_compiler.proofs.ScriptLemmas.{empty_is_table, empty_places}
 use Rattle.pure_eval.specs.declared.evaluator.Evaluator.{Evaluator}
 use Rattle.pure_eval.specs.Evaluators.{AreBelow}
 use Rattle.pure_eval.specs.Whole.{IsWhole}

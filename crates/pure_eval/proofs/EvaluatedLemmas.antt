@@ -8,21 +8,21 @@ use Rattle.js_semantics.specs.State.{State}
 use Rattle.js_semantics.specs.Functions.{Program}
 use Rattle.js_semantics.specs.Evaluation.{answer_of, budget, evaluation_state, evaluated}
 use Rattle.js_semantics.specs.Run.{Finish as AnyFinish, Run, over, run_of, steps_in}
-use Rattle.js_operations.specs.Contexts.{Context, state_of, bare_context}
-use Rattle.js_code.specs.declared.table.NodeTable.{NodeTable}
-use Rattle.js_code.specs.Trees.{program_of}
-use Rattle.js_steps.specs.declared.run.Why.{Why}
-use Rattle.js_steps.specs.declared.run.Why.TheVariants as whys
-use Rattle.js_steps.specs.declared.stepped.Finish.{Finish}
-use Rattle.js_steps.specs.declared.stepped.Finish.TheVariants as finishes
-use Rattle.js_steps.specs.declared.task.Point.{Point}
-use Rattle.js_steps.specs.declared.task.Point.TheVariants as points
-use Rattle.js_steps.specs.Gaps.{resettled}
-use Rattle.js_steps.specs.Tasks.{Wide, gaps_of}
-use Rattle.js_steps.specs.Points.{term_at, IsAt}
-use Rattle.js_steps.specs.Running.{RunsTo, IfGoes}
-use Rattle.js_steps.specs.Stepping.{finish_of, StandsIn}
-use Rattle.js_steps.proofs.RunLemmas.{at-open, done_at}
+use Rattle.js_machine_actions.specs.Contexts.{Context, state_of, bare_context}
+use Rattle.js_machine_nodes.specs.declared.table.NodeTable.{NodeTable}
+use Rattle.js_machine_nodes.specs.Trees.{program_of}
+use Rattle.js_machine_engine.specs.declared.run.Why.{Why}
+use Rattle.js_machine_engine.specs.declared.run.Why.TheVariants as whys
+use Rattle.js_machine_engine.specs.declared.stepped.Finish.{Finish}
+use Rattle.js_machine_engine.specs.declared.stepped.Finish.TheVariants as finishes
+use Rattle.js_machine_engine.specs.declared.task.Point.{Point}
+use Rattle.js_machine_engine.specs.declared.task.Point.TheVariants as points
+use Rattle.js_machine_engine.specs.Gaps.{resettled}
+use Rattle.js_machine_engine.specs.Tasks.{Wide, gaps_of}
+use Rattle.js_machine_engine.specs.Points.{term_at, IsAt}
+use Rattle.js_machine_engine.specs.Running.{RunsTo, IfGoes}
+use Rattle.js_machine_engine.specs.Stepping.{finish_of, StandsIn}
+use Rattle.js_machine_engine.proofs.RunLemmas.{at-open, done_at}
 use Rattle.pure_eval.specs.declared.evaluated.Evaluated.{Evaluated}
 use Rattle.pure_eval.specs.declared.evaluated.Evaluated.TheVariants as ends
 use Rattle.pure_eval.specs.Answering.{Answers, EndsIn, finished, end_of, end_at}

@@ -26,16 +26,16 @@ use Rattle.js_semantics.proofs.EvaluationLemmas.{evaluate-keeps, call-keeps}
 use Rattle.js_semantics.proofs.LiteralLaws.{literals-agree}
 use Rattle.js_semantics.specs.Run.{literals, program_from, run_of, steps_in}
 use Rattle.js_semantics.specs.Evaluation.{Answer, answer_of, budget, evaluation_state, evaluated, answered, after_try, place_literals, next_kept, kept_term, kept_tree, with_source, prepared, Argument, with_arguments, evaluate_function}
-use Rattle.js_terms.specs.Views.{term_view}
-use Rattle.js_world.specs.Names.{GoesOn}
-use Rattle.js_world.specs.Heaps.{Heap, heap_world}
-use Rattle.js_world.specs.Overlays.{space_of, next_of}
-use Rattle.js_world.proofs.HeapLemmas.{cells-length}
-use Rattle.js_code.specs.declared.node.SourceEntry.{SourceEntry}
-use Rattle.js_code.specs.declared.table.NodeTable.{NodeTable}
-use Rattle.js_code.specs.Trees.{tree, program_of}
-use Rattle.js_compile.specs.declared.scripts.ScriptCode.{ScriptCode}
-use Rattle.js_compile.specs.Scripts.{IsCompiled, AreCompiled}
+use Rattle.js_machine_terms.specs.Views.{term_view}
+use Rattle.js_heap_memory.specs.Names.{GoesOn}
+use Rattle.js_heap_memory.specs.Heaps.{Heap, heap_world}
+use Rattle.js_heap_memory.specs.Overlays.{space_of, next_of}
+use Rattle.js_heap_memory.proofs.HeapLemmas.{cells-length}
+use Rattle.js_machine_nodes.specs.declared.node.SourceEntry.{SourceEntry}
+use Rattle.js_machine_nodes.specs.declared.table.NodeTable.{NodeTable}
+use Rattle.js_machine_nodes.specs.Trees.{tree, program_of}
+use Rattle.js_machine_compiler.specs.declared.scripts.ScriptCode.{ScriptCode}
+use Rattle.js_machine_compiler.specs.Scripts.{IsCompiled, AreCompiled}
 use Rattle.pure_eval.specs.declared.cutting.TableMark.{TableMark}
 use Rattle.pure_eval.specs.Whole.{IsWhole}
 use Rattle.pure_eval.specs.Adding.{kept_tree_at, GoesOnWith, IsAdded}
@@ -55,8 +55,8 @@ use Rattle.pure_eval.specs.Preparing.{IsReady}
 use Rattle.pure_eval.specs.Programs.{HasSameFunctions, IsNewSource}
 use Rattle.pure_eval.proofs.SettledTerms.{kept-settled}
 use Rattle.pure_eval.proofs.ProgramLemmas.{same-steps, behind-others, in-front}
-use Rattle.js_compile.proofs.NameLemmas.{goes_on_same}
-use Rattle.js_world.proofs.StartLemmas.{goes-then}
+use Rattle.js_machine_compiler.proofs.NameLemmas.{goes_on_same}
+use Rattle.js_heap_memory.proofs.StartLemmas.{goes-then}
 use Rattle.std.proofs.lemmas.Bool.{eqb-true}
 
 -- ---- names that go on

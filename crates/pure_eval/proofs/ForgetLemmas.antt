@@ -11,9 +11,9 @@ use Rattle.js_semantics.specs.Makers.{Made}
 use Rattle.js_semantics.specs.Laws.{Undisturbed, AnswerKeeps}
 use Rattle.js_semantics.specs.Evaluation.{Answer, evaluate}
 use Rattle.js_semantics.proofs.EvaluationLemmas.{evaluate-keeps}
-use Rattle.js_world.specs.Heaps.{Heap}
-use Rattle.js_world.specs.Overlays.{mark_of, space_of, space_after, space_at}
-use Rattle.js_world.proofs.HeapLemmas.{cells-length}
+use Rattle.js_heap_memory.specs.Heaps.{Heap}
+use Rattle.js_heap_memory.specs.Overlays.{mark_of, space_of, space_after, space_at}
+use Rattle.js_heap_memory.proofs.HeapLemmas.{cells-length}
 use Rattle.pure_eval.specs.declared.evaluated.Evaluated.{Evaluated}
 use Rattle.pure_eval.specs.declared.evaluated.Evaluated.TheVariants as ends
 use Rattle.pure_eval.specs.Leaving.{Leaves, ComesBack}

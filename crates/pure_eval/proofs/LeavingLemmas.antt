@@ -11,7 +11,7 @@ use Rattle.js_semantics.specs.Functions.{Program}
 use Rattle.js_semantics.specs.Run.{run_of, state_of, steps_in}
 use Rattle.js_semantics.specs.Evaluation.{Answer}
 use Rattle.js_semantics.proofs.FollowLemmas.{run_of-state, steps-follows}
-use Rattle.js_world.specs.Overlays.{Marked, space_after, space_at}
+use Rattle.js_heap_memory.specs.Overlays.{Marked, space_after, space_at}
 use Rattle.pure_eval.specs.declared.evaluated.Evaluated.{Evaluated}
 use Rattle.pure_eval.specs.declared.evaluated.Evaluated.TheVariants as ends
 use Rattle.pure_eval.specs.Answering.{Answers}

@@ -13,11 +13,11 @@ use Rattle.js_semantics.specs.Laws.{AnswerKeeps}
 use Rattle.js_semantics.specs.Evaluation.{Answer, kept_tree, next_kept}
 use Rattle.js_semantics.specs.Literals.{source_literals}
 use Rattle.js_semantics.specs.Sources.{expression_source}
-use Rattle.js_terms.specs.Views.{term_view}
+use Rattle.js_machine_terms.specs.Views.{term_view}
 use Rattle.js_tree.specs.declared.tree.Expr.{Expr}
-use Rattle.js_world.specs.Heaps.{Heap, heap_world}
-use Rattle.js_world.specs.Overlays.{Marked, Over, over_world, space_of, space_after, space_at, next_of}
-use Rattle.js_code.specs.Trees.{program_of}
+use Rattle.js_heap_memory.specs.Heaps.{Heap, heap_world}
+use Rattle.js_heap_memory.specs.Overlays.{Marked, Over, over_world, space_of, space_after, space_at, next_of}
+use Rattle.js_machine_nodes.specs.Trees.{program_of}
 use Rattle.pure_eval.specs.declared.evaluated.Evaluated.{Evaluated}
 use Rattle.pure_eval.specs.declared.evaluated.Evaluated.TheVariants as ends
 use Rattle.pure_eval.specs.declared.evaluator.Evaluator.{Evaluator}

@@ -9,11 +9,11 @@ use Rattle.js_heap.proofs.KeepLemmas.{keeps-same}
 use Rattle.js_semantics.specs.Terms.{Term}
 use Rattle.js_semantics.specs.Laws.{SameOutcome}
 use Rattle.js_semantics.specs.Evaluation.{Answer, an_effect, is_full_of, answered, after_try, keep_source, make_literals, place_literals}
-use Rattle.js_world.specs.declared.world.Refused.{Refused}
-use Rattle.js_world.specs.declared.world.Refused.TheVariants.{Effect, Full, Memory}
-use Rattle.js_world.specs.Calls.{Tries}
-use Rattle.js_world.specs.Heaps.{Heap}
-use Rattle.js_world.specs.Overlays.{Marked, mark_of, space_of, space_after, space_at}
+use Rattle.js_heap_memory.specs.declared.world.Refused.{Refused}
+use Rattle.js_heap_memory.specs.declared.world.Refused.TheVariants.{Effect, Full, Memory}
+use Rattle.js_heap_memory.specs.Calls.{Tries}
+use Rattle.js_heap_memory.specs.Heaps.{Heap}
+use Rattle.js_heap_memory.specs.Overlays.{Marked, mark_of, space_of, space_after, space_at}
 use Rattle.pure_eval.specs.declared.evaluated.Evaluated.{Evaluated}
 use Rattle.pure_eval.specs.declared.evaluated.Evaluated.TheVariants as ends
 use Rattle.pure_eval.specs.Leaving.{Leaves, placed, made_ready}

@@ -8,12 +8,12 @@ use Rattle.js_heap.specs.ScratchSpaces.{ScratchSpace, copied_world}
 use Rattle.js_heap.proofs.KeepLemmas.{keeps-same, keeps-trans}
 use Rattle.js_semantics.specs.Terms.{Term}
 use Rattle.js_semantics.specs.Evaluation.{Answer, after_try, keep_source, answered}
-use Rattle.js_world.specs.declared.world.Refused.{Refused}
-use Rattle.js_world.specs.declared.world.Refused.TheVariants.{Effect, Full, Memory}
-use Rattle.js_world.specs.Calls.{Tries}
-use Rattle.js_world.specs.Heaps.{Heap}
-use Rattle.js_world.specs.Overlays.{Marked, mark_of, space_of}
-use Rattle.js_world.proofs.HeapLemmas.{cells-length}
+use Rattle.js_heap_memory.specs.declared.world.Refused.{Refused}
+use Rattle.js_heap_memory.specs.declared.world.Refused.TheVariants.{Effect, Full, Memory}
+use Rattle.js_heap_memory.specs.Calls.{Tries}
+use Rattle.js_heap_memory.specs.Heaps.{Heap}
+use Rattle.js_heap_memory.specs.Overlays.{Marked, mark_of, space_of}
+use Rattle.js_heap_memory.proofs.HeapLemmas.{cells-length}
 use Rattle.pure_eval.specs.declared.evaluated.Evaluated.{Evaluated}
 use Rattle.pure_eval.specs.Leaving.{space_behind, GoesOnFrom, Leaves, placed, made_ready, refused_end}
 use Rattle.pure_eval.proofs.LeavingLemmas.{cut-space}

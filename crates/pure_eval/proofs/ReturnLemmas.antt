@@ -2,13 +2,13 @@
 use Rattle.std.proofs.Common.{◌≡◌, ℕ, ◌+◌, true, false, List, [], ◌∷◌, ◌++◌, length, refl, sym, ap, subst, ◌∙◌, append-nil, append_assoc}
 use Rattle.js_semantics.specs.Terms.{Term}
 use Rattle.js_semantics.specs.Functions.{Program, SourceTree}
-use Rattle.js_world.specs.Heaps.{Heap}
-use Rattle.js_world.specs.Overlays.{next_of}
-use Rattle.js_world.specs.Names.{GoesOn}
-use Rattle.js_code.specs.declared.node.SourceEntry.{SourceEntry}
-use Rattle.js_code.specs.declared.table.NodeTable.{NodeTable}
-use Rattle.js_code.specs.Trees.{program_of}
-use Rattle.js_compile.proofs.GrownLemmas.{extends_same, extends_twice}
+use Rattle.js_heap_memory.specs.Heaps.{Heap}
+use Rattle.js_heap_memory.specs.Overlays.{next_of}
+use Rattle.js_heap_memory.specs.Names.{GoesOn}
+use Rattle.js_machine_nodes.specs.declared.node.SourceEntry.{SourceEntry}
+use Rattle.js_machine_nodes.specs.declared.table.NodeTable.{NodeTable}
+use Rattle.js_machine_nodes.specs.Trees.{program_of}
+use Rattle.js_machine_compiler.proofs.GrownLemmas.{extends_same, extends_twice}
 use Rattle.pure_eval.specs.declared.evaluated.Evaluated.{Evaluated}
 use Rattle.pure_eval.specs.declared.evaluated.Evaluated.TheVariants as ends
 use Rattle.pure_eval.specs.declared.evaluator.Added.{Added}
@@ -20,8 +20,8 @@ use Rattle.pure_eval.specs.Cutting.{IsMarkOf, IsBack}
 use Rattle.pure_eval.specs.Evaluators.{HoldsProgram, Runs, is_kept}
 use Rattle.pure_eval.specs.Returning.{WentOn, WentOnAfter, IsMarked, IsAgain, CameFrom, CameAfter, HasAdded, IsCode, IsCodeOf, CodeAfter}
 use Rattle.pure_eval.proofs.EvaluatorLemmas.{same-program, stands-back, stands-same, stands-added, behind-is}
-use Rattle.js_compile.proofs.NameLemmas.{goes_on_same}
-use Rattle.js_world.proofs.StartLemmas.{goes-then}
+use Rattle.js_machine_compiler.proofs.NameLemmas.{goes_on_same}
+use Rattle.js_heap_memory.proofs.StartLemmas.{goes-then}
 
 -- ---- going on
 

@@ -5,20 +5,20 @@ use Rattle.js_heap.specs.declared.value.Value.TheVariants as values
 use Rattle.js_semantics.specs.declared.form.Form.{Form}
 use Rattle.js_semantics.specs.Terms.{Term, done, part, Terms}
 use Rattle.js_semantics.specs.Functions.{SourceTree, function_in}
-use Rattle.js_code.specs.declared.op.Op.{Op}
-use Rattle.js_code.specs.declared.op.Op.TheVariants as ops
-use Rattle.js_code.specs.declared.node.Node.{Node}
-use Rattle.js_code.specs.declared.node.FunctionEntry.{FunctionEntry}
-use Rattle.js_code.specs.declared.node.SourceEntry.{SourceEntry}
-use Rattle.js_code.specs.declared.table.NodeTable.{NodeTable}
-use Rattle.js_code.specs.Ops.{is_literal, is_task_only}
-use Rattle.js_code.specs.Forms.{form_of, function_of, script_form, for_form, for_of_form, block_form, function_form, method_form, object_form, call_form, name_call_form, member_call_form, index_call_form}
-use Rattle.js_code.specs.Trees.{constant_at, kids_between, terms, node_term, tree_within, tree, IsNodeAt, IsTable, source_tree, source_trees}
-use Rattle.js_code.specs.Codes.{code_of_parts, code_of_node, code_of_entry, code_of_number, indexed_code}
-use Rattle.js_compile.specs.Grown.{Begins, Extends}
-use Rattle.js_code.proofs.TreeLemmas.{now-below, later-below, terms_same}
+use Rattle.js_machine_nodes.specs.declared.op.Op.{Op}
+use Rattle.js_machine_nodes.specs.declared.op.Op.TheVariants as ops
+use Rattle.js_machine_nodes.specs.declared.node.Node.{Node}
+use Rattle.js_machine_nodes.specs.declared.node.FunctionEntry.{FunctionEntry}
+use Rattle.js_machine_nodes.specs.declared.node.SourceEntry.{SourceEntry}
+use Rattle.js_machine_nodes.specs.declared.table.NodeTable.{NodeTable}
+use Rattle.js_machine_nodes.specs.Ops.{is_literal, is_task_only}
+use Rattle.js_machine_nodes.specs.Forms.{form_of, function_of, script_form, for_form, for_of_form, block_form, function_form, method_form, object_form, call_form, name_call_form, member_call_form, index_call_form}
+use Rattle.js_machine_nodes.specs.Trees.{constant_at, kids_between, terms, node_term, tree_within, tree, IsNodeAt, IsTable, source_tree, source_trees}
+use Rattle.js_machine_nodes.specs.Codes.{code_of_parts, code_of_node, code_of_entry, code_of_number, indexed_code}
+use Rattle.js_machine_compiler.specs.Grown.{Begins, Extends}
+use Rattle.js_machine_nodes.proofs.TreeLemmas.{now-below, later-below, terms_same}
 use Rattle.pure_eval.specs.Whole.{names_entry, AreClosed, ArePlaced, IsWithin}
-use Rattle.js_compile.proofs.GrownLemmas.{begins_between, front}
+use Rattle.js_machine_compiler.proofs.GrownLemmas.{begins_between, front}
 use Rattle.std.proofs.lemmas.Bool.{ltb-true}
 
 -- ---- lists that go on

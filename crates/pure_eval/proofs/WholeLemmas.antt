@@ -2,14 +2,14 @@
 use Rattle.std.proofs.Common.{◌≡◌, ◌⊎◌, inl, inr, ℕ, zero, suc, ◌+◌, ◌<◌, ◌≤◌, Bool, true, false, List, [], ◌∷◌, length, get_or, Option, Some, refl, sym, ap, ◌∙◌, subst, arith}
 use Rattle.std.specs.Prelude.{slice_get, nat_lt}
 use Rattle.std.proofs.lemmas.Option.{slice_get_within}
-use Rattle.js_code.specs.declared.op.Op.{Op}
-use Rattle.js_code.specs.declared.op.Op.TheVariants as ops
-use Rattle.js_code.specs.declared.node.Node.{Node}
-use Rattle.js_code.specs.declared.node.FunctionEntry.{FunctionEntry}
-use Rattle.js_code.specs.declared.node.SourceEntry.{SourceEntry}
-use Rattle.js_code.specs.declared.table.NodeTable.{NodeTable}
-use Rattle.js_compile.specs.Grown.{Begins, Extends}
-use Rattle.js_compile.proofs.GrownLemmas.{begins_length}
+use Rattle.js_machine_nodes.specs.declared.op.Op.{Op}
+use Rattle.js_machine_nodes.specs.declared.op.Op.TheVariants as ops
+use Rattle.js_machine_nodes.specs.declared.node.Node.{Node}
+use Rattle.js_machine_nodes.specs.declared.node.FunctionEntry.{FunctionEntry}
+use Rattle.js_machine_nodes.specs.declared.node.SourceEntry.{SourceEntry}
+use Rattle.js_machine_nodes.specs.declared.table.NodeTable.{NodeTable}
+use Rattle.js_machine_compiler.specs.Grown.{Begins, Extends}
+use Rattle.js_machine_compiler.proofs.GrownLemmas.{begins_length}
 use Rattle.pure_eval.specs.Whole.{names_entry, AreClosed, ArePlaced, IsWithin}
 use Rattle.pure_eval.proofs.StayLemmas.{here}
 

@@ -10,14 +10,14 @@ use Rattle.js_heap.specs.ScratchSpaces.{ScratchSpace, copied_world}
 use Rattle.js_semantics.specs.Functions.{Program}
 use Rattle.js_semantics.specs.Evaluation.{next_kept}
 use Rattle.std.specs.Prelude.{slice_get, unwrap_or}
-use Rattle.js_world.specs.Names.{GoesOn, name_of, spare}
-use Rattle.js_world.specs.Heaps.{Heap, heap_world}
-use Rattle.js_world.specs.Overlays.{Marked, Over, over_world, space_of, space_after, space_at, first_space, next_of, mark_of}
-use Rattle.js_world.proofs.HeapLemmas.{cells-length}
-use Rattle.js_world.proofs.TableLemmas.{same-only}
-use Rattle.js_code.specs.declared.node.SourceEntry.{SourceEntry}
-use Rattle.js_code.specs.declared.table.NodeTable.{NodeTable}
-use Rattle.js_code.specs.Trees.{source_tree, source_trees, program_of}
+use Rattle.js_heap_memory.specs.Names.{GoesOn, name_of, spare}
+use Rattle.js_heap_memory.specs.Heaps.{Heap, heap_world}
+use Rattle.js_heap_memory.specs.Overlays.{Marked, Over, over_world, space_of, space_after, space_at, first_space, next_of, mark_of}
+use Rattle.js_heap_memory.proofs.HeapLemmas.{cells-length}
+use Rattle.js_heap_memory.proofs.TableLemmas.{same-only}
+use Rattle.js_machine_nodes.specs.declared.node.SourceEntry.{SourceEntry}
+use Rattle.js_machine_nodes.specs.declared.table.NodeTable.{NodeTable}
+use Rattle.js_machine_nodes.specs.Trees.{source_tree, source_trees, program_of}
 use Rattle.pure_eval.specs.declared.evaluator.Evaluator.{Evaluator}
 use Rattle.pure_eval.specs.declared.evaluator.EvaluatorMark.{EvaluatorMark}
 use Rattle.pure_eval.specs.Whole.{IsWhole}

@@ -4,11 +4,11 @@ use Rattle.js_heap.specs.declared.value.Addr.{Addr}
 use Rattle.js_semantics.specs.declared.form.Source.TheVariants.{Kept as kept_source}
 use Rattle.js_semantics.specs.Terms.{Term}
 use Rattle.js_semantics.specs.Functions.{SourceTree}
-use Rattle.js_world.specs.Names.{GoesOn}
-use Rattle.js_code.specs.declared.node.SourceEntry.{SourceEntry}
-use Rattle.js_code.specs.declared.table.NodeTable.{NodeTable}
-use Rattle.js_code.specs.Trees.{tree, program_of}
-use Rattle.js_compile.specs.Grown.{Extends}
+use Rattle.js_heap_memory.specs.Names.{GoesOn}
+use Rattle.js_machine_nodes.specs.declared.node.SourceEntry.{SourceEntry}
+use Rattle.js_machine_nodes.specs.declared.table.NodeTable.{NodeTable}
+use Rattle.js_machine_nodes.specs.Trees.{tree, program_of}
+use Rattle.js_machine_compiler.specs.Grown.{Extends}
 use Rattle.pure_eval.specs.Whole.{IsWhole}
 
 -- the source that is kept at an address, with its term

@@ -3,12 +3,12 @@ use Rattle.std.specs.Prelude.{◌≡◌, Bool, true, false, Option, None, Some}
 use Rattle.js_heap.specs.World.{World}
 use Rattle.js_semantics.specs.Run.{Run, state_of}
 use Rattle.js_semantics.specs.Evaluation.{Answer, a_result, a_throw, an_effect, is_full_of, spent}
-use Rattle.js_steps.specs.declared.run.Why.{Why}
-use Rattle.js_steps.specs.declared.run.Why.TheVariants as whys
-use Rattle.js_steps.specs.declared.stepped.Finish.{Finish}
-use Rattle.js_steps.specs.declared.stepped.Finish.TheVariants as finishes
-use Rattle.js_steps.specs.declared.task.Point.{Point}
-use Rattle.js_steps.specs.declared.task.Point.TheVariants as points
+use Rattle.js_machine_engine.specs.declared.run.Why.{Why}
+use Rattle.js_machine_engine.specs.declared.run.Why.TheVariants as whys
+use Rattle.js_machine_engine.specs.declared.stepped.Finish.{Finish}
+use Rattle.js_machine_engine.specs.declared.stepped.Finish.TheVariants as finishes
+use Rattle.js_machine_engine.specs.declared.task.Point.{Point}
+use Rattle.js_machine_engine.specs.declared.task.Point.TheVariants as points
 use Rattle.pure_eval.specs.declared.evaluated.Evaluated.{Evaluated}
 use Rattle.pure_eval.specs.declared.evaluated.Evaluated.TheVariants as ends
 

@@ -15,12 +15,12 @@ use Rattle.js_semantics.specs.State.{State}
 use Rattle.js_semantics.specs.Terms.{Term, done}
 use Rattle.js_semantics.specs.declared.form.Form.TheVariants.{Call as call}
 use Rattle.js_semantics.specs.declared.form.Mark.TheVariants.{Beginning as beginning}
-use Rattle.js_code.specs.declared.table.NodeTable.{NodeTable}
-use Rattle.js_code.specs.Forms.{call_form}
-use Rattle.js_code.specs.Trees.{program_of}
-use Rattle.js_steps.specs.Tasks.{Wide}
-use Rattle.js_steps.specs.declared.stepped.Stepped.{Stepped}
-use Rattle.js_steps.specs.declared.stepped.Stepped.TheVariants as steppeds
+use Rattle.js_machine_nodes.specs.declared.table.NodeTable.{NodeTable}
+use Rattle.js_machine_nodes.specs.Forms.{call_form}
+use Rattle.js_machine_nodes.specs.Trees.{program_of}
+use Rattle.js_machine_engine.specs.Tasks.{Wide}
+use Rattle.js_machine_engine.specs.declared.stepped.Stepped.{Stepped}
+use Rattle.js_machine_engine.specs.declared.stepped.Stepped.TheVariants as steppeds
 use Rattle.pure_eval.specs.declared.calling.Callee.{Callee}
 use Rattle.pure_eval.specs.declared.calling.Callee.TheVariants as callees
 use Rattle.pure_eval.specs.declared.evaluated.Evaluated.{Evaluated}

@@ -1,7 +1,7 @@
 -- A table that is cut back to where it was.
 use Rattle.std.specs.Prelude.{◌≡◌, ℕ, List, length, take, []}
-use Rattle.js_code.specs.declared.table.NodeTable.{NodeTable}
-use Rattle.js_code.specs.Trees.{program_of}
+use Rattle.js_machine_nodes.specs.declared.table.NodeTable.{NodeTable}
+use Rattle.js_machine_nodes.specs.Trees.{program_of}
 use Rattle.pure_eval.specs.declared.cutting.TableMark.{TableMark}
 use Rattle.pure_eval.specs.Whole.{IsWhole}
 use Rattle.pure_eval.specs.Adding.{GoesOnWith}

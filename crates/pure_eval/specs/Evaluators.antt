@@ -9,9 +9,9 @@ use Rattle.js_semantics.specs.Functions.{Program}
 use Rattle.js_semantics.specs.Makers.{Made}
 use Rattle.js_semantics.specs.Run.{literals}
 use Rattle.js_semantics.specs.Evaluation.{kept_term, kept_tree}
-use Rattle.js_world.specs.Names.{GoesOn}
-use Rattle.js_code.specs.declared.table.NodeTable.{NodeTable}
-use Rattle.js_code.specs.Trees.{program_of}
+use Rattle.js_heap_memory.specs.Names.{GoesOn}
+use Rattle.js_machine_nodes.specs.declared.table.NodeTable.{NodeTable}
+use Rattle.js_machine_nodes.specs.Trees.{program_of}
 use Rattle.pure_eval.specs.Whole.{IsWhole}
 use Rattle.pure_eval.specs.declared.evaluated.Evaluated.{Evaluated}
 use Rattle.pure_eval.specs.declared.evaluated.Evaluated.TheVariants as ends

@@ -4,9 +4,9 @@ use Rattle.js_heap.specs.World.{World, Tried, fine}
 use Rattle.js_heap.specs.ScratchSpaces.{ScratchSpace}
 use Rattle.js_semantics.specs.Terms.{Term}
 use Rattle.js_semantics.specs.Evaluation.{after_try, copied_world, keep_source, make_literals, Answer, a_result, a_throw, an_effect, is_full_of, spent}
-use Rattle.js_world.specs.declared.world.Refused.{Refused}
-use Rattle.js_world.specs.declared.world.Refused.TheVariants as refusals
-use Rattle.js_world.specs.Overlays.{Marked, space_after, space_at}
+use Rattle.js_heap_memory.specs.declared.world.Refused.{Refused}
+use Rattle.js_heap_memory.specs.declared.world.Refused.TheVariants as refusals
+use Rattle.js_heap_memory.specs.Overlays.{Marked, space_after, space_at}
 use Rattle.pure_eval.specs.declared.evaluated.Evaluated.{Evaluated}
 use Rattle.pure_eval.specs.declared.evaluated.Evaluated.TheVariants as ends
 

@@ -5,7 +5,7 @@ use Rattle.js_heap.specs.ScratchSpaces.{ScratchSpace}
 use Rattle.js_semantics.specs.Terms.{Term}
 use Rattle.js_semantics.specs.Evaluation.{after_try, copied_world, keep_source, make_literals, place_literals}
 use Rattle.js_semantics.specs.Laws.{SameOutcome}
-use Rattle.js_world.specs.declared.world.Refused.{Refused}
+use Rattle.js_heap_memory.specs.declared.world.Refused.{Refused}
 use Rattle.pure_eval.specs.declared.evaluated.Evaluated.{Evaluated}
 use Rattle.pure_eval.specs.declared.evaluated.Evaluated.TheVariants as ends
 use Rattle.pure_eval.specs.Leaving.{refused_end}

@@ -8,7 +8,7 @@ use Rattle.js_semantics.specs.Sources.{expression_source}
 use Rattle.js_semantics.specs.Literals.{source_literals}
 use Rattle.js_semantics.specs.Run.{literals as term_literals}
 use Rattle.js_semantics.specs.Evaluation.{kept_term, kept_tree}
-use Rattle.js_terms.specs.Views.{term_view}
+use Rattle.js_machine_terms.specs.Views.{term_view}
 use Rattle.pure_eval.specs.declared.prepared.Prepared.{Prepared}
 
 -- a source of a tree that is kept at an address, ready to be evaluated

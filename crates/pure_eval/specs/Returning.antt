@@ -2,11 +2,11 @@
 use Rattle.std.specs.Prelude.{◌≡◌, ◌≤◌, ℕ, List, [], ◌∷◌, ◌++◌, length}
 use Rattle.js_semantics.specs.Terms.{Term}
 use Rattle.js_semantics.specs.Functions.{Program, SourceTree}
-use Rattle.js_world.specs.Heaps.{Heap}
-use Rattle.js_world.specs.Names.{GoesOn}
-use Rattle.js_world.specs.Overlays.{next_of}
-use Rattle.js_code.specs.declared.node.SourceEntry.{SourceEntry}
-use Rattle.js_code.specs.Trees.{program_of}
+use Rattle.js_heap_memory.specs.Heaps.{Heap}
+use Rattle.js_heap_memory.specs.Names.{GoesOn}
+use Rattle.js_heap_memory.specs.Overlays.{next_of}
+use Rattle.js_machine_nodes.specs.declared.node.SourceEntry.{SourceEntry}
+use Rattle.js_machine_nodes.specs.Trees.{program_of}
 use Rattle.pure_eval.specs.declared.evaluated.Evaluated.{Evaluated}
 use Rattle.pure_eval.specs.declared.evaluated.Evaluated.TheVariants as ends
 use Rattle.pure_eval.specs.declared.evaluator.Added.{Added}

@@ -1,14 +1,14 @@
 -- Tables that mean the same however they go on: what nodes and sources name by number is there.
 use Rattle.std.specs.Prelude.{◌≡◌, ℕ, ◌<◌, ◌≤◌, Bool, true, Some, length, slice_get, nat_lt}
-use Rattle.js_code.specs.declared.op.Op.{Op}
-use Rattle.js_code.specs.declared.op.Op.TheVariants as ops
-use Rattle.js_code.specs.declared.node.Node.{Node}
-use Rattle.js_code.specs.declared.node.FunctionEntry.{FunctionEntry}
-use Rattle.js_code.specs.declared.node.SourceEntry.{SourceEntry}
-use Rattle.js_code.specs.declared.table.NodeTable.{NodeTable}
-use Rattle.js_code.specs.Codes.{HasFunctions}
-use Rattle.js_code.specs.Trees.{IsTable}
-use Rattle.js_compile.specs.Grown.{HasPlaces}
+use Rattle.js_machine_nodes.specs.declared.op.Op.{Op}
+use Rattle.js_machine_nodes.specs.declared.op.Op.TheVariants as ops
+use Rattle.js_machine_nodes.specs.declared.node.Node.{Node}
+use Rattle.js_machine_nodes.specs.declared.node.FunctionEntry.{FunctionEntry}
+use Rattle.js_machine_nodes.specs.declared.node.SourceEntry.{SourceEntry}
+use Rattle.js_machine_nodes.specs.declared.table.NodeTable.{NodeTable}
+use Rattle.js_machine_nodes.specs.Codes.{HasFunctions}
+use Rattle.js_machine_nodes.specs.Trees.{IsTable}
+use Rattle.js_machine_compiler.specs.Grown.{HasPlaces}
 
 -- whether a number is one of an entry, where what a node does names one
 abbrev pub names_entry : NodeTable → Op → ℕ → Bool

@@ -3,9 +3,9 @@ use Rattle.std.specs.Prelude.{◌≡◌, ◌≤◌, ℕ, List, length}
 use Rattle.js_heap.specs.declared.value.Addr.{Addr}
 use Rattle.js_heap.specs.ScratchSpaces.{copied_world}
 use Rattle.js_semantics.specs.Evaluation.{next_kept}
-use Rattle.js_world.specs.Heaps.{Heap, heap_world}
-use Rattle.js_world.specs.Names.{GoesOn}
-use Rattle.js_world.specs.Overlays.{Over, Marked, over_world, space_after}
+use Rattle.js_heap_memory.specs.Heaps.{Heap, heap_world}
+use Rattle.js_heap_memory.specs.Names.{GoesOn}
+use Rattle.js_heap_memory.specs.Overlays.{Over, Marked, over_world, space_after}
 use Rattle.pure_eval.specs.declared.evaluator.Evaluator.{Evaluator}
 use Rattle.pure_eval.specs.declared.evaluator.EvaluatorMark.{EvaluatorMark}
 use Rattle.pure_eval.specs.Returning.{WentOn, IsMarked, IsCode}

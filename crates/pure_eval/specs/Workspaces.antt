@@ -6,9 +6,9 @@ use Rattle.js_semantics.specs.Evaluation.{Answer, a_result, a_throw, an_effect, 
 use Rattle.js_semantics.specs.Functions.{Program, SourceTree}
 use Rattle.js_semantics.specs.Makers.{Made}
 use Rattle.js_semantics.specs.declared.form.Source.TheVariants.{Kept as kept_source}
-use Rattle.js_world.specs.Heaps.{Heap, heap_world}
-use Rattle.js_world.specs.Overlays.{Marked, Over, first_space, space_of, space_after, space_at, over_world}
-use Rattle.js_code.specs.Trees.{program_of}
+use Rattle.js_heap_memory.specs.Heaps.{Heap, heap_world}
+use Rattle.js_heap_memory.specs.Overlays.{Marked, Over, first_space, space_of, space_after, space_at, over_world}
+use Rattle.js_machine_nodes.specs.Trees.{program_of}
 use Rattle.pure_eval.specs.declared.evaluated.Evaluated.{Evaluated}
 use Rattle.pure_eval.specs.declared.evaluated.Evaluated.TheVariants as ends
 use Rattle.pure_eval.specs.declared.evaluator.Evaluator.{Evaluator}

@@ -1,19 +1,19 @@
 //! One source more.
 
 ghost use Rattle.std.specs.Prelude.{IfOk};
-ghost use Rattle.js_terms.specs.Views.{term_view};
+ghost use Rattle.js_machine_terms.specs.Views.{term_view};
 ghost use Rattle.pure_eval.specs.Whole.{IsWhole};
 ghost use Rattle.pure_eval.specs.Adding.{IsAdded};
 
 use crate::closed::{are_closed, are_placed, is_within};
-use js_code::node::SourceEntry;
-use js_code::table::NodeTable;
-use js_compile::functions::indexed_source;
-use js_compile::terms::add_term;
 use js_heap::value::Addr;
+use js_heap_memory::names::Names;
+use js_machine_compiler::functions::indexed_source;
+use js_machine_compiler::terms::add_term;
+use js_machine_nodes::node::SourceEntry;
+use js_machine_nodes::table::NodeTable;
+use js_machine_terms::term::Term;
 use js_semantics::form::Source;
-use js_terms::term::Term;
-use js_world::names::Names;
 use std::alloc::{AllocError, Global};
 
 /// The source of a term that is kept at an address, behind the others; the answer is its node.

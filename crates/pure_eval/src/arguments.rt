@@ -5,8 +5,8 @@ ghost use Rattle.cdp_json.specs.Views.{json_view, list_view, object_view};
 ghost use Rattle.js_heap.specs.World.{make_cell};
 ghost use Rattle.js_heap.specs.Worlds.{Keeps};
 ghost use Rattle.js_semantics.specs.Evaluation as evaluation;
-ghost use Rattle.js_world.specs.Calls.{Tries};
-ghost use Rattle.js_world.specs.Cells.{cell_of};
+ghost use Rattle.js_heap_memory.specs.Calls.{Tries};
+ghost use Rattle.js_heap_memory.specs.Cells.{cell_of};
 ghost use Rattle.pure_eval.specs.Arguments.{json_of, jsons_of, members_of, argument_of, arguments_of};
 
 use crate::literals::make_text;
@@ -14,9 +14,9 @@ use cdp_json::value::{Json, JsonList, JsonObject};
 use cdp_text::units::Units;
 use js_heap::cell::Values;
 use js_heap::value::Value;
-use js_world::properties::PropertyMap;
-use js_world::stored::Stored;
-use js_world::world::{Refused, World};
+use js_heap_memory::properties::PropertyMap;
+use js_heap_memory::stored::Stored;
+use js_heap_memory::world::{Refused, World};
 use std::alloc::Global;
 
 /// An argument of a call: a value, or what is made of a JSON value.

@@ -1,14 +1,14 @@
 //! Whether what a table names by number is there.
 
 ghost use Rattle.std.specs.Prelude.{◌≡◌, ◌≤◌, ℕ, true, Some, slice_get};
-ghost use Rattle.js_code.specs.Codes.{HasFunctions};
-ghost use Rattle.js_code.specs.Trees.{IsTable};
-ghost use Rattle.js_compile.specs.Grown.{HasPlaces};
+ghost use Rattle.js_machine_nodes.specs.Codes.{HasFunctions};
+ghost use Rattle.js_machine_nodes.specs.Trees.{IsTable};
+ghost use Rattle.js_machine_compiler.specs.Grown.{HasPlaces};
 ghost use Rattle.pure_eval.specs.Whole.{names_entry, AreClosed, ArePlaced, IsWithin, AreWithin, IsWhole};
 
-use js_code::node::SourceEntry;
-use js_code::op::Op;
-use js_code::table::NodeTable;
+use js_machine_nodes::node::SourceEntry;
+use js_machine_nodes::op::Op;
+use js_machine_nodes::table::NodeTable;
 
 /// Whether a number is one of an entry, where what a node does names one.
 pub fn names_entry(table: &NodeTable, op: Op, number: u32) -> bool

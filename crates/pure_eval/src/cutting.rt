@@ -1,13 +1,13 @@
 //! Cutting a table back to where it was.
 
 ghost use Rattle.std.specs.Prelude.{List};
-ghost use Rattle.js_code.specs.declared.node.SourceEntry.{SourceEntry};
-ghost use Rattle.js_code.specs.declared.table.NodeTable.{NodeTable as AnyTable};
+ghost use Rattle.js_machine_nodes.specs.declared.node.SourceEntry.{SourceEntry};
+ghost use Rattle.js_machine_nodes.specs.declared.table.NodeTable.{NodeTable as AnyTable};
 ghost use Rattle.pure_eval.specs.Whole.{IsWhole};
 ghost use Rattle.pure_eval.specs.Adding.{GoesOnWith};
 ghost use Rattle.pure_eval.specs.Cutting.{IsMarkOf, IsCut, IsBack};
 
-use js_code::table::NodeTable;
+use js_machine_nodes::table::NodeTable;
 
 /// How long each list of a table was.
 #[derive(Clone, Copy)]

@@ -5,9 +5,9 @@ ghost use Rattle.pure_eval.specs.Answering.{finished, end_of, end_at, is_memory}
 
 use js_heap::change::Counted;
 use js_heap::value::Value;
-use js_steps::run::Why;
-use js_steps::stepped::Finish;
-use js_steps::task::Point;
+use js_machine_engine::run::Why;
+use js_machine_engine::stepped::Finish;
+use js_machine_engine::task::Point;
 
 /// How an evaluation ends.
 #[derive(Clone, Copy)]

@@ -5,12 +5,12 @@ ghost use Rattle.js_heap.specs.declared.cell.Cell.TheVariants as cells;
 ghost use Rattle.js_heap.specs.World.{make_cell};
 ghost use Rattle.js_heap.specs.Worlds.{Keeps};
 ghost use Rattle.js_semantics.specs.Evaluation.{make_literals};
-ghost use Rattle.js_world.specs.Calls.{Tries};
+ghost use Rattle.js_heap_memory.specs.Calls.{Tries};
 
 use cdp_text::units::Units;
 use js_heap::value::Addr;
-use js_world::stored::Stored;
-use js_world::world::{Refused, World};
+use js_heap_memory::stored::Stored;
+use js_heap_memory::world::{Refused, World};
 use std::alloc::Global;
 
 /// The cell of a text.

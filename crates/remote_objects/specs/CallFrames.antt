@@ -5,9 +5,9 @@ use Rattle.js_tree.specs.declared.script.Script.{Script}
 use Rattle.object_groups.specs.Handles as handles
 use Rattle.cdp_json.specs.Json.{Json, text}
 use Rattle.cdp_json.specs.Parts.{Pair, object_of, list_of, location}
-use Rattle.call_frames.specs.Frames.{ShownFrame, ShownScope}
-use Rattle.call_frames.specs.declared.kind.ListedKind.{ListedKind}
-use Rattle.call_frames.specs.declared.kind.ListedKind.TheVariants as kinds
+use Rattle.frames_scopes_types.specs.Frames.{ShownFrame, ShownScope}
+use Rattle.frames_scopes_types.specs.declared.kind.ListedKind.{ListedKind}
+use Rattle.frames_scopes_types.specs.declared.kind.ListedKind.TheVariants as kinds
 use Rattle.remote_objects.specs.Ids.{frame_id}
 use Rattle.remote_objects.specs.Sights.{Sight}
 use Rattle.js_tree.specs.Scripts.{script_numbered}

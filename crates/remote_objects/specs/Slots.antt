@@ -1,8 +1,8 @@
 -- Properties as they are made in the code.
 use Rattle.std.specs.Prelude.{ℕ, List, Bool, true, not}
 use Rattle.js_heap.specs.declared.value.Value.{Value}
-use Rattle.js_world.specs.Names.{name_of}
-use Rattle.js_world.specs.declared.stored.Slot.{Slot as StoredSlot}
+use Rattle.js_heap_memory.specs.Names.{name_of}
+use Rattle.js_heap_memory.specs.declared.stored.Slot.{Slot as StoredSlot}
 use Rattle.cdp_json.specs.Json.{Json}
 use Rattle.remote_objects.specs.declared.slots.Flags.{Flags}
 use Rattle.remote_objects.specs.Descriptors.{Content, a_value, a_text, Slot, descriptor_of, binding_slots}

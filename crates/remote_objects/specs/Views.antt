@@ -2,7 +2,7 @@
 use Rattle.std.specs.Prelude.{ℕ, List, [], ◌∷◌, ◌++◌, map, codes}
 use Rattle.js_heap.specs.World.{World}
 use Rattle.js_tree.specs.declared.script.Script.{Script}
-use Rattle.call_frames.specs.Frames.{ShownFrame}
+use Rattle.frames_scopes_types.specs.Frames.{ShownFrame}
 use Rattle.cdp_json.specs.Json.{Json, text}
 use Rattle.cdp_json.specs.Parts.{Pair, list_of, location}
 use Rattle.cdp_json.specs.Views.{json_view}

@@ -1,7 +1,7 @@
 //! Values by value (Chrome DevTools Protocol 1.3, `returnByValue`): as JSON in place of a handle.
 
 ghost use Rattle.std.specs.Prelude.{◌≡◌, ◌∷◌, [], List, ℕ, map, option_copied, IfOk};
-ghost use Rattle.js_world.specs.Cells.{cell_at};
+ghost use Rattle.js_heap_memory.specs.Cells.{cell_at};
 ghost use Rattle.cdp_json.specs.Parts.{list_of, object_of};
 ghost use Rattle.cdp_json.specs.Views.{json_view, member_view};
 ghost use Rattle.remote_objects.specs.ByValue as given;
@@ -15,10 +15,10 @@ use cdp_json::value::{Json, Member, boolean, list, null, number, object};
 use cdp_text::units::Units;
 use js_heap::cell::Property;
 use js_heap::value::{Addr, Value};
-use js_operations::seen::units_at;
-use js_world::properties::PropertyMap;
-use js_world::stored::Stored;
-use js_world::world::World;
+use js_heap_memory::properties::PropertyMap;
+use js_heap_memory::stored::Stored;
+use js_heap_memory::world::World;
+use js_machine_actions::seen::units_at;
 use std::alloc::{AllocError, AllocFailed};
 
 /// How deep a value may be: a primitive value has the depth 0, an object is one deeper than its deepest part, and has the

@@ -1,9 +1,9 @@
 //! What values are described by.
 
 use crate::function_sources::FunctionSources;
+use js_heap_memory::names::Names;
+use js_heap_memory::world::World;
 use js_tree::script::Script;
-use js_world::names::Names;
-use js_world::world::World;
 use std::alloc::Global;
 
 /// What values are described by: the world that they are of with its table of names, the scripts that its functions are of,

@@ -3,7 +3,7 @@
 ghost use Rattle.std.specs.Prelude.{◌≡◌, ◌++◌, map, option_copied, IfOk, OnOk};
 ghost use Rattle.cdp_json.specs.Parts.{object_of};
 ghost use Rattle.cdp_json.specs.Views.{json_view};
-ghost use Rattle.js_world.specs.Cells.{binding_at, bindings, cell_at, name_text};
+ghost use Rattle.js_heap_memory.specs.Cells.{binding_at, bindings, cell_at, name_text};
 ghost use Rattle.remote_objects.specs.Descriptors as descriptors;
 ghost use Rattle.remote_objects.specs.Making.{made_all};
 ghost use Rattle.remote_objects.specs.Slots.{bound_slot, slots_at, text_slot, value_slot};
@@ -19,10 +19,10 @@ use cdp_json::value::{Json, object};
 use cdp_text::units::{Units, ascii, decimal_units};
 use js_heap::cell::Property;
 use js_heap::value::Value;
-use js_operations::seen::name_text;
-use js_world::properties::PropertyMap;
-use js_world::stored::{FunctionCell, Slot, Stored};
-use js_world::world::World;
+use js_heap_memory::properties::PropertyMap;
+use js_heap_memory::stored::{FunctionCell, Slot, Stored};
+use js_heap_memory::world::World;
+use js_machine_actions::seen::name_text;
 use object_groups::{Handles, Target};
 use std::alloc::AllocError;
 

@@ -2,7 +2,7 @@
 
 ghost use Rattle.std.specs.Prelude.{◌≡◌, ◌++◌, [], Some, map, option_copied, IfOk, OnOk};
 ghost use Rattle.cdp_json.specs.Views.{json_view, member_view};
-ghost use Rattle.call_frames.specs.Views as shown;
+ghost use Rattle.frames_scopes_types.specs.Views as shown;
 ghost use Rattle.remote_objects.specs.CallFrames as listing;
 ghost use Rattle.remote_objects.specs.Views.{sight_of, frame_front, frame_back};
 
@@ -10,13 +10,13 @@ use crate::describer::Describer;
 use crate::function_sources::FunctionSources;
 use crate::ids::frame_id;
 use crate::remote::remote_scope;
-use call_frames::{CallFrame, ListedKind, Scope};
 use cdp_json::parts::{location, put_ascii_text, put_copied_text, put_value};
 use cdp_json::value::{Json, Member, list, object, text};
 use cdp_text::position::Place;
+use frames_scopes_types::{CallFrame, ListedKind, Scope};
+use js_heap_memory::world::World;
 use js_tree::script::Script;
 use js_tree::scripts::script_numbered;
-use js_world::world::World;
 use object_groups::Handles;
 use std::alloc::{AllocError, Global};
 

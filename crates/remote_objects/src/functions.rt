@@ -8,13 +8,13 @@ use crate::describer::Describer;
 use crate::function_sources::FunctionSources;
 use cdp_text::units::Units;
 use js_heap::built_in::Code;
-use js_operations::seen::units_at;
+use js_heap_memory::world::World;
+use js_heap_operators::text::quoted;
+use js_machine_actions::seen::units_at;
 use js_tree::node::NodeId;
 use js_tree::script::Script;
 use js_tree::scripts::script_numbered;
 use js_tree::span::units_in;
-use js_values::text::quoted;
-use js_world::world::World;
 use std::alloc::{AllocError, Global};
 
 /// The source of a node of a script; of no script it is empty.

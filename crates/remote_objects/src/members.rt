@@ -7,7 +7,7 @@ ghost use Rattle.remote_objects.specs.Values as values;
 use cdp_json::parts::{put_ascii_text, put_copied_text, put_value};
 use cdp_json::value::{Member, boolean, null, number, text};
 use cdp_text::units::{Units, ascii};
-use js_values::operators::number_text;
+use js_heap_operators::operators::number_text;
 use std::alloc::{AllocError, Global};
 
 // ---- objects

@@ -2,7 +2,7 @@
 
 ghost use Rattle.std.specs.Prelude.{◌≡◌, ◌++◌, ◌∷◌, [], ◌&&◌, List, ℕ, length, map, take, nat_eq, decimal, option_copied, IfOk, OnOk};
 ghost use Rattle.js_heap.specs.World.{read_cell};
-ghost use Rattle.js_world.specs.Cells.{cell_at};
+ghost use Rattle.js_heap_memory.specs.Cells.{cell_at};
 ghost use Rattle.cdp_json.specs.Json as json;
 ghost use Rattle.cdp_json.specs.Views.{json_view, member_view};
 ghost use Rattle.remote_objects.specs.Previews as previews;
@@ -16,12 +16,12 @@ use cdp_json::value::{Json, Member, boolean, list, object, text};
 use cdp_text::units::{Units, ascii, decimal_units};
 use js_heap::cell::Property;
 use js_heap::value::{Addr, Value};
-use js_operations::seen::Seen;
-use js_operations::shown::shown;
-use js_values::values::type_text;
-use js_world::properties::PropertyMap;
-use js_world::stored::Stored;
-use js_world::world::World;
+use js_heap_memory::properties::PropertyMap;
+use js_heap_memory::stored::Stored;
+use js_heap_memory::world::World;
+use js_heap_operators::values::type_text;
+use js_machine_actions::seen::Seen;
+use js_machine_actions::shown::shown;
 use std::alloc::{AllocError, Global};
 
 /// Up to this many units a text is shown whole.

@@ -14,7 +14,7 @@ use crate::members::plain_members;
 use cdp_json::parts::put_value;
 use cdp_json::value::{Json, Member, object, text};
 use js_heap::value::{Addr, Value};
-use js_world::world::World;
+use js_heap_memory::world::World;
 use object_groups::{HandleFault, Handles, Target};
 use std::alloc::{AllocError, Global};
 

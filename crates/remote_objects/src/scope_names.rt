@@ -3,7 +3,7 @@
 ghost use Rattle.std.specs.Prelude.{◌≡◌, map, option_copied, IfOk};
 ghost use Rattle.cdp_json.specs.Json as json;
 ghost use Rattle.cdp_json.specs.Views.{json_view};
-ghost use Rattle.js_world.specs.Cells.{binding_at, bindings, cell_at};
+ghost use Rattle.js_heap_memory.specs.Cells.{binding_at, bindings, cell_at};
 ghost use Rattle.remote_objects.specs.ScopeNames as scopes;
 
 use crate::describer::Describer;
@@ -11,8 +11,8 @@ use crate::function_sources::FunctionSources;
 use cdp_json::parts::copied_text;
 use cdp_json::value::Json;
 use js_heap::value::Addr;
-use js_world::stored::{Slot, Stored};
-use js_world::world::World;
+use js_heap_memory::stored::{Slot, Stored};
+use js_heap_memory::world::World;
 use std::alloc::AllocError;
 
 impl<'w, W: World, S: FunctionSources> Describer<'w, W, S> {

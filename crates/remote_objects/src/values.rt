@@ -3,7 +3,7 @@
 ghost use Rattle.std.specs.Prelude.{◌≡◌, [], map, codes, IfOk};
 ghost use Rattle.js_heap.specs.Values.{class_text, shown};
 ghost use Rattle.js_heap.specs.World.{read_cell};
-ghost use Rattle.js_world.specs.Cells.{name_text};
+ghost use Rattle.js_heap_memory.specs.Cells.{name_text};
 ghost use Rattle.cdp_json.specs.Views.{member_view};
 ghost use Rattle.remote_objects.specs.Values as values;
 ghost use Rattle.remote_objects.specs.Views.{sight_of};
@@ -17,11 +17,11 @@ use crate::members::{
 use cdp_json::value::Member;
 use js_heap::built_in::ErrorClass;
 use js_heap::value::{Addr, Value};
-use js_operations::seen::{name_text, units_at};
-use js_operations::shown::shown;
-use js_values::values::class_text;
-use js_world::stored::{FunctionCell, Stored};
-use js_world::world::World;
+use js_heap_memory::stored::{FunctionCell, Stored};
+use js_heap_memory::world::World;
+use js_heap_operators::values::class_text;
+use js_machine_actions::seen::{name_text, units_at};
+use js_machine_actions::shown::shown;
 use std::alloc::AllocError;
 
 impl<'w, W: World, S: FunctionSources> Describer<'w, W, S> {

@@ -1,11 +1,11 @@
 -- What doors leave: entries of clients, and at most a shut.
 use Rattle.std.proofs.Common.{◌≡◌, inl, inr, ℕ, List, [], ◌∷◌, ◌++◌, Bool, false, Option as Opt, Some, None, refl, ap, sym, subst, ◌∙◌}
-use Rattle.isolation.specs.Histories.{Entry, Attach, Tell, Take, Detach, Ran, Shut}
-use Rattle.isolation.specs.Makers.{by}
-use Rattle.server_edge.specs.Contents.{Tended}
-use Rattle.server_edge.specs.Heard as heard
-use Rattle.server_edge.specs.Heard.{Heard}
-use Rattle.host_turns.specs.Debuggings.{Debugging}
+use Rattle.cdp_host_isolation.specs.Histories.{Entry, Attach, Tell, Take, Detach, Ran, Shut}
+use Rattle.cdp_host_isolation.specs.Makers.{by}
+use Rattle.cdp_edge_server.specs.Contents.{Tended}
+use Rattle.cdp_edge_server.specs.Heard as heard
+use Rattle.cdp_edge_server.specs.Heard.{Heard}
+use Rattle.cdp_host_turns.specs.Debuggings.{Debugging}
 use Rattle.ws_service.specs.Connections.{Ends, IsCutOff, IsToldLast, turns, turns_at}
 use Rattle.ws_service.specs.Doors.{EndsDoor}
 use Rattle.ws_service.specs.Joins.{IsServedDoor}

@@ -1,12 +1,12 @@
 -- Connections go on and end.
 use Rattle.std.proofs.Common.{◌≡◌, inl, inr, ℕ, List, [], ◌∷◌, ◌++◌, Bool, true, false, refl, ap, sym, subst, ◌∙◌, append_assoc, append-nil}
-use Rattle.isolation.specs.Histories.{Entry, Tell, Take, Detach}
-use Rattle.isolation.specs.declared.seat.Loss.TheVariants.{Overrun, Memory}
+use Rattle.cdp_host_isolation.specs.Histories.{Entry, Tell, Take, Detach}
+use Rattle.cdp_host_isolation.specs.declared.seat.Loss.TheVariants.{Overrun, Memory}
 use Rattle.history_lock.specs.Histories.{limit}
-use Rattle.server_edge.specs.Heard as heard
-use Rattle.server_edge.specs.Heard.{Heard}
-use Rattle.host_turns.specs.declared.answers.Gone.{Gone}
-use Rattle.host_turns.specs.declared.answers.Gone.TheVariants as gone
+use Rattle.cdp_edge_server.specs.Heard as heard
+use Rattle.cdp_edge_server.specs.Heard.{Heard}
+use Rattle.cdp_host_turns.specs.declared.answers.Gone.{Gone}
+use Rattle.cdp_host_turns.specs.declared.answers.Gone.TheVariants as gone
 use Rattle.ws_service.specs.Connections.{AllGoOn, Connection, Ends, GoesOn, SentOf, end_of, turns, turns_at}
 use Rattle.ws_service.specs.Sessions.{EndsTaking}
 use Rattle.ws_service.specs.declared.served.Served.{Served}

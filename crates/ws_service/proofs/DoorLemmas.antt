@@ -1,18 +1,18 @@
 -- A door is served, question after question.
 use Rattle.std.proofs.Common.{◌≡◌, ◌≢◌, ◌⊎◌, inl, inr, ℕ, zero, suc, ◌<◌, ◌≤◌, List, [], ◌∷◌, ◌++◌, Bool, true, false, Option, Some, None, refl, ap, sym, subst, ◌∙◌, append-nil, arith}
-use Rattle.isolation.specs.Histories.{Entry, Shut, Take}
+use Rattle.cdp_host_isolation.specs.Histories.{Entry, Shut, Take}
 use Rattle.cdp_edge.specs.Outside.{Rose, Told, one_more}
 use Rattle.history_lock.specs.Passes.{PassState}
-use Rattle.server_edge.specs.Contents.{IsUnused, Spoken, Tended, adds}
-use Rattle.server_edge.specs.Doors.{out_after}
-use Rattle.server_edge.specs.Heard.{Heard}
-use Rattle.server_edge.specs.declared.door.DoorAnswer.{DoorAnswer}
-use Rattle.server_edge.specs.declared.door.DoorAnswer.TheVariants as answers
-use Rattle.server_edge.proofs.ToldLemmas.{adds-append, adds-nil, adds-told}
-use Rattle.host_turns.specs.Debuggings.{Debugging, IsHistory}
-use Rattle.host_turns.specs.States.{HasState}
-use Rattle.host_turns.specs.Turns.{Finds}
-use Rattle.host_turns.specs.declared.state.State.{State}
+use Rattle.cdp_edge_server.specs.Contents.{IsUnused, Spoken, Tended, adds}
+use Rattle.cdp_edge_server.specs.Doors.{out_after}
+use Rattle.cdp_edge_server.specs.Heard.{Heard}
+use Rattle.cdp_edge_server.specs.declared.door.DoorAnswer.{DoorAnswer}
+use Rattle.cdp_edge_server.specs.declared.door.DoorAnswer.TheVariants as answers
+use Rattle.cdp_edge_server.proofs.ToldLemmas.{adds-append, adds-nil, adds-told}
+use Rattle.cdp_host_turns.specs.Debuggings.{Debugging, IsHistory}
+use Rattle.cdp_host_turns.specs.States.{HasState}
+use Rattle.cdp_host_turns.specs.Turns.{Finds}
+use Rattle.cdp_host_turns.specs.declared.state.State.{State}
 use Rattle.std.specs.Bool.{then_some}
 use Rattle.ws_service.specs.Connections.{code_of}
 use Rattle.ws_service.specs.Sessions.{IsClosedBy, IsServed, Talk}

@@ -4,14 +4,14 @@ use Rattle.std.proofs.lemmas.Bool.{ne_eqb}
 use Rattle.std.proofs.lemmas.List.Elements.{All-head, All-nil, All-push, All-tail, All-weaker}
 use mathlib.Core.Logic.{dite}
 use native.Mathlib.Decide.{ℕ_discrete}
-use Rattle.isolation.specs.Histories.{Entry}
-use Rattle.isolation.specs.Makers.{IsNoTake, TakesNone, by}
+use Rattle.cdp_host_isolation.specs.Histories.{Entry}
+use Rattle.cdp_host_isolation.specs.Makers.{IsNoTake, TakesNone, by}
 use Rattle.cdp_edge.specs.Outside.{Told}
 use Rattle.history_lock.specs.Histories.{Begins, has, longer}
 use Rattle.history_lock.specs.Passes.{KeepsWhole, PassState, joined_pass}
 use Rattle.history_lock.proofs.Facts.{begins_same, by_behind, has_behind, has_front}
-use Rattle.server_edge.specs.Contents.{Tended, adds}
-use Rattle.host_turns.specs.Debuggings.{Debugging, IsHistory}
+use Rattle.cdp_edge_server.specs.Contents.{Tended, adds}
+use Rattle.cdp_host_turns.specs.Debuggings.{Debugging, IsHistory}
 use Rattle.ws_service.specs.Doors.{EndsDoor, asked_more, questions}
 use Rattle.ws_service.specs.Joins.{AnswersForAll, AreAll, HasServed, IsServedDoor, joined_passes}
 use Rattle.ws_service.specs.Visits.{AreActs, AreNew, entries_of, links_of, sessions_of}

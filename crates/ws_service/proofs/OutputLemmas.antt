@@ -1,11 +1,11 @@
 -- What the run of a program says of its output stands over the history of all passes.
 use Rattle.std.proofs.Common.{◌≡◌, ℕ, List, Option as Opt, ◌++◌, Bool, ap, subst, ◌∙◌}
-use Rattle.isolation.specs.Histories.{Entry, steps_made}
-use Rattle.isolation.specs.Makers.{by, entries_of as unmade}
+use Rattle.cdp_host_isolation.specs.Histories.{Entry, steps_made}
+use Rattle.cdp_host_isolation.specs.Makers.{by, entries_of as unmade}
 use Rattle.history_lock.specs.Histories.{Begins}
 use Rattle.history_lock.proofs.Facts.{by_behind}
-use Rattle.host_turns.specs.Debuggings.{Debugging}
-use Rattle.host_turns.specs.Turns.{printed_by}
+use Rattle.cdp_host_turns.specs.Debuggings.{Debugging}
+use Rattle.cdp_host_turns.specs.Turns.{printed_by}
 use Rattle.ws_service.specs.Programs.{OnlyRuns, Writes}
 use Rattle.ws_service.proofs.ProgramLemmas.{only-after, only-front, parts, steps-before}
 

@@ -1,13 +1,13 @@
 -- A pass goes on, turn after turn.
 use Rattle.std.proofs.Common.{◌≡◌, ℕ, List, [], ◌∷◌, ◌++◌, false, refl, ap, sym, subst, ◌∙◌, append_assoc, append-nil}
-use Rattle.isolation.specs.Histories.{Entry, Take}
-use Rattle.isolation.specs.Makers.{AreOwned, IsNoTake, Owns, by}
-use Rattle.isolation.proofs.MakerLemmas.{by-append, by-own, owned-front, owns-longer}
-use Rattle.isolation.proofs.OwnerLemmas.{handed-same, handed-stays}
+use Rattle.cdp_host_isolation.specs.Histories.{Entry, Take}
+use Rattle.cdp_host_isolation.specs.Makers.{AreOwned, IsNoTake, Owns, by}
+use Rattle.cdp_host_isolation.proofs.MakerLemmas.{by-append, by-own, owned-front, owns-longer}
+use Rattle.cdp_host_isolation.proofs.OwnerLemmas.{handed-same, handed-stays}
 use Rattle.history_lock.specs.Histories.{Begins}
 use Rattle.history_lock.specs.Passes.{PassState, IsSamePass}
-use Rattle.host_turns.specs.Debuggings.{Debugging, handed}
-use Rattle.host_turns.specs.Turns.{Acts, Finds}
+use Rattle.cdp_host_turns.specs.Debuggings.{Debugging, handed}
+use Rattle.cdp_host_turns.specs.Turns.{Acts, Finds}
 use Rattle.ws_service.specs.Passing.{Goes, Serves, Was}
 
 pub begins-on : {A : Type 0} (xs ys zs : List A) → Begins xs ys → Begins ys zs → Begins xs zs

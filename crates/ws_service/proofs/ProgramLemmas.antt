@@ -4,23 +4,23 @@ use Rattle.std.proofs.lemmas.Bool.{eq-eqb, ne_eqb}
 use Rattle.std.proofs.lemmas.List.{append_cancel_left, map-append}
 use mathlib.Core.Logic.{dite}
 use native.Mathlib.Decide.{ℕ_discrete}
-use Rattle.isolation.specs.Histories.{Entry, Attach, Tell, Take, Detach, Ran, Shut, steps_made, steps_of, whole}
-use Rattle.isolation.specs.Makers.{by, entries_of, entry_of}
-use Rattle.isolation.proofs.LongerLemmas.{call-program, whole-more}
-use Rattle.isolation.proofs.MakerLemmas.{by-append, by-own}
+use Rattle.cdp_host_isolation.specs.Histories.{Entry, Attach, Tell, Take, Detach, Ran, Shut, steps_made, steps_of, whole}
+use Rattle.cdp_host_isolation.specs.Makers.{by, entries_of, entry_of}
+use Rattle.cdp_host_isolation.proofs.LongerLemmas.{call-program, whole-more}
+use Rattle.cdp_host_isolation.proofs.MakerLemmas.{by-append, by-own}
 use Rattle.history_lock.specs.Histories.{Begins, limit}
 use Rattle.history_lock.specs.Passes.{PassState}
 use Rattle.cdp_edge.specs.Outside.{GainsPrefix, Told, gains}
 use Rattle.cdp_edge.proofs.Gains.{GainsPrefix-behind, gains-nil, gains-next}
 use Rattle.cdp_edge.specs.declared.sink.SinkFault.{SinkFault}
 use Rattle.cdp_edge.specs.declared.sink.SinkFault.TheVariants as sink
-use Rattle.printing.specs.Printing.{printed_lines}
-use Rattle.printing.proofs.PrintingLemmas.{lines-append}
-use Rattle.host_turns.specs.Debuggings.{Debugging, meaning}
-use Rattle.host_turns.specs.States.{HasState}
-use Rattle.host_turns.specs.Turns.{Acts, Finds, Prints, Steps, printed_by}
-use Rattle.host_turns.specs.declared.state.State.{State}
-use Rattle.host_turns.specs.declared.state.State.TheVariants as states
+use Rattle.cdp_edge_printing.specs.Printing.{printed_lines}
+use Rattle.cdp_edge_printing.proofs.PrintingLemmas.{lines-append}
+use Rattle.cdp_host_turns.specs.Debuggings.{Debugging, meaning}
+use Rattle.cdp_host_turns.specs.States.{HasState}
+use Rattle.cdp_host_turns.specs.Turns.{Acts, Finds, Prints, Steps, printed_by}
+use Rattle.cdp_host_turns.specs.declared.state.State.{State}
+use Rattle.cdp_host_turns.specs.declared.state.State.TheVariants as states
 use Rattle.ws_service.specs.Programs.{AreLeft, AreTurns, Counts, FindsDue, Finishes, GainsLines, HasReason, HasRun, IsDue, IsLast, IsRunOf, OnlyRuns, Output, Writes, end_at, end_in, may_cut, shuts_at}
 use Rattle.ws_service.specs.Shutdowns.{HadNoTicket, ShutsDown, shut_entries}
 use Rattle.ws_service.specs.declared.program.RunEnd.{RunEnd}

@@ -4,7 +4,7 @@ use Rattle.std.proofs.lemmas.List.{take_more, take-append-drop, map-append}
 use Rattle.std.specs.declared.alloc.Global.{Global}
 use Rattle.std.specs.declared.string.String.{String}
 use Rattle.history_lock.specs.Histories.{Begins}
-use Rattle.server_edge.specs.Contents.{adds}
+use Rattle.cdp_edge_server.specs.Contents.{adds}
 
 -- what is told, with some behind it and then others
 pub adds-on : {A : Type 0} (old : Option (List A)) (xs ys : List A) → adds (adds old xs) ys ≡ adds old (xs ++ ys)

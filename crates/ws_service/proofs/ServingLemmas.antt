@@ -6,16 +6,16 @@ use mathlib.Core.List.{map-map}
 use Rattle.std.proofs.lemmas.List.Elements.{All-cons, All-head, All-map, All-nil, All-push, All-tail, All-weaker}
 use mathlib.Core.Logic.{dite}
 use native.Mathlib.Decide.{dec_lt, ℕ_discrete}
-use Rattle.isolation.specs.Histories.{Entry, Attach, Tell, Take, Detach, Ran, Shut, steps_made, whole}
-use Rattle.isolation.specs.Makers.{by, entries_of as unmade, entry_of}
-use Rattle.isolation.proofs.LongerLemmas.{call-program, whole-more}
-use Rattle.isolation.proofs.MakerLemmas.{by-append}
+use Rattle.cdp_host_isolation.specs.Histories.{Entry, Attach, Tell, Take, Detach, Ran, Shut, steps_made, whole}
+use Rattle.cdp_host_isolation.specs.Makers.{by, entries_of as unmade, entry_of}
+use Rattle.cdp_host_isolation.proofs.LongerLemmas.{call-program, whole-more}
+use Rattle.cdp_host_isolation.proofs.MakerLemmas.{by-append}
 use Rattle.history_lock.specs.Histories.{Begins, has}
 use Rattle.history_lock.specs.Passes.{HasInitialOnly, IsSamePass, LockId, PassState, initial_pass, initial_passes}
 use Rattle.history_lock.proofs.Facts.{by_behind, has_behind, has_front}
 use Rattle.cdp_edge.specs.Outside.{Rose, Told}
-use Rattle.server_edge.specs.Contents.{Tended, any_fault, lowered, raised}
-use Rattle.host_turns.specs.Debuggings.{Debugging, IsHistory, meaning}
+use Rattle.cdp_edge_server.specs.Contents.{Tended, any_fault, lowered, raised}
+use Rattle.cdp_host_turns.specs.Debuggings.{Debugging, IsHistory, meaning}
 use Rattle.ws_service.specs.Doors.{EndsDoor}
 use Rattle.ws_service.specs.Joins.{AnswersForAll, AreAll, IsServedDoor, IsUnstarted}
 use Rattle.ws_service.specs.Programs.{AreLeft, AreTurns, FindsDue, GainsLines, HasReason, HasRun, IsDue, IsLast, IsRunOf, IsTurn, OnlyRuns, Output, PrintsOn, Writes, may_cut, shuts_at}

@@ -1,22 +1,22 @@
 -- A session goes on, and what its link is sent.
 use Rattle.std.proofs.Common.{◌≡◌, ◌⊎◌, inl, inr, ℕ, List, [], ◌∷◌, ◌++◌, map, string_bytes, Bool, true, false, Option, Some, None, Ok, Err, refl, ap, sym, subst, ◌∙◌, append_assoc, append-nil}
-use Rattle.isolation.specs.Histories.{Entry, Attach, Tell, Take, Detach}
-use Rattle.isolation.specs.Makers.{Owns, entries_of}
-use Rattle.isolation.specs.declared.seat.Loss.TheVariants.{Overrun, Memory}
-use Rattle.isolation.proofs.AloneLemmas.{alone}
+use Rattle.cdp_host_isolation.specs.Histories.{Entry, Attach, Tell, Take, Detach}
+use Rattle.cdp_host_isolation.specs.Makers.{Owns, entries_of}
+use Rattle.cdp_host_isolation.specs.declared.seat.Loss.TheVariants.{Overrun, Memory}
+use Rattle.cdp_host_isolation.proofs.AloneLemmas.{alone}
 use Rattle.history_lock.specs.Histories.{Begins, limit}
 use Rattle.history_lock.specs.Passes.{PassState}
-use Rattle.server_edge.specs.Contents.{adds}
-use Rattle.server_edge.specs.Heard as heard
-use Rattle.server_edge.specs.Heard.{Heard}
-use Rattle.server_edge.specs.declared.link.LinkFault.{LinkFault}
-use Rattle.server_edge.specs.declared.link.LinkFault.TheVariants as faults
-use Rattle.host_turns.specs.Debuggings.{Debugging, IsHistory, IsNew, handed, sent_alone}
-use Rattle.host_turns.specs.States.{IsOver, IsShut}
-use Rattle.host_turns.specs.Turns.{Acts, Finds, IsOverIf, Leaves, Takes}
-use Rattle.host_turns.specs.declared.answers.Gone.{Gone}
-use Rattle.host_turns.specs.declared.answers.Gone.TheVariants as gone
-use Rattle.host_turns.specs.declared.answers.Taken.{Taken}
+use Rattle.cdp_edge_server.specs.Contents.{adds}
+use Rattle.cdp_edge_server.specs.Heard as heard
+use Rattle.cdp_edge_server.specs.Heard.{Heard}
+use Rattle.cdp_edge_server.specs.declared.link.LinkFault.{LinkFault}
+use Rattle.cdp_edge_server.specs.declared.link.LinkFault.TheVariants as faults
+use Rattle.cdp_host_turns.specs.Debuggings.{Debugging, IsHistory, IsNew, handed, sent_alone}
+use Rattle.cdp_host_turns.specs.States.{IsOver, IsShut}
+use Rattle.cdp_host_turns.specs.Turns.{Acts, Finds, IsOverIf, Leaves, Takes}
+use Rattle.cdp_host_turns.specs.declared.answers.Gone.{Gone}
+use Rattle.cdp_host_turns.specs.declared.answers.Gone.TheVariants as gone
+use Rattle.cdp_host_turns.specs.declared.answers.Taken.{Taken}
 use Rattle.ws_service.specs.Connections.{AllGoOn, Ends, SentOf, end_at, end_of, turns, turns_at}
 use Rattle.ws_service.specs.Passing.{Serves}
 use Rattle.ws_service.specs.Sessions.{Answers, EndsTaking, HandsOut, HasCause, Hears, IsEnded, IsServed, Talk, Waits, WasOverIf, talks}

@@ -2,26 +2,26 @@
 use Rattle.std.proofs.Common.{◌≡◌, ◌≢◌, ◌⊎◌, inl, inr, ℕ, List, All, [], ◌∷◌, ◌++◌, Bool, false, refl, ap, sym, subst, ◌∙◌, append_assoc, append-nil}
 use Rattle.std.proofs.lemmas.List.{append_cancel_left, map-append}
 use Rattle.std.proofs.lemmas.List.Elements.{All-append, All-cons, All-nil}
-use Rattle.isolation.specs.Protocols.{Protocol}
-use Rattle.isolation.specs.Meanings.{Meaning, begin}
-use Rattle.isolation.specs.Histories.{Entry, Attach, Tell, Take, Detach, FitsAll, apply}
-use Rattle.isolation.specs.Makers.{IsNoTake, Owns, TakesNone, by, entries_of as unmade, entry_of}
-use Rattle.isolation.proofs.MakerLemmas.{by-append, owned-front, owns-longer}
-use Rattle.isolation.proofs.OwnerLemmas.{handed-keeps}
+use Rattle.cdp_host_isolation.specs.Protocols.{Protocol}
+use Rattle.cdp_host_isolation.specs.Meanings.{Meaning, begin}
+use Rattle.cdp_host_isolation.specs.Histories.{Entry, Attach, Tell, Take, Detach, FitsAll, apply}
+use Rattle.cdp_host_isolation.specs.Makers.{IsNoTake, Owns, TakesNone, by, entries_of as unmade, entry_of}
+use Rattle.cdp_host_isolation.proofs.MakerLemmas.{by-append, owned-front, owns-longer}
+use Rattle.cdp_host_isolation.proofs.OwnerLemmas.{handed-keeps}
 use Rattle.history_lock.specs.Histories.{Begins}
 use Rattle.history_lock.specs.Passes.{PassState}
-use Rattle.server_edge.specs.Heard as heard
-use Rattle.server_edge.specs.Heard.{Heard}
-use Rattle.host_turns.specs.Debuggings.{Debugging, IsHistory, sent_alone}
-use Rattle.host_turns.specs.States.{IsShut}
-use Rattle.host_turns.specs.Turns.{Acts}
+use Rattle.cdp_edge_server.specs.Heard as heard
+use Rattle.cdp_edge_server.specs.Heard.{Heard}
+use Rattle.cdp_host_turns.specs.Debuggings.{Debugging, IsHistory, sent_alone}
+use Rattle.cdp_host_turns.specs.States.{IsShut}
+use Rattle.cdp_host_turns.specs.Turns.{Acts}
 use Rattle.ws_service.specs.Connections.{Connection, Ends, IsCutOff, IsToldLast, SentOf, turns, turns_at}
 use Rattle.ws_service.specs.Passing.{Goes}
 use Rattle.ws_service.specs.Sessions.{IsRefused, Session}
 use Rattle.ws_service.specs.Visits.{AreActs, AreNew, DoorAct, IsAct, IsUnattached, IsVisit, Looked, Refused, Speaks, Tends, Visit, Visited, entries_at, entries_of, link_at, links_of, sessions_of}
 use Rattle.ws_service.specs.declared.served.Served.{Served}
 use Rattle.ws_service.specs.declared.served.Served.TheVariants as served
-use Rattle.server_edge.specs.Contents.{Spoken}
+use Rattle.cdp_edge_server.specs.Contents.{Spoken}
 use Rattle.ws_service.proofs.PassingLemmas.{goes, goes-none, goes-on, was-longer}
 use Rattle.ws_service.proofs.SessionLemmas.{cause-longer, handed-alone}
 

@@ -1,14 +1,14 @@
 -- What one connection may leave in a history: its session's entries, for the answers of its link.
 use Rattle.std.specs.Prelude.{◌≡◌, ◌⊎◌, ℕ, List, [], ◌∷◌, ◌++◌, Bool, true, false, Option, Some, None}
-use Rattle.isolation.specs.Histories.{Entry, Tell, Take, Detach}
+use Rattle.cdp_host_isolation.specs.Histories.{Entry, Tell, Take, Detach}
 use Rattle.history_lock.specs.Histories.{Begins, limit}
-use Rattle.server_edge.specs.Heard as heard
-use Rattle.server_edge.specs.Heard.{Heard}
-use Rattle.isolation.specs.declared.seat.Loss.TheVariants.{Overrun, Memory}
-use Rattle.server_edge.specs.declared.link.LinkFault.{LinkFault}
-use Rattle.server_edge.specs.declared.link.LinkFault.TheVariants as faults
-use Rattle.host_turns.specs.declared.answers.Gone.{Gone}
-use Rattle.host_turns.specs.declared.answers.Gone.TheVariants as gone
+use Rattle.cdp_edge_server.specs.Heard as heard
+use Rattle.cdp_edge_server.specs.Heard.{Heard}
+use Rattle.cdp_host_isolation.specs.declared.seat.Loss.TheVariants.{Overrun, Memory}
+use Rattle.cdp_edge_server.specs.declared.link.LinkFault.{LinkFault}
+use Rattle.cdp_edge_server.specs.declared.link.LinkFault.TheVariants as faults
+use Rattle.cdp_host_turns.specs.declared.answers.Gone.{Gone}
+use Rattle.cdp_host_turns.specs.declared.answers.Gone.TheVariants as gone
 use Rattle.ws_service.specs.declared.served.Served.{Served}
 use Rattle.ws_service.specs.declared.served.Served.TheVariants as served
 

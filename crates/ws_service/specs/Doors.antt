@@ -1,14 +1,14 @@
 -- How a door was served.
 use Rattle.std.specs.Prelude.{◌≡◌, ◌≤◌, ◌⊎◌, ℕ, zero, suc, List, [], ◌∷◌, ◌++◌, Bool, true, false, Option, Some, None}
-use Rattle.isolation.specs.Histories.{Entry, Take}
+use Rattle.cdp_host_isolation.specs.Histories.{Entry, Take}
 use Rattle.cdp_edge.specs.Outside.{Rose, Told, one_more}
 use Rattle.history_lock.specs.Histories.{limit}
 use Rattle.history_lock.specs.Passes.{PassState}
-use Rattle.server_edge.specs.Contents.{Spoken, Tended, adds}
-use Rattle.host_turns.specs.Debuggings.{Debugging, IsHistory}
-use Rattle.host_turns.specs.States.{HasState}
-use Rattle.host_turns.specs.declared.state.State.{State}
-use Rattle.host_turns.specs.declared.state.State.TheVariants as states
+use Rattle.cdp_edge_server.specs.Contents.{Spoken, Tended, adds}
+use Rattle.cdp_host_turns.specs.Debuggings.{Debugging, IsHistory}
+use Rattle.cdp_host_turns.specs.States.{HasState}
+use Rattle.cdp_host_turns.specs.declared.state.State.{State}
+use Rattle.cdp_host_turns.specs.declared.state.State.TheVariants as states
 use Rattle.ws_service.specs.Shutdowns.{HadNoTicket, shut_entries}
 use Rattle.ws_service.specs.Visits.{DoorAct, Looked, Tends, links_of, looks_of}
 use Rattle.ws_service.specs.declared.door.DoorEnd.{DoorEnd}

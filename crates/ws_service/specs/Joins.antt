@@ -1,11 +1,11 @@
 -- What doors leave in the one history of all passes.
 use Rattle.std.specs.Prelude.{◌≡◌, ◌⊎◌, ◌+◌, ◌<◌, ◌≤◌, ℕ, List, [], ◌∷◌, ◌++◌, true, false, Option, Some}
-use Rattle.isolation.specs.Histories.{Entry}
+use Rattle.cdp_host_isolation.specs.Histories.{Entry}
 use Rattle.cdp_edge.specs.Outside.{Told}
 use Rattle.history_lock.specs.Histories.{by, has}
 use Rattle.history_lock.specs.Passes.{LockId, PassState, joined_pass}
-use Rattle.server_edge.specs.Contents.{IsNew, Tended}
-use Rattle.host_turns.specs.Debuggings.{Debugging}
+use Rattle.cdp_edge_server.specs.Contents.{IsNew, Tended}
+use Rattle.cdp_host_turns.specs.Debuggings.{Debugging}
 use Rattle.ws_service.specs.Doors.{EndsDoor, IsTended, asked_more, questions}
 use Rattle.ws_service.specs.Passing.{Was}
 use Rattle.ws_service.specs.Visits.{AreActs, AreNew, DoorAct, entries_of, links_of, sessions_of}

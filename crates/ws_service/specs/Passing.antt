@@ -1,10 +1,10 @@
 -- How a pass goes on by some turns.
 use Rattle.std.specs.Prelude.{◌≡◌, ℕ, List, ◌++◌, false}
-use Rattle.isolation.specs.Histories.{Entry}
-use Rattle.isolation.specs.Makers.{Owns, by}
+use Rattle.cdp_host_isolation.specs.Histories.{Entry}
+use Rattle.cdp_host_isolation.specs.Makers.{Owns, by}
 use Rattle.history_lock.specs.Histories.{Begins}
 use Rattle.history_lock.specs.Passes.{PassState, IsSamePass}
-use Rattle.host_turns.specs.Debuggings.{Debugging, IsHistory, handed}
+use Rattle.cdp_host_turns.specs.Debuggings.{Debugging, IsHistory, handed}
 
 -- it left these entries, one after another among those of others
 pub record Goes (d : Debugging) (p q : PassState Entry) (entries : List Entry) : Type 0 where

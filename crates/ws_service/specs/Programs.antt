@@ -1,19 +1,19 @@
 -- What running a program leaves in a history, and what its sink is given.
 use Rattle.std.specs.Prelude.{◌≡◌, ◌⊎◌, ℕ, List, [], ◌∷◌, ◌++◌, Bool, true, false, Option, Some, None}
-use Rattle.isolation.specs.Histories.{Entry, Attach, Tell, Take, Detach, Ran, Shut, steps_made, steps_of}
-use Rattle.isolation.specs.Makers.{by, entries_of}
-use Rattle.isolation.specs.Meanings.{is_paused, waits}
+use Rattle.cdp_host_isolation.specs.Histories.{Entry, Attach, Tell, Take, Detach, Ran, Shut, steps_made, steps_of}
+use Rattle.cdp_host_isolation.specs.Makers.{by, entries_of}
+use Rattle.cdp_host_isolation.specs.Meanings.{is_paused, waits}
 use Rattle.history_lock.specs.Histories.{Begins, limit}
 use Rattle.history_lock.specs.Passes.{PassState}
 use Rattle.cdp_edge.specs.Outside.{GainsPrefix, Rose, Told, gains}
 use Rattle.cdp_edge.specs.declared.sink.SinkFault.{SinkFault}
 use Rattle.cdp_edge.specs.declared.sink.SinkFault.TheVariants as sink
-use Rattle.printing.specs.Printing.{printed_lines}
-use Rattle.host_turns.specs.Debuggings.{Debugging, IsLongest, meaning}
-use Rattle.host_turns.specs.States.{HasEnded, HasThrown, IsOver, IsShut}
-use Rattle.host_turns.specs.Turns.{printed_by}
-use Rattle.host_turns.specs.declared.state.State.{State}
-use Rattle.host_turns.specs.declared.state.State.TheVariants as states
+use Rattle.cdp_edge_printing.specs.Printing.{printed_lines}
+use Rattle.cdp_host_turns.specs.Debuggings.{Debugging, IsLongest, meaning}
+use Rattle.cdp_host_turns.specs.States.{HasEnded, HasThrown, IsOver, IsShut}
+use Rattle.cdp_host_turns.specs.Turns.{printed_by}
+use Rattle.cdp_host_turns.specs.declared.state.State.{State}
+use Rattle.cdp_host_turns.specs.declared.state.State.TheVariants as states
 use Rattle.ws_service.specs.Passing.{Goes, Was}
 use Rattle.ws_service.specs.Shutdowns.{HadNoTicket, ShutsDown, shut_entries}
 use Rattle.ws_service.specs.declared.program.RunEnd.{RunEnd}

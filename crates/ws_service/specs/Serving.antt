@@ -1,10 +1,10 @@
 -- What serving a port to its end leaves.
 use Rattle.std.specs.Prelude.{◌≡◌, ◌⊎◌, ◌<◌, ◌||◌, ℕ, zero, suc, List, [], ◌∷◌, ◌++◌, map, All, Bool, true, false, Option, Some, None}
-use Rattle.isolation.specs.Histories.{Entry, Attach, Tell, Take, Detach, Ran, Shut}
-use Rattle.isolation.specs.Makers.{by, entries_of}
-use Rattle.server_edge.specs.Contents.{Tended, adds}
-use Rattle.devtools_link.specs.Links.{seen}
-use Rattle.host_turns.specs.Debuggings.{Debugging, IsHistory}
+use Rattle.cdp_host_isolation.specs.Histories.{Entry, Attach, Tell, Take, Detach, Ran, Shut}
+use Rattle.cdp_host_isolation.specs.Makers.{by, entries_of}
+use Rattle.cdp_edge_server.specs.Contents.{Tended, adds}
+use Rattle.ws_service_devtools.specs.Links.{seen}
+use Rattle.cdp_host_turns.specs.Debuggings.{Debugging, IsHistory}
 use Rattle.ws_service.specs.Joins.{IsServedDoor}
 use Rattle.ws_service.specs.Programs.{AreLeft, Counts, FindsDue, GainsLines, HasReason, Output, PrintsOn, may_cut}
 use Rattle.ws_service.specs.declared.clients.Clients.{Clients}

@@ -1,14 +1,14 @@
 -- What serving a link leaves, and what the link was sent.
 use Rattle.std.specs.Prelude.{◌≡◌, ◌⊎◌, ℕ, List, [], ◌∷◌, Bool, true, false, Option, Some, None, Result, Ok, Err}
-use Rattle.isolation.specs.Histories.{Entry, Attach, Tell, Take, Detach}
-use Rattle.isolation.specs.Makers.{Owns}
+use Rattle.cdp_host_isolation.specs.Histories.{Entry, Attach, Tell, Take, Detach}
+use Rattle.cdp_host_isolation.specs.Makers.{Owns}
 use Rattle.history_lock.specs.Histories.{limit}
 use Rattle.history_lock.specs.Passes.{PassState}
-use Rattle.server_edge.specs.Contents.{adds, becomes}
-use Rattle.server_edge.specs.Heard as heard
-use Rattle.server_edge.specs.Heard.{Heard}
-use Rattle.host_turns.specs.Debuggings.{Debugging, IsNew, sent_alone}
-use Rattle.host_turns.specs.States.{IsOver, IsShut}
+use Rattle.cdp_edge_server.specs.Contents.{adds, becomes}
+use Rattle.cdp_edge_server.specs.Heard as heard
+use Rattle.cdp_edge_server.specs.Heard.{Heard}
+use Rattle.cdp_host_turns.specs.Debuggings.{Debugging, IsNew, sent_alone}
+use Rattle.cdp_host_turns.specs.States.{IsOver, IsShut}
 use Rattle.ws_service.specs.Connections.{Connection, GoesOn, SentOf, code_of, turns_at}
 use Rattle.ws_service.specs.Passing.{Goes, Serves, Was}
 use Rattle.ws_service.specs.declared.served.Served.{Served}

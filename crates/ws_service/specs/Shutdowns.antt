@@ -1,10 +1,10 @@
 -- How a program is shut where something failed.
 use Rattle.std.specs.Prelude.{◌≡◌, List, [], ◌∷◌, Option, Some, None}
-use Rattle.isolation.specs.Histories.{Entry, Shut}
+use Rattle.cdp_host_isolation.specs.Histories.{Entry, Shut}
 use Rattle.history_lock.specs.Histories.{limit}
 use Rattle.history_lock.specs.Passes.{PassState}
-use Rattle.host_turns.specs.Debuggings.{Debugging}
-use Rattle.host_turns.specs.Turns.{Acts}
+use Rattle.cdp_host_turns.specs.Debuggings.{Debugging}
+use Rattle.cdp_host_turns.specs.Turns.{Acts}
 use Rattle.ws_service.specs.declared.shutdown.NotShut.{NotShut}
 
 -- where the program wasn't shut, no ticket was left

@@ -1,14 +1,14 @@
 -- What a pass does at a door: links that it serves, and looks of its own.
 use Rattle.std.specs.Prelude.{◌≡◌, ◌≢◌, ◌<◌, ◌⊎◌, ℕ, suc, List, [], ◌∷◌, ◌++◌, All, Bool, None}
-use Rattle.isolation.specs.Histories.{Entry, Attach, Take}
-use Rattle.isolation.specs.Makers.{Owns, TakesNone}
+use Rattle.cdp_host_isolation.specs.Histories.{Entry, Attach, Take}
+use Rattle.cdp_host_isolation.specs.Makers.{Owns, TakesNone}
 use Rattle.cdp_edge.specs.Outside.{Told}
 use Rattle.history_lock.specs.Histories.{limit}
 use Rattle.history_lock.specs.Passes.{PassState}
-use Rattle.server_edge.specs.Contents.{Spoken}
-use Rattle.server_edge.specs.Heard.{Heard}
-use Rattle.host_turns.specs.Debuggings.{Debugging, IsNew, sent_alone}
-use Rattle.host_turns.specs.States.{IsShut}
+use Rattle.cdp_edge_server.specs.Contents.{Spoken}
+use Rattle.cdp_edge_server.specs.Heard.{Heard}
+use Rattle.cdp_host_turns.specs.Debuggings.{Debugging, IsNew, sent_alone}
+use Rattle.cdp_host_turns.specs.States.{IsShut}
 use Rattle.ws_service.specs.Connections.{Connection, SentOf, code_of}
 use Rattle.ws_service.specs.Passing.{Goes, Was}
 use Rattle.ws_service.specs.Sessions.{HasCause}

@@ -1,12 +1,12 @@
 //! Which clients are let in, and through which doors.
 
 ghost use Rattle.std.specs.Prelude.{◌≡◌};
-ghost use Rattle.server_edge.specs.Contents.{IsNew, Tended};
-ghost use Rattle.devtools_link.specs.Links.{seen};
+ghost use Rattle.cdp_edge_server.specs.Contents.{IsNew, Tended};
+ghost use Rattle.ws_service_devtools.specs.Links.{seen};
 
-use devtools_link::DevtoolsDoor;
-use server_edge::Door;
+use cdp_edge_server::Door;
 use std::alloc::Global;
+use ws_service_devtools::DevtoolsDoor;
 
 /// Which clients are let in.
 #[derive(Clone, Copy)]

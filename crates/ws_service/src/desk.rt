@@ -4,8 +4,8 @@ ghost use Rattle.std.specs.Prelude.{◌≡◌, ◌<◌, ℕ, length, All, slice_
 ghost use denote.Param.Send.{IsSync};
 
 use crate::door::{DoorEnd, serve_door};
-use host_turns::{Hosted, Lock, Worker};
-use server_edge::{Bell, Door};
+use cdp_edge_server::{Bell, Door};
+use cdp_host_turns::{Hosted, Lock, Worker};
 use std::sync::Wait;
 use std::thread::{Threads, for_each_mut};
 

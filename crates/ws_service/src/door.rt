@@ -2,14 +2,14 @@
 
 ghost use Rattle.std.specs.Prelude.{◌≡◌, true, false};
 ghost use Rattle.cdp_edge.specs.Outside.{Told};
-ghost use Rattle.server_edge.specs.Contents.{IsUnused};
+ghost use Rattle.cdp_edge_server.specs.Contents.{IsUnused};
 ghost use Rattle.ws_service.specs.Doors.{IsReceived, IsTended, Looks, Shuts, TendsOnce, is_final};
 
 use crate::session::serve_session;
 use crate::shutdown::{NotShut, shut_down};
+use cdp_edge_server::{Bell, Door, DoorAnswer};
+use cdp_host_turns::{Hosted, Lock, State, Worker, look};
 use history_lock::Spent;
-use host_turns::{Hosted, Lock, State, Worker, look};
-use server_edge::{Bell, Door, DoorAnswer};
 use std::sync::Wait;
 
 /// How serving a door ended.

@@ -3,14 +3,14 @@
 ghost use Rattle.std.specs.Prelude.{◌≡◌, ◌+◌, ◌<◌, ◌≤◌, ◌++◌, length, map, All, vec_capacity, vec_len, false};
 ghost use Rattle.history_lock.specs.Histories.{Begins};
 ghost use Rattle.history_lock.specs.Passes.{HasInitialOnly, KeepsWhole, joined_pass};
-ghost use Rattle.host_turns.specs.Debuggings.{IsHistory};
+ghost use Rattle.cdp_host_turns.specs.Debuggings.{IsHistory};
 ghost use Rattle.ws_service.specs.Joins.{AnswersForAll, AreAll, HasServed, IsServedDoor, joined_passes};
 ghost use Rattle.ws_service.specs.Serving.{IsEndOfDoors};
 
 use crate::desk::Desk;
 use crate::ends::{DoorsEnd, with_door};
-use host_turns::{Hosted, Lock, Worker};
-use server_edge::{Bell, Door};
+use cdp_edge_server::{Bell, Door};
+use cdp_host_turns::{Hosted, Lock, Worker};
 
 /// Joins the pass of a desk into another, and hands its door back.
 fn join_desk<H: Hosted<B>, B, D: Bell, O: Door>(

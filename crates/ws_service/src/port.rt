@@ -3,7 +3,7 @@
 ghost use Rattle.std.specs.Prelude.{◌≡◌, ◌⊎◌, ◌+◌, ◌<◌, ◌≤◌, List, [], length, map, All, IfOk, IfErr, OnOk, OnErr, IsErrOf, vec_capacity};
 ghost use Rattle.cdp_edge.specs.Outside.{Rose};
 ghost use Rattle.history_lock.specs.Passes.{initial_pass, initial_passes};
-ghost use Rattle.server_edge.specs.Contents.{IsNew, RisesAt, any_fault, called};
+ghost use Rattle.cdp_edge_server.specs.Contents.{IsNew, RisesAt, any_fault, called};
 ghost use Rattle.ws_service.specs.Joins.{IsAtFirst, IsLastPass, IsUnstarted};
 ghost use Rattle.ws_service.specs.Serving.{AreKept, IsServing, ServedDoor, seen_by};
 ghost use Rattle.ws_service.specs.declared.ends.DoorsEnd.TheVariants as together;
@@ -14,12 +14,12 @@ use crate::desk::Desk;
 use crate::ends::Ends;
 use crate::serving::serve_all;
 use cdp_edge::Sink;
-use devtools_link::DevtoolsDoor;
-use host_turns::{Hosted, Lock, Worker};
-use server_edge::{Bell, Clock, Door, Harbor, HarborFault};
+use cdp_edge_server::{Bell, Clock, Door, Harbor, HarborFault};
+use cdp_host_turns::{Hosted, Lock, Worker};
 use std::alloc::Global;
 use std::sync::Wait;
 use std::thread::Threads;
+use ws_service_devtools::DevtoolsDoor;
 
 /// Gives a door over one of these to each pass, as long as there are doors, the last door first.
 fn sit_down<'l, 'b, H: Hosted<B>, B, D: Bell, I: Door, O: OverDoor<I>>(

@@ -1,17 +1,17 @@
 //! Runs the program, turn after turn, and writes what it prints.
 
 ghost use Rattle.std.specs.Prelude.{◌≡◌, List, Some, false};
-ghost use Rattle.isolation.specs.Histories.{Entry as AnyEntry};
+ghost use Rattle.cdp_host_isolation.specs.Histories.{Entry as AnyEntry};
 ghost use Rattle.ws_service.specs.Passing.{Goes};
 ghost use Rattle.ws_service.specs.Programs.{AreLeft, Counts, FindsDue, Finishes, HasReason, HasRun, Puts, Writes, end_at, end_in, may_cut};
 
 use crate::shutdown::{NotShut, shut_down};
 use cdp_edge::{Sink, SinkFault};
+use cdp_edge_printing::put_texts;
+use cdp_edge_server::{Bell, Clock};
+use cdp_host_turns::{Hosted, Lock, Progress, State, Worker, run};
 use cdp_text::units::Units;
 use history_lock::Spent;
-use host_turns::{Hosted, Lock, Progress, State, Worker, run};
-use printing::put_texts;
-use server_edge::{Bell, Clock};
 use std::alloc::Global;
 use std::sync::Wait;
 

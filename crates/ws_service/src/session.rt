@@ -4,20 +4,20 @@ ghost use Rattle.std.specs.Prelude.{◌≡◌, ◌≤◌, ℕ, List, Some, map, 
 ghost use Rattle.cdp_edge.specs.Outside.{Rose};
 ghost use Rattle.history_lock.specs.Histories.{Begins};
 ghost use Rattle.history_lock.specs.Passes.{PassState};
-ghost use Rattle.host_turns.specs.Turns.{Takes};
-ghost use Rattle.isolation.specs.Histories.{Entry};
-ghost use Rattle.isolation.specs.Makers.{Owns};
-ghost use Rattle.server_edge.specs.Contents.{adds};
+ghost use Rattle.cdp_host_turns.specs.Turns.{Takes};
+ghost use Rattle.cdp_host_isolation.specs.Histories.{Entry};
+ghost use Rattle.cdp_host_isolation.specs.Makers.{Owns};
+ghost use Rattle.cdp_edge_server.specs.Contents.{adds};
 ghost use Rattle.ws_service.specs.Connections.{code_of, end_at, end_of};
 ghost use Rattle.ws_service.specs.Sessions.{Answers, HandsOut, Hears, IsClosedBy, IsEnded, IsServed, Waits};
 
 use crate::served::Served;
-use history_lock::Spent;
-use host_turns::{
+use cdp_edge_server::{Bell, Link, LinkFault, Recv};
+use cdp_host_isolation::Loss;
+use cdp_host_turns::{
     Answered, Attached, Gone, Hosted, Lock, Taken, Worker, attach, detach, take, tell_and_take,
 };
-use isolation::Loss;
-use server_edge::{Bell, Link, LinkFault, Recv};
+use history_lock::Spent;
 use std::sync::Wait;
 
 /// The close code of an end, if it has one (RFC 6455, section 7.4.1).

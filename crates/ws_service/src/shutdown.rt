@@ -3,9 +3,9 @@
 ghost use Rattle.std.specs.Prelude.{◌≡◌, false};
 ghost use Rattle.ws_service.specs.Shutdowns.{ShutsDown};
 
+use cdp_edge_server::Bell;
+use cdp_host_turns::{Hosted, Lock, Worker, shut};
 use history_lock::Spent;
-use host_turns::{Hosted, Lock, Worker, shut};
-use server_edge::Bell;
 use std::sync::Wait;
 
 /// A program that was to be shut and was not, since no ticket was left for that turn. It comes from `shut_down` alone.

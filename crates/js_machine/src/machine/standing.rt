@@ -4,18 +4,18 @@ ghost use Rattle.std.specs.Prelude.{◌≡◌, ℕ, List};
 ghost use Rattle.js_heap.specs.BuiltIns.{script_scope};
 ghost use Rattle.js_heap.specs.World.{World};
 ghost use Rattle.js_semantics.specs.Frames.{active, at, depth, frame_at, is_debugger, thrown};
-ghost use Rattle.js_frames.specs.Catchers.{standing_throw};
-ghost use Rattle.js_frames.specs.Sources.{spans_in};
+ghost use Rattle.js_machine_inspection.specs.Catchers.{standing_throw};
+ghost use Rattle.js_machine_inspection.specs.Sources.{spans_in};
 ghost use Rattle.js_machine.specs.Machines.{state_of, term_of};
 ghost use Rattle.js_machine.specs.Standing.{holds_until_end, source_of, until_end};
 
 use crate::machine::Machine;
-use js_frames::arrivals::{arrival, is_at_debugger};
-use js_frames::frames::{active_frame, depth};
-use js_frames::standing::Thrown;
-use js_frames::throws::thrown;
 use js_heap::built_in::script_scope;
-use js_operations::frame::Frame;
+use js_machine_actions::frame::Frame;
+use js_machine_inspection::arrivals::{arrival, is_at_debugger};
+use js_machine_inspection::frames::{active_frame, depth};
+use js_machine_inspection::standing::Thrown;
+use js_machine_inspection::throws::thrown;
 use js_semantics::form::{Mark, Source};
 use js_tree::script::Script;
 

@@ -1,6 +1,6 @@
 use Rattle.std.proofs.Common.{[], ◌∷◌, refl, rules, ap, sym, ◌∙◌}
-use Rattle.server_edge.specs.Contents.{adds}
-use Rattle.server_edge.specs.Heard as heard
+use Rattle.cdp_edge_server.specs.Contents.{adds}
+use Rattle.cdp_edge_server.specs.Heard as heard
 use Rattle.cdp_client.specs.Conversations.{Traffic}
 use Rattle.cdp_client.proofs.TurnLemmas.{hears-text, link-text, passes-one}
 use Rattle.cdp_client.proofs.conversation.hear.Goals as goal

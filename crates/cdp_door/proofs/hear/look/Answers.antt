@@ -1,5 +1,5 @@
 use Rattle.std.proofs.Common.{[], ◌∷◌, ◌++◌, inr, Option, None, refl, subst}
-use Rattle.wire_edge.specs.Arrived.{Byte}
+use Rattle.cdp_edge_wire.specs.Arrived.{Byte}
 use Rattle.cdp_door.specs.Greetings.{Owes}
 use Rattle.cdp_door.specs.declared.answer.Answer.{Answer}
 use Rattle.cdp_door.proofs.HearLemmas.{byte-present}

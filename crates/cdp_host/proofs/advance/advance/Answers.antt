@@ -1,7 +1,7 @@
 use Rattle.std.proofs.Common.{ℕ, ◌++◌, [], is_some, subst, arith}
 use Rattle.std.specs.Option.{option_map}
-use Rattle.isolation.specs.Passes.{Behind, Over}
-use Rattle.isolation.proofs.PassLemmas.{behind-each}
+use Rattle.cdp_host_isolation.specs.Passes.{Behind, Over}
+use Rattle.cdp_host_isolation.proofs.PassLemmas.{behind-each}
 use Rattle.cdp_host.specs.Hosts.{machine_step}
 use Rattle.cdp_host.specs.Protocols.{protocol}
 use Rattle.cdp_host.proofs.AdvanceLemmas.{advance-made}

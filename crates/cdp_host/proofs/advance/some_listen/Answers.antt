@@ -1,6 +1,6 @@
 use Rattle.std.proofs.Common.{refl, ap, sym, ◌∙◌}
 use Rattle.cdp_host.specs.Ran.{may_stop_seat}
-use Rattle.isolation.proofs.SomeLemmas.{none-done, none-more}
+use Rattle.cdp_host_isolation.proofs.SomeLemmas.{none-done, none-more}
 use Rattle.cdp_host.proofs.advance.some_listen.Goals as goal
 
 pub loop-seat-init : goal.loop-seat-init

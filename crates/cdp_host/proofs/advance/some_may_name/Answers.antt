@@ -1,6 +1,6 @@
 use Rattle.std.proofs.Common.{refl, ap, sym, ◌∙◌}
 use Rattle.cdp_host.specs.Ran.{may_stop_seat}
-use Rattle.isolation.proofs.SomeLemmas.{none-done, none-more, some-found}
+use Rattle.cdp_host_isolation.proofs.SomeLemmas.{none-done, none-more, some-found}
 use Rattle.cdp_host.proofs.advance.some_may_name.Goals as goal
 
 pub returns-then-may_name : goal.returns-then-may_name

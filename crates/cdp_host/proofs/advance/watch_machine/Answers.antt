@@ -1,6 +1,6 @@
 use Rattle.std.proofs.Common.{Bool, [], Option, true, false, ap, subst, ◌∙◌}
 use Rattle.std.specs.Option.{option_map}
-use Rattle.isolation.specs.Passes.{Behind, Over}
+use Rattle.cdp_host_isolation.specs.Passes.{Behind, Over}
 use Rattle.stepping.specs.declared.arrival.Arrival.{Arrival}
 use Rattle.cdp_session.specs.declared.ending.Ending.{Ending}
 use Rattle.cdp_host.specs.Hosts.{machine_arrival, machine_standing}

@@ -1,5 +1,5 @@
 use Rattle.std.proofs.lemmas.Result.{IfOk-weaker}
-use Rattle.js_terms.specs.Views.{terms_view}
+use Rattle.js_machine_terms.specs.Views.{terms_view}
 use Rattle.cdp_host.proofs.StartLemmas.{code-begun}
 use Rattle.cdp_host.proofs.host.workspace_of.Goals as goal
 

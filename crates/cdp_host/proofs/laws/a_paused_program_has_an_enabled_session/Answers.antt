@@ -1,4 +1,4 @@
-use Rattle.isolation.proofs.StopLemmas.{paused-well}
+use Rattle.cdp_host_isolation.proofs.StopLemmas.{paused-well}
 use Rattle.cdp_host.specs.Programs.{start}
 use Rattle.cdp_host.specs.Protocols.{protocol}
 use Rattle.cdp_host.proofs.ProtocolLemmas.{enabled-kept}

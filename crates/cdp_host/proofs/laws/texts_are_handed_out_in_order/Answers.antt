@@ -1,4 +1,4 @@
-use Rattle.isolation.proofs.TextLemmas.{in-order}
+use Rattle.cdp_host_isolation.proofs.TextLemmas.{in-order}
 use Rattle.cdp_host.specs.Programs.{start}
 use Rattle.cdp_host.specs.Protocols.{protocol, texts}
 use Rattle.cdp_host.proofs.ProtocolLemmas.{sent}

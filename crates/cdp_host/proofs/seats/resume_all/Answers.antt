@@ -1,7 +1,7 @@
 use Rattle.std.proofs.Common.{◌<◌, ◌≤◌, length, refl, sym, subst, arith}
-use Rattle.isolation.specs.Passes.{HearsOn}
-use Rattle.isolation.specs.Texts.{Fits}
-use Rattle.isolation.proofs.PassLoops.{on-done, on-next}
+use Rattle.cdp_host_isolation.specs.Passes.{HearsOn}
+use Rattle.cdp_host_isolation.specs.Texts.{Fits}
+use Rattle.cdp_host_isolation.proofs.PassLoops.{on-done, on-next}
 use Rattle.cdp_host.specs.Protocols.{protocol}
 use Rattle.cdp_host.proofs.SeatLemmas.{fits-at, on-here}
 use Rattle.cdp_host.proofs.seats.resume_all.Goals as goal

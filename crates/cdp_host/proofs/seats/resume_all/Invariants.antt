@@ -1,5 +1,5 @@
 use Rattle.std.proofs.Common.{List}
-use Rattle.isolation.specs.Passes.{GoesOn, HearsOn}
+use Rattle.cdp_host_isolation.specs.Passes.{GoesOn, HearsOn}
 use Rattle.js_tree.specs.declared.script.Script.{Script}
 use Rattle.cdp_host.specs.Protocols.{protocol}
 use Rattle.cdp_host.proofs.seats.resume_all.Given as goal

@@ -1,8 +1,8 @@
 use Rattle.std.proofs.Common.{◌≡◌, true, subst, sym}
-use Rattle.isolation.specs.Passes.{HearsOn}
-use Rattle.isolation.specs.Texts.{Fits}
-use Rattle.isolation.specs.declared.seat.Seat.TheVariants.{Attached}
-use Rattle.session_messages.specs.Outboxes.{fits}
+use Rattle.cdp_host_isolation.specs.Passes.{HearsOn}
+use Rattle.cdp_host_isolation.specs.Texts.{Fits}
+use Rattle.cdp_host_isolation.specs.declared.seat.Seat.TheVariants.{Attached}
+use Rattle.cdp_session_messages.specs.Outboxes.{fits}
 use Rattle.cdp_host.specs.Protocols.{protocol}
 use Rattle.cdp_host.proofs.SeatLemmas.{hears-told}
 use Rattle.cdp_host.proofs.seats.resume_seat.Goals as goal

@@ -1,7 +1,7 @@
 use Rattle.std.proofs.Common.{refl, ap, sym, ◌∙◌}
-use Rattle.isolation.specs.Meanings.{is_enabled_seat}
+use Rattle.cdp_host_isolation.specs.Meanings.{is_enabled_seat}
 use Rattle.cdp_host.specs.Protocols.{protocol}
-use Rattle.isolation.proofs.SomeLemmas.{none-done, none-more, some-found}
+use Rattle.cdp_host_isolation.proofs.SomeLemmas.{none-done, none-more, some-found}
 use Rattle.cdp_host.proofs.seats.some_enabled.Goals as goal
 
 pub loop-seat-init : goal.loop-seat-init

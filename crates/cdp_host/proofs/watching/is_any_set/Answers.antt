@@ -1,5 +1,5 @@
 use Rattle.std.proofs.Common.{refl, sym, false}
-use Rattle.isolation.proofs.SomeLemmas.{set-found, unset-done, unset-more}
+use Rattle.cdp_host_isolation.proofs.SomeLemmas.{set-found, unset-done, unset-more}
 use Rattle.cdp_host.proofs.watching.is_any_set.Goals as goal
 
 pub loop-flag-init : goal.loop-flag-init

@@ -1,5 +1,5 @@
 use Rattle.std.proofs.Common.{◌≡◌, take, false}
-use Rattle.isolation.specs.Passes.{any_set}
+use Rattle.cdp_host_isolation.specs.Passes.{any_set}
 use Rattle.cdp_host.proofs.watching.is_any_set.Given as goal
 
 abbrev pub invariant-loop-flag : goal.invariant-loop-flag

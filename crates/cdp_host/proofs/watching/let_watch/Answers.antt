@@ -1,6 +1,6 @@
 use Rattle.std.proofs.Common.{subst, sym, ◌∙◌}
-use Rattle.isolation.specs.Passes.{Behind, Over}
-use Rattle.isolation.proofs.PassLemmas.{behind-passed, behind-stopped}
+use Rattle.cdp_host_isolation.specs.Passes.{Behind, Over}
+use Rattle.cdp_host_isolation.proofs.PassLemmas.{behind-passed, behind-stopped}
 use Rattle.cdp_host.specs.Protocols.{protocol}
 use Rattle.cdp_host.specs.Watching.{step_seen}
 use Rattle.cdp_host.proofs.SeatLemmas.{watched-fit}

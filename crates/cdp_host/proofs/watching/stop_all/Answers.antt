@@ -1,7 +1,7 @@
 use Rattle.std.proofs.Common.{◌≡◌, ◌<◌, ◌≤◌, length, false, refl, sym, subst, arith}
-use Rattle.isolation.specs.Passes.{HearsOf}
-use Rattle.isolation.specs.Texts.{Fits}
-use Rattle.isolation.proofs.PassLoops.{along-done, along-next}
+use Rattle.cdp_host_isolation.specs.Passes.{HearsOf}
+use Rattle.cdp_host_isolation.specs.Texts.{Fits}
+use Rattle.cdp_host_isolation.proofs.PassLoops.{along-done, along-next}
 use Rattle.cdp_host.specs.Protocols.{protocol}
 use Rattle.cdp_host.specs.Watching.{step_seen}
 use Rattle.cdp_host.proofs.SeatLemmas.{along-here, fits-at}

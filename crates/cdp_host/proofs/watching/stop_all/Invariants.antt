@@ -1,4 +1,4 @@
-use Rattle.isolation.specs.Passes.{GoesAlong, HearsOf}
+use Rattle.cdp_host_isolation.specs.Passes.{GoesAlong, HearsOf}
 use Rattle.cdp_host.specs.Protocols.{protocol}
 use Rattle.cdp_host.specs.Watching.{step_seen}
 use Rattle.cdp_host.proofs.watching.stop_all.Given as goal

@@ -1,5 +1,5 @@
 use Rattle.std.proofs.Common.{rules, ◌≡◌, false}
-use Rattle.session_messages.specs.Outboxes.{fits}
+use Rattle.cdp_session_messages.specs.Outboxes.{fits}
 use Rattle.cdp_session.specs.Situations.{seen}
 use Rattle.cdp_host.specs.Steps.{print_told}
 use Rattle.cdp_host.specs.Watching.{step_seen}

@@ -1,5 +1,5 @@
 use Rattle.std.proofs.Common.{map, ap, ◌∙◌, unwrap_or}
-use Rattle.call_frames.specs.Views.{frame_of}
+use Rattle.frames_scopes_types.specs.Views.{frame_of}
 use Rattle.cdp_session.specs.Conditions.{top_scope, top_this}
 use Rattle.cdp_session.specs.Sessions.{no_workspace}
 use Rattle.cdp_session.specs.Situations.{seen}

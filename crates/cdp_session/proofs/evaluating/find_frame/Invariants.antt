@@ -1,5 +1,5 @@
 use Rattle.std.proofs.Common.{◌≡◌, drop, map}
-use Rattle.call_frames.specs.Views.{frame_of}
+use Rattle.frames_scopes_types.specs.Views.{frame_of}
 use Rattle.cdp_session.specs.Evaluations.{frame_from}
 use Rattle.cdp_session.proofs.evaluating.find_frame.Given as goal
 

@@ -1,5 +1,5 @@
 use Rattle.std.proofs.Common.{◌≡◌, ◌++◌, map}
-use Rattle.call_frames.specs.Views.{frame_of}
+use Rattle.frames_scopes_types.specs.Views.{frame_of}
 use Rattle.frames_scopes.proofs.listing.lent_frames.Given as goal
 
 abbrev pub invariant-loop-view : goal.invariant-loop-view

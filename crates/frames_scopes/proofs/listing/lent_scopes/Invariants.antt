@@ -1,5 +1,5 @@
 use Rattle.std.proofs.Common.{◌≡◌, ◌++◌, map}
-use Rattle.call_frames.specs.Views.{scope_of}
+use Rattle.frames_scopes_types.specs.Views.{scope_of}
 use Rattle.frames_scopes.proofs.listing.lent_scopes.Given as goal
 
 abbrev pub invariant-loop-view : goal.invariant-loop-view

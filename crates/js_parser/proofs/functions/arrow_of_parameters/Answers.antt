@@ -1,4 +1,4 @@
-use Rattle.js_syntax.proofs.PlacedNameLemmas.{parameters_placed}
+use Rattle.js_parser_readers.proofs.PlacedNameLemmas.{parameters_placed}
 use Rattle.js_parser.proofs.functions.arrow_of_parameters.Goals as goal
 
 pub returns-clause-placed : goal.returns-clause-placed

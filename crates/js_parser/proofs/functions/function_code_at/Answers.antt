@@ -1,6 +1,6 @@
-use Rattle.js_syntax.proofs.ClassLemmas.{start_function}
-use Rattle.js_syntax.proofs.PlacedTokenLemmas.{symbol}
-use Rattle.js_language.specs.Tokens.{fixed}
+use Rattle.js_parser_readers.proofs.ClassLemmas.{start_function}
+use Rattle.js_parser_readers.proofs.PlacedTokenLemmas.{symbol}
+use Rattle.js_parser_language.specs.Tokens.{fixed}
 use Rattle.std.proofs.Common.{sym}
 use Rattle.js_lexer.specs.declared.token.TokenKind.TheVariants as kinds
 use Rattle.js_parser.proofs.functions.function_code_at.Goals as goal

@@ -1,6 +1,6 @@
 use Rattle.std.proofs.lemmas.List.Elements.{All-nil}
-use Rattle.js_language.specs.Places.{statements_places}
-use Rattle.js_syntax.specs.Placed.{IsForward}
+use Rattle.js_parser_language.specs.Places.{statements_places}
+use Rattle.js_parser_readers.specs.Placed.{IsForward}
 use Rattle.js_parser.proofs.NumberLemmas.{from_zero}
 use Rattle.js_parser.proofs.parse.parse_script.Goals as goal
 

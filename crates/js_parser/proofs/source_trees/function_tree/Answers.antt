@@ -1,13 +1,13 @@
 use Rattle.std.proofs.Common.{arith, List, length, refl, ap}
 use Rattle.js_lexer.specs.declared.token.Token as lexer
 use Rattle.js_tree.specs.Height.{height}
-use Rattle.js_language.specs.Language.{IsFunction}
+use Rattle.js_parser_language.specs.Language.{IsFunction}
 use Rattle.js_tree.specs.Views.{expression_view}
-use Rattle.js_syntax.specs.Parsing.{parse_function}
-use Rattle.js_syntax.specs.Views.{tokens_view}
-use Rattle.js_descent.specs.declared.limits.TheConstants.{MOST_ROOM}
+use Rattle.js_parser_readers.specs.Parsing.{parse_function}
+use Rattle.js_parser_readers.specs.Views.{tokens_view}
+use Rattle.js_parser_descent.specs.declared.limits.TheConstants.{MOST_ROOM}
 use Rattle.js_parser.specs.Lexing.{lexed_view}
-use Rattle.js_language.specs.Places.{expression_places}
+use Rattle.js_parser_language.specs.Places.{expression_places}
 use Rattle.js_parser.proofs.AnswerLemmas.{told_as}
 use Rattle.js_parser.proofs.SpanLemmas.{told_placed}
 use Rattle.js_parser.proofs.LanguageLemmas.{reads_function}

@@ -1,14 +1,14 @@
 use Rattle.std.proofs.Common.{arith, ℕ, List, length, refl, ap, subst}
 use Rattle.js_lexer.specs.declared.token.Token as lexer
 use Rattle.js_tree.specs.Height.{height_of_statements}
-use Rattle.js_language.specs.Language.{IsScript}
+use Rattle.js_parser_language.specs.Language.{IsScript}
 use Rattle.js_tree.specs.Views.{statements_view}
-use Rattle.js_syntax.specs.Giving.{Gives}
-use Rattle.js_syntax.specs.Parsing.{parse_script}
-use Rattle.js_syntax.specs.Views.{tokens_view}
-use Rattle.js_descent.specs.declared.limits.TheConstants.{MOST_ROOM}
+use Rattle.js_parser_readers.specs.Giving.{Gives}
+use Rattle.js_parser_readers.specs.Parsing.{parse_script}
+use Rattle.js_parser_readers.specs.Views.{tokens_view}
+use Rattle.js_parser_descent.specs.declared.limits.TheConstants.{MOST_ROOM}
 use Rattle.js_parser.specs.Lexing.{lexed_view}
-use Rattle.js_language.specs.Places.{statements_places}
+use Rattle.js_parser_language.specs.Places.{statements_places}
 use Rattle.js_parser.proofs.AnswerLemmas.{told_as}
 use Rattle.js_parser.proofs.SpanLemmas.{told_placed}
 use Rattle.js_parser.proofs.LanguageLemmas.{reads_script}

@@ -1,4 +1,4 @@
-use Rattle.js_syntax.proofs.PlacedLemmas.{no_tokens, whole_source}
+use Rattle.js_parser_readers.proofs.PlacedLemmas.{no_tokens, whole_source}
 use Rattle.std.proofs.Common.{sym, ◌∙◌}
 use Rattle.js_parser.proofs.token_trees.expression_of.Goals as goal
 

@@ -1,5 +1,5 @@
 use Rattle.std.proofs.Common.{refl, arith}
-use Rattle.js_terms.specs.Views.{term_view}
+use Rattle.js_machine_terms.specs.Views.{term_view}
 use Rattle.js_semantics.specs.declared.form.Source.TheVariants.{Kept as kept_source}
 use Rattle.pure_eval.proofs.AddLemmas.{added}
 use Rattle.pure_eval.proofs.adding.add_source.Goals as goal

@@ -1,4 +1,4 @@
-use Rattle.js_world.specs.Cells.{cell_of}
+use Rattle.js_heap_memory.specs.Cells.{cell_of}
 use Rattle.pure_eval.proofs.LiteralLemmas.{made_keeps}
 use Rattle.pure_eval.proofs.arguments.make_object_of.Goals as goal
 

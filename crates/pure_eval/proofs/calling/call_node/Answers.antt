@@ -4,9 +4,9 @@ use Rattle.js_heap.specs.declared.value.Value.TheVariants as values
 use Rattle.js_semantics.specs.Evaluation.{budget, call_with_values, evaluated, evaluation_state}
 use Rattle.js_semantics.specs.Run.{run_of, steps_in}
 use Rattle.js_semantics.specs.Terms.{settle}
-use Rattle.js_operations.specs.Contexts.{state_of}
-use Rattle.js_code.specs.Trees.{tree, program_of}
-use Rattle.js_steps.specs.Points.{term_at}
+use Rattle.js_machine_actions.specs.Contexts.{state_of}
+use Rattle.js_machine_nodes.specs.Trees.{tree, program_of}
+use Rattle.js_machine_engine.specs.Points.{term_at}
 use Rattle.pure_eval.specs.Answering.{Answers, EndsIn}
 use Rattle.pure_eval.proofs.CallLemmas.{reduced-answers, reduced-ends, call-answers, call-world}
 use Rattle.pure_eval.proofs.calling.call_node.Goals as goal

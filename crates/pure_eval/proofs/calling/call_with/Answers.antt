@@ -4,7 +4,7 @@ use Rattle.js_heap.specs.World.{fine}
 use Rattle.js_heap.specs.declared.value.Value.TheVariants as values
 use Rattle.js_semantics.specs.Evaluation.{call_with_values}
 use Rattle.js_semantics.specs.Terms.{settle}
-use Rattle.js_code.specs.Trees.{tree, program_of}
+use Rattle.js_machine_nodes.specs.Trees.{tree, program_of}
 use Rattle.pure_eval.specs.declared.evaluated.Evaluated.{Evaluated}
 use Rattle.pure_eval.specs.Answering.{Answers}
 use Rattle.pure_eval.specs.Arguments.{arguments_of}

@@ -1,5 +1,5 @@
 use Rattle.std.proofs.Common.{sym, ◌∙◌, arith}
-use Rattle.js_steps.proofs.RunLemmas.{going}
+use Rattle.js_machine_engine.proofs.RunLemmas.{going}
 use Rattle.pure_eval.proofs.CallLemmas.{callee-first, callee-next, callee-ends, callee-spent, callee-reduced}
 use Rattle.pure_eval.proofs.EvaluatedLemmas.{no-end}
 use Rattle.pure_eval.proofs.calling.reduce_callee.Goals as goal

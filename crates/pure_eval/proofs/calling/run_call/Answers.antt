@@ -2,8 +2,8 @@ use Rattle.std.proofs.Common.{subst}
 use Rattle.js_semantics.specs.Evaluation.{answer_of}
 use Rattle.js_semantics.specs.Run.{run_of, steps_in}
 use Rattle.js_semantics.specs.Terms.{Term}
-use Rattle.js_operations.specs.Contexts.{state_of}
-use Rattle.js_code.specs.Trees.{program_of}
+use Rattle.js_machine_actions.specs.Contexts.{state_of}
+use Rattle.js_machine_nodes.specs.Trees.{program_of}
 use Rattle.pure_eval.specs.Answering.{Answers, EndsIn}
 use Rattle.pure_eval.proofs.calling.run_call.Goals as goal
 

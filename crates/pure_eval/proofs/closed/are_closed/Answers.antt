@@ -1,5 +1,5 @@
 use Rattle.std.proofs.Common.{◌≡◌, true, sym, ◌∙◌, arith}
-use Rattle.js_code.specs.declared.node.Node.{Node}
+use Rattle.js_machine_nodes.specs.declared.node.Node.{Node}
 use Rattle.pure_eval.specs.Whole.{names_entry}
 use Rattle.pure_eval.proofs.WholeLemmas.{HoldsAt, up-one, holds-here, holds-all}
 use Rattle.pure_eval.proofs.closed.are_closed.Goals as goal

@@ -1,6 +1,6 @@
 use Rattle.std.proofs.Common.{◌∙◌}
-use Rattle.js_world.specs.Heaps.{heap_world}
-use Rattle.js_world.specs.Overlays.{over_world, space_of}
+use Rattle.js_heap_memory.specs.Heaps.{heap_world}
+use Rattle.js_heap_memory.specs.Overlays.{over_world, space_of}
 use Rattle.pure_eval.proofs.OrderLemmas.{order-ends, order-space}
 use Rattle.pure_eval.proofs.orders.end_in_order.Goals as goal
 

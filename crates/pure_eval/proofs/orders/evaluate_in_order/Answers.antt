@@ -1,8 +1,8 @@
 use Rattle.std.proofs.Common.{◌∙◌, sym}
 use Rattle.js_semantics.specs.Terms.{settle}
-use Rattle.js_world.specs.Heaps.{heap_world}
-use Rattle.js_world.specs.Overlays.{space_of}
-use Rattle.js_code.specs.Trees.{tree, program_of}
+use Rattle.js_heap_memory.specs.Heaps.{heap_world}
+use Rattle.js_heap_memory.specs.Overlays.{space_of}
+use Rattle.js_machine_nodes.specs.Trees.{tree, program_of}
 use Rattle.pure_eval.specs.Calling.{worked}
 use Rattle.pure_eval.proofs.OrderLemmas.{order-other, order-full}
 use Rattle.pure_eval.proofs.orders.evaluate_in_order.Goals as goal

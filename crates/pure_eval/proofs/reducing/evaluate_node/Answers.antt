@@ -1,7 +1,7 @@
 use Rattle.std.proofs.Common.{[]}
 use Rattle.js_semantics.specs.Terms.{settle}
-use Rattle.js_code.specs.Trees.{tree, program_of}
-use Rattle.js_steps.specs.Points.{term_at}
+use Rattle.js_machine_nodes.specs.Trees.{tree, program_of}
+use Rattle.js_machine_engine.specs.Points.{term_at}
 use Rattle.pure_eval.proofs.EvaluatedLemmas.{node-answers, node-world}
 use Rattle.pure_eval.proofs.reducing.evaluate_node.Goals as goal
 

@@ -1,6 +1,6 @@
 use Rattle.std.proofs.Common.{sym, subst}
 use Rattle.js_semantics.specs.Terms.{settle}
-use Rattle.js_code.specs.Trees.{tree, program_of}
+use Rattle.js_machine_nodes.specs.Trees.{tree, program_of}
 use Rattle.pure_eval.specs.declared.work.Work.{Work}
 use Rattle.pure_eval.specs.Answering.{Answers}
 use Rattle.pure_eval.specs.Calling.{worked}

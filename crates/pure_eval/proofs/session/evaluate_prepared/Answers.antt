@@ -1,6 +1,6 @@
 use Rattle.js_semantics.specs.Terms.{settle}
-use Rattle.js_world.specs.Overlays.{over_world, space_of}
-use Rattle.js_code.specs.Trees.{tree, program_of}
+use Rattle.js_heap_memory.specs.Overlays.{over_world, space_of}
+use Rattle.js_machine_nodes.specs.Trees.{tree, program_of}
 use Rattle.pure_eval.specs.Calling.{worked}
 use Rattle.pure_eval.proofs.LeavingLemmas.{leaves}
 use Rattle.pure_eval.proofs.session.evaluate_prepared.Goals as goal

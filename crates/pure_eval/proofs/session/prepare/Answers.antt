@@ -1,4 +1,4 @@
-use Rattle.js_world.specs.Overlays.{over_world}
+use Rattle.js_heap_memory.specs.Overlays.{over_world}
 use Rattle.pure_eval.proofs.PlacedLemmas.{kept-keeps}
 use Rattle.pure_eval.proofs.session.prepare.Goals as goal
 

@@ -1,5 +1,5 @@
 use Rattle.std.proofs.Common.{◌≡◌, ◌≤◌, ◌<◌, ℕ}
-use Rattle.js_world.specs.Names.{name_of}
+use Rattle.js_heap_memory.specs.Names.{name_of}
 use Rattle.pure_eval.proofs.workspace.goes_on.Given as goal
 
 abbrev pub invariant-loop-number : goal.invariant-loop-number

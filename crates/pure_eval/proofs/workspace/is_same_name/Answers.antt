@@ -1,4 +1,4 @@
-use Rattle.js_world.specs.Names.{name_of}
+use Rattle.js_heap_memory.specs.Names.{name_of}
 use Rattle.pure_eval.proofs.WorkspaceLemmas.{same-name}
 use Rattle.pure_eval.proofs.workspace.is_same_name.Goals as goal
 

@@ -1,6 +1,6 @@
 use Rattle.std.proofs.Common.{◌++◌, ◌∷◌, [], ℕ, map, sym, ap, ◌∙◌, arith}
 use Rattle.std.proofs.lemmas.List.{length_push}
-use Rattle.server_edge.specs.Contents.{Tended}
+use Rattle.cdp_edge_server.specs.Contents.{Tended}
 use Rattle.ws_service.proofs.JoinLemmas.{map-push}
 use Rattle.ws_service.proofs.port.give_back.Goals as goal
 

@@ -2,7 +2,7 @@ use Rattle.std.proofs.Common.{rules, ◌≡◌, ◌≤◌, ◌+◌, ℕ, All, Bo
 use mathlib.Core.List.{map-map}
 use Rattle.std.proofs.lemmas.List.{length-map}
 use Rattle.cdp_edge.specs.Outside.{Told}
-use Rattle.server_edge.specs.Contents.{RisesAt, Tended, adds, any_fault, lowered, raised}
+use Rattle.cdp_edge_server.specs.Contents.{RisesAt, Tended, adds, any_fault, lowered, raised}
 use Rattle.ws_service.specs.Joins.{IsUnstarted}
 use Rattle.ws_service.specs.Serving.{IsEndOfDoors, IsServing, ServedDoor, numbers_below}
 use Rattle.ws_service.proofs.ServingLemmas.{all-unstarted, as-many, as-many-below, door-failed, initial-numbers, lowered-raised, told-raised}

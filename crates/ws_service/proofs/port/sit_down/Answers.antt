@@ -3,7 +3,7 @@ use Rattle.std.proofs.lemmas.Iterator.Adapters.{YieldsList-from_vec}
 use Rattle.std.proofs.lemmas.Iterator.Consumers.{YieldsList-turn}
 use Rattle.std.proofs.lemmas.List.{length-append, length_push}
 use Rattle.std.proofs.lemmas.List.Elements.{All-pop, All-push}
-use Rattle.server_edge.specs.Contents.{IsNew}
+use Rattle.cdp_edge_server.specs.Contents.{IsNew}
 use Rattle.ws_service.specs.Joins.{IsAtFirst, IsUnstarted}
 use Rattle.ws_service.proofs.JoinLemmas.{map-push}
 use Rattle.ws_service.proofs.port.sit_down.Goals as goal

@@ -1,5 +1,5 @@
 use Rattle.std.proofs.Common.{◌≡◌, ◌+◌, All, length, map, vec_capacity, vec_len}
-use Rattle.server_edge.specs.Contents.{IsNew}
+use Rattle.cdp_edge_server.specs.Contents.{IsNew}
 use Rattle.ws_service.specs.Joins.{IsAtFirst}
 use Rattle.ws_service.proofs.port.sit_down.Given as goal
 

@@ -1,5 +1,5 @@
 use Rattle.std.proofs.Common.{List, ℕ, subst, sym}
-use Rattle.host_turns.specs.Turns.{Steps}
+use Rattle.cdp_host_turns.specs.Turns.{Steps}
 use Rattle.ws_service.specs.Programs.{Output}
 use Rattle.ws_service.proofs.ProgramLemmas.{finish-run, idle-run, broken-run, spent-run}
 use Rattle.ws_service.proofs.program.advance.Goals as goal

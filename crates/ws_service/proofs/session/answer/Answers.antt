@@ -1,5 +1,5 @@
 use Rattle.std.proofs.Common.{string_bytes, Some, refl, sym, subst}
-use Rattle.host_turns.specs.Turns.{TellsAndTakes}
+use Rattle.cdp_host_turns.specs.Turns.{TellsAndTakes}
 use Rattle.ws_service.specs.Sessions.{Answers, Talk}
 use Rattle.ws_service.specs.declared.served.Served.{Served}
 use Rattle.ws_service.proofs.SessionLemmas.{answers-end, answers-gone, answers-gone-after, answers-memory, answers-on, answers-overrun, answers-spent, answers-spent-after, owns-taken, owns-told}

@@ -1,5 +1,5 @@
 use Rattle.std.proofs.Common.{Ok, Err, refl, sym, subst}
-use Rattle.host_turns.specs.Turns.{Takes}
+use Rattle.cdp_host_turns.specs.Turns.{Takes}
 use Rattle.ws_service.specs.Sessions.{HandsOut, Talk}
 use Rattle.ws_service.specs.declared.served.Served.{Served}
 use Rattle.ws_service.proofs.SessionLemmas.{hands-gone, hands-spent, owns-taken}

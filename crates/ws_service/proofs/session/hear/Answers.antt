@@ -1,5 +1,5 @@
 use Rattle.std.proofs.Common.{◌≡◌, inl, inr, [], ◌∷◌, string_bytes, refl, ◌∙◌}
-use Rattle.server_edge.specs.Heard as heard
+use Rattle.cdp_edge_server.specs.Heard as heard
 use Rattle.ws_service.specs.Sessions.{Talk, talks}
 use Rattle.ws_service.specs.declared.served.Served.TheVariants as served
 use Rattle.ws_service.proofs.SendLemmas.{adds-none}

@@ -1,5 +1,5 @@
 use Rattle.std.proofs.Common.{inl, refl}
-use Rattle.isolation.specs.Histories.{Detach}
+use Rattle.cdp_host_isolation.specs.Histories.{Detach}
 use Rattle.ws_service.proofs.PassingLemmas.{serves}
 use Rattle.ws_service.proofs.session.leave.Goals as goal
 

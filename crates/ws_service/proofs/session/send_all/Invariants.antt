@@ -1,5 +1,5 @@
 use Rattle.std.proofs.Common.{◌≡◌, ◌≤◌, map, take, string_bytes}
-use Rattle.server_edge.specs.Contents.{adds}
+use Rattle.cdp_edge_server.specs.Contents.{adds}
 use Rattle.ws_service.proofs.session.send_all.Given as goal
 
 -- the texts so far were sent, and nothing else was done

@@ -2,7 +2,7 @@ use Rattle.std.proofs.Common.{List, map, string_bytes, ap, subst, ◌∙◌}
 use Rattle.std.specs.declared.alloc.Global.{Global}
 use Rattle.std.specs.declared.string.String.{String}
 use Rattle.history_lock.specs.Histories.{Begins}
-use Rattle.server_edge.specs.Contents.{adds}
+use Rattle.cdp_edge_server.specs.Contents.{adds}
 use Rattle.ws_service.specs.Sessions.{IsEnded, Talk}
 use Rattle.ws_service.specs.declared.served.Served.{Served}
 use Rattle.ws_service.proofs.SessionLemmas.{hands-all, hands-some}

@@ -1,5 +1,5 @@
 use Rattle.std.proofs.Common.{subst}
-use Rattle.host_turns.specs.Turns.{Attaches}
+use Rattle.cdp_host_turns.specs.Turns.{Attaches}
 use Rattle.ws_service.specs.Sessions.{Talk}
 use Rattle.ws_service.proofs.SessionLemmas.{served-memory, served-session, served-shut}
 use Rattle.ws_service.proofs.session.serve.Goals as goal

@@ -1,4 +1,4 @@
-use Rattle.js_steps.specs.Points.{term_at}
+use Rattle.js_machine_engine.specs.Points.{term_at}
 use Rattle.cdp_host.proofs.NamingLemmas.{tested-none, unnamed-where}
 use Rattle.cdp_host.proofs.advance.Watch.may_be_named.Goals as goal
 

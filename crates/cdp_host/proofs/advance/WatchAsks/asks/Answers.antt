@@ -1,5 +1,5 @@
 use Rattle.std.proofs.Common.{sym, ◌∙◌}
-use Rattle.js_steps.specs.Points.{term_at}
+use Rattle.js_machine_engine.specs.Points.{term_at}
 use Rattle.cdp_host.specs.Arrivals.{arrival_at}
 use Rattle.cdp_host.proofs.advance.WatchAsks.asks.Goals as goal
 

@@ -1,9 +1,9 @@
 use Rattle.std.proofs.Common.{◌≡◌, [], true, None, map, is_some, sym, ap, ◌∙◌}
 use Rattle.std.proofs.lemmas.Result.{IfOk-weaker}
-use Rattle.js_world.specs.Heaps.{heap_world}
-use Rattle.js_steps.specs.Stepping.{finish_of}
+use Rattle.js_heap_memory.specs.Heaps.{heap_world}
+use Rattle.js_machine_engine.specs.Stepping.{finish_of}
 use Rattle.js_machine.specs.Machines.{state_of}
-use Rattle.call_frames.specs.Views.{frame_of}
+use Rattle.frames_scopes_types.specs.Views.{frame_of}
 use Rattle.cdp_host.specs.Hosts.{machine_run}
 use Rattle.cdp_host.proofs.DebuggeeLemmas.{standing-over, standing-ended, standing-going}
 use Rattle.cdp_host.proofs.debuggee.DebuggeeProgram.call_frames.Goals as goal

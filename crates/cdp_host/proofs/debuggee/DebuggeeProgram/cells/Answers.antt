@@ -1,5 +1,5 @@
 use Rattle.std.proofs.Common.{sym, ap, ◌∙◌}
-use Rattle.js_world.specs.Heaps.{heap_world}
+use Rattle.js_heap_memory.specs.Heaps.{heap_world}
 use Rattle.cdp_host.proofs.DebuggeeLemmas.{standing-world}
 use Rattle.cdp_host.proofs.debuggee.DebuggeeProgram.cells.Goals as goal
 

@@ -1,7 +1,7 @@
 use Rattle.std.proofs.Common.{◌≡◌, [], ◌++◌, refl, ap, ◌∙◌, arith}
 use Rattle.std.specs.Vec.{with_items}
 use Rattle.std.proofs.lemmas.List.{with_items_is}
-use Rattle.isolation.specs.Seats.{is_attached, some, waits_for_report}
+use Rattle.cdp_host_isolation.specs.Seats.{is_attached, some, waits_for_report}
 use Rattle.cdp_host.specs.Hosts.{NoneAttached, machine_run, meaning_with}
 use Rattle.cdp_host.specs.Programs.{is_over}
 use Rattle.cdp_host.specs.Protocols.{protocol}

@@ -1,6 +1,6 @@
 use Rattle.std.proofs.Common.{◌≡◌, ◌++◌, List, take, drop, length, true, ap, sym, subst, ◌∙◌}
-use Rattle.isolation.specs.Seats.{is_attached, seat_of}
-use Rattle.isolation.specs.declared.seat.Seat.TheVariants.{Attached}
+use Rattle.cdp_host_isolation.specs.Seats.{is_attached, seat_of}
+use Rattle.cdp_host_isolation.specs.declared.seat.Seat.TheVariants.{Attached}
 use Rattle.cdp_session.specs.Replies.{Answer, answer_of}
 use Rattle.cdp_session.specs.Sessions.{Session}
 use Rattle.cdp_session.specs.Situations.{Situation}

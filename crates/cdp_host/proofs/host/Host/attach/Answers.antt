@@ -1,8 +1,8 @@
 use Rattle.std.proofs.Common.{◌+◌, ℕ, length, Result, Ok, Err, OnErr, ap, subst, sym, ◌∙◌}
-use Rattle.isolation.specs.Histories.{Attach}
+use Rattle.cdp_host_isolation.specs.Histories.{Attach}
 use Rattle.pure_eval.specs.Workspaces.{Workspace}
 use Rattle.cdp_session.specs.Sessions.{Session, fresh}
-use Rattle.host_seats.specs.Fallbacks.{Fallback, HasRoom}
+use Rattle.cdp_host_seats.specs.Fallbacks.{Fallback, HasRoom}
 use Rattle.cdp_host.specs.Hosts.{HostState, Leaves}
 use Rattle.cdp_host.proofs.CallLemmas.{attach-fit, attach-leaves, attach-stands, sound-more}
 use Rattle.cdp_host.proofs.ViewLemmas.{seen_as}

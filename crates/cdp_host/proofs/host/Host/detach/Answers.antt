@@ -1,5 +1,5 @@
 use Rattle.std.proofs.Common.{refl, sym}
-use Rattle.isolation.specs.Histories.{Detach}
+use Rattle.cdp_host_isolation.specs.Histories.{Detach}
 use Rattle.cdp_host.proofs.HistoryLemmas.{stands-call}
 use Rattle.cdp_host.proofs.host.Host.detach.Goals as goal
 

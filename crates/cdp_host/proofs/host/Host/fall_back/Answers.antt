@@ -1,5 +1,5 @@
 use Rattle.std.proofs.Common.{ap, ◌∙◌}
-use Rattle.isolation.specs.Seats.{is_attached, some}
+use Rattle.cdp_host_isolation.specs.Seats.{is_attached, some}
 use Rattle.cdp_host.specs.Hosts.{NoneAttached}
 use Rattle.cdp_host.specs.Protocols.{protocol}
 use Rattle.cdp_host.proofs.RunLemmas.{gone-fit}

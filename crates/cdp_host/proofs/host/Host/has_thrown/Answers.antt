@@ -1,8 +1,8 @@
 use Rattle.std.proofs.Common.{true, false, sym, ap, ◌∙◌}
 use Rattle.js_semantics.specs.Run.{over}
-use Rattle.js_world.specs.Heaps.{heap_world}
+use Rattle.js_heap_memory.specs.Heaps.{heap_world}
 use Rattle.js_machine.specs.Machines.{state_of}
-use Rattle.js_steps.specs.Stepping.{finish_of}
+use Rattle.js_machine_engine.specs.Stepping.{finish_of}
 use Rattle.cdp_host.specs.Programs.{has_thrown}
 use Rattle.cdp_host.proofs.PartLemmas.{finished-thrown, unfinished-thrown}
 use Rattle.cdp_host.proofs.host.Host.has_thrown.Goals as goal

@@ -1,5 +1,5 @@
 use Rattle.std.proofs.Common.{not, sym, ap, ◌∙◌}
-use Rattle.isolation.specs.Meanings.{is_ready}
+use Rattle.cdp_host_isolation.specs.Meanings.{is_ready}
 use Rattle.cdp_host.specs.Protocols.{protocol}
 use Rattle.cdp_host.specs.Hosts.{meaning_with}
 use Rattle.cdp_host.proofs.StateLemmas.{ready-broken, ready-works}

@@ -1,15 +1,15 @@
 use Rattle.std.proofs.Common.{◌≡◌, ◌++◌, take, drop, length, true, refl, ap, subst, sym, ◌∙◌}
-use Rattle.isolation.specs.Seats.{is_attached, put, seat_of}
-use Rattle.isolation.specs.declared.seat.Seat.TheVariants.{Left}
-use Rattle.host_seats.proofs.PlacedLemmas.{put-back}
+use Rattle.cdp_host_isolation.specs.Seats.{is_attached, put, seat_of}
+use Rattle.cdp_host_isolation.specs.declared.seat.Seat.TheVariants.{Left}
+use Rattle.cdp_host_seats.proofs.PlacedLemmas.{put-back}
 use Rattle.cdp_host.specs.Hosts.{HostState}
 use Rattle.cdp_host.specs.Protocols.{protocol}
 use Rattle.cdp_host.proofs.CallLemmas.{sound-seats, whose, works-at}
 use Rattle.cdp_host.proofs.LeaveLemmas.{OnlySeats, leaves-left, stays-same}
-use Rattle.isolation.specs.Runs.{AllFit}
+use Rattle.cdp_host_isolation.specs.Runs.{AllFit}
 use Rattle.cdp_host.proofs.ViewLemmas.{seen_as}
 use Rattle.cdp_host.proofs.host.Host.leave.Goals as goal
-use Rattle.isolation.proofs.RoomLemmas.{put-fits}
+use Rattle.cdp_host_isolation.proofs.RoomLemmas.{put-fits}
 
 pub invariant_of-self : goal.invariant_of-self
 invariant_of-self c =

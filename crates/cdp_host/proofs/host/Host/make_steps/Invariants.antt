@@ -1,5 +1,5 @@
 use Rattle.std.proofs.Common.{◌-◌, ◌≡◌, ◌++◌, ◌≤◌, false, length, List, [], ℕ}
-use Rattle.isolation.specs.Runs.{HasMade}
+use Rattle.cdp_host_isolation.specs.Runs.{HasMade}
 use Rattle.cdp_host.specs.Hosts.{KeepsFallback, meaning_with}
 use Rattle.cdp_host.specs.Protocols.{protocol}
 use Rattle.cdp_host.proofs.host.Host.make_steps.Given as goal

@@ -1,6 +1,6 @@
 use Rattle.std.proofs.Common.{not, ◌&&◌, ◌∙◌}
 use Rattle.std.proofs.lemmas.Bool.{le-ltb}
-use Rattle.isolation.specs.Meanings.{is_ready}
+use Rattle.cdp_host_isolation.specs.Meanings.{is_ready}
 use Rattle.cdp_host.specs.Protocols.{protocol}
 use Rattle.cdp_host.specs.Hosts.{meaning_with}
 use Rattle.cdp_host.proofs.StateLemmas.{spent-none, some-left}

@@ -1,7 +1,7 @@
 use Rattle.std.proofs.Common.{ap, ◌∙◌}
-use Rattle.isolation.specs.Seats.{is_attached, some}
-use Rattle.isolation.proofs.BrokenLemmas.{broken-alone}
-use Rattle.host_seats.proofs.FallbackLemmas.{wider-room}
+use Rattle.cdp_host_isolation.specs.Seats.{is_attached, some}
+use Rattle.cdp_host_isolation.proofs.BrokenLemmas.{broken-alone}
+use Rattle.cdp_host_seats.proofs.FallbackLemmas.{wider-room}
 use Rattle.cdp_host.proofs.host.Host.prepare.Goals as goal
 
 pub invariant_of-self : goal.invariant_of-self

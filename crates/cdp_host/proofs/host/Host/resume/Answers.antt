@@ -1,11 +1,11 @@
 use Rattle.std.proofs.Common.{◌≡◌, ◌++◌, List, ℕ, take, drop, length, None, ap, subst, sym, ◌∙◌}
-use Rattle.isolation.specs.Meanings.{is_paused, resume}
-use Rattle.isolation.specs.Passes.{HearsOn, OverAll}
-use Rattle.isolation.specs.Runs.{AllFit}
-use Rattle.isolation.specs.Standing.{less}
-use Rattle.isolation.proofs.PassLemmas.{on-each}
-use Rattle.isolation.proofs.PassLoops.{over-all-length}
-use Rattle.host_seats.proofs.PlacedLemmas.{given-back}
+use Rattle.cdp_host_isolation.specs.Meanings.{is_paused, resume}
+use Rattle.cdp_host_isolation.specs.Passes.{HearsOn, OverAll}
+use Rattle.cdp_host_isolation.specs.Runs.{AllFit}
+use Rattle.cdp_host_isolation.specs.Standing.{less}
+use Rattle.cdp_host_isolation.proofs.PassLemmas.{on-each}
+use Rattle.cdp_host_isolation.proofs.PassLoops.{over-all-length}
+use Rattle.cdp_host_seats.proofs.PlacedLemmas.{given-back}
 use Rattle.cdp_host.specs.Hosts.{HostState, meaning_with}
 use Rattle.cdp_host.specs.Protocols.{protocol}
 use Rattle.cdp_host.proofs.CallLemmas.{sound-seats}

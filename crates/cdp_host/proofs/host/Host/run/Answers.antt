@@ -1,9 +1,9 @@
 use Rattle.std.proofs.Common.{rules, [], ◌≡◌, ◌<◌, ◌⊎◌, ◌++◌, ℕ, List, IfOk, OnErr, true, ap, sym, subst, ◌∙◌}
-use Rattle.isolation.specs.Histories.{Ran}
-use Rattle.isolation.specs.Meanings.{longest}
-use Rattle.isolation.specs.Seats.{some, waits_for_report}
+use Rattle.cdp_host_isolation.specs.Histories.{Ran}
+use Rattle.cdp_host_isolation.specs.Meanings.{longest}
+use Rattle.cdp_host_isolation.specs.Seats.{some, waits_for_report}
 use Rattle.cdp_host.specs.Hosts.{FallsBack, HostState, PrintsOn, RunsTo, meaning_with}
-use Rattle.host_turns.specs.Entries.{lost_for_memory}
+use Rattle.cdp_host_turns.specs.Entries.{lost_for_memory}
 use Rattle.cdp_host.specs.Protocols.{protocol}
 use Rattle.cdp_host.proofs.RunLemmas.{carries-none, carries-run, falls-alone, none-prints, on-error, run-prints, stands-none}
 use Rattle.cdp_host.proofs.host.Host.run.Goals as goal

@@ -1,6 +1,6 @@
 use Rattle.std.proofs.Common.{ap, sym, ◌∙◌}
-use Rattle.isolation.specs.Meanings.{is_enabled_seat, is_paused}
-use Rattle.isolation.specs.Seats.{some}
+use Rattle.cdp_host_isolation.specs.Meanings.{is_enabled_seat, is_paused}
+use Rattle.cdp_host_isolation.specs.Seats.{some}
 use Rattle.cdp_host.specs.Hosts.{meaning_with}
 use Rattle.cdp_host.specs.Protocols.{protocol}
 use Rattle.cdp_host.proofs.LeaveLemmas.{settled-is, unsettled-is}

@@ -1,5 +1,5 @@
 use Rattle.std.proofs.Common.{true, refl, subst}
-use Rattle.isolation.specs.Histories.{Shut}
+use Rattle.cdp_host_isolation.specs.Histories.{Shut}
 use Rattle.cdp_host.specs.Hosts.{CarriesOn, HostState, Leaves}
 use Rattle.cdp_host.proofs.LeaveLemmas.{leaves-shut, shut-stands}
 use Rattle.cdp_host.proofs.ViewLemmas.{seen_as}

@@ -1,5 +1,5 @@
 use Rattle.std.proofs.Common.{sym, ap, ◌∙◌}
-use Rattle.isolation.specs.Meanings.{waits}
+use Rattle.cdp_host_isolation.specs.Meanings.{waits}
 use Rattle.cdp_host.proofs.StateLemmas.{state-broken, state-shut, state-threw, state-ended, state-paused, state-ready, state-waiting}
 use Rattle.cdp_host.proofs.host.Host.state.Goals as goal
 

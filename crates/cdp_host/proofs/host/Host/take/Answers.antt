@@ -1,5 +1,5 @@
 use Rattle.std.proofs.Common.{◌≡◌, ◌++◌, take, drop, length, true, sym, subst}
-use Rattle.isolation.specs.Seats.{is_attached, seat_of}
+use Rattle.cdp_host_isolation.specs.Seats.{is_attached, seat_of}
 use Rattle.cdp_host.specs.Hosts.{HostState}
 use Rattle.cdp_host.proofs.CallLemmas.{sound-seats, take-back, take-fit, take-leaves, take-stands, works-at}
 use Rattle.cdp_host.proofs.ViewLemmas.{seen_as}

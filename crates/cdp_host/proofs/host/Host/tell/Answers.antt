@@ -1,6 +1,6 @@
 use Rattle.std.proofs.Common.{refl}
-use Rattle.isolation.specs.Histories.{Detach, Tell}
-use Rattle.isolation.specs.Seats.{seat_of}
+use Rattle.cdp_host_isolation.specs.Histories.{Detach, Tell}
+use Rattle.cdp_host_isolation.specs.Seats.{seat_of}
 use Rattle.cdp_host.proofs.CallLemmas.{whose}
 use Rattle.cdp_host.proofs.HistoryLemmas.{stands-call}
 use Rattle.cdp_host.proofs.LeaveLemmas.{leaves-kept, leaves-left, leaves-over, stays-same}

@@ -1,15 +1,15 @@
 use Rattle.std.proofs.Common.{◌≡◌, ◌++◌, take, drop, length, false, refl, ap, subst, sym, ◌∙◌}
-use Rattle.isolation.specs.Histories.{Detach}
-use Rattle.isolation.specs.Runs.{AllFit}
-use Rattle.isolation.specs.Seats.{is_attached, put, seat_of}
-use Rattle.host_seats.specs.Losses.{owner_told}
-use Rattle.host_seats.proofs.PlacedLemmas.{put-back}
+use Rattle.cdp_host_isolation.specs.Histories.{Detach}
+use Rattle.cdp_host_isolation.specs.Runs.{AllFit}
+use Rattle.cdp_host_isolation.specs.Seats.{is_attached, put, seat_of}
+use Rattle.cdp_host_seats.specs.Losses.{owner_told}
+use Rattle.cdp_host_seats.proofs.PlacedLemmas.{put-back}
 use Rattle.cdp_host.specs.Hosts.{CarriesOn, HostState, NoneAttached}
 use Rattle.cdp_host.specs.Protocols.{protocol}
 use Rattle.cdp_host.proofs.LossLemmas.{loss-stands, put-gone, told-fits, told-gone}
 use Rattle.cdp_host.proofs.ViewLemmas.{seen_as}
 use Rattle.cdp_host.proofs.host.Host.tell_loss.Goals as goal
-use Rattle.isolation.proofs.RoomLemmas.{put-fits}
+use Rattle.cdp_host_isolation.proofs.RoomLemmas.{put-fits}
 
 pub invariant_of-self : goal.invariant_of-self
 invariant_of-self c =

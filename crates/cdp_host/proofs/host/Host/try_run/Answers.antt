@@ -1,11 +1,11 @@
 use Rattle.std.proofs.Common.{◌≡◌, ◌<◌, ℕ, List, false, inl, ◌++◌, ap, subst, sym, ◌∙◌, arith}
 use Rattle.std.specs.Vec.{with_items}
 use Rattle.std.proofs.lemmas.List.{with_items_is}
-use Rattle.isolation.specs.Meanings.{longest}
-use Rattle.isolation.specs.Runs.{AllFit}
-use Rattle.isolation.specs.Seats.{each, reported, some, waits_for_report}
-use Rattle.isolation.specs.Standing.{fallen_in}
-use Rattle.host_seats.specs.Losses.{losses_from}
+use Rattle.cdp_host_isolation.specs.Meanings.{longest}
+use Rattle.cdp_host_isolation.specs.Runs.{AllFit}
+use Rattle.cdp_host_isolation.specs.Seats.{each, reported, some, waits_for_report}
+use Rattle.cdp_host_isolation.specs.Standing.{fallen_in}
+use Rattle.cdp_host_seats.specs.Losses.{losses_from}
 use Rattle.cdp_host.specs.Hosts.{meaning_with}
 use Rattle.cdp_host.specs.Protocols.{protocol}
 use Rattle.cdp_host.proofs.RunLemmas.{falls-from, listed-by, reported-fit, reported-none, settled-as}

@@ -2,9 +2,9 @@ use Rattle.std.proofs.Common.{Some, false, sym, ap, ◌∙◌}
 use Rattle.cdp_text.specs.Units.{utf8_of}
 use Rattle.js_heap.specs.Values.{shown}
 use Rattle.js_semantics.specs.Run.{over}
-use Rattle.js_world.specs.Heaps.{heap_world}
+use Rattle.js_heap_memory.specs.Heaps.{heap_world}
 use Rattle.js_machine.specs.Machines.{state_of}
-use Rattle.js_steps.specs.Stepping.{finish_of}
+use Rattle.js_machine_engine.specs.Stepping.{finish_of}
 use Rattle.cdp_host.specs.Programs.{has_thrown, uncaught_text}
 use Rattle.cdp_host.proofs.PartLemmas.{finished-thrown, no-text, unfinished-thrown}
 use Rattle.cdp_host.proofs.host.Host.uncaught_text.Goals as goal

@@ -1,4 +1,4 @@
-use Rattle.isolation.specs.Histories.{Attach}
+use Rattle.cdp_host_isolation.specs.Histories.{Attach}
 use Rattle.cdp_host.proofs.HostedLemmas.{attach-next, ok-owned, owned-on}
 use Rattle.cdp_host.proofs.hosted.HostHosted.attach.Goals as goal
 

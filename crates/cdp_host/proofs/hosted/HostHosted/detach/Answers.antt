@@ -1,5 +1,5 @@
-use Rattle.isolation.specs.Histories.{Detach}
-use Rattle.isolation.proofs.MakerLemmas.{owner-may}
+use Rattle.cdp_host_isolation.specs.Histories.{Detach}
+use Rattle.cdp_host_isolation.proofs.MakerLemmas.{owner-may}
 use Rattle.cdp_host.proofs.HostedLemmas.{owned-on}
 use Rattle.cdp_host.proofs.hosted.HostHosted.detach.Goals as goal
 

@@ -1,5 +1,5 @@
-use Rattle.isolation.specs.Histories.{Ran}
-use Rattle.host_turns.specs.Entries.{lost_for_memory}
+use Rattle.cdp_host_isolation.specs.Histories.{Ran}
+use Rattle.cdp_host_turns.specs.Entries.{lost_for_memory}
 use Rattle.cdp_host.proofs.HostedLemmas.{owned-fails, owned-longest, owned-on, owned-prints}
 use Rattle.cdp_host.proofs.hosted.HostHosted.run.Goals as goal
 

@@ -1,4 +1,4 @@
-use Rattle.isolation.specs.Histories.{Shut}
+use Rattle.cdp_host_isolation.specs.Histories.{Shut}
 use Rattle.cdp_host.proofs.HostedLemmas.{owned-on}
 use Rattle.cdp_host.proofs.hosted.HostHosted.shut.Goals as goal
 

@@ -1,5 +1,5 @@
-use Rattle.isolation.specs.Histories.{Take}
-use Rattle.isolation.proofs.MakerLemmas.{owner-may}
+use Rattle.cdp_host_isolation.specs.Histories.{Take}
+use Rattle.cdp_host_isolation.proofs.MakerLemmas.{owner-may}
 use Rattle.std.proofs.Common.{map, string_bytes}
 use Rattle.cdp_host.proofs.HostedLemmas.{owned-on, owned-waiting}
 use Rattle.cdp_host.proofs.hosted.HostHosted.take.Goals as goal

@@ -1,4 +1,4 @@
-use Rattle.host_turns.specs.Entries.{told_entry}
+use Rattle.cdp_host_turns.specs.Entries.{told_entry}
 use Rattle.cdp_host.proofs.HostedLemmas.{owned-on, tell-carries, tell-owned}
 use Rattle.cdp_host.proofs.hosted.HostHosted.tell.Goals as goal
 

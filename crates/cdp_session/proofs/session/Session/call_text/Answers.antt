@@ -3,7 +3,7 @@ use Rattle.js_tree.specs.declared.script.FunctionCode.{FunctionCode}
 use Rattle.js_tree.specs.Views.{expression_view}
 use Rattle.js_parser.specs.Expressions.{function_of, UnlessMemory}
 use Rattle.js_parser.proofs.ExpressionLemmas.{function_some, function_none}
-use Rattle.js_numbered.proofs.NumberedLaws.{numbered_same}
+use Rattle.js_parser_numbering.proofs.NumberedLaws.{numbered_same}
 use Rattle.pure_eval.specs.Arguments.{arguments_of}
 use Rattle.cdp_session.specs.Made.{Makes}
 use Rattle.cdp_session.specs.Rows.{row_of}

@@ -1,9 +1,9 @@
 use Rattle.std.proofs.Common.{rules, ◌≡◌, ◌++◌, ◌∷◌, [], false}
-use Rattle.session_messages.specs.Ends.{context_destroyed_text}
+use Rattle.cdp_session_messages.specs.Ends.{context_destroyed_text}
 use Rattle.cdp_session.specs.Endings.{ended, ending_told}
-use Rattle.session_messages.specs.Outboxes.{fits}
+use Rattle.cdp_session_messages.specs.Outboxes.{fits}
 use Rattle.cdp_session.specs.Situations.{seen}
-use Rattle.session_messages.proofs.OutboxSizes.{unfit-as}
+use Rattle.cdp_session_messages.proofs.OutboxSizes.{unfit-as}
 use Rattle.cdp_session.proofs.session.Session.ended.Goals as goal
 
 pub returns-in_err-tell_ending-clause-over : goal.returns-in_err-tell_ending-clause-over

@@ -3,7 +3,7 @@ use Rattle.js_tree.specs.declared.script.Expression.{Expression}
 use Rattle.js_tree.specs.Views.{expression_view}
 use Rattle.js_parser.specs.Expressions.{expression_of, UnlessMemory}
 use Rattle.js_parser.proofs.ExpressionLemmas.{expression_some, expression_none}
-use Rattle.js_numbered.proofs.NumberedLaws.{numbered_same}
+use Rattle.js_parser_numbering.proofs.NumberedLaws.{numbered_same}
 use Rattle.cdp_session.specs.Made.{Makes}
 use Rattle.cdp_session.specs.Rows.{row_of}
 use Rattle.cdp_session.specs.Situations.{seen}

@@ -2,7 +2,7 @@ use Rattle.std.proofs.Common.{ap, ◌∙◌}
 use Rattle.std.proofs.lemmas.Result.{IfOk-weaker}
 use Rattle.cdp_session.specs.Pauses.{data_made, sight_of, value_told}
 use Rattle.cdp_session.specs.Situations.{seen}
-use Rattle.session_messages.proofs.PauseLemmas.{told-as}
+use Rattle.cdp_session_messages.proofs.PauseLemmas.{told-as}
 use Rattle.cdp_session.proofs.session.Session.pause_told.Goals as goal
 
 pub returns-clause-made : goal.returns-clause-made

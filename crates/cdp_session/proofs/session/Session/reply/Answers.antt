@@ -1,8 +1,8 @@
 use Rattle.std.proofs.Common.{rules, ◌≡◌, ◌++◌, ◌∷◌, [], false, map, string_bytes, option_to_list, sym, ◌∙◌, append_assoc}
 use Rattle.cdp_json.specs.Messages.{result_text}
 use Rattle.cdp_json.specs.Views.{json_view}
-use Rattle.session_messages.specs.Outboxes.{fits}
-use Rattle.session_messages.proofs.OutboxSizes.{unfit-as}
+use Rattle.cdp_session_messages.specs.Outboxes.{fits}
+use Rattle.cdp_session_messages.proofs.OutboxSizes.{unfit-as}
 use Rattle.cdp_session.proofs.session.Session.reply.Goals as goal
 
 pub returns-in_err-send_all-clause-over : goal.returns-in_err-send_all-clause-over

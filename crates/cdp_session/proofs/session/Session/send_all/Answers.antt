@@ -3,8 +3,8 @@ use Rattle.std.specs.Vec.Iter.{into_iter_items, into_iter_len}
 use Rattle.std.proofs.lemmas.Iterator.Adapters.{YieldsList-from_vec}
 use Rattle.std.proofs.lemmas.Iterator.Consumers.{YieldsList-so_far, YieldsList-turn}
 use Rattle.std.proofs.lemmas.List.{map-append, map-id, take_more, take-append-drop}
-use Rattle.session_messages.specs.Outboxes.{fits}
-use Rattle.session_messages.proofs.OutboxSizes.{unfit-as}
+use Rattle.cdp_session_messages.specs.Outboxes.{fits}
+use Rattle.cdp_session_messages.proofs.OutboxSizes.{unfit-as}
 use Rattle.cdp_session.proofs.session.Session.send_all.Goals as goal
 
 pub returns-in_err-send-clause-over : goal.returns-in_err-send-clause-over

@@ -1,10 +1,10 @@
 use Rattle.std.proofs.Common.{◌≡◌, ◌≤◌, [], length, sym, ◌∙◌, arith}
 use Rattle.js_heap.specs.World.{World}
-use Rattle.js_world.specs.Heaps.{heap_world}
-use Rattle.js_operations.specs.Contexts.{state_of}
+use Rattle.js_heap_memory.specs.Heaps.{heap_world}
+use Rattle.js_machine_actions.specs.Contexts.{state_of}
 use Rattle.js_semantics.specs.Terms.{Term}
 use Rattle.js_semantics.specs.State.{State}
-use Rattle.js_steps.specs.Points.{term_at}
+use Rattle.js_machine_engine.specs.Points.{term_at}
 use Rattle.frames_scopes.specs.FrameViews.{frame_shown}
 use Rattle.frames_scopes.proofs.FrameLemmas.{walk-past, walk-none, walk-next, none-left, one-less}
 use Rattle.frames_scopes.proofs.frames.FramesIterator.next.Goals as goal

@@ -1,7 +1,7 @@
 use Rattle.std.proofs.Common.{Option, sym, ap, subst, ◌∙◌}
-use Rattle.js_operations.specs.Contexts.{state_of}
-use Rattle.js_steps.specs.Points.{term_at}
-use Rattle.js_steps.specs.Running.{IsRunning}
+use Rattle.js_machine_actions.specs.Contexts.{state_of}
+use Rattle.js_machine_engine.specs.Points.{term_at}
+use Rattle.js_machine_engine.specs.Running.{IsRunning}
 use Rattle.js_machine.specs.declared.end.End.{End}
 use Rattle.js_machine.specs.Machines.{run_by}
 use Rattle.js_machine.proofs.MachineLemmas.{stands-now, done-over, left-running}

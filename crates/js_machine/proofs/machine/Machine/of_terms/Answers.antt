@@ -1,8 +1,8 @@
 use Rattle.std.proofs.Common.{refl}
-use Rattle.js_terms.specs.Views.{terms_view}
-use Rattle.js_world.specs.Heaps.{heap_world}
-use Rattle.js_steps.specs.Points.{term_at}
-use Rattle.js_compile.proofs.NameLemmas.{goes_on_same}
+use Rattle.js_machine_terms.specs.Views.{terms_view}
+use Rattle.js_heap_memory.specs.Heaps.{heap_world}
+use Rattle.js_machine_engine.specs.Points.{term_at}
+use Rattle.js_machine_compiler.proofs.NameLemmas.{goes_on_same}
 use Rattle.js_machine.proofs.StartLemmas.{starts-so}
 use Rattle.js_machine.proofs.machine.Machine.of_terms.Goals as goal
 

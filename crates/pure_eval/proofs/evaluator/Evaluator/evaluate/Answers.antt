@@ -1,8 +1,8 @@
 use Rattle.std.proofs.Common.{refl}
 use Rattle.js_semantics.specs.Evaluation.{with_source}
-use Rattle.js_terms.specs.Views.{term_view}
-use Rattle.js_world.specs.Heaps.{heap_world}
-use Rattle.js_world.specs.Overlays.{space_of, next_of}
+use Rattle.js_machine_terms.specs.Views.{term_view}
+use Rattle.js_heap_memory.specs.Heaps.{heap_world}
+use Rattle.js_heap_memory.specs.Overlays.{space_of, next_of}
 use Rattle.pure_eval.proofs.EvaluatorLemmas.{stands-with, evaluator-leaves, runs-after}
 use Rattle.pure_eval.proofs.ReturnLemmas.{went-after, came-after, code-after}
 use Rattle.pure_eval.proofs.evaluator.Evaluator.evaluate.Goals as goal

@@ -1,7 +1,7 @@
 use Rattle.js_semantics.specs.Evaluation.{next_kept}
 use Rattle.js_semantics.specs.Sources.{expression_source}
-use Rattle.js_world.specs.Heaps.{heap_world}
-use Rattle.js_world.specs.Overlays.{space_of}
+use Rattle.js_heap_memory.specs.Heaps.{heap_world}
+use Rattle.js_heap_memory.specs.Overlays.{space_of}
 use Rattle.pure_eval.proofs.EvaluatorLemmas.{ready-made, ready-leaves}
 use Rattle.pure_eval.proofs.evaluator.Evaluator.evaluate_ready.Goals as goal
 

@@ -1,7 +1,7 @@
 use Rattle.std.proofs.Common.{◌≡◌, ℕ, List, refl, subst, ◌∙◌}
-use Rattle.js_terms.specs.Views.{terms_view}
-use Rattle.js_world.specs.Names.{GoesOn}
-use Rattle.js_code.specs.Trees.{program_of}
+use Rattle.js_machine_terms.specs.Views.{terms_view}
+use Rattle.js_heap_memory.specs.Names.{GoesOn}
+use Rattle.js_machine_nodes.specs.Trees.{program_of}
 use Rattle.pure_eval.proofs.EvaluatorLemmas.{compiled, stands-first}
 use Rattle.js_semantics.specs.Run.{program_from}
 use Rattle.pure_eval.proofs.ReturnLemmas.{code-of}

@@ -1,7 +1,7 @@
 use Rattle.std.proofs.Common.{sym, ap, subst, ◌∙◌, arith}
-use Rattle.js_terms.specs.Views.{term_view}
-use Rattle.js_code.specs.Trees.{program_of}
-use Rattle.js_world.specs.Overlays.{next_of, over_world, space_after}
+use Rattle.js_machine_terms.specs.Views.{term_view}
+use Rattle.js_machine_nodes.specs.Trees.{program_of}
+use Rattle.js_heap_memory.specs.Overlays.{next_of, over_world, space_after}
 use Rattle.pure_eval.specs.Adding.{kept_tree_at}
 use Rattle.pure_eval.specs.Workspaces.{Opened, opened_of}
 use Rattle.pure_eval.proofs.OpenLemmas.{open-on, evaluates-open, Evaluates}

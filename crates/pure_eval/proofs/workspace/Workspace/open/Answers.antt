@@ -1,5 +1,5 @@
 use Rattle.std.proofs.Common.{refl, ap, ◌∙◌}
-use Rattle.js_world.specs.Heaps.{heap_world}
+use Rattle.js_heap_memory.specs.Heaps.{heap_world}
 use Rattle.pure_eval.specs.Workspaces.{opened}
 use Rattle.pure_eval.proofs.WorkspaceLemmas.{opened-is, open-is}
 use Rattle.pure_eval.proofs.workspace.Workspace.open.Goals as goal

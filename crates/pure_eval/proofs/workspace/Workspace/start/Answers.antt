@@ -1,5 +1,5 @@
 use Rattle.js_semantics.specs.Run.{program_from}
-use Rattle.js_terms.specs.Views.{terms_view}
+use Rattle.js_machine_terms.specs.Views.{terms_view}
 use Rattle.pure_eval.proofs.WorkspaceLemmas.{begun-is, working-first}
 use Rattle.pure_eval.proofs.workspace.Workspace.start.Goals as goal
 

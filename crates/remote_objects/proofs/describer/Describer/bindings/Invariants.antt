@@ -1,7 +1,7 @@
 use Rattle.std.proofs.Common.{drop}
 use Rattle.std.specs.Prelude.{map, option_copied}
 use Rattle.cdp_json.specs.Views.{json_view}
-use Rattle.js_world.specs.Cells.{bindings}
+use Rattle.js_heap_memory.specs.Cells.{bindings}
 use Rattle.remote_objects.specs.Descriptors.{descriptor, names_slots}
 use Rattle.remote_objects.specs.Making.{made_all}
 use Rattle.remote_objects.specs.Views.{sight_of}

@@ -1,7 +1,7 @@
 use Rattle.std.proofs.Common.{drop}
 use Rattle.std.specs.Prelude.{map}
 use Rattle.cdp_json.specs.Views.{json_view}
-use Rattle.call_frames.specs.Views.{scope_of}
+use Rattle.frames_scopes_types.specs.Views.{scope_of}
 use Rattle.remote_objects.specs.CallFrames.{scopes_made}
 use Rattle.remote_objects.specs.Views.{sight_of}
 use Rattle.remote_objects.proofs.MakingLemmas.{Goes}

@@ -1,6 +1,6 @@
 use Rattle.std.proofs.Common.{◌≡◌, ◌++◌, drop}
 use Rattle.std.specs.Prelude.{map}
-use Rattle.js_world.specs.Cells.{bindings}
+use Rattle.js_heap_memory.specs.Cells.{bindings}
 use Rattle.cdp_json.specs.Json.{text}
 use Rattle.cdp_json.specs.Views.{json_view}
 use Rattle.remote_objects.specs.ScopeNames.{binding_name}

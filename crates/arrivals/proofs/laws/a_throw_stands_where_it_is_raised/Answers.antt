@@ -1,5 +1,0 @@
-use Rattle.arrivals.proofs.RaiseLemmas.{plain-raises}
-use Rattle.arrivals.proofs.laws.a_throw_stands_where_it_is_raised.Goals as goal
-
-pub returns : goal.returns
-returns c = plain-raises

@@ -1,5 +1,0 @@
-use Rattle.arrivals.proofs.StartLemmas.{plain-arrives}
-use Rattle.arrivals.proofs.laws.arrivals_are_break_locations.Goals as goal
-
-pub returns : goal.returns
-returns c = plain-arrives

@@ -1,0 +1,5 @@
+use Rattle.debug_host_commands.proofs.journal.play.Goals as goal
+
+pub returns-in-Ok-clause-end : goal.returns-in-Ok-clause-end
+returns-in-Ok-clause-end g c =
+    c.play_lines.ensures.end c.args.scripts.now c.args.input.items c.args.wait c.in-Ok.ensures.stands

@@ -1,0 +1,55 @@
+//! The command `run`, from its files to its end.
+
+ghost use Rattle.std.specs.Prelude.{◌≡◌, ◌⊎◌};
+ghost use Rattle.cdp_edge.specs.Outside.{Told};
+ghost use Rattle.debug_host_options.specs.Held.{run_held};
+ghost use Rattle.debug_host_commands.specs.RunCauses.{BecauseRun, IsUnbegun, RunsInPart, outcome_of_run};
+
+use crate::explaining::Remains;
+use crate::outcome::Outcome;
+use crate::sources::{Program, read_sources};
+use crate::throwing::{copy_if, note_throw};
+use cdp_edge::{Shelf, Sink};
+use debug_host_options::RunWords;
+use debug_host_plain_runs::end::RunEnd;
+use debug_host_plain_runs::run::run_scripts;
+use std::alloc::Global;
+use std::sync::Wait;
+
+/// The end that a run of scripts has.
+fn outcome_of_run(end: RunEnd) -> Outcome<'static>
+    ensures { result ≡ outcome_of_run end }
+{
+    match end {
+        RunEnd::Ended => Outcome::Done,
+        RunEnd::Threw(text) => Outcome::Threw(text),
+        RunEnd::CannotWrite => Outcome::CannotWrite,
+        RunEnd::Memory => Outcome::OutOfMemory,
+    }
+}
+
+/// Runs the scripts of these names: the input is read first, then the scripts in order. A run that never ends prints as
+/// it goes, and the call doesn't return.
+#[tactic(auto, using(crate::proofs::RunLemmas::unread))]
+pub(crate) fn run<'w, R: Wait, F: Shelf, O: Sink>(
+    rt: &R,
+    alloc: Global,
+    request: &RunWords<'w>,
+    shelf: &mut F,
+    out: &mut O,
+    remains: &mut Remains,
+) -> Outcome<'w>
+    ensures cause { BecauseRun result ((run_held request.now).sources) (F.files shelf.old) (F.faults shelf.old) (F.faults shelf.new) (O.faults out.old) (O.faults out.new) (O.content out.old) (O.content out.new) }
+    ensures part { Told (F.files shelf.old) (λ files. (O.content out.new ≡ O.content out.old) ⊎ RunsInPart files ((run_held request.now).sources) (O.content out.old) (O.content out.new)) }
+    ensures unbegun { IsUnbegun result → out.new ≡ out.old }
+{
+    match read_sources(alloc, &request.sources, shelf, &mut remains.evidence) {
+        Ok(Program { scripts, input }) => {
+            let kept = copy_if(alloc, request.explain, &input);
+            let end = outcome_of_run(run_scripts(rt, alloc, &scripts, input, out));
+            note_throw(alloc, &end, &scripts, kept, remains);
+            end
+        }
+        Err(end) => end,
+    }
+}

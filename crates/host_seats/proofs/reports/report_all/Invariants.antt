@@ -1,6 +1,0 @@
-use Rattle.isolation.specs.Passes.{GoesOn}
-use Rattle.host_seats.proofs.ReportLemmas.{IsReported}
-use Rattle.host_seats.proofs.reports.report_all.Given as goal
-
-abbrev pub invariant-loop-seat : goal.invariant-loop-seat
-invariant-loop-seat g l = GoesOn IsReported l.seat-index l.fn.seats l.seats

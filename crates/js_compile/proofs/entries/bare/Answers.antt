@@ -1,5 +1,0 @@
-use Rattle.js_compile.proofs.EntryLemmas.{has_bare}
-use Rattle.js_compile.proofs.entries.bare.Goals as goal
-
-pub returns : goal.returns
-returns c = λ ts t. has_bare ts t c.args.op c.requires

@@ -1,5 +1,0 @@
-use Rattle.js_compile.proofs.EntryLemmas.{index_call_known}
-use Rattle.js_compile.proofs.entries.index_call_entry.Goals as goal
-
-pub returns-clause-form : goal.returns-clause-form
-returns-clause-form c = λ ts. index_call_known ts _ _ _ c.in_ok-info.ensures.place

@@ -1,5 +1,0 @@
-use Rattle.js_compile.proofs.PlainLaws.{trees-plain}
-use Rattle.js_compile.proofs.laws.scripts_of_sources_have_code.Goals as goal
-
-pub returns : goal.returns
-returns c = trees-plain

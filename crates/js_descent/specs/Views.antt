@@ -1,8 +1,0 @@
--- The parts of a function, as the grammar sees them.
-use Rattle.js_tree.specs.Views.{statements_view}
-use Rattle.js_syntax.specs.Productions.{Code}
-use Rattle.js_descent.specs.declared.parsed.FunctionParts.{FunctionParts}
-
--- the parameters of a function and its body
-abbrev pub function_view : FunctionParts → Code
-function_view f = record { parameters = f.parameters; body = statements_view f.body }

@@ -1,7 +1,0 @@
-use Rattle.std.proofs.Common.{◌≡◌, drop}
-use Rattle.js_frames.specs.Catchers.{catches}
-use Rattle.js_frames.proofs.throws.catches.Given as goal
-
--- no task up to this one catches
-abbrev pub invariant-loop-i : goal.invariant-loop-i
-invariant-loop-i l = catches l.stack ≡ catches (drop l.i l.stack)

@@ -1,0 +1,378 @@
+-- The way inward to what is reduced next, and outward from a value.
+use Rattle.std.proofs.Common.{◌≡◌, ℕ, true, false, List, [], ◌∷◌, Option, None, Some, slice_get, refl, sym, ap, subst, ◌∙◌, arith}
+use Rattle.js_heap.specs.declared.value.Addr.{Addr}
+use Rattle.js_heap.specs.declared.value.Value.{Value}
+use Rattle.js_heap.specs.declared.value.Value.TheVariants as values
+use Rattle.js_semantics.specs.declared.form.Form.{Form}
+use Rattle.js_semantics.specs.Terms.{Term, done, part, Terms, end, finished, settled, settle}
+use Rattle.js_semantics.specs.Next.{scope_in}
+use Rattle.js_machine_nodes.specs.declared.node.Node.{Node}
+use Rattle.js_machine_nodes.specs.declared.table.NodeTable.{NodeTable}
+use Rattle.js_machine_nodes.specs.Forms.{form_of}
+use Rattle.js_machine_nodes.specs.Ops.{is_literal}
+use Rattle.js_machine_nodes.specs.Trees.{terms, tree, trees, IsNode, IsTable}
+use Rattle.js_machine_engine.specs.declared.closing.Closing.{Closing}
+use Rattle.js_machine_engine.specs.declared.closing.Closing.TheVariants as closings
+use Rattle.js_machine_engine.specs.declared.closing.Next.{Next}
+use Rattle.js_machine_engine.specs.declared.closing.Next.TheVariants as nexts
+use Rattle.js_machine_engine.specs.declared.settling.Entered.TheVariants as entereds
+use Rattle.js_machine_engine.specs.declared.task.Task.{Task}
+use Rattle.js_machine_engine.specs.declared.task.Extra.{Extra}
+use Rattle.js_machine_engine.specs.declared.task.Point.TheVariants as points
+use Rattle.js_machine_engine.specs.Gaps.{plugged, resettled}
+use Rattle.js_machine_engine.specs.Tasks.{Wide, form_in, task_form, gaps_of, scope_of, InScopes}
+use Rattle.js_machine_engine.specs.Points.{row_term, term_at, IsAtRow}
+use Rattle.js_machine_engine.specs.Stacks.{begun, with_value}
+use Rattle.js_machine_engine.specs.Parts.{IsOpen, IsNextPart}
+use Rattle.js_machine_engine.specs.Settling.{closing_of, is_waiting, closed, proceeding, CanCome, ComesIn, settled_row, Through, Comes, IsTask, Inward, Enters, IsOnWay, IsOnWayOut, IsInnermost}
+use Rattle.js_machine_nodes.proofs.TreeLemmas.{tree-at, node-at, now-below, kids-end}
+use Rattle.js_machine_engine.proofs.SettledParts.{settled_parts}
+use Rattle.js_machine_engine.proofs.SettleLemmas.{resettled-part, parts-within, parts-settled, within_parts, after_parts, value-settled, scopes-next, scope-next, outer-next, row-next}
+use Rattle.js_machine_engine.proofs.FinishLemmas.{closes, node-form, node-scope}
+use Rattle.js_machine_engine.proofs.StageLemmas.{comes-through, comes-part, through-value}
+
+-- ---- a node as a task
+
+pub open-node : (t : NodeTable) (n : ℕ) (node : Node)
+    → slice_get t.nodes.items n ≡ Some node
+    → IsOpen (slice_get t.nodes.items n)
+    → is_literal node.op ≡ false
+open-node t n node e o =
+    let P : Option Node → Type 0 = IsOpen in
+    subst P e o
+
+abbrev pub node_task : Node → Addr → Wide
+node_task node inner = begun node.op node.info node.first node.mid node.end inner None
+
+task_is : (ts : List (List ℕ)) (t : NodeTable) (node : Node) (inner : Addr)
+    → task_form ts t (node_task node inner) ≡ form_in ts t node.op node.info inner None
+unfolding task_form
+task_is ts t node inner = refl
+
+node_is : (ts : List (List ℕ)) (t : NodeTable) (n : ℕ) (node : Node) (inner : Addr)
+    → IsNode t n node
+    → task_form ts t (node_task node inner) ≡ form_of ts t node.op node.info
+node_is ts t n node inner i = task_is ts t node inner ∙ node-form ts t node.op node.info inner i.source i.turns
+
+-- a node's tree as its task before the first value
+pub node-tree : (ts : List (List ℕ)) (t : NodeTable) (n : ℕ) (node : Node) (inner : Addr)
+    → IsTable t
+    → slice_get t.nodes.items n ≡ Some node
+    → is_literal node.op ≡ false
+    → tree ts t n ≡ part (task_form ts t (node_task node inner)) (trees ts t node.first node.mid)
+    (trees ts t node.mid node.end)
+node-tree ts t n node inner table e o =
+    tree-at t n node table e o ts
+    ∙ ap (λ f. part f (trees ts t node.first node.mid) (trees ts t node.mid node.end))
+    (sym (node_is ts t n node inner (node-at t n node table e)))
+
+node_scopes : (t : NodeTable) (root : Addr) (n : ℕ) (node : Node) (inner : Addr) (old : List Wide)
+    → IsNode t n node
+    → scope_of root old ≡ inner
+    → InScopes t root old
+    → InScopes t root (node_task node inner ∷ old)
+node_scopes t root n node inner old i e s = (
+  λ ts. ap (λ f. scope_in f (scope_of root old)) (task_is ts t node inner)
+      ∙ node-scope ts t node.op node.info inner (scope_of root old) i.source i.turns
+      ∙ e,
+  s,
+)
+
+pub task-inward : (t : NodeTable) (n : ℕ) (node : Node) (inner : Addr) (old new : List Wide) (p : Option ℕ)
+    → IsTable t
+    → slice_get t.nodes.items n ≡ Some node
+    → IsNextPart t (node_task node inner ∷ old) new p
+    → Inward t old new inner
+task-inward t n node inner old new p table e i = record {
+  scope = λ root h. scope-next t root (node_task node inner ∷ old) new p i;
+  scoped =
+      λ root h s. scopes-next t root (node_task node inner ∷ old) new p i
+      (node_scopes t root n node inner old (node-at t n node table e) h s);
+}
+
+node_within : (ts : List (List ℕ)) (t : NodeTable) (n : ℕ) (node : Node) (inner : Addr) (old new : List Wide)
+    (p : Option ℕ)
+    → IsTable t
+    → slice_get t.nodes.items n ≡ Some node
+    → is_literal node.op ≡ false
+    → IsNextPart t (node_task node inner ∷ old) new p
+    → plugged (gaps_of ts t old) (tree ts t n) ≡ within_parts ts t new p
+node_within ts t n node inner old new p table e o i =
+    ap (plugged (gaps_of ts t old)) (node-tree ts t n node inner table e o)
+    ∙ parts-within ts t (node_task node inner) old new p i
+
+-- ---- one level inward
+
+pub row-enters : (t : NodeTable) (old mid new : List Wide) (inner : Addr) (n : ℕ) (node : Node)
+    → IsTable t
+    → slice_get t.nodes.items n ≡ Some node
+    → IsOpen (slice_get t.nodes.items n)
+    → mid ≡ node_task node inner ∷ old
+    → IsNextPart t mid new None
+    → Enters t old new inner n entereds.Row
+row-enters t old mid new inner n node table e o m i =
+    let P : List Wide → Type 0 = λ ws. IsNextPart t ws new None in
+    let j : IsNextPart t (node_task node inner ∷ old) new None = subst P m i in
+    record {
+      term = λ ts. node_within ts t n node inner old new None table e (open-node t n node e o) j;
+      stands = row-next t (node_task node inner) old new j;
+      inward = task-inward t n node inner old new None table e j;
+    }
+
+pub part-enters : (t : NodeTable) (old mid new : List Wide) (inner : Addr) (n : ℕ) (node : Node) (k : ℕ)
+    → IsTable t
+    → slice_get t.nodes.items n ≡ Some node
+    → IsOpen (slice_get t.nodes.items n)
+    → mid ≡ node_task node inner ∷ old
+    → IsNextPart t mid new (Some k)
+    → Enters t old new inner n (entereds.Part k)
+part-enters t old mid new inner n node k table e o m i =
+    let P : List Wide → Type 0 = λ ws. IsNextPart t ws new (Some k) in
+    let j : IsNextPart t (node_task node inner ∷ old) new (Some k) = subst P m i in
+    record {
+      term = λ ts. node_within ts t n node inner old new (Some k) table e (open-node t n node e o) j;
+      stands = record { form = j.part.form; before = j.part.below n (now-below t n node (node-at t n node table e)) };
+      inward = task-inward t n node inner old new (Some k) table e j;
+    }
+
+-- ---- all levels inward
+
+pub way-leaf : (ts : List (List ℕ)) (t : NodeTable) (old : List Wide) (node : ℕ) (inner : Addr) (now new : List Wide)
+    (n : ℕ)
+    → IsOnWay t old node inner now n
+    → Enters t now new inner n entereds.Leaf
+    → plugged (gaps_of ts t old) (tree ts t node) ≡ term_at ts t new (points.Leaf n)
+unfolding term_at
+way-leaf ts t old node inner now new n w e = sym (w.term ts) ∙ e.term ts
+
+pub way-row : (ts : List (List ℕ)) (t : NodeTable) (old : List Wide) (node : ℕ) (inner : Addr) (now new : List Wide)
+    (n : ℕ)
+    → IsOnWay t old node inner now n
+    → Enters t now new inner n entereds.Row
+    → plugged (gaps_of ts t old) (tree ts t node) ≡ term_at ts t new points.Row
+unfolding term_at
+way-row ts t old node inner now new n w e = sym (w.term ts) ∙ e.term ts
+
+-- ---- a value in the innermost gap
+
+value_term : (ts : List (List ℕ)) (t : NodeTable) (old : List Wide) (v : Value)
+    → IsTask old
+    → resettled (gaps_of ts t old) (done v) ≡ settled_parts ts t (with_value v old)
+value_term ts t [] v h = absurd h
+value_term ts t (w ∷ ws) v h = value-settled ts t w ws v
+
+taken_term : (ts : List (List ℕ)) (t : NodeTable) (old mid new : List Wide) (v : Value) (n : Option ℕ)
+    → IsTask old
+    → mid ≡ with_value v old
+    → IsNextPart t mid new n
+    → resettled (gaps_of ts t old) (done v) ≡ after_parts ts t new n
+taken_term ts t old mid new v n h e i =
+    value_term ts t old v h ∙ ap (settled_parts ts t) (sym e) ∙ parts-settled ts t mid new n i
+
+taken_through : (t : NodeTable) (old mid new : List Wide) (v : Value) (n : Option ℕ)
+    → mid ≡ with_value v old
+    → IsNextPart t mid new n
+    → Through t old new
+taken_through t old mid new v n e i =
+    let h : Through t old mid = through-value t old mid v e in
+    record {
+      outer = outer-next t mid new n i ∙ h.outer;
+      inner = λ root. scope-next t root mid new n i ∙ h.inner root;
+      scoped = λ root s. scopes-next t root mid new n i (h.scoped root s);
+    }
+
+pub take-part : (t : NodeTable) (old mid new : List Wide) (v : Value) (k : ℕ)
+    → IsTask old
+    → mid ≡ with_value v old
+    → IsNextPart t mid new (Some k)
+    → Comes t old new (λ ts. resettled (gaps_of ts t old) (done v)) (nexts.Part k)
+take-part t old mid new v k h e i =
+    comes-part t old new (λ ts. resettled (gaps_of ts t old) (done v)) k (taken_through t old mid new v (Some k) e i)
+    i.part.form (λ ts. taken_term ts t old mid new v (Some k) h e i)
+
+pub take-all : (t : NodeTable) (old mid all new : List Wide) (v : Value) (next : Next)
+    → IsTask old
+    → mid ≡ with_value v old
+    → IsNextPart t mid all None
+    → Comes t all new (λ ts. settled_row ts t all) next
+    → Comes t old new (λ ts. resettled (gaps_of ts t old) (done v)) next
+take-all t old mid all new v next h e i c =
+    comes-through t old all new (λ ts. resettled (gaps_of ts t old) (done v)) (λ ts. settled_row ts t all) next
+    (taken_through t old mid all v None e i) (λ ts. taken_term ts t old mid all v None h e i) c
+
+pub is-task : (old : List Wide) (task : Task) (e : Option Extra) → IsInnermost task e old → IsTask old
+is-task [] task e i = cc
+is-task (w ∷ ws) task e i = tt
+
+-- ---- the way outward
+
+pub out-next : (t : NodeTable) (old : List Wide) (value : Value) (now new : List Wide) (v u : Value)
+    → IsOnWayOut t old value now v
+    → Comes t now new (λ ts. resettled (gaps_of ts t now) (done v)) (nexts.Value u)
+    → IsOnWayOut t old value new u
+out-next t old value now new v u w c = record {
+  term = λ ts. sym (c.term ts) ∙ w.term ts;
+  scoped = λ root s. c.scoped root (w.scoped root s);
+}
+
+pub out-done : (ts : List (List ℕ)) (t : NodeTable) (old : List Wide) (value : Value) (now : List Wide) (v : Value)
+    → IsOnWayOut t old value now v
+    → now ≡ []
+    → resettled (gaps_of ts t old) (done value) ≡ term_at ts t now (points.Done v)
+unfolding term_at
+out-done ts t old value now v w e =
+    sym (w.term ts)
+    ∙ ap (λ ws. resettled (gaps_of ts t ws) (done v)) e
+    ∙ ap (λ ws. plugged (gaps_of ts t ws) (done v)) (sym e)
+
+pub row-term : (ts : List (List ℕ)) (t : NodeTable) (new : List Wide) → row_term ts t new ≡ term_at ts t new points.Row
+unfolding term_at
+row-term ts t new = refl
+
+pub leaf-term : (ts : List (List ℕ)) (t : NodeTable) (new : List Wide) (n : ℕ)
+    → plugged (gaps_of ts t new) (tree ts t n) ≡ term_at ts t new (points.Leaf n)
+unfolding term_at
+leaf-term ts t new n = refl
+
+pub out-row : (ts : List (List ℕ)) (t : NodeTable) (old : List Wide) (value : Value) (now new : List Wide) (v : Value)
+    → IsOnWayOut t old value now v
+    → Comes t now new (λ ts. resettled (gaps_of ts t now) (done v)) nexts.Row
+    → resettled (gaps_of ts t old) (done value) ≡ term_at ts t new points.Row
+out-row ts t old value now new v w c = sym (w.term ts) ∙ c.term ts ∙ row-term ts t new
+
+-- the scope in the gap is that of the innermost task
+pub entered-scope : (t : NodeTable) (old new : List Wide) (from : List (List ℕ) → Term) (n : ℕ) (task : Task)
+    (e : Option Extra)
+    → IsInnermost task e old
+    → Comes t old new from (nexts.Part n)
+    → (root : Addr)
+    → scope_of root new ≡ task.inner
+entered-scope t old new from n task e i c root = c.stands.inner root ∙ ap (scope_of root) i
+
+pub can-come : (t : NodeTable) (old new : List Wide) (from : List (List ℕ) → Term) (next : Next)
+    → Comes t old new from next
+    → CanCome t new next
+can-come t old new from nexts.Row c = c.stands
+can-come t old new from (nexts.Value v) c = tt
+can-come t old new from (nexts.Part n) c = c.stands.form
+
+pub comes-in : (t : NodeTable) (old new : List Wide) (from : List (List ℕ) → Term) (next : Next) (task : Task)
+    (e : Option Extra)
+    → IsInnermost task e old
+    → Comes t old new from next
+    → (root : Addr)
+    → ComesIn root new task.inner next
+comes-in t old new from nexts.Row task e i c root = tt
+comes-in t old new from (nexts.Value v) task e i c root = tt
+comes-in t old new from (nexts.Part n) task e i c root = entered-scope t old new from n task e i c root
+
+-- ---- a node that is uncovered
+
+uncovered_by : (ts : List (List ℕ)) (t : NodeTable) (gs : Term → Term) (n : ℕ) (node : Node) (inner : Addr)
+    → IsTable t
+    → slice_get t.nodes.items n ≡ Some node
+    → is_literal node.op ≡ false
+    → gs (settle (tree ts t n)) ≡ gs
+    (settled (task_form ts t (node_task node inner)) (trees ts t node.first node.mid)
+    (trees ts t node.mid node.end))
+uncovered_by ts t gs n node inner table e o = ap (λ x. gs (settle x)) (node-tree ts t n node inner table e o)
+
+pub uncovered-parts : (ts : List (List ℕ)) (t : NodeTable) (old mid new : List Wide) (n : ℕ) (node : Node)
+    (inner : Addr) (p : Option ℕ)
+    → IsTable t
+    → slice_get t.nodes.items n ≡ Some node
+    → IsOpen (slice_get t.nodes.items n)
+    → mid ≡ node_task node inner ∷ old
+    → IsNextPart t mid new p
+    → resettled (gaps_of ts t old) (settle (tree ts t n)) ≡ after_parts ts t new p
+uncovered-parts ts t old mid new n node inner p table e o m i =
+    uncovered_by ts t (resettled (gaps_of ts t old)) n node inner table e (open-node t n node e o)
+    ∙ ap (settled_parts ts t) (sym m)
+    ∙ parts-settled ts t mid new p i
+
+waiting_is : (c : Closing) → is_waiting c ≡ true → c ≡ closings.Waits
+waiting_is closings.Waits e = refl
+waiting_is c e = cc
+
+waits_node : (ts : List (List ℕ)) (t : NodeTable) (node : Node) (inner : Addr) (later : Terms)
+    → closing_of node.op ≡ closings.Waits
+    → finished (task_form ts t (node_task node inner)) end later ≡ part (task_form ts t (node_task node inner))
+    end later
+waits_node ts t node inner later e =
+    closes ts t (node_task node inner) end later
+    ∙ ap (closed ts t node.op node.info inner None end later) e
+    ∙ ap (λ f. part f end later) (sym (task_is ts t node inner))
+
+settled_leaf : (ts : List (List ℕ)) (t : NodeTable) (node : Node) (inner : Addr) (now later : Terms)
+    → now ≡ end
+    → closing_of node.op ≡ closings.Waits
+    → settled (task_form ts t (node_task node inner)) now later ≡ part (task_form ts t (node_task node inner)) now later
+settled_leaf ts t node inner now later e c =
+    ap (λ x. settled (task_form ts t (node_task node inner)) x later) e
+    ∙ waits_node ts t node inner later c
+    ∙ ap (λ x. part (task_form ts t (node_task node inner)) x later) (sym e)
+
+pub uncovered-leaf : (ts : List (List ℕ)) (t : NodeTable) (old : List Wide) (n : ℕ) (node : Node) (inner : Addr)
+    → IsTable t
+    → slice_get t.nodes.items n ≡ Some node
+    → IsOpen (slice_get t.nodes.items n)
+    → node.first ≡ node.mid
+    → is_waiting (closing_of node.op) ≡ true
+    → resettled (gaps_of ts t old) (settle (tree ts t n)) ≡ term_at ts t old (points.Leaf n)
+uncovered-leaf ts t old n node inner table e o h w =
+    let f : Form = task_form ts t (node_task node inner) in
+    let now : Terms = trees ts t node.first node.mid in
+    let later : Terms = trees ts t node.mid node.end in
+    let k : now ≡ end = ap (terms (tree ts t)) (kids-end t node.first node.mid (omega arith)) in
+    uncovered_by ts t (resettled (gaps_of ts t old)) n node inner table e (open-node t n node e o)
+    ∙ ap (resettled (gaps_of ts t old)) (settled_leaf ts t node inner now later k (waiting_is (closing_of node.op) w))
+    ∙ resettled-part (gaps_of ts t old) f now later
+    ∙ ap (plugged (gaps_of ts t old)) (sym (node-tree ts t n node inner table e (open-node t n node e o)))
+    ∙ leaf-term ts t old n
+
+pub uncovered-scoped : (t : NodeTable) (old mid new : List Wide) (n : ℕ) (node : Node) (inner : Addr) (p : Option ℕ)
+    → IsTable t
+    → slice_get t.nodes.items n ≡ Some node
+    → mid ≡ node_task node inner ∷ old
+    → IsNextPart t mid new p
+    → Inward t old new inner
+uncovered-scoped t old mid new n node inner p table e m i =
+    let P : List Wide → Type 0 = λ ws. IsNextPart t ws new p in
+    task-inward t n node inner old new p table e (subst P m i)
+
+-- ---- the innermost task goes on
+
+proceed_within : (ts : List (List ℕ)) (t : NodeTable) (old new : List Wide) (p : Option ℕ)
+    → IsTask old
+    → IsNextPart t old new p
+    → proceeding ts t old ≡ within_parts ts t new p
+proceed_within ts t [] new p h i = absurd h
+proceed_within ts t (w ∷ ws) new p h i = parts-within ts t w ws new p i
+
+pub proceed-part : (ts : List (List ℕ)) (t : NodeTable) (old new : List Wide) (k : ℕ)
+    → IsTask old
+    → IsNextPart t old new (Some k)
+    → proceeding ts t old ≡ plugged (gaps_of ts t new) (tree ts t k)
+proceed-part ts t old new k h i = proceed_within ts t old new (Some k) h i
+
+pub proceed-row : (ts : List (List ℕ)) (t : NodeTable) (old new : List Wide)
+    → IsTask old
+    → IsNextPart t old new None
+    → proceeding ts t old ≡ term_at ts t new points.Row
+proceed-row ts t old new h i = proceed_within ts t old new None h i ∙ row-term ts t new
+
+pub proceed-at : (t : NodeTable) (old new : List Wide) → IsTask old → IsNextPart t old new None → IsAtRow new
+proceed-at t [] new h i = absurd h
+proceed-at t (w ∷ ws) new h i = row-next t w ws new i
+
+pub proceed-done : (ts : List (List ℕ)) (t : NodeTable) (old : List Wide)
+    → old ≡ []
+    → proceeding ts t old ≡ term_at ts t old (points.Done values.Undefined)
+unfolding term_at
+proceed-done ts t old e = ap (proceeding ts t) e ∙ ap (λ ws. plugged (gaps_of ts t ws) (done values.Undefined)) (sym e)
+
+pub proceed-scope : (t : NodeTable) (root : Addr) (old new : List Wide) (p : Option ℕ) (task : Task) (e : Option Extra)
+    → IsInnermost task e old
+    → IsNextPart t old new p
+    → scope_of root new ≡ task.inner
+proceed-scope t root old new p task e i n = scope-next t root old new p n ∙ ap (scope_of root) i

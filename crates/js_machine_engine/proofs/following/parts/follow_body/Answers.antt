@@ -1,0 +1,14 @@
+use Rattle.std.proofs.lemmas.Result.{on_ok_weaker}
+use Rattle.js_machine_nodes.specs.declared.op.Op.TheVariants as ops
+use Rattle.std.proofs.Common.{None, refl}
+use Rattle.js_machine_engine.specs.Stacks.{begun}
+use Rattle.js_machine_engine.proofs.FollowLemmas.{scopes-replaced}
+use Rattle.js_machine_engine.proofs.following.parts.follow_body.Goals as goal
+
+pub returns-clause-scoped : goal.returns-clause-scoped
+returns-clause-scoped c =
+    on_ok_weaker c.uncover.result
+    (λ d. λ s. d
+    (scopes-replaced c.args.table.now c.args.root (begun ops.Frame c.args.function 0 0 0 c.args.scope None)
+    c.args.stack.now c.pop.new.self c.push.new.self refl c.pop.ensures.outer c.in_ok-push.ensures s))
+    c.uncover.ensures.scoped

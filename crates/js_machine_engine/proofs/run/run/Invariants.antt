@@ -1,0 +1,22 @@
+use Rattle.std.proofs.Common.{ℕ, List}
+use Rattle.js_semantics.specs.Run.{run_of}
+use Rattle.js_machine_actions.specs.Contexts.{state_of}
+use Rattle.js_machine_nodes.specs.Trees.{program_of}
+use Rattle.js_machine_engine.specs.Points.{term_at}
+use Rattle.js_machine_engine.specs.Running.{HasRun, HasPassed}
+use Rattle.js_machine_engine.specs.Prints.{IsSilent}
+use Rattle.js_machine_engine.proofs.run.run.Given as goal
+
+abbrev pub invariant-loop-steps : goal.invariant-loop-steps
+invariant-loop-steps g l = record {
+  run : HasRun l.names l.table l.root l.fn.stack l.fn.point (g.W.World.world l.names l.fn.world)
+      l.fn.context l.steps l.stack l.point (g.W.World.world l.names l.world) l.context;
+  passed : (taken : List (List ℕ))
+      → HasPassed (g.H.Asks.stops l.host) l.steps (program_of l.names l.table) l.root
+      (run_of (term_at l.names l.table l.fn.stack l.fn.point)
+      (state_of (g.W.World.world l.names l.fn.world) l.fn.context taken));
+  silent : (taken : List (List ℕ))
+      → IsSilent l.steps (program_of l.names l.table) l.root
+      (run_of (term_at l.names l.table l.fn.stack l.fn.point)
+      (state_of (g.W.World.world l.names l.fn.world) l.fn.context taken));
+}

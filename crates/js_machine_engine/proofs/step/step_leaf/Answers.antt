@@ -1,0 +1,78 @@
+use Rattle.std.proofs.Common.{sym, refl, [], None}
+use Rattle.js_machine_actions.specs.Contexts.{state_of}
+use Rattle.js_machine_engine.specs.Rows.{redex}
+use Rattle.js_machine_engine.specs.Stepping.{answer_of}
+use Rattle.js_machine_engine.proofs.ConcludeLemmas.{gives-told, uncovers-told, went-stands, goes-on-weaker}
+use Rattle.js_machine_engine.proofs.TravelLemmas.{went-stood}
+use Rattle.js_machine_engine.proofs.StepLemmas.{node_redex, leaf-told, leaf-scope}
+use Rattle.js_machine_engine.proofs.step.step_leaf.Goals as goal
+
+pub returns-in-Gives-clause-told : goal.returns-in-Gives-clause-told
+returns-in-Gives-clause-told g c = λ taken.
+    let ts = c.args.names.now in
+    let t = c.args.table.now in
+    let root = c.args.root in
+    let old = c.args.stack.now in
+    let r = c.reduce-reduced.result in
+    let w = redex (node_redex c.in-Some.node c.scope.result) [] None in
+    let s = state_of (g.W.World.world ts c.args.world.now) c.args.context.now taken in
+    let u = state_of (g.W.World.world ts c.reduce-reduced.new.world) c.reduce-reduced.new.context taken in
+    leaf-told ts t root old c.give.new.stack c.give.new.point c.args.n c.in-Some.node c.scope.result r (answer_of r)
+    c.went_of.result s u u c.requires.table (sym c.in-Some.ensures)
+    c.requires.leaf c.scope.ensures c.requires.scoped refl
+    (λ outer. c.reduce-reduced.ensures outer taken)
+    (λ m h. gives-told c.give.result c.went_of.result ts t root old c.give.new.stack c.give.new.point m w r
+    c.in-Gives.value u c.went_of.ensures c.in-Gives.is h c.give.ensures.term)
+
+pub returns-in-Gives-clause-stands : goal.returns-in-Gives-clause-stands
+returns-in-Gives-clause-stands g c =
+    went-stood c.give.result c.went_of.result c.args.table.now c.args.root c.args.stack.now c.give.new.stack
+    c.give.new.point c.went_of.ensures c.give.ensures.at c.give.ensures.scoped c.requires.scoped
+
+pub returns-in-Uncovers-clause-told : goal.returns-in-Uncovers-clause-told
+returns-in-Uncovers-clause-told g c = λ taken.
+    let ts = c.args.names.now in
+    let t = c.args.table.now in
+    let root = c.args.root in
+    let old = c.args.stack.now in
+    let r = c.reduce-reduced.result in
+    let w = redex (node_redex c.in-Some.node c.scope.result) [] None in
+    let s = state_of (g.W.World.world ts c.args.world.now) c.args.context.now taken in
+    let u = state_of (g.W.World.world ts c.reduce-reduced.new.world) c.reduce-reduced.new.context taken in
+    leaf-told ts t root old c.uncover.new.stack c.uncover.new.point c.args.n c.in-Some.node c.scope.result r
+    (answer_of r) c.went_of-in-Uncovers.result s u u c.requires.table (sym c.in-Some.ensures)
+    c.requires.leaf c.scope.ensures c.requires.scoped refl
+    (λ outer. c.reduce-reduced.ensures outer taken)
+    (λ m h. uncovers-told c.uncover.result c.went_of-in-Uncovers.result ts t root old c.uncover.new.stack
+    c.uncover.new.point m w r c.in-Uncovers.node u c.went_of-in-Uncovers.ensures c.in-Uncovers.is h
+    c.uncover.ensures.term)
+
+pub returns-in-Uncovers-clause-stands : goal.returns-in-Uncovers-clause-stands
+returns-in-Uncovers-clause-stands g c =
+    goes-on-weaker c.went_of-in-Uncovers.result (λ k. k c.requires.scoped)
+    (went-stands c.uncover.result c.went_of-in-Uncovers.result c.args.table.now c.args.root c.args.stack.now
+    c.uncover.new.stack c.uncover.new.point c.went_of-in-Uncovers.ensures c.uncover.ensures.at
+    c.uncover.ensures.scoped)
+
+pub leave_leaf-requires-clause-inner : goal.leave_leaf-requires-clause-inner
+leave_leaf-requires-clause-inner g c =
+    leaf-scope c.args.table.now c.args.n c.in-Some.node c.scope.result c.args.root c.args.stack.now c.requires.table
+    (sym c.in-Some.ensures) c.scope.ensures
+
+pub returns-in_default-reduced : goal.returns-in_default-reduced
+returns-in_default-reduced g c = record {
+  told = λ taken.
+      let ts = c.args.names.now in
+      let t = c.args.table.now in
+      let r = c.reduce-reduced.result in
+      let s = state_of (g.W.World.world ts c.args.world.now) c.args.context.now taken in
+      let u = state_of (g.W.World.world ts c.reduce-reduced.new.world) c.reduce-reduced.new.context taken in
+      let v = state_of (g.W.World.world ts c.leave_leaf.new.world) c.leave_leaf.new.context taken in
+      leaf-told ts t c.args.root c.args.stack.now c.leave_leaf.new.stack c.leave_leaf.new.point c.args.n c.in-Some.node
+      c.scope.result r
+      (answer_of r) c.leave_leaf.result s u v c.requires.table (sym c.in-Some.ensures)
+      c.requires.leaf c.scope.ensures c.requires.scoped refl
+      (λ outer. c.reduce-reduced.ensures outer taken)
+      (λ m h. c.leave_leaf.ensures.told taken m h);
+  stands = c.leave_leaf.ensures.stands;
+}

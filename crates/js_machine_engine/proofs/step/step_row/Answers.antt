@@ -1,0 +1,55 @@
+use Rattle.std.proofs.Common.{refl}
+use Rattle.js_machine_actions.specs.Contexts.{state_of}
+use Rattle.js_machine_engine.specs.declared.reduced.Reduced.TheVariants as reduced
+use Rattle.js_machine_engine.specs.Answers.{reduced_term}
+use Rattle.js_machine_engine.specs.Stacks.{outer_of}
+use Rattle.js_machine_engine.specs.Following.{innermost}
+use Rattle.js_machine_engine.specs.Stepping.{answer_of}
+use Rattle.js_machine_engine.proofs.ConcludeLemmas.{says-of, went-follows, went-stands, goes-on-weaker}
+use Rattle.js_machine_engine.proofs.StepLemmas.{row-told}
+use Rattle.js_machine_engine.proofs.step.step_row.Goals as goal
+
+pub returns-in-Gives-clause-told : goal.returns-in-Gives-clause-told
+returns-in-Gives-clause-told g c = λ taken.
+    let ts = c.args.names.now in
+    let t = c.args.table.now in
+    let root = c.args.root in
+    let old = c.args.stack.now in
+    let r = c.reduce-reduced.result in
+    let v = reduced.Gives c.in-Gives.value in
+    let s = state_of (g.W.World.world ts c.args.world.now) c.args.context.now taken in
+    let u = state_of (g.W.World.world ts c.reduce-reduced.new.world) c.reduce-reduced.new.context taken in
+    row-told ts t root old c.follow_value.new.stack c.follow_value.new.point c.in-Some.task c.values.result.now
+    c.extra-extra.result r
+    (answer_of r)
+    c.went_of.result s u u c.in-Some.ensures.some c.requires.row c.requires.scoped c.values.ensures
+    c.extra-extra.ensures refl
+    (λ outer. c.reduce-reduced.ensures outer taken)
+    (λ m h. went-follows c.follow_value.result c.went_of.result ts t root (outer_of old)
+    c.follow_value.new.stack c.follow_value.new.point m (λ names. reduced_term names t (innermost old) v)
+    u c.went_of.ensures (says-of ts t (innermost old) m r v u c.in-Gives.is h) c.follow_value.ensures.term)
+
+pub returns-in-Gives-clause-stands : goal.returns-in-Gives-clause-stands
+returns-in-Gives-clause-stands g c =
+    goes-on-weaker c.went_of.result (λ k. k c.requires.scoped)
+    (went-stands c.follow_value.result c.went_of.result c.args.table.now c.args.root c.args.stack.now
+    c.follow_value.new.stack c.follow_value.new.point c.went_of.ensures c.follow_value.ensures.at
+    c.follow_value.ensures.scoped)
+
+pub returns-in_default-reduced : goal.returns-in_default-reduced
+returns-in_default-reduced g c = record {
+  told = λ taken.
+      let ts = c.args.names.now in
+      let r = c.reduce-reduced.result in
+      let s = state_of (g.W.World.world ts c.args.world.now) c.args.context.now taken in
+      let u = state_of (g.W.World.world ts c.reduce-reduced.new.world) c.reduce-reduced.new.context taken in
+      let v = state_of (g.W.World.world ts c.leave_row.new.world) c.leave_row.new.context taken in
+      row-told ts c.args.table.now c.args.root c.args.stack.now c.leave_row.new.stack c.leave_row.new.point
+      c.in-Some.task c.values.result.now c.extra-extra.result r
+      (answer_of r)
+      c.leave_row.result s u v c.in-Some.ensures.some c.requires.row c.requires.scoped c.values.ensures
+      c.extra-extra.ensures refl
+      (λ outer. c.reduce-reduced.ensures outer taken)
+      (λ m h. c.leave_row.ensures.told taken m h);
+  stands = c.leave_row.ensures.stands;
+}

@@ -1,0 +1,174 @@
+//! Steps one after another.
+
+ghost use Rattle.std.specs.Prelude.{◌≡◌, ◌-◌, ◌≤◌, ℕ, List, true, Some, is_some};
+ghost use Rattle.js_semantics.specs.Run.{steps_in, run_of};
+ghost use Rattle.js_machine_actions.specs.Contexts.{state_of};
+ghost use Rattle.js_machine_nodes.specs.Codes.{HasFunctions};
+ghost use Rattle.js_machine_nodes.specs.Trees.{program_of, IsTable};
+ghost use Rattle.js_heap.specs.World.{World as AnyWorld};
+ghost use Rattle.js_machine_engine.specs.Points.{term_at, IsAt};
+ghost use Rattle.js_machine_engine.specs.Running.{why_of, RunsTo, RunsFor, CountsAs, IsAsked, HasPassed, passed_steps, asks_at, IfGoes};
+ghost use Rattle.js_machine_engine.specs.Stepping.{StandsIn};
+ghost use Rattle.js_machine_engine.specs.Prints.{PrintsAs, IsSilent, last_printed};
+
+use crate::rows::Rows;
+use crate::stack::Stack;
+use crate::step::step;
+use crate::stepped::{Finish, Stepped};
+use crate::task::Point;
+use js_heap::change::Counted;
+use js_heap::value::{Addr, Value};
+use js_heap_memory::names::Names;
+use js_heap_memory::world::World;
+use js_machine_actions::context::Context;
+use js_machine_nodes::table::NodeTable;
+use std::alloc::Global;
+
+/// Who is asked after each step that goes on whether the run stops there.
+///
+/// The answer depends on the residual term, without the texts of its names, and on the frames.
+pub trait Asks {
+    ghost use Rattle.std.specs.Prelude.{◌≡◌, List, ℕ, Bool};
+    ghost use Rattle.js_semantics.specs.Terms.{Term as AnyTerm};
+    ghost use Rattle.js_semantics.specs.State.{Frame as AnyFrame};
+    ghost use Rattle.js_machine_nodes.specs.Trees.{IsTable};
+    ghost use Rattle.js_machine_engine.specs.Points.{term_at, IsAt};
+
+    ghost stops: { Self → AnyTerm → List AnyFrame → Bool };
+
+    /// Whether the run stops where the machine stands now.
+    fn asks(&self, table: &NodeTable, context: &Context, stack: &Stack, point: Point) -> bool
+        requires table { IsTable table.now }
+        requires at { IsAt table.now stack.now point }
+        ensures { (names : List (List ℕ)) → result ≡ stops self.now (term_at names table.now stack.now point) context.now.frames };
+}
+
+/// Why a run stops.
+#[derive(Drop)]
+pub enum Why {
+    /// It was asked to.
+    Asked,
+    /// It has made as many steps as it may.
+    Spent,
+    /// A throw was raised, and stands.
+    Raised,
+    /// Values were printed.
+    Printed(Vec<Value>),
+    /// It has ended.
+    Over(Finish),
+    /// An evaluation ended: it would have reached what isn't its own.
+    Effect,
+    /// An evaluation ended: it would have passed a limit.
+    Full(Counted),
+    /// There was no memory for the last step.
+    Memory,
+}
+
+/// How many steps a run made, and why it stops.
+#[derive(Drop)]
+pub struct Ran {
+    pub steps: u64,
+    pub why: Why,
+}
+
+/// Whether a run stops behind a step.
+#[inline(always)]
+fn is_stop(stepped: &Stepped) -> bool
+    ensures { result ≡ is_some (why_of stepped.now) }
+{
+    match stepped {
+        Stepped::Went => false,
+        _ => true,
+    }
+}
+
+/// Why a run stops behind a step.
+fn why_of(stepped: Stepped) -> Why
+    requires { is_some (why_of stepped) ≡ true }
+    ensures { why_of stepped ≡ Some result }
+{
+    match stepped {
+        Stepped::Went => Why::Spent,
+        Stepped::Raised => Why::Raised,
+        Stepped::Printed(values) => Why::Printed(values),
+        Stepped::Over(finish) => Why::Over(finish),
+        Stepped::Effect => Why::Effect,
+        Stepped::Full(what) => Why::Full(what),
+        Stepped::Memory => Why::Memory,
+    }
+}
+
+/// Whether the host asks for a stop where the machine stands; it isn't asked where nothing is left to reduce.
+#[inline(always)]
+fn stops_at<H: Asks>(
+    host: &H,
+    table: &NodeTable,
+    context: &Context,
+    stack: &Stack,
+    point: Point,
+) -> bool
+    requires table { IsTable table.now }
+    requires at { IsAt table.now stack.now point }
+    ensures { (names : List (List ℕ)) (world : AnyWorld) (taken : List (List ℕ)) → result ≡ asks_at (H.stops host.now) (run_of (term_at names table.now stack.now point) (state_of world context.now taken)) }
+{
+    match point {
+        Point::Done(_) => false,
+        _ => host.asks(table, context, stack, point),
+    }
+}
+
+/// Steps until the host asks for a stop, until a raise, a print or the end, or until so many.
+pub fn run<T: Rows, W: World, H: Asks>(
+    alloc: Global,
+    table: &NodeTable,
+    names: &Names,
+    root: Addr,
+    context: &mut Context,
+    world: &mut W,
+    stack: &mut Stack,
+    point: &mut Point,
+    most: u64,
+    host: &H,
+) -> Ran
+    requires table { IsTable table.now }
+    requires functions { HasFunctions table.now }
+    requires stands { StandsIn table.now root stack.old point.old }
+    ensures told { (taken : List (List ℕ)) → RunsTo (steps_in result.steps (program_of names.now table.now) root (run_of (term_at names.now table.now stack.old point.old) (state_of (W.world names.now world.old) context.old taken))) result.why (term_at names.now table.now stack.new point.new) (state_of (W.world names.now world.new) context.new taken) }
+    // Each of the steps is one of a run that isn't over.
+    ensures left { (taken : List (List ℕ)) → RunsFor result.steps (program_of names.now table.now) root (run_of (term_at names.now table.now stack.old point.old) (state_of (W.world names.now world.old) context.old taken)) }
+    ensures stands { IfGoes result.why (StandsIn table.now root stack.new point.new) }
+    ensures within { result.steps ≤ most }
+    ensures counted { CountsAs result.why result.steps most }
+    // The host asked for a stop behind the last step, if that is the reason, and behind none before.
+    ensures asked { (taken : List (List ℕ)) → IsAsked (H.stops host.now) result.why (steps_in result.steps (program_of names.now table.now) root (run_of (term_at names.now table.now stack.old point.old) (state_of (W.world names.now world.old) context.old taken))) }
+    ensures passed { (taken : List (List ℕ)) → HasPassed (H.stops host.now) (passed_steps result.why result.steps) (program_of names.now table.now) root (run_of (term_at names.now table.now stack.old point.old) (state_of (W.world names.now world.old) context.old taken)) }
+    // The last step printed these values, if they are the reason, and nothing otherwise; no step before it printed.
+    ensures values { (taken : List (List ℕ)) → PrintsAs result.why (last_printed result.steps (program_of names.now table.now) root (run_of (term_at names.now table.now stack.old point.old) (state_of (W.world names.now world.old) context.old taken))) }
+    ensures silent { (taken : List (List ℕ)) → IsSilent (result.steps - 1) (program_of names.now table.now) root (run_of (term_at names.now table.now stack.old point.old) (state_of (W.world names.now world.old) context.old taken)) }
+{
+    for steps in 0..most {
+        if let Point::Done(value) = *point {
+            return Ran {
+                steps,
+                why: Why::Over(Finish::Ended(value)),
+            };
+        }
+        let stepped = step::<T, W>(alloc, table, names, root, context, world, stack, point);
+        if is_stop(&stepped) {
+            return Ran {
+                steps: steps + 1,
+                why: why_of(stepped),
+            };
+        }
+        if stops_at(host, table, context, stack, *point) {
+            return Ran {
+                steps: steps + 1,
+                why: Why::Asked,
+            };
+        }
+    }
+    Ran {
+        steps: most,
+        why: Why::Spent,
+    }
+}

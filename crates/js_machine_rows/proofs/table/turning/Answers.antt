@@ -1,0 +1,18 @@
+use Rattle.std.proofs.Common.{refl, slice_get, Some}
+use Rattle.js_machine_engine.specs.declared.task.Extra.TheVariants as extras
+use Rattle.js_machine_rows.proofs.TableLemmas.{turn-row}
+use Rattle.js_machine_rows.proofs.table.turning.Goals as goal
+
+pub returns-in-TurnOf : goal.returns-in-TurnOf
+returns-in-TurnOf g c =
+    let ts = c.args.names.now in
+    let v = g.W.World.world c.args.names.now c.args.world.now in
+    λ outer before.
+    turn-row ts c.args.table.now c.args.form c.args.values.now c.args.list c.args.index outer v
+    (g.W.World.world ts c.turn_of.new.world) c.args.context.now before c.turn_of.result
+    (slice_get c.args.table.now.for_ofs.items c.args.form.info) c.in-TurnOf.is refl c.turn_of.ensures
+
+pub returns-in-BodyOf : goal.returns-in-BodyOf
+returns-in-BodyOf g c =
+    c.turn_done.ensures c.args.names.now (Some (extras.Turn c.args.list c.args.index))
+    (g.W.World.world c.args.names.now c.args.world.now) c.args.context.now c.in-BodyOf.is

@@ -1,0 +1,50 @@
+-- The rows of the table of steps, by what each is told of and what it answers.
+use Rattle.std.specs.Prelude.{◌≡◌, ℕ, List, Option}
+use Rattle.js_heap.specs.declared.value.Addr.{Addr}
+use Rattle.js_heap.specs.declared.value.Value.{Value}
+use Rattle.js_heap.specs.declared.value.Value.TheVariants as values
+use Rattle.js_heap.specs.World.{World}
+use Rattle.js_machine_actions.specs.Contexts.{Context, state_of}
+use Rattle.js_machine_nodes.specs.declared.op.Op.{Op}
+use Rattle.js_machine_nodes.specs.declared.op.Op.TheVariants as ops
+use Rattle.js_machine_nodes.specs.declared.table.NodeTable.{NodeTable}
+use Rattle.js_machine_engine.specs.declared.reduced.Reduced.{Reduced}
+use Rattle.js_machine_engine.specs.declared.reduced.Reduced.TheVariants as reduced
+use Rattle.js_machine_engine.specs.declared.task.Extra.{Extra}
+use Rattle.js_machine_engine.specs.declared.task.Redex.{Redex}
+use Rattle.js_machine_engine.specs.Rows.{redex, RowOf}
+
+-- whatever the scope around it, and behind any texts that were taken
+abbrev pub IsRow : List (List ℕ)
+    → NodeTable
+    → Redex
+    → List Value
+    → Option Extra
+    → World
+    → Context
+    → Reduced
+    → World
+    → Context
+    → Type 0
+IsRow ts t form vs x v c r w d =
+    (outer : Addr) (before : List (List ℕ))
+    → RowOf ts t (redex form vs x) outer (state_of v c before) r (state_of w d before)
+
+-- the answer is the row's for any table, names and values, in every state
+abbrev pub IsRowAnywhere : Redex → Option Extra → Reduced → Type 0
+IsRowAnywhere form x r =
+    (ts : List (List ℕ)) (t : NodeTable) (vs : List Value) (v : World) (c : Context) → IsRow ts t form vs x v c r v c
+
+-- of a turn of a `for .. of`, whatever its list and its index
+abbrev pub IsTurnDone : NodeTable → Redex → List Value → Reduced → Type 0
+IsTurnDone t form vs r =
+    (ts : List (List ℕ)) (x : Option Extra) (v : World) (c : Context)
+    → form.op ≡ ops.BodyOf
+    → IsRow ts t form vs x v c r v c
+
+-- an assignment with an operator that has no part for its value; of all else there is no answer
+abbrev pub without_part : Op → Reduced
+without_part (ops.CompoundName o) = reduced.Gives values.Undefined
+without_part (ops.CompoundMember o) = reduced.Gives values.Undefined
+without_part (ops.CompoundIndex o) = reduced.Gives values.Undefined
+without_part op = reduced.Memory

@@ -1,0 +1,161 @@
+//! Rows of properties. Where a value is wanting that a row needs there is no answer.
+
+ghost use Rattle.std.specs.Prelude.{true};
+ghost use Rattle.js_heap.specs.declared.value.Value.TheVariants as value;
+ghost use Rattle.js_semantics.specs.State.{give};
+ghost use Rattle.js_semantics.specs.BuiltIns.{last_of};
+ghost use Rattle.js_semantics.specs.References.{with_result, with_written};
+ghost use Rattle.js_heap.specs.Properties.{property_deleted};
+ghost use Rattle.js_machine_actions.specs.Flow.{Passes};
+ghost use Rattle.js_heap_memory.specs.Names.{name_of};
+ghost use Rattle.js_machine_rows.specs.Does.{Replies};
+ghost use Rattle.js_machine_rows.specs.References.{member_result, index_result, member_put, index_put, member_removed, index_removed};
+
+use crate::answers::{replied, replied_with};
+use crate::reading::{index_value, member_value};
+use crate::values::value_at;
+use crate::writing::{put_index_value, put_member_value};
+use js_heap::value::Value;
+use js_heap_memory::names::{NameId, Names};
+use js_heap_memory::world::World;
+use js_machine_actions::action_end::ActionEnd;
+use js_machine_actions::lists::last_of;
+use js_machine_actions::properties::{remove_index, remove_property};
+use js_machine_engine::reduced::Reduced;
+use std::alloc::Global;
+
+// ---- reading
+
+/// A property with a fixed key that is read (ECMA-262, 13.3.2).
+#[inline(always)]
+pub fn read_member<W: World>(
+    alloc: Global,
+    world: &mut W,
+    names: &Names,
+    values: &[Value],
+    key: NameId,
+) -> Reduced
+    ensures { Replies names.now (with_result (member_result (W.world names.now world.old) values.now (name_of names.now key.number)) give) (W.world names.now world.old) result (W.world names.now world.new) }
+{
+    match value_at(values, 0) {
+        Some(object) => replied(member_value(alloc, world, names, object, key)),
+        None => Reduced::Memory,
+    }
+}
+
+/// A property with a computed key that is read.
+#[inline(always)]
+pub fn read_index<W: World>(
+    alloc: Global,
+    world: &mut W,
+    names: &Names,
+    values: &[Value],
+) -> Reduced
+    ensures { Replies names.now (with_result (index_result (W.world names.now world.old) values.now) give) (W.world names.now world.old) result (W.world names.now world.new) }
+{
+    let Some(object) = value_at(values, 0) else {
+        return Reduced::Memory;
+    };
+    let Some(index) = value_at(values, 1) else {
+        return Reduced::Memory;
+    };
+    replied(index_value(alloc, world, names, object, index))
+}
+
+// ---- assigning
+
+/// `=` to a property with a fixed key (13.15.2).
+#[inline(always)]
+pub fn assign_member<W: World>(
+    alloc: Global,
+    world: &mut W,
+    names: &Names,
+    values: &[Value],
+    key: NameId,
+) -> Reduced
+    ensures { Replies names.now (member_put (W.world names.now world.old) values.now (name_of names.now key.number) (last_of values.now) (give (last_of values.now))) (W.world names.now world.old) result (W.world names.now world.new) }
+{
+    let Some(object) = value_at(values, 0) else {
+        return Reduced::Memory;
+    };
+    let value = last_of(values);
+    replied_with(
+        put_member_value(alloc, world, names, object, key, value),
+        value,
+    )
+}
+
+/// `=` to a property with a computed key.
+#[inline(always)]
+pub fn assign_index<W: World>(
+    alloc: Global,
+    world: &mut W,
+    names: &Names,
+    values: &[Value],
+) -> Reduced
+    ensures { Replies names.now (index_put (W.world names.now world.old) values.now (last_of values.now) (give (last_of values.now))) (W.world names.now world.old) result (W.world names.now world.new) }
+{
+    let Some(object) = value_at(values, 0) else {
+        return Reduced::Memory;
+    };
+    let Some(index) = value_at(values, 1) else {
+        return Reduced::Memory;
+    };
+    let value = last_of(values);
+    replied_with(
+        put_index_value(alloc, world, names, object, index, value),
+        value,
+    )
+}
+
+// ---- deleting
+
+/// Deletes a property with a fixed key.
+fn delete_own<W: World>(
+    alloc: Global,
+    world: &mut W,
+    names: &Names,
+    object: Value,
+    key: NameId,
+) -> Result<(), ActionEnd>
+    ensures { Passes (with_written (property_deleted (W.world names.now world.old) object (name_of names.now key.number))) (W.world names.now world.old) result (W.world names.now world.new) }
+{
+    let text = names.text(key)?;
+    remove_property(alloc, world, names, object, text)
+}
+
+/// `delete` of a property with a fixed key (13.5.1.2).
+pub fn delete_member<W: World>(
+    alloc: Global,
+    world: &mut W,
+    names: &Names,
+    values: &[Value],
+    key: NameId,
+) -> Reduced
+    ensures { Replies names.now (member_removed (W.world names.now world.old) values.now (name_of names.now key.number) (give (value.Bool true))) (W.world names.now world.old) result (W.world names.now world.new) }
+{
+    let Some(object) = value_at(values, 0) else {
+        return Reduced::Memory;
+    };
+    let deleted = delete_own(alloc, world, names, object, key);
+    replied_with(deleted, Value::Bool(true))
+}
+
+/// `delete` of a property with a computed key.
+pub fn delete_index<W: World>(
+    alloc: Global,
+    world: &mut W,
+    names: &Names,
+    values: &[Value],
+) -> Reduced
+    ensures { Replies names.now (index_removed (W.world names.now world.old) values.now (give (value.Bool true))) (W.world names.now world.old) result (W.world names.now world.new) }
+{
+    let Some(object) = value_at(values, 0) else {
+        return Reduced::Memory;
+    };
+    let Some(index) = value_at(values, 1) else {
+        return Reduced::Memory;
+    };
+    let deleted = remove_index(alloc, world, names, object, index);
+    replied_with(deleted, Value::Bool(true))
+}

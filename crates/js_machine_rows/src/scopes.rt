@@ -1,0 +1,53 @@
+//! Scopes that are no function's.
+
+ghost use Rattle.std.specs.Prelude.{[]};
+ghost use Rattle.js_semantics.specs.Functions.{new_scope};
+ghost use Rattle.js_machine_nodes.specs.Trees.{trees};
+ghost use Rattle.js_heap_memory.specs.Cells.{bindings};
+ghost use Rattle.js_machine_actions.specs.Flow.{Yields};
+ghost use Rattle.js_machine_rows.specs.Over.{scope_declared};
+
+use crate::declared::with_functions;
+use js_heap::cell::ScopeKind;
+use js_heap::value::Addr;
+use js_heap_memory::names::Names;
+use js_heap_memory::stored::{FunctionName, Slot, Slots};
+use js_heap_memory::world::World;
+use js_machine_actions::action_end::ActionEnd;
+use js_machine_actions::functions::new_scope;
+use js_machine_nodes::table::NodeTable;
+use std::alloc::Global;
+
+/// Makes a scope with these names.
+pub fn nameless_scope<W: World>(
+    alloc: Global,
+    names: &Names,
+    world: &mut W,
+    kind: ScopeKind,
+    outer: Addr,
+    slots: &[Slot],
+) -> Result<Addr, ActionEnd>
+    ensures { Yields (new_scope kind [] outer (bindings names.now slots.now)) (W.world names.now world.old) result (W.world names.now world.new) }
+{
+    let slots = Slots::from_vec(Vec::from_slice(alloc, slots)?);
+    new_scope(world, names, kind, FunctionName::Empty, outer, slots)
+}
+
+/// Makes a scope with these names, and the functions among the parts from a place of the table's list up to another.
+pub fn scope_with<W: World>(
+    alloc: Global,
+    table: &NodeTable,
+    names: &Names,
+    world: &mut W,
+    kind: ScopeKind,
+    outer: Addr,
+    slots: &[Slot],
+    from: u32,
+    to: u32,
+) -> Result<Addr, ActionEnd>
+    ensures { Yields (scope_declared kind outer (bindings names.now slots.now) (trees names.now table.now from to)) (W.world names.now world.old) result (W.world names.now world.new) }
+{
+    let scope = nameless_scope(alloc, names, world, kind, outer, slots)?;
+    with_functions(alloc, world, names, table, scope, from, to)?;
+    Ok(scope)
+}

@@ -1,0 +1,451 @@
+//! The table of steps, over the rows.
+
+ghost use Rattle.std.specs.Prelude.{◌≡◌, Some, None, slice_get};
+ghost use Rattle.js_machine_nodes.specs.Codes.{HasFunctions};
+ghost use Rattle.js_machine_nodes.specs.Trees.{kids_between};
+ghost use Rattle.js_machine_engine.specs.declared.task.Extra.TheVariants as extras;
+ghost use Rattle.js_machine_rows.specs.Table.{IsRow, IsRowAnywhere, IsTurnDone, without_part};
+
+use crate::callees::{
+    callee_of_index, callee_of_member, callee_of_name, old_of_index, old_of_member, old_of_name,
+};
+use crate::calls::call;
+use crate::entries::call_entry;
+use crate::literals::{array, function, object};
+use crate::loops::{enter_for, enter_for_of, list_of, loop_body, loop_first, loop_test, turn_of};
+use crate::names::{assign_name, read_name, typeof_name};
+use crate::operators::{binary, unary};
+use crate::parts::part_at;
+use crate::properties::{
+    assign_index, assign_member, delete_index, delete_member, read_index, read_member,
+};
+use crate::simple::{comma, frame, last, returned, this, throw};
+use crate::statements::{
+    block, both, catch_named, catch_nameless, choose, either, enter, initialize, script,
+};
+use crate::updates::{is_prefix, operator_of, update_index, update_member, update_name};
+use js_heap::value::Value;
+use js_heap_memory::names::{NameId, Names};
+use js_heap_memory::world::World;
+use js_machine_actions::context::Context;
+use js_machine_actions::lists::last_of;
+use js_machine_engine::reduced::Reduced;
+use js_machine_engine::rows::Rows;
+use js_machine_engine::task::{Extra, Redex};
+use js_machine_nodes::node::CallEntry;
+use js_machine_nodes::op::Op;
+use js_machine_nodes::table::NodeTable;
+use js_semantics::form::Completion;
+use std::alloc::Global;
+
+/// The table of steps: one row for each form (see [`Rows`]).
+#[derive(Clone, Copy)]
+pub struct Table;
+
+/// What is reduced most often.
+#[inline(always)]
+fn frequent<W: World>(
+    alloc: Global,
+    table: &NodeTable,
+    names: &Names,
+    context: &mut Context,
+    world: &mut W,
+    form: Redex,
+    values: &[Value],
+) -> Reduced
+    requires { HasFunctions table.now }
+    ensures { IsRow names.now table.now form values.now None (W.world names.now world.old) context.old result (W.world names.now world.new) context.new }
+{
+    let name = NameId { number: form.info };
+    match form.op {
+        Op::ReadName => read_name(alloc, world, names, form.inner, name),
+        Op::Binary(operator) => binary(alloc, world, names, operator, values),
+        Op::Enter => enter(table, context, form),
+        Op::AssignName => assign_name(alloc, world, names, form.inner, name, last_of(values)),
+        Op::UpdateName(kind) => update_name(
+            alloc,
+            world,
+            names,
+            operator_of(kind),
+            is_prefix(kind),
+            form.inner,
+            name,
+        ),
+        Op::ReadMember => read_member(alloc, world, names, values, name),
+        Op::ReadIndex => read_index(alloc, world, names, values),
+        Op::AssignIndex => assign_index(alloc, world, names, values),
+        Op::Choose => choose(table, names, &*world, form, values),
+        Op::LoopTesting => loop_test(names, &*world, values),
+        Op::Return => returned(values),
+        Op::Call | Op::CallOfName | Op::CallOfMember | Op::CallOfIndex => calling(
+            alloc, table, names, context, world, form, values,
+        ),
+        _ => expression(alloc, table, names, context, world, form, values),
+    }
+}
+
+/// Expressions: operators, literals and functions.
+#[inline(never)]
+fn expression<W: World>(
+    alloc: Global,
+    table: &NodeTable,
+    names: &Names,
+    context: &mut Context,
+    world: &mut W,
+    form: Redex,
+    values: &[Value],
+) -> Reduced
+    ensures { IsRow names.now table.now form values.now None (W.world names.now world.old) context.old result (W.world names.now world.new) context.new }
+{
+    let name = NameId { number: form.info };
+    match form.op {
+        Op::Unary(operator) => unary(alloc, world, names, operator, values),
+        Op::This => this(&*context),
+        Op::TypeofName => typeof_name(alloc, world, names, form.inner, name),
+        Op::Both => both(table, names, &*world, form, values),
+        Op::Either => either(table, names, &*world, form, values),
+        Op::Comma => comma(table, form),
+        Op::Array => array(alloc, names, world, values),
+        Op::Function => function(alloc, table, names, &*context, world, form),
+        Op::Object => object(alloc, table, names, world, form, form.mid, values),
+        _ => writing(alloc, table, names, context, world, form, values),
+    }
+}
+
+/// Assignments, updates and deletions.
+#[inline(never)]
+fn writing<W: World>(
+    alloc: Global,
+    table: &NodeTable,
+    names: &Names,
+    context: &mut Context,
+    world: &mut W,
+    form: Redex,
+    values: &[Value],
+) -> Reduced
+    ensures { IsRow names.now table.now form values.now None (W.world names.now world.old) context.old result (W.world names.now world.new) context.new }
+{
+    let name = NameId { number: form.info };
+    match form.op {
+        Op::AssignMember => assign_member(alloc, world, names, values, name),
+        Op::UpdateMember(kind) => update_member(
+            alloc,
+            world,
+            names,
+            operator_of(kind),
+            is_prefix(kind),
+            values,
+            name,
+        ),
+        Op::UpdateIndex(kind) => update_index(
+            alloc,
+            world,
+            names,
+            operator_of(kind),
+            is_prefix(kind),
+            values,
+        ),
+        Op::DeleteName => Reduced::Gives(Value::Undefined),
+        Op::DeleteMember => delete_member(alloc, world, names, values, name),
+        Op::DeleteIndex => delete_index(alloc, world, names, values),
+        Op::CompoundName(_) | Op::CompoundMember(_) | Op::CompoundIndex(_) => compound(
+            alloc, table, names, context, world, form, values,
+        ),
+        _ => statement(alloc, table, names, context, world, form, values),
+    }
+}
+
+/// Scripts, blocks and declarations, and completions that travel outward.
+#[inline(always)]
+fn statement<W: World>(
+    alloc: Global,
+    table: &NodeTable,
+    names: &Names,
+    context: &mut Context,
+    world: &mut W,
+    form: Redex,
+    values: &[Value],
+) -> Reduced
+    ensures { IsRow names.now table.now form values.now None (W.world names.now world.old) context.old result (W.world names.now world.new) context.new }
+{
+    let name = NameId { number: form.info };
+    match form.op {
+        Op::Frame => frame(context),
+        Op::Block => block(alloc, table, names, world, form),
+        Op::Initialize => initialize(world, names, form.inner, name, values),
+        Op::Break => Reduced::Breaks,
+        Op::Continue => Reduced::Continues,
+        Op::Throw => throw(context, form.info, values),
+        Op::EnterDebugger => enter(table, context, form),
+        Op::Script => script(alloc, table, names, context, world, form),
+        Op::Ending => Reduced::Gives(Value::Undefined),
+        _ => looping(alloc, table, names, context, world, form, values),
+    }
+}
+
+/// Loops.
+#[inline(always)]
+fn looping<W: World>(
+    alloc: Global,
+    table: &NodeTable,
+    names: &Names,
+    context: &mut Context,
+    world: &mut W,
+    form: Redex,
+    values: &[Value],
+) -> Reduced
+    ensures { IsRow names.now table.now form values.now None (W.world names.now world.old) context.old result (W.world names.now world.new) context.new }
+{
+    match form.op {
+        Op::LoopBody => loop_body(alloc, names, world, form.info, form.inner),
+        Op::LoopFirst => loop_first(alloc, names, world, form.info, form.inner),
+        Op::LoopDoing => Reduced::Gives(Value::Undefined),
+        Op::LoopUpdating => Reduced::Gives(Value::Undefined),
+        Op::EnterFor => enter_for(alloc, table, names, context, world, form),
+        Op::EnterForOf => enter_for_of(alloc, table, names, context, world, form),
+        Op::ListOf => list_of(alloc, table, names, world, form, values),
+        _ => valued(alloc, table, names, context, world, form, values),
+    }
+}
+
+/// Forms that have no row of their own: they give their last value. Of all else there is no answer.
+fn valued<W: World>(
+    alloc: Global,
+    table: &NodeTable,
+    names: &Names,
+    context: &mut Context,
+    world: &mut W,
+    form: Redex,
+    values: &[Value],
+) -> Reduced
+    ensures { IsRow names.now table.now form values.now None (W.world names.now world.old) context.old result (W.world names.now world.new) context.new }
+{
+    match form.op {
+        Op::Sequence => last(values),
+        Op::Scoped => last(values),
+        Op::Scripts => last(values),
+        Op::Catching => last(values),
+        Op::CatchingName => last(values),
+        Op::Finishing => last(values),
+        _ => Reduced::Memory,
+    }
+}
+
+/// A call, or what is read before it.
+#[inline(always)]
+fn calling_with<W: World>(
+    alloc: Global,
+    table: &NodeTable,
+    names: &Names,
+    context: &mut Context,
+    world: &mut W,
+    form: Redex,
+    values: &[Value],
+    entry: CallEntry,
+) -> Reduced
+    requires functions { HasFunctions table.now }
+    requires found { Some entry ≡ slice_get table.now.calls.items form.info }
+    ensures { IsRow names.now table.now form values.now None (W.world names.now world.old) context.old result (W.world names.now world.new) context.new }
+{
+    match form.op {
+        Op::Call => call(alloc, table, names, context, world, entry.place, values),
+        Op::CallOfName => callee_of_name(alloc, world, names, form.inner, entry.name),
+        Op::CallOfMember => callee_of_member(alloc, world, names, values, entry.name),
+        Op::CallOfIndex => callee_of_index(alloc, world, names, values),
+        _ => Reduced::Memory,
+    }
+}
+
+/// A call, by its entry.
+#[inline(always)]
+fn calling<W: World>(
+    alloc: Global,
+    table: &NodeTable,
+    names: &Names,
+    context: &mut Context,
+    world: &mut W,
+    form: Redex,
+    values: &[Value],
+) -> Reduced
+    requires { HasFunctions table.now }
+    ensures { IsRow names.now table.now form values.now None (W.world names.now world.old) context.old result (W.world names.now world.new) context.new }
+{
+    match call_entry(table, form.info) {
+        Some(entry) => calling_with(alloc, table, names, context, world, form, values, entry),
+        None => Reduced::Memory,
+    }
+}
+
+/// The old value of an assignment with an operator.
+#[inline(always)]
+fn compound_with<W: World>(
+    alloc: Global,
+    table: &NodeTable,
+    names: &Names,
+    context: &mut Context,
+    world: &mut W,
+    form: Redex,
+    values: &[Value],
+    part: u32,
+) -> Reduced
+    requires { Some part ≡ slice_get (kids_between table.now form.mid form.end) 0 }
+    ensures { IsRow names.now table.now form values.now None (W.world names.now world.old) context.old result (W.world names.now world.new) context.new }
+{
+    let name = NameId { number: form.info };
+    match form.op {
+        Op::CompoundName(_) => old_of_name(alloc, world, names, form.inner, name),
+        Op::CompoundMember(_) => old_of_member(alloc, world, names, values, name),
+        Op::CompoundIndex(_) => old_of_index(alloc, world, names, values),
+        _ => Reduced::Memory,
+    }
+}
+
+/// An assignment with an operator that has no part for its value.
+fn without_part(op: Op) -> Reduced
+    ensures { result ≡ without_part op }
+{
+    match op {
+        Op::CompoundName(_) | Op::CompoundMember(_) | Op::CompoundIndex(_) => {
+            Reduced::Gives(Value::Undefined)
+        }
+        _ => Reduced::Memory,
+    }
+}
+
+/// An assignment with an operator, by the part that has its value.
+#[inline(always)]
+fn compound<W: World>(
+    alloc: Global,
+    table: &NodeTable,
+    names: &Names,
+    context: &mut Context,
+    world: &mut W,
+    form: Redex,
+    values: &[Value],
+) -> Reduced
+    ensures { IsRow names.now table.now form values.now None (W.world names.now world.old) context.old result (W.world names.now world.new) context.new }
+{
+    match part_at(table, form.mid, form.end, 0) {
+        Some(part) => compound_with(alloc, table, names, context, world, form, values, part),
+        None => without_part(form.op),
+    }
+}
+
+/// A `finally` that ran, and that keeps a completion.
+fn resumed(form: Redex, completion: Completion) -> Reduced
+    ensures { IsRowAnywhere form (Some (extras.Kept completion)) result }
+{
+    match form.op {
+        Op::Ending => Reduced::Resumes,
+        _ => Reduced::Memory,
+    }
+}
+
+/// A turn of a `for .. of` that is done gives its last value.
+fn turn_done(table: &NodeTable, form: Redex, values: &[Value]) -> Reduced
+    ensures { IsTurnDone table.now form values.now result }
+{
+    match table.for_of(form.info) {
+        Some(_) => last(values),
+        None => Reduced::Memory,
+    }
+}
+
+/// A `for .. of`, before a turn or behind one.
+fn turning<W: World>(
+    alloc: Global,
+    table: &NodeTable,
+    names: &Names,
+    context: &mut Context,
+    world: &mut W,
+    form: Redex,
+    values: &[Value],
+    list: Value,
+    index: u32,
+) -> Reduced
+    ensures { IsRow names.now table.now form values.now (Some (extras.Turn list index)) (W.world names.now world.old) context.old result (W.world names.now world.new) context.new }
+{
+    match form.op {
+        Op::TurnOf => turn_of(alloc, table, names, world, form, list, index),
+        Op::BodyOf => turn_done(table, form, values),
+        _ => Reduced::Memory,
+    }
+}
+
+/// An object literal behind a method with a computed key.
+fn behind_method<W: World>(
+    alloc: Global,
+    table: &NodeTable,
+    names: &Names,
+    context: &mut Context,
+    world: &mut W,
+    form: Redex,
+    values: &[Value],
+    from: u32,
+) -> Reduced
+    ensures { IsRow names.now table.now form values.now (Some (extras.Rest from)) (W.world names.now world.old) context.old result (W.world names.now world.new) context.new }
+{
+    match form.op {
+        Op::ObjectRest => object(alloc, table, names, world, form, from, values),
+        _ => Reduced::Memory,
+    }
+}
+
+/// What owns something apart from its values.
+#[inline(never)]
+fn owning<W: World>(
+    alloc: Global,
+    table: &NodeTable,
+    names: &Names,
+    context: &mut Context,
+    world: &mut W,
+    form: Redex,
+    values: &[Value],
+    extra: Extra,
+) -> Reduced
+    ensures { IsRow names.now table.now form values.now (Some extra) (W.world names.now world.old) context.old result (W.world names.now world.new) context.new }
+{
+    match extra {
+        Extra::Kept(completion) => resumed(form, completion),
+        Extra::Turn(list, index) => turning(
+            alloc, table, names, context, world, form, values, list, index,
+        ),
+        Extra::Rest(from) => behind_method(alloc, table, names, context, world, form, values, from),
+    }
+}
+
+impl Rows for Table {
+    #[inline(always)]
+    fn reduce<W: World>(
+        alloc: Global,
+        table: &NodeTable,
+        names: &Names,
+        context: &mut Context,
+        world: &mut W,
+        form: Redex,
+        values: &[Value],
+        extra: Option<Extra>,
+    ) -> Reduced {
+        match extra {
+            None => frequent(alloc, table, names, context, world, form, values),
+            Some(extra) => owning(alloc, table, names, context, world, form, values, extra),
+        }
+    }
+
+    fn catch<W: World>(
+        alloc: Global,
+        table: &NodeTable,
+        names: &Names,
+        context: &Context,
+        world: &mut W,
+        form: Redex,
+        thrown: Value,
+    ) -> Reduced {
+        let _ = context;
+        match form.op {
+            Op::Catching => catch_nameless(table, form),
+            Op::CatchingName => catch_named(alloc, table, names, world, form, thrown),
+            _ => Reduced::Memory,
+        }
+    }
+}

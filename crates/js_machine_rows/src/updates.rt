@@ -1,0 +1,383 @@
+//! Rows of `++` and `--`. Where a value is wanting that a row needs there is no answer.
+
+ghost use Rattle.std.specs.Prelude.{◌≡◌, IfOk, IfSome};
+ghost use Rattle.js_heap.specs.declared.value.Value.{Value as AnyValue};
+ghost use Rattle.js_heap.specs.declared.computed.Computed.TheVariants.{Value as a_value};
+ghost use Rattle.js_heap.specs.Operators.{update_result};
+ghost use Rattle.js_heap.specs.Properties.{property_of};
+ghost use Rattle.js_semantics.specs.State.{Action};
+ghost use Rattle.js_semantics.specs.References.{found, with_result};
+ghost use Rattle.js_semantics.specs.Rows.{updated_by, update_value};
+ghost use Rattle.js_machine_nodes.specs.Ops.{operator_of, is_prefix};
+ghost use Rattle.js_heap_memory.specs.Names.{name_of};
+ghost use Rattle.js_machine_actions.specs.Flow.{Gives};
+ghost use Rattle.js_machine_rows.specs.Does.{Replies};
+ghost use Rattle.js_machine_rows.specs.Updates.{on_update, property_updated, index_updated, member_updated, element_updated, old_updated, name_updated, unread};
+
+use crate::answers::{replied, replied_with};
+use crate::names::{open_slot, value_of_name};
+use crate::operators::{is_safe, quick_result};
+use crate::reading::{value_of_index, value_of_member};
+use crate::values::value_at;
+use crate::writing::{put_index_value, put_member_value};
+use cdp_text::units::{Units, ascii};
+use js_heap::built_in::ErrorClass;
+use js_heap::computed::Computed;
+use js_heap::value::{Addr, Value};
+use js_heap_memory::lookup::lookup;
+use js_heap_memory::names::{NameId, Names};
+use js_heap_memory::world::World;
+use js_heap_operators::operators::{key_of, update_result};
+use js_heap_operators::properties::property_of;
+use js_machine_actions::action_end::ActionEnd;
+use js_machine_actions::cells::bind_at;
+use js_machine_actions::errors::{bad_key, fail};
+use js_machine_actions::names::{get_name, put_name};
+use js_machine_actions::properties::put_property;
+use js_machine_actions::seen::Seen;
+use js_machine_engine::reduced::Reduced;
+use js_machine_nodes::op::UpdateKind;
+use js_tree_operators::operator::{BinaryOperator, UpdateOperator};
+use std::alloc::{AllocError, Global};
+
+/// The old value and the new one, or an error that isn't made yet.
+#[derive(Drop)]
+pub enum Update {
+    To(Value, Value),
+    Fails(ErrorClass, Units),
+}
+
+/// Whether `++` or `--`.
+pub fn operator_of(kind: UpdateKind) -> UpdateOperator
+    ensures { result ≡ operator_of kind }
+{
+    match kind {
+        UpdateKind::PrefixIncrement | UpdateKind::PostfixIncrement => UpdateOperator::Increment,
+        UpdateKind::PrefixDecrement | UpdateKind::PostfixDecrement => UpdateOperator::Decrement,
+    }
+}
+
+/// Whether it stands in front.
+pub fn is_prefix(kind: UpdateKind) -> bool
+    ensures { result ≡ is_prefix kind }
+{
+    match kind {
+        UpdateKind::PrefixIncrement | UpdateKind::PrefixDecrement => true,
+        UpdateKind::PostfixIncrement | UpdateKind::PostfixDecrement => false,
+    }
+}
+
+/// The value of an update: in front the new one, behind the old one (ECMA-262, 13.4).
+#[inline(always)]
+pub fn update_value(prefix: bool, old: Value, new: Value) -> Value
+    ensures { result ≡ update_value prefix old new }
+{
+    if prefix { new } else { old }
+}
+
+/// The new value of a number, where that is a safe integer.
+#[inline(always)]
+pub fn stepped(operator: UpdateOperator, old: Value) -> Option<Value>
+    ensures { IfSome result (λ new. update_result operator old ≡ a_value new) }
+{
+    match old {
+        Value::Number(_) => match operator {
+            UpdateOperator::Increment => {
+                quick_result(BinaryOperator::Add, old, Value::Number(1))
+            }
+            UpdateOperator::Decrement => {
+                quick_result(BinaryOperator::Subtract, old, Value::Number(1))
+            }
+        },
+        _ => None,
+    }
+}
+
+// ---- any value
+
+/// An old value with the new one (13.4.2 to 13.4.5). No number of a run is outside the safe integers.
+pub fn updated_value(
+    alloc: Global,
+    operator: UpdateOperator,
+    old: Value,
+) -> Result<Update, AllocError>
+    ensures { IfOk result (λ u. (k : AnyValue → AnyValue → Action) → with_result (update_result operator old) (k old) ≡ on_update u k) }
+{
+    if !is_safe(old) {
+        return Err(AllocError);
+    }
+    match update_result(alloc, operator, old)? {
+        Computed::Value(new) => Ok(Update::To(old, new)),
+        Computed::Text(_) => Err(AllocError),
+        Computed::Error(class, message) => Ok(Update::Fails(class, message)),
+    }
+}
+
+/// What was read with its new value; a text without a cell is no number.
+fn updated(alloc: Global, operator: UpdateOperator, read: Computed) -> Result<Update, AllocError>
+    ensures { IfOk result (λ u. (k : AnyValue → AnyValue → Action) → updated_by operator read k ≡ on_update u k) }
+{
+    match read {
+        Computed::Value(old) => updated_value(alloc, operator, old),
+        Computed::Text(_) => {
+            let message = ascii(alloc, b"Operands must be numbers")?;
+            Ok(Update::Fails(ErrorClass::TypeError, message))
+        }
+        Computed::Error(class, message) => Ok(Update::Fails(class, message)),
+    }
+}
+
+/// A property of an object with its new value.
+fn read_updated<W: World>(
+    alloc: Global,
+    world: &W,
+    names: &Names,
+    operator: UpdateOperator,
+    object: Value,
+    key: &[u16],
+) -> Result<Update, AllocError>
+    ensures { IfOk result (λ u. (k : AnyValue → AnyValue → Action) → updated_by operator (property_of (W.world names.now world.now) object key.now) k ≡ on_update u k) }
+{
+    let read = property_of(alloc, &Seen { names, world }, object, key)?;
+    updated(alloc, operator, read)
+}
+
+/// `++` and `--` of a property.
+fn update_property<W: World>(
+    alloc: Global,
+    world: &mut W,
+    names: &Names,
+    operator: UpdateOperator,
+    prefix: bool,
+    object: Value,
+    key: &[u16],
+) -> Result<Value, ActionEnd>
+    ensures { Gives (property_updated (W.world names.now world.old) operator prefix object key.now) (W.world names.now world.old) result (W.world names.now world.new) }
+{
+    match read_updated(alloc, world, names, operator, object, key)? {
+        Update::To(old, new) => {
+            put_property(alloc, world, names, object, key, new)?;
+            Ok(update_value(prefix, old, new))
+        }
+        Update::Fails(class, message) => Err(fail(alloc, world, names, class, message)),
+    }
+}
+
+/// `++` and `--` of a property with a computed key.
+pub fn update_index_slowly<W: World>(
+    alloc: Global,
+    world: &mut W,
+    names: &Names,
+    operator: UpdateOperator,
+    prefix: bool,
+    object: Value,
+    index: Value,
+) -> Result<Value, ActionEnd>
+    ensures { Gives (index_updated (W.world names.now world.old) operator prefix object index) (W.world names.now world.old) result (W.world names.now world.new) }
+{
+    let key = key_of(
+        alloc,
+        &Seen {
+            names,
+            world: &*world,
+        },
+        index,
+    )?;
+    match key {
+        Some(key) => update_property(
+            alloc,
+            world,
+            names,
+            operator,
+            prefix,
+            object,
+            key.as_slice(),
+        ),
+        None => Err(bad_key(alloc, world, names)),
+    }
+}
+
+// ---- rows of properties
+
+/// `++` and `--` of a property with a fixed key of any value, looked up by the key's text.
+#[cold]
+#[inline(never)]
+fn update_member_slowly<W: World>(
+    alloc: Global,
+    world: &mut W,
+    names: &Names,
+    operator: UpdateOperator,
+    prefix: bool,
+    object: Value,
+    key: NameId,
+) -> Result<Value, ActionEnd>
+    ensures { Gives (property_updated (W.world names.now world.old) operator prefix object (name_of names.now key.number)) (W.world names.now world.old) result (W.world names.now world.new) }
+{
+    let text = names.text(key)?;
+    update_property(alloc, world, names, operator, prefix, object, text)
+}
+
+/// `++` and `--` of a property with a fixed key of an object.
+fn update_member_of<W: World>(
+    alloc: Global,
+    world: &mut W,
+    names: &Names,
+    operator: UpdateOperator,
+    prefix: bool,
+    object: Value,
+    key: NameId,
+) -> Reduced
+    ensures { Replies names.now (property_updated (W.world names.now world.old) operator prefix object (name_of names.now key.number)) (W.world names.now world.old) result (W.world names.now world.new) }
+{
+    if let Some(old) = value_of_member(world, names, object, key) {
+        if let Some(new) = stepped(operator, old) {
+            let given = update_value(prefix, old, new);
+            let written = put_member_value(alloc, world, names, object, key, new);
+            return replied_with(written, given);
+        }
+    }
+    replied(update_member_slowly(alloc, world, names, operator, prefix, object, key))
+}
+
+/// `++` and `--` of a property with a computed key of an object.
+fn update_index_of<W: World>(
+    alloc: Global,
+    world: &mut W,
+    names: &Names,
+    operator: UpdateOperator,
+    prefix: bool,
+    object: Value,
+    index: Value,
+) -> Reduced
+    ensures { Replies names.now (index_updated (W.world names.now world.old) operator prefix object index) (W.world names.now world.old) result (W.world names.now world.new) }
+{
+    if let Some(old) = value_of_index(world, names, object, index) {
+        if let Some(new) = stepped(operator, old) {
+            let given = update_value(prefix, old, new);
+            let written = put_index_value(alloc, world, names, object, index, new);
+            return replied_with(written, given);
+        }
+    }
+    replied(update_index_slowly(alloc, world, names, operator, prefix, object, index))
+}
+
+/// `++` and `--` of a property with a fixed key (13.4).
+pub fn update_member<W: World>(
+    alloc: Global,
+    world: &mut W,
+    names: &Names,
+    operator: UpdateOperator,
+    prefix: bool,
+    values: &[Value],
+    key: NameId,
+) -> Reduced
+    ensures { Replies names.now (member_updated (W.world names.now world.old) operator prefix values.now (name_of names.now key.number)) (W.world names.now world.old) result (W.world names.now world.new) }
+{
+    match value_at(values, 0) {
+        Some(object) => update_member_of(alloc, world, names, operator, prefix, object, key),
+        None => Reduced::Memory,
+    }
+}
+
+/// `++` and `--` of a property with a computed key.
+pub fn update_index<W: World>(
+    alloc: Global,
+    world: &mut W,
+    names: &Names,
+    operator: UpdateOperator,
+    prefix: bool,
+    values: &[Value],
+) -> Reduced
+    ensures { Replies names.now (element_updated (W.world names.now world.old) operator prefix values.now) (W.world names.now world.old) result (W.world names.now world.new) }
+{
+    let Some(object) = value_at(values, 0) else {
+        return Reduced::Memory;
+    };
+    let Some(index) = value_at(values, 1) else {
+        return Reduced::Memory;
+    };
+    update_index_of(alloc, world, names, operator, prefix, object, index)
+}
+
+// ---- rows of names
+
+/// `++` and `--` of a name with this value.
+fn update_old_name<W: World>(
+    alloc: Global,
+    world: &mut W,
+    names: &Names,
+    operator: UpdateOperator,
+    prefix: bool,
+    scope: Addr,
+    name: NameId,
+    old: Value,
+) -> Result<Value, ActionEnd>
+    ensures { Gives (old_updated operator prefix (name_of names.now name.number) (found (W.world names.now world.old) scope (name_of names.now name.number)) old) (W.world names.now world.old) result (W.world names.now world.new) }
+{
+    match updated_value(alloc, operator, old)? {
+        Update::To(old, new) => {
+            put_name(alloc, world, names, scope, name, new)?;
+            Ok(update_value(prefix, old, new))
+        }
+        Update::Fails(class, message) => Err(fail(alloc, world, names, class, message)),
+    }
+}
+
+/// The end of a reading that gives no value.
+fn unread(outcome: Result<Value, ActionEnd>) -> ActionEnd
+    ensures { result ≡ unread outcome }
+{
+    match outcome {
+        Ok(_) => ActionEnd::Memory,
+        Err(stop) => stop,
+    }
+}
+
+/// `++` and `--` of a name by the general calls, or the error of a name without a value.
+#[cold]
+#[inline(never)]
+fn update_name_slowly<W: World>(
+    alloc: Global,
+    world: &mut W,
+    names: &Names,
+    operator: UpdateOperator,
+    prefix: bool,
+    scope: Addr,
+    name: NameId,
+) -> Result<Value, ActionEnd>
+    ensures { Gives (name_updated operator prefix (name_of names.now name.number) (found (W.world names.now world.old) scope (name_of names.now name.number))) (W.world names.now world.old) result (W.world names.now world.new) }
+{
+    match value_of_name(world, names, scope, name) {
+        Some(old) => update_old_name(alloc, world, names, operator, prefix, scope, name, old),
+        None => {
+            let outcome = get_name(alloc, world, names, scope, name);
+            Err(unread(outcome))
+        }
+    }
+}
+
+/// `++` and `--` of a name (13.4).
+#[inline(always)]
+pub fn update_name<W: World>(
+    alloc: Global,
+    world: &mut W,
+    names: &Names,
+    operator: UpdateOperator,
+    prefix: bool,
+    scope: Addr,
+    name: NameId,
+) -> Reduced
+    ensures { Replies names.now (name_updated operator prefix (name_of names.now name.number) (found (W.world names.now world.old) scope (name_of names.now name.number))) (W.world names.now world.old) result (W.world names.now world.new) }
+{
+    let found = lookup(world, names, scope, name);
+    if let Some(slot) = open_slot(found) {
+        if let Some(old) = slot.value {
+            if let Some(new) = stepped(operator, old) {
+                let given = update_value(prefix, old, new);
+                let written = bind_at(world, names, slot.scope, slot.place, name, new);
+                return replied_with(written, given);
+            }
+        }
+    }
+    replied(update_name_slowly(alloc, world, names, operator, prefix, scope, name))
+}

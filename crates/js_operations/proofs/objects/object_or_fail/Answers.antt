@@ -1,4 +1,0 @@
-use Rattle.js_operations.proofs.objects.object_or_fail.Goals as goal
-
-pub returns-in-None : goal.returns-in-None
-returns-in-None g c = rw c.in-None.is c.fail_with.ensures

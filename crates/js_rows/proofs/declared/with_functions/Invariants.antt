@@ -1,7 +1,0 @@
-use Rattle.js_rows.proofs.DeclaredLemmas.{FunctionsLeft}
-use Rattle.js_rows.proofs.declared.with_functions.Given as goal
-
-abbrev pub invariant-loop-part : goal.invariant-loop-part
-invariant-loop-part g l =
-    FunctionsLeft l.names l.table l.scope l.parts (g.W.World.world l.names l.initial.world) l.part-index
-    (g.W.World.world l.names l.world)

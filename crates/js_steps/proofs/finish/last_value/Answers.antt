@@ -1,5 +1,0 @@
-use Rattle.js_steps.proofs.ClosingLemmas.{last-some}
-use Rattle.js_steps.proofs.finish.last_value.Goals as goal
-
-pub returns-in-Some : goal.returns-in-Some
-returns-in-Some c = last-some c.args.values.now c.in-Some.value.now c.in-Some.ensures.value

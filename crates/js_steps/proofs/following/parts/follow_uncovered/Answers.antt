@@ -1,9 +1,0 @@
-use Rattle.std.proofs.lemmas.Result.{on_ok_weaker}
-use Rattle.js_steps.proofs.FollowLemmas.{scopes-popped}
-use Rattle.js_steps.proofs.following.parts.follow_uncovered.Goals as goal
-
-pub returns-clause-scoped : goal.returns-clause-scoped
-returns-clause-scoped c =
-    on_ok_weaker c.uncover.result
-    (λ d. λ s. d (scopes-popped c.args.table.now c.args.root c.args.stack.now c.pop.new.self c.pop.ensures.outer s))
-    c.uncover.ensures.scoped

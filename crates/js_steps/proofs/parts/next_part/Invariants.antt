@@ -1,5 +1,0 @@
-use Rattle.js_steps.specs.Parts.{IsTaken}
-use Rattle.js_steps.proofs.parts.next_part.Given as goal
-
-abbrev pub invariant-loop-at : goal.invariant-loop-at
-invariant-loop-at l = IsTaken l.table l.fn.stack l.stack l.at

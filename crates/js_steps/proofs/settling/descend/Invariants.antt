@@ -1,8 +1,0 @@
-use Rattle.js_steps.specs.Settling.{IsOnWay}
-use Rattle.js_steps.proofs.settling.descend.Given as goal
-
-abbrev pub invariant-loop-point : goal.invariant-loop-point
-invariant-loop-point l = IsOnWay l.table l.fn.stack l.fn.node l.inner l.stack l.n
-
-abbrev pub decreases-loop-point : goal.decreases-loop-point
-decreases-loop-point l = l.n

@@ -1,9 +1,0 @@
-use Rattle.std.proofs.Common.{length}
-use Rattle.js_steps.specs.Settling.{IsOnWayOut}
-use Rattle.js_steps.proofs.settling.give.Given as goal
-
-abbrev pub invariant-loop-task : goal.invariant-loop-task
-invariant-loop-task l = IsOnWayOut l.table l.fn.stack l.fn.value l.stack l.given
-
-abbrev pub decreases-loop-task : goal.decreases-loop-task
-decreases-loop-task l = length l.stack

@@ -1,7 +1,0 @@
-use Rattle.js_steps.proofs.StackLemmas.{owned-view}
-use Rattle.js_steps.proofs.stack.Stack.last.Goals as goal
-
-pub returns-clause-owned : goal.returns-clause-owned
-returns-clause-owned c =
-    let s = c.self.inside in
-    owned-view s.tasks.items s.values.items s.extras.items c.args.self.now c.self.view_is

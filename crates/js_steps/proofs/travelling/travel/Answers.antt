@@ -1,4 +1,0 @@
-use Rattle.js_steps.proofs.travelling.travel.Goals as goal
-
-pub take-requires-clause-scoped : goal.take-requires-clause-scoped
-take-requires-clause-scoped g c = c.pass_outward.ensures.passed.scoped c.args.root c.requires.scoped

@@ -1,6 +1,0 @@
-use Rattle.std.proofs.Common.{◌≡◌, map, take}
-use Rattle.js_syntax.specs.Places as spec
-use Rattle.js_syntax.proofs.nodes.Nodes.spans_within.Given as goal
-
-abbrev pub invariant-loop-span : goal.invariant-loop-span
-invariant-loop-span l = l.items.items ≡ map (spec.cut_at l.end) (take l.span-index l.span-items)

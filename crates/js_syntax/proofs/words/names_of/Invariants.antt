@@ -1,6 +1,0 @@
-use Rattle.std.proofs.Common.{◌≡◌, take}
-use Rattle.js_syntax.specs.Names.{texts}
-use Rattle.js_syntax.proofs.words.names_of.Given as goal
-
-abbrev pub invariant-loop-name : goal.invariant-loop-name
-invariant-loop-name l = l.copies.items ≡ texts (take l.name-index l.names)

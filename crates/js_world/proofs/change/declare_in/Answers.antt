@@ -1,4 +1,0 @@
-use Rattle.js_world.proofs.change.declare_in.Goals as goal
-
-pub returns-clause-within : goal.returns-clause-within
-returns-clause-within c = c.declare.ensures.within

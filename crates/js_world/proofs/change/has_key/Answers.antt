@@ -1,6 +1,0 @@
-use Rattle.js_world.proofs.WeightLemmas.{has-found}
-use Rattle.js_world.proofs.change.has_key.Goals as goal
-
-pub returns : goal.returns
-returns c =
-    has-found c.find.result c.args.properties.now c.args.key.now c.is_some.result c.find.ensures c.is_some.ensures

@@ -1,6 +1,0 @@
-use Rattle.std.proofs.Common.{◌≡◌, drop}
-use Rattle.js_world.specs.Heaps.{all_below}
-use Rattle.js_world.proofs.heap.all_below.Given as goal
-
-abbrev pub invariant-loop-slot : goal.invariant-loop-slot
-invariant-loop-slot l = all_below l.slots l.end ≡ all_below (drop l.slot-index l.slots) l.end

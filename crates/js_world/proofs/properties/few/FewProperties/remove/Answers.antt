@@ -1,5 +1,0 @@
-use Rattle.js_world.proofs.PropertyOrderLemmas.{order-remove}
-use Rattle.js_world.proofs.properties.few.FewProperties.remove.Goals as goal
-
-pub invariant_of-self : goal.invariant_of-self
-invariant_of-self c = rw c.remove.ensures.items (order-remove c.self.inside.items.items c.args.place c.self.invariant)

@@ -1,6 +1,0 @@
-use Rattle.std.proofs.Common.{take}
-use Rattle.js_world.specs.PropertyOrder.{AreKeysOf}
-use Rattle.js_world.proofs.properties.named.names_of.Given as goal
-
-abbrev pub invariant-loop-property : goal.invariant-loop-property
-invariant-loop-property l = AreKeysOf l.keys.keys (take l.property-index l.properties)

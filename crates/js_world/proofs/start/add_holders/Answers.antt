@@ -1,7 +1,0 @@
-use Rattle.js_world.proofs.StartLemmas.{cells-then}
-use Rattle.js_world.proofs.start.add_holders.Goals as goal
-
-pub returns : goal.returns
-returns c =
-    λ names. cells-then _ _ _ _ _ _ (c.in_ok-add_holder.ensures names)
-    (cells-then _ _ _ _ _ _ (c.in_ok-add_holder-2.ensures names) (c.in_ok-add_holder-3.ensures names))

@@ -1,8 +1,0 @@
-use Rattle.js_world.proofs.StartLemmas.{goes-then}
-use Rattle.js_world.proofs.start.add_names.Goals as goal
-
-pub returns-in_err-add_name : goal.returns-in_err-add_name
-returns-in_err-add_name c = goes-then _ _ _ c.loop-i.invariant c.add_name.ensures
-
-pub loop-i-preserved : goal.loop-i-preserved
-loop-i-preserved c = goes-then _ _ _ c.loop-i.invariant c.add_name.ensures

@@ -1,6 +1,0 @@
-use Rattle.std.proofs.Common.{map, string_bytes, ap}
-use Rattle.session_messages.proofs.OutboxSizes.{outbox-none}
-use Rattle.session_messages.proofs.outbox.Outbox.new.Goals as goal
-
-pub invariant_of-result : goal.invariant_of-result
-invariant_of-result c = outbox-none _ (ap (map string_bytes) c.new.ensures.items)
