@@ -400,7 +400,7 @@ PROGRAM = r"""// Runs programs by the machine.
 
 use cdp_text::units::{Units, units_of};
 use js_machine::end::End;
-use js_machine::plain::{Outcome, run_scripts};
+use js_machine::plain::{PlainRun, run_scripts};
 use js_machine_actions::shown::shown;
 use js_parser::parse::parse_script;
 use js_machine_engine::stepped::Finish;
@@ -452,7 +452,7 @@ fn answer(alloc: Global, source: &str) -> Result<String, AllocError> {
 }
 
 /// Appends how a run ended.
-fn push_end(alloc: Global, line: &mut String, outcome: &Outcome) -> Result<(), AllocError> {
+fn push_end(alloc: Global, line: &mut String, outcome: &PlainRun) -> Result<(), AllocError> {
     match outcome.machine.finished() {
         None => line.push_str("running"),
         Some(Finish::Ended(_)) => line.push_str("ended"),

@@ -6,7 +6,7 @@ use Rattle.std.proofs.lemmas.Bool.{true_from_ne_false}
 use Rattle.cdp_text.specs.declared.position.Place.{Place}
 use Rattle.breakpoints.specs.declared.breakpoint.Breakpoint.{Breakpoint}
 use Rattle.breakpoints.specs.Hits.{hits_in, stands_at}
-use Rattle.breakpoints.specs.Breakpoints.{State, hits_at, is_hit}
+use Rattle.breakpoints.specs.Breakpoints.{HeldBreakpoints, hits_at, is_hit}
 
 -- ---- a test and the filter by it
 
@@ -46,12 +46,12 @@ none-where : (active : Bool) (place : Place) (bs : List Breakpoint)
 none-where true place bs h = none-stay (stands_at place) bs h
 none-where false place bs h = refl
 
-pub is_hit-some : (place : Place) (s : State) → is_hit place s ≡ true → hits_at place s ≢ []
+pub is_hit-some : (place : Place) (s : HeldBreakpoints) → is_hit place s ≡ true → hits_at place s ≢ []
 is_hit-some place s h = hit-where s.active place s.set h
 
-pub is_hit-none : (place : Place) (s : State) → is_hit place s ≡ false → hits_at place s ≡ []
+pub is_hit-none : (place : Place) (s : HeldBreakpoints) → is_hit place s ≡ false → hits_at place s ≡ []
 is_hit-none place s h = none-where s.active place s.set h
 
 -- a place is hit exactly where a breakpoint at it is
-pub is_hit-iff : (place : Place) (s : State) → IsTrue (is_hit place s) ↔ (hits_at place s ≢ [])
+pub is_hit-iff : (place : Place) (s : HeldBreakpoints) → IsTrue (is_hit place s) ↔ (hits_at place s ≢ [])
 is_hit-iff place s = (is_hit-some place s, λ h. true_from_ne_false (is_hit place s) (λ e. h (is_hit-none place s e)))

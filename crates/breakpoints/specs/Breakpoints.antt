@@ -12,7 +12,7 @@ use Rattle.breakpoints.specs.Hits.{hits_in, stands_at}
 use Rattle.breakpoints.specs.declared.breakpoints.TheConstants.{MOST}
 
 -- the breakpoints in the order in which they were set, and whether they stop the program
-pub record State : Type 0 where
+pub record HeldBreakpoints : Type 0 where
   pub set : List Breakpoint
   pub active : Bool
 
@@ -21,7 +21,7 @@ abbrev pub most : ℕ
 most = MOST
 
 -- no breakpoint is set; those that come will stop the program
-abbrev pub none_set : State
+abbrev pub none_set : HeldBreakpoints
 none_set = record { set = []; active = true }
 
 -- a breakpoint has this id
@@ -31,18 +31,18 @@ has_id id b = bytes_eq b.id id
 -- ---- setting
 
 -- why no breakpoint of this id is set, if none is
-abbrev pub fault_of : List ℕ → State → Option AddFault
+abbrev pub fault_of : List ℕ → HeldBreakpoints → Option AddFault
 fault_of id s =
     if list_any (has_id id) s.set then Some (faults.Exists id) else if nat_le most (length s.set) then Some
     (faults.Full most) else None
 
 -- why none is set at a place, by the place to which it resolves, if there is one
-abbrev pub fault_for : Option Place → Place → State → Option AddFault
+abbrev pub fault_for : Option Place → Place → HeldBreakpoints → Option AddFault
 fault_for None place s = Some faults.Unresolved
 fault_for (Some resolved) place s = fault_of (place_id place) s
 
 -- why no breakpoint is set at a place of one of these scripts, if none is
-abbrev pub fault_at : Place → List Script → State → Option AddFault
+abbrev pub fault_at : Place → List Script → HeldBreakpoints → Option AddFault
 fault_at place scripts s = fault_for (resolved_at place scripts) place s
 
 -- what is answered where this is the fault, or none is; want of memory says nothing
@@ -52,7 +52,7 @@ Answers fault (Err faults.Memory) = Unit {0}
 Answers fault (Err f) = fault ≡ Some f
 
 -- one breakpoint more
-abbrev pub with_breakpoint : Breakpoint → State → State
+abbrev pub with_breakpoint : Breakpoint → HeldBreakpoints → HeldBreakpoints
 with_breakpoint b s = record s { set = s.set ++ b ∷ [] }
 
 -- a breakpoint of this id and condition, which resolved to these places
@@ -66,17 +66,17 @@ abbrev pub has_another_id : List ℕ → Breakpoint → Bool
 has_another_id id b = not (has_id id b)
 
 -- without the breakpoint of this id, if there is one
-abbrev pub without : List ℕ → State → State
+abbrev pub without : List ℕ → HeldBreakpoints → HeldBreakpoints
 without id s = record s { set = filter (has_another_id id) s.set }
 
 -- ---- hits
 
 -- where breakpoints aren't active, none is hit
-abbrev pub hits_at : Place → State → List Breakpoint
+abbrev pub hits_at : Place → HeldBreakpoints → List Breakpoint
 hits_at place s = if s.active then hits_in place s.set else []
 
 -- an active breakpoint stands at a place
-abbrev pub is_hit : Place → State → Bool
+abbrev pub is_hit : Place → HeldBreakpoints → Bool
 is_hit place s = s.active && list_any (stands_at place) s.set
 
 -- the id of a breakpoint

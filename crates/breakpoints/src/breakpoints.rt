@@ -35,9 +35,9 @@ pub struct Breakpoints {
 }
 
 impl Model for Breakpoints {
-    ghost use Rattle.breakpoints.specs.Breakpoints.{State};
+    ghost use Rattle.breakpoints.specs.Breakpoints.{HeldBreakpoints};
 
-    ghost Value = { State };
+    ghost Value = { HeldBreakpoints };
 
     ghost view = { λ b. record { set = b.list.items; active = b.active } };
 

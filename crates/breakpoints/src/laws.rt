@@ -2,9 +2,9 @@
 
 ghost use Rattle.std.specs.Prelude.{◌≢◌, ◌↔◌, [], IsTrue};
 ghost use Rattle.cdp_text.specs.declared.position.Place.{Place};
-ghost use Rattle.breakpoints.specs.Breakpoints.{State, hits_at, is_hit};
+ghost use Rattle.breakpoints.specs.Breakpoints.{HeldBreakpoints, hits_at, is_hit};
 
 /// A place is hit exactly where there is a breakpoint at it to be hit.
 pub fn a_place_is_hit_by_breakpoints()
-    ensures { (place : Place) (s : State) → IsTrue (is_hit place s) ↔ (hits_at place s ≢ []) }
+    ensures { (place : Place) (s : HeldBreakpoints) → IsTrue (is_hit place s) ↔ (hits_at place s ≢ []) }
 {}

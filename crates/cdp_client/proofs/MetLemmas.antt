@@ -5,7 +5,7 @@ use Rattle.std.proofs.lemmas.Slice.Eq.{bytes_eq-Decides}
 use Rattle.cdp_edge_server.specs.Heard as heard
 use Rattle.cdp_edge_server.specs.Heard.{Heard}
 use Rattle.cdp_client.specs.Lines.{Command, Line, Send, Wait}
-use Rattle.cdp_client.specs.Arrivals.{Arrival, Reply, Event, Other, arrival_of}
+use Rattle.cdp_client.specs.Arrivals.{ArrivedText, Reply, Event, Other, arrival_of}
 use Rattle.cdp_client.specs.Talks.{Course, Talk, after, command_first, course_heard, goes_on, hears, is_wait_for, next_command, sends, silent, talk_from, turns, without_wait}
 use Rattle.cdp_client.specs.Waits.{events_of, is_event_of, is_of, one_if, waits_for}
 
@@ -54,7 +54,7 @@ by-event method other lines false is = as-many method other lines is ∙ omega a
 
 -- ---- an answer
 
-met-arrival : (method : List ℕ) (course : Course) (arrival : Arrival)
+met-arrival : (method : List ℕ) (course : Course) (arrival : ArrivedText)
     → waits_for method (after course arrival).lines ≡ waits_for method course.lines - one_if (is_of method arrival)
 met-arrival method course (Reply command) = omega arith
 met-arrival method course (Event None) = omega arith

@@ -9,7 +9,7 @@ use Rattle.cdp_edge_server.specs.Heard as heard
 use Rattle.cdp_edge_server.specs.Heard.{Heard}
 use Rattle.cdp_text.specs.Parts.{Halves, behind, halves}
 use Rattle.cdp_client.specs.Lines.{Command, Line, Send, Wait, command_from, is_method, is_object, led_by, line_from, line_of, line_of_text, next_id, read_from}
-use Rattle.cdp_client.specs.Arrivals.{Arrival, Reply, Event, Other, arrival_of, event_of, has_id, read_arrival, unasked, value_arrival}
+use Rattle.cdp_client.specs.Arrivals.{ArrivedText, Reply, Event, Other, arrival_of, event_of, has_id, read_arrival, unasked, value_arrival}
 use Rattle.cdp_client.specs.Talks.{Course, Talk, after, command_first, course_heard, goes_on, hears, is_wait_for, next_command, sends, silent, start, talk_from, turns, without_wait}
 use Rattle.cdp_client.specs.Numbers.{AreNumbered, is_answered, is_reply, replies_in}
 use Rattle.cdp_client.specs.Waits.{one_if}
@@ -97,7 +97,7 @@ without-order (Some command) replies method lines are =
 -- ---- arrivals
 
 -- a reply is to the command that is awaited
-abbrev pub IsTo : Option Command → Arrival → Type 0
+abbrev pub IsTo : Option Command → ArrivedText → Type 0
 IsTo awaited (Reply command) = awaited ≡ Some command
 IsTo awaited (Event method) = Unit {0}
 IsTo awaited Other = Unit {0}
@@ -111,7 +111,7 @@ unasked-by : (awaited : Option Command) (b : Bool) (method : Option Data)
 unasked-by awaited true method = tt
 unasked-by awaited false method = event-to awaited method
 
-asked-by : (command : Command) (b : Bool) (unasked_for : Arrival) → IsTo (Some command) unasked_for
+asked-by : (command : Command) (b : Bool) (unasked_for : ArrivedText) → IsTo (Some command) unasked_for
     → IsTo (Some command) (if b then Reply command else unasked_for)
 asked-by command true unasked_for to = refl
 asked-by command false unasked_for to = to
@@ -129,7 +129,7 @@ read-to awaited (Some value) = value-to awaited value
 
 -- ---- one step of a talk
 
-after-order : (course : Course) (arrival : Arrival) → IsTo course.awaited arrival → IsInOrder course
+after-order : (course : Course) (arrival : ArrivedText) → IsTo course.awaited arrival → IsInOrder course
     → IsInOrder (after course arrival) × ((after course arrival).replies ≡ course.replies + one_if (is_reply arrival))
 after-order course (Reply command) to order =
     let asked = subst (λ (o : Option Command). IsNumbered o course.replies course.lines) to order in (

@@ -5,7 +5,7 @@ use Rattle.serde_json.specs.Read.{read}
 use Rattle.cdp_edge_server.specs.Heard as heard
 use Rattle.cdp_edge_server.specs.Heard.{Heard}
 use Rattle.cdp_client.specs.Lines.{Command, Line, Send, Wait}
-use Rattle.cdp_client.specs.Arrivals.{Arrival, Reply, Event, Other, arrival_of}
+use Rattle.cdp_client.specs.Arrivals.{ArrivedText, Reply, Event, Other, arrival_of}
 use Rattle.cdp_client.specs.Talks.{Course, Talk, after, command_first, command_text, course_heard, goes_on, hears, is_wait_for, next_command, sends, silent, start, talk_from, turns, without_wait}
 use Rattle.cdp_client.specs.Numbers.{is_answered, is_reply, replies_in, texts_of}
 use Rattle.cdp_client.specs.Waits.{one_if}
@@ -27,7 +27,7 @@ without-texts method [] = refl
 without-texts method (line ∷ lines) =
     without-text method line lines (is_wait_for method line) refl (without-texts method lines)
 
-after-texts : (course : Course) (arrival : Arrival) → texts_of (after course arrival).lines ≡ texts_of course.lines
+after-texts : (course : Course) (arrival : ArrivedText) → texts_of (after course arrival).lines ≡ texts_of course.lines
 after-texts course (Reply command) = refl
 after-texts course (Event None) = refl
 after-texts course (Event (Some method)) = without-texts method course.lines
@@ -81,7 +81,7 @@ in-order course answers =
 abbrev awaits : Course → ℕ
 awaits course = one_if (is_some course.awaited)
 
-after-awaits : (course : Course) (arrival : Arrival) → IsTo course.awaited arrival
+after-awaits : (course : Course) (arrival : ArrivedText) → IsTo course.awaited arrival
     → awaits (after course arrival) + one_if (is_reply arrival) ≡ awaits course
 after-awaits course (Reply command) to = ap (λ o. one_if (is_some o)) (sym to)
 after-awaits course (Event None) to = omega arith

@@ -3,7 +3,7 @@ use Rattle.std.specs.Prelude.{◌≡◌, ℕ, ◌+◌, List, [], ◌∷◌, Bool
 use Rattle.cdp_edge_server.specs.Heard as heard
 use Rattle.cdp_edge_server.specs.Heard.{Heard}
 use Rattle.cdp_client.specs.Lines.{Line, Send, Wait}
-use Rattle.cdp_client.specs.Arrivals.{Arrival, Reply, Event, Other, arrival_of}
+use Rattle.cdp_client.specs.Arrivals.{ArrivedText, Reply, Event, Other, arrival_of}
 use Rattle.cdp_client.specs.Talks.{Course, Talk, command_text, turns}
 use Rattle.cdp_client.specs.Waits.{one_if}
 
@@ -14,7 +14,7 @@ AreNumbered id (Send command ∷ lines) = (command.id ≡ id) × AreNumbered (id
 AreNumbered id (Wait method ∷ lines) = AreNumbered id lines
 
 -- what arrives is the reply that is awaited
-abbrev pub is_reply : Arrival → Bool
+abbrev pub is_reply : ArrivedText → Bool
 is_reply (Reply command) = true
 is_reply (Event method) = false
 is_reply Other = false

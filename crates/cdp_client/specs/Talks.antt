@@ -4,7 +4,7 @@ use Rattle.json.specs.Print.{quoted}
 use Rattle.cdp_edge_server.specs.Heard as heard
 use Rattle.cdp_edge_server.specs.Heard.{Heard}
 use Rattle.cdp_client.specs.Lines.{Command, Line, Send, Wait}
-use Rattle.cdp_client.specs.Arrivals.{Arrival, Reply, Event, Other, arrival_of, line_written}
+use Rattle.cdp_client.specs.Arrivals.{ArrivedText, Reply, Event, Other, arrival_of, line_written}
 
 -- ---- how far a conversation has come
 
@@ -72,7 +72,7 @@ without_wait method (line ∷ lines) = if is_wait_for method line then lines els
 
 -- the course after a text that is this. A reply is to the command of the last number so far. An event meets the first
 -- wait for its method that is not met, so the k-th wait is met by the k-th event.
-abbrev pub after : Course → Arrival → Course
+abbrev pub after : Course → ArrivedText → Course
 after course (Reply command) = record course { awaited = None; replies = command.id }
 after course (Event None) = course
 after course (Event (Some method)) = record course { lines = without_wait method course.lines }

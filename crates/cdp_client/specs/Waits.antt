@@ -3,7 +3,7 @@ use Rattle.std.specs.Prelude.{ℕ, ◌+◌, List, [], ◌∷◌, Bool, true, fal
 use Rattle.cdp_edge_server.specs.Heard as heard
 use Rattle.cdp_edge_server.specs.Heard.{Heard}
 use Rattle.cdp_client.specs.Lines.{Line}
-use Rattle.cdp_client.specs.Arrivals.{Arrival, Reply, Event, Other, arrival_of}
+use Rattle.cdp_client.specs.Arrivals.{ArrivedText, Reply, Event, Other, arrival_of}
 use Rattle.cdp_client.specs.Talks.{Course, Talk, is_wait_for, turns}
 
 -- one where a test holds
@@ -17,7 +17,7 @@ waits_for method [] = 0
 waits_for method (line ∷ lines) = one_if (is_wait_for method line) + waits_for method lines
 
 -- what arrives is an event of this method
-abbrev pub is_of : List ℕ → Arrival → Bool
+abbrev pub is_of : List ℕ → ArrivedText → Bool
 is_of method (Reply command) = false
 is_of method (Event None) = false
 is_of method (Event (Some other)) = bytes_eq other method

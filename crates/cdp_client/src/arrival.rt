@@ -12,7 +12,7 @@ use serde_json::Value;
 
 /// What a text that arrives is.
 #[derive(Clone, Copy)]
-pub(crate) enum Arrival<'c, 'v> {
+pub(crate) enum ArrivedText<'c, 'v> {
     /// The reply to this command.
     Reply(Command<'c>),
     /// An event, of this method where that is a text.
@@ -32,26 +32,29 @@ fn has_id(value: &Value, id: u64) -> bool
 }
 
 /// What a value is that is no reply.
-fn unasked<'c, 'v>(value: &'v Value) -> Arrival<'c, 'v>
+fn unasked<'c, 'v>(value: &'v Value) -> ArrivedText<'c, 'v>
     ensures { arrival_held result ≡ unasked (view value.now) }
 {
     if value.get("id").is_some() {
-        return Arrival::Other;
+        return ArrivedText::Other;
     }
     match value.get("method") {
-        Some(method) => Arrival::Event(method.as_str()),
-        None => Arrival::Other,
+        Some(method) => ArrivedText::Event(method.as_str()),
+        None => ArrivedText::Other,
     }
 }
 
 /// What a value is where the reply to this command is awaited, if one is.
-pub(crate) fn arrival_of<'c, 'v>(value: &'v Value, awaited: Option<Command<'c>>) -> Arrival<'c, 'v>
+pub(crate) fn arrival_of<'c, 'v>(
+    value: &'v Value,
+    awaited: Option<Command<'c>>,
+) -> ArrivedText<'c, 'v>
     ensures { arrival_held result ≡ value_arrival (option_map command_held awaited.entry) (view value.now) }
 {
     match awaited {
         Some(command) => {
             if has_id(value, command.id) {
-                Arrival::Reply(command)
+                ArrivedText::Reply(command)
             } else {
                 unasked(value)
             }

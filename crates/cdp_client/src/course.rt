@@ -10,7 +10,7 @@ ghost use Rattle.cdp_client.specs.Arrivals.{line_written, value_arrival};
 ghost use Rattle.cdp_client.specs.LineRead.{command_held, line_held};
 ghost use Rattle.cdp_client.specs.Talks.{after, course_heard, is_over, is_wait_for, lines_heard, next_command, start, taken, without_wait};
 
-use crate::arrival::{Arrival, arrival_of};
+use crate::arrival::{ArrivedText, arrival_of};
 use crate::line::{Command, Line};
 use crate::texts::line_written;
 use crate::values::value_of;
@@ -116,17 +116,17 @@ impl<'c> Course<'c> {
     }
 
     /// Goes on after a text that is this.
-    fn go_on(&mut self, arrival: &Arrival<'_, '_>)
+    fn go_on(&mut self, arrival: &ArrivedText<'_, '_>)
         ensures { self.new ≡ after self.old (arrival_held arrival.now) }
     {
         match arrival {
-            Arrival::Reply(command) => {
+            ArrivedText::Reply(command) => {
                 self.awaited = None;
                 self.replies = command.id;
             }
-            Arrival::Event(Some(method)) => take_wait(&mut self.lines, *method),
-            Arrival::Event(None) => {}
-            Arrival::Other => {}
+            ArrivedText::Event(Some(method)) => take_wait(&mut self.lines, *method),
+            ArrivedText::Event(None) => {}
+            ArrivedText::Other => {}
         }
     }
 
@@ -152,7 +152,7 @@ impl<'c> Course<'c> {
     {
         match value_of(alloc, text)? {
             Some(value) => self.hear_value(alloc, &value, text),
-            None => line_written(alloc, &Arrival::Other, text),
+            None => line_written(alloc, &ArrivedText::Other, text),
         }
     }
 }

@@ -10,7 +10,7 @@ ghost use Rattle.cdp_client.specs.Arrivals.{front_of, line_written};
 ghost use Rattle.cdp_client.specs.LineRead.{command_held};
 ghost use Rattle.cdp_client.specs.Talks.{command_text, params_text};
 
-use crate::arrival::Arrival;
+use crate::arrival::ArrivedText;
 use crate::line::Command;
 use cdp_journal::escape;
 use std::alloc::{AllocError, Global};
@@ -49,17 +49,17 @@ pub(crate) fn command_text(alloc: Global, command: &Command<'_>) -> Result<Strin
 }
 
 /// What stands before a text that arrives on its line: `reply N METHOD `, `event ` or `other `.
-fn front_of(alloc: Global, arrival: &Arrival<'_, '_>) -> Result<String, AllocError>
+fn front_of(alloc: Global, arrival: &ArrivedText<'_, '_>) -> Result<String, AllocError>
     ensures { IfOk result (λ front. string_bytes front ≡ front_of (arrival_held arrival.now)) }
 {
     match arrival {
-        Arrival::Reply(command) => {
+        ArrivedText::Reply(command) => {
             let id = command.id;
             let method = command.method;
             format!(in alloc; "reply {id} {method} ")
         }
-        Arrival::Event(_) => String::from_str(alloc, "event "),
-        Arrival::Other => String::from_str(alloc, "other "),
+        ArrivedText::Event(_) => String::from_str(alloc, "event "),
+        ArrivedText::Other => String::from_str(alloc, "other "),
     }
 }
 
@@ -74,7 +74,7 @@ fn put_rest(alloc: Global, line: &mut String, text: &str) -> Result<(), AllocErr
 /// The line that is written of a text that arrives, with its LF.
 pub(crate) fn line_written(
     alloc: Global,
-    arrival: &Arrival<'_, '_>,
+    arrival: &ArrivedText<'_, '_>,
     text: &str,
 ) -> Result<String, AllocError>
     ensures { IfOk result (λ line. string_bytes line ≡ ended (line_written (arrival_held arrival.now) text.now ∷ [])) }

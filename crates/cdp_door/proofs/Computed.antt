@@ -7,9 +7,9 @@ use Rattle.cdp_door.specs.Answers.{answer_of}
 use Rattle.cdp_door.specs.Keys.{is_key, accept_of}
 use Rattle.cdp_door.specs.Requests.{Asked}
 use Rattle.cdp_door.specs.Texts.{body_of}
-use Rattle.cdp_door.specs.declared.answer.Answer.TheVariants.{Page, Upgrade, Refusal}
+use Rattle.cdp_door.specs.declared.answer.Response.TheVariants.{Page, Upgrade, Refusal}
 use Rattle.cdp_door.specs.declared.answer.Page.TheVariants.{Version, Scripts}
-use Rattle.cdp_door.specs.declared.answer.Refusal.TheVariants.{BadRequest, MethodNotAllowed, NotFound, Forbidden, UpgradeRequired}
+use Rattle.cdp_door.specs.declared.answer.ErrorStatus.TheVariants.{BadRequest, MethodNotAllowed, NotFound, Forbidden, UpgradeRequired}
 use Rattle.httparse.specs.Grammar.{trim_ows}
 
 -- the accept value of the example of RFC 6455, section 1.3

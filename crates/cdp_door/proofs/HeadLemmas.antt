@@ -13,7 +13,7 @@ use Rattle.httparse.specs.declared.spans.RequestSpans.{RequestSpans}
 use Rattle.cdp_door.specs.Answers.{answer_of}
 use Rattle.cdp_door.specs.Greetings.{Owes, answer_without_head}
 use Rattle.cdp_door.specs.Requests.{asked_by, asked_at}
-use Rattle.cdp_door.specs.declared.answer.Answer.{Answer}
+use Rattle.cdp_door.specs.declared.answer.Response.{Response}
 
 -- ---- how many fields a head can have
 
@@ -96,7 +96,7 @@ asked-is buf headers r h at =
     λ i. record { minor = at.version i; method = at.method i; target = at.path i; fields = at.fields i }
 
 -- the answer to a head
-pub owes-head : (buf : List ℕ) (headers : List HeaderSpan) (r : RequestSpans) (answer : Answer)
+pub owes-head : (buf : List ℕ) (headers : List HeaderSpan) (r : RequestSpans) (answer : Response)
     → IsRequestOf buf headers r → answer ≡ answer_of (asked_at buf headers r) → Owes buf (Some answer)
 owes-head buf headers r answer (h, at) is =
     inl (h, drop r.len buf, at.reads, is ∙ ap answer_of (asked-is buf headers r h at))
@@ -106,7 +106,7 @@ pub owes-more : (buf : List ℕ) → HasNoRequest buf → MayBecomeRequest buf �
 owes-more buf none may short = (record { no_head = none; may_become = may }, short)
 
 -- the answer to too many bytes
-pub owes-long : (buf : List ℕ) (answer : Answer) → HasNoRequest buf → ¬ (length buf < 8_192) → length buf ≤ 8_192
+pub owes-long : (buf : List ℕ) (answer : Response) → HasNoRequest buf → ¬ (length buf < 8_192) → length buf ≤ 8_192
     → answer ≡ answer_without_head buf → Owes buf (Some answer)
 owes-long buf answer none long short is = inr ((none, λ other. absurd (other (omega (arith, long, short)))), is)
 
@@ -119,7 +119,7 @@ abbrev failed : Error → Result (Status RequestSpans) Error
 failed e = Err e
 
 -- the answer to bytes that are no request
-pub owes-bad : (buf : List ℕ) (room : ℕ) (e : Error) (answer : Answer)
+pub owes-bad : (buf : List ℕ) (room : ℕ) (e : Error) (answer : Response)
     → (e ≢ error.TooManyHeaders → NeverHasRequest buf)
     → (failed e ≡ failed error.TooManyHeaders → RequestExceeds room buf)
     → room ≡ 2_730 → length buf ≤ 8_192 → answer ≡ answer_without_head buf → Owes buf (Some answer)

@@ -7,11 +7,11 @@ use Rattle.cdp_edge.specs.Outside.{gains, GainsLess}
 use Rattle.cdp_edge_wire.specs.Arrived.{Arrived, Byte, Quiet, End, adds}
 use Rattle.cdp_door.specs.Greetings.{Traffic, Gave, Took, Came, Comes, Hears, Looks, Owes, IsAnswerTo, IsUnfinished, IsReadInTime, Stops, Greets, Writes, WritesLess, bytes_of}
 use Rattle.cdp_door.specs.Texts.{text_of}
-use Rattle.cdp_door.specs.declared.answer.Answer.{Answer}
+use Rattle.cdp_door.specs.declared.answer.Response.{Response}
 use Rattle.cdp_door.specs.declared.greeting.Greeted.{Greeted}
 use Rattle.cdp_door.specs.declared.greeting.Greeted.TheVariants as greeted
-use Rattle.cdp_door.specs.declared.hear.Heard.{Heard}
-use Rattle.cdp_door.specs.declared.hear.Heard.TheVariants as heard
+use Rattle.cdp_door.specs.declared.hear.HeadEnd.{HeadEnd}
+use Rattle.cdp_door.specs.declared.hear.HeadEnd.TheVariants as heard
 
 -- ---- answers of a wire
 
@@ -114,7 +114,7 @@ pub looks-on : (old mid new : Traffic) (bytes after : List ℕ)
 looks-on old mid new bytes after came (unfinished, comes) = came-more old mid new bytes after came unfinished comes
 
 -- what is owed to bytes that were read in time is owed to a whole head or to none
-owed-in-time : (bytes : List ℕ) (answer : Answer) → IsReadInTime bytes → Owes bytes (Some answer)
+owed-in-time : (bytes : List ℕ) (answer : Response) → IsReadInTime bytes → Owes bytes (Some answer)
     → length bytes ≤ 8_192 → IsAnswerTo bytes answer
 owed-in-time bytes answer in_time (inr other) short = (short, inr other)
 owed-in-time bytes answer in_time (inl (head, [], reads, is)) short = (short, inl (head, reads, is))
@@ -127,7 +127,7 @@ pub byte-present : (byte : ℕ) → Byte byte ≢ End
 byte-present byte same = cc
 
 -- the reading ends
-pub looks-end : (old mid new : Traffic) (bytes after : List ℕ) (end : Heard)
+pub looks-end : (old mid new : Traffic) (bytes after : List ℕ) (end : HeadEnd)
     → Came old mid bytes → Looks (Some end) bytes after mid new → Hears end old new
 looks-end old mid new bytes after (heard.Answer answer) came (owes, short, same) =
     (bytes, subst (λ t. Came old t bytes) (sym same) came, owed-in-time bytes answer came.took.in_time owes short)
@@ -158,11 +158,11 @@ looks-end old mid new bytes after heard.Memory came (inr (unfinished, more, come
     (more, came-more old mid new bytes more came unfinished comes)
 
 -- an end is the end that it is
-pub same-end : (end other : Heard) → Some end ≡ Some other → end ≡ other
+pub same-end : (end other : HeadEnd) → Some end ≡ Some other → end ≡ other
 same-end end other same = cc
 
 -- no end is none
-pub no-end : (end : Heard) → None ≢ Some end
+pub no-end : (end : HeadEnd) → None ≢ Some end
 no-end end same = cc
 
 -- ---- the greeting
@@ -178,7 +178,7 @@ took-same old mid new bytes took same = record {
 }
 
 -- an answer of which a part was written
-stops-less : (old mid new : Traffic) (port : ℕ) (url bytes : List ℕ) (answer : Answer)
+stops-less : (old mid new : Traffic) (port : ℕ) (url bytes : List ℕ) (answer : Response)
     → Came old mid bytes → IsAnswerTo bytes answer → WritesLess mid new (text_of port url answer)
     → new.answers ≡ mid.answers → Stops old new port url
 stops-less old mid new port url bytes answer came owed (inl same) answers = record {
@@ -193,7 +193,7 @@ stops-less old mid new port url bytes answer came owed (inr less) answers = reco
 }
 
 -- an answer was owed, and written or not
-pub greets-said : (old mid new : Traffic) (port : ℕ) (url : List ℕ) (answer : Answer) (result : Greeted)
+pub greets-said : (old mid new : Traffic) (port : ℕ) (url : List ℕ) (answer : Response) (result : Greeted)
     → Hears (heard.Answer answer) old mid → Writes result answer (text_of port url answer) mid new
     → new.answers ≡ mid.answers → Greets result port url old new
 greets-said old mid new port url answer greeted.Upgraded (bytes, came, owed) (ends, written) answers = record {

@@ -3,13 +3,13 @@ use Rattle.std.specs.Prelude.{◌≡◌, ◌≢◌, ◌<◌, ◌≤◌, ◌⊎�
 use Rattle.httparse.specs.Grammar.{RequestHead, ReadsRequest, HasNoRequest, NeverHasRequest, MayBecomeRequest}
 use Rattle.cdp_edge.specs.Outside.{gains, GainsLess}
 use Rattle.cdp_edge_wire.specs.Arrived.{Arrived, Byte, Quiet, End, adds}
-use Rattle.cdp_door.specs.declared.answer.Answer.{Answer}
-use Rattle.cdp_door.specs.declared.answer.Answer.TheVariants.{Refusal}
-use Rattle.cdp_door.specs.declared.answer.Refusal.TheVariants.{HeadTooLarge, BadRequest}
+use Rattle.cdp_door.specs.declared.answer.Response.{Response}
+use Rattle.cdp_door.specs.declared.answer.Response.TheVariants.{Refusal}
+use Rattle.cdp_door.specs.declared.answer.ErrorStatus.TheVariants.{HeadTooLarge, BadRequest}
 use Rattle.cdp_door.specs.declared.greeting.Greeted.{Greeted}
 use Rattle.cdp_door.specs.declared.greeting.Greeted.TheVariants.{Upgraded, Answered, Closed, Fault, Memory}
-use Rattle.cdp_door.specs.declared.hear.Heard.{Heard}
-use Rattle.cdp_door.specs.declared.hear.Heard.TheVariants as heard
+use Rattle.cdp_door.specs.declared.hear.HeadEnd.{HeadEnd}
+use Rattle.cdp_door.specs.declared.hear.HeadEnd.TheVariants as heard
 use Rattle.cdp_door.specs.Answers.{answer_to}
 use Rattle.cdp_door.specs.Texts.{text_of, status_of}
 
@@ -47,7 +47,7 @@ pub record Took (old new : Traffic) (bytes : List ℕ) : Type 0 where
   pub in_time : IsReadInTime bytes
 
 -- the answer to bytes that are no head and will be none: there are too many, or they are no request
-abbrev pub answer_without_head : List ℕ → Answer
+abbrev pub answer_without_head : List ℕ → Response
 answer_without_head bytes =
     if length bytes == 8_192 then Refusal HeadTooLarge else Refusal BadRequest
 
@@ -56,14 +56,14 @@ abbrev pub IsNoHead : List ℕ → Type 0
 IsNoHead bytes = HasNoRequest bytes × (length bytes ≢ 8_192 → NeverHasRequest bytes)
 
 -- the answer that is owed to these bytes: to a whole head, to 8,192 bytes that hold none, and to fewer that never will
-abbrev pub IsAnswerTo : List ℕ → Answer → Type 0
+abbrev pub IsAnswerTo : List ℕ → Response → Type 0
 IsAnswerTo bytes answer =
     (length bytes ≤ 8_192)
     × (((head : RequestHead) × ReadsRequest bytes head [] × (answer ≡ answer_to head))
     ⊎ (IsNoHead bytes × (answer ≡ answer_without_head bytes)))
 
 -- the answer that is owed to bytes that begin with a head, or are none; or they are unfinished, and more can be read
-abbrev pub Owes : List ℕ → Option Answer → Type 0
+abbrev pub Owes : List ℕ → Option Response → Type 0
 Owes bytes (Some answer) =
     ((head : RequestHead) × (rest : List ℕ) × ReadsRequest bytes head rest × (answer ≡ answer_to head))
     ⊎ (IsNoHead bytes × (answer ≡ answer_without_head bytes))
@@ -86,7 +86,7 @@ pub record Ends (old new : Traffic) (count : ℕ) : Type 0 where
   pub nothing : new.content ≡ old.content
 
 -- what was heard, by how it ended
-abbrev pub Hears : Heard → Traffic → Traffic → Type 0
+abbrev pub Hears : HeadEnd → Traffic → Traffic → Type 0
 Hears (heard.Answer answer) old new = (bytes : List ℕ) × Came old new bytes × IsAnswerTo bytes answer
 Hears (heard.Closed taken) old new = Ends old new taken
 Hears heard.Fault old new = (bytes : List ℕ) × Came old new bytes
@@ -101,7 +101,7 @@ pub record Comes (bytes after : List ℕ) (old new : Traffic) : Type 0 where
   pub nothing : new.content ≡ old.content
 
 -- what one look at bytes and wire does: an answer is owed; or they are unfinished, and the wire is asked
-abbrev pub Looks : Option Heard → List ℕ → List ℕ → Traffic → Traffic → Type 0
+abbrev pub Looks : Option HeadEnd → List ℕ → List ℕ → Traffic → Traffic → Type 0
 Looks None bytes after old new = IsUnfinished bytes × Comes bytes after old new
 Looks (Some (heard.Answer answer)) bytes after old new = Owes bytes (Some answer) × (length bytes ≤ 8_192) × (new ≡ old)
 Looks (Some (heard.Closed taken)) bytes after old new =
@@ -113,7 +113,7 @@ Looks (Some heard.Memory) bytes after old new =
 -- ---- the answer
 
 -- how a greeting ends whose answer was written
-abbrev pub EndsWith : Greeted → Answer → Type 0
+abbrev pub EndsWith : Greeted → Response → Type 0
 EndsWith Upgraded answer = status_of answer ≡ 101
 EndsWith (Answered status) answer = (status ≡ status_of answer) × (status ≢ 101)
 EndsWith (Closed taken) answer = ⊥
@@ -125,7 +125,7 @@ abbrev pub WritesLess : Traffic → Traffic → List ℕ → Type 0
 WritesLess old new text = (new.content ≡ old.content) ⊎ GainsLess old.content new.content text
 
 -- what was written of an answer, by how the greeting ended
-abbrev pub Writes : Greeted → Answer → List ℕ → Traffic → Traffic → Type 0
+abbrev pub Writes : Greeted → Response → List ℕ → Traffic → Traffic → Type 0
 Writes Upgraded answer text old new = EndsWith Upgraded answer × (new.content ≡ gains old.content text)
 Writes (Answered status) answer text old new =
     EndsWith (Answered status) answer × (new.content ≡ gains old.content text)
@@ -136,7 +136,7 @@ Writes Memory answer text old new = WritesLess old new text
 -- bytes came, and their answer was written
 pub record Answers (result : Greeted) (old new : Traffic) (port : ℕ) (url : List ℕ) : Type 0 where
   pub bytes : List ℕ
-  pub answer : Answer
+  pub answer : Response
   pub took : Took old new bytes
   pub owed : IsAnswerTo bytes answer
   pub ends : EndsWith result answer
@@ -147,7 +147,7 @@ pub record Stops (old new : Traffic) (port : ℕ) (url : List ℕ) : Type 0 wher
   pub bytes : List ℕ
   pub took : Took old new bytes
   pub written : (new.content ≡ old.content)
-      ⊎ ((answer : Answer) × IsAnswerTo bytes answer × GainsLess old.content new.content (text_of port url answer))
+      ⊎ ((answer : Response) × IsAnswerTo bytes answer × GainsLess old.content new.content (text_of port url answer))
 
 -- what was done, by how it ended
 abbrev pub Greets : Greeted → ℕ → List ℕ → Traffic → Traffic → Type 0

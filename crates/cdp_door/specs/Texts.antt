@@ -1,12 +1,12 @@
 -- The bytes of an answer (RFC 9112 for its form).
 use Rattle.std.specs.Prelude.{ℕ, List, ◌++◌, length, codes, decimal}
 use Rattle.json.specs.Print.{quoted}
-use Rattle.cdp_door.specs.declared.answer.Answer.{Answer}
-use Rattle.cdp_door.specs.declared.answer.Answer.TheVariants.{Page, Upgrade, Refusal}
+use Rattle.cdp_door.specs.declared.answer.Response.{Response}
+use Rattle.cdp_door.specs.declared.answer.Response.TheVariants.{Page, Upgrade, Refusal}
 use Rattle.cdp_door.specs.declared.answer.Page.{Page as Topic}
 use Rattle.cdp_door.specs.declared.answer.Page.TheVariants.{Version, Scripts}
-use Rattle.cdp_door.specs.declared.answer.Refusal.{Refusal as Reason}
-use Rattle.cdp_door.specs.declared.answer.Refusal.TheVariants.{HeadTooLarge, BadRequest, MethodNotAllowed, NotFound, Forbidden, UpgradeRequired}
+use Rattle.cdp_door.specs.declared.answer.ErrorStatus.{ErrorStatus as Reason}
+use Rattle.cdp_door.specs.declared.answer.ErrorStatus.TheVariants.{HeadTooLarge, BadRequest, MethodNotAllowed, NotFound, Forbidden, UpgradeRequired}
 
 -- the list of what can be debugged, by the port and the first script's url in quotes
 abbrev pub list_text : ℕ → List ℕ → List ℕ
@@ -47,7 +47,7 @@ refusal_text UpgradeRequired =
     codes "HTTP/1.1 426 Upgrade Required\r\nContent-Length: 0\r\nConnection: close\r\nSec-WebSocket-Version: 13\r\n\r\n"
 
 -- the text of an answer
-abbrev pub text_of : ℕ → List ℕ → Answer → List ℕ
+abbrev pub text_of : ℕ → List ℕ → Response → List ℕ
 text_of port url (Page page) = page_text (body_of port url page)
 text_of port url (Upgrade accept) = upgrade_text accept
 text_of port url (Refusal reason) = refusal_text reason
@@ -62,7 +62,7 @@ refusal_status Forbidden = 403
 refusal_status UpgradeRequired = 426
 
 -- the status of an answer
-abbrev pub status_of : Answer → ℕ
+abbrev pub status_of : Response → ℕ
 status_of (Page page) = 200
 status_of (Upgrade accept) = 101
 status_of (Refusal reason) = refusal_status reason

@@ -21,7 +21,7 @@ pub enum Page {
 
 /// Why a request is refused (RFC 9110, section 15).
 #[derive(Clone, Copy)]
-pub enum Refusal {
+pub enum ErrorStatus {
     /// The head is longer than is read: 431.
     HeadTooLarge,
     /// It is no request of HTTP/1.1, or its key is none: 400.
@@ -38,13 +38,13 @@ pub enum Refusal {
 
 /// An answer.
 #[derive(Clone, Copy)]
-pub enum Answer {
+pub enum Response {
     /// A page: 200.
     Page(Page),
     /// The upgrade, with the accept value: 101.
     Upgrade([u8; 28]),
     /// A refusal.
-    Refusal(Refusal),
+    Refusal(ErrorStatus),
 }
 
 /// The answer to a request of this minor version, method, target and fields.
@@ -54,20 +54,20 @@ pub fn answer_of(
     method: &[u8],
     target: &[u8],
     fields: &Fields<'_, '_>,
-) -> Result<Answer, AllocError>
+) -> Result<Response, AllocError>
     ensures { IfOk result (λ answer. answer
         ≡ answer_of record { minor = minor; method = method.now; target = target.now; fields = fields.now }) }
 {
     if minor != 1 {
-        return Ok(Answer::Refusal(Refusal::BadRequest));
+        return Ok(Response::Refusal(ErrorStatus::BadRequest));
     }
     if method != b"GET".as_slice() {
-        return Ok(Answer::Refusal(Refusal::MethodNotAllowed));
+        return Ok(Response::Refusal(ErrorStatus::MethodNotAllowed));
     }
     match page_of(target) {
         Some(page) => Ok(answer_to_page(page, fields)),
         None if target == b"/session".as_slice() => answer_to_session(alloc, fields),
-        None => Ok(Answer::Refusal(Refusal::NotFound)),
+        None => Ok(Response::Refusal(ErrorStatus::NotFound)),
     }
 }
 
@@ -105,24 +105,24 @@ fn is_query(text: &[u8]) -> bool
 }
 
 /// The answer to a request for a page.
-fn answer_to_page(page: Page, fields: &Fields<'_, '_>) -> Answer
+fn answer_to_page(page: Page, fields: &Fields<'_, '_>) -> Response
     ensures { result ≡ answer_to_page page fields.now }
 {
     match page {
-        Page::Scripts if has_foreign_host(fields) => Answer::Refusal(Refusal::Forbidden),
-        page => Answer::Page(page),
+        Page::Scripts if has_foreign_host(fields) => Response::Refusal(ErrorStatus::Forbidden),
+        page => Response::Page(page),
     }
 }
 
 /// The answer to a request for the session (RFC 6455, section 4.2.1).
-fn answer_to_session(alloc: Global, fields: &Fields<'_, '_>) -> Result<Answer, AllocError>
+fn answer_to_session(alloc: Global, fields: &Fields<'_, '_>) -> Result<Response, AllocError>
     ensures { IfOk result (λ answer. answer ≡ answer_to_session fields.now) }
 {
     if has_foreign_host(fields) || has_foreign_origin(fields) {
-        return Ok(Answer::Refusal(Refusal::Forbidden));
+        return Ok(Response::Refusal(ErrorStatus::Forbidden));
     }
     if !asks_upgrade(fields) {
-        return Ok(Answer::Refusal(Refusal::UpgradeRequired));
+        return Ok(Response::Refusal(ErrorStatus::UpgradeRequired));
     }
     answer_to_key(alloc, fields.first("sec-websocket-key"))
 }
@@ -147,11 +147,11 @@ fn is_version_13(version: Option<&[u8]>) -> bool
 }
 
 /// The answer to the key of a client that asks for the upgrade.
-fn answer_to_key(alloc: Global, key: Option<&[u8]>) -> Result<Answer, AllocError>
+fn answer_to_key(alloc: Global, key: Option<&[u8]>) -> Result<Response, AllocError>
     ensures { IfOk result (λ answer. answer ≡ answer_to_key (option_map (λ key. key.now) key.entry)) }
 {
     match key {
-        Some(key) if is_key(alloc, key)? => Ok(Answer::Upgrade(accept_of(key))),
-        _ => Ok(Answer::Refusal(Refusal::BadRequest)),
+        Some(key) if is_key(alloc, key)? => Ok(Response::Upgrade(accept_of(key))),
+        _ => Ok(Response::Refusal(ErrorStatus::BadRequest)),
     }
 }

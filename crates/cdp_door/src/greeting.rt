@@ -5,9 +5,9 @@ ghost use Rattle.cdp_edge.specs.Outside.{Rose};
 ghost use Rattle.cdp_door.specs.Greetings.{Greets, Writes, EndsWith};
 ghost use Rattle.cdp_door.specs.Texts.{text_of as text_of_answer};
 
-use crate::answer::Answer;
-use crate::hear::{Heard, hear};
-use crate::reader::Reader;
+use crate::answer::Response;
+use crate::hear::{HeadEnd, hear};
+use crate::reader::HeadBuffer;
 use crate::text::{status_of, text_of};
 use cdp_edge::SinkFault;
 use cdp_edge_wire::{Wire, put_all};
@@ -39,19 +39,19 @@ pub fn greet<R: Wait, W: Wire>(rt: &R, alloc: Global, wire: &mut W, port: u16, u
     ensures quiet { result ≢ Greeted.Fault → W.faults wire.new ≡ W.faults wire.old }
     ensures failed { result ≡ Greeted.Fault → Rose (W.faults wire.old) (W.faults wire.new) }
 {
-    let Ok(mut reader) = Reader::new(alloc) else {
+    let Ok(mut reader) = HeadBuffer::new(alloc) else {
         return Greeted::Memory;
     };
     match hear(rt, alloc, wire, &mut reader) {
-        Heard::Answer(answer) => say(alloc, wire, &answer, port, url),
-        Heard::Closed { taken } => Greeted::Closed { taken },
-        Heard::Fault => Greeted::Fault,
-        Heard::Memory => Greeted::Memory,
+        HeadEnd::Answer(answer) => say(alloc, wire, &answer, port, url),
+        HeadEnd::Closed { taken } => Greeted::Closed { taken },
+        HeadEnd::Fault => Greeted::Fault,
+        HeadEnd::Memory => Greeted::Memory,
     }
 }
 
 /// Writes an answer.
-fn say<W: Wire>(alloc: Global, wire: &mut W, answer: &Answer, port: u16, url: &str) -> Greeted
+fn say<W: Wire>(alloc: Global, wire: &mut W, answer: &Response, port: u16, url: &str) -> Greeted
     ensures writes { Writes result answer.now (text_of_answer port url.now answer.now) (record { answers = W.answers wire.old; content = W.content wire.old }) (record { answers = W.answers wire.new; content = W.content wire.new }) }
     ensures answers { W.answers wire.new ≡ W.answers wire.old }
     ensures quiet { result ≢ Greeted.Fault → W.faults wire.new ≡ W.faults wire.old }
@@ -68,7 +68,7 @@ fn say<W: Wire>(alloc: Global, wire: &mut W, answer: &Answer, port: u16, url: &s
 }
 
 /// How a greeting ends whose answer was written.
-fn end_with(answer: &Answer) -> Greeted
+fn end_with(answer: &Response) -> Greeted
     ensures { EndsWith result answer.now }
 {
     match status_of(answer) {

@@ -6,7 +6,7 @@ ghost use Rattle.cdp_door.specs.Answers.{answer_of as answer_of_asked};
 ghost use Rattle.cdp_door.specs.Greetings.{Owes, answer_without_head};
 ghost use Rattle.cdp_door.specs.Requests.{asked_at};
 
-use crate::answer::{Answer, Refusal, answer_of};
+use crate::answer::{ErrorStatus, Response, answer_of};
 use crate::fields::Fields;
 use httparse::Status;
 use httparse::spans::{HeaderSpan, RequestSpans, parse_request};
@@ -24,7 +24,7 @@ pub fn owed_answer(
     alloc: Global,
     bytes: &[u8],
     places: &mut [HeaderSpan],
-) -> Result<Option<Answer>, AllocError>
+) -> Result<Option<Response>, AllocError>
     requires short { length bytes.now ≤ 8_192 }
     requires room { length places.old ≡ 2_730 }
     ensures { IfOk result (Owes bytes.now) }
@@ -43,7 +43,7 @@ fn answer_at(
     bytes: &[u8],
     headers: &[HeaderSpan],
     spans: &RequestSpans,
-) -> Result<Answer, AllocError>
+) -> Result<Response, AllocError>
     requires { IsRequestWithin bytes.now headers.now spans.now }
     ensures { IfOk result (λ answer. answer ≡ answer_of_asked (asked_at bytes.now headers.now spans.now)) }
 {
@@ -58,13 +58,13 @@ fn answer_at(
 }
 
 /// The answer to bytes that are no head and will be none, or to too many of them.
-fn answer_without_head(bytes: &[u8]) -> Answer
+fn answer_without_head(bytes: &[u8]) -> Response
     requires { length bytes.now ≤ 8_192 }
     ensures { result ≡ answer_without_head bytes.now }
 {
     if bytes.len() == MOST_BYTES {
-        Answer::Refusal(Refusal::HeadTooLarge)
+        Response::Refusal(ErrorStatus::HeadTooLarge)
     } else {
-        Answer::Refusal(Refusal::BadRequest)
+        Response::Refusal(ErrorStatus::BadRequest)
     }
 }

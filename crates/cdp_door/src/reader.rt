@@ -3,7 +3,7 @@
 ghost use Rattle.std.specs.Prelude.{◌≡◌, ◌<◌, ◌≤◌, ◌++◌, ◌∷◌, [], length, IfOk, OnOk, OnErr};
 ghost use Rattle.cdp_door.specs.Greetings.{Owes};
 
-use crate::answer::Answer;
+use crate::answer::Response;
 use crate::head::{MOST_BYTES, MOST_FIELDS, owed_answer};
 use httparse::spans::{EMPTY_HEADER_SPAN, HeaderSpan};
 use std::alloc::{AllocError, Global};
@@ -11,12 +11,12 @@ use std::marker::Model;
 
 /// The bytes that came so far, at most `MOST_BYTES`, with room for where their fields lie.
 #[derive(Drop)]
-pub struct Reader {
+pub struct HeadBuffer {
     bytes: Vec<u8>,
     places: Vec<HeaderSpan>,
 }
 
-impl Model for Reader {
+impl Model for HeadBuffer {
     ghost use Rattle.std.specs.Prelude.{◌≡◌, ◌≤◌, ℕ, List, length};
 
     ghost Value = { List ℕ };
@@ -26,20 +26,20 @@ impl Model for Reader {
     ghost invariant = { λ a. (length a.bytes.items ≤ 8_192) × (length a.places.items ≡ 2_730) };
 }
 
-impl Reader {
+impl HeadBuffer {
     /// A reader to which nothing came.
-    pub fn new(alloc: Global) -> Result<Reader, AllocError>
+    pub fn new(alloc: Global) -> Result<HeadBuffer, AllocError>
         ensures { IfOk result (λ reader. reader ≡ []) }
     {
         let places = vec![in alloc; EMPTY_HEADER_SPAN; MOST_FIELDS]?;
-        Ok(Reader {
+        Ok(HeadBuffer {
             bytes: Vec::new(alloc),
             places,
         })
     }
 
     /// The answer that is owed to what came; None where more is to be read.
-    pub fn answer(&mut self, alloc: Global) -> Result<Option<Answer>, AllocError>
+    pub fn answer(&mut self, alloc: Global) -> Result<Option<Response>, AllocError>
         ensures owes { IfOk result (Owes self.old) }
         ensures within { length self.old ≤ 8_192 }
         ensures same { self.new ≡ self.old }

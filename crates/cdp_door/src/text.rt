@@ -4,42 +4,47 @@ ghost use Rattle.std.specs.Prelude.{◌≡◌, IfOk, string_bytes};
 ghost use Rattle.json.specs.Print.{quoted};
 ghost use Rattle.cdp_door.specs.Texts.{list_text, body_of, page_text, upgrade_text, refusal_text, text_of, refusal_status, status_of};
 
-use crate::answer::{Answer, Page, Refusal};
+use crate::answer::{ErrorStatus, Page, Response};
 use std::alloc::{AllocError, Global};
 
 /// The status of an answer.
-pub fn status_of(answer: &Answer) -> u16
+pub fn status_of(answer: &Response) -> u16
     ensures { result ≡ status_of answer.now }
 {
     match answer {
-        Answer::Page(_) => 200,
-        Answer::Upgrade(_) => 101,
-        Answer::Refusal(refusal) => refusal_status(*refusal),
+        Response::Page(_) => 200,
+        Response::Upgrade(_) => 101,
+        Response::Refusal(refusal) => refusal_status(*refusal),
     }
 }
 
 /// The status of a refusal.
-fn refusal_status(refusal: Refusal) -> u16
+fn refusal_status(refusal: ErrorStatus) -> u16
     ensures { result ≡ refusal_status refusal }
 {
     match refusal {
-        Refusal::HeadTooLarge => 431,
-        Refusal::BadRequest => 400,
-        Refusal::MethodNotAllowed => 405,
-        Refusal::NotFound => 404,
-        Refusal::Forbidden => 403,
-        Refusal::UpgradeRequired => 426,
+        ErrorStatus::HeadTooLarge => 431,
+        ErrorStatus::BadRequest => 400,
+        ErrorStatus::MethodNotAllowed => 405,
+        ErrorStatus::NotFound => 404,
+        ErrorStatus::Forbidden => 403,
+        ErrorStatus::UpgradeRequired => 426,
     }
 }
 
 /// The bytes of an answer, where the debugger listens on this port and the first script has this url.
-pub fn text_of(alloc: Global, answer: &Answer, port: u16, url: &str) -> Result<Vec<u8>, AllocError>
+pub fn text_of(
+    alloc: Global,
+    answer: &Response,
+    port: u16,
+    url: &str,
+) -> Result<Vec<u8>, AllocError>
     ensures { IfOk result (λ text. text.items ≡ text_of port url.now answer.now) }
 {
     match answer {
-        Answer::Page(page) => page_text(alloc, body_of(alloc, *page, port, url)?.as_str()),
-        Answer::Upgrade(accept) => upgrade_text(alloc, accept),
-        Answer::Refusal(refusal) => Vec::from_slice(alloc, refusal_text(*refusal).as_bytes()),
+        Response::Page(page) => page_text(alloc, body_of(alloc, *page, port, url)?.as_str()),
+        Response::Upgrade(accept) => upgrade_text(alloc, accept),
+        Response::Refusal(refusal) => Vec::from_slice(alloc, refusal_text(*refusal).as_bytes()),
     }
 }
 
@@ -100,23 +105,23 @@ fn upgrade_text(alloc: Global, accept: &[u8]) -> Result<Vec<u8>, AllocError>
 }
 
 /// The text of a refusal.
-fn refusal_text(refusal: Refusal) -> &'static str
+fn refusal_text(refusal: ErrorStatus) -> &'static str
     ensures { result.now ≡ refusal_text refusal }
 {
     match refusal {
-        Refusal::HeadTooLarge => {
+        ErrorStatus::HeadTooLarge => {
             "HTTP/1.1 431 Request Header Fields Too Large\r\nContent-Length: 0\r\nConnection: close\r\n\r\n"
         }
-        Refusal::BadRequest =>
+        ErrorStatus::BadRequest =>
             "HTTP/1.1 400 Bad Request\r\nContent-Length: 0\r\nConnection: close\r\n\r\n",
-        Refusal::MethodNotAllowed => {
+        ErrorStatus::MethodNotAllowed => {
             "HTTP/1.1 405 Method Not Allowed\r\nContent-Length: 0\r\nConnection: close\r\n\r\n"
         }
-        Refusal::NotFound =>
+        ErrorStatus::NotFound =>
             "HTTP/1.1 404 Not Found\r\nContent-Length: 0\r\nConnection: close\r\n\r\n",
-        Refusal::Forbidden =>
+        ErrorStatus::Forbidden =>
             "HTTP/1.1 403 Forbidden\r\nContent-Length: 0\r\nConnection: close\r\n\r\n",
-        Refusal::UpgradeRequired => {
+        ErrorStatus::UpgradeRequired => {
             "HTTP/1.1 426 Upgrade Required\r\nContent-Length: 0\r\nConnection: close\r\nSec-WebSocket-Version: 13\r\n\r\n"
         }
     }

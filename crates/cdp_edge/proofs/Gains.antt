@@ -2,7 +2,7 @@
 use Rattle.std.proofs.Common.{Result, Ok, Err, OnErr, ◌≡◌, ◌≢◌, ℕ, zero, suc, ◌+◌, ◌-◌, ◌≤◌, length-drop, List, [], ◌∷◌, ◌++◌, length, take, drop, Option, Some, None, refl, ap, sym, ◌∙◌, suc-add, append_assoc, ◌<◌, arith}
 use Rattle.std.proofs.lemmas.Grind.{common_steps}
 use Rattle.std.proofs.lemmas.List.{take_all, take-append-drop}
-use Rattle.cdp_edge.specs.Outside.{gains, GainsPrefix, GainsLess, Told}
+use Rattle.cdp_edge.specs.Outside.{gains, GainsPrefix, GainsLess, IfTold}
 
 -- to gain one and then the other is to gain both
 pub gains-append : (old : Option (List ℕ)) (xs ys : List ℕ) → gains (gains old xs) ys ≡ gains old (xs ++ ys)
@@ -30,7 +30,7 @@ GainsPrefix-refl content bytes = GainsPrefix-same content content bytes refl
 
 -- the same of bytes that depend on what is told
 pub Told-GainsPrefix : {A : Type 0} (told : Option A) (content : Option (List ℕ)) (bytes : A → List ℕ)
-    → Told told (λ a. GainsPrefix content content (bytes a))
+    → IfTold told (λ a. GainsPrefix content content (bytes a))
 Told-GainsPrefix None content bytes = tt
 Told-GainsPrefix (Some a) content bytes = GainsPrefix-refl content (bytes a)
 

@@ -36,22 +36,22 @@ abbrev pub GainsLess : Option (List ℕ) → Option (List ℕ) → List ℕ → 
 GainsLess old new bytes = (part rest : List ℕ) × (rest ≢ []) × (bytes ≡ part ++ rest) × (new ≡ gains old part)
 
 -- what holds of the content, where it is told
-abbrev pub Told : {A : Type 0} → Option A → (A → Type 0) → Type 0
-Told None P = Unit {0}
-Told (Some content) P = P content
+abbrev pub IfTold : {A : Type 0} → Option A → (A → Type 0) → Type 0
+IfTold None P = Unit {0}
+IfTold (Some content) P = P content
 
 -- a file's name and content
-pub record Named : Type 0 where
+pub record NamedFile : Type 0 where
   pub name : List ℕ
   pub bytes : List ℕ
 
 -- the content of the first file of this name
-abbrev pub content_of : List ℕ → List Named → Option (List ℕ)
+abbrev pub content_of : List ℕ → List NamedFile → Option (List ℕ)
 content_of name [] = None
 content_of name (file ∷ files) = if bytes_eq file.name name then Some file.bytes else content_of name files
 
 -- what a read tells of its file, where the files are told
-abbrev pub Tells : Result (Vec ℕ Global) ShelfFault → List ℕ → List Named → Type 0
+abbrev pub Tells : Result (Vec ℕ Global) ShelfFault → List ℕ → List NamedFile → Type 0
 Tells (Ok bytes) name files = content_of name files ≡ Some bytes.items
 Tells (Err NotThere) name files = content_of name files ≡ None
 Tells (Err Failed) name files = Unit {0}

@@ -2,7 +2,7 @@
 
 ghost use Rattle.std.specs.Prelude.{◌≡◌, List, Option};
 ghost use Rattle.cdp_edge.specs.Blame.{Faults, Read};
-ghost use Rattle.cdp_edge.specs.Outside.{Told, Named, Tells, Accounts};
+ghost use Rattle.cdp_edge.specs.Outside.{IfTold, NamedFile, Tells, Accounts};
 
 use std::alloc::Global;
 use thiserror::Error;
@@ -27,7 +27,7 @@ pub trait Shelf {
     ghost faults: { Self → Faults };
 
     /// The files, where they are told.
-    ghost files: { Self → Option (List Named) };
+    ghost files: { Self → Option (List NamedFile) };
 
     /// Reads the content of the file of this name.
     ///
@@ -36,7 +36,7 @@ pub trait Shelf {
     /// `NotThere` where no file has the name, and `Failed`: the call is then blamed. `Memory` at
     /// want of memory.
     fn read(&mut self, alloc: Global, name: &str) -> Result<Vec<u8>, ShelfFault>
-        ensures content { Told (files self.old) (λ all. Tells result name.now all) }
+        ensures content { IfTold (files self.old) (λ all. Tells result name.now all) }
         ensures files { files self.new ≡ files self.old }
         ensures faults { Accounts result (Read name.now) (faults self.old) (faults self.new) };
 }

@@ -4,11 +4,11 @@ use Rattle.std.proofs.lemmas.Grind.{common_steps, flat_map-append}
 use Rattle.std.proofs.lemmas.List.{replicate-append-replicate, append-nil}
 use Rattle.cdp_edge_server.specs.AnswerLog.{answers_of}
 use Rattle.cdp_edge_server.specs.Heard.{Heard, Quiet}
-use Rattle.cdp_edge_server.specs.declared.answer_log.Answer.{Answer}
-use Rattle.cdp_edge_server.specs.declared.answer_log.Answer.TheVariants as answer
+use Rattle.cdp_edge_server.specs.declared.answer_log.LoggedAnswer.{LoggedAnswer}
+use Rattle.cdp_edge_server.specs.declared.answer_log.LoggedAnswer.TheVariants as answer
 
 -- two runs are one of both
-pub runs-join : (xs : List Answer) (r n : ℕ)
+pub runs-join : (xs : List LoggedAnswer) (r n : ℕ)
     → flat_map answers_of (xs ++ answer.Quiet (r + n) ∷ []) ≡ (flat_map answers_of xs ++ replicate r Quiet) ++ replicate n Quiet
 runs-join xs r n =
     flat_map-append answers_of xs (answer.Quiet (r + n) ∷ [])

@@ -1,7 +1,7 @@
 -- What is told, by several calls in turn.
 use Rattle.std.proofs.Common.{◌≡◌, List, [], ◌++◌, Option, Some, None, Bool, false, refl, ap, append_assoc}
 use Rattle.std.proofs.lemmas.List.{append-nil}
-use Rattle.cdp_edge.specs.Outside.{Told}
+use Rattle.cdp_edge.specs.Outside.{IfTold}
 use Rattle.cdp_edge_server.specs.Contents.{adds, becomes}
 
 -- to add these and then those is to add both
@@ -16,12 +16,12 @@ adds-nil (Some all) = ap (λ t. Some t) (append-nil all)
 
 -- what is added to none is all
 pub adds-told : {A : Type 0} (old : Option (List A)) (xs : List A)
-    → Told old (λ all. all ≡ []) → Told (adds old xs) (λ all. all ≡ xs)
+    → IfTold old (λ all. all ≡ []) → IfTold (adds old xs) (λ all. all ≡ xs)
 adds-told None xs none = tt
 adds-told (Some all) xs none = ap (λ t. t ++ xs) none
 
 -- what it becomes is what is told
-pub becomes-told : {A : Type 0} (old : Option A) (new : A) → Told (becomes old new) (λ is. is ≡ new)
+pub becomes-told : {A : Type 0} (old : Option A) (new : A) → IfTold (becomes old new) (λ is. is ≡ new)
 becomes-told None new = tt
 becomes-told (Some was) new = refl
 

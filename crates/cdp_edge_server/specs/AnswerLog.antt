@@ -2,11 +2,11 @@
 use Rattle.std.specs.Prelude.{◌<◌, ℕ, List, [], ◌∷◌, string_bytes, vec_len, vec_capacity, flat_map, replicate}
 use Rattle.cdp_edge_server.specs.Heard.{Heard, Text, Binary, TooBig, Quiet, Closed, Failed}
 use Rattle.cdp_edge_server.specs.declared.answer_log.AnswerLog.{AnswerLog}
-use Rattle.cdp_edge_server.specs.declared.answer_log.Answer.{Answer}
-use Rattle.cdp_edge_server.specs.declared.answer_log.Answer.TheVariants as answer
+use Rattle.cdp_edge_server.specs.declared.answer_log.LoggedAnswer.{LoggedAnswer}
+use Rattle.cdp_edge_server.specs.declared.answer_log.LoggedAnswer.TheVariants as answer
 
 -- the answers that an entry stands for
-abbrev pub answers_of : Answer → List Heard
+abbrev pub answers_of : LoggedAnswer → List Heard
 answers_of (answer.Text text) = Text (string_bytes text) ∷ []
 answers_of answer.Binary = Binary ∷ []
 answers_of answer.TooBig = TooBig ∷ []

@@ -1,6 +1,6 @@
 -- What the objects at the edge of a server tell of what was done with them.
 use Rattle.std.specs.Prelude.{◌≡◌, ◌+◌, ◌-◌, ℕ, zero, suc, List, [], ◌∷◌, ◌++◌, Option, Some, None, Bool, true, false}
-use Rattle.cdp_edge.specs.Outside.{Told, Rose, one_more}
+use Rattle.cdp_edge.specs.Outside.{IfTold, Rose, one_more}
 use Rattle.cdp_edge_server.specs.Heard.{Heard}
 
 -- what is told, with these behind it; nothing where nothing is told
@@ -23,9 +23,9 @@ pub record Spoken : Type 0 where
 -- a link that has given no answer, was sent nothing, was not closed, and never failed
 abbrev pub IsUnused : Spoken → Type 0
 IsUnused link = (link.faults ≡ 0)
-    × Told link.answers (λ answers. answers ≡ [])
-    × Told link.sent (λ texts. texts ≡ [])
-    × Told link.closed (λ code. code ≡ None)
+    × IfTold link.answers (λ answers. answers ≡ [])
+    × IfTold link.sent (λ texts. texts ≡ [])
+    × IfTold link.closed (λ code. code ≡ None)
 
 -- what a door tells: the count of its faults, how often it was asked, the links that it took back, and whether one is out
 pub record Tended : Type 0 where
@@ -38,8 +38,8 @@ pub record Tended : Type 0 where
 abbrev pub IsNew : Tended → Type 0
 IsNew door = (door.faults ≡ 0)
     × (door.asked ≡ 0)
-    × Told door.served (λ links. links ≡ [])
-    × Told door.is_out (λ out. out ≡ false)
+    × IfTold door.served (λ links. links ≡ [])
+    × IfTold door.is_out (λ out. out ≡ false)
 
 -- how often a call was made, and with what last
 pub record Calls (A : Type 0) : Type 0 where

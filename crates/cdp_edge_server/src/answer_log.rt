@@ -9,7 +9,7 @@ use std::alloc::{AllocError, Global};
 
 /// An answer, or a run of quiet ones.
 #[derive(Drop)]
-pub enum Answer {
+pub enum LoggedAnswer {
     Text(String),
     Binary,
     TooBig,
@@ -21,24 +21,24 @@ pub enum Answer {
 /// The answers so far, a run of quiet ones as one number.
 #[derive(Drop)]
 pub struct AnswerLog {
-    answers: Vec<Answer>,
+    answers: Vec<LoggedAnswer>,
 }
 
 /// A copy of an answer that is not want of memory; None at want of memory.
-pub fn copy_of(alloc: Global, answer: &Recv) -> Option<Answer>
+pub fn copy_of(alloc: Global, answer: &Recv) -> Option<LoggedAnswer>
     ensures heard { IfSome result (λ copy. answers_of copy ≡ heard_of answer.now) }
     ensures given { IfSome result (λ _. answer.now ≢ Recv.Memory) }
 {
     match answer {
         Recv::Text(text) => match String::from_str(alloc, text) {
-            Ok(text) => Some(Answer::Text(text)),
+            Ok(text) => Some(LoggedAnswer::Text(text)),
             Err(_) => None,
         },
-        Recv::Binary => Some(Answer::Binary),
-        Recv::TooBig => Some(Answer::TooBig),
-        Recv::Quiet => Some(Answer::Quiet(1)),
-        Recv::Closed => Some(Answer::Closed),
-        Recv::Failed => Some(Answer::Failed),
+        Recv::Binary => Some(LoggedAnswer::Binary),
+        Recv::TooBig => Some(LoggedAnswer::TooBig),
+        Recv::Quiet => Some(LoggedAnswer::Quiet(1)),
+        Recv::Closed => Some(LoggedAnswer::Closed),
+        Recv::Failed => Some(LoggedAnswer::Failed),
         Recv::Memory => None,
     }
 }
@@ -62,12 +62,12 @@ impl AnswerLog {
     }
 
     /// Keeps an answer, for which there is room.
-    pub fn note(&mut self, answer: Answer)
+    pub fn note(&mut self, answer: LoggedAnswer)
         requires { HasRoom self.old }
         ensures { answers_in self.new ≡ answers_in self.old ++ answers_of answer }
     {
         match answer {
-            Answer::Quiet(count) => self.note_quiet(count),
+            LoggedAnswer::Quiet(count) => self.note_quiet(count),
             other => self.answers.push(other).unwrap(),
         }
     }
@@ -79,7 +79,7 @@ impl AnswerLog {
         ensures { answers_in self.new ≡ answers_in self.old ++ replicate count Quiet }
     {
         let run = self.take_run(u64::MAX - count);
-        self.answers.push(Answer::Quiet(run + count)).unwrap();
+        self.answers.push(LoggedAnswer::Quiet(run + count)).unwrap();
     }
 
     /// Takes off the run of quiet answers that the log ends with, if it has at most so many.
@@ -90,11 +90,11 @@ impl AnswerLog {
         ensures answers { answers_in self.old ≡ answers_in self.new ++ replicate result Quiet }
     {
         match self.answers.pop() {
-            Some(Answer::Quiet(run)) => {
+            Some(LoggedAnswer::Quiet(run)) => {
                 if run <= most {
                     return run;
                 }
-                self.answers.push(Answer::Quiet(run)).unwrap();
+                self.answers.push(LoggedAnswer::Quiet(run)).unwrap();
                 0
             }
             Some(last) => {

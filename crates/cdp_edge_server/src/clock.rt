@@ -1,7 +1,7 @@
 //! A clock tells the time of day.
 
 ghost use Rattle.std.specs.Prelude.{◌≡◌, ◌≤◌, ℕ, Option, Some};
-ghost use Rattle.cdp_edge.specs.Outside.{Told};
+ghost use Rattle.cdp_edge.specs.Outside.{IfTold};
 
 use std::marker::Model;
 
@@ -13,7 +13,7 @@ pub trait Clock: Drop {
     /// Milliseconds since the beginning of 1970, below 2^53.
     fn now_ms(&mut self) -> u64
         ensures within { result ≤ 9_007_199_254_740_991 }
-        ensures told { Told (moment self.old) (λ ms. result ≡ ms) }
+        ensures told { IfTold (moment self.old) (λ ms. result ≡ ms) }
         ensures same { moment self.new ≡ moment self.old };
 }
 

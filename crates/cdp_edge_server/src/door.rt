@@ -2,7 +2,7 @@
 //! back.
 
 ghost use Rattle.std.specs.Prelude.{◌≡◌, ◌≢◌, ◌≤◌, ◌+◌, ◌∷◌, [], ℕ, List, Option, Bool, true, false};
-ghost use Rattle.cdp_edge.specs.Outside.{Told, Rose, one_more};
+ghost use Rattle.cdp_edge.specs.Outside.{IfTold, Rose, one_more};
 ghost use Rattle.cdp_edge_server.specs.Contents.{Spoken, adds, becomes};
 ghost use Rattle.cdp_edge_server.specs.Doors.{AnswersOf, IsArrived, out_after};
 
@@ -45,7 +45,7 @@ pub trait Door: Drop {
     ///
     /// `Failed` comes only where the count rose, or stands at the greatest `u64`.
     fn next(&mut self) -> DoorAnswer<Self::Link>
-        requires none_out { Told (is_out self.old) (λ out. out ≡ false) }
+        requires none_out { IfTold (is_out self.old) (λ out. out ≡ false) }
         ensures unused { IsArrived (λ link. record {
           faults = Self.Link.faults link;
           answers = Self.Link.answers link;
@@ -62,7 +62,7 @@ pub trait Door: Drop {
 
     /// Takes back a link that was served. It takes no memory.
     fn back(&mut self, link: Self::Link)
-        requires out { Told (is_out self.old) (λ out. out ≡ true) }
+        requires out { IfTold (is_out self.old) (λ out. out ≡ true) }
         ensures served { served self.new ≡ adds (served self.old) (record {
           faults = Self.Link.faults link;
           answers = Self.Link.answers link;

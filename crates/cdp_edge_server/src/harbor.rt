@@ -1,7 +1,7 @@
 //! A harbor opens doors on a port and dials ports. It counts its faults and tells what it was asked for.
 
 ghost use Rattle.std.specs.Prelude.{◌≡◌, ◌≤◌, ◌∷◌, [], ℕ, List, Option, length, map, All, IfOk, OnOk, OnErr, IsErrOf};
-ghost use Rattle.cdp_edge.specs.Outside.{Told, Rose};
+ghost use Rattle.cdp_edge.specs.Outside.{IfTold, Rose};
 ghost use Rattle.cdp_edge_server.specs.Contents.{Spoken, Tended, IsUnused, IsNew, Calls, called, adds, any_fault, RisesAt};
 ghost use Rattle.cdp_edge_server.specs.Contents.{raised, lowered};
 
@@ -81,7 +81,7 @@ pub trait Harbor {
     /// Takes back doors that it opened. Its count rises where a door's count isn't 0. It takes no
     /// memory.
     fn shut(&mut self, doors: Vec<Self::Door>)
-        requires out { Told (doors_out self.old) (λ out. length doors.items ≤ out) }
+        requires out { IfTold (doors_out self.old) (λ out. length doors.items ≤ out) }
         ensures kept { kept self.new ≡ adds (kept self.old) (map (λ door. record {
           faults = Self.Door.faults door;
           asked = Self.Door.asked door;
@@ -122,7 +122,7 @@ pub trait Harbor {
     /// Takes back a link that it dialled. Its count rises where the link's count isn't 0. It takes
     /// no memory.
     fn hang_up(&mut self, link: Self::Link)
-        requires out { Told (links_out self.old) (λ out. 1 ≤ out) }
+        requires out { IfTold (links_out self.old) (λ out. 1 ≤ out) }
         ensures hung_up { hung_up self.new ≡ adds (hung_up self.old) (record {
           faults = Self.Link.faults link;
           answers = Self.Link.answers link;

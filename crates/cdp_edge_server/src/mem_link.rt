@@ -7,8 +7,8 @@ ghost use Rattle.cdp_edge_server.specs.Heard.{IsWithin};
 ghost use Rattle.cdp_edge_server.specs.MemLink.{after_recv, after_fault, after_send, after_close};
 ghost use Rattle.cdp_edge_server.specs.Scripts.{coming_of};
 
-use crate::answer_log::{Answer, AnswerLog, copy_of};
-use crate::script::{Incoming, Script};
+use crate::answer_log::{AnswerLog, LoggedAnswer, copy_of};
+use crate::script::{Incoming, Schedule};
 use crate::{Gate, Link, LinkFault, Recv};
 use std::marker::Model;
 
@@ -18,7 +18,7 @@ use std::marker::Model;
 /// A call whose number is listed answers `Failed`; `recv` takes the room for an answer first.
 #[derive(Drop)]
 pub struct MemLink {
-    script: Script,
+    script: Schedule,
     log: AnswerLog,
     sent: Vec<String>,
     closed: Option<u16>,
@@ -62,7 +62,7 @@ impl MemLink {
     {
         let alloc = *fails.allocator();
         MemLink {
-            script: Script::new(script),
+            script: Schedule::new(script),
             log: AnswerLog::new(alloc),
             sent: Vec::new(alloc),
             closed: None,
@@ -165,7 +165,7 @@ impl Link for MemLink {
         }
         if self.fails.contains(&self.calls) {
             self.faults = self.faults.saturating_add(1);
-            self.log.note(Answer::Failed);
+            self.log.note(LoggedAnswer::Failed);
             return Recv::Failed;
         }
         self.script.release();

@@ -29,12 +29,12 @@ pub enum Incoming {
 
 /// What is to come, and how often the hold at its beginning was met.
 #[derive(Drop)]
-pub struct Script {
+pub struct Schedule {
     incoming: VecDeque<Incoming>,
     waited: u64,
 }
 
-impl Model for Script {
+impl Model for Schedule {
     ghost use Rattle.std.specs.Prelude.{List, map};
     ghost use Rattle.cdp_edge_server.specs.Coming.{Coming};
     ghost use Rattle.cdp_edge_server.specs.Scripts.{coming_of, waited_off};
@@ -58,12 +58,12 @@ fn text_as(alloc: Global, text: &str) -> Recv
     }
 }
 
-impl Script {
+impl Schedule {
     /// These, in order. It takes no memory.
-    pub fn new(incoming: Vec<Incoming>) -> Script
+    pub fn new(incoming: Vec<Incoming>) -> Schedule
         ensures { result ≡ map coming_of incoming.items }
     {
-        Script {
+        Schedule {
             incoming: VecDeque::from(incoming),
             waited: 0,
         }

@@ -1,10 +1,10 @@
 //! Dials a port, and asks for a WebSocket there.
 
 use crate::deadline::Deadline;
-use crate::line::Line;
+use crate::line::Connection;
 use crate::received::dialled_limits;
 use crate::streams::prepare;
-use crate::waits::{ROUNDS, Waits};
+use crate::waits::{ROUNDS, WatchedSockets};
 use mio::net::TcpStream;
 use std::alloc::Global;
 use std::net;
@@ -21,12 +21,12 @@ pub fn dial_line<
         + Clock
         + Copy
         + Drop,
->(rt: R, alloc: Global, port: u16) -> Result<Line<R>, Error> {
-    let mut waits = Waits::new(&rt, alloc)?;
+>(rt: R, alloc: Global, port: u16) -> Result<Connection<R>, Error> {
+    let mut waits = WatchedSockets::new(&rt, alloc)?;
     let stream = net::TcpStream::connect(&rt, SocketAddr::from((Ipv4Addr::LOCALHOST, port)))?;
     let stream = prepare(stream, &waits)?;
     let socket = ask(rt, alloc, port, stream, &mut waits)?;
-    Ok(Line {
+    Ok(Connection {
         rt,
         alloc,
         socket,
@@ -40,7 +40,7 @@ fn ask<R: RandomSource + Clock + Copy + Drop>(
     alloc: Global,
     port: u16,
     stream: TcpStream,
-    waits: &mut Waits,
+    waits: &mut WatchedSockets,
 ) -> Result<WebSocket<TcpStream, RandomKeys<R>>, Error> {
     let uri = format!(in alloc; "ws://127.0.0.1:{port}/session")?;
     let request = client::request_of(alloc, uri.as_str())?;

@@ -5,7 +5,7 @@ ghost use Rattle.cdp_edge_sockets.specs.Counts.{IsNewDoor};
 
 use crate::entrance::Entrance;
 use crate::link::SocketLink;
-use crate::waits::Waits;
+use crate::waits::WatchedSockets;
 use cdp_edge_server::{Door, DoorAnswer};
 use mio::net::TcpListener;
 use std::alloc::Global;
@@ -24,7 +24,7 @@ use std::{io, net};
 #[derive(Drop)]
 pub struct SocketDoor<R: RandomSource + Clock + Wait + Copy + Drop> {
     entrance: Entrance<R>,
-    waits: Option<Waits>,
+    waits: Option<WatchedSockets>,
     asked: u64,
     faults: u64,
 }
@@ -45,7 +45,7 @@ impl<R: RandomSource + Clock + Wait + Copy + Drop> SocketDoor<R> {
         listener: &net::TcpListener,
         port: u16,
         url: &str,
-        waits: Waits,
+        waits: WatchedSockets,
     ) -> io::Result<SocketDoor<R>>
         ensures { IfOk result IsNewDoor }
     {

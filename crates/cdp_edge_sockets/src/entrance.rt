@@ -1,8 +1,8 @@
 //! Where connections arrive, and what becomes of each.
 
-use crate::line::Line;
+use crate::line::Connection;
 use crate::streams::prepare;
-use crate::waits::Waits;
+use crate::waits::WatchedSockets;
 use crate::wire::SocketWire;
 use cdp_door::{Greeted, greet};
 use cdp_edge_server::DoorAnswer;
@@ -36,7 +36,7 @@ impl<R: RandomSource + Clock + Wait + Copy + Drop> Entrance<R> {
     }
 
     /// The next connection; None where none comes within a second or before the bell is rung.
-    fn arrived(&self, waits: &mut Waits) -> io::Result<Option<net::TcpStream>> {
+    fn arrived(&self, waits: &mut WatchedSockets) -> io::Result<Option<net::TcpStream>> {
         let first = self.accepted()?;
         if first.is_some() {
             return Ok(first);
@@ -46,7 +46,10 @@ impl<R: RandomSource + Clock + Wait + Copy + Drop> Entrance<R> {
     }
 
     /// What the door answers next with these waits, and the waits where no link took them.
-    pub fn admit(&self, mut waits: Waits) -> (DoorAnswer<Line<R>>, Option<Waits>) {
+    pub fn admit(
+        &self,
+        mut waits: WatchedSockets,
+    ) -> (DoorAnswer<Connection<R>>, Option<WatchedSockets>) {
         let stream = match self.arrived(&mut waits) {
             Ok(Some(stream)) => stream,
             Ok(None) => return (DoorAnswer::Quiet, Some(waits)),
@@ -65,13 +68,16 @@ impl<R: RandomSource + Clock + Wait + Copy + Drop> Entrance<R> {
     fn read_ahead(
         &self,
         stream: net::TcpStream,
-        waits: &Waits,
+        waits: &WatchedSockets,
     ) -> io::Result<BufReader<mio::net::TcpStream>> {
         BufReader::new(self.alloc, prepare(stream, waits)?)
     }
 
     /// What the door answers where this connection came, once it has its answer.
-    fn answer(&self, mut wire: SocketWire<R>) -> (DoorAnswer<Line<R>>, Option<Waits>) {
+    fn answer(
+        &self,
+        mut wire: SocketWire<R>,
+    ) -> (DoorAnswer<Connection<R>>, Option<WatchedSockets>) {
         match greet(
             &self.rt,
             self.alloc,

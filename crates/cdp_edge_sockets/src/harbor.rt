@@ -8,7 +8,7 @@ use crate::bell::{Sleepers, SocketBell};
 use crate::dialing::dial_line;
 use crate::door::SocketDoor;
 use crate::link::SocketLink;
-use crate::waits::Waits;
+use crate::waits::WatchedSockets;
 use cdp_edge_server::{Harbor, HarborFault};
 use std::alloc::Global;
 use std::io;
@@ -128,7 +128,7 @@ fn open_doors<
     let mut doors = Vec::new(alloc);
     let mut wakers = Vec::new(alloc);
     for _ in 0..count {
-        let waits = Waits::new(&rt, alloc)?;
+        let waits = WatchedSockets::new(&rt, alloc)?;
         wakers.push(waits.waker()?)?;
         doors.push(SocketDoor::new(rt, alloc, &listener, port, url, waits)?)?;
     }

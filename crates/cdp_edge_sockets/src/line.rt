@@ -7,7 +7,7 @@ ghost use Rattle.cdp_edge_sockets.specs.Received.{IsWithinLimit};
 use crate::deadline::Deadline;
 use crate::received::{Received, close_frame, read_as};
 use crate::streams::let_go;
-use crate::waits::{ROUNDS, Waits};
+use crate::waits::{ROUNDS, WatchedSockets};
 use cdp_edge_server::{LinkFault, Recv};
 use mio::net::TcpStream;
 use std::alloc::Global;
@@ -22,14 +22,14 @@ const CONTROLS: u32 = 1000;
 
 /// A socket and what its thread waits with.
 #[derive(Drop)]
-pub struct Line<R: RandomSource + Clock + Copy + Drop> {
+pub struct Connection<R: RandomSource + Clock + Copy + Drop> {
     pub rt: R,
     pub alloc: Global,
     pub socket: WebSocket<TcpStream, RandomKeys<R>>,
-    pub waits: Waits,
+    pub waits: WatchedSockets,
 }
 
-impl<R: RandomSource + Clock + Copy + Drop> Line<R> {
+impl<R: RandomSource + Clock + Copy + Drop> Connection<R> {
     /// What has arrived.
     fn hear(&mut self) -> Received
         ensures { IsWithinLimit result }
@@ -116,8 +116,8 @@ impl<R: RandomSource + Clock + Copy + Drop> Line<R> {
     }
 
     /// Ends the connection, and gives back what its thread waits with.
-    pub fn let_go(self) -> Waits {
-        let Line {
+    pub fn let_go(self) -> WatchedSockets {
+        let Connection {
             rt: _,
             alloc: _,
             socket,

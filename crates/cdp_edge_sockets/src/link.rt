@@ -2,8 +2,8 @@
 
 ghost use Rattle.std.specs.Prelude.{◌≡◌, None};
 
-use crate::line::Line;
-use crate::waits::Waits;
+use crate::line::Connection;
+use crate::waits::WatchedSockets;
 use cdp_edge_server::{Link, LinkFault, Recv};
 use std::marker::Model;
 use std::random::RandomSource;
@@ -16,7 +16,7 @@ use std::rt::Clock;
 /// seconds has failed.
 #[derive(Drop)]
 pub struct SocketLink<R: RandomSource + Clock + Copy + Drop> {
-    line: Line<R>,
+    line: Connection<R>,
     faults: u64,
 }
 
@@ -30,7 +30,7 @@ impl<R: RandomSource + Clock + Copy + Drop> Model for SocketLink<R> {
 
 impl<R: RandomSource + Clock + Copy + Drop> SocketLink<R> {
     /// A link that never failed.
-    pub(crate) fn new(line: Line<R>) -> SocketLink<R>
+    pub(crate) fn new(line: Connection<R>) -> SocketLink<R>
         ensures { result ≡ 0 }
     {
         SocketLink { line, faults: 0 }
@@ -44,7 +44,7 @@ impl<R: RandomSource + Clock + Copy + Drop> SocketLink<R> {
     }
 
     /// Ends the connection, and gives back what its thread waits with.
-    pub(crate) fn let_go(self) -> Waits {
+    pub(crate) fn let_go(self) -> WatchedSockets {
         self.line.let_go()
     }
 }

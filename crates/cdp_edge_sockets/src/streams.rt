@@ -1,6 +1,6 @@
 //! How a connection begins and ends.
 
-use crate::waits::Waits;
+use crate::waits::WatchedSockets;
 use mio::net::TcpStream;
 use std::io::{ErrorKind, Read};
 use std::net::Shutdown;
@@ -14,7 +14,7 @@ const FAREWELL_READS: u32 = 1024;
 const FAREWELL_WAITS: u32 = 64;
 
 /// Makes a connection ready: its stream doesn't block, sends each piece at once, and is watched by these waits.
-pub fn prepare(stream: net::TcpStream, waits: &Waits) -> io::Result<TcpStream> {
+pub fn prepare(stream: net::TcpStream, waits: &WatchedSockets) -> io::Result<TcpStream> {
     stream.set_nonblocking(true)?;
     stream.set_nodelay(true)?;
     let mut stream = TcpStream::from_std(stream);
@@ -24,13 +24,13 @@ pub fn prepare(stream: net::TcpStream, waits: &Waits) -> io::Result<TcpStream> {
 
 /// Ends a connection so that the peer reads what it was sent: the way out is shut, and what still comes is passed over
 /// for a while. Else the system would reset the connection, and what was sent last might be lost.
-pub fn let_go(mut stream: TcpStream, waits: &mut Waits) {
+pub fn let_go(mut stream: TcpStream, waits: &mut WatchedSockets) {
     let _ = stream.shutdown(Shutdown::Write);
     pass_over(&mut stream, waits);
 }
 
 /// Reads to the end, or for a while.
-fn pass_over(stream: &mut TcpStream, waits: &mut Waits) {
+fn pass_over(stream: &mut TcpStream, waits: &mut WatchedSockets) {
     let mut part = [0u8; 4096];
     let mut patience = FAREWELL_WAITS;
     for _ in 0..FAREWELL_READS {

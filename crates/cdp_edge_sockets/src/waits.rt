@@ -21,16 +21,16 @@ const BELL: Token = Token(1);
 
 /// The sockets that are watched, and whether the bell was rung in a wait that was not for it.
 #[derive(Drop)]
-pub struct Waits {
+pub struct WatchedSockets {
     poll: Poll,
     events: Events,
     is_rung: bool,
 }
 
-impl Waits {
+impl WatchedSockets {
     /// Waits that watch no socket.
-    pub fn new<R: Net>(rt: &R, alloc: Global) -> io::Result<Waits> {
-        Ok(Waits {
+    pub fn new<R: Net>(rt: &R, alloc: Global) -> io::Result<WatchedSockets> {
+        Ok(WatchedSockets {
             poll: Poll::new(rt)?,
             events: Events::with_capacity(alloc, 4)?,
             is_rung: false,

@@ -3,10 +3,10 @@
 ghost use Rattle.std.specs.Prelude.{◌≡◌, ◌≤◌, ◌<◌, None, length, IfOk};
 
 use crate::deadline::Deadline;
-use crate::line::Line;
+use crate::line::Connection;
 use crate::received::served_limits;
 use crate::streams::let_go;
-use crate::waits::{ROUNDS, Waits};
+use crate::waits::{ROUNDS, WatchedSockets};
 use cdp_edge::SinkFault;
 use cdp_edge_wire::{Taken, Wire};
 use mio::net::TcpStream;
@@ -23,7 +23,7 @@ use tungstenite::{RandomKeys, Role, WebSocket};
 struct Stream<R: RandomSource + Clock + Copy + Drop> {
     rt: R,
     reader: BufReader<TcpStream>,
-    waits: Waits,
+    waits: WatchedSockets,
 }
 
 /// A connection in bytes, before it is a WebSocket. A contract sees its count of faults.
@@ -106,7 +106,7 @@ fn fault_at(kind: ErrorKind) -> SinkFault {
 
 impl<R: RandomSource + Clock + Copy + Drop> SocketWire<R> {
     /// A wire that never failed, over a stream of which nothing was read.
-    pub fn new(rt: R, reader: BufReader<TcpStream>, waits: Waits) -> SocketWire<R>
+    pub fn new(rt: R, reader: BufReader<TcpStream>, waits: WatchedSockets) -> SocketWire<R>
         ensures { result ≡ 0 }
     {
         SocketWire {
@@ -117,7 +117,7 @@ impl<R: RandomSource + Clock + Copy + Drop> SocketWire<R> {
 
     /// The line of a connection that was upgraded, which reads first what was read ahead. At want of memory it ends the
     /// connection, and gives back what its thread waits with.
-    pub fn upgrade(self, alloc: Global) -> Result<Line<R>, Waits> {
+    pub fn upgrade(self, alloc: Global) -> Result<Connection<R>, WatchedSockets> {
         let Stream {
             rt,
             reader,
@@ -137,7 +137,7 @@ impl<R: RandomSource + Clock + Copy + Drop> SocketWire<R> {
                     Role::Server,
                     limits,
                 );
-                Ok(Line {
+                Ok(Connection {
                     rt,
                     alloc,
                     socket,
@@ -152,7 +152,7 @@ impl<R: RandomSource + Clock + Copy + Drop> SocketWire<R> {
     }
 
     /// Ends the connection, and gives back what its thread waits with.
-    pub fn let_go(self) -> Waits {
+    pub fn let_go(self) -> WatchedSockets {
         let Stream {
             rt: _,
             reader,

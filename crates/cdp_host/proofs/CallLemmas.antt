@@ -14,7 +14,7 @@ use Rattle.js_machine.specs.Machines.{Machine}
 use Rattle.locations.specs.declared.spot.Spot.{Spot}
 use Rattle.pure_eval.specs.Workspaces.{Workspace, begun}
 use Rattle.cdp_session_messages.specs.Outboxes.{fits}
-use Rattle.cdp_session.specs.Replies.{Answer}
+use Rattle.cdp_session.specs.Replies.{AnsweredText}
 use Rattle.cdp_session.specs.Sessions.{Session, emptied, fresh}
 use Rattle.cdp_host_seats.specs.Fallbacks.{HasRoom, fallback_held}
 use Rattle.cdp_host_seats.specs.declared.fallback.Fallback.{Fallback}
@@ -82,7 +82,7 @@ unfolding fits
 nothing-fits = refl
 
 -- the texts that wait fit behind an answer
-pub answer-fit : (scripts : List Script) (w : Answered) (answer : Answer) (s : ℕ) (seats news : List (Seat Session))
+pub answer-fit : (scripts : List Script) (w : Answered) (answer : AnsweredText) (s : ℕ) (seats news : List (Seat Session))
     → AnswersIn w answer s seats news
     → AllFit (protocol scripts) seats → AllFit (protocol scripts) news
 answer-fit scripts (Kept asks) answer s seats news is fit =
@@ -115,7 +115,7 @@ attach-fit scripts x n w seats news is are fit =
 -- ---- seats that were lent
 
 -- what became of a text, where the seats are given back
-pub answers-back : (w : Answered) (answer : Answer) (n s : ℕ) (seats lent news rest : List (Seat Session))
+pub answers-back : (w : Answered) (answer : AnsweredText) (n s : ℕ) (seats lent news rest : List (Seat Session))
     → lent ≡ seats
     → n ≡ length lent
     → AnswersIn w answer s lent news → AnswersIn w answer s seats (first n (news ++ rest))

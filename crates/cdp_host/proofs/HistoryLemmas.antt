@@ -8,7 +8,7 @@ use Rattle.js_tree.specs.declared.script.Script.{Script}
 use Rattle.js_semantics.specs.Run.{Run}
 use Rattle.cdp_host_seats.specs.declared.losses.SessionLost.{SessionLost}
 use Rattle.cdp_host.specs.Histories.{Meaning, apply, begin, whole}
-use Rattle.cdp_host.specs.Hosts.{HostState, Leaves, Stands, meaning_with}
+use Rattle.cdp_host.specs.Hosts.{HostState, Leaves, StandsFor, meaning_with}
 use Rattle.cdp_host.specs.Programs.{printed_of, start}
 use Rattle.cdp_host.specs.Protocols.{protocol}
 use Rattle.cdp_host.proofs.ProgramLemmas.{start-prints}
@@ -22,7 +22,7 @@ longer scripts input wait history entry = whole-more (protocol scripts) (start s
 pub stands-start : (scripts : List Script) (input : List (List ℕ)) (wait : Bool) (host : HostState)
     → host.scripts ≡ scripts
     → host.broken ≡ false
-    → meaning_with host [] ≡ begin scripts input wait → Stands scripts input wait host []
+    → meaning_with host [] ≡ begin scripts input wait → StandsFor scripts input wait host []
 stands-start scripts input wait host same works is = record {
   runs = same;
   fits = tt;
@@ -38,11 +38,11 @@ stands-start scripts input wait host same works is = record {
 -- a host that works, behind an entry that leads from what it stands for to what it is then
 pub stands-behind : (scripts : List Script) (input : List (List ℕ)) (wait : Bool) (old new : HostState)
     (history : List Entry) (entry : Entry)
-    → Stands scripts input wait old history → new.scripts ≡ old.scripts → new.broken ≡ false
+    → StandsFor scripts input wait old history → new.scripts ≡ old.scripts → new.broken ≡ false
     → FitsEntry (protocol scripts) (whole scripts input wait history) entry
     → StandsAs (meaning_with new (printed_of (apply scripts (whole scripts input wait history) entry).program))
     (apply scripts (whole scripts input wait history) entry)
-    → Stands scripts input wait new (history ++ entry ∷ [])
+    → StandsFor scripts input wait new (history ++ entry ∷ [])
 stands-behind scripts input wait old new history entry stood same works fit stands =
     let more = longer scripts input wait history entry in
     let P : Meaning Run → Type 0 = λ m. StandsAs (meaning_with new (printed_of m.program)) m in
@@ -56,13 +56,13 @@ stands-behind scripts input wait old new history entry stood same works fit stan
 -- the same of an entry that makes no steps
 pub stands-call : (scripts : List Script) (input : List (List ℕ)) (wait : Bool) (old new : HostState)
     (history : List Entry) (entry : Entry)
-    → Stands scripts input wait old history
+    → StandsFor scripts input wait old history
     → steps_of entry ≡ zero
     → FitsEntry (protocol scripts) (whole scripts input wait history) entry
     → IsHeld old.meaning entry
     → Leaves old entry new
     → old.broken ≡ false
-    → Stands scripts input wait new (history ++ entry ∷ [])
+    → StandsFor scripts input wait new (history ++ entry ∷ [])
 stands-call scripts input wait old new history entry stood none fit held leaves works =
     let m : Meaning Run = whole scripts input wait history in
     let taken : List (List ℕ) = printed_of m.program in
@@ -80,10 +80,10 @@ stands-call scripts input wait old new history entry stood none fit held leaves 
 -- a broken host, behind an entry that leaves its seats
 pub stands-broken : (scripts : List Script) (input : List (List ℕ)) (wait : Bool) (old new : HostState)
     (history : List Entry) (entry : Entry)
-    → Stands scripts input wait old history → new.scripts ≡ old.scripts → new.broken ≡ true
+    → StandsFor scripts input wait old history → new.scripts ≡ old.scripts → new.broken ≡ true
     → FitsEntry (protocol scripts) (whole scripts input wait history) entry
     → BrokenAs new.meaning.seats (apply scripts (whole scripts input wait history) entry).seats
-    → Stands scripts input wait new (history ++ entry ∷ [])
+    → StandsFor scripts input wait new (history ++ entry ∷ [])
 stands-broken scripts input wait old new history entry stood same fails fit left =
     let more = longer scripts input wait history entry in
     let P : Meaning Run → Type 0 = λ m. BrokenAs new.meaning.seats m.seats in
@@ -97,7 +97,7 @@ stands-broken scripts input wait old new history entry stood same fails fit left
 -- what it has to hand out doesn't matter
 pub stands-handed : (scripts : List Script) (input : List (List ℕ)) (wait : Bool) (host : HostState)
     (history : List Entry) (losses : List SessionLost)
-    → Stands scripts input wait host history → Stands scripts input wait (record host { fallen = losses }) history
+    → StandsFor scripts input wait host history → StandsFor scripts input wait (record host { fallen = losses }) history
 stands-handed scripts input wait host history losses stood = record {
   runs = stood.runs;
   fits = stood.fits;

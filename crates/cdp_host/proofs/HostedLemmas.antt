@@ -34,7 +34,7 @@ use Rattle.cdp_host_turns.specs.declared.state.State.{State}
 use Rattle.cdp_host_turns.specs.declared.state.State.TheVariants.{Broken, Shut, Threw, Ended, Paused, Waiting, Ready}
 use Rattle.cdp_host.specs.Debugged.{StandsOwned, debugging}
 use Rattle.cdp_host.specs.Histories.{Meaning, begin, whole}
-use Rattle.cdp_host.specs.Hosts.{CarriesOn, HostState, PrintsOn, RunsTo, Stands, meaning_with, state_at}
+use Rattle.cdp_host.specs.Hosts.{CarriesOn, HostState, PrintsOn, RunsTo, StandsFor, meaning_with, state_at}
 use Rattle.cdp_host.specs.Programs.{has_thrown, is_over, printed_of, start}
 use Rattle.cdp_host.specs.Protocols.{protocol}
 use Rattle.cdp_host.specs.States.{state_of}
@@ -52,7 +52,7 @@ pub owned-on : (scripts : List Script) (input : List (List ℕ)) (wait : Bool) (
     → StandsOwned scripts input wait old h → StandsOwned scripts input wait new (h ++ (k, entry) ∷ [])
 owned-on scripts input wait old new k entry h carries owned s = record {
   stands =
-      subst (Stands scripts input wait new) (sym (entries-more h k entry)) (carries scripts input wait (entries_of h) s.stands);
+      subst (StandsFor scripts input wait new) (sym (entries-more h k entry)) (carries scripts input wait (entries_of h) s.stands);
   owned = owned-more [] h k entry s.owned owned;
 }
 
@@ -288,8 +288,8 @@ pub owned-fails : (scripts : List Script) (input : List (List ℕ)) (wait : Bool
     (lost : List SessionLost) (k : ℕ) (h : List (ℕ × Entry)) → old.broken ≡ false → mid.broken ≡ true → mid.scripts ≡ old.scripts
     → mid.meaning.seats ≡ each broken_seat old.meaning.seats → mid.fallen ≡ losses_from 1 (each fallen old.meaning.seats)
     → lost ≡ mid.fallen
-    → ((scripts : List Script) (input : List (List ℕ)) (wait : Bool) (history : List Entry) → Stands scripts input wait mid history
-    → Stands scripts input wait new history)
+    → ((scripts : List Script) (input : List (List ℕ)) (wait : Bool) (history : List Entry) → StandsFor scripts input wait mid history
+    → StandsFor scripts input wait new history)
     → StandsOwned scripts input wait old h
     → StandsOwned scripts input wait new (h ++ (k, Ran 0 moment (lost_for_memory lost)) ∷ [])
 owned-fails scripts input wait old mid new moment lost k h works fails same seats fell_all are handed s =
@@ -311,6 +311,6 @@ owned-fails scripts input wait old mid new moment lost k h works fails same seat
     let stood = handed scripts input wait (es ++ Ran 0 moment gone ∷ [])
     (stands-broken scripts input wait old mid es (Ran 0 moment gone) s.stands same fails (λ j small. absurd (omega (arith, small))) broken) in
     record {
-      stands = subst (Stands scripts input wait new) (sym (entries-more h k (Ran 0 moment gone))) stood;
+      stands = subst (StandsFor scripts input wait new) (sym (entries-more h k (Ran 0 moment gone))) stood;
       owned = owned-more [] h k (Ran 0 moment gone) s.owned tt;
     }

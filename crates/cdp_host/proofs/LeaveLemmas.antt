@@ -12,7 +12,7 @@ use Rattle.cdp_host_isolation.specs.declared.seat.Seat.TheVariants.{Attached, Le
 use Rattle.cdp_host_isolation.proofs.FallenLemmas.{fallen-none, fell-put, less-self, none-fallen}
 use Rattle.cdp_host_isolation.proofs.PassLemmas.{on-each}
 use Rattle.cdp_session.specs.declared.asks.Asks.{Asks}
-use Rattle.cdp_session.specs.Replies.{Answer, answer_of}
+use Rattle.cdp_session.specs.Replies.{AnsweredText, answer_of}
 use Rattle.cdp_session.specs.Sessions.{Session}
 use Rattle.cdp_host.specs.Hosts.{CarriesOn, HostState, Leaves, meaning_with, parts_standing}
 use Rattle.cdp_host.specs.Protocols.{answer_at, asks_to_resume, asks_to_wake, protocol, situation}
@@ -140,7 +140,7 @@ apply-left : {C T Q X : Type 0}
 apply-left P s m x had = ap (detach P s m) (sym had)
 
 -- the answer to a text, as the code sees the program
-abbrev pub becomes : HostState → List ℕ → Session → Answer
+abbrev pub becomes : HostState → List ℕ → Session → AnsweredText
 becomes h text x = answer_of (situation h.scripts h.meaning.stop (parts_standing h.scripts h.meaning.program)) x text
 
 -- a host whose seats alone changed

@@ -13,10 +13,10 @@ use Rattle.js_semantics.specs.Run.{Run}
 use Rattle.cdp_json.specs.Messages.{refusal_text}
 use Rattle.cdp_json.specs.declared.refusal.Refusal.{Refusal}
 use Rattle.cdp_session.specs.declared.asks.Asks.{Asks}
-use Rattle.cdp_session.specs.Replies.{Answer, IsRefused, answer_by, answer_of, outcome_of}
+use Rattle.cdp_session.specs.Replies.{AnsweredText, IsRefused, answer_by, answer_of, outcome_of}
 use Rattle.cdp_session.specs.Sessions.{Session, sent}
 use Rattle.cdp_host.specs.Histories.{Meaning, whole}
-use Rattle.cdp_host.specs.Hosts.{HostState, Stands, meaning_with, parts_standing}
+use Rattle.cdp_host.specs.Hosts.{HostState, StandsFor, meaning_with, parts_standing}
 use Rattle.cdp_host.specs.Programs.{printed_of, start}
 use Rattle.cdp_host.specs.Protocols.{asks_to_resume, asks_to_wake, protocol, situation}
 use Rattle.cdp_host.specs.Watching.{AnswersIn}
@@ -41,7 +41,7 @@ stands-enabled scripts host m stood well paused =
 
 pub stood-enabled : (scripts : List Script) (input : List (List ℕ)) (wait : Bool) (host : HostState)
     (history : List Entry)
-    → Stands scripts input wait host history → host.broken ≡ false → is_paused host.meaning ≡ true
+    → StandsFor scripts input wait host history → host.broken ≡ false → is_paused host.meaning ≡ true
     → some (is_enabled_seat (protocol host.scripts)) host.meaning.seats ≡ true
 stood-enabled scripts input wait host history stood works paused =
     let m : Meaning Run = whole scripts input wait history in
@@ -62,14 +62,14 @@ pub refused-told : (old mid new : HostState) (s : ℕ) (text : List ℕ) (asks :
     → (asks_to_resume asks ≡ false → asks_to_wake asks ≡ false
     → (is_paused mid.meaning ≡ true → some (is_enabled_seat (protocol mid.scripts)) mid.meaning.seats ≡ true)
     → new ≡ mid)
-    → Stands scripts input wait old history → seat_of s old.meaning.seats ≡ Attached x
+    → StandsFor scripts input wait old history → seat_of s old.meaning.seats ≡ Attached x
     → outcome_of (situation old.scripts old.meaning.stop (parts_standing old.scripts old.meaning.program))
     x text ≡ IsRefused id refusal
     → new.meaning ≡ with_seat s (Attached (sent (refusal_text id refusal ∷ []) x)) old.meaning
 refused-told old mid new s text asks x id refusal scripts input wait history same works answers quiet stood had
     refused =
     let y : Session = sent (refusal_text id refusal ∷ []) x in
-    let a : Answer = answer_of (situation old.scripts old.meaning.stop (parts_standing old.scripts old.meaning.program))
+    let a : AnsweredText = answer_of (situation old.scripts old.meaning.stop (parts_standing old.scripts old.meaning.program))
     x text in
     let answer : a ≡ answer_by x (IsRefused id refusal) = ap (λ o. answer_by x o) refused in
     let test : Seat Session → Bool = is_enabled_seat (protocol old.scripts) in

@@ -30,7 +30,7 @@ use Rattle.cdp_host_seats.specs.Fallbacks.{fallback_of}
 use Rattle.cdp_host_seats.specs.Losses.{losses_from}
 use Rattle.cdp_host_seats.specs.declared.losses.SessionLost.{SessionLost}
 use Rattle.cdp_host.specs.Histories.{Meaning, apply, whole}
-use Rattle.cdp_host.specs.Hosts.{CarriesOn, FallsBack, HostState, KeepsFallback, NoneAttached, Parts, PrintsOn, RunsTo, Stands, beside, beside_behind, everybody, meaning_with, pause_behind, run_with}
+use Rattle.cdp_host.specs.Hosts.{CarriesOn, FallsBack, HostState, KeepsFallback, NoneAttached, Parts, PrintsOn, RunsTo, StandsFor, beside, beside_behind, everybody, meaning_with, pause_behind, run_with}
 use Rattle.cdp_host_turns.specs.Entries.{lost_for_memory}
 use Rattle.cdp_host.specs.Programs.{printed_of}
 use Rattle.cdp_host.specs.Protocols.{protocol}
@@ -288,7 +288,7 @@ pub ran-out : (scripts : List Script) (input : List (List ℕ)) (wait : Bool) (o
     → ((taken : List (List ℕ))
     → RunsTo old.scripts moment most (meaning_with old taken) steps printed lost
     (meaning_with new (taken ++ printed)))
-    → Stands scripts input wait old history
+    → StandsFor scripts input wait old history
     → printed_of (apply scripts (whole scripts input wait history) (Ran steps moment (lost_for_memory lost))).program
     ≡ printed_of (whole scripts input wait history).program ++ printed
 ran-out scripts input wait old new history moment most steps printed lost works handed runs stood =
@@ -315,8 +315,8 @@ pub stands-run : (scripts : List Script) (input : List (List ℕ)) (wait : Bool)
     → ((taken : List (List ℕ))
     → RunsTo old.scripts moment most (meaning_with old taken) steps printed lost
     (meaning_with new (taken ++ printed)))
-    → Stands scripts input wait old history
-    → Stands scripts input wait new (history ++ Ran steps moment (lost_for_memory lost) ∷ [])
+    → StandsFor scripts input wait old history
+    → StandsFor scripts input wait new (history ++ Ran steps moment (lost_for_memory lost) ∷ [])
 stands-run scripts input wait old new history moment most steps printed lost same works still handed runs stood =
     let m : Meaning Run = whole scripts input wait history in
     let taken : List (List ℕ) = printed_of m.program in
@@ -342,8 +342,8 @@ no_steps scripts m moment gone = λ j small. absurd (omega (arith, small))
 pub stands-none : (scripts : List Script) (input : List (List ℕ)) (wait : Bool) (host : HostState)
     (history : List Entry) (moment : ℕ) (gone : List ℕ)
     → host.broken ≡ true
-    → Stands scripts input wait host history
-    → Stands scripts input wait host (history ++ Ran zero moment gone ∷ [])
+    → StandsFor scripts input wait host history
+    → StandsFor scripts input wait host (history ++ Ran zero moment gone ∷ [])
 stands-none scripts input wait host history moment gone fails stood =
     let m : Meaning Run = whole scripts input wait history in
     stands-broken scripts input wait host host history (Ran zero moment gone) stood refl fails
@@ -355,8 +355,8 @@ pub stands-fails : (scripts : List Script) (input : List (List ℕ)) (wait : Boo
     (history : List Entry) (moment : ℕ)
     → new.scripts ≡ old.scripts → old.broken ≡ false → new.broken ≡ true
     → new.meaning.seats ≡ each broken_seat old.meaning.seats
-    → Stands scripts input wait old history
-    → Stands scripts input wait new (history ++ Ran zero moment (everybody old) ∷ [])
+    → StandsFor scripts input wait old history
+    → StandsFor scripts input wait new (history ++ Ran zero moment (everybody old) ∷ [])
 stands-fails scripts input wait old new history moment same works fails seats stood =
     let m : Meaning Run = whole scripts input wait history in
     let host : Meaning Run = meaning_with old (printed_of m.program) in

@@ -26,7 +26,7 @@ use Rattle.cdp_host.specs.Histories.{Meaning}
 use Rattle.cdp_host.specs.Programs.{arrival_of, plain, start}
 use Rattle.cdp_host.specs.Protocols.{protocol}
 use Rattle.cdp_host.specs.Rules.{NoOtherEnabled, StepsAlone, StopsAtFirst, ends_step}
-use Rattle.cdp_host.specs.Steps.{Step, names, seen_behind, step_of}
+use Rattle.cdp_host.specs.Steps.{Step, names_stop, seen_behind, step_of}
 use Rattle.cdp_host.proofs.ProgramLemmas.{plain-next}
 use Rattle.cdp_host.proofs.ProtocolLemmas.{plain-same}
 use Rattle.cdp_host.proofs.WatchLemmas.{names-same, told-asks}
@@ -66,7 +66,7 @@ causes-step x kind depth s a alone =
 names-alone : (t : Step) (x : Session) (kind : StepKind) (depth : ℕ)
     → t.first ≡ false
     → StepsAlone x kind depth
-    → names t x ≡ ends_step kind depth t.arrival
+    → names_stop t x ≡ ends_step kind depth t.arrival
 names-alone t x kind depth first alone =
     ap (λ b. is_some (cause_of t.standing t.arrival x) || (b && (x.rules.enabled && not t.standing.over))) first
     ∙ or_false (is_some (cause_of t.standing t.arrival x))
@@ -75,7 +75,7 @@ names-alone t x kind depth first alone =
 -- ---- others
 
 -- a session that hasn't the debugger enabled names nothing
-pub unnamed-disabled : (t : Step) (y : Session) → y.rules.enabled ≡ false → names t y ≡ false
+pub unnamed-disabled : (t : Step) (y : Session) → y.rules.enabled ≡ false → names_stop t y ≡ false
 unnamed-disabled t y off = rw off (and_right t.first false refl)
 
 unnamed_seat : (scripts : List Script) (t : Step) (seat : Seat Session)
@@ -99,11 +99,11 @@ steady scripts =
 -- a program behind so many plain steps makes one that the session names where it ends the step
 named_there : (kind : StepKind) (depth : ℕ) (scripts : List Script) (input : List (List ℕ)) (made j : ℕ) (x : Session)
     → StepsAlone x kind depth
-    → names (step_of scripts false (stops_.plain (protocol scripts) (made + j) (start scripts input))) x
+    → names_stop (step_of scripts false (stops_.plain (protocol scripts) (made + j) (start scripts input))) x
     ≡ ends_step kind depth (arrival_of scripts (plain (made + j + 1) scripts input))
 named_there kind depth scripts input made j x alone =
     let e : suc (made + j) ≡ made + j + 1 = omega arith in
-    ap (λ r. names (step_of scripts false r) x) (plain-same (made + j) scripts input)
+    ap (λ r. names_stop (step_of scripts false r) x) (plain-same (made + j) scripts input)
     ∙ names-alone (step_of scripts false (plain (made + j) scripts input)) x kind depth refl alone
     ∙ ap (λ r. ends_step kind depth (arrival_of scripts r))
     (plain-next (made + j) scripts input ∙ ap (λ k. plain k scripts input) e)

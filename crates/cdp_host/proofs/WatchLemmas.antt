@@ -10,7 +10,7 @@ use Rattle.cdp_session.specs.Stops.{stop_texts, stopped}
 use Rattle.cdp_session.specs.declared.ending.Ending.{Ending}
 use Rattle.cdp_session.specs.declared.ending.Ending.TheVariants as endings
 use Rattle.cdp_session_messages.proofs.OutboxSizes.{unfit-as}
-use Rattle.cdp_host.specs.Steps.{Step, end_texts, end_told, names, print_texts, print_told, session_behind, told}
+use Rattle.cdp_host.specs.Steps.{Step, end_texts, end_told, names_stop, print_texts, print_told, session_behind, told}
 
 -- ---- what a session asks for
 
@@ -31,7 +31,7 @@ asks-trans x y z first second = record {
 }
 
 -- so they name the same
-pub names-same : (step : Step) (x y : Session) → AsksSame x y → names step x ≡ names step y
+pub names-same : (step : Step) (x y : Session) → AsksSame x y → names_stop step x ≡ names_stop step y
 names-same step x y same =
     rw (same.rules, same.breakpoints, same.workspace) refl
 
@@ -62,7 +62,7 @@ told-asks s moment step x =
 
 -- so it names the same behind it
 pub told-names : (s : Situation) (moment : ℕ) (step : Step) (x : Session)
-    → names step (told s moment step x) ≡ names step x
+    → names_stop step (told s moment step x) ≡ names_stop step x
 told-names s moment step x = names-same step (told s moment step x) x (told-asks s moment step x)
 
 -- ---- texts
@@ -101,7 +101,7 @@ told-outbox s moment step x =
     end_outbox s step.ending moment y
 
 -- and what is told of a stop behind that
-pub stopped-outbox : (s : Situation) (number moment : ℕ) (step : Step) (x : Session) (b : Bool) → names step x ≡ b
+pub stopped-outbox : (s : Situation) (number moment : ℕ) (step : Step) (x : Session) (b : Bool) → names_stop step x ≡ b
     → (session_behind s number moment step x).outbox ≡ (told s moment step x).outbox ++
     (if b then stop_texts s number step.arrival (told s moment step x) else [])
 stopped-outbox s number moment step x true is = rw is refl
@@ -119,28 +119,28 @@ print-over s moment step x over = unfit-as _ _ _ (told-outbox s moment step x) o
 pub told-over : (s : Situation) (number moment : ℕ) (step : Step) (x : Session)
     → fits (told s moment step x).outbox ≡ false
     → fits (session_behind s number moment step x).outbox ≡ false
-told-over s number moment step x over = unfit-as _ _ _ (stopped-outbox s number moment step x (names step x) refl) over
+told-over s number moment step x over = unfit-as _ _ _ (stopped-outbox s number moment step x (names_stop step x) refl) over
 
 -- ---- the code's tests
 
 -- a session that was told names what it named
 pub names-told : (s : Situation) (moment : ℕ) (step : Step) (x y : Session) (b c : Bool)
     → y ≡ told s moment step x
-    → b ≡ names step y
+    → b ≡ names_stop step y
     → b ≡ c
-    → names step x ≡ c
+    → names_stop step x ≡ c
 names-told s moment step x y b c is named test =
-    sym (ap (names step) is ∙ told-names s moment step x) ∙ sym named ∙ test
+    sym (ap (names_stop step) is ∙ told-names s moment step x) ∙ sym named ∙ test
 
 -- what a session is behind a step that it names, or doesn't
 pub behind-named : (s : Situation) (number moment : ℕ) (step : Step) (x : Session)
-    → names step x ≡ true
+    → names_stop step x ≡ true
     → stopped s number step.arrival (told s moment step x) ≡ session_behind s number moment step x
 behind-named s number moment step x named =
     ap (λ b. if b then stopped s number step.arrival (told s moment step x) else told s moment step x) (sym named)
 
 pub behind-passed : (s : Situation) (number moment : ℕ) (step : Step) (x : Session)
-    → names step x ≡ false
+    → names_stop step x ≡ false
     → told s moment step x ≡ session_behind s number moment step x
 behind-passed s number moment step x named =
     ap (λ b. if b then stopped s number step.arrival (told s moment step x) else told s moment step x) (sym named)

@@ -7,7 +7,7 @@ use Rattle.js_semantics.specs.Run.{Run}
 use Rattle.cdp_session.specs.declared.situation.Pause.{Pause}
 use Rattle.cdp_session.specs.Sessions.{Session}
 use Rattle.cdp_host_turns.specs.Debuggings.{Debugging}
-use Rattle.cdp_host.specs.Hosts.{HostState, Stands}
+use Rattle.cdp_host.specs.Hosts.{HostState, StandsFor}
 use Rattle.cdp_host.specs.Programs.{has_thrown, printed_of, start}
 use Rattle.cdp_host.specs.Protocols.{protocol}
 use Rattle.cdp_host.specs.Steps.{Step}
@@ -29,5 +29,5 @@ debugging scripts input wait = record {
 -- a host stands for a history in which each session is its owner's
 pub record StandsOwned (scripts : List Script) (input : List (List ℕ)) (wait : Bool) (host : HostState)
     (history : List (ℕ × Entry)) : Type 0 where
-  pub stands : Stands scripts input wait host (entries_of history)
+  pub stands : StandsFor scripts input wait host (entries_of history)
   pub owned : AreOwned [] history

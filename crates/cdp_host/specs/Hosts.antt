@@ -139,7 +139,7 @@ NoneAttached seats = some is_attached seats ≡ false
 -- that they printed: it is what the history means, but for sessions that a resume lost for want of memory, of which the
 -- next run tells. A broken one has the seats that the history leaves: none of them is attached, and none waits for a
 -- run.
-pub record Stands (scripts : List Script) (input : List (List ℕ)) (wait : Bool) (host : HostState)
+pub record StandsFor (scripts : List Script) (input : List (List ℕ)) (wait : Bool) (host : HostState)
     (history : List Entry) : Type 0 where
   pub runs : host.scripts ≡ scripts
   pub fits : IsHistory scripts input wait history
@@ -159,12 +159,12 @@ pub record Leaves (old : HostState) (entry : Entry) (new : HostState) : Type 0 w
 -- a host that stands for a history stands for it with this entry behind a call
 abbrev pub CarriesOn : HostState → Entry → HostState → Type 0
 CarriesOn old entry new = (scripts : List Script) (input : List (List ℕ)) (wait : Bool) (history : List Entry)
-    → Stands scripts input wait old history → Stands scripts input wait new (history ++ entry ∷ [])
+    → StandsFor scripts input wait old history → StandsFor scripts input wait new (history ++ entry ∷ [])
 
 -- where a host stands for a history, this entry behind it prints these texts
 abbrev pub PrintsOn : HostState → Entry → List (List ℕ) → Type 0
 PrintsOn old entry printed = (scripts : List Script) (input : List (List ℕ)) (wait : Bool) (history : List Entry)
-    → Stands scripts input wait old history
+    → StandsFor scripts input wait old history
     → printed_of (apply scripts (whole scripts input wait history) entry).program
     ≡ printed_of (whole scripts input wait history).program ++ printed
 

@@ -8,7 +8,7 @@ use Rattle.cdp_session.specs.declared.asks.Asks.{Asks}
 use Rattle.cdp_session.specs.declared.asks.Asks.TheVariants.{Nothing, Wake, Resume, Leave}
 use Rattle.cdp_session.specs.declared.situation.Pause.{Pause}
 use Rattle.cdp_session_messages.specs.Outboxes.{fits}
-use Rattle.cdp_session.specs.Replies.{Answer, answer_of, answer_texts, outcome_of}
+use Rattle.cdp_session.specs.Replies.{AnsweredText, answer_of, answer_texts, outcome_of}
 use Rattle.cdp_session_messages.specs.Results.{resumed_text}
 use Rattle.cdp_session.specs.Sessions.{Session, emptied, fresh, if_enabled}
 use Rattle.cdp_session.specs.Situations.{Situation, Standing}
@@ -16,7 +16,7 @@ use Rattle.cdp_session.specs.Stops.{resumed, stopped, stop_texts}
 use Rattle.pure_eval.specs.Workspaces.{begun}
 use Rattle.cdp_host.specs.Programs.{arrival_of, code_of, is_over, next}
 use Rattle.cdp_host.specs.Standings.{standing_of}
-use Rattle.cdp_host.specs.Steps.{Step, end_texts, names, print_texts, print_told, seen_behind, step_of, told}
+use Rattle.cdp_host.specs.Steps.{Step, end_texts, names_stop, print_texts, print_told, seen_behind, step_of, told}
 
 -- ---- what a command sees, and what it asks
 
@@ -39,7 +39,7 @@ asks_to_wake Resume = false
 asks_to_wake Leave = false
 
 -- the answer to a text of a program that stands there
-abbrev pub answer_at : List Script → Option Pause → Run → List ℕ → Session → Answer
+abbrev pub answer_at : List Script → Option Pause → Run → List ℕ → Session → AnsweredText
 answer_at scripts q r text x = answer_of (situation scripts q (standing_of scripts r)) x text
 
 -- ---- a session, as a host asks for it
@@ -101,7 +101,7 @@ protocol scripts = record {
   wakes = asks_begin scripts;
   resumed = resumed;
   told = step_told scripts;
-  names = names;
+  names = names_stop;
   stopped = stop_told scripts;
 }
 

@@ -44,8 +44,8 @@ abbrev pub is_started : Step → Session → Bool
 is_started step x = step.first && (x.rules.enabled && not step.standing.over)
 
 -- a rule of the session names a stop behind the step, or the start rule does
-abbrev pub names : Step → Session → Bool
-names step x = is_some (cause_of step.standing step.arrival x) || is_started step x
+abbrev pub names_stop : Step → Session → Bool
+names_stop step x = is_some (cause_of step.standing step.arrival x) || is_started step x
 
 -- ---- what a session is told
 
@@ -66,7 +66,7 @@ told s moment step x = end_told s step.ending moment (print_told s step.values m
 -- a session that is told of a step, and then of the stop of this number, where it names one
 abbrev pub session_behind : Situation → ℕ → ℕ → Step → Session → Session
 session_behind s number moment step x =
-    if names step x then stopped s number step.arrival (told s moment step x) else told s moment step x
+    if names_stop step x then stopped s number step.arrival (told s moment step x) else told s moment step x
 
 -- ---- the texts of that
 

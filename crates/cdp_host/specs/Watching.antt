@@ -13,7 +13,7 @@ use Rattle.cdp_session_messages.specs.declared.session_end.SessionEnd.{SessionEn
 use Rattle.cdp_session_messages.specs.declared.session_end.SessionEnd.TheVariants as ends
 use Rattle.cdp_session.specs.declared.situation.Situation.{Situation as Held}
 use Rattle.cdp_session_messages.specs.Outboxes.{fits}
-use Rattle.cdp_session.specs.Replies.{Answer}
+use Rattle.cdp_session.specs.Replies.{AnsweredText}
 use Rattle.cdp_session.specs.Sessions.{Session}
 use Rattle.cdp_session.specs.Situations.{Standing}
 use Rattle.cdp_host.specs.Programs.{nexts, prints_next}
@@ -58,14 +58,14 @@ loss_of ends.Memory = Memory
 -- ---- one seat among others
 
 -- what became of a text with this answer, and the seat of its session
-abbrev pub AnswersAs : Answered → Answer → Seat Session → Type 0
+abbrev pub AnswersAs : Answered → AnsweredText → Seat Session → Type 0
 AnswersAs (Kept asks) answer new =
     (new ≡ Attached answer.session) × (asks ≡ answer.asks) × (fits answer.session.outbox ≡ true)
 AnswersAs Overran answer new = (new ≡ Left) × (fits answer.session.outbox ≡ false)
 AnswersAs Failed answer new = new ≡ Left
 
 -- what became of a text with this answer, and of the seats of all sessions
-abbrev pub AnswersIn : Answered → Answer → ℕ → List (Seat Session) → List (Seat Session) → Type 0
+abbrev pub AnswersIn : Answered → AnsweredText → ℕ → List (Seat Session) → List (Seat Session) → Type 0
 AnswersIn (Kept asks) answer s old new =
     (new ≡ put s (Attached answer.session) old) × (asks ≡ answer.asks) × (fits answer.session.outbox ≡ true)
 AnswersIn Overran answer s old new = (new ≡ put s Left old) × (fits answer.session.outbox ≡ false)

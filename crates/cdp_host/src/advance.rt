@@ -33,7 +33,7 @@ use js_heap_memory::heap::BaseHeap;
 use js_machine::end::End;
 use js_machine::machine::Machine;
 use js_machine_actions::context::Context;
-use js_machine_engine::run::{Asks, Ran, Why};
+use js_machine_engine::run::{StopTest, StoppedRun, Why};
 use js_machine_engine::stack::Stack;
 use js_machine_engine::task::Point;
 use js_machine_inspection::arrivals::arrival;
@@ -52,7 +52,7 @@ struct Watch<'s> {
     ghost located: { AreLines scripts.now lines.now },
 }
 
-impl Asks for Watch<'_> {
+impl StopTest for Watch<'_> {
     ghost stops = { λ watch term frames. may_stop (arrival_at watch.scripts.now term frames) watch.seats.now };
 
     fn asks(&self, table: &NodeTable, context: &Context, stack: &Stack, point: Point) -> bool {
@@ -168,7 +168,7 @@ fn run_machine(
         lines,
         seats,
     };
-    let Ran { steps, why } = machine.run(heap, most, &watch);
+    let StoppedRun { steps, why } = machine.run(heap, most, &watch);
     Stretch {
         steps,
         values: printed_values(why),

@@ -13,7 +13,7 @@ ghost use Rattle.cdp_host.specs.Standings.{value_of, IsKept-prop};
 
 use cdp_session::{Program, ProgramCells};
 use cdp_text::line_table::LineTable;
-use frames_scopes::Standing;
+use frames_scopes::StandingMachine;
 use frames_scopes_types::CallFrame;
 use js_heap::built_in::script_scope;
 use js_heap::value::{Addr, Value};
@@ -21,7 +21,7 @@ use js_heap_memory::heap::BaseHeap;
 use js_machine::machine::Machine;
 use js_machine_inspection::standing::Thrown;
 use js_tree::script::{Expression, FunctionCode, Script};
-use pure_eval::Prepared;
+use pure_eval::PreparedSource;
 use pure_eval_preparation::{prepare, prepare_function};
 use std::alloc::{AllocError, Global};
 
@@ -62,7 +62,7 @@ impl<'m> Debuggee<'m> {
         requires { self.now.machine.now.ended ≡ None }
         ensures { IfOk result (λ frames. map frame_of frames.items ≡ walk self.now.scripts.now script_scope (term_of self.now.machine.now) (state_of self.now.machine.now (heap_world self.now.machine.now.names self.now.heap.now) [])) }
     {
-        let standing = Standing {
+        let standing = StandingMachine {
             table: self.machine.table(),
             names: self.machine.names(),
             scripts: self.scripts,
@@ -112,7 +112,7 @@ impl Program for Debuggee<'_> {
         alloc: Global,
         at: Addr,
         expression: &Expression,
-    ) -> Result<Prepared, AllocError> {
+    ) -> Result<PreparedSource, AllocError> {
         prepare(alloc, at, expression)
     }
 
@@ -121,7 +121,7 @@ impl Program for Debuggee<'_> {
         alloc: Global,
         at: Addr,
         function: &FunctionCode,
-    ) -> Result<Prepared, AllocError> {
+    ) -> Result<PreparedSource, AllocError> {
         prepare_function(alloc, at, function)
     }
 }

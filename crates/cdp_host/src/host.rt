@@ -21,7 +21,7 @@ ghost use Rattle.cdp_host.specs.Histories.{begin};
 ghost use Rattle.std.specs.Option.{option_map};
 ghost use Rattle.cdp_host.specs.Programs.{code_of, is_over, has_thrown, uncaught_text};
 ghost use Rattle.cdp_host.specs.Protocols.{asks_to_resume, asks_to_wake, protocol, situation, texts_fit};
-ghost use Rattle.cdp_host.specs.Hosts.{CarriesOn, FallsBack, KeepsFallback, Leaves, NoneAttached, PrintsOn, RunsTo, Stands, everybody, meaning_with, parts_standing, state_at};
+ghost use Rattle.cdp_host.specs.Hosts.{CarriesOn, FallsBack, KeepsFallback, Leaves, NoneAttached, PrintsOn, RunsTo, StandsFor, everybody, meaning_with, parts_standing, state_at};
 ghost use Rattle.cdp_host_turns.specs.Entries.{lost_for_memory};
 ghost use Rattle.cdp_host.specs.Ran.{IsStretch};
 ghost use Rattle.cdp_host.specs.Rules.{printed_between};
@@ -44,7 +44,7 @@ use cdp_session::{Asks, Pause, Program, Session, Situation};
 use cdp_text::line_table::LineTable;
 use cdp_text::units::{Units, text_of};
 use js_heap_memory::heap::BaseHeap;
-use js_heap_memory::names::Names;
+use js_heap_memory::names::NameTable;
 use js_machine::machine::{Machine, Started};
 use js_machine::scripts::terms_of_scripts;
 use js_machine_actions::shown::shown;
@@ -101,7 +101,11 @@ impl<'p> Model for Host<'p> {
 }
 
 /// What the evaluations of a session begin with, for a program of these scripts and names.
-fn workspace_of(alloc: Global, scripts: &[Script], names: &Names) -> Result<Workspace, AllocError>
+fn workspace_of(
+    alloc: Global,
+    scripts: &[Script],
+    names: &NameTable,
+) -> Result<Workspace, AllocError>
     ensures { IfOk result (λ w. w ≡ begun (code_of scripts.now)) }
 {
     let terms = terms_of_scripts(alloc, scripts)?;
@@ -164,7 +168,7 @@ impl<'p> Host<'p> {
         ensures scripts { IfOk result (λ host. host.scripts ≡ scripts.now) }
         ensures works { IfOk result (λ host. host.broken ≡ false) }
         ensures fallen { IfOk result (λ host. host.fallen ≡ []) }
-        ensures stands { IfOk result (λ host. Stands scripts.now input.items wait host []) }
+        ensures stands { IfOk result (λ host. StandsFor scripts.now input.items wait host []) }
     {
         let lines = lines_of_all(alloc, scripts)?;
         let spots = ScriptSpots::of(alloc, scripts)?;
@@ -296,7 +300,7 @@ impl<'p> Host<'p> {
             → texts_fit (answer_of (situation self.old.scripts self.old.meaning.stop (parts_standing self.old.scripts self.old.meaning.program)) x text.now).session ≡ false }
         // a refused command changes only the texts that wait
         ensures refused { result ≡ Told.Kept → (x : Kept) (id : Option ℕ) (refusal : Refusal) (scripts : List AnyScript) (input : List (List ℕ)) (wait : Bool) (history : List Entry)
-            → Stands scripts input wait self.old history → seat_of s self.old.meaning.seats ≡ Attached x
+            → StandsFor scripts input wait self.old history → seat_of s self.old.meaning.seats ≡ Attached x
             → outcome_of (situation self.old.scripts self.old.meaning.stop (parts_standing self.old.scripts self.old.meaning.program)) x text.now ≡ IsRefused id refusal
             → self.new.meaning ≡ with_seat s (Attached (sent (refusal_text id refusal ∷ []) x)) self.old.meaning }
         ensures stands_kept { result ≡ Told.Kept → CarriesOn self.old (Tell s text.now) self.new }
@@ -352,7 +356,7 @@ impl<'p> Host<'p> {
         ensures once { self.new ≡ record self.old { fallen = [] } }
         ensures works { self.old.broken ≡ false → result.items ≡ [] }
         ensures stands { (scripts : List AnyScript) (input : List (List ℕ)) (wait : Bool) (history : List Entry)
-            → Stands scripts input wait self.old history → Stands scripts input wait self.new history }
+            → StandsFor scripts input wait self.old history → StandsFor scripts input wait self.new history }
     {
         mem::replace(&mut self.fallen, Vec::new(self.alloc))
     }

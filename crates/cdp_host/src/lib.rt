@@ -2,7 +2,7 @@
 //!
 //! Its words in contracts:
 //!
-//! - `Stands`: a host stands for a history of these scripts with this input; `CarriesOn` says that it does behind one
+//! - `StandsFor`: a host stands for a history of these scripts with this input; `CarriesOn` says that it does behind one
 //!   entry more
 //! - *meaning*: what a history means: the program, where it is paused, and what became of each session
 //! - *printed*, *taken*: the texts that a run printed, and those that were handed out before

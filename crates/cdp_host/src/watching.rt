@@ -7,7 +7,7 @@ ghost use Rattle.cdp_host_isolation.specs.Texts.{Fits};
 ghost use Rattle.cdp_session_messages.specs.Outboxes.{fits};
 ghost use Rattle.cdp_session.specs.Situations.{seen};
 ghost use Rattle.cdp_host.specs.Protocols.{protocol};
-ghost use Rattle.cdp_host.specs.Steps.{end_told, is_started, names, print_told, session_behind, told};
+ghost use Rattle.cdp_host.specs.Steps.{end_told, is_started, names_stop, print_told, session_behind, told};
 ghost use Rattle.cdp_host.specs.Watching.{step_seen};
 
 use crate::seats::lost_by;
@@ -107,12 +107,12 @@ fn is_started<P: Program>(session: &Session, situation: &Situation<'_, P>, step:
 /// # Errors
 ///
 /// There is no memory for the evaluation of a condition. The session is to be dropped.
-fn names<P: Program>(
+fn names_stop<P: Program>(
     session: &mut Session,
     situation: &Situation<'_, P>,
     step: &Step,
 ) -> Result<bool, AllocError>
-    ensures named { IfOk result (λ named. named ≡ names (step_seen P.standing situation.now step.now) session.old) }
+    ensures named { IfOk result (λ named. named ≡ names_stop (step_seen P.standing situation.now step.now) session.old) }
     ensures kept { OnOk result (session.new ≡ session.old) }
 {
     let cause = session.names(situation, &step.arrival)?;
@@ -132,13 +132,13 @@ fn watch<P: Program>(
     moment: u64,
 ) -> Result<bool, SessionEnd>
     requires { moment < 2 ^ 53 }
-    ensures named { IfOk result (λ named. named ≡ names (step_seen P.standing situation.now step.now) session.old) }
+    ensures named { IfOk result (λ named. named ≡ names_stop (step_seen P.standing situation.now step.now) session.old) }
     ensures session { OnOk result (session.new ≡ session_behind (seen P.standing situation.now) number moment (step_seen P.standing situation.now step.now) session.old) }
     ensures fits { fits session.old.outbox ≡ true → OnOk result (fits (session_behind (seen P.standing situation.now) number moment (step_seen P.standing situation.now step.now) session.old).outbox ≡ true) }
     ensures over { IsErrOf result SessionEnd.Overrun → fits (session_behind (seen P.standing situation.now) number moment (step_seen P.standing situation.now step.now) session.old).outbox ≡ false }
 {
     tell_step(session, situation, step, moment)?;
-    let named = names(session, situation, step)?;
+    let named = names_stop(session, situation, step)?;
     if !named {
         return Ok(false);
     }

@@ -16,7 +16,7 @@ use Rattle.cdp_host_turns.specs.declared.answers.Gone.{Gone}
 use Rattle.cdp_host_turns.specs.declared.answers.Gone.TheVariants as gone
 use Rattle.cdp_host_turns.specs.declared.answers.Progress.{Progress}
 use Rattle.cdp_host_turns.specs.declared.answers.Progress.TheVariants as progress
-use Rattle.cdp_host_turns.specs.declared.answers.Taken.{Taken}
+use Rattle.cdp_host_turns.specs.declared.answers.HandedOut.{HandedOut}
 use Rattle.cdp_host_turns.specs.declared.answers.Told.{Told}
 use Rattle.cdp_host_turns.specs.declared.answers.Told.TheVariants.{Kept, Overrun, Memory}
 use Rattle.cdp_host_turns.specs.declared.state.State.TheVariants as states
@@ -106,7 +106,7 @@ Tells d s text p q (Ok told) = Acts d p q (told_entry told s text)
 Tells d s text p q (Err why) = Leaves d s p q why
 
 -- the texts that are handed out to it now
-abbrev pub Hands : Debugging → ℕ → PassState Entry → PassState Entry → Taken → Type 0
+abbrev pub Hands : Debugging → ℕ → PassState Entry → PassState Entry → HandedOut → Type 0
 Hands d s p q taken = handed d s q.seen ≡ handed d s p.seen ++ map string_bytes taken.texts.items
 
 -- where a program is said to be over, it is
@@ -115,7 +115,7 @@ IsOverIf d true h = IsOver d h
 IsOverIf d false h = Unit {0}
 
 -- the texts that wait for a session were handed out
-abbrev pub Takes : Debugging → ℕ → PassState Entry → PassState Entry → Result Taken Gone → Type 0
+abbrev pub Takes : Debugging → ℕ → PassState Entry → PassState Entry → Result HandedOut Gone → Type 0
 Takes d s p q (Ok taken) = Finds d (IsOverIf d taken.is_over) p q (Take s) × Hands d s p q taken
 Takes d s p q (Err why) = Leaves d s p q why
 

@@ -38,7 +38,7 @@ pub enum Gone {
 
 /// What a session was handed.
 #[derive(Drop)]
-pub struct Taken {
+pub struct HandedOut {
     /// The texts that waited for it, in order.
     pub texts: Vec<String>,
     /// Whether the program has ended: nothing more will come by itself.
@@ -49,7 +49,7 @@ pub struct Taken {
 #[derive(Drop)]
 pub enum Answered {
     /// It was answered, and the texts that waited were handed out.
-    Taken(Taken),
+    Taken(HandedOut),
     /// The texts of the answer don't fit behind those that wait, and the session is detached.
     Overrun,
     /// There was no memory for the answer, and the session is detached.

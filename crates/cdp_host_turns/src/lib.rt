@@ -16,7 +16,7 @@ mod hosted;
 mod state;
 mod turns;
 
-pub use answers::{Answered, Attached, Gone, Progress, Taken, Told};
+pub use answers::{Answered, Attached, Gone, HandedOut, Progress, Told};
 pub use entry::Entry;
 pub use hosted::{Hosted, Ran};
 pub use state::State;

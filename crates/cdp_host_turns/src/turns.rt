@@ -7,7 +7,7 @@ ghost use Rattle.history_lock.specs.Histories.{limit};
 ghost use Rattle.cdp_host_turns.specs.States.{HasState, tells_over};
 ghost use Rattle.cdp_host_turns.specs.Turns.{Acts, Attaches, Finds, Runs, Takes, Tells, TellsAndTakes, unless_kept};
 
-use crate::answers::{Answered, Attached, Gone, Progress, Taken, Told};
+use crate::answers::{Answered, Attached, Gone, HandedOut, Progress, Told};
 use crate::calls::{self, Called};
 use crate::entry::Entry;
 use crate::hosted::Hosted;
@@ -38,7 +38,7 @@ fn ring_if_on<L: Bell>(bell: &L, before: State, after: State) {
 }
 
 /// What was handed out in this state.
-fn taken(texts: Vec<String>, state: State) -> Taken
+fn taken(texts: Vec<String>, state: State) -> HandedOut
     ensures texts { result.texts ≡ texts }
     ensures over { result.is_over ≡ tells_over state }
 {
@@ -46,7 +46,7 @@ fn taken(texts: Vec<String>, state: State) -> Taken
         State::Threw | State::Ended => true,
         State::Broken | State::Shut | State::Paused | State::Waiting | State::Ready => false,
     };
-    Taken { texts, is_over }
+    HandedOut { texts, is_over }
 }
 
 /// Attaches a session, unless the program was shut.
@@ -102,7 +102,7 @@ pub fn take<H: Hosted<B>, B, L: Bell, R: Wait>(
     bell: &L,
     p: &mut Worker<H, B>,
     session: u64,
-) -> Result<Result<Taken, Gone>, Spent>
+) -> Result<Result<HandedOut, Gone>, Spent>
     requires lock { p.old.lock ≡ lock.now }
     requires free { p.old.in_turn ≡ false }
     requires session { Owns p.old.number session p.old.seen }

@@ -9,7 +9,7 @@ use Rattle.cdp_text.specs.Parts.{behind, Halves, halves}
 use Rattle.cdp_text.proofs.DecimalLemmas.{decimal_value-decimal, decimal_value-some}
 use Rattle.cdp_text.proofs.PartsLemmas.{behind-some, halves-decimal, halves-some}
 use Rattle.cdp_journal.specs.Fronts.{behind_each}
-use Rattle.cdp_journal.specs.Summaries.{Ran, printed_lines, ran_in, ran_of, ran_text, runs_of}
+use Rattle.cdp_journal.specs.Summaries.{RunLine, printed_lines, ran_in, ran_of, ran_text, runs_of}
 
 -- ---- lines that are repeated
 
@@ -46,35 +46,35 @@ printed-is (line ∷ lines) =
 
 -- ---- runs
 
-ran-is-by : (steps : Option ℕ) (parts : Halves) (run : Ran)
+ran-is-by : (steps : Option ℕ) (parts : Halves) (run : RunLine)
     → ((n : ℕ) → steps ≡ Some n → (parts.front ≡ decimal n) × (n < 2 ^ 64))
-    → option_map (λ n. let r : Ran = record { steps = n; state = parts.back } in r) steps ≡ Some run
+    → option_map (λ n. let r : RunLine = record { steps = n; state = parts.back } in r) steps ≡ Some run
     → (parts.front ++ 32 ∷ parts.back ≡ ran_text run) × (run.steps < 2 ^ 64)
 ran-is-by None parts run digits is = absurd (none-some run is)
 ran-is-by (Some n) parts run digits is =
     let read = digits n refl in
-    let same = same_Some (let r : Ran = record { steps = n; state = parts.back } in r) run is in
+    let same = same_Some (let r : RunLine = record { steps = n; state = parts.back } in r) run is in
     rw (← same) (ap (λ front. front ++ 32 ∷ parts.back) read.0, read.1)
 
 -- what is read as a run is what is told of it
-pub ran-is : (told : List ℕ) (run : Ran) → ran_of told ≡ Some run → (told ≡ ran_text run) × (run.steps < 2 ^ 64)
+pub ran-is : (told : List ℕ) (run : RunLine) → ran_of told ≡ Some run → (told ≡ ran_text run) × (run.steps < 2 ^ 64)
 ran-is told run is =
     option_and_then_some ran_in (halves 32 told) run is (λ parts parts_are ran.
     let read = ran-is-by (decimal_value parts.front) parts run (λ n. decimal_value-some parts.front n) ran in
     (halves-some 32 told parts parts_are ∙ read.0, read.1))
 
 -- and what is told of a run is read as it
-pub ran-read : (run : Ran) → run.steps < 2 ^ 64 → ran_of (ran_text run) ≡ Some run
+pub ran-read : (run : RunLine) → run.steps < 2 ^ 64 → ran_of (ran_text run) ≡ Some run
 ran-read run small =
     let parts = halves-decimal run.steps 32 run.state small (λ digit. omega arith) in
     rw (parts, decimal_value-decimal run.steps small) refl
 
-told-read : (runs : List Ran) → All (λ run. run.steps < 2 ^ 64) runs → filter_map ran_of (map ran_text runs) ≡ runs
+told-read : (runs : List RunLine) → All (λ run. run.steps < 2 ^ 64) runs → filter_map ran_of (map ran_text runs) ≡ runs
 told-read [] small = refl
 told-read (run ∷ runs) small =
     let one = ran-read run (All-head (λ r. r.steps < 2 ^ 64) run runs small) in
     rw (one, told-read runs (All-tail (λ r. r.steps < 2 ^ 64) run runs small)) refl
 
-pub runs-read : (lines : List (List ℕ)) (runs : List Ran) → All (λ run. run.steps < 2 ^ 64) runs
+pub runs-read : (lines : List (List ℕ)) (runs : List RunLine) → All (λ run. run.steps < 2 ^ 64) runs
     → behind_each (codes "ran ") lines ≡ map ran_text runs → runs_of lines ≡ runs
 runs-read lines runs small are = ap (filter_map ran_of) are ∙ told-read runs small

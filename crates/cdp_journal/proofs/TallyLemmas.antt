@@ -11,7 +11,7 @@ use Rattle.cdp_text.specs.Lines.{begun_with, ended, lines_of}
 use Rattle.cdp_text.specs.Parts.{behind, halves}
 use Rattle.cdp_text.proofs.DecimalLemmas.{decimal_value-some}
 use Rattle.cdp_journal.specs.Fronts.{behind_each}
-use Rattle.cdp_journal.specs.Summaries.{IsInRange, Ran, Tally, both, is_paused, printed_lines, ran_in, ran_of, runs_of, summary, tally_of, tally_text}
+use Rattle.cdp_journal.specs.Summaries.{IsInRange, RunLine, Tally, both, is_paused, printed_lines, ran_in, ran_of, runs_of, summary, tally_of, tally_text}
 use Rattle.cdp_journal.proofs.DrillLemmas.{ended-append}
 use Rattle.cdp_journal.proofs.RunLines.{fronted}
 
@@ -70,10 +70,10 @@ runs-append xs ys =
     ∙ filter_map-append ran_of (behind_each (codes "ran ") xs) (behind_each (codes "ran ") ys)
 
 -- how many steps runs made
-abbrev steps_of : List Ran → ℕ
+abbrev steps_of : List RunLine → ℕ
 steps_of runs = sum (map (λ run. run.steps) runs)
 
-steps-append : (xs ys : List Ran) → steps_of (xs ++ ys) ≡ steps_of xs + steps_of ys
+steps-append : (xs ys : List RunLine) → steps_of (xs ++ ys) ≡ steps_of xs + steps_of ys
 steps-append xs ys =
     sum-map (λ run. run.steps) (xs ++ ys)
     ∙ sum_by-append (λ run. run.steps) xs ys
@@ -137,10 +137,10 @@ record IsOfAtMost (n : ℕ) (tally : Tally) : Type 0 where
   second : tally.second ≤ n
 
 -- a run of its parts
-abbrev ran : List ℕ → ℕ → Ran
+abbrev ran : List ℕ → ℕ → RunLine
 ran state steps = record { steps = steps; state = state }
 
-ran-by : (steps : Option ℕ) (state : List ℕ) (run : Ran) → ((n : ℕ) → steps ≡ Some n → n < 2 ^ 64)
+ran-by : (steps : Option ℕ) (state : List ℕ) (run : RunLine) → ((n : ℕ) → steps ≡ Some n → n < 2 ^ 64)
     → option_map (ran state) steps ≡ Some run → run.steps < 2 ^ 64
 ran-by None state run small is = absurd (none-some run is)
 ran-by (Some n) state run small is =
@@ -148,16 +148,16 @@ ran-by (Some n) state run small is =
     omega (arith, small n refl, same)
 
 -- a run that is told made fewer steps than there are numbers of 64 bits
-ran-small : (told : List ℕ) (run : Ran) → ran_of told ≡ Some run → run.steps < 2 ^ 64
+ran-small : (told : List ℕ) (run : RunLine) → ran_of told ≡ Some run → run.steps < 2 ^ 64
 ran-small told run is =
     option_and_then_some ran_in (halves 32 told) run is (λ parts _ read.
     ran-by (decimal_value parts.front) parts.back run (λ n digits. (decimal_value-some parts.front n digits).1) read)
 
-steps-few : (told : List ℕ) (r : Option Ran) → ran_of told ≡ r → steps_of (cons_option r []) ≤ 2 ^ 64
+steps-few : (told : List ℕ) (r : Option RunLine) → ran_of told ≡ r → steps_of (cons_option r []) ≤ 2 ^ 64
 steps-few told None is = omega arith
 steps-few told (Some run) is = omega (arith, ran-small told run is)
 
-stops-few : (r : Option Ran) → count_by is_paused (cons_option r []) ≤ 1
+stops-few : (r : Option RunLine) → count_by is_paused (cons_option r []) ≤ 1
 stops-few None = omega arith
 stops-few (Some run) = count_by-le-length is_paused (run ∷ [])
 

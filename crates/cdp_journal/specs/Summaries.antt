@@ -10,30 +10,30 @@ use Rattle.cdp_journal.specs.Fronts.{behind_each}
 -- ---- runs
 
 -- a run of which a line tells
-pub record Ran : Type 0 where
+pub record RunLine : Type 0 where
   -- how many steps it made
   pub steps : ℕ
   -- the state in which it ended
   pub state : List ℕ
 
 -- what a line tells of a run behind its first word
-abbrev pub ran_text : Ran → List ℕ
+abbrev pub ran_text : RunLine → List ℕ
 ran_text run = decimal run.steps ++ 32 ∷ run.state
 
 -- the run of a number and a state
-abbrev pub ran_in : Halves → Option Ran
+abbrev pub ran_in : Halves → Option RunLine
 ran_in parts = option_map (λ steps. record { steps = steps; state = parts.back }) (decimal_value parts.front)
 
 -- the run of which this tells: a number, a space and a state
-abbrev pub ran_of : List ℕ → Option Ran
+abbrev pub ran_of : List ℕ → Option RunLine
 ran_of told = option_and_then ran_in (halves 32 told)
 
 -- the runs of which the lines that begin with `ran ` tell, in order
-abbrev pub runs_of : List (List ℕ) → List Ran
+abbrev pub runs_of : List (List ℕ) → List RunLine
 runs_of lines = filter_map ran_of (behind_each (codes "ran ") lines)
 
 -- a run ended where the program is paused
-abbrev pub is_paused : Ran → Bool
+abbrev pub is_paused : RunLine → Bool
 is_paused run = bytes_eq run.state (codes "paused")
 
 -- ---- what lines come to
@@ -52,7 +52,7 @@ pub record Tally : Type 0 where
   pub second : ℕ
 
 -- what these runs come to
-abbrev pub ran_tally : List Ran → Tally
+abbrev pub ran_tally : List RunLine → Tally
 ran_tally runs = record {
   printed = [];
   steps = sum (map (λ run. run.steps) runs);

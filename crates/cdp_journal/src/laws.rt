@@ -6,7 +6,7 @@ ghost use Rattle.cdp_text.specs.Lines.{ended, lines_of};
 ghost use Rattle.cdp_journal.specs.Drills.{drill_journal, drill_steps};
 ghost use Rattle.cdp_journal.specs.Fronts.{behind_each};
 ghost use Rattle.cdp_journal.specs.Lines.{IsLine, Line, line_of, line_text};
-ghost use Rattle.cdp_journal.specs.Summaries.{Ran, printed_lines, ran_of, ran_text, runs_of};
+ghost use Rattle.cdp_journal.specs.Summaries.{RunLine, printed_lines, ran_of, ran_text, runs_of};
 
 /// A journal that is written line by line is cut into just these lines, and where each of them is in form, it is read
 /// as what was written.
@@ -31,8 +31,8 @@ pub fn drills_are_journals()
 pub fn summaries_tell_lines()
     ensures printed { (lines : List (List ℕ))
         → printed_lines lines ≡ filter (λ line. starts_with nat_eq line (codes "out ")) lines }
-    ensures is { (told : List ℕ) (run : Ran) → ran_of told ≡ Some run → (told ≡ ran_text run) × (run.steps < 2 ^ 64) }
-    ensures read { (run : Ran) → run.steps < 2 ^ 64 → ran_of (ran_text run) ≡ Some run }
-    ensures runs { (lines : List (List ℕ)) (runs : List Ran) → All (λ run. run.steps < 2 ^ 64) runs
+    ensures is { (told : List ℕ) (run : RunLine) → ran_of told ≡ Some run → (told ≡ ran_text run) × (run.steps < 2 ^ 64) }
+    ensures read { (run : RunLine) → run.steps < 2 ^ 64 → ran_of (ran_text run) ≡ Some run }
+    ensures runs { (lines : List (List ℕ)) (runs : List RunLine) → All (λ run. run.steps < 2 ^ 64) runs
         → behind_each (codes "ran ") lines ≡ map ran_text runs → runs_of lines ≡ runs }
 {}

@@ -15,7 +15,7 @@ use std::marker::Model;
 
 /// A run of which a line tells.
 #[derive(Clone, Copy)]
-struct Ran<'o> {
+struct RunLine<'o> {
     steps: u64,
     state: &'o [u8],
 }
@@ -117,12 +117,12 @@ impl Tally {
 }
 
 /// The run of which a line tells so: a number, a space and a state.
-fn read_run(told: &[u8]) -> Option<Ran<'_>>
+fn read_run(told: &[u8]) -> Option<RunLine<'_>>
     ensures { option_map ran_held result ≡ ran_of told.now }
 {
     let (steps, state) = unit_halves(told, b' ')?;
     let steps = read_decimal_units(steps)?;
-    Some(Ran { steps, state })
+    Some(RunLine { steps, state })
 }
 
 /// The summary of a replay's output: its lines that begin with `out `, in order, and then in a line each how many steps

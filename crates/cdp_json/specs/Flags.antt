@@ -6,18 +6,18 @@ use Rattle.cdp_json.specs.Members.{optional}
 use Rattle.cdp_json.specs.declared.flags.EvaluationFlags.{EvaluationFlags}
 
 -- whether a flag is absent, or a truth value
-abbrev pub is_flag : List ℕ → Data → Bool
-is_flag name d = is_some (optional as_bool name d)
+abbrev pub flag_fits : List ℕ → Data → Bool
+flag_fits name d = is_some (optional as_bool name d)
 
 -- a flag that is absent is false
-abbrev pub if_true : Option Bool → Bool
-if_true None = false
-if_true (Some flag) = flag
+abbrev pub flag_or_false : Option Bool → Bool
+flag_or_false None = false
+flag_or_false (Some flag) = flag
 
 -- a flag that is absent is true
-abbrev pub unless_false : Option Bool → Bool
-unless_false None = true
-unless_false (Some flag) = flag
+abbrev pub flag_or_true : Option Bool → Bool
+flag_or_true None = true
+flag_or_true (Some flag) = flag
 
 -- `returnByValue?, generatePreview?, throwOnSideEffect?`
 abbrev pub flags_from : Option (Option Bool) → Option (Option Bool) → Option (Option Bool) → Option EvaluationFlags
@@ -26,9 +26,9 @@ flags_from (Some by_value) None throws = None
 flags_from (Some by_value) (Some preview) None = None
 flags_from (Some by_value) (Some preview) (Some throws) =
     Some (record {
-      return_by_value = if_true by_value;
-      generate_preview = if_true preview;
-      throw_on_side_effect = unless_false throws;
+      return_by_value = flag_or_false by_value;
+      generate_preview = flag_or_false preview;
+      throw_on_side_effect = flag_or_true throws;
     })
 
 -- the flags that have an effect
@@ -39,4 +39,4 @@ given_flags d =
 
 -- the kind of `silent` is tested, and its value doesn't change what is answered
 abbrev pub flags_of : Data → Option EvaluationFlags
-flags_of d = if is_flag (codes "silent") d then given_flags d else None
+flags_of d = if flag_fits (codes "silent") d then given_flags d else None

@@ -5,7 +5,7 @@ use Rattle.cdp_text.specs.declared.position.Pos.{Pos}
 use Rattle.serde_json.specs.Data.{Data}
 use Rattle.serde_json.specs.Find.{get, as_bool, as_str}
 use Rattle.cdp_json.specs.Calls.{call_of}
-use Rattle.cdp_json.specs.Flags.{if_true, flags_of}
+use Rattle.cdp_json.specs.Flags.{flag_or_false, flags_of}
 use Rattle.cdp_json.specs.Members.{required, optional, text_of, is_integer, position_of}
 use Rattle.cdp_json.specs.declared.flags.EvaluationFlags.{EvaluationFlags}
 use Rattle.cdp_json.specs.declared.method.Method.{Method}
@@ -163,7 +163,7 @@ abbrev pub properties_from : Option (List ℕ) → Option (Option Bool) → Opti
 properties_from None own preview = None
 properties_from (Some id) None preview = None
 properties_from (Some id) (Some own) None = None
-properties_from (Some id) (Some own) (Some preview) = Some (params.GetProperties id (if_true own) (if_true preview))
+properties_from (Some id) (Some own) (Some preview) = Some (params.GetProperties id (flag_or_false own) (flag_or_false preview))
 
 -- `objectId, ownProperties?, generatePreview?`
 abbrev pub properties_of : Data → Option Params

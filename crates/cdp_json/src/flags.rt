@@ -2,7 +2,7 @@
 
 ghost use Rattle.std.specs.Prelude.{◌≡◌};
 ghost use Rattle.serde_json.specs.View.{view};
-ghost use Rattle.cdp_json.specs.Flags.{flags_from, flags_of, given_flags, if_true, is_flag, unless_false};
+ghost use Rattle.cdp_json.specs.Flags.{flags_from, flags_of, given_flags, flag_or_false, flag_fits, flag_or_true};
 
 use crate::members::optional_bool_at;
 use serde_json::Value;
@@ -18,14 +18,14 @@ pub(crate) struct EvaluationFlags {
 
 /// Whether a flag is absent, or a truth value.
 fn flag_fits(value: &Value, name: &str) -> bool
-    ensures { result ≡ is_flag name.now (view value.now) }
+    ensures { result ≡ flag_fits name.now (view value.now) }
 {
     optional_bool_at(value, name).is_some()
 }
 
 /// A flag, false where it is absent.
 pub(crate) fn flag_or_false(flag: Option<bool>) -> bool
-    ensures { result ≡ if_true flag }
+    ensures { result ≡ flag_or_false flag }
 {
     match flag {
         Some(flag) => flag,
@@ -35,7 +35,7 @@ pub(crate) fn flag_or_false(flag: Option<bool>) -> bool
 
 /// A flag, true where it is absent.
 fn flag_or_true(flag: Option<bool>) -> bool
-    ensures { result ≡ unless_false flag }
+    ensures { result ≡ flag_or_true flag }
 {
     match flag {
         Some(flag) => flag,
@@ -44,7 +44,7 @@ fn flag_or_true(flag: Option<bool>) -> bool
 }
 
 /// The flags, where all are of their kind.
-fn made_flags(
+fn flags_from(
     by_value: Option<Option<bool>>,
     preview: Option<Option<bool>>,
     throws: Option<Option<bool>>,
@@ -68,13 +68,13 @@ fn made_flags(
 }
 
 /// `returnByValue?, generatePreview?, throwOnSideEffect?`
-fn kept_flags(value: &Value) -> Option<EvaluationFlags>
+fn given_flags(value: &Value) -> Option<EvaluationFlags>
     ensures { result ≡ given_flags (view value.now) }
 {
     let by_value = optional_bool_at(value, "returnByValue");
     let preview = optional_bool_at(value, "generatePreview");
     let throws = optional_bool_at(value, "throwOnSideEffect");
-    made_flags(by_value, preview, throws)
+    flags_from(by_value, preview, throws)
 }
 
 /// `silent?, returnByValue?, generatePreview?, throwOnSideEffect?`
@@ -82,7 +82,7 @@ pub(crate) fn flags(value: &Value) -> Option<EvaluationFlags>
     ensures { result ≡ flags_of (view value.now) }
 {
     if flag_fits(value, "silent") {
-        kept_flags(value)
+        given_flags(value)
     } else {
         None
     }

@@ -76,7 +76,7 @@ pub(crate) fn optional_bool_at(value: &Value, name: &str) -> Option<Option<bool>
 }
 
 /// Whether a value is an integer without fraction or exponent.
-pub(crate) fn is_whole(value: &Value) -> bool
+pub(crate) fn is_integer(value: &Value) -> bool
     ensures { result ≡ is_integer (view value.now) }
 {
     value.is_u64() || value.is_i64()

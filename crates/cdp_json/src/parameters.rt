@@ -11,7 +11,7 @@ ghost use Rattle.cdp_json.specs.Parameters.{location_from, location_of, unless_e
 use crate::calls::call;
 use crate::flags::{EvaluationFlags, flag_or_false, flags};
 use crate::members::{
-    bool_at, is_whole, optional_bool_at, optional_text_at, position, str_at, text, text_at,
+    bool_at, is_integer, optional_bool_at, optional_text_at, position, str_at, text, text_at,
 };
 use crate::method::Method;
 use crate::params::{Evaluation, ExceptionPauses, Location, Params};
@@ -21,7 +21,7 @@ use serde_json::Value;
 use std::alloc::{AllocError, Global};
 
 /// The location of a script's id and a position, where both are there.
-fn located(script_id: Option<Units>, position: Option<Pos>) -> Option<Location>
+fn location_from(script_id: Option<Units>, position: Option<Pos>) -> Option<Location>
     ensures { result ≡ location_from script_id position }
 {
     match script_id {
@@ -41,7 +41,7 @@ fn location(alloc: Global, value: &Value) -> Result<Option<Location>, AllocError
     ensures { IfOk result (λ location. location ≡ location_of (view value.now)) }
 {
     let script_id = text_at(alloc, value, "scriptId")?;
-    Ok(located(script_id, position(value)))
+    Ok(location_from(script_id, position(value)))
 }
 
 /// The location that a member is.
@@ -79,7 +79,7 @@ fn given(location: Option<Location>) -> Option<Option<Location>>
 }
 
 /// A text, unless it is empty.
-fn nonempty(units: Units) -> Option<Units>
+fn unless_empty(units: Units) -> Option<Units>
     ensures { result ≡ unless_empty units }
 {
     if units.is_empty() { None } else { Some(units) }
@@ -90,7 +90,7 @@ fn given_condition(text: Option<Units>) -> Option<Option<Units>>
     ensures { result ≡ option_map unless_empty text }
 {
     match text {
-        Some(units) => Some(nonempty(units)),
+        Some(units) => Some(unless_empty(units)),
         None => None,
     }
 }
@@ -116,7 +116,7 @@ fn continue_to(alloc: Global, value: &Value) -> Result<Option<Params>, AllocErro
 }
 
 /// The parameters of a breakpoint by URL, where all are there.
-fn made_by_url(
+fn by_url_from(
     url: Option<Units>,
     position: Option<Pos>,
     condition: Option<Option<Units>>,
@@ -145,11 +145,11 @@ fn by_url(alloc: Global, value: &Value) -> Result<Option<Params>, AllocError>
 {
     let url = text_at(alloc, value, "url")?;
     let condition = condition(alloc, value)?;
-    Ok(made_by_url(url, position(value), condition))
+    Ok(by_url_from(url, position(value), condition))
 }
 
 /// The parameters of a breakpoint at a location, where all are there.
-fn made_at_location(location: Option<Location>, condition: Option<Option<Units>>) -> Option<Params>
+fn at_location_from(location: Option<Location>, condition: Option<Option<Units>>) -> Option<Params>
     ensures { result ≡ at_location_from location condition }
 {
     match location {
@@ -170,7 +170,7 @@ fn at_location(alloc: Global, value: &Value) -> Result<Option<Params>, AllocErro
 {
     let location = location_at(alloc, value, "location")?;
     let condition = condition(alloc, value)?;
-    Ok(made_at_location(location, condition))
+    Ok(at_location_from(location, condition))
 }
 
 /// `breakpointId`
@@ -204,7 +204,7 @@ fn skipping(value: &Value) -> Option<Params>
 }
 
 /// The state of this name.
-fn pauses_named(name: &str) -> Option<ExceptionPauses>
+fn state_named(name: &str) -> Option<ExceptionPauses>
     ensures { result ≡ state_named name.now }
 {
     match name {
@@ -220,7 +220,7 @@ fn pauses(value: &Value) -> Option<ExceptionPauses>
     ensures { result ≡ option_and_then state_named (required as_str (codes "state") (view value.now)) }
 {
     match str_at(value, "state") {
-        Some(name) => pauses_named(name),
+        Some(name) => state_named(name),
         None => None,
     }
 }
@@ -241,7 +241,7 @@ fn stack_depth(value: &Value) -> Option<Params>
 {
     match value.get("maxDepth") {
         Some(member) => {
-            if is_whole(member) {
+            if is_integer(member) {
                 Some(Params::SetAsyncCallStackDepth)
             } else {
                 None
@@ -252,7 +252,7 @@ fn stack_depth(value: &Value) -> Option<Params>
 }
 
 /// The range from a start to an end of the same script.
-fn made_possible(start: Option<Location>, end: Option<Option<Location>>) -> Option<Params>
+fn possible_from(start: Option<Location>, end: Option<Option<Location>>) -> Option<Params>
     ensures { result ≡ possible_from start end }
 {
     match start {
@@ -280,7 +280,7 @@ fn possible(alloc: Global, value: &Value) -> Result<Option<Params>, AllocError>
 {
     let start = location_at(alloc, value, "start")?;
     let end = optional_location_at(alloc, value, "end")?;
-    Ok(made_possible(start, end))
+    Ok(possible_from(start, end))
 }
 
 /// `scriptId`
@@ -294,7 +294,7 @@ fn source(alloc: Global, value: &Value) -> Result<Option<Params>, AllocError>
 }
 
 /// An evaluation, where all of its parameters are there.
-fn made_evaluation(
+fn evaluation_from(
     expression: Option<Units>,
     object_group: Option<Option<Units>>,
     flags: Option<EvaluationFlags>,
@@ -325,7 +325,7 @@ fn evaluation(alloc: Global, value: &Value) -> Result<Option<Evaluation>, AllocE
 {
     let expression = text_at(alloc, value, "expression")?;
     let object_group = optional_text_at(alloc, value, "objectGroup")?;
-    Ok(made_evaluation(expression, object_group, flags(value)))
+    Ok(evaluation_from(expression, object_group, flags(value)))
 }
 
 /// The parameters of an evaluation.
@@ -339,7 +339,7 @@ fn evaluate(alloc: Global, value: &Value) -> Result<Option<Params>, AllocError>
 }
 
 /// The parameters of an evaluation in a frame, where all are there.
-fn made_on_frame(call_frame_id: Option<Units>, evaluation: Option<Evaluation>) -> Option<Params>
+fn on_frame_from(call_frame_id: Option<Units>, evaluation: Option<Evaluation>) -> Option<Params>
     ensures { result ≡ on_frame_from call_frame_id evaluation }
 {
     match call_frame_id {
@@ -360,7 +360,7 @@ fn on_frame(alloc: Global, value: &Value) -> Result<Option<Params>, AllocError>
 {
     let call_frame_id = text_at(alloc, value, "callFrameId")?;
     let evaluation = evaluation(alloc, value)?;
-    Ok(made_on_frame(call_frame_id, evaluation))
+    Ok(on_frame_from(call_frame_id, evaluation))
 }
 
 /// The parameters of a call.
@@ -374,7 +374,7 @@ fn call_function(alloc: Global, value: &Value) -> Result<Option<Params>, AllocEr
 }
 
 /// The parameters of a list of properties, where all are of their kinds.
-fn made_properties(
+fn properties_from(
     object_id: Option<Units>,
     own: Option<Option<bool>>,
     preview: Option<Option<bool>>,
@@ -404,7 +404,7 @@ fn properties(alloc: Global, value: &Value) -> Result<Option<Params>, AllocError
     let object_id = text_at(alloc, value, "objectId")?;
     let own = optional_bool_at(value, "ownProperties");
     let preview = optional_bool_at(value, "generatePreview");
-    Ok(made_properties(object_id, own, preview))
+    Ok(properties_from(object_id, own, preview))
 }
 
 /// `objectId`

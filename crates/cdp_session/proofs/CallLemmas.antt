@@ -13,17 +13,17 @@ use Rattle.js_parser_readers.specs.declared.fault.ParseFault.TheVariants as pars
 use Rattle.js_parser_numbering.specs.Numbered.{numbered_made}
 use Rattle.js_semantics.specs.Evaluation.{Argument, evaluate_call, evaluate_function as definition, next_kept}
 use Rattle.js_semantics.specs.Literals.{source_literals}
-use Rattle.js_semantics.specs.Makers.{Made as Source}
+use Rattle.js_semantics.specs.Makers.{MadeExpression as Source}
 use Rattle.js_semantics.specs.Sources.{expression_source}
 use Rattle.cdp_json.specs.ArgumentViews.{argument_view}
 use Rattle.cdp_json.specs.SafeValues.{both}
 use Rattle.cdp_json.specs.declared.arguments.Argument.{Argument as Asked}
 use Rattle.pure_eval.specs.Arguments as passed
 use Rattle.pure_eval.specs.Preparing.{IsPreparedFunction}
-use Rattle.pure_eval.specs.Workspaces.{Opened, Workspace, opened, EvaluatesTo}
+use Rattle.pure_eval.specs.Workspaces.{OpenWorkspace, Workspace, opened, EvaluatesTo}
 use Rattle.pure_eval.specs.declared.arguments.Argument.{Argument as Passed}
 use Rattle.pure_eval.specs.declared.evaluated.Evaluated.{Evaluated}
-use Rattle.pure_eval.specs.declared.prepared.Prepared.{Prepared}
+use Rattle.pure_eval.specs.declared.prepared.PreparedSource.{PreparedSource}
 use Rattle.cdp_session.specs.Calls.{argument_of, arguments_of, outcome_of_function}
 use Rattle.cdp_session.specs.Evaluations.{Evaluates, no_expression, outcome_of_answer}
 use Rattle.cdp_session.specs.Made.{Makes}
@@ -83,7 +83,7 @@ behind-all x all i done le =
 
 -- what was prepared for the next address is called as the definition calls it over what was opened
 pub called-from : (w : World) (x : Workspace) (receiver : Value) (arguments : List Argument) (f : FunctionCode)
-    (at : Addr) (p : Prepared) (end : Evaluated) (o n : Opened)
+    (at : Addr) (p : PreparedSource) (end : Evaluated) (o n : OpenWorkspace)
     → o ≡ opened w x → at ≡ next_kept o.behind.scratch → IsPreparedFunction at f p
     → ((g : FunctionCode)
     → IsPreparedFunction (next_kept o.behind.scratch) g p

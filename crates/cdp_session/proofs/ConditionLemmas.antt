@@ -8,7 +8,7 @@ use Rattle.js_parser_numbering.proofs.NumberedLaws.{numbered_same}
 use Rattle.js_parser.specs.Expressions.{expression_of}
 use Rattle.js_semantics.specs.Evaluation.{Answer, evaluate, evaluate_expression as definition, next_kept}
 use Rattle.js_semantics.specs.Literals.{source_literals}
-use Rattle.js_semantics.specs.Makers.{Made as Source}
+use Rattle.js_semantics.specs.Makers.{MadeExpression as Source}
 use Rattle.js_semantics.specs.Sources.{expression_source}
 use Rattle.js_tree.specs.Views.{expression_view}
 use Rattle.js_tree.specs.declared.script.Expression.{Expression}
@@ -16,9 +16,9 @@ use Rattle.breakpoints.specs.Breakpoints.{id_of}
 use Rattle.breakpoints.specs.declared.breakpoint.Breakpoint.{Breakpoint}
 use Rattle.frames_scopes_types.specs.Frames.{ShownFrame}
 use Rattle.pure_eval.specs.Preparing.{IsPrepared}
-use Rattle.pure_eval.specs.Workspaces.{Opened, Workspace, opened, EvaluatesTo}
+use Rattle.pure_eval.specs.Workspaces.{OpenWorkspace, Workspace, opened, EvaluatesTo}
 use Rattle.pure_eval.specs.declared.evaluated.Evaluated.{Evaluated}
-use Rattle.pure_eval.specs.declared.prepared.Prepared.{Prepared}
+use Rattle.pure_eval.specs.declared.prepared.PreparedSource.{PreparedSource}
 use Rattle.cdp_session.specs.Conditions.{IsParsed, IsParsedTo, comes_true, expression_holds, holds, is_met, top_scope, top_this, tree_holds}
 use Rattle.pure_eval.specs.Answering.{is_memory}
 use Rattle.cdp_session.specs.Situations.{Standing}
@@ -65,7 +65,7 @@ none-holds s w text now o p is same = none_holds s w text (subst (IsParsed text)
 
 -- what was opened, was evaluated in the top frame and is true exactly where the definition's answer is
 pub holds-at : (s : Standing) (w : Workspace) (fs : List ShownFrame) (scope : Addr) (this : Value) (ex : Expression)
-    (at : Addr) (p : Prepared) (end : Evaluated) (o n : Opened) (told : Bool)
+    (at : Addr) (p : PreparedSource) (end : Evaluated) (o n : OpenWorkspace) (told : Bool)
     → o ≡ opened s.world w → at ≡ next_kept o.behind.scratch → IsPrepared at ex p
     → ((e : Expression)
     → IsPrepared (next_kept o.behind.scratch) e p
@@ -85,8 +85,8 @@ holds-at s w fs scope this ex at p end o n told is place ready says value frames
     (this_is ∙ ap top_this frames)
 
 -- and as it was opened it is forgotten
-pub forgets : (s : Standing) (w : Workspace) (scope : Addr) (this : Value) (ex : Expression) (at : Addr) (p : Prepared)
-    (end : Evaluated) (o n : Opened)
+pub forgets : (s : Standing) (w : Workspace) (scope : Addr) (this : Value) (ex : Expression) (at : Addr) (p : PreparedSource)
+    (end : Evaluated) (o n : OpenWorkspace)
     → o ≡ opened s.world w → at ≡ next_kept o.behind.scratch → IsPrepared at ex p
     → ((e : Expression)
     → IsPrepared (next_kept o.behind.scratch) e p

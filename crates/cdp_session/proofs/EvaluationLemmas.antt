@@ -13,12 +13,12 @@ use Rattle.js_parser_numbering.specs.Numbered.{numbered_made}
 use Rattle.js_semantics.specs.Evaluation.{Answer, evaluate, evaluate_expression as definition, next_kept}
 use Rattle.js_semantics.specs.Literals.{source_literals}
 use Rattle.js_semantics.specs.Sources.{expression_source}
-use Rattle.pure_eval.specs.declared.prepared.Prepared.{Prepared}
+use Rattle.pure_eval.specs.declared.prepared.PreparedSource.{PreparedSource}
 use Rattle.pure_eval.specs.Preparing.{IsPrepared}
-use Rattle.js_semantics.specs.Makers.{Made as Source}
+use Rattle.js_semantics.specs.Makers.{MadeExpression as Source}
 use Rattle.pure_eval.specs.declared.evaluated.Evaluated.{Evaluated}
 use Rattle.pure_eval.specs.declared.evaluated.Evaluated.TheVariants as ends
-use Rattle.pure_eval.specs.Workspaces.{Opened, Workspace, opened, EvaluatesTo}
+use Rattle.pure_eval.specs.Workspaces.{OpenWorkspace, Workspace, opened, EvaluatesTo}
 use Rattle.cdp_session.specs.declared.done.Done.{Done as Held}
 use Rattle.cdp_session.specs.declared.done.Fault.{Fault}
 use Rattle.cdp_session.specs.declared.showing.Showing.{Showing}
@@ -30,17 +30,17 @@ use Rattle.cdp_session.specs.Sessions.{Session, no_workspace, with_workspace}
 use Rattle.cdp_session.specs.Situations.{Situation}
 
 -- what was there before it stays, but for want of memory
-pub record Stays (o n : Opened) : Type 0 where
+pub record Stays (o n : OpenWorkspace) : Type 0 where
   pub world : n.world ≡ o.world
   pub before : n.before ≡ o.before
 
-same_stays : (o n : Opened) → n ≡ o → Stays o n
+same_stays : (o n : OpenWorkspace) → n ≡ o → Stays o n
 same_stays o n is = record { world = ap (λ k. k.world) is; before = ap (λ k. k.before) is }
 
-behind_stays : (o n : Opened) (w : Workspace) → n ≡ record o { behind = w } → Stays o n
+behind_stays : (o n : OpenWorkspace) (w : Workspace) → n ≡ record o { behind = w } → Stays o n
 behind_stays o n w is = record { world = ap (λ k. k.world) is; before = ap (λ k. k.before) is }
 
-pub stays : (a : Answer) (e : Source) (end : Evaluated) (o n : Opened)
+pub stays : (a : Answer) (e : Source) (end : Evaluated) (o n : OpenWorkspace)
     → is_memory end ≡ false
     → EvaluatesTo a e end o n
     → Stays o n
@@ -52,21 +52,21 @@ stays a e ends.Spent o n some to = same_stays o n to.1
 stays a e ends.Memory o n some to = absurd cc
 
 -- the session that opened its workspace has it again
-again : (x : Session) (o n : Opened) (w : World)
+again : (x : Session) (o n : OpenWorkspace) (w : World)
     → o ≡ opened w x.workspace
     → Stays o n
     → with_workspace n.before (with_workspace no_workspace x) ≡ x
 again x o n w is s = ap (λ k. with_workspace k (with_workspace no_workspace x)) (s.before ∙ ap (λ k. k.before) is)
 
 -- so it was opened as it is now opened anew
-anew : (x : Session) (o n : Opened) (w : World) → o ≡ opened w x.workspace → Stays o n → o ≡ opened n.world n.before
+anew : (x : Session) (o n : OpenWorkspace) (w : World) → o ≡ opened w x.workspace → Stays o n → o ≡ opened n.world n.before
 anew x o n w is s =
     is
     ∙ sym (ap (λ k. opened k n.before) (s.world ∙ ap (λ k. k.world) is)
     ∙ ap (λ k. opened w k) (s.before ∙ ap (λ k. k.before) is))
 
 pub made-answer : (s : Situation) (x : Session) (how : Showing) (e : Source) (a : Answer) (end : Evaluated)
-    (o n : Opened) (result : Result Held Fault) (new : Session)
+    (o n : OpenWorkspace) (result : Result Held Fault) (new : Session)
     → o ≡ opened s.standing.world x.workspace → is_memory end ≡ false → EvaluatesTo a e end o n
     → (s.standing.world ≡ n.world
     → EvaluatesTo a e end (opened n.world n.before) n
@@ -81,7 +81,7 @@ made-answer s x how e a end o n result new is some to makes =
     subst (λ y. Makes result new (row_of (outcome_of_answer s y how e a))) (again x o n s.standing.world is there)
     (makes world from)
 
-pub kept-answer : (x : Session) (w : World) (e : Source) (a : Answer) (end : Evaluated) (o n : Opened)
+pub kept-answer : (x : Session) (w : World) (e : Source) (a : Answer) (end : Evaluated) (o n : OpenWorkspace)
     (result : Result Held Fault) (new : Session)
     → o ≡ opened w x.workspace → is_memory end ≡ false → EvaluatesTo a e end o n
     → KeepsIfRefused result (with_workspace n.before (with_workspace no_workspace x)) new → KeepsIfRefused result x new
@@ -90,7 +90,7 @@ kept-answer x w e a end o n result new is some to keeps =
 
 -- what was prepared for the next address is evaluated as the definition evaluates it over what was opened
 pub evaluated-from : (w : World) (x : Workspace) (scope : Addr) (receiver : Value) (ex : Expression) (at : Addr)
-    (p : Prepared) (end : Evaluated) (o n : Opened)
+    (p : PreparedSource) (end : Evaluated) (o n : OpenWorkspace)
     → o ≡ opened w x → at ≡ next_kept o.behind.scratch → IsPrepared at ex p
     → ((e : Expression)
     → IsPrepared (next_kept o.behind.scratch) e p

@@ -23,7 +23,7 @@ use Rattle.js_heap.specs.declared.value.Addr.{Addr}
 use Rattle.js_heap.specs.declared.value.Value.{Value}
 use Rattle.js_tree.specs.Trees.{Expression}
 use Rattle.js_semantics.specs.Evaluation.{Argument, Answer, a_result, a_throw, an_effect, is_full_of, spent}
-use Rattle.js_semantics.specs.Makers.{Made as Source}
+use Rattle.js_semantics.specs.Makers.{MadeExpression as Source}
 use Rattle.js_parser.specs.Expressions.{expression_of, function_of}
 use Rattle.frames_scopes_types.specs.Frames.{ShownFrame}
 use Rattle.cdp_json.specs.declared.params.Evaluation.{Evaluation}

@@ -11,7 +11,7 @@ use Rattle.js_tree_operators.proofs.operator.BinaryOperator.TheSendSync as binar
 use Rattle.js_tree_operators.proofs.operator.UnaryOperator.TheSendSync as unary
 use Rattle.js_tree_operators.proofs.operator.UpdateOperator.TheSendSync as update
 use Rattle.js_tree.proofs.integer.SafeInteger.TheSendSync as integer
-use Rattle.js_tree.proofs.names.Names.TheSendSync as names
+use Rattle.js_tree.proofs.names.ParameterNames.TheSendSync as names
 use Rattle.js_tree.proofs.node.NodeId.TheSendSync as node
 use Rattle.js_tree.proofs.node.Spans.TheSendSync as spans
 use Rattle.js_tree.proofs.tree.ArrowParameters.TheSendSync as arrow

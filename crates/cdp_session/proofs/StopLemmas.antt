@@ -15,12 +15,12 @@ use Rattle.cdp_session.specs.Situations.{Standing}
 use Rattle.cdp_session.specs.Stops.{cause_of, may_be_hit, may_name}
 
 -- no breakpoint is hit where none stands
-pub none-hit : (s : Standing) (w : Workspace) (place : Place) (b : breakpoints.State)
+pub none-hit : (s : Standing) (w : Workspace) (place : Place) (b : breakpoints.HeldBreakpoints)
     → is_hit place b ≡ false
     → is_some_hit (hits s w b (Some place)) ≡ false
 none-hit s w place b never = ap (λ bs. is_some_hit (filter (is_met s w) bs)) (is_hit-none place b never)
 
-none-anywhere : (s : Standing) (w : Workspace) (o : Option Place) (b : breakpoints.State)
+none-anywhere : (s : Standing) (w : Workspace) (o : Option Place) (b : breakpoints.HeldBreakpoints)
     → may_be_hit o b ≡ false
     → is_some_hit (hits s w b o) ≡ false
 none-anywhere s w None b never = refl

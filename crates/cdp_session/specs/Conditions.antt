@@ -80,7 +80,7 @@ is_met s w b = condition_holds s w b.condition
 
 -- the breakpoints that are hit where the program arrived, if it did, in order of setting: the active ones there that
 -- are met
-abbrev pub hits : Standing → Workspace → breakpoints.State → Option Place → List Breakpoint
+abbrev pub hits : Standing → Workspace → breakpoints.HeldBreakpoints → Option Place → List Breakpoint
 hits s w b None = []
 hits s w b (Some place) = filter (is_met s w) (hits_at place b)
 

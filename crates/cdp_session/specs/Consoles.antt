@@ -18,11 +18,11 @@ abbrev pub console : List ℕ
 console = codes "console"
 
 -- a value in that group, without a preview
-abbrev pub value_made : Sight → Value → handles.State → Made Json
+abbrev pub value_made : Sight → Value → handles.HeldHandles → Made Json
 value_made sight v h = remote sight (Some console) v h
 
 -- values, in order
-abbrev pub values_made : Sight → List Value → handles.State → Made (List Json)
+abbrev pub values_made : Sight → List Value → handles.HeldHandles → Made (List Json)
 values_made sight values h = made_all (value_made sight) values h
 
 -- ---- what a print does to a session

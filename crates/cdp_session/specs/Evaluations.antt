@@ -13,7 +13,7 @@ use Rattle.js_heap.specs.World.{World, scratch_room}
 use Rattle.js_tree.specs.Trees.{Expression}
 use Rattle.js_semantics.specs.Evaluation.{Answer, a_result, a_throw, an_effect, is_full_of, spent, evaluate}
 use Rattle.js_semantics.specs.Literals.{expression_literals}
-use Rattle.js_semantics.specs.Makers.{Made as Source}
+use Rattle.js_semantics.specs.Makers.{MadeExpression as Source}
 use Rattle.js_parser_numbering.specs.Numbered.{numbered_made}
 use Rattle.js_heap_memory.specs.Overlays.{Over, over_world, space_after}
 use Rattle.js_parser.specs.Expressions.{expression_of}
@@ -56,7 +56,7 @@ showing_of ev =
 
 -- whether a reply that describes a value makes a handle on a cell of the session's: on an object there, unless as many
 -- handles are held as may be
-abbrev pub holds_on : Value → handles.State → Bool
+abbrev pub holds_on : Value → handles.HeldHandles → Bool
 holds_on (values.Object (Scratch i)) h = not (is_some (fault_of h))
 holds_on v h = false
 
@@ -89,11 +89,11 @@ abbrev pub described_over : {S : Type 0} → Describer Over S → Sight
 described_over d = views.sight_of node_text (over_world d.names.now d.world.now) d.scripts.now d.session
 
 -- by value it has no handle
-abbrev pub without_handle : handles.State → Json → Made Json
+abbrev pub without_handle : handles.HeldHandles → Json → Made Json
 without_handle h j = record { made = j; handles = h }
 
 -- A value as it is described: by value, where it may be too long, or else with a handle in a group or in none.
-abbrev pub described_as : Sight → Showing → Value → handles.State → Option (Made Json)
+abbrev pub described_as : Sight → Showing → Value → handles.HeldHandles → Option (Made Json)
 described_as sight how v h =
     if how.by_value then option_map (without_handle h) (remote_by_value sight v) else Some
     (remote_with sight how.detail how.group v h)
@@ -103,7 +103,7 @@ abbrev pub described : Situation → Session → Showing → Value → World →
 described s x how v w = described_as (sight_with s x (space_after w)) how v x.handles
 
 -- whether a description that is asked for so makes a handle on a cell of the session's
-abbrev pub keeps : Showing → Value → handles.State → Bool
+abbrev pub keeps : Showing → Value → handles.HeldHandles → Bool
 keeps how v h = not how.by_value && holds_on v h
 
 -- the session behind an evaluation to this value, but for its handles

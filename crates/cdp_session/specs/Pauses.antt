@@ -42,7 +42,7 @@ value_told (Some causes.Exception) thrown = thrown
 value_told cause thrown = None
 
 -- the member that has it
-abbrev pub data_made : Sight → Option Value → handles.State → Made (List Pair)
+abbrev pub data_made : Sight → Option Value → handles.HeldHandles → Made (List Pair)
 data_made sight None h = record { made = []; handles = h }
 data_made sight (Some v) h =
     record {

@@ -56,23 +56,23 @@ comes_to s x params = option_map_or Refuses (refusal_of s x params) (row s x par
 -- ---- replies
 
 -- what becomes of a text: it is refused, with its id where that was read, or its command is done
-pub data Outcome : Type 0 where
-  IsRefused : Option ℕ → Refusal → Outcome
-  IsDone : ℕ → Done → Outcome
+pub data CommandOutcome : Type 0 where
+  IsRefused : Option ℕ → Refusal → CommandOutcome
+  IsDone : ℕ → Done → CommandOutcome
 
 -- what becomes of a command of this id, by its row
-abbrev pub outcome_by : ℕ → Row → Outcome
+abbrev pub outcome_by : ℕ → Row → CommandOutcome
 outcome_by id (Refuses refusal) = IsRefused (Some id) refusal
 outcome_by id (Does done) = IsDone id done
 
 -- that of a text that is read so; want of memory is no reading
-abbrev pub outcome_for : Situation → Session → Reading → Outcome
+abbrev pub outcome_for : Situation → Session → Reading → CommandOutcome
 outcome_for s x (readings.Command id method params) = outcome_by id (comes_to s x params)
 outcome_for s x (readings.Refused id refusal) = IsRefused id refusal
 outcome_for s x readings.Memory = IsRefused None refusals.NotJson
 
 -- what becomes of a text
-abbrev pub outcome_of : Situation → Session → List ℕ → Outcome
+abbrev pub outcome_of : Situation → Session → List ℕ → CommandOutcome
 outcome_of s x text = outcome_for s x (reading_of (read text))
 
 -- the texts of a command of this id that is done: its events before the reply, the reply, and those behind it
@@ -80,20 +80,20 @@ abbrev pub texts_of : ℕ → Done → List (List ℕ)
 texts_of id done = done.before ++ result_text id done.result ∷ done.events
 
 -- a session behind a text, and what the text asks of the program
-pub record Answer : Type 0 where
+pub record AnsweredText : Type 0 where
   pub session : Session
   pub asks : Asks
 
 -- a refused command changes only the texts that wait
-abbrev pub answer_by : Session → Outcome → Answer
+abbrev pub answer_by : Session → CommandOutcome → AnsweredText
 answer_by x (IsRefused id refusal) = record { session = sent (refusal_text id refusal ∷ []) x; asks = Nothing }
 answer_by x (IsDone id done) = record { session = sent (texts_of id done) done.session; asks = done.asks }
 
 -- the texts of the answer: a refusal, or the reply with its events
-abbrev pub answer_texts : Outcome → List (List ℕ)
+abbrev pub answer_texts : CommandOutcome → List (List ℕ)
 answer_texts (IsRefused id refusal) = refusal_text id refusal ∷ []
 answer_texts (IsDone id done) = texts_of id done
 
 -- the answer to a text
-abbrev pub answer_of : Situation → Session → List ℕ → Answer
+abbrev pub answer_of : Situation → Session → List ℕ → AnsweredText
 answer_of s x text = answer_by x (outcome_of s x text)

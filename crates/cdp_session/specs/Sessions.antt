@@ -16,8 +16,8 @@ pub record Session : Type 0 where
   pub number : ℕ
   pub rules : Rules
   pub runtime : Bool
-  pub breakpoints : breakpoints.State
-  pub handles : handles.State
+  pub breakpoints : breakpoints.HeldBreakpoints
+  pub handles : handles.HeldHandles
   pub workspace : Workspace
   pub exceptions : ℕ
   pub outbox : List (List ℕ)
@@ -53,11 +53,11 @@ abbrev pub with_runtime : Bool → Session → Session
 with_runtime b x = record x { runtime = b }
 
 -- a session with other breakpoints
-abbrev pub with_breakpoints : breakpoints.State → Session → Session
+abbrev pub with_breakpoints : breakpoints.HeldBreakpoints → Session → Session
 with_breakpoints b x = record x { breakpoints = b }
 
 -- a session that holds other objects
-abbrev pub with_handles : handles.State → Session → Session
+abbrev pub with_handles : handles.HeldHandles → Session → Session
 with_handles h x = record x { handles = h }
 
 -- what a session has that lost the memory for its evaluations, and is to be dropped
@@ -74,11 +74,11 @@ with_exception x = record x { exceptions = if nat_lt x.exceptions (2 ^ 62) then 
 
 -- where none of these objects is in a cell of the session's evaluations, those cells are given up, and the sources of
 -- the evaluations with them
-abbrev pub workspace_for : handles.State → Workspace → Workspace
+abbrev pub workspace_for : handles.HeldHandles → Workspace → Workspace
 workspace_for h w = if list_any is_on_scratch h.held then w else emptied_workspace w
 
 -- holding on to these objects alone
-abbrev pub holding : handles.State → Session → Session
+abbrev pub holding : handles.HeldHandles → Session → Session
 holding h x = record x { handles = h; workspace = workspace_for h x.workspace }
 
 -- without the objects of the stop that it was told of

@@ -33,7 +33,7 @@ hit_ids s a x = if x.rules.skip then [] else map id_of (hits_of s a x)
 -- ---- where a session may name a stop
 
 -- an active breakpoint stands where the program arrived, if it did, whatever its condition
-abbrev pub may_be_hit : Option Place → breakpoints.State → Bool
+abbrev pub may_be_hit : Option Place → breakpoints.HeldBreakpoints → Bool
 may_be_hit None b = false
 may_be_hit (Some place) b = is_hit place b
 
@@ -52,7 +52,7 @@ abbrev pub stop_texts : Situation → ℕ → Arrival → Session → List (List
 stop_texts s number a x = if_enabled x (stop_told s number a x).made
 
 -- the objects that it holds behind that
-abbrev pub stop_handles : Situation → ℕ → Arrival → Session → handles.State
+abbrev pub stop_handles : Situation → ℕ → Arrival → Session → handles.HeldHandles
 stop_handles s number a x = if x.rules.enabled then (stop_told s number a x).handles else x.handles
 
 -- a stop ends the session's requests

@@ -24,7 +24,7 @@ use cdp_json::params::FunctionCall;
 use cdp_json::refusal::Refusal;
 use cdp_text::units::Units;
 use js_heap::value::Value;
-use js_machine_rows::table::Table;
+use js_machine_rows::table::StepTable;
 use js_parser::parse::parse_function;
 use js_tree::script::FunctionCode;
 use object_groups::{Handle, Target};
@@ -214,7 +214,7 @@ impl Session {
         let prepared = situation
             .program
             .prepared_function(self.alloc, at, function)?;
-        let end = opened.call::<Table>(self.alloc, receiver, arguments, &prepared);
+        let end = opened.call::<StepTable>(self.alloc, receiver, arguments, &prepared);
         if is_memory(end) {
             return Err(Fault::Memory);
         }

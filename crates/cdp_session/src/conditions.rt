@@ -6,7 +6,7 @@ ghost use Rattle.breakpoints.specs.Breakpoints.{hits_at, id_of};
 ghost use Rattle.frames_scopes_types.specs.Views.{frame_of};
 ghost use Rattle.js_heap.specs.World.{World};
 ghost use Rattle.js_semantics.specs.Evaluation.{Answer};
-ghost use Rattle.js_semantics.specs.Makers.{Made as Source};
+ghost use Rattle.js_semantics.specs.Makers.{MadeExpression as Source};
 ghost use Rattle.pure_eval.specs.Workspaces.{opened as just_opened, EvaluatesTo, Workspace as Kept};
 ghost use Rattle.cdp_session.specs.Conditions as conditions;
 ghost use Rattle.cdp_session.specs.Conditions.{IsParsed, expression_holds, hits};
@@ -24,12 +24,12 @@ use frames_scopes_types::CallFrame;
 use js_heap::built_in::script_scope;
 use js_heap::value::{Addr, Value};
 use js_heap_operators::values::is_truthy;
-use js_machine_actions::seen::Seen;
-use js_machine_rows::table::Table;
+use js_machine_actions::seen::NamedWorld;
+use js_machine_rows::table::StepTable;
 use js_parser::node_text::lacks_memory;
 use js_parser::parse::parse_expression;
 use js_tree::script::Expression;
-use pure_eval::{Evaluated, Opened, Workspace};
+use pure_eval::{Evaluated, OpenWorkspace, Workspace};
 use std::alloc::{AllocError, Global};
 use std::marker::Model;
 
@@ -129,14 +129,14 @@ fn top_this(frames: &[CallFrame<'_>]) -> Value
 }
 
 /// Whether an evaluation came to a value that counts as true.
-fn comes_true(opened: &Opened<'_>, end: Evaluated) -> Result<bool, AllocError>
+fn comes_true(opened: &OpenWorkspace<'_>, end: Evaluated) -> Result<bool, AllocError>
     ensures value { IfOk result (λ is. (base : World) (w : Kept) (a : Answer) (e : Source) → EvaluatesTo a e end (just_opened base w) opened.now → is ≡ conditions.comes_true base a) }
     ensures memory { IfOk result (λ is. is_memory end ≡ false) }
 {
     match end {
         Evaluated::Value(value) => {
             let seen = opened.seen();
-            let cells = Seen {
+            let cells = NamedWorld {
                 names: seen.names,
                 world: seen.world,
             };
@@ -163,7 +163,7 @@ fn holds_at_top<P: Program>(
     let mut opened = open(workspace, situation)?;
     let at = opened.next_address();
     let prepared = situation.program.prepared(alloc, at, expression)?;
-    let end = opened.evaluate::<Table>(alloc, scope, this, &prepared);
+    let end = opened.evaluate::<StepTable>(alloc, scope, this, &prepared);
     let holds = comes_true(&opened, end)?;
     *workspace = Some(opened.forget());
     Ok(holds)

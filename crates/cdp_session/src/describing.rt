@@ -17,14 +17,14 @@ use js_heap::value::Value;
 use js_heap_memory::overlay::Overlay;
 use js_tree::script::Script;
 use object_groups::{Handle, Handles};
-use pure_eval::Opened;
+use pure_eval::OpenWorkspace;
 use remote_objects::{ByValueFault, Describer, Detail};
 use std::alloc::{AllocError, Global};
 
 /// What values are described to the session of this number by: the program's cells, and those of its evaluations.
 fn describer_of<'o, 'b>(
     alloc: Global,
-    opened: &'o Opened<'b>,
+    opened: &'o OpenWorkspace<'b>,
     scripts: &'o [Script],
     session: u64,
     sources: &'o EvaluatedTexts,
@@ -46,7 +46,7 @@ fn describer_of<'o, 'b>(
 /// are in its group, if it is in one.
 pub(crate) fn properties_of(
     alloc: Global,
-    opened: &Opened<'_>,
+    opened: &OpenWorkspace<'_>,
     scripts: &[Script],
     session: u64,
     object: &Handle,
@@ -65,7 +65,7 @@ pub(crate) fn properties_of(
 /// this group or in none.
 pub(crate) fn value_of(
     alloc: Global,
-    opened: &Opened<'_>,
+    opened: &OpenWorkspace<'_>,
     scripts: &[Script],
     session: u64,
     value: Value,
@@ -84,7 +84,7 @@ pub(crate) fn value_of(
 /// A value to which an evaluation came, by value and without a handle.
 pub(crate) fn given_of(
     alloc: Global,
-    opened: &Opened<'_>,
+    opened: &OpenWorkspace<'_>,
     scripts: &[Script],
     session: u64,
     value: Value,

@@ -5,7 +5,7 @@ ghost use Rattle.js_heap.specs.BuiltIns.{script_scope};
 ghost use Rattle.js_parser_readers.specs.declared.fault.ParseFault.TheVariants as parse_faults;
 ghost use Rattle.cdp_session.specs.declared.done.Fault.TheVariants as faults;
 ghost use Rattle.js_semantics.specs.Evaluation.{Answer, evaluate_expression as definition};
-ghost use Rattle.js_semantics.specs.Makers.{Made as Source};
+ghost use Rattle.js_semantics.specs.Makers.{MadeExpression as Source};
 ghost use Rattle.js_semantics.specs.Sources.{expression_source};
 ghost use Rattle.frames_scopes_types.specs.Views.{frame_of, scope_of};
 ghost use Rattle.js_heap.specs.ScratchSpaces.{copied_world};
@@ -38,12 +38,12 @@ use js_heap::built_in::script_scope;
 use js_heap::change::Counted;
 use js_heap::limits::{MOST_SCRATCH_CELLS, MOST_SCRATCH_UNITS};
 use js_heap::value::{Addr, Value};
-use js_machine_rows::table::Table;
+use js_machine_rows::table::StepTable;
 use js_parser::parse::parse_expression;
 use js_parser_readers::fault::ParseFault;
 use js_tree::script::{Expression, Script};
 use object_groups::Handles;
-use pure_eval::{Evaluated, Opened, Workspace, is_memory};
+use pure_eval::{Evaluated, OpenWorkspace, Workspace, is_memory};
 use remote_objects::frame_id;
 use std::alloc::{AllocError, Global};
 
@@ -74,7 +74,7 @@ fn holds_on(value: Value, handles: &Handles) -> bool
 }
 
 /// What evaluations go on from behind one that is kept, or forgotten.
-fn kept_or_forgotten(keeps: bool, opened: Opened<'_>) -> Workspace
+fn kept_or_forgotten(keeps: bool, opened: OpenWorkspace<'_>) -> Workspace
     ensures { result ≡ (if keeps then opened.entry.behind else opened.entry.before) }
 {
     if keeps {
@@ -98,7 +98,7 @@ fn name_of(group: &Option<Units>) -> Option<&[u16]>
 pub(crate) fn open<'p, P: Program>(
     workspace: &mut Option<Workspace>,
     situation: &Situation<'p, P>,
-) -> Result<Opened<'p>, AllocError>
+) -> Result<OpenWorkspace<'p>, AllocError>
     ensures opened { IfOk result (λ o. o ≡ just_opened (seen P.standing situation.now).standing.world (unwrap_or workspace.old no_workspace)) }
     ensures rest { OnOk result (workspace.new ≡ None) }
 {
@@ -278,7 +278,7 @@ impl Session {
         let mut opened = self.opened(situation)?;
         let at = opened.next_address();
         let prepared = situation.program.prepared(self.alloc, at, expression)?;
-        let end = opened.evaluate::<Table>(self.alloc, scope, receiver, &prepared);
+        let end = opened.evaluate::<StepTable>(self.alloc, scope, receiver, &prepared);
         if is_memory(end) {
             return Err(Fault::Memory);
         }
@@ -289,7 +289,7 @@ impl Session {
     pub(crate) fn opened<'p, P: Program>(
         &mut self,
         situation: &Situation<'p, P>,
-    ) -> Result<Opened<'p>, AllocError>
+    ) -> Result<OpenWorkspace<'p>, AllocError>
         ensures opened { IfOk result (λ o. o ≡ just_opened (seen P.standing situation.now).standing.world self.old.workspace) }
         ensures rest { OnOk result (self.new ≡ with_workspace no_workspace self.old) }
     {
@@ -302,7 +302,7 @@ impl Session {
         scripts: &[Script],
         showing: &Showing,
         end: Evaluated,
-        opened: Opened<'_>,
+        opened: OpenWorkspace<'_>,
     ) -> Result<Done, Fault>
         ensures made { (s : Seen) (e : Source) (a : Answer) → s.scripts ≡ scripts.now → s.standing.world ≡ opened.entry.world → EvaluatesTo a e end (just_opened opened.entry.world opened.entry.before) opened.entry → Makes result self.new (row_of (evaluations.outcome_of_answer s (with_workspace opened.entry.before self.old) showing.now e a)) }
         ensures kept { KeepsIfRefused result (with_workspace opened.entry.before self.old) self.new }
@@ -344,7 +344,7 @@ impl Session {
         scripts: &[Script],
         value: Value,
         showing: &Showing,
-        opened: Opened<'_>,
+        opened: OpenWorkspace<'_>,
     ) -> Result<Json, Fault>
         ensures described { Describes result self.new (with_workspace (if evaluations.keeps showing.now value self.old.handles then opened.entry.behind else opened.entry.before) self.old) (evaluations.described_as (sight_of node_text (copied_world opened.entry.world opened.entry.behind.scratch) scripts.now self.old.number) showing.now value self.old.handles) }
         ensures kept { KeepsIfRefused result (with_workspace opened.entry.before self.old) self.new }
@@ -372,7 +372,7 @@ impl Session {
         &mut self,
         scripts: &[Script],
         value: Value,
-        opened: Opened<'_>,
+        opened: OpenWorkspace<'_>,
     ) -> Result<Json, Fault>
         ensures given { GivesValue result (remote_by_value (sight_of node_text (copied_world opened.entry.world opened.entry.behind.scratch) scripts.now self.old.number) value) }
         ensures session { self.new ≡ with_workspace opened.entry.before self.old }

@@ -3,9 +3,9 @@
 use frames_scopes_types::CallFrame;
 use js_heap::value::{Addr, Value};
 use js_heap_memory::heap::BaseHeap;
-use js_heap_memory::names::Names;
+use js_heap_memory::names::NameTable;
 use js_tree::script::{Expression, FunctionCode};
-use pure_eval::Prepared;
+use pure_eval::PreparedSource;
 use std::alloc::{AllocError, Global};
 
 /// The cells of a program, with the table of its names.
@@ -14,7 +14,7 @@ pub struct ProgramCells<'p> {
     /// The cells.
     pub heap: &'p BaseHeap,
     /// The names.
-    pub names: &'p Names,
+    pub names: &'p NameTable,
 }
 
 /// What a session asks of a program that stands still. Contracts see how it stands.
@@ -57,7 +57,7 @@ pub trait Program {
         alloc: Global,
         at: Addr,
         expression: &Expression,
-    ) -> Result<Prepared, AllocError>
+    ) -> Result<PreparedSource, AllocError>
         ensures { IfOk result (λ p. IsPrepared at expression.now p) };
 
     /// A function that is ready to be called, its source to be kept at an address.
@@ -70,6 +70,6 @@ pub trait Program {
         alloc: Global,
         at: Addr,
         function: &FunctionCode,
-    ) -> Result<Prepared, AllocError>
+    ) -> Result<PreparedSource, AllocError>
         ensures { IfOk result (λ p. IsPreparedFunction at function.now p) };
 }

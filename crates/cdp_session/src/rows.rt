@@ -33,7 +33,7 @@ use cdp_session_messages::{
 use cdp_text::position::{Place, Pos};
 use cdp_text::units::Units;
 use js_heap::built_in::script_scope;
-use locations::spot::{between, first_at_or_after};
+use locations::spot::{first_at_or_after, spots_between};
 use object_groups::Handle;
 use remote_objects::{Detail, backtrace};
 use std::alloc::{AllocError, Global};
@@ -382,7 +382,7 @@ impl Session {
             position,
         } = start;
         let found = find_script(self.alloc, situation, script_id)?;
-        let spots = between(found.spots, position, end_of(end));
+        let spots = spots_between(found.spots, position, end_of(end));
         let answer = spot_locations(self.alloc, found.script.number, spots)?;
         Ok(answering(self.alloc, answer))
     }

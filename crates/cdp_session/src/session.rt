@@ -38,7 +38,7 @@ use pure_eval::Workspace;
 use remote_objects::backtrace;
 use std::alloc::{AllocError, Global};
 use std::marker::Model;
-use stepping::{Arrival, Cause, Rules, names};
+use stepping::{Arrival, Cause, Rules, first_cause};
 
 /// One client: what it asks for, its breakpoints, the objects that it holds, and the texts that wait for it.
 #[derive(Drop)]
@@ -125,7 +125,7 @@ impl Session {
         ensures { result ≡ may_name arrival.now self.now }
     {
         let may_be_hit = may_be_hit(&self.breakpoints, arrival.place);
-        names(&self.rules, arrival, may_be_hit).is_some()
+        first_cause(&self.rules, arrival, may_be_hit).is_some()
     }
 
     /// The first rule by which the session names a stop behind a step that leads to this arrival, if one does. The conditions
@@ -153,7 +153,7 @@ impl Session {
     fn cause_with(&self, arrival: &Arrival, hits: &Vec<Units>) -> Option<Cause>
         ensures { (bs : List Breakpoint) → hits.now.items ≡ map id_of bs → result ≡ first_cause self.now.rules arrival.now (is_some_hit bs) }
     {
-        names(&self.rules, arrival, !hits.is_empty())
+        first_cause(&self.rules, arrival, !hits.is_empty())
     }
 
     /// The ids of the breakpoints that are hit where the program arrived, in the order in which they were set.

@@ -25,7 +25,7 @@ use Rattle.cdp_host_seats.specs.Losses.{losses_from}
 use Rattle.cdp_host_turns.specs.declared.state.State.{State}
 use Rattle.cdp_host_turns.specs.declared.state.State.TheVariants as states
 use Rattle.cdp_host.specs.Histories.{Meaning, apply, whole}
-use Rattle.cdp_host.specs.Hosts.{CarriesOn, HostState, Leaves, RunsTo, Stands, meaning_with, parts_standing, state_at}
+use Rattle.cdp_host.specs.Hosts.{CarriesOn, HostState, Leaves, RunsTo, StandsFor, meaning_with, parts_standing, state_at}
 use Rattle.cdp_host_turns.specs.Entries.{lost_for_memory}
 use Rattle.cdp_host.specs.Programs.{printed_of}
 use Rattle.cdp_host.specs.Protocols.{protocol, situation, texts_fit}
@@ -48,7 +48,7 @@ use Rattle.cdp_host.proofs.HeldLemmas.{gone-seat, held-seat}
 abbrev pub IsMeant : HostState → ℕ → Bool → Type 0
 IsMeant host s there =
     (scripts : List Script) (input : List (List ℕ)) (wait : Bool) (history : List Entry)
-    → Stands scripts input wait host history
+    → StandsFor scripts input wait host history
     → there ≡ is_there (whole scripts input wait history) s
 
 pub there-held : (host : HostState) (s : ℕ)
@@ -87,7 +87,7 @@ stands-behind : (scripts : List Script) (input : List (List ℕ)) (wait : Bool) 
     → old.broken ≡ false
     → Leaves old entry new
     → CarriesOn old entry new
-    → Stands scripts input wait old history
+    → StandsFor scripts input wait old history
     → StandsBehind scripts input wait history entry new
 stands-behind scripts input wait history old new entry works leaves carries stood =
     record { stands = carries scripts input wait history stood; works = leaves.works ∙ works }
@@ -101,7 +101,7 @@ pub attach-done : (old new : HostState) (s : ℕ) (texts : List (List ℕ))
     → CarriesOn old Attach new
     → texts ≡ output_text (Attached s) ∷ []
     → (scripts : List Script) (input : List (List ℕ)) (wait : Bool) (history : List Entry)
-    → Stands scripts input wait old history
+    → StandsFor scripts input wait old history
     → Acts scripts input wait history (entry_at scripts (whole scripts input wait history) lines.Attach) (Some texts)
     new
 attach-done old new s texts works number leaves carries texts_are scripts input wait history stood =
@@ -155,7 +155,7 @@ tell-done : (old new : HostState) (s : ℕ) (text : List ℕ) (fit : Bool) (text
     → AnswersFit old s text fit
     → texts ≡ map output_text (if not fit then Overran s ∷ [] else [])
     → (scripts : List Script) (input : List (List ℕ)) (wait : Bool) (history : List Entry)
-    → Stands scripts input wait old history
+    → StandsFor scripts input wait old history
     → Acts scripts input wait history (entry_at scripts (whole scripts input wait history) (lines.Tell s text))
     (Some texts) new
 tell-done old new s text fit texts works held leaves carries fits texts_are scripts input wait history stood =
@@ -176,7 +176,7 @@ pub tell-kept : (old new : HostState) (s : ℕ) (text : List ℕ) (texts : List 
     → is_attached (seat_of s old.meaning.seats) ≡ true
     → Leaves old (Tell s text) new → CarriesOn old (Tell s text) new → AnswersFit old s text true → texts ≡ []
     → (scripts : List Script) (input : List (List ℕ)) (wait : Bool) (history : List Entry)
-    → Stands scripts input wait old history
+    → StandsFor scripts input wait old history
     → Acts scripts input wait history (entry_at scripts (whole scripts input wait history) (lines.Tell s text))
     (Some texts) new
 tell-kept old new s text texts works held leaves carries fits none =
@@ -190,7 +190,7 @@ pub tell-overrun : (old new : HostState) (s : ℕ) (text : List ℕ) (texts : Li
     → AnswersFit old s text false
     → texts ≡ output_text (Overran s) ∷ []
     → (scripts : List Script) (input : List (List ℕ)) (wait : Bool) (history : List Entry)
-    → Stands scripts input wait old history
+    → StandsFor scripts input wait old history
     → Acts scripts input wait history (entry_at scripts (whole scripts input wait history) (lines.Tell s text))
     (Some texts) new
 tell-overrun old new s text texts works held leaves carries fits line =
@@ -204,7 +204,7 @@ pub take-done : (old new : HostState) (s : ℕ) (handed texts : List (List ℕ))
     → handed ≡ waiting (protocol old.scripts) (seat_of s old.meaning.seats)
     → texts ≡ map output_text (map (To s) handed)
     → (scripts : List Script) (input : List (List ℕ)) (wait : Bool) (history : List Entry)
-    → Stands scripts input wait old history
+    → StandsFor scripts input wait old history
     → Acts scripts input wait history (entry_at scripts (whole scripts input wait history) (lines.Take s)) (Some texts)
     new
 take-done old new s handed texts works held leaves carries handed_are texts_are scripts input wait history stood =
@@ -286,7 +286,7 @@ runs-as scripts moment most host m n steps printed lost stands runs nobody =
 state-as : (scripts : List Script) (input : List (List ℕ)) (wait : Bool) (history : List Entry) (new : HostState)
     (entry : Entry) (state : State)
     → new.broken ≡ false
-    → Stands scripts input wait new (history ++ entry ∷ [])
+    → StandsFor scripts input wait new (history ++ entry ∷ [])
     → ((taken : List (List ℕ)) → state ≡ state_at new taken)
     → state ≡ state_of (apply scripts (whole scripts input wait history) entry)
 state-as scripts input wait history new entry state works stands tells =
@@ -308,7 +308,7 @@ pub run-done : (moment most : ℕ) (old new : HostState) (steps : ℕ) (printed 
     → texts ≡ (map output_text (map Out printed) ++ map output_text (map Overran (overrun_in lost))) ++ output_text
     (RanTo steps state) ∷ []
     → (scripts : List Script) (input : List (List ℕ)) (wait : Bool) (history : List Entry)
-    → Stands scripts input wait old history
+    → StandsFor scripts input wait old history
     → Acts scripts input wait history (entry_at scripts (whole scripts input wait history) (lines.Run most moment))
     (Some texts) new
 run-done moment most old new steps printed texts lost state works same runs carries nobody tells texts_are scripts input
@@ -320,8 +320,8 @@ run-done moment most old new steps printed texts lost state works same runs carr
     (meaning_with new (taken ++ printed)) in
     let is = runs-as scripts moment most (meaning_with old taken) m (meaning_with new (taken ++ printed))
     steps printed lost (stood.means works) (subst R stood.runs (runs taken)) nobody in
-    let S : List ℕ → Type 0 = λ gone. Stands scripts input wait new (history ++ Ran steps moment gone ∷ []) in
-    let stands : Stands scripts input wait new (history ++ Ran steps moment [] ∷ []) = subst S nobody
+    let S : List ℕ → Type 0 = λ gone. StandsFor scripts input wait new (history ++ Ran steps moment gone ∷ []) in
+    let stands : StandsFor scripts input wait new (history ++ Ran steps moment [] ∷ []) = subst S nobody
     (carries scripts input wait history stood) in
     let led : state ≡ state_of (apply scripts m (Ran steps moment [])) = state-as scripts input wait history new
     (Ran steps moment []) state (same ∙ works) stands tells in
@@ -359,10 +359,10 @@ entry-read scripts m text line is = ap (λ o. option_and_then (entry_at scripts 
 pub offers : (text : List ℕ) (line : lines.Line) (texts : List (List ℕ)) (old new : HostState)
     → Some line ≡ line_of text
     → ((s : List Script) (i : List (List ℕ)) (w : Bool) (h : List Entry)
-    → Stands s i w old h
+    → StandsFor s i w old h
     → Acts s i w h (entry_at s (whole s i w h) line) (Some texts) new)
     → (s : List Script) (i : List (List ℕ)) (w : Bool) (h : List Entry)
-    → Stands s i w old h
+    → StandsFor s i w old h
     → line_output s (whole s i w h) (entry_of s (whole s i w h) text) ≡ joined texts
 offers text line texts old new is acts s i w h stood =
     ap (λ o. line_output s (whole s i w h) o) (sym (entry-read s (whole s i w h) text line is))
@@ -378,10 +378,10 @@ acts-none scripts input wait history (Some entry) new acts = let none = acts.0 i
 -- a line that was refused has no entry
 pub refuses : (text : List ℕ) (line : lines.Line) (old new : HostState) → Some line ≡ line_of text
     → ((s : List Script) (i : List (List ℕ)) (w : Bool) (h : List Entry)
-    → Stands s i w old h
+    → StandsFor s i w old h
     → Acts s i w h (entry_at s (whole s i w h) line) None new)
     → (s : List Script) (i : List (List ℕ)) (w : Bool) (h : List Entry)
-    → Stands s i w old h
+    → StandsFor s i w old h
     → entry_of s (whole s i w h) text ≡ None
 refuses text line old new is acts s i w h stood =
     sym (entry-read s (whole s i w h) text line is)
@@ -406,11 +406,11 @@ pub plays : (text : List ℕ) (line : lines.Line) (texts : List (List ℕ)) (old
     (before now : Option (List ℕ))
     → Some line ≡ line_of text
     → ((s : List Script) (i : List (List ℕ)) (w : Bool) (h : List Entry)
-    → Stands s i w old h
+    → StandsFor s i w old h
     → Acts s i w h (entry_at s (whole s i w h) line) (Some texts) new)
     → now ≡ gains before (joined texts)
     → (s : List Script) (i : List (List ℕ)) (w : Bool) (h : List Entry)
-    → Stands s i w old h
+    → StandsFor s i w old h
     → Plays s i w h (entry_of s (whole s i w h) text) new before now
 plays text line texts old new before now is acts written s i w h stood =
     let P : Option Entry → Type 0 = λ o. Plays s i w h o new before now in

@@ -1,7 +1,7 @@
 -- What each end of sending commands says of the file, the port and the conversation.
 use Rattle.std.proofs.Common.{◌≡◌, ◌≤◌, ◌⊎◌, inl, inr, ℕ, zero, suc, List, [], ◌∷◌, Option, Some, None, Ok, Err, refl, sym, ap, subst, ◌∙◌, arith, Bool}
 use Rattle.cdp_edge.specs.Blame.{Blames, Faults, Read}
-use Rattle.cdp_edge.specs.Outside.{GainsPrefix, Named, Rose, Told, content_of}
+use Rattle.cdp_edge.specs.Outside.{GainsPrefix, NamedFile, Rose, IfTold, content_of}
 use Rattle.cdp_edge.proofs.Gains.{GainsPrefix-refl}
 use Rattle.cdp_edge_server.specs.Contents.{RisesAt, adds, any_fault, called, raised}
 use Rattle.ws_service.specs.Programs.{Output}
@@ -13,14 +13,14 @@ use Rattle.debug_host_script_files.proofs.ScriptLemmas.{some_same}
 use Rattle.debug_host_commands.specs.SendCauses.{BecauseCommands, BecauseSend, Dialled, HoldsCommands, IsDialled, IsUndialled, IsUnsent, MaySend, RefusesLine, Sends, Speaks, outcome_of_talk}
 use Rattle.debug_host_commands.specs.Status.{ForSend, ForText, GivenSend, closed_said, line_said, said, status_of, unread_said, Says}
 use Rattle.debug_host_options.specs.Requests.{Drill, Help, Replay, Request, Run, Send, SendWords, Serve, Version}
-use Rattle.debug_host_commands.specs.declared.outcome.Outcome.{Outcome}
-use Rattle.debug_host_commands.specs.declared.outcome.Outcome.TheVariants as ends
+use Rattle.debug_host_commands.specs.declared.outcome.CommandEnd.{CommandEnd}
+use Rattle.debug_host_commands.specs.declared.outcome.CommandEnd.TheVariants as ends
 use Rattle.debug_host_commands.proofs.RunLemmas.{told_always, told_map}
 
 -- ---- before the port is dialled
 
 -- why sending ended so whose file wasn't taken
-pub unread : (end : Outcome) (request : SendWords) (told : Option (List Named)) (before after : Faults) (out : Output)
+pub unread : (end : CommandEnd) (request : SendWords) (told : Option (List NamedFile)) (before after : Faults) (out : Output)
     (harbor : Dialled) → BecauseCommands end request.commands told before after
     → BecauseSend end request told before after out out harbor harbor
 unread ends.OutOfMemory request told before after out harbor h = (h, refl, refl)
@@ -36,7 +36,7 @@ unread ends.NetworkFault request told before after out harbor h = absurd h
 unread (ends.PeerClosed replies) request told before after out harbor h = absurd h
 unread ends.TicketsSpent request told before after out harbor h = absurd h
 
-unsaid : (end : Outcome) (commands : List ℕ) (told : Option (List Named)) (before after : Faults)
+unsaid : (end : CommandEnd) (commands : List ℕ) (told : Option (List NamedFile)) (before after : Faults)
     → BecauseCommands end commands told before after → IsUnsent end
 unsaid ends.OutOfMemory commands told before after h = tt
 unsaid (ends.CannotRead name) commands told before after h = tt
@@ -51,24 +51,24 @@ unsaid ends.NetworkFault commands told before after h = absurd h
 unsaid (ends.PeerClosed replies) commands told before after h = absurd h
 unsaid ends.TicketsSpent commands told before after h = absurd h
 
-pub unsent : (end : Outcome) (request : SendWords) (told : Option (List Named)) (before after : Faults)
+pub unsent : (end : CommandEnd) (request : SendWords) (told : Option (List NamedFile)) (before after : Faults)
     (out : Output) (harbor : Dialled) → BecauseCommands end request.commands told before after
-    → Told told (λ files. MaySend files request out out harbor harbor end)
+    → IfTold told (λ files. MaySend files request out out harbor harbor end)
 unsent end request told before after out harbor h =
     told_always told (λ files. MaySend files request out out harbor harbor end)
     (λ files. inl (unsaid end request.commands told before after h, refl, refl))
 
 -- the port couldn't be dialled
-pub undialled : (end : Outcome) (request : SendWords) (told : Option (List Named)) (out : Output)
+pub undialled : (end : CommandEnd) (request : SendWords) (told : Option (List NamedFile)) (out : Output)
     (was now : Dialled) → IsUnsent end → now.hung_up ≡ was.hung_up
-    → Told told (λ files. MaySend files request out out was now end)
+    → IfTold told (λ files. MaySend files request out out was now end)
 undialled end request told out was now unsent same =
     told_always told (λ files. MaySend files request out out was now end) (λ files. inl (unsent, refl, same))
 
 -- a link is out once a port was dialled
-pub one_out : (old new : Option ℕ) → new ≡ raised old 1 → Told new (λ (out : ℕ). 1 ≤ out)
-one_out None new is = subst (λ (links : Option ℕ). Told links (λ (out : ℕ). 1 ≤ out)) (sym is) tt
-one_out (Some n) new is = subst (λ (links : Option ℕ). Told links (λ (out : ℕ). 1 ≤ out)) (sym is) (omega arith)
+pub one_out : (old new : Option ℕ) → new ≡ raised old 1 → IfTold new (λ (out : ℕ). 1 ≤ out)
+one_out None new is = subst (λ (links : Option ℕ). IfTold links (λ (out : ℕ). 1 ≤ out)) (sym is) tt
+one_out (Some n) new is = subst (λ (links : Option ℕ). IfTold links (λ (out : ℕ). 1 ≤ out)) (sym is) (omega arith)
 
 -- ---- a conversation
 
@@ -117,17 +117,17 @@ in-form : (P : Type 0) (file : List ℕ) (line : ℕ) → IsInForm file → file
 in-form P file line form refused =
     let both : Ok form.0 ≡ Err line = sym form.1 ∙ refused in absurd cc
 
-module _ (request : SendWords) (told : Option (List Named)) (commands : List ℕ) (old new : Output) (was now : Dialled)
-    (there : Told told (λ files. content_of request.commands files ≡ Some commands)) where
+module _ (request : SendWords) (told : Option (List NamedFile)) (commands : List ℕ) (old new : Output) (was now : Dialled)
+    (there : IfTold told (λ files. content_of request.commands files ≡ Some commands)) where
   sends : (talk : Conversed) → Speaks commands talk old new was now
-      → Told told (λ files. Sends files request talk old new was now)
+      → IfTold told (λ files. Sends files request talk old new was now)
   sends talk s =
       told_map told (λ files. content_of request.commands files ≡ Some commands)
       (λ files. Sends files request talk old new was now)
       (λ files at. record { commands = commands; there = at; speaks = s }) there
 
   -- the files hold the lines of a file that is of its form
-  pub holds : IsInForm commands → Told told (λ files. (lines : List Line) × HoldsCommands files request.commands lines)
+  pub holds : IsInForm commands → IfTold told (λ files. (lines : List Line) × HoldsCommands files request.commands lines)
   holds form =
       told_map told (λ files. content_of request.commands files ≡ Some commands)
       (λ files. (lines : List Line) × HoldsCommands files request.commands lines)
@@ -147,7 +147,7 @@ module _ (request : SendWords) (told : Option (List Named)) (commands : List ℕ
   spoke talks.Memory before after quiet form dialled s = (quiet, s.writes, s.faults)
 
   pub spoke-part : (talk : Conversed) → Speaks commands talk old new was now
-      → Told told (λ files. MaySend files request old new was now (outcome_of_talk talk))
+      → IfTold told (λ files. MaySend files request old new was now (outcome_of_talk talk))
   spoke-part talk s =
       told_map told (λ files. Sends files request talk old new was now)
       (λ files. MaySend files request old new was now (outcome_of_talk talk)) (λ files at. inr (talk, refl, at))
@@ -165,32 +165,32 @@ module _ (request : SendWords) (told : Option (List Named)) (commands : List ℕ
 
 -- ---- of the words that ask for a client
 
-given_send : (o : Option Request) (request : SendWords) (told : Option (List Named))
-    (P : SendWords → List Named → Type 0) → o ≡ Some (Send request) → Told told (P request) → GivenSend o told P
+given_send : (o : Option Request) (request : SendWords) (told : Option (List NamedFile))
+    (P : SendWords → List NamedFile → Type 0) → o ≡ Some (Send request) → IfTold told (P request) → GivenSend o told P
 given_send o request told P is h = rw is h
 
 -- at every status
-pub sent_given : (o : Option Request) (request : SendWords) (told : Option (List Named)) (old new : Output)
-    (was now : Dialled) (end : Outcome) (status : ℕ) → o ≡ Some (Send request) → status ≡ status_of end
-    → Told told (λ files. MaySend files request old new was now end)
-    → GivenSend o told (λ r files. (it : Outcome) × (status ≡ status_of it) × MaySend files r old new was now it)
+pub sent_given : (o : Option Request) (request : SendWords) (told : Option (List NamedFile)) (old new : Output)
+    (was now : Dialled) (end : CommandEnd) (status : ℕ) → o ≡ Some (Send request) → status ≡ status_of end
+    → IfTold told (λ files. MaySend files request old new was now end)
+    → GivenSend o told (λ r files. (it : CommandEnd) × (status ≡ status_of it) × MaySend files r old new was now it)
 sent_given o request told old new was now end status is ends_so h =
-    given_send o request told (λ r files. (it : Outcome) × (status ≡ status_of it) × MaySend files r old new was now it)
+    given_send o request told (λ r files. (it : CommandEnd) × (status ≡ status_of it) × MaySend files r old new was now it)
     is
     (told_map told (λ files. MaySend files request old new was now end)
-    (λ files. (it : Outcome) × (status ≡ status_of it) × MaySend files request old new was now it)
+    (λ files. (it : CommandEnd) × (status ≡ status_of it) × MaySend files request old new was now it)
     (λ files at. (end, ends_so, at)) h)
 
 -- how a peer that closed is told
 abbrev IsToldClose : Output → Output → Dialled → Dialled → Bool → Option (List ℕ) → Option (List ℕ) → SendWords
-    → List Named → Type 0
+    → List NamedFile → Type 0
 IsToldClose old new was now explains before after request files =
     (replies : ℕ)
     × Sends files request (talks.PeerClosed replies) old new was now
     × Says explains before after (closed_said replies)
 
 -- how a line that is refused is told
-abbrev IsToldLine : Bool → Option (List ℕ) → Option (List ℕ) → SendWords → List Named → Type 0
+abbrev IsToldLine : Bool → Option (List ℕ) → Option (List ℕ) → SendWords → List NamedFile → Type 0
 IsToldLine explains before after request files =
     (line : ℕ) × RefusesLine files request.commands line × Says explains before after (line_said line)
 
@@ -223,37 +223,37 @@ not-past-6 P (inr (inr (inl is))) = absurd cc
 not-past-6 P (inr (inr (inr is))) = absurd cc
 
 -- one of these, where the file is of its form
-abbrev IsTaken : ℕ → SendWords → List Named → Type 0
+abbrev IsTaken : ℕ → SendWords → List NamedFile → Type 0
 IsTaken n request files =
     (lines : List Line) → HoldsCommands files request.commands lines
     → (n ≡ 0) ⊎ (n ≡ 9) ⊎ (n ≡ 1) ⊎ (n ≡ 4) ⊎ (n ≡ 5) ⊎ (n ≡ 7)
 
 -- one of these, where a line of it is refused
-abbrev IsLeft : ℕ → SendWords → List Named → Type 0
+abbrev IsLeft : ℕ → SendWords → List NamedFile → Type 0
 IsLeft n request files =
     (line : ℕ) → RefusesLine files request.commands line → (n ≡ 6) ⊎ (n ≡ 1) ⊎ (n ≡ 4)
 
 -- a file has one content
-not-both : (P : Type 0) (files : List Named) (name : List ℕ) (lines : List Line) (line : ℕ)
+not-both : (P : Type 0) (files : List NamedFile) (name : List ℕ) (lines : List Line) (line : ℕ)
     → HoldsCommands files name lines → RefusesLine files name line → P
 not-both P files name lines line h r =
     let same : h.commands ≡ r.commands = some_same (content_of name files) h.commands r.commands h.there r.there in
     in-form P r.commands line (lines, sym (ap file_read same) ∙ h.read) r.refused
 
 -- the file of a conversation that was held is of its form
-held : (P : Type 0) (files : List Named) (request : SendWords) (talk : Conversed) (old new : Output)
+held : (P : Type 0) (files : List NamedFile) (request : SendWords) (talk : Conversed) (old new : Output)
     (was now : Dialled) (line : ℕ) → ((file : List ℕ) → Speaks file talk old new was now → IsInForm file)
     → Sends files request talk old new was now → RefusesLine files request.commands line → P
 held P files request talk old new was now line form s r =
     let f : IsInForm s.commands = form s.commands s.speaks in
     not-both P files request.commands f.0 line (record { commands = s.commands; there = s.there; read = f.1 }) r
 
-module _ (request : SendWords) (told : Option (List Named)) (faults now_faults : Faults) (old new : Output)
+module _ (request : SendWords) (told : Option (List NamedFile)) (faults now_faults : Faults) (old new : Output)
     (was now : Dialled) where
-  abbrev Because : Outcome → Type 0
+  abbrev Because : CommandEnd → Type 0
   Because end = BecauseSend end request told faults now_faults old new was now
 
-  taken_of : (end : Outcome) → Because end → Told told (IsTaken (status_of end) request)
+  taken_of : (end : CommandEnd) → Because end → IfTold told (IsTaken (status_of end) request)
   taken_of ends.Done h = told_always told (IsTaken 0 request) (λ files lines holds. inl refl)
   taken_of (ends.PeerClosed replies) h =
       told_always told (IsTaken 9 request) (λ files lines holds. inr (inl refl))
@@ -274,7 +274,7 @@ module _ (request : SendWords) (told : Option (List Named)) (faults now_faults :
   taken_of (ends.Refused name r) h = absurd h
   taken_of (ends.Threw text) h = absurd h
 
-  left_of : (end : Outcome) → Because end → Told told (IsLeft (status_of end) request)
+  left_of : (end : CommandEnd) → Because end → IfTold told (IsLeft (status_of end) request)
   left_of ends.Done h =
       told_map told (λ files. Sends files request talks.Done old new was now) (IsLeft 0 request)
       (λ files s. λ line r. held _ files request talks.Done old new was now line
@@ -302,8 +302,8 @@ module _ (request : SendWords) (told : Option (List Named)) (faults now_faults :
   left_of (ends.Refused name r) h = absurd h
   left_of (ends.Threw text) h = absurd h
 
-  closed-told : (end : Outcome) (explains : Bool) (before after : Option (List ℕ)) → status_of end ≡ 9 → Because end
-      → Says explains before after (said end) → Told told (IsToldClose old new was now explains before after request)
+  closed-told : (end : CommandEnd) (explains : Bool) (before after : Option (List ℕ)) → status_of end ≡ 9 → Because end
+      → Says explains before after (said end) → IfTold told (IsToldClose old new was now explains before after request)
   closed-told (ends.PeerClosed replies) explains before after is h says =
       told_map told (λ files. Sends files request (talks.PeerClosed replies) old new was now)
       (IsToldClose old new was now explains before after request) (λ files s. (replies, s, says)) h.4
@@ -319,8 +319,8 @@ module _ (request : SendWords) (told : Option (List Named)) (faults now_faults :
   closed-told (ends.Refused name r) explains before after is h says = absurd h
   closed-told (ends.Threw text) explains before after is h says = absurd h
 
-  line-told : (end : Outcome) (explains : Bool) (before after : Option (List ℕ)) → status_of end ≡ 6 → Because end
-      → Says explains before after (said end) → Told told (IsToldLine explains before after request)
+  line-told : (end : CommandEnd) (explains : Bool) (before after : Option (List ℕ)) → status_of end ≡ 6 → Because end
+      → Says explains before after (said end) → IfTold told (IsToldLine explains before after request)
   line-told (ends.LineRefused line) explains before after is h says =
       told_map told (λ files. RefusesLine files request.commands line) (IsToldLine explains before after request)
       (λ files r. (line, r, says)) h.3
@@ -336,7 +336,7 @@ module _ (request : SendWords) (told : Option (List Named)) (faults now_faults :
   line-told (ends.Refused name r) explains before after is h says = absurd h
   line-told (ends.Threw text) explains before after is h says = absurd h
 
-  read-told : (end : Outcome) (explains : Bool) (before after : Option (List ℕ)) → status_of end ≡ 4 → Because end
+  read-told : (end : CommandEnd) (explains : Bool) (before after : Option (List ℕ)) → status_of end ≡ 4 → Because end
       → Says explains before after (said end) → IsToldRead faults now_faults explains before after request
   read-told (ends.CannotRead name) explains before after is h says =
       subst
@@ -354,7 +354,7 @@ module _ (request : SendWords) (told : Option (List Named)) (faults now_faults :
   read-told (ends.Refused name r) explains before after is h says = absurd h
   read-told (ends.Threw text) explains before after is h says = absurd h
 
-  dialled-told : (end : Outcome) → IsPast (status_of end) → Because end → IsDialled request.port was now
+  dialled-told : (end : CommandEnd) → IsPast (status_of end) → Because end → IsDialled request.port was now
   dialled-told ends.Done past h = h.3
   dialled-told (ends.PeerClosed replies) past h = h.3
   dialled-told ends.CannotWrite past h = h.3
@@ -368,17 +368,17 @@ module _ (request : SendWords) (told : Option (List Named)) (faults now_faults :
   dialled-told (ends.Refused name r) past h = absurd h
   dialled-told ends.TicketsSpent past h = absurd h
 
-  module _ (o : Option Request) (end : Outcome) (status : ℕ) (is : o ≡ Some (Send request))
+  module _ (o : Option Request) (end : CommandEnd) (status : ℕ) (is : o ≡ Some (Send request))
       (ends_so : status ≡ status_of end) (h : Because end) where
     pub taken_given : GivenSend o told (IsTaken status)
     taken_given =
         given_send o request told (IsTaken status) is
-        (subst (λ (n : ℕ). Told told (IsTaken n request)) (sym ends_so) (taken_of end h))
+        (subst (λ (n : ℕ). IfTold told (IsTaken n request)) (sym ends_so) (taken_of end h))
 
     pub left_given : GivenSend o told (IsLeft status)
     left_given =
         given_send o request told (IsLeft status) is
-        (subst (λ (n : ℕ). Told told (IsLeft n request)) (sym ends_so) (left_of end h))
+        (subst (λ (n : ℕ). IfTold told (IsLeft n request)) (sym ends_so) (left_of end h))
 
     pub closed_given : (explains : Bool) (before after : Option (List ℕ)) → Says explains before after (said end) → status ≡ 9
         → GivenSend o told (IsToldClose old new was now explains before after)
@@ -403,11 +403,11 @@ module _ (request : SendWords) (told : Option (List Named)) (faults now_faults :
         let it : now.dials ≡ called request.port was.dials = dialled-told end (subst IsPast ends_so past) h in rw is it
 
 -- where no memory was left for the words nothing was sent, whatever they ask for
-pub unasked : (o : Option Request) (told : Option (List Named)) (old : Output) (was : Dialled) (status : ℕ)
+pub unasked : (o : Option Request) (told : Option (List NamedFile)) (old : Output) (was : Dialled) (status : ℕ)
     → status ≡ 1
-    → GivenSend o told (λ r files. (it : Outcome) × (status ≡ status_of it) × MaySend files r old old was was it)
+    → GivenSend o told (λ r files. (it : CommandEnd) × (status ≡ status_of it) × MaySend files r old old was was it)
 unasked (Some (Send request)) told old was status one =
-    told_always told (λ files. (it : Outcome) × (status ≡ status_of it) × MaySend files request old old was was it)
+    told_always told (λ files. (it : CommandEnd) × (status ≡ status_of it) × MaySend files request old old was was it)
     (λ files. (ends.OutOfMemory, one, inl (tt, refl, refl)))
 unasked None told old was status one = tt
 unasked (Some (Run sources)) told old was status one = tt

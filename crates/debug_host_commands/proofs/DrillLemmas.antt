@@ -6,13 +6,13 @@ use Rattle.cdp_journal.specs.Drills.{drill_journal, drill_source}
 use Rattle.cdp_journal.specs.Summaries.{summary}
 use Rattle.js_tree.specs.declared.script.Script.{Script}
 use Rattle.debug_host_script_files.specs.Refusals.{IsRefused}
-use Rattle.debug_host_script_files.specs.declared.fault.Refusal.{Refusal}
+use Rattle.debug_host_script_files.specs.declared.fault.TextFault.{TextFault}
 use Rattle.debug_host_commands.specs.DrillCauses.{BecauseDrill, BecauseJournalOf, DrillRefuses, DrillsInPart, DrillsShort, DrillsWhole, IsDrilled, IsDrillScript, script_name}
 use Rattle.debug_host_commands.specs.Replays.{IsReplay, WritesReplay}
 use Rattle.debug_host_commands.specs.Status.{ForDrill, line_said, refusal_said, said, status_of, Says}
 use Rattle.debug_host_options.specs.Requests.{Request, Drill}
-use Rattle.debug_host_commands.specs.declared.outcome.Outcome.{Outcome}
-use Rattle.debug_host_commands.specs.declared.outcome.Outcome.TheVariants as ends
+use Rattle.debug_host_commands.specs.declared.outcome.CommandEnd.{CommandEnd}
+use Rattle.debug_host_commands.specs.declared.outcome.CommandEnd.TheVariants as ends
 use Rattle.cdp_edge_printing.proofs.PrintingLemmas.{less-part}
 use Rattle.cdp_edge_printing.proofs.PrintingLemmas.{whole-part as gained}
 
@@ -38,7 +38,7 @@ drilled n script scripts input journal before now line one none is began written
 -- ---- causes
 
 -- why it ended so whose journal wasn't replayed to its end
-pub unplayed : (end : Outcome) (n was : ℕ) (old : Option (List ℕ)) (script : Script)
+pub unplayed : (end : CommandEnd) (n was : ℕ) (old : Option (List ℕ)) (script : Script)
     → IsDrillScript n script
     → BecauseJournalOf end n script
     → BecauseDrill end n was was old old
@@ -111,7 +111,7 @@ abbrev IsToldLine : Option (List ℕ) → Option (List ℕ) → Bool → Option 
 IsToldLine old new explains before after n =
     (number : ℕ) × DrillRefuses n number × (new ≡ old) × Says explains before after (line_said number)
 
-line-told : (end : Outcome) (n was now : ℕ) (old new : Option (List ℕ)) (explains : Bool) (before after : Option (List ℕ)) → status_of end ≡ 6
+line-told : (end : CommandEnd) (n was now : ℕ) (old new : Option (List ℕ)) (explains : Bool) (before after : Option (List ℕ)) → status_of end ≡ 6
     → BecauseDrill end n was now old new → Says explains before after (said end) → IsToldLine old new explains before after n
 line-told (ends.LineRefused line) n was now old new explains before after is h says = (line, h.2, h.1, says)
 line-told ends.Done n was now old new explains before after is h says = absurd cc
@@ -126,7 +126,7 @@ line-told ends.NetworkFault n was now old new explains before after is h says = 
 line-told ends.TicketsSpent n was now old new explains before after is h says = absurd h
 line-told (ends.PeerClosed replies) n was now old new explains before after is h says = absurd h
 
-pub line_given : (o : Option Request) (n : ℕ) (end : Outcome) (was now : ℕ) (old new : Option (List ℕ)) (explains : Bool) (before after : Option (List ℕ))
+pub line_given : (o : Option Request) (n : ℕ) (end : CommandEnd) (was now : ℕ) (old new : Option (List ℕ)) (explains : Bool) (before after : Option (List ℕ))
     (status : ℕ) → o ≡ Some (Drill n) → status ≡ status_of end → BecauseDrill end n was now old new
     → Says explains before after (said end) → status ≡ 6 → ForDrill o (IsToldLine old new explains before after)
 line_given o n end was now old new explains before after status is ends_so h says six =
@@ -136,9 +136,9 @@ line_given o n end was now old new explains before after status is ends_so h say
 -- how a script of it that is refused is told
 abbrev IsToldRefusal : Bool → Option (List ℕ) → Option (List ℕ) → ℕ → Type 0
 IsToldRefusal explains before after n =
-    (refusal : Refusal) × IsRefused [] (drill_source n) refusal × Says explains before after (refusal_said script_name refusal)
+    (refusal : TextFault) × IsRefused [] (drill_source n) refusal × Says explains before after (refusal_said script_name refusal)
 
-done-told : (end : Outcome) (n was now : ℕ) (old new : Option (List ℕ)) → status_of end ≡ 0
+done-told : (end : CommandEnd) (n was now : ℕ) (old new : Option (List ℕ)) → status_of end ≡ 0
     → BecauseDrill end n was now old new → DrillsWhole n old new
 done-told ends.Done n was now old new is h = h.1
 done-told (ends.Threw text) n was now old new is h = absurd h
@@ -153,7 +153,7 @@ done-told ends.NetworkFault n was now old new is h = absurd h
 done-told ends.TicketsSpent n was now old new is h = absurd h
 done-told (ends.PeerClosed replies) n was now old new is h = absurd h
 
-short-told : (end : Outcome) (n was now : ℕ) (old new : Option (List ℕ)) → status_of end ≡ 5
+short-told : (end : CommandEnd) (n was now : ℕ) (old new : Option (List ℕ)) → status_of end ≡ 5
     → BecauseDrill end n was now old new → DrillsShort n old new
 short-told ends.Done n was now old new is h = absurd cc
 short-told (ends.Threw text) n was now old new is h = absurd h
@@ -168,7 +168,7 @@ short-told ends.NetworkFault n was now old new is h = absurd h
 short-told ends.TicketsSpent n was now old new is h = absurd h
 short-told (ends.PeerClosed replies) n was now old new is h = absurd h
 
-refusal-told : (end : Outcome) (n was now : ℕ) (old new : Option (List ℕ)) (explains : Bool) (before after : Option (List ℕ)) → status_of end ≡ 3
+refusal-told : (end : CommandEnd) (n was now : ℕ) (old new : Option (List ℕ)) (explains : Bool) (before after : Option (List ℕ)) → status_of end ≡ 3
     → BecauseDrill end n was now old new → Says explains before after (said end) → IsToldRefusal explains before after n
 refusal-told ends.Done n was now old new explains before after is h says = absurd cc
 refusal-told (ends.Threw text) n was now old new explains before after is h says = absurd h
@@ -183,7 +183,7 @@ refusal-told ends.NetworkFault n was now old new explains before after is h says
 refusal-told ends.TicketsSpent n was now old new explains before after is h says = absurd h
 refusal-told (ends.PeerClosed replies) n was now old new explains before after is h says = absurd h
 
-module _ (o : Option Request) (n : ℕ) (end : Outcome) (was now : ℕ) (old new : Option (List ℕ)) (status : ℕ)
+module _ (o : Option Request) (n : ℕ) (end : CommandEnd) (was now : ℕ) (old new : Option (List ℕ)) (status : ℕ)
     (is : o ≡ Some (Drill n)) (ends_so : status ≡ status_of end) (h : BecauseDrill end n was now old new) where
   pub done_given : status ≡ 0 → ForDrill o (λ m. DrillsWhole m old new)
   done_given zero =

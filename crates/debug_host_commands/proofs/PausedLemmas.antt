@@ -14,7 +14,7 @@ use Rattle.cdp_host_isolation.proofs.FallenLemmas.{without-none}
 use Rattle.js_tree.specs.declared.script.Script.{Script}
 use Rattle.cdp_session.specs.Sessions.{Session}
 use Rattle.cdp_host.specs.Protocols.{protocol}
-use Rattle.cdp_host.specs.Steps.{Step, names, seen_behind}
+use Rattle.cdp_host.specs.Steps.{Step, names_stop, seen_behind}
 use Rattle.cdp_host.proofs.WatchLemmas.{told-asks}
 
 -- ---- whoever names a step is enabled behind it
@@ -177,10 +177,10 @@ run-phase {C} {T} {Q} {X} P moment gone n m =
 
 -- ---- the sessions of a host
 
-enabled_by : (t : Step) (x : Session) (b : Bool) → x.rules.enabled ≡ b → names t x ≡ true → b ≡ true
+enabled_by : (t : Step) (x : Session) (b : Bool) → x.rules.enabled ≡ b → names_stop t x ≡ true → b ≡ true
 enabled_by t x true is named = refl
 enabled_by t x false is named =
-    let e : names t x ≡ false = rw is (and_right t.first false refl) in
+    let e : names_stop t x ≡ false = rw is (and_right t.first false refl) in
     absurd cc
 
 -- a session without the debugger names no step, and being told changes none of its rules but its requests

@@ -9,7 +9,7 @@ use Rattle.cdp_host_isolation.specs.Histories.{Entry}
 use Rattle.js_tree.specs.declared.script.Script.{Script}
 use Rattle.js_semantics.specs.Run.{Run as Program}
 use Rattle.cdp_host.specs.Histories.{Meaning, apply, begin, whole}
-use Rattle.cdp_host.specs.Hosts.{HostState, Stands}
+use Rattle.cdp_host.specs.Hosts.{HostState, StandsFor}
 use Rattle.cdp_host.proofs.HistoryLemmas.{longer}
 use Rattle.debug_host_commands.specs.Journal.{entry_of, refused}
 use Rattle.debug_host_commands.specs.Output.{joined, output_text, output_at, output_bytes}
@@ -97,7 +97,7 @@ left-output scripts m rest line lines is =
 pub record IsBehind (scripts : List Script) (input : List (List ℕ)) (wait : Bool) (all rest : List (List ℕ))
     (number : ℕ) (host : HostState) (before now : Option (List ℕ)) : Type 0 where
   pub history : List Entry
-  pub stands : Stands scripts input wait host history
+  pub stands : StandsFor scripts input wait host history
   pub works : host.broken ≡ false
   pub refused : refused scripts number (whole scripts input wait history) rest ≡ refused scripts 1
       (begin scripts input wait) all
@@ -106,7 +106,7 @@ pub record IsBehind (scripts : List Script) (input : List (List ℕ)) (wait : Bo
 
 pub behind-start : (scripts : List Script) (input : List (List ℕ)) (wait : Bool) (all : List (List ℕ))
     (host : HostState) (before : Option (List ℕ))
-    → Stands scripts input wait host [] → host.broken ≡ false → IsBehind scripts input wait all all 1 host before before
+    → StandsFor scripts input wait host [] → host.broken ≡ false → IsBehind scripts input wait all all 1 host before before
 behind-start scripts input wait all host before stands works = record {
   history = [];
   stands = stands;
@@ -149,7 +149,7 @@ pub behind-next : (scripts : List Script) (input : List (List ℕ)) (wait : Bool
     (host new : HostState) (before now next : Option (List ℕ)) (line : List ℕ) (lines : List (List ℕ))
     → rest ≡ line ∷ lines → IsBehind scripts input wait all rest number host before now
     → ((s : List Script) (i : List (List ℕ)) (w : Bool) (h : List Entry)
-    → Stands s i w host h
+    → StandsFor s i w host h
     → Plays s i w h (entry_of s (whole s i w h) line) new now next)
     → IsBehind scripts input wait all lines (number + 1) new before next
 behind-next scripts input wait all rest number host new before now next line lines is b plays =
@@ -161,7 +161,7 @@ pub behind-part : (scripts : List Script) (input : List (List ℕ)) (wait : Bool
     (host : HostState) (before now next : Option (List ℕ)) (line : List ℕ) (lines : List (List ℕ))
     → rest ≡ line ∷ lines → IsBehind scripts input wait all rest number host before now
     → ((s : List Script) (i : List (List ℕ)) (w : Bool) (h : List Entry)
-    → Stands s i w host h
+    → StandsFor s i w host h
     → GainsPrefix now next (line_output s (whole s i w h) (entry_of s (whole s i w h) line)))
     → GainsPrefix before next (journal_output scripts (begin scripts input wait) all)
 behind-part scripts input wait all rest number host before now next line lines is b part =
@@ -173,7 +173,7 @@ pub behind-less : (scripts : List Script) (input : List (List ℕ)) (wait : Bool
     (host : HostState) (before now next : Option (List ℕ)) (line : List ℕ) (lines : List (List ℕ))
     → rest ≡ line ∷ lines → IsBehind scripts input wait all rest number host before now
     → ((s : List Script) (i : List (List ℕ)) (w : Bool) (h : List Entry)
-    → Stands s i w host h
+    → StandsFor s i w host h
     → GainsLess now next (line_output s (whole s i w h) (entry_of s (whole s i w h) line)))
     → GainsLess before next (journal_output scripts (begin scripts input wait) all)
 behind-less scripts input wait all rest number host before now next line lines is b less =
@@ -186,7 +186,7 @@ pub behind-refused : (scripts : List Script) (input : List (List ℕ)) (wait : B
     (number : ℕ) (host : HostState) (before now : Option (List ℕ)) (line : List ℕ) (lines : List (List ℕ))
     → rest ≡ line ∷ lines → IsBehind scripts input wait all rest number host before now
     → ((s : List Script) (i : List (List ℕ)) (w : Bool) (h : List Entry)
-    → Stands s i w host h
+    → StandsFor s i w host h
     → entry_of s (whole s i w h) line ≡ None)
     → refused scripts 1 (begin scripts input wait) all ≡ Some number
 behind-refused scripts input wait all rest number host before now line lines is b none =
@@ -200,7 +200,7 @@ pub behind-refused-whole : (scripts : List Script) (input : List (List ℕ)) (wa
     (number : ℕ) (host : HostState) (before now : Option (List ℕ)) (line : List ℕ) (lines : List (List ℕ))
     → rest ≡ line ∷ lines → IsBehind scripts input wait all rest number host before now
     → ((s : List Script) (i : List (List ℕ)) (w : Bool) (h : List Entry)
-    → Stands s i w host h
+    → StandsFor s i w host h
     → entry_of s (whole s i w h) line ≡ None)
     → now ≡ gains before (journal_output scripts (begin scripts input wait) all)
 behind-refused-whole scripts input wait all rest number host before now line lines is b none =

@@ -1,18 +1,18 @@
 -- What each end of a replay says of the files, and of what was written.
 use Rattle.std.proofs.Common.{◌≡◌, ◌⊎◌, ℕ, List, Bool, Option, Some, None, refl, sym, subst, ◌∙◌, inl, inr}
-use Rattle.cdp_edge.specs.Outside.{Named, Told, Rose, content_of}
+use Rattle.cdp_edge.specs.Outside.{NamedFile, IfTold, Rose, content_of}
 use Rattle.cdp_edge.specs.Blame.{Faults, Blames, Read}
 use Rattle.cdp_edge.proofs.Gains.{gains-nil, GainsPrefix-refl, Told-GainsPrefix}
 use Rattle.js_tree.specs.declared.script.Script.{Script}
-use Rattle.debug_host_script_files.specs.declared.fault.Refusal.{Refusal}
+use Rattle.debug_host_script_files.specs.declared.fault.TextFault.{TextFault}
 use Rattle.debug_host_commands.specs.Files.{HoldsReplay, HoldsSources, IsNamedBy, IsReachedBy, IsReachedIn, IsRefusedBehind, IsRefusedIn}
 use Rattle.debug_host_commands.specs.Replays.{WritesLess, WritesPart, WritesReplay}
 use Rattle.debug_host_commands.specs.ReplayCauses.{ReplaysWhole, ReplaysInPart, ReplaysShort, BecauseReplay, outcome_of_replay}
 use Rattle.debug_host_commands.specs.RunCauses.{BecauseSources}
 use Rattle.debug_host_commands.specs.Status.{ForReplay, GivenReplay, said, status_of, unread_said, Says}
 use Rattle.debug_host_options.specs.Requests.{Request, Replay, ReplayWords}
-use Rattle.debug_host_commands.specs.declared.outcome.Outcome.{Outcome}
-use Rattle.debug_host_commands.specs.declared.outcome.Outcome.TheVariants as ends
+use Rattle.debug_host_commands.specs.declared.outcome.CommandEnd.{CommandEnd}
+use Rattle.debug_host_commands.specs.declared.outcome.CommandEnd.TheVariants as ends
 use Rattle.debug_host_commands.specs.declared.journal.ReplayEnd.{ReplayEnd}
 use Rattle.debug_host_commands.specs.declared.journal.ReplayEnd.TheVariants as plays
 use Rattle.debug_host_commands.proofs.RunLemmas.{run_stands, told_always, told_map}
@@ -21,19 +21,19 @@ pub ruleset untouched = (gains-nil, GainsPrefix-refl, Told-GainsPrefix)
 
 -- ---- causes
 
-told_both : (told : Option (List Named)) (P Q R : List Named → Type 0)
-    → ((files : List Named) → P files → Q files → R files)
-    → Told told P
-    → Told told Q
-    → Told told R
+told_both : (told : Option (List NamedFile)) (P Q R : List NamedFile → Type 0)
+    → ((files : List NamedFile) → P files → Q files → R files)
+    → IfTold told P
+    → IfTold told Q
+    → IfTold told R
 told_both None P Q R f p q = tt
 told_both (Some files) P Q R f p q = f files p q
 
-abbrev HasJournal : Option (List Named) → ReplayWords → List ℕ → Type 0
-HasJournal told request journal = Told told (λ files. content_of request.journal files ≡ Some journal)
+abbrev HasJournal : Option (List NamedFile) → ReplayWords → List ℕ → Type 0
+HasJournal told request journal = IfTold told (λ files. content_of request.journal files ≡ Some journal)
 
 -- why a replay ended so whose program wasn't taken
-pub unread : (end : Outcome) (request : ReplayWords) (told : Option (List Named)) (before mid after : Faults) (was : ℕ)
+pub unread : (end : CommandEnd) (request : ReplayWords) (told : Option (List NamedFile)) (before mid after : Faults) (was : ℕ)
     (old : Option (List ℕ)) (journal : List ℕ)
     → HasJournal told request journal
     → mid ≡ before
@@ -76,20 +76,20 @@ pub record HasReplayed (e : ReplayEnd) (scripts : List Script) (input : List (Li
   pub failed : e ≡ plays.WriteFault → Rose was now
 
 -- the files hold the replay
-abbrev HasHeld : Option (List Named) → ReplayWords → List ℕ → List Script → List (List ℕ) → Type 0
-HasHeld told request journal scripts input = Told told (λ files. HoldsReplay files request journal scripts input)
+abbrev HasHeld : Option (List NamedFile) → ReplayWords → List ℕ → List Script → List (List ℕ) → Type 0
+HasHeld told request journal scripts input = IfTold told (λ files. HoldsReplay files request journal scripts input)
 
-pub held : (told : Option (List Named)) (request : ReplayWords) (journal : List ℕ) (scripts : List Script)
+pub held : (told : Option (List NamedFile)) (request : ReplayWords) (journal : List ℕ) (scripts : List Script)
     (input : List (List ℕ))
     → HasJournal told request journal
-    → Told told (λ files. HoldsSources files request.sources scripts input) → HasHeld told request journal scripts input
+    → IfTold told (λ files. HoldsSources files request.sources scripts input) → HasHeld told request journal scripts input
 held told request journal scripts input there sources =
     told_both told (λ files. content_of request.journal files ≡ Some journal)
     (λ files. HoldsSources files request.sources scripts input)
     (λ files. HoldsReplay files request journal scripts input)
     (λ files t s. record { there = t; sources = s }) there sources
 
-in_part : (files : List Named) (request : ReplayWords) (journal : List ℕ) (scripts : List Script) (input : List (List ℕ))
+in_part : (files : List NamedFile) (request : ReplayWords) (journal : List ℕ) (scripts : List Script) (input : List (List ℕ))
     (old new : Option (List ℕ))
     → HoldsReplay files request journal scripts input
     → WritesPart scripts input request.wait journal old new
@@ -102,7 +102,7 @@ quiet_by e was now other (inl is) = absurd (other is)
 quiet_by e was now other (inr is) = is
 
 -- why a replay ended so whose lines were played
-pub because : (e : ReplayEnd) (request : ReplayWords) (told : Option (List Named)) (before after : Faults) (was now : ℕ)
+pub because : (e : ReplayEnd) (request : ReplayWords) (told : Option (List NamedFile)) (before after : Faults) (was now : ℕ)
     (old new : Option (List ℕ)) (journal : List ℕ) (scripts : List Script) (input : List (List ℕ))
     → HasHeld told request journal scripts input
     → after ≡ before
@@ -145,24 +145,24 @@ because plays.Memory request told before after was now old new journal scripts i
       (λ files i. inr (in_part files request journal scripts input old new i h.part)) holds,
 )
 
-pub in-part : (told : Option (List Named)) (request : ReplayWords) (old new : Option (List ℕ)) (journal : List ℕ)
+pub in-part : (told : Option (List NamedFile)) (request : ReplayWords) (old new : Option (List ℕ)) (journal : List ℕ)
     (scripts : List Script) (input : List (List ℕ))
     → HasHeld told request journal scripts input
     → WritesPart scripts input request.wait journal old new
-    → Told told (λ files. (new ≡ old) ⊎ ReplaysInPart files request old new)
+    → IfTold told (λ files. (new ≡ old) ⊎ ReplaysInPart files request old new)
 in-part told request old new journal scripts input holds part =
     told_map told (λ files. HoldsReplay files request journal scripts input)
     (λ files. (new ≡ old) ⊎ ReplaysInPart files request old new)
     (λ files i. inr (in_part files request journal scripts input old new i part)) holds
 
 -- the same, as the calls before the lines' replay tell of their shelves and bytes
-pub played : (e : ReplayEnd) (request : ReplayWords) (told mid_told : Option (List Named)) (before mid after : Faults)
+pub played : (e : ReplayEnd) (request : ReplayWords) (told mid_told : Option (List NamedFile)) (before mid after : Faults)
     (was now : ℕ) (old new : Option (List ℕ)) (bytes journal : List ℕ) (scripts lent : List Script)
     (input : List (List ℕ))
     → HasJournal told request bytes
     → mid ≡ before
     → mid_told ≡ told
-    → Told mid_told (λ files. HoldsSources files request.sources scripts input)
+    → IfTold mid_told (λ files. HoldsSources files request.sources scripts input)
     → after ≡ mid
     → journal ≡ bytes
     → lent ≡ scripts
@@ -172,26 +172,26 @@ played e request told mid_told before mid after was now old new bytes journal sc
     sources still is are h =
     let held_all : HasHeld told request bytes scripts input =
     held told request bytes scripts input there
-    (subst (λ (t : Option (List Named)). Told t (λ files. HoldsSources files request.sources scripts input))
+    (subst (λ (t : Option (List NamedFile)). IfTold t (λ files. HoldsSources files request.sources scripts input))
     same sources)
     in
     because e request told before after was now old new bytes scripts input held_all (still ∙ quiet)
     (subst (λ (j : List ℕ). HasReplayed e scripts input request.wait j was now old new) is
     (subst (λ (ss : List Script). HasReplayed e ss input request.wait journal was now old new) are h))
 
-pub played-part : (request : ReplayWords) (told mid_told : Option (List Named)) (old new : Option (List ℕ))
+pub played-part : (request : ReplayWords) (told mid_told : Option (List NamedFile)) (old new : Option (List ℕ))
     (bytes journal : List ℕ) (scripts lent : List Script) (input : List (List ℕ))
     → HasJournal told request bytes
     → mid_told ≡ told
-    → Told mid_told (λ files. HoldsSources files request.sources scripts input)
+    → IfTold mid_told (λ files. HoldsSources files request.sources scripts input)
     → journal ≡ bytes
     → lent ≡ scripts
     → WritesPart lent input request.wait journal old new
-    → Told told (λ files. (new ≡ old) ⊎ ReplaysInPart files request old new)
+    → IfTold told (λ files. (new ≡ old) ⊎ ReplaysInPart files request old new)
 played-part request told mid_told old new bytes journal scripts lent input there same sources is are part =
     let held_all : HasHeld told request bytes scripts input =
     held told request bytes scripts input there
-    (subst (λ (t : Option (List Named)). Told t (λ files. HoldsSources files request.sources scripts input))
+    (subst (λ (t : Option (List NamedFile)). IfTold t (λ files. HoldsSources files request.sources scripts input))
     same sources)
     in
     in-part told request old new bytes scripts input held_all
@@ -200,24 +200,24 @@ played-part request told mid_told old new bytes journal scripts lent input there
 
 -- ---- the status that the files decide
 
-replay_stands : (files : List Named) (request : ReplayWords) (journal : List ℕ) (scripts : List Script)
-    (input : List (List ℕ)) (name : List ℕ) (r : Refusal)
+replay_stands : (files : List NamedFile) (request : ReplayWords) (journal : List ℕ) (scripts : List Script)
+    (input : List (List ℕ)) (name : List ℕ) (r : TextFault)
     → HoldsReplay files request journal scripts input
     → IsRefusedBehind files request name r → ⊥
 replay_stands files request journal scripts input name r h i =
     run_stands files request.sources scripts input name r h.sources i.refused
 
 -- one of these, where the files hold journal, scripts and input
-abbrev IsTaken : ℕ → ReplayWords → List Named → Type 0
+abbrev IsTaken : ℕ → ReplayWords → List NamedFile → Type 0
 IsTaken n request files =
     (journal : List ℕ) (scripts : List Script) (input : List (List ℕ))
     → HoldsReplay files request journal scripts input
     → (n ≡ 0) ⊎ (n ≡ 6) ⊎ (n ≡ 1) ⊎ (n ≡ 4) ⊎ (n ≡ 5)
 
-taken_of : (end : Outcome) (request : ReplayWords) (told : Option (List Named)) (before after : Faults) (was now : ℕ)
+taken_of : (end : CommandEnd) (request : ReplayWords) (told : Option (List NamedFile)) (before after : Faults) (was now : ℕ)
     (old new : Option (List ℕ))
     → BecauseReplay end request told before after was now old new
-    → Told told (IsTaken (status_of end) request)
+    → IfTold told (IsTaken (status_of end) request)
 taken_of ends.Done request told before after was now old new h =
     told_always told (IsTaken 0 request) (λ files journal scripts input holds. inl refl)
 taken_of (ends.LineRefused n) request told before after was now old new h =
@@ -241,20 +241,20 @@ taken_of (ends.PeerClosed replies) request told before after was now old new h =
 taken_of (ends.Threw text) request told before after was now old new h = absurd h
 
 -- one of these, where a file is refused
-abbrev IsLeft : ℕ → ReplayWords → List Named → Type 0
+abbrev IsLeft : ℕ → ReplayWords → List NamedFile → Type 0
 IsLeft n request files =
-    (name : List ℕ) (refusal : Refusal) → IsRefusedBehind files request name refusal → (n ≡ 3) ⊎ (n ≡ 1) ⊎ (n ≡ 4)
+    (name : List ℕ) (refusal : TextFault) → IsRefusedBehind files request name refusal → (n ≡ 3) ⊎ (n ≡ 1) ⊎ (n ≡ 4)
 
 not_left : (request : ReplayWords) (n : ℕ) (journal : List ℕ) (scripts : List Script) (input : List (List ℕ))
-    (files : List Named)
+    (files : List NamedFile)
     → HoldsReplay files request journal scripts input → IsLeft n request files
 not_left request n journal scripts input files holds name r refused =
     absurd (replay_stands files request journal scripts input name r holds refused)
 
-left_of : (end : Outcome) (request : ReplayWords) (told : Option (List Named)) (before after : Faults) (was now : ℕ)
+left_of : (end : CommandEnd) (request : ReplayWords) (told : Option (List NamedFile)) (before after : Faults) (was now : ℕ)
     (old new : Option (List ℕ))
     → BecauseReplay end request told before after was now old new
-    → Told told (IsLeft (status_of end) request)
+    → IfTold told (IsLeft (status_of end) request)
 left_of ends.Done request told before after was now old new h =
     told_map told (λ files. ReplaysWhole files request None old new) (IsLeft 0 request)
     (λ files i. not_left request 0 i.journal i.scripts i.input files i.holds) h.2
@@ -278,13 +278,13 @@ left_of (ends.PeerClosed replies) request told before after was now old new h = 
 left_of (ends.Threw text) request told before after was now old new h = absurd h
 
 -- of the words that ask for the replay
-given_replay : (o : Option Request) (request : ReplayWords) (told : Option (List Named)) (P : ReplayWords → List Named → Type 0)
+given_replay : (o : Option Request) (request : ReplayWords) (told : Option (List NamedFile)) (P : ReplayWords → List NamedFile → Type 0)
     → o ≡ Some (Replay request)
-    → Told told (P request)
+    → IfTold told (P request)
     → GivenReplay o told P
 given_replay o request told P is h = rw is h
 
-pub taken_given : (o : Option Request) (request : ReplayWords) (told : Option (List Named)) (end : Outcome)
+pub taken_given : (o : Option Request) (request : ReplayWords) (told : Option (List NamedFile)) (end : CommandEnd)
     (before after : Faults) (was now : ℕ) (old new : Option (List ℕ)) (status : ℕ)
     → o ≡ Some (Replay request)
     → status ≡ status_of end
@@ -292,10 +292,10 @@ pub taken_given : (o : Option Request) (request : ReplayWords) (told : Option (L
     → GivenReplay o told (IsTaken status)
 taken_given o request told end before after was now old new status is e h =
     given_replay o request told (IsTaken status) is
-    (subst (λ (n : ℕ). Told told (IsTaken n request)) (sym e)
+    (subst (λ (n : ℕ). IfTold told (IsTaken n request)) (sym e)
     (taken_of end request told before after was now old new h))
 
-pub left_given : (o : Option Request) (request : ReplayWords) (told : Option (List Named)) (end : Outcome)
+pub left_given : (o : Option Request) (request : ReplayWords) (told : Option (List NamedFile)) (end : CommandEnd)
     (before after : Faults) (was now : ℕ) (old new : Option (List ℕ)) (status : ℕ)
     → o ≡ Some (Replay request)
     → status ≡ status_of end
@@ -303,19 +303,19 @@ pub left_given : (o : Option Request) (request : ReplayWords) (told : Option (Li
     → GivenReplay o told (IsLeft status)
 left_given o request told end before after was now old new status is e h =
     given_replay o request told (IsLeft status) is
-    (subst (λ (n : ℕ). Told told (IsLeft n request)) (sym e)
+    (subst (λ (n : ℕ). IfTold told (IsLeft n request)) (sym e)
     (left_of end request told before after was now old new h))
 
 -- how a file that can't be read is told
-abbrev IsToldRead : Faults → Faults → Option (List Named) → Bool → Option (List ℕ) → Option (List ℕ) → ReplayWords → Type 0
+abbrev IsToldRead : Faults → Faults → Option (List NamedFile) → Bool → Option (List ℕ) → Option (List ℕ) → ReplayWords → Type 0
 IsToldRead before after told explains said_before said_after request =
     (name : List ℕ)
     × IsNamedBy request name
     × Blames (Read name) before after
-    × Told told (λ files. IsReachedBy files request name)
+    × IfTold told (λ files. IsReachedBy files request name)
     × Says explains said_before said_after (unread_said name)
 
-read-told : (end : Outcome) (request : ReplayWords) (told : Option (List Named)) (before after : Faults) (was now : ℕ)
+read-told : (end : CommandEnd) (request : ReplayWords) (told : Option (List NamedFile)) (before after : Faults) (was now : ℕ)
     (old new : Option (List ℕ)) (explains : Bool) (said_before said_after : Option (List ℕ)) → status_of end ≡ 4
     → BecauseReplay end request told before after was now old new → Says explains said_before said_after (said end)
     → IsToldRead before after told explains said_before said_after request
@@ -333,7 +333,7 @@ read-told ends.NetworkFault request told before after was now old new explains s
 read-told ends.TicketsSpent request told before after was now old new explains said_before said_after is h says = absurd h
 read-told (ends.PeerClosed replies) request told before after was now old new explains said_before said_after is h says = absurd h
 
-pub read_given : (o : Option Request) (request : ReplayWords) (told : Option (List Named)) (end : Outcome)
+pub read_given : (o : Option Request) (request : ReplayWords) (told : Option (List NamedFile)) (end : CommandEnd)
     (before after : Faults) (was now : ℕ) (old new : Option (List ℕ)) (explains : Bool) (said_before said_after : Option (List ℕ)) (status : ℕ)
     → o ≡ Some (Replay request) → status ≡ status_of end
     → BecauseReplay end request told before after was now old new

@@ -1,37 +1,37 @@
 -- What each end says of a run's files, and of what was written.
 use Rattle.std.proofs.Common.{◌≡◌, ◌⊎◌, ℕ, List, Option, Some, None, refl, sym, ap, subst, ◌∙◌, inl, inr, true, false, string_bytes, Bool}
 use Rattle.std.specs.Str.{is_utf8}
-use Rattle.cdp_edge.specs.Outside.{Named, Told, content_of}
+use Rattle.cdp_edge.specs.Outside.{NamedFile, IfTold, content_of}
 use Rattle.cdp_edge.specs.Blame.{Blames, Faults, Read}
 use Rattle.js_tree.specs.declared.script.Script.{Script}
-use Rattle.debug_host_script_files.specs.declared.fault.Refusal.{Refusal}
+use Rattle.debug_host_script_files.specs.declared.fault.TextFault.{TextFault}
 use Rattle.debug_host_script_files.specs.Input.{HoldsInput, HoldsNoText}
 use Rattle.debug_host_script_files.proofs.ScriptLemmas.{none_refused, some_same}
 use Rattle.debug_host_commands.specs.Files.{HoldsLines, HoldsSources, IsNamed, IsReachedIn, IsRefusedIn}
 use Rattle.debug_host_commands.specs.RunCauses.{RunsToEnd, RunsToThrow, RunsShort, RunsInPart, BecauseSources, BecauseRun}
 use Rattle.debug_host_commands.specs.Status.{ForRun, GivenRun, said, status_of, unread_said, Says, uncaught_said}
 use Rattle.debug_host_options.specs.Requests.{Request, Run, RunWords, Sources}
-use Rattle.debug_host_commands.specs.declared.outcome.Outcome.{Outcome}
-use Rattle.debug_host_commands.specs.declared.outcome.Outcome.TheVariants as ends
+use Rattle.debug_host_commands.specs.declared.outcome.CommandEnd.{CommandEnd}
+use Rattle.debug_host_commands.specs.declared.outcome.CommandEnd.TheVariants as ends
 
 -- ---- what is told
 
-pub told_always : (told : Option (List Named)) (P : List Named → Type 0)
-    → ((files : List Named) → P files)
-    → Told told P
+pub told_always : (told : Option (List NamedFile)) (P : List NamedFile → Type 0)
+    → ((files : List NamedFile) → P files)
+    → IfTold told P
 told_always None P all = tt
 told_always (Some files) P all = all files
 
-pub told_map : (told : Option (List Named)) (P Q : List Named → Type 0)
-    → ((files : List Named) → P files → Q files)
-    → Told told P
-    → Told told Q
+pub told_map : (told : Option (List NamedFile)) (P Q : List NamedFile → Type 0)
+    → ((files : List NamedFile) → P files → Q files)
+    → IfTold told P
+    → IfTold told Q
 told_map None P Q f p = tt
 told_map (Some files) P Q f p = f files p
 
 -- files that are taken aren't refused
 
-text_stands : (files : List Named) (name : List ℕ) (lines : List (List ℕ)) (r : Refusal)
+text_stands : (files : List NamedFile) (name : List ℕ) (lines : List (List ℕ)) (r : TextFault)
     → HoldsInput files name lines
     → HoldsNoText files name r
     → ⊥
@@ -41,7 +41,7 @@ text_stands files name lines r h n =
     let isnt : is_utf8 n.bytes ≡ false = n.utf8 in
     absurd cc
 
-input_stands : (files : List Named) (o : Option (List ℕ)) (name : List ℕ) (lines : List (List ℕ)) (r : Refusal)
+input_stands : (files : List NamedFile) (o : Option (List ℕ)) (name : List ℕ) (lines : List (List ℕ)) (r : TextFault)
     → o ≡ Some name
     → HoldsLines files o lines
     → HoldsNoText files name r
@@ -49,8 +49,8 @@ input_stands : (files : List Named) (o : Option (List ℕ)) (name : List ℕ) (l
 input_stands files o name lines r is h n =
     text_stands files name lines r (subst (λ (x : Option (List ℕ)). HoldsLines files x lines) is h) n
 
-pub run_stands : (files : List Named) (sources : Sources) (scripts : List Script) (input : List (List ℕ))
-    (name : List ℕ) (r : Refusal)
+pub run_stands : (files : List NamedFile) (sources : Sources) (scripts : List Script) (input : List (List ℕ))
+    (name : List ℕ) (r : TextFault)
     → HoldsSources files sources scripts input
     → IsRefusedIn files sources name r
     → ⊥
@@ -62,16 +62,16 @@ run_stands files sources scripts input name r h (inr i) =
 -- ---- the status that the files decide
 
 -- one of these, where the files hold scripts and input
-abbrev IsTaken : ℕ → Sources → List Named → Type 0
+abbrev IsTaken : ℕ → Sources → List NamedFile → Type 0
 IsTaken n sources files =
     (scripts : List Script) (input : List (List ℕ))
     → HoldsSources files sources scripts input
     → (n ≡ 0) ⊎ (n ≡ 8) ⊎ (n ≡ 1) ⊎ (n ≡ 4) ⊎ (n ≡ 5)
 
-taken_of : (end : Outcome) (sources : Sources) (told : Option (List Named)) (before after : Faults) (was now : ℕ)
+taken_of : (end : CommandEnd) (sources : Sources) (told : Option (List NamedFile)) (before after : Faults) (was now : ℕ)
     (old new : Option (List ℕ))
     → BecauseRun end sources told before after was now old new
-    → Told told (IsTaken (status_of end) sources)
+    → IfTold told (IsTaken (status_of end) sources)
 taken_of ends.Done sources told before after was now old new h =
     told_always told (IsTaken 0 sources) (λ files scripts input holds. inl refl)
 taken_of (ends.Threw text) sources told before after was now old new h =
@@ -93,14 +93,14 @@ taken_of (ends.PeerClosed replies) sources told before after was now old new h =
 taken_of (ends.LineRefused n) sources told before after was now old new h = absurd h
 
 -- one of these, where a file is refused
-abbrev IsLeft : ℕ → Sources → List Named → Type 0
+abbrev IsLeft : ℕ → Sources → List NamedFile → Type 0
 IsLeft n sources files =
-    (name : List ℕ) (refusal : Refusal) → IsRefusedIn files sources name refusal → (n ≡ 3) ⊎ (n ≡ 1) ⊎ (n ≡ 4)
+    (name : List ℕ) (refusal : TextFault) → IsRefusedIn files sources name refusal → (n ≡ 3) ⊎ (n ≡ 1) ⊎ (n ≡ 4)
 
-left_of : (end : Outcome) (sources : Sources) (told : Option (List Named)) (before after : Faults) (was now : ℕ)
+left_of : (end : CommandEnd) (sources : Sources) (told : Option (List NamedFile)) (before after : Faults) (was now : ℕ)
     (old new : Option (List ℕ))
     → BecauseRun end sources told before after was now old new
-    → Told told (IsLeft (status_of end) sources)
+    → IfTold told (IsLeft (status_of end) sources)
 left_of ends.Done sources told before after was now old new h =
     told_map told (λ files. RunsToEnd files sources old new) (IsLeft 0 sources)
     (λ files i. λ name r refused. absurd (run_stands files sources i.scripts i.input name r i.holds refused)) h.2
@@ -124,13 +124,13 @@ left_of (ends.PeerClosed replies) sources told before after was now old new h = 
 left_of (ends.LineRefused n) sources told before after was now old new h = absurd h
 
 -- of the words that ask for the run
-given_run : (o : Option Request) (request : RunWords) (told : Option (List Named)) (P : Sources → List Named → Type 0)
+given_run : (o : Option Request) (request : RunWords) (told : Option (List NamedFile)) (P : Sources → List NamedFile → Type 0)
     → o ≡ Some (Run request)
-    → Told told (P request.sources)
+    → IfTold told (P request.sources)
     → GivenRun o told P
 given_run o request told P is h = rw is h
 
-pub taken_given : (o : Option Request) (request : RunWords) (told : Option (List Named)) (end : Outcome)
+pub taken_given : (o : Option Request) (request : RunWords) (told : Option (List NamedFile)) (end : CommandEnd)
     (before after : Faults) (was now : ℕ) (old new : Option (List ℕ)) (status : ℕ)
     → o ≡ Some (Run request)
     → status ≡ status_of end
@@ -138,10 +138,10 @@ pub taken_given : (o : Option Request) (request : RunWords) (told : Option (List
     → GivenRun o told (IsTaken status)
 taken_given o request told end before after was now old new status is e h =
     given_run o request told (IsTaken status) is
-    (subst (λ (n : ℕ). Told told (IsTaken n request.sources)) (sym e)
+    (subst (λ (n : ℕ). IfTold told (IsTaken n request.sources)) (sym e)
     (taken_of end request.sources told before after was now old new h))
 
-pub left_given : (o : Option Request) (request : RunWords) (told : Option (List Named)) (end : Outcome)
+pub left_given : (o : Option Request) (request : RunWords) (told : Option (List NamedFile)) (end : CommandEnd)
     (before after : Faults) (was now : ℕ) (old new : Option (List ℕ)) (status : ℕ)
     → o ≡ Some (Run request)
     → status ≡ status_of end
@@ -149,19 +149,19 @@ pub left_given : (o : Option Request) (request : RunWords) (told : Option (List 
     → GivenRun o told (IsLeft status)
 left_given o request told end before after was now old new status is e h =
     given_run o request told (IsLeft status) is
-    (subst (λ (n : ℕ). Told told (IsLeft n request.sources)) (sym e)
+    (subst (λ (n : ℕ). IfTold told (IsLeft n request.sources)) (sym e)
     (left_of end request.sources told before after was now old new h))
 
 -- how a throw that ended its program is told
 abbrev IsToldThrow : Option (List ℕ) → Option (List ℕ) → Bool → Option (List ℕ) → Option (List ℕ) → Sources
-    → List Named → Type 0
+    → List NamedFile → Type 0
 IsToldThrow old new explains said_before said_after sources files =
     (text : List ℕ) × RunsToThrow files sources text old new × Says explains said_before said_after (uncaught_said text)
 
-threw-told : (end : Outcome) (sources : Sources) (told : Option (List Named)) (before after : Faults) (was now : ℕ)
+threw-told : (end : CommandEnd) (sources : Sources) (told : Option (List NamedFile)) (before after : Faults) (was now : ℕ)
     (old new : Option (List ℕ)) (explains : Bool) (said_before said_after : Option (List ℕ)) → status_of end ≡ 8
     → BecauseRun end sources told before after was now old new → Says explains said_before said_after (said end)
-    → Told told (IsToldThrow old new explains said_before said_after sources)
+    → IfTold told (IsToldThrow old new explains said_before said_after sources)
 threw-told (ends.Threw text) sources told before after was now old new explains said_before said_after is h says =
     told_map told (λ files. RunsToThrow files sources (string_bytes text) old new)
     (IsToldThrow old new explains said_before said_after sources) (λ files thrown. (string_bytes text, thrown, says)) h.2
@@ -177,7 +177,7 @@ threw-told ends.NetworkFault sources told before after was now old new explains 
 threw-told ends.TicketsSpent sources told before after was now old new explains said_before said_after is h says = absurd h
 threw-told (ends.PeerClosed replies) sources told before after was now old new explains said_before said_after is h says = absurd h
 
-pub threw_given : (o : Option Request) (request : RunWords) (told : Option (List Named)) (end : Outcome)
+pub threw_given : (o : Option Request) (request : RunWords) (told : Option (List NamedFile)) (end : CommandEnd)
     (before after : Faults) (was now : ℕ) (old new : Option (List ℕ)) (explains : Bool)
     (said_before said_after : Option (List ℕ)) (status : ℕ)
     → o ≡ Some (Run request) → status ≡ status_of end → BecauseRun end request.sources told before after was now old new
@@ -188,15 +188,15 @@ threw_given o request told end before after was now old new explains said_before
     (threw-told end request.sources told before after was now old new explains said_before said_after (sym ends_so ∙ eight) h says)
 
 -- how a file that can't be read is told
-abbrev IsToldRead : Faults → Faults → Option (List Named) → Bool → Option (List ℕ) → Option (List ℕ) → Sources → Type 0
+abbrev IsToldRead : Faults → Faults → Option (List NamedFile) → Bool → Option (List ℕ) → Option (List ℕ) → Sources → Type 0
 IsToldRead before after told explains said_before said_after sources =
     (name : List ℕ)
     × IsNamed sources name
     × Blames (Read name) before after
-    × Told told (λ files. IsReachedIn files sources name)
+    × IfTold told (λ files. IsReachedIn files sources name)
     × Says explains said_before said_after (unread_said name)
 
-read-told : (end : Outcome) (sources : Sources) (told : Option (List Named)) (before after : Faults) (was now : ℕ)
+read-told : (end : CommandEnd) (sources : Sources) (told : Option (List NamedFile)) (before after : Faults) (was now : ℕ)
     (old new : Option (List ℕ)) (explains : Bool) (said_before said_after : Option (List ℕ)) → status_of end ≡ 4
     → BecauseRun end sources told before after was now old new → Says explains said_before said_after (said end)
     → IsToldRead before after told explains said_before said_after sources
@@ -214,7 +214,7 @@ read-told ends.NetworkFault sources told before after was now old new explains s
 read-told ends.TicketsSpent sources told before after was now old new explains said_before said_after is h says = absurd h
 read-told (ends.PeerClosed replies) sources told before after was now old new explains said_before said_after is h says = absurd h
 
-pub read_given : (o : Option Request) (request : RunWords) (told : Option (List Named)) (end : Outcome)
+pub read_given : (o : Option Request) (request : RunWords) (told : Option (List NamedFile)) (end : CommandEnd)
     (before after : Faults) (was now : ℕ) (old new : Option (List ℕ)) (explains : Bool) (said_before said_after : Option (List ℕ)) (status : ℕ)
     → o ≡ Some (Run request) → status ≡ status_of end → BecauseRun end request.sources told before after was now old new
     → Says explains said_before said_after (said end) → status ≡ 4
@@ -226,7 +226,7 @@ read_given o request told end before after was now old new explains said_before 
 -- ---- before a step is made
 
 -- why a run ended so whose files weren't all taken
-pub unread : (end : Outcome) (sources : Sources) (told : Option (List Named)) (before after : Faults) (was : ℕ)
+pub unread : (end : CommandEnd) (sources : Sources) (told : Option (List NamedFile)) (before after : Faults) (was : ℕ)
     (old : Option (List ℕ))
     → BecauseSources end sources told before after
     → BecauseRun end sources told before after was was old old

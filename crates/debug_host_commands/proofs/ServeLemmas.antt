@@ -16,7 +16,7 @@ use Rattle.cdp_host_isolation.proofs.AloneLemmas.{alone}
 use Rattle.cdp_host_isolation.proofs.MakerLemmas.{by-append, by-own}
 use Rattle.cdp_host_isolation.proofs.StopLemmas.{stops-exactly}
 use Rattle.cdp_edge.specs.Blame.{Blames, Faults, Read}
-use Rattle.cdp_edge.specs.Outside.{GainsPrefix, Named, Rose, Told, gains}
+use Rattle.cdp_edge.specs.Outside.{GainsPrefix, NamedFile, Rose, IfTold, gains}
 use Rattle.history_lock.specs.Histories.{has}
 use Rattle.history_lock.specs.Passes.{Follows, HasInitialOnly, IsSamePass, LockId, PassState, initial_pass, initial_passes}
 use Rattle.js_tree.specs.declared.script.Script.{Script}
@@ -29,7 +29,7 @@ use Rattle.cdp_edge_printing.proofs.PrintingLemmas.{lines-append}
 use Rattle.cdp_edge_server.specs.Contents.{Tended, called}
 use Rattle.cdp_host.specs.Debugged.{debugging}
 use Rattle.cdp_host.specs.Histories.{whole}
-use Rattle.cdp_host.specs.Hosts.{HostState, Stands, meaning_with}
+use Rattle.cdp_host.specs.Hosts.{HostState, StandsFor, meaning_with}
 use Rattle.cdp_host.specs.Programs.{has_thrown, is_over, plain, printed_of, start, uncaught_text}
 use Rattle.cdp_host.specs.Protocols.{protocol}
 use Rattle.cdp_host.proofs.LawLemmas.{goes-plainly}
@@ -45,12 +45,12 @@ use Rattle.ws_service.specs.declared.program.RunEnd.TheVariants as runs
 use Rattle.debug_host_commands.specs.Files.{HoldsSources, IsNamed, IsReachedIn, IsRefusedIn}
 use Rattle.debug_host_commands.specs.RunCauses.{BecauseSources, RunsInPart, RunsToThrow}
 use Rattle.debug_host_commands.specs.ServeCauses.{BecauseServe, BecauseServed, Harbored, HasFinished, IsEndOf, IsOpened, IsShutEnd, IsUnserved, MayServe, ServesPort, ShowsThrow, clients_of, outcome_of_serving}
-use Rattle.debug_host_script_files.specs.declared.fault.Refusal.{Refusal}
+use Rattle.debug_host_script_files.specs.declared.fault.TextFault.{TextFault}
 use Rattle.debug_host_commands.specs.Status.{ForServe, GivenServe, said, status_of, uncaught_said, unread_said, Says, refusal_said}
 use Rattle.debug_host_options.specs.Requests.{Request, Serve, ServeWords}
 use Rattle.debug_host_options.specs.Requests as words
-use Rattle.debug_host_commands.specs.declared.outcome.Outcome.{Outcome}
-use Rattle.debug_host_commands.specs.declared.outcome.Outcome.TheVariants as ends
+use Rattle.debug_host_commands.specs.declared.outcome.CommandEnd.{CommandEnd}
+use Rattle.debug_host_commands.specs.declared.outcome.CommandEnd.TheVariants as ends
 use Rattle.debug_host_commands.proofs.PausedLemmas.{run-shut}
 use Rattle.debug_host_commands.proofs.PlainLemmas.{plain-as}
 use Rattle.debug_host_commands.proofs.RunLemmas.{told_always, told_map}
@@ -228,7 +228,7 @@ module _ (scripts : List Script) (input : List (List ℕ)) (wait : Bool) (n : �
   goes = goes-plainly scripts input wait (entries_of h)
 
   -- the program may have been shut only at these ends
-  abbrev AtShut : Opt Outcome → Type 0
+  abbrev AtShut : Opt CommandEnd → Type 0
   AtShut None = ⊥
   AtShut (Some end) = IsShutEnd end
 
@@ -248,13 +248,13 @@ module _ (scripts : List Script) (input : List (List ℕ)) (wait : Bool) (n : �
   at-shut runs.Threw doors.Failed may = tt
   at-shut runs.Threw doors.Spent may = spent-stands _ may
 
-  shut-end : (run : RunEnd) (together : DoorsEnd) (end : Outcome) (r : Run)
+  shut-end : (run : RunEnd) (together : DoorsEnd) (end : CommandEnd) (r : Run)
       → IsEndOf end (record { run = run; doors = together }) r → MayHaveShut (record { run = run; doors = together })
       → IsShutEnd end
   shut-end run together end r (inl is) may = subst AtShut is (at-shut run together may)
   shut-end run together end r (inr shown) may = absurd (subst AtShut shown.0 (at-shut run together may))
 
-  pub served-port : (run : RunEnd) (together : DoorsEnd) (end : Outcome) (clients : Clients)
+  pub served-port : (run : RunEnd) (together : DoorsEnd) (end : CommandEnd) (clients : Clients)
       (before after : Opt (List Tended)) → Is run together
       → AreKept (seen_by clients) before after (map (λ (door : ServedDoor). door.door) served)
       → IsEndOf end (record { run = run; doors = together }) (whole scripts input wait (entries_of h)).program
@@ -318,7 +318,7 @@ module _ (scripts : List Script) (input : List (List ℕ)) (wait : Bool) (n : �
 
   module _ (port : ℕ) (before after : Harbored) (opened : IsOpened port n before after) where
     -- how a program that ended by a throw is shown
-    pub because-thrown : (end : Outcome) → Is runs.Threw doors.Over
+    pub because-thrown : (end : CommandEnd) → Is runs.Threw doors.Over
         → ShowsThrow end (whole scripts input wait (entries_of h)).program
         → BecauseServed end scripts input port n old new before after
     because-thrown (ends.Threw text) s shown = (s.runs.counts, opened, threw doors.Over (string_bytes text) s shown)
@@ -337,7 +337,7 @@ module _ (scripts : List Script) (input : List (List ℕ)) (wait : Bool) (n : �
     because-thrown ends.NetworkFault s shown = absurd shown
 
     -- how a program and its doors ended
-    abbrev Because : Opt Outcome → Type 0
+    abbrev Because : Opt CommandEnd → Type 0
     Because None = Unit {0}
     Because (Some end) = BecauseServed end scripts input port n old new before after
 
@@ -357,7 +357,7 @@ module _ (scripts : List Script) (input : List (List ℕ)) (wait : Bool) (n : �
     because runs.Threw doors.Failed s failed = (s.runs.counts, failed refl)
     because runs.Threw doors.Spent s failed = (s.runs.counts, opened)
 
-    pub because-decided : (run : RunEnd) (together : DoorsEnd) (end : Outcome)
+    pub because-decided : (run : RunEnd) (together : DoorsEnd) (end : CommandEnd)
         → Some end ≡ outcome_of_serving run together → Is run together
         → (together ≡ doors.Failed → Rose before.faults after.faults)
         → BecauseServed end scripts input port n old new before after
@@ -450,7 +450,7 @@ initial-length lock n (suc k) =
 
 -- a host that isn't broken has the program of its history
 pub host-program : (scripts : List Script) (input : List (List ℕ)) (wait : Bool) (host : HostState)
-    (history : List Entry) (text : Opt (List ℕ)) → Stands scripts input wait host history → host.broken ≡ false
+    (history : List Entry) (text : Opt (List ℕ)) → StandsFor scripts input wait host history → host.broken ≡ false
     → ((taken : List (List ℕ)) → text ≡ uncaught_text (meaning_with host taken).program)
     → uncaught_text (whole scripts input wait history).program ≡ text
 host-program scripts input wait host history text stands works told =
@@ -460,7 +460,7 @@ host-program scripts input wait host history text stands works told =
 -- ---- before a port is opened
 
 -- why a server ended so whose files weren't all taken
-pub unread : (end : Outcome) (request : ServeWords) (told : Opt (List Named)) (before after : Faults) (out : Output)
+pub unread : (end : CommandEnd) (request : ServeWords) (told : Opt (List NamedFile)) (before after : Faults) (out : Output)
     (harbor : Harbored) → BecauseSources end request.sources told before after
     → BecauseServe end request told before after out out harbor harbor
 unread ends.Done request told before after out harbor h = absurd h
@@ -477,9 +477,9 @@ unread ends.TicketsSpent request told before after out harbor h = absurd h
 unread (ends.PeerClosed replies) request told before after out harbor h = absurd h
 
 -- why one ended so whose program was served
-pub read : (end : Outcome) (request : ServeWords) (told : Opt (List Named)) (faults : Faults) (old new : Output)
+pub read : (end : CommandEnd) (request : ServeWords) (told : Opt (List NamedFile)) (faults : Faults) (old new : Output)
     (before after : Harbored) (scripts : List Script) (input : List (List ℕ))
-    → Told told (λ files. HoldsSources files request.sources scripts input)
+    → IfTold told (λ files. HoldsSources files request.sources scripts input)
     → BecauseServed end scripts input request.port request.sessions old new before after
     → BecauseServe end request told faults faults old new before after
 read ends.Done request told faults old new before after scripts input holds h = (
@@ -517,7 +517,7 @@ read (ends.LineRefused n) request told faults old new before after scripts input
 read (ends.PeerClosed replies) request told faults old new before after scripts input holds h = absurd h
 
 -- no port was served where a file wasn't taken
-pub unserved : (end : Outcome) (request : ServeWords) (told : Opt (List Named)) (before after : Faults)
+pub unserved : (end : CommandEnd) (request : ServeWords) (told : Opt (List NamedFile)) (before after : Faults)
     → BecauseSources end request.sources told before after → IsUnserved end
 unserved ends.Done request told before after h = absurd h
 unserved (ends.Threw text) request told before after h = absurd h
@@ -533,12 +533,12 @@ unserved ends.TicketsSpent request told before after h = absurd h
 unserved (ends.PeerClosed replies) request told before after h = absurd h
 
 -- a port that was served for the scripts that the files hold, or wasn't
-pub serves : (request : ServeWords) (told : Opt (List Named)) (moment : Opt ℕ) (old new : Output)
-    (before after : Opt (List Tended)) (end : Outcome) (scripts : List Script) (input : List (List ℕ))
-    → Told told (λ files. HoldsSources files request.sources scripts input)
+pub serves : (request : ServeWords) (told : Opt (List NamedFile)) (moment : Opt ℕ) (old new : Output)
+    (before after : Opt (List Tended)) (end : CommandEnd) (scripts : List Script) (input : List (List ℕ))
+    → IfTold told (λ files. HoldsSources files request.sources scripts input)
     → (IsUnserved end × (new.content ≡ old.content))
     ⊎ ServesPort scripts input request.wait request.sessions (clients_of request.devtools) moment old new before after end
-    → Told told (λ files. MayServe files request moment old new before after end)
+    → IfTold told (λ files. MayServe files request moment old new before after end)
 serves request told moment old new before after end scripts input holds (inl unserved) =
     told_map told (λ files. HoldsSources files request.sources scripts input) _ (λ files at. inl unserved) holds
 serves request told moment old new before after end scripts input holds (inr port) =
@@ -546,8 +546,8 @@ serves request told moment old new before after end scripts input holds (inr por
     (λ files at. inr (record { scripts = scripts; input = input; holds = at; port = port })) holds
 
 -- its output is a first part of the plain one
-in-part : (request : ServeWords) (files : List Named) (moment : Opt ℕ) (old new : Output)
-    (before after : Opt (List Tended)) (end : Outcome) → MayServe files request moment old new before after end
+in-part : (request : ServeWords) (files : List NamedFile) (moment : Opt ℕ) (old new : Output)
+    (before after : Opt (List Tended)) (end : CommandEnd) → MayServe files request moment old new before after end
     → (new.content ≡ old.content) ⊎ RunsInPart files request.sources old.content new.content
 in-part request files moment old new before after end (inl unserved) = inl unserved.1
 in-part request files moment old new before after end (inr s) = inr (record {
@@ -561,14 +561,14 @@ in-part request files moment old new before after end (inr s) = inr (record {
 
 -- ---- of the words that ask for a server
 
-given_serve : (o : Opt Request) (request : ServeWords) (told : Opt (List Named))
-    (P : ServeWords → List Named → Type 0) → o ≡ Some (Serve request) → Told told (P request) → GivenServe o told P
+given_serve : (o : Opt Request) (request : ServeWords) (told : Opt (List NamedFile))
+    (P : ServeWords → List NamedFile → Type 0) → o ≡ Some (Serve request) → IfTold told (P request) → GivenServe o told P
 given_serve o request told P is h = rw is h
 
 -- its output is a first part of the plain one
-pub part_given : (o : Opt Request) (request : ServeWords) (told : Opt (List Named)) (moment : Opt ℕ)
-    (old new : Output) (before after : Opt (List Tended)) (end : Outcome) → o ≡ Some (Serve request)
-    → Told told (λ files. MayServe files request moment old new before after end)
+pub part_given : (o : Opt Request) (request : ServeWords) (told : Opt (List NamedFile)) (moment : Opt ℕ)
+    (old new : Output) (before after : Opt (List Tended)) (end : CommandEnd) → o ≡ Some (Serve request)
+    → IfTold told (λ files. MayServe files request moment old new before after end)
     → GivenServe o told
     (λ r files. (new.content ≡ old.content) ⊎ RunsInPart files r.sources old.content new.content)
 part_given o request told moment old new before after end is h =
@@ -578,14 +578,14 @@ part_given o request told moment old new before after end is h =
     (λ files at. in-part request files moment old new before after end at) h)
 
 -- its end is that of the port that it served, if it served one
-pub served_given : (o : Opt Request) (request : ServeWords) (told : Opt (List Named)) (moment : Opt ℕ)
-    (old new : Output) (before after : Opt (List Tended)) (end : Outcome) (status : ℕ) → o ≡ Some (Serve request)
-    → status ≡ status_of end → Told told (λ files. MayServe files request moment old new before after end)
+pub served_given : (o : Opt Request) (request : ServeWords) (told : Opt (List NamedFile)) (moment : Opt ℕ)
+    (old new : Output) (before after : Opt (List Tended)) (end : CommandEnd) (status : ℕ) → o ≡ Some (Serve request)
+    → status ≡ status_of end → IfTold told (λ files. MayServe files request moment old new before after end)
     → GivenServe o told
-    (λ r files. (it : Outcome) × (status ≡ status_of it) × MayServe files r moment old new before after it)
+    (λ r files. (it : CommandEnd) × (status ≡ status_of it) × MayServe files r moment old new before after it)
 served_given o request told moment old new before after end status is ends_so h =
     given_serve o request told
-    (λ r files. (it : Outcome) × (status ≡ status_of it) × MayServe files r moment old new before after it) is
+    (λ r files. (it : CommandEnd) × (status ≡ status_of it) × MayServe files r moment old new before after it) is
     (told_map told (λ files. MayServe files request moment old new before after end) _ (λ files at. (end, ends_so, at)) h)
 
 -- where no line is said, nothing was said of any line
@@ -600,16 +600,16 @@ says-unshown explains before after line says = (
 )
 
 -- how a throw that ended its program is told
-abbrev IsToldThrow : Output → Output → Bool → Opt (List ℕ) → Opt (List ℕ) → ServeWords → List Named → Type 0
+abbrev IsToldThrow : Output → Output → Bool → Opt (List ℕ) → Opt (List ℕ) → ServeWords → List NamedFile → Type 0
 IsToldThrow old new explains before after request files =
     (text : List ℕ)
     × RunsToThrow files request.sources text old.content new.content
     × Says explains before after (uncaught_said text)
 
-threw-told : (end : Outcome) (request : ServeWords) (told : Opt (List Named)) (faults now_faults : Faults)
+threw-told : (end : CommandEnd) (request : ServeWords) (told : Opt (List NamedFile)) (faults now_faults : Faults)
     (old new : Output) (was now : Harbored) (explains : Bool) (before after : Opt (List ℕ)) → status_of end ≡ 8
     → BecauseServe end request told faults now_faults old new was now → Says explains before after (said end)
-    → Told told (IsToldThrow old new explains before after request)
+    → IfTold told (IsToldThrow old new explains before after request)
 threw-told (ends.Threw text) request told faults now_faults old new was now explains before after is h says =
     told_map told (λ files. RunsToThrow files request.sources (string_bytes text) old.content new.content)
     (IsToldThrow old new explains before after request) (λ files thrown. (string_bytes text, thrown, says)) h.3
@@ -628,7 +628,7 @@ threw-told ends.NetworkFault request told faults now_faults old new was now expl
 threw-told ends.TicketsSpent request told faults now_faults old new was now explains before after is h says = absurd cc
 threw-told (ends.PeerClosed replies) request told faults now_faults old new was now explains before after is h says = absurd h
 
-pub threw_given : (o : Opt Request) (end : Outcome) (request : ServeWords) (told : Opt (List Named))
+pub threw_given : (o : Opt Request) (end : CommandEnd) (request : ServeWords) (told : Opt (List NamedFile))
     (faults now_faults : Faults) (old new : Output) (was now : Harbored) (explains : Bool) (before after : Opt (List ℕ)) (status : ℕ)
     → o ≡ Some (Serve request) → status ≡ status_of end
     → BecauseServe end request told faults now_faults old new was now → Says explains before after (said end)
@@ -667,28 +667,28 @@ not-past-7 P (inr (inr (inl is))) = absurd cc
 not-past-7 P (inr (inr (inr is))) = absurd cc
 
 -- how a file that is refused is told
-abbrev IsToldRefusal : Bool → Opt (List ℕ) → Opt (List ℕ) → ServeWords → List Named → Type 0
+abbrev IsToldRefusal : Bool → Opt (List ℕ) → Opt (List ℕ) → ServeWords → List NamedFile → Type 0
 IsToldRefusal explains before after request files =
     (name : List ℕ)
-    × (refusal : Refusal)
+    × (refusal : TextFault)
     × IsRefusedIn files request.sources name refusal
     × Says explains before after (refusal_said name refusal)
 
 -- how a file that can't be read is told
-abbrev IsToldRead : Faults → Faults → Opt (List Named) → Bool → Opt (List ℕ) → Opt (List ℕ) → ServeWords → Type 0
+abbrev IsToldRead : Faults → Faults → Opt (List NamedFile) → Bool → Opt (List ℕ) → Opt (List ℕ) → ServeWords → Type 0
 IsToldRead faults now_faults told explains before after request =
     (name : List ℕ)
     × IsNamed request.sources name
     × Blames (Read name) faults now_faults
-    × Told told (λ files. IsReachedIn files request.sources name)
+    × IfTold told (λ files. IsReachedIn files request.sources name)
     × Says explains before after (unread_said name)
 
-module _ (request : ServeWords) (told : Opt (List Named)) (faults now_faults : Faults) (old new : Output)
+module _ (request : ServeWords) (told : Opt (List NamedFile)) (faults now_faults : Faults) (old new : Output)
     (was now : Harbored) where
-  abbrev Ended : Outcome → Type 0
+  abbrev Ended : CommandEnd → Type 0
   Ended end = BecauseServe end request told faults now_faults old new was now
 
-  read-told : (end : Outcome) (explains : Bool) (before after : Opt (List ℕ)) → status_of end ≡ 4 → Ended end
+  read-told : (end : CommandEnd) (explains : Bool) (before after : Opt (List ℕ)) → status_of end ≡ 4 → Ended end
       → Says explains before after (said end) → IsToldRead faults now_faults told explains before after request
   read-told (ends.CannotRead name) explains before after is h says = (name.now, h.2, h.0, h.3, says)
   read-told ends.Done explains before after is h says = absurd cc
@@ -703,8 +703,8 @@ module _ (request : ServeWords) (told : Opt (List Named)) (faults now_faults : F
   read-told (ends.LineRefused n) explains before after is h says = absurd h
   read-told (ends.PeerClosed replies) explains before after is h says = absurd h
 
-  refusal-told : (end : Outcome) (explains : Bool) (before after : Opt (List ℕ)) → status_of end ≡ 3 → Ended end
-      → Says explains before after (said end) → Told told (IsToldRefusal explains before after request)
+  refusal-told : (end : CommandEnd) (explains : Bool) (before after : Opt (List ℕ)) → status_of end ≡ 3 → Ended end
+      → Says explains before after (said end) → IfTold told (IsToldRefusal explains before after request)
   refusal-told (ends.Refused name r) explains before after is h says =
       told_map told (λ files. IsRefusedIn files request.sources name.now r) (IsToldRefusal explains before after request)
       (λ files refused. (name.now, r, refused, says)) h.2
@@ -720,7 +720,7 @@ module _ (request : ServeWords) (told : Opt (List Named)) (faults now_faults : F
   refusal-told (ends.LineRefused n) explains before after is h says = absurd h
   refusal-told (ends.PeerClosed replies) explains before after is h says = absurd h
 
-  opened-told : (end : Outcome) → IsPast (status_of end) → Ended end → IsOpened request.port request.sessions was now
+  opened-told : (end : CommandEnd) → IsPast (status_of end) → Ended end → IsOpened request.port request.sessions was now
   opened-told ends.Done past h = h.2
   opened-told (ends.Threw text) past h = h.2
   opened-told ends.ThrewUnshown past h = h.2
@@ -734,7 +734,7 @@ module _ (request : ServeWords) (told : Opt (List Named)) (faults now_faults : F
   opened-told (ends.LineRefused n) past h = absurd h
   opened-told (ends.PeerClosed replies) past h = absurd h
 
-  module _ (o : Opt Request) (end : Outcome) (status : ℕ) (is : o ≡ Some (Serve request))
+  module _ (o : Opt Request) (end : CommandEnd) (status : ℕ) (is : o ≡ Some (Serve request))
       (ends_so : status ≡ status_of end) (h : Ended end) where
     pub read_given : (explains : Bool) (before after : Opt (List ℕ)) → Says explains before after (said end) → status ≡ 4
         → ForServe o (IsToldRead faults now_faults told explains before after)
@@ -754,13 +754,13 @@ module _ (request : ServeWords) (told : Opt (List Named)) (faults now_faults : F
         opened-told end (subst IsPast ends_so past) h in rw is it
 
 -- where no memory was left for the words nothing was served, whatever they ask for
-pub unasked : (o : Opt Request) (told : Opt (List Named)) (moment : Opt ℕ) (old : Output) (kept : Opt (List Tended))
+pub unasked : (o : Opt Request) (told : Opt (List NamedFile)) (moment : Opt ℕ) (old : Output) (kept : Opt (List Tended))
     (status : ℕ) → status ≡ 1
     → GivenServe o told
-    (λ r files. (it : Outcome) × (status ≡ status_of it) × MayServe files r moment old old kept kept it)
+    (λ r files. (it : CommandEnd) × (status ≡ status_of it) × MayServe files r moment old old kept kept it)
 unasked (Some (Serve request)) told moment old kept status one =
     told_always told
-    (λ files. (it : Outcome) × (status ≡ status_of it) × MayServe files request moment old old kept kept it)
+    (λ files. (it : CommandEnd) × (status ≡ status_of it) × MayServe files request moment old old kept kept it)
     (λ files. (ends.OutOfMemory, one, inl (tt, refl)))
 unasked None told moment old kept status one = tt
 unasked (Some (words.Run sources)) told moment old kept status one = tt
@@ -771,7 +771,7 @@ unasked (Some (words.Help topic)) told moment old kept status one = tt
 unasked (Some words.Version) told moment old kept status one = tt
 
 -- and nothing was written
-pub unwritten : (o : Opt Request) (told : Opt (List Named)) (content : Opt (List ℕ))
+pub unwritten : (o : Opt Request) (told : Opt (List NamedFile)) (content : Opt (List ℕ))
     → GivenServe o told (λ r files. (content ≡ content) ⊎ RunsInPart files r.sources content content)
 unwritten (Some (Serve request)) told content =
     told_always told (λ files. (content ≡ content) ⊎ RunsInPart files request.sources content content) (λ files. inl refl)

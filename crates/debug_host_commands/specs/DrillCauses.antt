@@ -7,8 +7,8 @@ use Rattle.js_tree.specs.declared.script.Script.{Script}
 use Rattle.debug_host_script_files.specs.Refusals.{IsRefused}
 use Rattle.debug_host_script_files.specs.Scripts.{IsScriptOf}
 use Rattle.debug_host_commands.specs.Replays.{IsReplay}
-use Rattle.debug_host_commands.specs.declared.outcome.Outcome.{Outcome}
-use Rattle.debug_host_commands.specs.declared.outcome.Outcome.TheVariants as ends
+use Rattle.debug_host_commands.specs.declared.outcome.CommandEnd.{CommandEnd}
+use Rattle.debug_host_commands.specs.declared.outcome.CommandEnd.TheVariants as ends
 
 -- the name of a drill's script
 abbrev pub script_name : List ℕ
@@ -58,20 +58,20 @@ pub record DrillRefuses (n line : ℕ) : Type 0 where
 -- ---- causes
 
 -- why a drill ended so before its journal was replayed
-abbrev pub BecauseScript : Outcome → ℕ → Type 0
+abbrev pub BecauseScript : CommandEnd → ℕ → Type 0
 BecauseScript (ends.Refused name r) n = (name.now ≡ script_name) × IsRefused [] (drill_source n) r
 BecauseScript ends.OutOfMemory n = Unit {0}
 BecauseScript end n = ⊥
 
 -- why it ended so while its journal was replayed
-abbrev pub BecauseJournalOf : Outcome → ℕ → Script → Type 0
+abbrev pub BecauseJournalOf : CommandEnd → ℕ → Script → Type 0
 BecauseJournalOf (ends.LineRefused line) n script = (output : List ℕ) × IsDrilled n script (Some line) output
 BecauseJournalOf ends.OutOfMemory n script = Unit {0}
 BecauseJournalOf end n script = ⊥
 
 -- why a drill ended so: its script or its journal is refused, the count of faults of the output rose, or memory was
 -- wanting
-abbrev pub BecauseDrill : Outcome → ℕ → ℕ → ℕ → Option (List ℕ) → Option (List ℕ) → Type 0
+abbrev pub BecauseDrill : CommandEnd → ℕ → ℕ → ℕ → Option (List ℕ) → Option (List ℕ) → Type 0
 BecauseDrill ends.Done n was now old new = (now ≡ was) × DrillsWhole n old new
 BecauseDrill ends.OutOfMemory n was now old new = (now ≡ was) × ((new ≡ old) ⊎ DrillsInPart n old new)
 BecauseDrill ends.CannotWrite n was now old new = Rose was now × DrillsShort n old new

@@ -8,7 +8,7 @@ use Rattle.js_tree.specs.declared.script.Script.{Script}
 use Rattle.js_semantics.specs.Run.{Run as Program}
 use Rattle.cdp_host_isolation.specs.Histories.{Entry}
 use Rattle.cdp_host.specs.Histories.{Meaning, whole}
-use Rattle.cdp_host.specs.Hosts.{HostState, Stands}
+use Rattle.cdp_host.specs.Hosts.{HostState, StandsFor}
 use Rattle.debug_host_commands.specs.Journal.{entries}
 use Rattle.debug_host_commands.specs.Output.{output_at, output_of, output_bytes, output_text}
 use Rattle.debug_host_commands.specs.declared.journal.LineFault.{LineFault}
@@ -21,7 +21,7 @@ use Rattle.debug_host_commands.specs.declared.journal.ReplayEnd.TheVariants as e
 -- the host stands for the history with this entry
 pub record StandsBehind (scripts : List Script) (input : List (List ℕ)) (wait : Bool) (history : List Entry)
     (entry : Entry) (new : HostState) : Type 0 where
-  pub stands : Stands scripts input wait new (history ++ entry ∷ [])
+  pub stands : StandsFor scripts input wait new (history ++ entry ∷ [])
   pub works : new.broken ≡ false
 
 -- a line that has this entry was applied, and these are its lines of output; one that has none was not

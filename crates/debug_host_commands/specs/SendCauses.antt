@@ -1,7 +1,7 @@
 -- How sending commands to a host ends, and why.
 use Rattle.std.specs.Prelude.{◌≡◌, ◌⊎◌, ℕ, List, [], ◌∷◌, Option, Some, Ok, Err}
 use Rattle.cdp_edge.specs.Blame.{Blames, Faults, Read}
-use Rattle.cdp_edge.specs.Outside.{Named, Rose, Told, content_of}
+use Rattle.cdp_edge.specs.Outside.{NamedFile, Rose, IfTold, content_of}
 use Rattle.cdp_edge_server.specs.Contents.{Calls, IsUnused, Spoken, adds, called}
 use Rattle.ws_service.specs.Programs.{Output}
 use Rattle.cdp_client.specs.Conversations.{Converses, CountsLink, CountsSink, IsClosedBy}
@@ -9,13 +9,13 @@ use Rattle.cdp_client.specs.Lines.{Line, file_read}
 use Rattle.cdp_client.specs.declared.conversed.Conversed.{Conversed}
 use Rattle.cdp_client.specs.declared.conversed.Conversed.TheVariants as talks
 use Rattle.debug_host_options.specs.Requests.{SendWords}
-use Rattle.debug_host_commands.specs.declared.outcome.Outcome.{Outcome}
-use Rattle.debug_host_commands.specs.declared.outcome.Outcome.TheVariants as ends
+use Rattle.debug_host_commands.specs.declared.outcome.CommandEnd.{CommandEnd}
+use Rattle.debug_host_commands.specs.declared.outcome.CommandEnd.TheVariants as ends
 
 -- ---- ends
 
 -- the end that the end of a conversation is
-abbrev pub outcome_of_talk : Conversed → Outcome
+abbrev pub outcome_of_talk : Conversed → CommandEnd
 outcome_of_talk talks.Done = ends.Done
 outcome_of_talk (talks.Refused line) = ends.LineRefused line
 outcome_of_talk (talks.PeerClosed replies) = ends.PeerClosed replies
@@ -24,14 +24,14 @@ outcome_of_talk talks.WriteFault = ends.CannotWrite
 outcome_of_talk talks.Memory = ends.OutOfMemory
 
 -- the ends that come before a port is dialled, but for want of memory
-abbrev pub IsUndialled : Outcome → Type 0
+abbrev pub IsUndialled : CommandEnd → Type 0
 IsUndialled (ends.CannotRead name) = Unit {0}
 IsUndialled (ends.LineRefused line) = Unit {0}
 IsUndialled end = ⊥
 
 -- the ends that come where no conversation was held: the file isn't read or a line of it is refused, no memory was left,
 -- or the port couldn't be dialled
-abbrev pub IsUnsent : Outcome → Type 0
+abbrev pub IsUnsent : CommandEnd → Type 0
 IsUnsent (ends.CannotRead name) = Unit {0}
 IsUnsent (ends.LineRefused line) = Unit {0}
 IsUnsent ends.OutOfMemory = Unit {0}
@@ -41,13 +41,13 @@ IsUnsent end = ⊥
 -- ---- the file of commands
 
 -- the file of this name is there, and these are its lines
-pub record HoldsCommands (files : List Named) (name : List ℕ) (lines : List Line) : Type 0 where
+pub record HoldsCommands (files : List NamedFile) (name : List ℕ) (lines : List Line) : Type 0 where
   pub commands : List ℕ
   pub there : content_of name files ≡ Some commands
   pub read : file_read commands ≡ Ok lines
 
 -- it is there, and its line of this number is the first that isn't of its form
-pub record RefusesLine (files : List Named) (name : List ℕ) (line : ℕ) : Type 0 where
+pub record RefusesLine (files : List NamedFile) (name : List ℕ) (line : ℕ) : Type 0 where
   pub commands : List ℕ
   pub there : content_of name files ≡ Some commands
   pub refused : file_read commands ≡ Err line
@@ -80,14 +80,14 @@ pub record Speaks (file : List ℕ) (end : Conversed) (old new : Output) (was no
   pub faults : CountsLink (Some end) was.faults now.faults
 
 -- the file of commands is there, and a conversation by it came to this end
-pub record Sends (files : List Named) (request : SendWords) (end : Conversed) (old new : Output) (was now : Dialled)
+pub record Sends (files : List NamedFile) (request : SendWords) (end : Conversed) (old new : Output) (was now : Dialled)
     : Type 0 where
   pub commands : List ℕ
   pub there : content_of request.commands files ≡ Some commands
   pub speaks : Speaks commands end old new was now
 
 -- no conversation was held, and nothing was written; or one was, and came to this end
-abbrev pub MaySend : List Named → SendWords → Output → Output → Dialled → Dialled → Outcome → Type 0
+abbrev pub MaySend : List NamedFile → SendWords → Output → Output → Dialled → Dialled → CommandEnd → Type 0
 MaySend files request old new was now end =
     (IsUnsent end × (new ≡ old) × (now.hung_up ≡ was.hung_up))
     ⊎ ((talk : Conversed) × (end ≡ outcome_of_talk talk) × Sends files request talk old new was now)
@@ -95,49 +95,49 @@ MaySend files request old new was now end =
 -- ---- causes
 
 -- why sending ended so before the port was dialled; the counts are those of the shelf
-abbrev pub BecauseCommands : Outcome → List ℕ → Option (List Named) → Faults → Faults → Type 0
+abbrev pub BecauseCommands : CommandEnd → List ℕ → Option (List NamedFile) → Faults → Faults → Type 0
 BecauseCommands (ends.CannotRead name) commands told before after =
     Blames (Read name.now) before after × (commands ≡ name.now)
 BecauseCommands (ends.LineRefused line) commands told before after =
-    (after ≡ before) × Told told (λ files. RefusesLine files commands line)
+    (after ≡ before) × IfTold told (λ files. RefusesLine files commands line)
 BecauseCommands ends.OutOfMemory commands told before after = after ≡ before
 BecauseCommands end commands told before after = ⊥
 
 -- why sending ended so: the file says so, the peer closed, a count of faults rose, or memory was wanting. The counts are
 -- those of the shelf
-abbrev pub BecauseSend : Outcome → SendWords → Option (List Named) → Faults → Faults → Output → Output → Dialled
+abbrev pub BecauseSend : CommandEnd → SendWords → Option (List NamedFile) → Faults → Faults → Output → Output → Dialled
     → Dialled → Type 0
 BecauseSend ends.Done request told before after old new was now =
     (after ≡ before)
     × (new.faults ≡ old.faults)
     × (now.faults ≡ was.faults)
     × IsDialled request.port was now
-    × Told told (λ files. Sends files request talks.Done old new was now)
+    × IfTold told (λ files. Sends files request talks.Done old new was now)
 BecauseSend (ends.PeerClosed replies) request told before after old new was now =
     (after ≡ before)
     × (new.faults ≡ old.faults)
     × (now.faults ≡ was.faults)
     × IsDialled request.port was now
-    × Told told (λ files. Sends files request (talks.PeerClosed replies) old new was now)
+    × IfTold told (λ files. Sends files request (talks.PeerClosed replies) old new was now)
 BecauseSend ends.CannotWrite request told before after old new was now =
     (after ≡ before)
     × Rose old.faults new.faults
     × (now.faults ≡ was.faults)
     × IsDialled request.port was now
-    × Told told (λ files. Sends files request talks.WriteFault old new was now)
+    × IfTold told (λ files. Sends files request talks.WriteFault old new was now)
 BecauseSend ends.NetworkFault request told before after old new was now =
     (after ≡ before)
     × (new.faults ≡ old.faults)
     × Rose was.faults now.faults
     × IsDialled request.port was now
-    × Told told (λ files. (lines : List Line) × HoldsCommands files request.commands lines)
+    × IfTold told (λ files. (lines : List Line) × HoldsCommands files request.commands lines)
 BecauseSend ends.OutOfMemory request told before after old new was now =
     (after ≡ before) × (new.faults ≡ old.faults) × (now.faults ≡ was.faults)
 BecauseSend (ends.LineRefused line) request told before after old new was now =
     (after ≡ before)
     × (new ≡ old)
     × (now ≡ was)
-    × Told told (λ files. RefusesLine files request.commands line)
+    × IfTold told (λ files. RefusesLine files request.commands line)
 BecauseSend (ends.CannotRead name) request told before after old new was now =
     Blames (Read name.now) before after × (new ≡ old) × (now ≡ was) × (request.commands ≡ name.now)
 BecauseSend ends.Usage request told before after old new was now = ⊥

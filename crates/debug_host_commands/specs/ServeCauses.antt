@@ -4,7 +4,7 @@ use Rattle.cdp_host_isolation.specs.Histories.{Entry}
 use Rattle.cdp_host_isolation.specs.Makers.{entries_of}
 use Rattle.cdp_host_isolation.specs.Stops.{AllStopExactly}
 use Rattle.cdp_edge.specs.Blame.{Blames, Faults, Read}
-use Rattle.cdp_edge.specs.Outside.{Named, Rose, Told, gains}
+use Rattle.cdp_edge.specs.Outside.{NamedFile, Rose, IfTold, gains}
 use Rattle.js_tree.specs.declared.script.Script.{Script}
 use Rattle.js_semantics.specs.Run.{Run}
 use Rattle.js_semantics.specs.Sources.{terms_of_scripts}
@@ -29,19 +29,19 @@ use Rattle.ws_service.specs.declared.program.RunEnd.TheVariants as runs
 use Rattle.debug_host_commands.specs.Files.{HoldsSources, IsNamed, IsReachedIn, IsRefusedIn}
 use Rattle.debug_host_commands.specs.RunCauses.{RunsToThrow}
 use Rattle.debug_host_options.specs.Requests.{ServeWords}
-use Rattle.debug_host_commands.specs.declared.outcome.Outcome.{Outcome}
-use Rattle.debug_host_commands.specs.declared.outcome.Outcome.TheVariants as ends
+use Rattle.debug_host_commands.specs.declared.outcome.CommandEnd.{CommandEnd}
+use Rattle.debug_host_commands.specs.declared.outcome.CommandEnd.TheVariants as ends
 
 -- ---- ends
 
 -- the end that the doors decide, or else this one
-abbrev pub or_doors : Option Outcome → DoorsEnd → Option Outcome
+abbrev pub or_doors : Option CommandEnd → DoorsEnd → Option CommandEnd
 or_doors end doors.Over = end
 or_doors end doors.Failed = Some ends.NetworkFault
 or_doors end doors.Spent = Some ends.TicketsSpent
 
 -- the end that the program and the doors decide; none where the program ended by a throw, whose value is to be shown
-abbrev pub outcome_of_serving : RunEnd → DoorsEnd → Option Outcome
+abbrev pub outcome_of_serving : RunEnd → DoorsEnd → Option CommandEnd
 outcome_of_serving runs.Broken together = Some ends.OutOfMemory
 outcome_of_serving (runs.Memory unshut) together = Some ends.OutOfMemory
 outcome_of_serving (runs.WriteFault unshut) together = Some ends.CannotWrite
@@ -51,32 +51,32 @@ outcome_of_serving runs.Ended together = or_doors (Some ends.Done) together
 outcome_of_serving runs.Threw together = or_doors None together
 
 -- the end of a port whose doors weren't opened
-abbrev pub unopened : HarborFault → Outcome
+abbrev pub unopened : HarborFault → CommandEnd
 unopened harbor.Failed = ends.NetworkFault
 unopened harbor.Memory = ends.OutOfMemory
 
 -- how a program ended by a throw is shown: by the text of its value; or no memory was left for that, or no ticket
-abbrev pub ShowsThrow : Outcome → Run → Type 0
+abbrev pub ShowsThrow : CommandEnd → Run → Type 0
 ShowsThrow (ends.Threw text) r = uncaught_text r ≡ Some (string_bytes text)
 ShowsThrow ends.ThrewUnshown r = Unit {0}
 ShowsThrow ends.TicketsSpent r = Unit {0}
 ShowsThrow end r = ⊥
 
 -- a port that was served ended so, which the program and its doors decide, or how a throw that ended the program is shown
-abbrev pub IsEndOf : Outcome → Ends → Run → Type 0
+abbrev pub IsEndOf : CommandEnd → Ends → Run → Type 0
 IsEndOf end ended r =
     (outcome_of_serving ended.run ended.doors ≡ Some end)
     ⊎ ((outcome_of_serving ended.run ended.doors ≡ None) × ShowsThrow end r)
 
 -- the ends at which a program may have been shut: no memory was left, or its output couldn't be written, or a door failed
-abbrev pub IsShutEnd : Outcome → Type 0
+abbrev pub IsShutEnd : CommandEnd → Type 0
 IsShutEnd ends.OutOfMemory = Unit {0}
 IsShutEnd ends.CannotWrite = Unit {0}
 IsShutEnd ends.NetworkFault = Unit {0}
 IsShutEnd end = ⊥
 
 -- the ends that come where no port was served: a file wasn't taken, no memory was left, or the port couldn't be opened
-abbrev pub IsUnserved : Outcome → Type 0
+abbrev pub IsUnserved : CommandEnd → Type 0
 IsUnserved (ends.Refused name r) = Unit {0}
 IsUnserved (ends.CannotRead name) = Unit {0}
 IsUnserved ends.OutOfMemory = Unit {0}
@@ -93,7 +93,7 @@ pub record HasFinished (scripts : List Script) (input : List (List ℕ)) (before
   pub whole : now ≡ gains before (printed_lines (printed_of (plain steps scripts input)))
 
 -- the program of the scripts and the input that the files hold has
-pub record ServesToEnd (files : List Named) (request : ServeWords) (before now : Option (List ℕ)) : Type 0 where
+pub record ServesToEnd (files : List NamedFile) (request : ServeWords) (before now : Option (List ℕ)) : Type 0 where
   pub scripts : List Script
   pub input : List (List ℕ)
   pub holds : HoldsSources files request.sources scripts input
@@ -116,7 +116,7 @@ pub record Harbored : Type 0 where
 -- the program stopped at exactly the steps that the rules of its sessions or the start rule name, and each session was
 -- sent exactly what a host with no other session sends it, given what it sees of the history.
 pub record ServesPort (scripts : List Script) (input : List (List ℕ)) (wait : Bool) (sessions : ℕ) (clients : Clients)
-    (moment : Option ℕ) (old new : Output) (before after : Option (List Tended)) (end : Outcome) : Type 0 where
+    (moment : Option ℕ) (old new : Output) (before after : Option (List Tended)) (end : CommandEnd) : Type 0 where
   pub history : List (ℕ × Entry)
   pub doors : List ServedDoor
   pub ended : Ends
@@ -129,8 +129,8 @@ pub record ServesPort (scripts : List Script) (input : List (List ℕ)) (wait : 
       ≡ sent_alone scripts input wait s (view scripts input wait s (entries_of history))
 
 -- a port was served for the scripts and the input that the files hold, and that ended so
-pub record Serves (files : List Named) (request : ServeWords) (moment : Option ℕ) (old new : Output)
-    (before after : Option (List Tended)) (end : Outcome) : Type 0 where
+pub record Serves (files : List NamedFile) (request : ServeWords) (moment : Option ℕ) (old new : Output)
+    (before after : Option (List Tended)) (end : CommandEnd) : Type 0 where
   pub scripts : List Script
   pub input : List (List ℕ)
   pub holds : HoldsSources files request.sources scripts input
@@ -138,8 +138,8 @@ pub record Serves (files : List Named) (request : ServeWords) (moment : Option �
       after end
 
 -- no port was served, and nothing was written; or one was, and that ended so
-abbrev pub MayServe : List Named → ServeWords → Option ℕ → Output → Output → Option (List Tended)
-    → Option (List Tended) → Outcome → Type 0
+abbrev pub MayServe : List NamedFile → ServeWords → Option ℕ → Output → Output → Option (List Tended)
+    → Option (List Tended) → CommandEnd → Type 0
 MayServe files request moment old new before after end =
     (IsUnserved end × (new.content ≡ old.content)) ⊎ Serves files request moment old new before after end
 
@@ -150,7 +150,7 @@ abbrev pub IsOpened : ℕ → ℕ → Harbored → Harbored → Type 0
 IsOpened port sessions before after = after.opens ≡ called (port, sessions) before.opens
 
 -- Why serving a program ended so. Its output is all written where it ended, and a first part of it always.
-abbrev pub BecauseServed : Outcome → List Script → List (List ℕ) → ℕ → ℕ → Output → Output → Harbored → Harbored
+abbrev pub BecauseServed : CommandEnd → List Script → List (List ℕ) → ℕ → ℕ → Output → Output → Harbored → Harbored
     → Type 0
 BecauseServed ends.Done scripts input port sessions old new before after =
     (new.faults ≡ old.faults)
@@ -179,23 +179,23 @@ BecauseServed (ends.PeerClosed replies) scripts input port sessions old new befo
 
 -- why a server ended so: the files say so, a count of faults rose, memory was wanting, or no ticket was left. The counts
 -- are those of the shelf
-abbrev pub BecauseServe : Outcome → ServeWords → Option (List Named) → Faults → Faults → Output → Output → Harbored
+abbrev pub BecauseServe : CommandEnd → ServeWords → Option (List NamedFile) → Faults → Faults → Output → Output → Harbored
     → Harbored → Type 0
 BecauseServe ends.Done request told before after old new was now =
     (after ≡ before)
     × (new.faults ≡ old.faults)
     × IsOpened request.port request.sessions was now
-    × Told told (λ files. ServesToEnd files request old.content new.content)
+    × IfTold told (λ files. ServesToEnd files request old.content new.content)
 BecauseServe (ends.Threw text) request told before after old new was now =
     (after ≡ before)
     × (new.faults ≡ old.faults)
     × IsOpened request.port request.sessions was now
-    × Told told (λ files. RunsToThrow files request.sources (string_bytes text) old.content new.content)
+    × IfTold told (λ files. RunsToThrow files request.sources (string_bytes text) old.content new.content)
 BecauseServe ends.ThrewUnshown request told before after old new was now =
     (after ≡ before)
     × (new.faults ≡ old.faults)
     × IsOpened request.port request.sessions was now
-    × ((text : List ℕ) × Told told (λ files. RunsToThrow files request.sources text old.content new.content))
+    × ((text : List ℕ) × IfTold told (λ files. RunsToThrow files request.sources text old.content new.content))
 BecauseServe ends.OutOfMemory request told before after old new was now =
     (after ≡ before) × (new.faults ≡ old.faults)
 BecauseServe ends.CannotWrite request told before after old new was now =
@@ -205,12 +205,12 @@ BecauseServe ends.NetworkFault request told before after old new was now =
 BecauseServe ends.TicketsSpent request told before after old new was now =
     (after ≡ before) × (new.faults ≡ old.faults) × IsOpened request.port request.sessions was now
 BecauseServe (ends.Refused name r) request told before after old new was now =
-    (after ≡ before) × (new ≡ old) × Told told (λ files. IsRefusedIn files request.sources name.now r)
+    (after ≡ before) × (new ≡ old) × IfTold told (λ files. IsRefusedIn files request.sources name.now r)
 BecauseServe (ends.CannotRead name) request told before after old new was now =
     Blames (Read name.now) before after
     × (new ≡ old)
     × IsNamed request.sources name.now
-    × Told told (λ files. IsReachedIn files request.sources name.now)
+    × IfTold told (λ files. IsReachedIn files request.sources name.now)
 BecauseServe ends.Usage request told before after old new was now = ⊥
 BecauseServe (ends.LineRefused n) request told before after old new was now = ⊥
 BecauseServe (ends.PeerClosed replies) request told before after old new was now = ⊥

@@ -1,17 +1,17 @@
 -- The status of each end, and its line.
 use Rattle.std.specs.Prelude.{◌≡◌, ◌<◌, ℕ, List, [], ◌∷◌, ◌++◌, codes, decimal, string_bytes, Option, Some, Bool, false}
-use Rattle.cdp_edge.specs.Outside.{Named, Told, GainsPrefix}
+use Rattle.cdp_edge.specs.Outside.{NamedFile, IfTold, GainsPrefix}
 use Rattle.cdp_edge.specs.Blame.{Faults}
-use Rattle.debug_host_script_files.specs.declared.fault.Refusal.{Refusal}
-use Rattle.debug_host_script_files.specs.declared.fault.Refusal.TheVariants as refusals
+use Rattle.debug_host_script_files.specs.declared.fault.TextFault.{TextFault}
+use Rattle.debug_host_script_files.specs.declared.fault.TextFault.TheVariants as refusals
 use Rattle.debug_host_options.specs.Helps.{help_text}
 use Rattle.debug_host_options.specs.declared.help.TheConstants.{VERSION}
 use Rattle.debug_host_options.specs.Requests.{Request, ReplayWords, SendWords, ServeWords, Sources, Run, Replay, Serve, Send, Drill, Help, Version}
-use Rattle.debug_host_commands.specs.declared.outcome.Outcome.{Outcome}
-use Rattle.debug_host_commands.specs.declared.outcome.Outcome.TheVariants as ends
+use Rattle.debug_host_commands.specs.declared.outcome.CommandEnd.{CommandEnd}
+use Rattle.debug_host_commands.specs.declared.outcome.CommandEnd.TheVariants as ends
 
 -- the status of an end
-abbrev pub status_of : Outcome → ℕ
+abbrev pub status_of : CommandEnd → ℕ
 status_of ends.Done = 0
 status_of ends.OutOfMemory = 1
 status_of ends.Usage = 2
@@ -32,7 +32,7 @@ abbrev pub usage_said : List ℕ
 usage_said = codes "usage: debug_host run/replay/serve/send/drill" ++ 10 ∷ []
 
 -- what is said of a refused file of this name: lines and columns count from 0
-abbrev pub refusal_said : List ℕ → Refusal → List ℕ
+abbrev pub refusal_said : List ℕ → TextFault → List ℕ
 refusal_said name refusals.NotUtf8 = codes "debug_host: " ++ name ++ (codes ": not UTF-8" ++ 10 ∷ [])
 refusal_said name (refusals.UnexpectedToken pos) =
     codes "debug_host: " ++
@@ -59,7 +59,7 @@ abbrev pub uncaught_said : List ℕ → List ℕ
 uncaught_said text = codes "Uncaught " ++ text ++ 10 ∷ []
 
 -- what is said of each end
-abbrev pub said : Outcome → List ℕ
+abbrev pub said : CommandEnd → List ℕ
 said ends.Done = []
 said ends.OutOfMemory = codes "debug_host: out of memory" ++ 10 ∷ []
 said ends.Usage = usage_said
@@ -89,8 +89,8 @@ ForRun (Some (Run request)) P = P request.sources
 ForRun asked P = Unit {0}
 
 -- what holds of a run and the files, where the words ask for one and the files are told
-abbrev pub GivenRun : Option Request → Option (List Named) → (Sources → List Named → Type 0) → Type 0
-GivenRun asked files P = ForRun asked (λ sources. Told files (P sources))
+abbrev pub GivenRun : Option Request → Option (List NamedFile) → (Sources → List NamedFile → Type 0) → Type 0
+GivenRun asked files P = ForRun asked (λ sources. IfTold files (P sources))
 
 -- what holds of a replay, where the words ask for one
 abbrev pub ForReplay : Option Request → (ReplayWords → Type 0) → Type 0
@@ -98,8 +98,8 @@ ForReplay (Some (Replay words)) P = P words
 ForReplay asked P = Unit {0}
 
 -- what holds of a replay and the files, where the words ask for one and the files are told
-abbrev pub GivenReplay : Option Request → Option (List Named) → (ReplayWords → List Named → Type 0) → Type 0
-GivenReplay asked files P = ForReplay asked (λ words. Told files (P words))
+abbrev pub GivenReplay : Option Request → Option (List NamedFile) → (ReplayWords → List NamedFile → Type 0) → Type 0
+GivenReplay asked files P = ForReplay asked (λ words. IfTold files (P words))
 
 -- what holds of a server, where the words ask for one
 abbrev pub ForServe : Option Request → (ServeWords → Type 0) → Type 0
@@ -107,8 +107,8 @@ ForServe (Some (Serve words)) P = P words
 ForServe asked P = Unit {0}
 
 -- what holds of a server and the files, where the words ask for one and the files are told
-abbrev pub GivenServe : Option Request → Option (List Named) → (ServeWords → List Named → Type 0) → Type 0
-GivenServe asked files P = ForServe asked (λ words. Told files (P words))
+abbrev pub GivenServe : Option Request → Option (List NamedFile) → (ServeWords → List NamedFile → Type 0) → Type 0
+GivenServe asked files P = ForServe asked (λ words. IfTold files (P words))
 
 -- what holds of a client, where the words ask for one
 abbrev pub ForSend : Option Request → (SendWords → Type 0) → Type 0
@@ -116,8 +116,8 @@ ForSend (Some (Send words)) P = P words
 ForSend asked P = Unit {0}
 
 -- what holds of a client and the files, where the words ask for one and the files are told
-abbrev pub GivenSend : Option Request → Option (List Named) → (SendWords → List Named → Type 0) → Type 0
-GivenSend asked files P = ForSend asked (λ words. Told files (P words))
+abbrev pub GivenSend : Option Request → Option (List NamedFile) → (SendWords → List NamedFile → Type 0) → Type 0
+GivenSend asked files P = ForSend asked (λ words. IfTold files (P words))
 
 -- the words ask for a client
 abbrev pub IsClient : Option Request → Type 0

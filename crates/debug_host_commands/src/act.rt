@@ -7,7 +7,7 @@ ghost use Rattle.cdp_host_isolation.specs.Seats.{is_attached, seat_of};
 ghost use Rattle.js_tree.specs.declared.script.Script.{Script};
 ghost use Rattle.cdp_host_seats.specs.Losses.{is_for_memory};
 ghost use Rattle.cdp_host.specs.Histories.{whole};
-ghost use Rattle.cdp_host.specs.Hosts.{Stands};
+ghost use Rattle.cdp_host.specs.Hosts.{StandsFor};
 ghost use Rattle.cdp_host_turns.specs.Entries.{lost_for_memory};
 ghost use Rattle.cdp_journal.specs.Lines.{Attach, Tell, Take, Detach, Run, Shut, IsInForm};
 ghost use Rattle.debug_host_commands.specs.Journal.{entry_at, is_there};
@@ -35,7 +35,7 @@ pub(crate) fn act(
     requires works { host.old.broken ≡ false }
     requires form { IsInForm (line_held line) }
     ensures works { OnOk result (host.new.broken ≡ false) }
-    ensures acts { IfOk result (λ lines. (scripts : List Script) (input : List (List ℕ)) (wait : Bool) (history : List Entry) → Stands scripts input wait host.old history
+    ensures acts { IfOk result (λ lines. (scripts : List Script) (input : List (List ℕ)) (wait : Bool) (history : List Entry) → StandsFor scripts input wait host.old history
         → Acts scripts input wait history (entry_at scripts (whole scripts input wait history) (line_held line)) (option_map (λ all. map string_bytes all.items) lines) host.new) }
 {
     match line {
@@ -56,7 +56,7 @@ pub(crate) fn act(
 fn is_there(host: &Host, session: u64) -> Result<bool, AllocError>
     requires { host.now.broken ≡ false }
     ensures held { IfOk result (λ there. there ≡ is_attached (seat_of session host.now.meaning.seats)) }
-    ensures meant { IfOk result (λ there. (scripts : List Script) (input : List (List ℕ)) (wait : Bool) (history : List Entry) → Stands scripts input wait host.now history
+    ensures meant { IfOk result (λ there. (scripts : List Script) (input : List (List ℕ)) (wait : Bool) (history : List Entry) → StandsFor scripts input wait host.now history
         → there ≡ is_there (whole scripts input wait history) session) }
 {
     if host.attached(session) {
@@ -72,7 +72,7 @@ fn is_there(host: &Host, session: u64) -> Result<bool, AllocError>
 fn attach(alloc: Global, host: &mut Host) -> Result<Option<Vec<String>>, AllocError>
     requires { host.old.broken ≡ false }
     ensures works { OnOk result (host.new.broken ≡ false) }
-    ensures acts { IfOk result (λ lines. (scripts : List Script) (input : List (List ℕ)) (wait : Bool) (history : List Entry) → Stands scripts input wait host.old history
+    ensures acts { IfOk result (λ lines. (scripts : List Script) (input : List (List ℕ)) (wait : Bool) (history : List Entry) → StandsFor scripts input wait host.old history
         → Acts scripts input wait history (entry_at scripts (whole scripts input wait history) Attach) (option_map (λ all. map string_bytes all.items) lines) host.new) }
 {
     let session = host.attach()?;
@@ -89,7 +89,7 @@ fn tell(
 ) -> Result<Option<Vec<String>>, AllocError>
     requires { host.old.broken ≡ false }
     ensures works { OnOk result (host.new.broken ≡ false) }
-    ensures acts { IfOk result (λ lines. (scripts : List Script) (input : List (List ℕ)) (wait : Bool) (history : List Entry) → Stands scripts input wait host.old history
+    ensures acts { IfOk result (λ lines. (scripts : List Script) (input : List (List ℕ)) (wait : Bool) (history : List Entry) → StandsFor scripts input wait host.old history
         → Acts scripts input wait history (entry_at scripts (whole scripts input wait history) (Tell session text.now)) (option_map (λ all. map string_bytes all.items) lines) host.new) }
 {
     if !is_there(host, session)? {
@@ -109,7 +109,7 @@ fn tell(
 fn take(alloc: Global, host: &mut Host, session: u64) -> Result<Option<Vec<String>>, AllocError>
     requires { host.old.broken ≡ false }
     ensures works { OnOk result (host.new.broken ≡ false) }
-    ensures acts { IfOk result (λ lines. (scripts : List Script) (input : List (List ℕ)) (wait : Bool) (history : List Entry) → Stands scripts input wait host.old history
+    ensures acts { IfOk result (λ lines. (scripts : List Script) (input : List (List ℕ)) (wait : Bool) (history : List Entry) → StandsFor scripts input wait host.old history
         → Acts scripts input wait history (entry_at scripts (whole scripts input wait history) (Take session)) (option_map (λ all. map string_bytes all.items) lines) host.new) }
 {
     if !is_there(host, session)? {
@@ -123,7 +123,7 @@ fn take(alloc: Global, host: &mut Host, session: u64) -> Result<Option<Vec<Strin
 fn detach(alloc: Global, host: &mut Host, session: u64) -> Result<Option<Vec<String>>, AllocError>
     requires { host.old.broken ≡ false }
     ensures works { OnOk result (host.new.broken ≡ false) }
-    ensures acts { IfOk result (λ lines. (scripts : List Script) (input : List (List ℕ)) (wait : Bool) (history : List Entry) → Stands scripts input wait host.old history
+    ensures acts { IfOk result (λ lines. (scripts : List Script) (input : List (List ℕ)) (wait : Bool) (history : List Entry) → StandsFor scripts input wait host.old history
         → Acts scripts input wait history (entry_at scripts (whole scripts input wait history) (Detach session)) (option_map (λ all. map string_bytes all.items) lines) host.new) }
 {
     if !is_there(host, session)? {
@@ -165,7 +165,7 @@ fn run(
     requires works { host.old.broken ≡ false }
     requires moment { moment < 2 ^ 53 }
     ensures works { OnOk result (host.new.broken ≡ false) }
-    ensures acts { IfOk result (λ lines. (scripts : List Script) (input : List (List ℕ)) (wait : Bool) (history : List Entry) → Stands scripts input wait host.old history
+    ensures acts { IfOk result (λ lines. (scripts : List Script) (input : List (List ℕ)) (wait : Bool) (history : List Entry) → StandsFor scripts input wait host.old history
         → Acts scripts input wait history (entry_at scripts (whole scripts input wait history) (Run most moment)) (option_map (λ all. map string_bytes all.items) lines) host.new) }
 {
     let ran = host.run(most, moment)?;
@@ -183,7 +183,7 @@ fn run(
 fn shut(alloc: Global, host: &mut Host) -> Result<Option<Vec<String>>, AllocError>
     requires { host.old.broken ≡ false }
     ensures works { OnOk result (host.new.broken ≡ false) }
-    ensures acts { IfOk result (λ lines. (scripts : List Script) (input : List (List ℕ)) (wait : Bool) (history : List Entry) → Stands scripts input wait host.old history
+    ensures acts { IfOk result (λ lines. (scripts : List Script) (input : List (List ℕ)) (wait : Bool) (history : List Entry) → StandsFor scripts input wait host.old history
         → Acts scripts input wait history (entry_at scripts (whole scripts input wait history) Shut) (option_map (λ all. map string_bytes all.items) lines) host.new) }
 {
     host.shut();

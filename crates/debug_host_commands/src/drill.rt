@@ -6,7 +6,7 @@ ghost use Rattle.debug_host_commands.specs.DrillCauses.{BecauseDrill, BecauseJou
 ghost use Rattle.debug_host_commands.specs.RunCauses.{IsUnbegun};
 
 use crate::journal::{ReplayEnd, replay};
-use crate::outcome::Outcome;
+use crate::outcome::CommandEnd;
 use crate::sources::outcome_of;
 use crate::transcript::Transcript;
 use cdp_edge::{Sink, SinkFault, put};
@@ -22,7 +22,7 @@ const SCRIPT_NAME: &str = "drill.js";
 
 /// Replays the journal of the drill of this number over its script, and writes a summary of the replay's output. Nothing is
 /// written before all of the journal was replayed.
-pub(crate) fn drill<O: Sink>(alloc: Global, number: u64, out: &mut O) -> Outcome<'static>
+pub(crate) fn drill<O: Sink>(alloc: Global, number: u64, out: &mut O) -> CommandEnd<'static>
     ensures cause { BecauseDrill result number (O.faults out.old) (O.faults out.new) (O.content out.old) (O.content out.new) }
     ensures part { (O.content out.new ≡ O.content out.old) ⊎ DrillsInPart number (O.content out.old) (O.content out.new) }
     ensures unbegun { IsUnbegun result → out.new ≡ out.old }
@@ -36,22 +36,22 @@ pub(crate) fn drill<O: Sink>(alloc: Global, number: u64, out: &mut O) -> Outcome
         Err(end) => return end,
     };
     let Ok(text) = summary(alloc, transcript.bytes()) else {
-        return Outcome::OutOfMemory;
+        return CommandEnd::OutOfMemory;
     };
     match put_text(out, &text) {
-        Ok(()) => Outcome::Done,
-        Err(SinkFault::Failed) => Outcome::CannotWrite,
-        Err(SinkFault::Memory) => Outcome::OutOfMemory,
+        Ok(()) => CommandEnd::Done,
+        Err(SinkFault::Failed) => CommandEnd::CannotWrite,
+        Err(SinkFault::Memory) => CommandEnd::OutOfMemory,
     }
 }
 
 /// The script of the drill of this number.
-fn read_script(alloc: Global, number: u64) -> Result<Script, Outcome<'static>>
+fn read_script(alloc: Global, number: u64) -> Result<Script, CommandEnd<'static>>
     ensures script { IfOk result (λ script. IsDrillScript number script) }
     ensures fault { IfErr result (λ end. BecauseScript end number) }
 {
     let Ok(source) = drill_source(alloc, number) else {
-        return Err(Outcome::OutOfMemory);
+        return Err(CommandEnd::OutOfMemory);
     };
     match script_of(alloc, source.as_bytes(), SCRIPT_NAME, 0, &[]) {
         Ok(script) => Ok(script),
@@ -60,12 +60,16 @@ fn read_script(alloc: Global, number: u64) -> Result<Script, Outcome<'static>>
 }
 
 /// What the replay of the journal of the drill of this number over its script writes.
-fn replay_over(alloc: Global, number: u64, script: &Script) -> Result<Transcript, Outcome<'static>>
+fn replay_over(
+    alloc: Global,
+    number: u64,
+    script: &Script,
+) -> Result<Transcript, CommandEnd<'static>>
     ensures output { IfOk result (λ transcript. IsDrilled number script.now None transcript.bytes.items) }
     ensures fault { IfErr result (λ end. BecauseJournalOf end number script.now) }
 {
     let Ok(journal) = drill_journal(alloc, number) else {
-        return Err(Outcome::OutOfMemory);
+        return Err(CommandEnd::OutOfMemory);
     };
     let mut transcript = Transcript::new(alloc);
     let lines = journal.as_bytes();
@@ -78,9 +82,9 @@ fn replay_over(alloc: Global, number: u64, script: &Script) -> Result<Transcript
         &mut transcript,
     ) {
         ReplayEnd::Done => Ok(transcript),
-        ReplayEnd::Refused { line } => Err(Outcome::LineRefused(line)),
+        ReplayEnd::Refused { line } => Err(CommandEnd::LineRefused(line)),
         ReplayEnd::WriteFault => unreachable!(),
-        ReplayEnd::Memory => Err(Outcome::OutOfMemory),
+        ReplayEnd::Memory => Err(CommandEnd::OutOfMemory),
     }
 }
 

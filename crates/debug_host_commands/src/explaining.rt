@@ -1,12 +1,12 @@
 //! The lines that explain an end.
 
-use crate::outcome::Outcome;
+use crate::outcome::CommandEnd;
 use cdp_text::units::text_of;
 use debug_host_explanations::{
-    Frame, KeptFile, LinkFault, ReadFault, Refused, command_lines, frame_lines, journal_lines,
+    FileRefusal, Frame, KeptFile, PortFault, ReadFault, command_lines, frame_lines, journal_lines,
     link_lines, refusal_lines, unread_lines, word_lines,
 };
-use debug_host_script_files::{Evidence, FileEvidence, Refusal};
+use debug_host_script_files::{Evidence, FileEvidence, TextFault};
 use js_tree::script::Script;
 use std::alloc::{AllocError, Global};
 
@@ -51,24 +51,24 @@ impl Remains {
 /// There is no memory for the lines.
 pub(crate) fn lines_of(
     alloc: Global,
-    outcome: &Outcome<'_>,
+    outcome: &CommandEnd<'_>,
     task: Task<'_>,
     remains: Remains,
 ) -> Result<String, AllocError> {
     let Remains { evidence, calls } = remains;
     match outcome {
-        Outcome::Usage => lines_of_words(alloc, task),
-        Outcome::Refused(name, refusal) => lines_of_refusal(alloc, *name, *refusal, evidence),
-        Outcome::CannotRead(name) => unread_lines(alloc, *name, fault_of(&evidence.file)),
-        Outcome::LineRefused(number) => lines_of_line(alloc, task, *number, evidence),
-        Outcome::NetworkFault => lines_of_port(alloc, task),
-        Outcome::PeerClosed(_) => link_lines(alloc, LinkFault::Closed),
-        Outcome::Threw(_) => frame_lines(alloc, &calls),
-        Outcome::Done
-        | Outcome::ThrewUnshown
-        | Outcome::OutOfMemory
-        | Outcome::CannotWrite
-        | Outcome::TicketsSpent => Ok(String::new(alloc)),
+        CommandEnd::Usage => lines_of_words(alloc, task),
+        CommandEnd::Refused(name, refusal) => lines_of_refusal(alloc, *name, *refusal, evidence),
+        CommandEnd::CannotRead(name) => unread_lines(alloc, *name, fault_of(&evidence.file)),
+        CommandEnd::LineRefused(number) => lines_of_line(alloc, task, *number, evidence),
+        CommandEnd::NetworkFault => lines_of_port(alloc, task),
+        CommandEnd::PeerClosed(_) => link_lines(alloc, PortFault::Closed),
+        CommandEnd::Threw(_) => frame_lines(alloc, &calls),
+        CommandEnd::Done
+        | CommandEnd::ThrewUnshown
+        | CommandEnd::OutOfMemory
+        | CommandEnd::CannotWrite
+        | CommandEnd::TicketsSpent => Ok(String::new(alloc)),
     }
 }
 
@@ -84,7 +84,7 @@ fn lines_of_words(alloc: Global, task: Task<'_>) -> Result<String, AllocError> {
 fn lines_of_refusal(
     alloc: Global,
     name: &str,
-    refusal: Refusal,
+    refusal: TextFault,
     evidence: Evidence,
 ) -> Result<String, AllocError> {
     let Evidence { file, earlier } = evidence;
@@ -111,13 +111,13 @@ fn kept(alloc: Global, script: &Script) -> Result<KeptFile, AllocError> {
 }
 
 /// A refusal, as the explanations have it.
-fn refused_as(refusal: Refusal) -> Refused {
+fn refused_as(refusal: TextFault) -> FileRefusal {
     match refusal {
-        Refusal::NotUtf8 => Refused::NotUtf8,
-        Refusal::UnexpectedToken(at) => Refused::UnexpectedToken(at),
-        Refusal::TooLong(_) => Refused::TooLong,
-        Refusal::TooDeep => Refused::TooDeep,
-        Refusal::TooManyTokens => Refused::TooManyTokens,
+        TextFault::NotUtf8 => FileRefusal::NotUtf8,
+        TextFault::UnexpectedToken(at) => FileRefusal::UnexpectedToken(at),
+        TextFault::TooLong(_) => FileRefusal::TooLong,
+        TextFault::TooDeep => FileRefusal::TooDeep,
+        TextFault::TooManyTokens => FileRefusal::TooManyTokens,
     }
 }
 
@@ -151,8 +151,8 @@ fn lines_of_line(
 /// What may be done about a port that can't be used.
 fn lines_of_port(alloc: Global, task: Task<'_>) -> Result<String, AllocError> {
     match task {
-        Task::Serve(port) => link_lines(alloc, LinkFault::Serving { port }),
-        Task::Send(port) => link_lines(alloc, LinkFault::Dialling { port }),
+        Task::Serve(port) => link_lines(alloc, PortFault::Serving { port }),
+        Task::Send(port) => link_lines(alloc, PortFault::Dialling { port }),
         Task::Words(_) | Task::Run | Task::Replay => Ok(String::new(alloc)),
     }
 }

@@ -6,7 +6,7 @@ ghost use Rattle.cdp_text.specs.Lines.{lines_of};
 ghost use Rattle.cdp_host_isolation.specs.Histories.{Entry};
 ghost use Rattle.js_tree.specs.declared.script.Script.{Script as AnyScript};
 ghost use Rattle.cdp_host.specs.Histories.{begin, whole};
-ghost use Rattle.cdp_host.specs.Hosts.{Stands};
+ghost use Rattle.cdp_host.specs.Hosts.{StandsFor};
 ghost use Rattle.debug_host_commands.specs.Journal.{entry_of, refused};
 ghost use Rattle.debug_host_commands.specs.Output.{joined};
 ghost use Rattle.debug_host_commands.specs.Played.{IsCut, Plays, end_of, journal_output, line_output, of_sink};
@@ -77,14 +77,14 @@ fn play_line<O: Sink>(
     out: &mut O,
 ) -> Result<(), LineFault>
     requires { host.old.broken ≡ false }
-    ensures ok { OnOk result ((scripts : List AnyScript) (input : List (List ℕ)) (wait : Bool) (history : List Entry) → Stands scripts input wait host.old history
+    ensures ok { OnOk result ((scripts : List AnyScript) (input : List (List ℕ)) (wait : Bool) (history : List Entry) → StandsFor scripts input wait host.old history
         → Plays scripts input wait history (entry_of scripts (whole scripts input wait history) text.now) host.new (O.content out.old) (O.content out.new)) }
     ensures works { OnOk result (host.new.broken ≡ false) }
-    ensures refused { IsErrOf result LineFault.Refused → (out.new ≡ out.old) × ((scripts : List AnyScript) (input : List (List ℕ)) (wait : Bool) (history : List Entry) → Stands scripts input wait host.old history
+    ensures refused { IsErrOf result LineFault.Refused → (out.new ≡ out.old) × ((scripts : List AnyScript) (input : List (List ℕ)) (wait : Bool) (history : List Entry) → StandsFor scripts input wait host.old history
         → entry_of scripts (whole scripts input wait history) text.now ≡ None) }
-    ensures part { OnErr result ((scripts : List AnyScript) (input : List (List ℕ)) (wait : Bool) (history : List Entry) → Stands scripts input wait host.old history
+    ensures part { OnErr result ((scripts : List AnyScript) (input : List (List ℕ)) (wait : Bool) (history : List Entry) → StandsFor scripts input wait host.old history
         → GainsPrefix (O.content out.old) (O.content out.new) (line_output scripts (whole scripts input wait history) (entry_of scripts (whole scripts input wait history) text.now))) }
-    ensures less { IsErrOf result LineFault.CannotWrite → (scripts : List AnyScript) (input : List (List ℕ)) (wait : Bool) (history : List Entry) → Stands scripts input wait host.old history
+    ensures less { IsErrOf result LineFault.CannotWrite → (scripts : List AnyScript) (input : List (List ℕ)) (wait : Bool) (history : List Entry) → StandsFor scripts input wait host.old history
         → GainsLess (O.content out.old) (O.content out.new) (line_output scripts (whole scripts input wait history) (entry_of scripts (whole scripts input wait history) text.now)) }
     ensures quiet { OnOk result (O.faults out.new ≡ O.faults out.old) }
     ensures memory { IsErrOf result LineFault.Memory → O.faults out.new ≡ O.faults out.old }
@@ -107,13 +107,13 @@ fn play_line<O: Sink>(
 /// Replays a journal's lines over a host before its first entry, up to the first line that is refused.
 fn play_lines<O: Sink>(alloc: Global, host: &mut Host, journal: &[u8], out: &mut O) -> ReplayEnd
     requires { host.old.broken ≡ false }
-    ensures end { (scripts : List AnyScript) (input : List (List ℕ)) (wait : Bool) → Stands scripts input wait host.old []
+    ensures end { (scripts : List AnyScript) (input : List (List ℕ)) (wait : Bool) → StandsFor scripts input wait host.old []
         → IsCut result ⊎ (result ≡ end_of (refused scripts 1 (begin scripts input wait) (lines_of journal.now))) }
-    ensures whole { (scripts : List AnyScript) (input : List (List ℕ)) (wait : Bool) → Stands scripts input wait host.old []
+    ensures whole { (scripts : List AnyScript) (input : List (List ℕ)) (wait : Bool) → StandsFor scripts input wait host.old []
         → IsCut result ⊎ (O.content out.new ≡ gains (O.content out.old) (journal_output scripts (begin scripts input wait) (lines_of journal.now))) }
-    ensures part { (scripts : List AnyScript) (input : List (List ℕ)) (wait : Bool) → Stands scripts input wait host.old []
+    ensures part { (scripts : List AnyScript) (input : List (List ℕ)) (wait : Bool) → StandsFor scripts input wait host.old []
         → GainsPrefix (O.content out.old) (O.content out.new) (journal_output scripts (begin scripts input wait) (lines_of journal.now)) }
-    ensures less { result ≡ ReplayEnd.WriteFault → (scripts : List AnyScript) (input : List (List ℕ)) (wait : Bool) → Stands scripts input wait host.old []
+    ensures less { result ≡ ReplayEnd.WriteFault → (scripts : List AnyScript) (input : List (List ℕ)) (wait : Bool) → StandsFor scripts input wait host.old []
         → GainsLess (O.content out.old) (O.content out.new) (journal_output scripts (begin scripts input wait) (lines_of journal.now)) }
     ensures quiet { (result ≡ ReplayEnd.WriteFault) ⊎ (O.faults out.new ≡ O.faults out.old) }
     ensures failed { result ≡ ReplayEnd.WriteFault → Rose (O.faults out.old) (O.faults out.new) }

@@ -1,10 +1,10 @@
 //! How a command ends.
 
-use debug_host_script_files::Refusal;
+use debug_host_script_files::TextFault;
 
 /// How a command ends, with the name of the file whose fault that is.
 #[derive(Drop)]
-pub(crate) enum Outcome<'w> {
+pub(crate) enum CommandEnd<'w> {
     /// A run by its last script; a replay and a file of commands with its last line.
     Done,
     /// A run by a throw of a value that is shown so.
@@ -14,7 +14,7 @@ pub(crate) enum Outcome<'w> {
     OutOfMemory,
     /// The words aren't of a command's form.
     Usage,
-    Refused(&'w str, Refusal),
+    Refused(&'w str, TextFault),
     CannotRead(&'w str),
     CannotWrite,
     /// The number, from 1, of the line that is refused, of a journal or of a file of commands.

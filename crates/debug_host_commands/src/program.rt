@@ -2,11 +2,11 @@
 
 ghost use Rattle.std.specs.Prelude.{◌≡◌, ◌≢◌, ◌⊎◌, ◌<◌, ℕ, List, [], None, Some};
 ghost use Rattle.cdp_edge.specs.Blame.{Blames, Read};
-ghost use Rattle.cdp_edge.specs.Outside.{Rose, Told, GainsPrefix, gains};
+ghost use Rattle.cdp_edge.specs.Outside.{Rose, IfTold, GainsPrefix, gains};
 ghost use Rattle.cdp_client.specs.Lines.{Line};
 ghost use Rattle.cdp_client.specs.declared.conversed.Conversed.TheVariants as talks;
 ghost use Rattle.js_tree.specs.declared.script.Script.{Script};
-ghost use Rattle.debug_host_script_files.specs.declared.fault.Refusal.{Refusal};
+ghost use Rattle.debug_host_script_files.specs.declared.fault.TextFault.{TextFault};
 ghost use Rattle.cdp_journal.specs.Drills.{drill_source};
 ghost use Rattle.debug_host_script_files.specs.Refusals.{IsRefused};
 ghost use Rattle.debug_host_commands.specs.DrillCauses.{DrillRefuses, DrillsInPart, DrillsShort, DrillsWhole, script_name};
@@ -19,11 +19,11 @@ ghost use Rattle.debug_host_commands.specs.ServeCauses.{MayServe, ServesToEnd};
 ghost use Rattle.debug_host_options.specs.Explains.{explains};
 ghost use Rattle.debug_host_options.specs.Requests.{asked};
 ghost use Rattle.cdp_edge_server.specs.Contents.{called};
-ghost use Rattle.debug_host_commands.specs.declared.outcome.Outcome.{Outcome};
+ghost use Rattle.debug_host_commands.specs.declared.outcome.CommandEnd.{CommandEnd};
 
 use crate::drill::drill;
 use crate::explaining::{Remains, Task};
-use crate::outcome::Outcome;
+use crate::outcome::CommandEnd;
 use crate::replay::replay;
 use crate::report::{end, end_explained};
 use crate::run::run;
@@ -96,20 +96,20 @@ where
     ensures reads { result ≢ 4 → F.faults shelf.new ≡ F.faults shelf.old }
     ensures write { result ≡ 5 → Rose (O.faults out.old) (O.faults out.new) }
     ensures writes { result ≢ 5 → O.faults out.new ≡ O.faults out.old }
-    ensures says { (end : Outcome) × (result ≡ status_of end) × Says (explains words.now) (E.content err.old) (E.content err.new) (said end) }
+    ensures says { (end : CommandEnd) × (result ≡ status_of end) × Says (explains words.now) (E.content err.old) (E.content err.new) (said end) }
     // `run`: the cause of each status
     ensures run_done { result ≡ 0 → GivenRun (asked words.now) (F.files shelf.old) (λ sources files. RunsToEnd files sources (O.content out.old) (O.content out.new)) }
     ensures run_threw { result ≡ 8 → GivenRun (asked words.now) (F.files shelf.old) (λ sources files. (text : List ℕ)
         × RunsToThrow files sources text (O.content out.old) (O.content out.new) × Says (explains words.now) (E.content err.old) (E.content err.new) (uncaught_said text)) }
-    ensures run_refused { result ≡ 3 → GivenRun (asked words.now) (F.files shelf.old) (λ sources files. (name : List ℕ) × (refusal : Refusal)
+    ensures run_refused { result ≡ 3 → GivenRun (asked words.now) (F.files shelf.old) (λ sources files. (name : List ℕ) × (refusal : TextFault)
         × IsRefusedIn files sources name refusal × Says (explains words.now) (E.content err.old) (E.content err.new) (refusal_said name refusal)) }
     ensures run_read { result ≡ 4 → ForRun (asked words.now) (λ sources. (name : List ℕ) × IsNamed sources name × Blames (Read name) (F.faults shelf.old) (F.faults shelf.new)
-        × Told (F.files shelf.old) (λ files. IsReachedIn files sources name) × Says (explains words.now) (E.content err.old) (E.content err.new) (unread_said name)) }
+        × IfTold (F.files shelf.old) (λ files. IsReachedIn files sources name) × Says (explains words.now) (E.content err.old) (E.content err.new) (unread_said name)) }
     ensures run_offered { result ≡ 5 → GivenRun (asked words.now) (F.files shelf.old) (λ sources files. RunsShort files sources (O.content out.old) (O.content out.new)) }
     // no other status where the files hold scripts and input, or one of them is refused, unless memory was wanting or a count rose
     ensures run_decided { GivenRun (asked words.now) (F.files shelf.old) (λ sources files. (scripts : List Script) (input : List (List ℕ)) → HoldsSources files sources scripts input
         → (result ≡ 0) ⊎ (result ≡ 8) ⊎ (result ≡ 1) ⊎ (result ≡ 4) ⊎ (result ≡ 5)) }
-    ensures run_exact { GivenRun (asked words.now) (F.files shelf.old) (λ sources files. (name : List ℕ) (refusal : Refusal) → IsRefusedIn files sources name refusal
+    ensures run_exact { GivenRun (asked words.now) (F.files shelf.old) (λ sources files. (name : List ℕ) (refusal : TextFault) → IsRefusedIn files sources name refusal
         → (result ≡ 3) ⊎ (result ≡ 1) ⊎ (result ≡ 4)) }
     // what `out` took at every status, of a program that may never end
     ensures run_part { GivenRun (asked words.now) (F.files shelf.old) (λ sources files. (O.content out.new ≡ O.content out.old) ⊎ RunsInPart files sources (O.content out.old) (O.content out.new)) }
@@ -117,14 +117,14 @@ where
     ensures replay_done { result ≡ 0 → GivenReplay (asked words.now) (F.files shelf.old) (λ request files. ReplaysWhole files request None (O.content out.old) (O.content out.new)) }
     ensures replay_line { result ≡ 6 → GivenReplay (asked words.now) (F.files shelf.old) (λ request files. (number : ℕ)
         × ReplaysWhole files request (Some number) (O.content out.old) (O.content out.new) × Says (explains words.now) (E.content err.old) (E.content err.new) (line_said number)) }
-    ensures replay_refused { result ≡ 3 → GivenReplay (asked words.now) (F.files shelf.old) (λ request files. (name : List ℕ) × (refusal : Refusal)
+    ensures replay_refused { result ≡ 3 → GivenReplay (asked words.now) (F.files shelf.old) (λ request files. (name : List ℕ) × (refusal : TextFault)
         × IsRefusedBehind files request name refusal × Says (explains words.now) (E.content err.old) (E.content err.new) (refusal_said name refusal)) }
     ensures replay_read { result ≡ 4 → ForReplay (asked words.now) (λ request. (name : List ℕ) × IsNamedBy request name × Blames (Read name) (F.faults shelf.old) (F.faults shelf.new)
-        × Told (F.files shelf.old) (λ files. IsReachedBy files request name) × Says (explains words.now) (E.content err.old) (E.content err.new) (unread_said name)) }
+        × IfTold (F.files shelf.old) (λ files. IsReachedBy files request name) × Says (explains words.now) (E.content err.old) (E.content err.new) (unread_said name)) }
     ensures replay_offered { result ≡ 5 → GivenReplay (asked words.now) (F.files shelf.old) (λ request files. ReplaysShort files request (O.content out.old) (O.content out.new)) }
     ensures replay_decided { GivenReplay (asked words.now) (F.files shelf.old) (λ request files. (journal : List ℕ) (scripts : List Script) (input : List (List ℕ)) → HoldsReplay files request journal scripts input
         → (result ≡ 0) ⊎ (result ≡ 6) ⊎ (result ≡ 1) ⊎ (result ≡ 4) ⊎ (result ≡ 5)) }
-    ensures replay_exact { GivenReplay (asked words.now) (F.files shelf.old) (λ request files. (name : List ℕ) (refusal : Refusal) → IsRefusedBehind files request name refusal
+    ensures replay_exact { GivenReplay (asked words.now) (F.files shelf.old) (λ request files. (name : List ℕ) (refusal : TextFault) → IsRefusedBehind files request name refusal
         → (result ≡ 3) ⊎ (result ≡ 1) ⊎ (result ≡ 4)) }
     // the headline, at every status: what `out` took is a first part of an output of which it holds, and all of that at 0 and 6
     ensures headline { GivenReplay (asked words.now) (F.files shelf.old) (λ request files. (O.content out.new ≡ O.content out.old) ⊎ ReplaysInPart files request (O.content out.old) (O.content out.new)) }
@@ -132,15 +132,15 @@ where
     ensures serve_done { result ≡ 0 → GivenServe (asked words.now) (F.files shelf.old) (λ request files. ServesToEnd files request (O.content out.old) (O.content out.new)) }
     ensures serve_threw { result ≡ 8 → GivenServe (asked words.now) (F.files shelf.old) (λ request files. (text : List ℕ)
         × RunsToThrow files request.sources text (O.content out.old) (O.content out.new) × Says (explains words.now) (E.content err.old) (E.content err.new) (uncaught_said text)) }
-    ensures serve_refused { result ≡ 3 → GivenServe (asked words.now) (F.files shelf.old) (λ request files. (name : List ℕ) × (refusal : Refusal)
+    ensures serve_refused { result ≡ 3 → GivenServe (asked words.now) (F.files shelf.old) (λ request files. (name : List ℕ) × (refusal : TextFault)
         × IsRefusedIn files request.sources name refusal × Says (explains words.now) (E.content err.old) (E.content err.new) (refusal_said name refusal)) }
     ensures serve_read { result ≡ 4 → ForServe (asked words.now) (λ request. (name : List ℕ) × IsNamed request.sources name × Blames (Read name) (F.faults shelf.old) (F.faults shelf.new)
-        × Told (F.files shelf.old) (λ files. IsReachedIn files request.sources name) × Says (explains words.now) (E.content err.old) (E.content err.new) (unread_said name)) }
+        × IfTold (F.files shelf.old) (λ files. IsReachedIn files request.sources name) × Says (explains words.now) (E.content err.old) (E.content err.new) (unread_said name)) }
     ensures serve_network { result ≡ 7 → Rose (H.faults harbor.old) (H.faults harbor.new) }
     // at every status: what `out` took is a first part of what the program prints; the doors are those of one history, in
     // which the program stops exactly where it is named to, and each session is sent what it would be sent alone
     ensures serve_part { GivenServe (asked words.now) (F.files shelf.old) (λ request files. (O.content out.new ≡ O.content out.old) ⊎ RunsInPart files request.sources (O.content out.old) (O.content out.new)) }
-    ensures serves { GivenServe (asked words.now) (F.files shelf.old) (λ request files. (end : Outcome) × (result ≡ status_of end) × MayServe files request (C.moment clock.old) (record { content = O.content out.old; faults = O.faults out.old }) (record { content = O.content out.new; faults = O.faults out.new }) (H.kept harbor.old) (H.kept harbor.new) end) }
+    ensures serves { GivenServe (asked words.now) (F.files shelf.old) (λ request files. (end : CommandEnd) × (result ≡ status_of end) × MayServe files request (C.moment clock.old) (record { content = O.content out.old; faults = O.faults out.old }) (record { content = O.content out.new; faults = O.faults out.new }) (H.kept harbor.old) (H.kept harbor.new) end) }
     ensures serve_opened { (result ≡ 0) ⊎ (result ≡ 5) ⊎ (result ≡ 8) ⊎ (result ≡ 10) → ForServe (asked words.now) (λ request. H.opens harbor.new ≡ called (request.port, request.sessions) (H.opens harbor.old)) }
     ensures serve_once { ForServe (asked words.now) (λ request. (H.opens harbor.new ≡ H.opens harbor.old) ⊎ (H.opens harbor.new ≡ called (request.port, request.sessions) (H.opens harbor.old))) }
     ensures serve_dials { ForServe (asked words.now) (λ request. H.dials harbor.new ≡ H.dials harbor.old) }
@@ -160,7 +160,7 @@ where
     ensures send_exact { GivenSend (asked words.now) (F.files shelf.old) (λ request files. (line : ℕ) → RefusesLine files request.commands line
         → (result ≡ 6) ⊎ (result ≡ 1) ⊎ (result ≡ 4)) }
     // at every status: what the link was sent and what `out` took are those of the talk over its answers, or a first part of them
-    ensures sends { GivenSend (asked words.now) (F.files shelf.old) (λ request files. (end : Outcome) × (result ≡ status_of end) × MaySend files request (record { content = O.content out.old; faults = O.faults out.old }) (record { content = O.content out.new; faults = O.faults out.new }) (record { faults = H.faults harbor.old; dials = H.dials harbor.old; hung_up = H.hung_up harbor.old }) (record { faults = H.faults harbor.new; dials = H.dials harbor.new; hung_up = H.hung_up harbor.new }) end) }
+    ensures sends { GivenSend (asked words.now) (F.files shelf.old) (λ request files. (end : CommandEnd) × (result ≡ status_of end) × MaySend files request (record { content = O.content out.old; faults = O.faults out.old }) (record { content = O.content out.new; faults = O.faults out.new }) (record { faults = H.faults harbor.old; dials = H.dials harbor.old; hung_up = H.hung_up harbor.old }) (record { faults = H.faults harbor.new; dials = H.dials harbor.new; hung_up = H.hung_up harbor.new }) end) }
     // the port is dialled once, after the file was read and checked; no port is opened, and no other fault of the harbor is told
     ensures send_undialled { (result ≡ 4) ⊎ (result ≡ 6) → ForSend (asked words.now) (λ request. (out.new ≡ out.old) × (harbor.new ≡ harbor.old)) }
     ensures send_dialled { (result ≡ 0) ⊎ (result ≡ 5) ⊎ (result ≡ 7) ⊎ (result ≡ 9) → ForSend (asked words.now) (λ request. H.dials harbor.new ≡ called request.port (H.dials harbor.old)) }
@@ -170,7 +170,7 @@ where
     ensures send_statuses { ForSend (asked words.now) (λ request. (result ≢ 3) × (result ≢ 8) × (result ≢ 10)) }
     // `drill`: the cause of each status
     ensures drill_done { result ≡ 0 → ForDrill (asked words.now) (λ n. DrillsWhole n (O.content out.old) (O.content out.new)) }
-    ensures drill_refused { result ≡ 3 → ForDrill (asked words.now) (λ n. (refusal : Refusal) × IsRefused [] (drill_source n) refusal
+    ensures drill_refused { result ≡ 3 → ForDrill (asked words.now) (λ n. (refusal : TextFault) × IsRefused [] (drill_source n) refusal
         × Says (explains words.now) (E.content err.old) (E.content err.new) (refusal_said script_name refusal)) }
     ensures drill_offered { result ≡ 5 → ForDrill (asked words.now) (λ n. DrillsShort n (O.content out.old) (O.content out.new)) }
     ensures drill_line { result ≡ 6 → ForDrill (asked words.now) (λ n. (number : ℕ) × DrillRefuses n number
@@ -195,12 +195,12 @@ where
 {
     let mut remains = Remains::new(alloc);
     match read_words(alloc, words) {
-        Err(AllocError) => end(alloc, Outcome::OutOfMemory, err),
+        Err(AllocError) => end(alloc, CommandEnd::OutOfMemory, err),
         Ok(None) => {
             let explains = names_explain(words);
             end_explained(
                 alloc,
-                Outcome::Usage,
+                CommandEnd::Usage,
                 explains,
                 Task::Words(words),
                 remains,

@@ -1,14 +1,14 @@
 //! The command `replay`, from its files to its end.
 
 ghost use Rattle.std.specs.Prelude.{◌≡◌, ◌⊎◌};
-ghost use Rattle.cdp_edge.specs.Outside.{Told};
+ghost use Rattle.cdp_edge.specs.Outside.{IfTold};
 ghost use Rattle.debug_host_options.specs.Held.{replay_held};
 ghost use Rattle.debug_host_commands.specs.ReplayCauses.{BecauseReplay, ReplaysInPart, outcome_of_replay};
 ghost use Rattle.debug_host_commands.specs.RunCauses.{IsUnbegun};
 
 use crate::explaining::Remains;
 use crate::journal::{self, ReplayEnd};
-use crate::outcome::Outcome;
+use crate::outcome::CommandEnd;
 use crate::sources::{Program, read_sources};
 use crate::whole_file::read_whole;
 use cdp_edge::{Shelf, Sink};
@@ -17,14 +17,14 @@ use debug_host_script_files::FileEvidence;
 use std::alloc::Global;
 
 /// The end that the replay of a journal has.
-fn outcome_of_replay(end: ReplayEnd) -> Outcome<'static>
+fn outcome_of_replay(end: ReplayEnd) -> CommandEnd<'static>
     ensures { result ≡ outcome_of_replay end }
 {
     match end {
-        ReplayEnd::Done => Outcome::Done,
-        ReplayEnd::Refused { line } => Outcome::LineRefused(line),
-        ReplayEnd::WriteFault => Outcome::CannotWrite,
-        ReplayEnd::Memory => Outcome::OutOfMemory,
+        ReplayEnd::Done => CommandEnd::Done,
+        ReplayEnd::Refused { line } => CommandEnd::LineRefused(line),
+        ReplayEnd::WriteFault => CommandEnd::CannotWrite,
+        ReplayEnd::Memory => CommandEnd::OutOfMemory,
     }
 }
 
@@ -37,9 +37,9 @@ pub(crate) fn replay<'w, F: Shelf, O: Sink>(
     shelf: &mut F,
     out: &mut O,
     remains: &mut Remains,
-) -> Outcome<'w>
+) -> CommandEnd<'w>
     ensures cause { BecauseReplay result (replay_held request.now) (F.files shelf.old) (F.faults shelf.old) (F.faults shelf.new) (O.faults out.old) (O.faults out.new) (O.content out.old) (O.content out.new) }
-    ensures part { Told (F.files shelf.old) (λ files. (O.content out.new ≡ O.content out.old) ⊎ ReplaysInPart files (replay_held request.now) (O.content out.old) (O.content out.new)) }
+    ensures part { IfTold (F.files shelf.old) (λ files. (O.content out.new ≡ O.content out.old) ⊎ ReplaysInPart files (replay_held request.now) (O.content out.old) (O.content out.new)) }
     ensures unbegun { IsUnbegun result → out.new ≡ out.old }
 {
     let journal = match read_whole(alloc, request.journal, shelf, &mut remains.evidence) {

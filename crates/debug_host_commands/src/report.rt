@@ -3,66 +3,66 @@
 ghost use Rattle.std.specs.Prelude.{◌≡◌, ◌≢◌, [], true, Bool, IfOk, string_bytes};
 ghost use Rattle.cdp_edge.specs.Outside.{GainsPrefix, gains};
 ghost use Rattle.debug_host_commands.specs.Status.{Says, closed_said, line_said, refusal_said, said, status_of, uncaught_said, unread_said};
-ghost use Rattle.debug_host_script_files.specs.declared.fault.Refusal.TheVariants.{UnexpectedToken, TooLong};
+ghost use Rattle.debug_host_script_files.specs.declared.fault.TextFault.TheVariants.{UnexpectedToken, TooLong};
 
 use crate::explaining::{Remains, Task, lines_of};
-use crate::outcome::Outcome;
+use crate::outcome::CommandEnd;
 use cdp_edge::{Sink, put};
 use cdp_text::position::Pos;
-use debug_host_script_files::Refusal;
+use debug_host_script_files::TextFault;
 use std::alloc::{AllocError, Global};
 
 /// The exit status of an end.
-fn status_of(outcome: &Outcome<'_>) -> u8
+fn status_of(outcome: &CommandEnd<'_>) -> u8
     ensures { result ≡ status_of outcome.now }
 {
     match outcome {
-        Outcome::Done => 0,
-        Outcome::OutOfMemory => 1,
-        Outcome::Usage => 2,
-        Outcome::Refused(_, _) => 3,
-        Outcome::CannotRead(_) => 4,
-        Outcome::CannotWrite => 5,
-        Outcome::LineRefused(_) => 6,
-        Outcome::NetworkFault => 7,
-        Outcome::Threw(_) | Outcome::ThrewUnshown => 8,
-        Outcome::PeerClosed(_) => 9,
-        Outcome::TicketsSpent => 10,
+        CommandEnd::Done => 0,
+        CommandEnd::OutOfMemory => 1,
+        CommandEnd::Usage => 2,
+        CommandEnd::Refused(_, _) => 3,
+        CommandEnd::CannotRead(_) => 4,
+        CommandEnd::CannotWrite => 5,
+        CommandEnd::LineRefused(_) => 6,
+        CommandEnd::NetworkFault => 7,
+        CommandEnd::Threw(_) | CommandEnd::ThrewUnshown => 8,
+        CommandEnd::PeerClosed(_) => 9,
+        CommandEnd::TicketsSpent => 10,
     }
 }
 
 /// Tells of an end on `err`, as far as memory and the sink allow, and answers whether a line was told whole. What they do
 /// changes nothing else.
 #[tactic(auto, using(crate::proofs::ReplayLemmas::untouched))]
-fn report<E: Sink>(alloc: Global, outcome: Outcome<'_>, err: &mut E) -> bool
+fn report<E: Sink>(alloc: Global, outcome: CommandEnd<'_>, err: &mut E) -> bool
     ensures part { GainsPrefix (E.content err.old) (E.content err.new) (said outcome.entry) }
     ensures whole { result ≡ true → E.content err.new ≡ gains (E.content err.old) (said outcome.entry) }
     ensures some { result ≡ true → said outcome.entry ≢ [] }
 {
     match outcome {
-        Outcome::Done | Outcome::ThrewUnshown => false,
-        Outcome::OutOfMemory => say(err, "debug_host: out of memory\n"),
-        Outcome::Usage => say(err, "usage: debug_host run/replay/serve/send/drill\n"),
-        Outcome::CannotWrite => say(err, "debug_host: cannot write\n"),
-        Outcome::NetworkFault => say(err, "debug_host: network fault\n"),
-        Outcome::TicketsSpent => say(err, "debug_host: tickets spent\n"),
-        Outcome::Refused(name, refusal) => match refusal_text(alloc, name, refusal) {
+        CommandEnd::Done | CommandEnd::ThrewUnshown => false,
+        CommandEnd::OutOfMemory => say(err, "debug_host: out of memory\n"),
+        CommandEnd::Usage => say(err, "usage: debug_host run/replay/serve/send/drill\n"),
+        CommandEnd::CannotWrite => say(err, "debug_host: cannot write\n"),
+        CommandEnd::NetworkFault => say(err, "debug_host: network fault\n"),
+        CommandEnd::TicketsSpent => say(err, "debug_host: tickets spent\n"),
+        CommandEnd::Refused(name, refusal) => match refusal_text(alloc, name, refusal) {
             Ok(text) => say(err, &text),
             Err(AllocError) => false,
         },
-        Outcome::CannotRead(name) => match unread_text(alloc, name) {
+        CommandEnd::CannotRead(name) => match unread_text(alloc, name) {
             Ok(text) => say(err, &text),
             Err(AllocError) => false,
         },
-        Outcome::LineRefused(number) => match line_text(alloc, number) {
+        CommandEnd::LineRefused(number) => match line_text(alloc, number) {
             Ok(text) => say(err, &text),
             Err(AllocError) => false,
         },
-        Outcome::PeerClosed(replies) => match closed_text(alloc, replies) {
+        CommandEnd::PeerClosed(replies) => match closed_text(alloc, replies) {
             Ok(text) => say(err, &text),
             Err(AllocError) => false,
         },
-        Outcome::Threw(value) => match uncaught_text(alloc, &value) {
+        CommandEnd::Threw(value) => match uncaught_text(alloc, &value) {
             Ok(text) => say(err, &text),
             Err(AllocError) => false,
         },
@@ -79,7 +79,7 @@ fn say<E: Sink>(err: &mut E, lines: &str) -> bool
 
 /// Tells of an end, and answers its status.
 #[tactic(auto, using(crate::proofs::ReportLemmas::said))]
-pub(crate) fn end<E: Sink>(alloc: Global, outcome: Outcome<'_>, err: &mut E) -> u8
+pub(crate) fn end<E: Sink>(alloc: Global, outcome: CommandEnd<'_>, err: &mut E) -> u8
     ensures status { result ≡ status_of outcome.entry }
     ensures says { (explains : Bool) → Says explains (E.content err.old) (E.content err.new) (said outcome.entry) }
 {
@@ -91,7 +91,7 @@ pub(crate) fn end<E: Sink>(alloc: Global, outcome: Outcome<'_>, err: &mut E) -> 
 /// Tells of an end, explains it if that is asked for, and answers its status.
 pub(crate) fn end_explained<E: Sink>(
     alloc: Global,
-    outcome: Outcome<'_>,
+    outcome: CommandEnd<'_>,
     explains: bool,
     task: Task<'_>,
     remains: Remains,
@@ -112,7 +112,7 @@ pub(crate) fn end_explained<E: Sink>(
 #[tactic(auto, using(crate::proofs::ReportLemmas::said))]
 fn explain<E: Sink>(
     alloc: Global,
-    outcome: Outcome<'_>,
+    outcome: CommandEnd<'_>,
     task: Task<'_>,
     remains: Remains,
     err: &mut E,
@@ -128,15 +128,15 @@ fn explain<E: Sink>(
 }
 
 /// The line of a file that is refused.
-fn refusal_text(alloc: Global, name: &str, refusal: Refusal) -> Result<String, AllocError>
+fn refusal_text(alloc: Global, name: &str, refusal: TextFault) -> Result<String, AllocError>
     ensures { IfOk result (λ text. string_bytes text ≡ refusal_said name.now refusal) }
 {
     match refusal {
-        Refusal::NotUtf8 => format!(in alloc; "debug_host: {name}: not UTF-8\n"),
-        Refusal::UnexpectedToken(at) => unexpected_text(alloc, name, at),
-        Refusal::TooLong(units) => long_text(alloc, name, units),
-        Refusal::TooDeep => format!(in alloc; "debug_host: {name}: too deep\n"),
-        Refusal::TooManyTokens => format!(in alloc; "debug_host: {name}: too many tokens\n"),
+        TextFault::NotUtf8 => format!(in alloc; "debug_host: {name}: not UTF-8\n"),
+        TextFault::UnexpectedToken(at) => unexpected_text(alloc, name, at),
+        TextFault::TooLong(units) => long_text(alloc, name, units),
+        TextFault::TooDeep => format!(in alloc; "debug_host: {name}: too deep\n"),
+        TextFault::TooManyTokens => format!(in alloc; "debug_host: {name}: too many tokens\n"),
     }
 }
 

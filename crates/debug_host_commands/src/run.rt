@@ -1,30 +1,30 @@
 //! The command `run`, from its files to its end.
 
 ghost use Rattle.std.specs.Prelude.{◌≡◌, ◌⊎◌};
-ghost use Rattle.cdp_edge.specs.Outside.{Told};
+ghost use Rattle.cdp_edge.specs.Outside.{IfTold};
 ghost use Rattle.debug_host_options.specs.Held.{run_held};
 ghost use Rattle.debug_host_commands.specs.RunCauses.{BecauseRun, IsUnbegun, RunsInPart, outcome_of_run};
 
 use crate::explaining::Remains;
-use crate::outcome::Outcome;
+use crate::outcome::CommandEnd;
 use crate::sources::{Program, read_sources};
 use crate::throwing::{copy_if, note_throw};
 use cdp_edge::{Shelf, Sink};
 use debug_host_options::RunWords;
-use debug_host_plain_runs::end::RunEnd;
+use debug_host_plain_runs::end::PlainRunEnd;
 use debug_host_plain_runs::run::run_scripts;
 use std::alloc::Global;
 use std::sync::Wait;
 
 /// The end that a run of scripts has.
-fn outcome_of_run(end: RunEnd) -> Outcome<'static>
+fn outcome_of_run(end: PlainRunEnd) -> CommandEnd<'static>
     ensures { result ≡ outcome_of_run end }
 {
     match end {
-        RunEnd::Ended => Outcome::Done,
-        RunEnd::Threw(text) => Outcome::Threw(text),
-        RunEnd::CannotWrite => Outcome::CannotWrite,
-        RunEnd::Memory => Outcome::OutOfMemory,
+        PlainRunEnd::Ended => CommandEnd::Done,
+        PlainRunEnd::Threw(text) => CommandEnd::Threw(text),
+        PlainRunEnd::CannotWrite => CommandEnd::CannotWrite,
+        PlainRunEnd::Memory => CommandEnd::OutOfMemory,
     }
 }
 
@@ -38,9 +38,9 @@ pub(crate) fn run<'w, R: Wait, F: Shelf, O: Sink>(
     shelf: &mut F,
     out: &mut O,
     remains: &mut Remains,
-) -> Outcome<'w>
+) -> CommandEnd<'w>
     ensures cause { BecauseRun result ((run_held request.now).sources) (F.files shelf.old) (F.faults shelf.old) (F.faults shelf.new) (O.faults out.old) (O.faults out.new) (O.content out.old) (O.content out.new) }
-    ensures part { Told (F.files shelf.old) (λ files. (O.content out.new ≡ O.content out.old) ⊎ RunsInPart files ((run_held request.now).sources) (O.content out.old) (O.content out.new)) }
+    ensures part { IfTold (F.files shelf.old) (λ files. (O.content out.new ≡ O.content out.old) ⊎ RunsInPart files ((run_held request.now).sources) (O.content out.old) (O.content out.new)) }
     ensures unbegun { IsUnbegun result → out.new ≡ out.old }
 {
     match read_sources(alloc, &request.sources, shelf, &mut remains.evidence) {

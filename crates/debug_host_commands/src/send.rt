@@ -1,14 +1,14 @@
 //! The command `send`, from its file of commands to its end.
 
 ghost use Rattle.std.specs.Prelude.{◌≡◌, ◌⊎◌, ◌≤◌, IfOk, IfErr, Some};
-ghost use Rattle.cdp_edge.specs.Outside.{Told, content_of};
+ghost use Rattle.cdp_edge.specs.Outside.{IfTold, content_of};
 ghost use Rattle.cdp_client.specs.Lines.{IsInForm};
 ghost use Rattle.cdp_edge_server.specs.Contents.{IsUnused, called};
 ghost use Rattle.debug_host_options.specs.Held.{send_held};
 ghost use Rattle.debug_host_commands.specs.SendCauses.{BecauseCommands, BecauseSend, IsUndialled, MaySend, Speaks, outcome_of_talk};
 
 use crate::explaining::Remains;
-use crate::outcome::Outcome;
+use crate::outcome::CommandEnd;
 use crate::whole_file::read_whole;
 use cdp_client::{Conversed, check_file, converse};
 use cdp_edge::{Shelf, Sink};
@@ -19,16 +19,16 @@ use std::alloc::Global;
 use std::sync::Wait;
 
 /// The end that a conversation has.
-fn outcome_of_talk(end: Conversed) -> Outcome<'static>
+fn outcome_of_talk(end: Conversed) -> CommandEnd<'static>
     ensures { result ≡ outcome_of_talk end }
 {
     match end {
-        Conversed::Done => Outcome::Done,
-        Conversed::Refused { line } => Outcome::LineRefused(line),
-        Conversed::PeerClosed { replies } => Outcome::PeerClosed(replies),
-        Conversed::LinkFault => Outcome::NetworkFault,
-        Conversed::WriteFault => Outcome::CannotWrite,
-        Conversed::Memory => Outcome::OutOfMemory,
+        Conversed::Done => CommandEnd::Done,
+        Conversed::Refused { line } => CommandEnd::LineRefused(line),
+        Conversed::PeerClosed { replies } => CommandEnd::PeerClosed(replies),
+        Conversed::LinkFault => CommandEnd::NetworkFault,
+        Conversed::WriteFault => CommandEnd::CannotWrite,
+        Conversed::Memory => CommandEnd::OutOfMemory,
     }
 }
 
@@ -38,8 +38,8 @@ fn read_commands<'w, F: Shelf>(
     name: &'w str,
     shelf: &mut F,
     evidence: &mut Evidence,
-) -> Result<Vec<u8>, Outcome<'w>>
-    ensures content { IfOk result (λ bytes. Told (F.files shelf.old) (λ files. content_of name.now files ≡ Some bytes.items)) }
+) -> Result<Vec<u8>, CommandEnd<'w>>
+    ensures content { IfOk result (λ bytes. IfTold (F.files shelf.old) (λ files. content_of name.now files ≡ Some bytes.items)) }
     ensures form { IfOk result (λ bytes. IsInForm bytes.items) }
     ensures quiet { IfOk result (λ bytes. F.faults shelf.new ≡ F.faults shelf.old) }
     ensures fault { IfErr result (λ end. BecauseCommands end name.now (F.files shelf.old) (F.faults shelf.old) (F.faults shelf.new)) }
@@ -72,7 +72,7 @@ fn speak<R: Wait, O: Sink, H: Harbor>(
       sent = H.Link.sent link;
       closed = H.Link.closed link;
     }) }
-    requires out { Told (H.links_out harbor.old) (λ out. 1 ≤ out) }
+    requires out { IfTold (H.links_out harbor.old) (λ out. 1 ≤ out) }
     ensures speaks { Speaks commands.now result (record { content = O.content out.old; faults = O.faults out.old }) (record { content = O.content out.new; faults = O.faults out.new }) (record { faults = H.faults harbor.old; dials = H.dials harbor.old; hung_up = H.hung_up harbor.old }) (record { faults = H.faults harbor.new; dials = H.dials harbor.new; hung_up = H.hung_up harbor.new }) }
     ensures dials { H.dials harbor.new ≡ H.dials harbor.old }
     ensures opens { H.opens harbor.new ≡ H.opens harbor.old }
@@ -93,9 +93,9 @@ pub(crate) fn send<'w, R: Wait, F: Shelf, O: Sink, H: Harbor>(
     out: &mut O,
     harbor: &mut H,
     remains: &mut Remains,
-) -> Outcome<'w>
+) -> CommandEnd<'w>
     ensures cause { BecauseSend result (send_held request.entry) (F.files shelf.old) (F.faults shelf.old) (F.faults shelf.new) (record { content = O.content out.old; faults = O.faults out.old }) (record { content = O.content out.new; faults = O.faults out.new }) (record { faults = H.faults harbor.old; dials = H.dials harbor.old; hung_up = H.hung_up harbor.old }) (record { faults = H.faults harbor.new; dials = H.dials harbor.new; hung_up = H.hung_up harbor.new }) }
-    ensures part { Told (F.files shelf.old) (λ files. MaySend files (send_held request.entry) (record { content = O.content out.old; faults = O.faults out.old }) (record { content = O.content out.new; faults = O.faults out.new }) (record { faults = H.faults harbor.old; dials = H.dials harbor.old; hung_up = H.hung_up harbor.old }) (record { faults = H.faults harbor.new; dials = H.dials harbor.new; hung_up = H.hung_up harbor.new }) result) }
+    ensures part { IfTold (F.files shelf.old) (λ files. MaySend files (send_held request.entry) (record { content = O.content out.old; faults = O.faults out.old }) (record { content = O.content out.new; faults = O.faults out.new }) (record { faults = H.faults harbor.old; dials = H.dials harbor.old; hung_up = H.hung_up harbor.old }) (record { faults = H.faults harbor.new; dials = H.dials harbor.new; hung_up = H.hung_up harbor.new }) result) }
     ensures undialled { IsUndialled result → (out.new ≡ out.old) × (harbor.new ≡ harbor.old) }
     ensures once { (H.dials harbor.new ≡ H.dials harbor.old) ⊎ (H.dials harbor.new ≡ called request.entry.port (H.dials harbor.old)) }
     ensures opens { H.opens harbor.new ≡ H.opens harbor.old }
@@ -106,7 +106,7 @@ pub(crate) fn send<'w, R: Wait, F: Shelf, O: Sink, H: Harbor>(
     };
     match harbor.dial(request.port) {
         Ok(link) => outcome_of_talk(speak(rt, alloc, link, &commands, out, harbor)),
-        Err(HarborFault::Failed) => Outcome::NetworkFault,
-        Err(HarborFault::Memory) => Outcome::OutOfMemory,
+        Err(HarborFault::Failed) => CommandEnd::NetworkFault,
+        Err(HarborFault::Memory) => CommandEnd::OutOfMemory,
     }
 }

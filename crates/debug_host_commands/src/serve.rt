@@ -2,18 +2,18 @@
 
 ghost use Rattle.std.specs.Prelude.{◌≡◌, ◌⊎◌, ◌+◌, ◌<◌, ◌≤◌, [], length, IfOk, false};
 ghost use Rattle.cdp_host_isolation.specs.Makers.{entries_of};
-ghost use Rattle.cdp_edge.specs.Outside.{Told};
+ghost use Rattle.cdp_edge.specs.Outside.{IfTold};
 ghost use Rattle.history_lock.specs.Passes.{initial_pass, initial_passes};
 ghost use Rattle.cdp_edge_server.specs.Contents.{called};
 ghost use Rattle.cdp_host.specs.Histories.{whole};
-ghost use Rattle.cdp_host.specs.Hosts.{Stands};
+ghost use Rattle.cdp_host.specs.Hosts.{StandsFor};
 ghost use Rattle.ws_service.specs.Joins.{AnswersForAll};
 ghost use Rattle.debug_host_options.specs.Held.{serve_held};
 ghost use Rattle.debug_host_commands.specs.RunCauses.{IsUnbegun};
 ghost use Rattle.debug_host_commands.specs.ServeCauses.{BecauseServe, BecauseServed, IsUnserved, MayServe, ServesPort, ShowsThrow, clients_of, or_doors, outcome_of_serving, unopened};
 
 use crate::explaining::Remains;
-use crate::outcome::Outcome;
+use crate::outcome::CommandEnd;
 use crate::sources::{Program, read_sources};
 use crate::throwing::{copy_if, note_throw};
 use cdp_edge::{Shelf, Sink};
@@ -32,26 +32,26 @@ use std::thread::Threads;
 use ws_service::{Clients, DoorsEnd, Ends, RunEnd, serve_port};
 
 /// The end that the doors decide, or else this one.
-fn or_doors(end: Option<Outcome<'static>>, doors: DoorsEnd) -> Option<Outcome<'static>>
+fn or_doors(end: Option<CommandEnd<'static>>, doors: DoorsEnd) -> Option<CommandEnd<'static>>
     ensures { result ≡ or_doors end.entry doors }
 {
     match doors {
         DoorsEnd::Over => end,
-        DoorsEnd::Failed => Some(Outcome::NetworkFault),
-        DoorsEnd::Spent => Some(Outcome::TicketsSpent),
+        DoorsEnd::Failed => Some(CommandEnd::NetworkFault),
+        DoorsEnd::Spent => Some(CommandEnd::TicketsSpent),
     }
 }
 
 /// The end that the program and the doors decide; none where the program ended by a throw, whose value is to be shown.
-fn outcome_of_serving(run: RunEnd, doors: DoorsEnd) -> Option<Outcome<'static>>
+fn outcome_of_serving(run: RunEnd, doors: DoorsEnd) -> Option<CommandEnd<'static>>
     ensures { result ≡ outcome_of_serving run doors }
 {
     match run {
-        RunEnd::Broken | RunEnd::Memory { .. } => Some(Outcome::OutOfMemory),
-        RunEnd::WriteFault { .. } => Some(Outcome::CannotWrite),
-        RunEnd::Shut => Some(Outcome::NetworkFault),
-        RunEnd::Spent { .. } => or_doors(Some(Outcome::TicketsSpent), doors),
-        RunEnd::Ended => or_doors(Some(Outcome::Done), doors),
+        RunEnd::Broken | RunEnd::Memory { .. } => Some(CommandEnd::OutOfMemory),
+        RunEnd::WriteFault { .. } => Some(CommandEnd::CannotWrite),
+        RunEnd::Shut => Some(CommandEnd::NetworkFault),
+        RunEnd::Spent { .. } => or_doors(Some(CommandEnd::TicketsSpent), doors),
+        RunEnd::Ended => or_doors(Some(CommandEnd::Done), doors),
         RunEnd::Threw => or_doors(None, doors),
     }
 }
@@ -71,7 +71,7 @@ fn open_lock<'p, B: Beginning>(
     sessions: usize,
 ) -> Result<Opened<'p, B>, AllocError>
     requires sessions { sessions ≤ 16 }
-    requires stands { Stands B.scripts B.input B.wait host [] }
+    requires stands { StandsFor B.scripts B.input B.wait host [] }
     ensures pass { IfOk result (λ o. o.pass ≡ initial_pass o.lock (sessions + 1) sessions) }
     ensures doors { IfOk result (λ o. o.doors.items ≡ initial_passes o.lock (sessions + 1) sessions) }
 {
@@ -87,22 +87,22 @@ fn thrown<'p, B: Beginning, R: Wait>(
     rt: &R,
     lock: &Lock<Host<'p>, B>,
     p: &mut Worker<Host<'p>, B>,
-) -> Outcome<'static>
+) -> CommandEnd<'static>
     requires lock { p.old.lock ≡ lock.now }
     requires free { p.old.in_turn ≡ false }
     requires all { AnswersForAll p.old }
     ensures { ShowsThrow result (whole B.scripts B.input B.wait (entries_of p.old.seen)).program }
 {
     let Ok(mut turn) = lock.enter(rt, p) else {
-        return Outcome::TicketsSpent;
+        return CommandEnd::TicketsSpent;
     };
     let host = turn.state();
     <Host<'p> as Hosted<B>>::state(host);
     let text = host.uncaught_text();
     lock.leave(p, turn, &Entry::take(0));
     match text {
-        Ok(Some(text)) => Outcome::Threw(text),
-        Ok(None) | Err(AllocError) => Outcome::ThrewUnshown,
+        Ok(Some(text)) => CommandEnd::Threw(text),
+        Ok(None) | Err(AllocError) => CommandEnd::ThrewUnshown,
     }
 }
 
@@ -118,13 +118,13 @@ fn clients_of(devtools: bool) -> Clients
 }
 
 /// The end of a port whose doors weren't opened.
-fn unopened(fault: HarborFault) -> Outcome<'static>
+fn unopened(fault: HarborFault) -> CommandEnd<'static>
     ensures is { result ≡ unopened fault }
     ensures unserved { IsUnserved result }
 {
     match fault {
-        HarborFault::Failed => Outcome::NetworkFault,
-        HarborFault::Memory => Outcome::OutOfMemory,
+        HarborFault::Failed => CommandEnd::NetworkFault,
+        HarborFault::Memory => CommandEnd::OutOfMemory,
     }
 }
 
@@ -145,7 +145,7 @@ fn serve_host<
     out: &mut O,
     harbor: &mut P,
     clock: &mut C,
-) -> Outcome<'static>
+) -> CommandEnd<'static>
 where
     P::Bell: Sync,
     P::Door: Send,
@@ -189,7 +189,7 @@ fn serve_program<
     out: &mut O,
     harbor: &mut P,
     clock: &mut C,
-) -> Outcome<'static>
+) -> CommandEnd<'static>
 where
     P::Bell: Sync,
     P::Door: Send,
@@ -204,10 +204,10 @@ where
     ensures dials { P.dials harbor.new ≡ P.dials harbor.old }
 {
     let Ok(host) = Host::start(alloc, scripts, input, wait) else {
-        return Outcome::OutOfMemory;
+        return CommandEnd::OutOfMemory;
     };
     let Ok(opened) = open_lock::<B>(alloc, host, sessions) else {
-        return Outcome::OutOfMemory;
+        return CommandEnd::OutOfMemory;
     };
     serve_host(rt, alloc, opened, clients, port, out, harbor, clock)
 }
@@ -231,13 +231,13 @@ pub(crate) fn serve<
     harbor: &mut P,
     clock: &mut C,
     remains: &mut Remains,
-) -> Outcome<'w>
+) -> CommandEnd<'w>
 where
     P::Bell: Sync,
     P::Door: Send,
     <P::Door as Door>::Link: Send,
     ensures cause { BecauseServe result (serve_held request.now) (F.files shelf.old) (F.faults shelf.old) (F.faults shelf.new) (record { content = O.content out.old; faults = O.faults out.old }) (record { content = O.content out.new; faults = O.faults out.new }) (record { faults = P.faults harbor.old; opens = P.opens harbor.old; kept = P.kept harbor.old }) (record { faults = P.faults harbor.new; opens = P.opens harbor.new; kept = P.kept harbor.new }) }
-    ensures part { Told (F.files shelf.old) (λ files. MayServe files (serve_held request.now) (C.moment clock.old) (record { content = O.content out.old; faults = O.faults out.old }) (record { content = O.content out.new; faults = O.faults out.new }) (P.kept harbor.old) (P.kept harbor.new) result) }
+    ensures part { IfTold (F.files shelf.old) (λ files. MayServe files (serve_held request.now) (C.moment clock.old) (record { content = O.content out.old; faults = O.faults out.old }) (record { content = O.content out.new; faults = O.faults out.new }) (P.kept harbor.old) (P.kept harbor.new) result) }
     ensures unbegun { IsUnbegun result → out.new ≡ out.old }
     ensures once { (P.opens harbor.new ≡ P.opens harbor.old) ⊎ (P.opens harbor.new ≡ called ((serve_held request.now).port, (serve_held request.now).sessions) (P.opens harbor.old)) }
     ensures dials { P.dials harbor.new ≡ P.dials harbor.old }

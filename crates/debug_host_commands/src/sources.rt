@@ -1,12 +1,12 @@
 //! The scripts and the input of a program, from their files.
 
 ghost use Rattle.std.specs.Prelude.{◌≡◌, IfOk, IfErr};
-ghost use Rattle.cdp_edge.specs.Outside.{Told};
+ghost use Rattle.cdp_edge.specs.Outside.{IfTold};
 ghost use Rattle.debug_host_commands.specs.Files.{HoldsLines, HoldsSources};
 ghost use Rattle.debug_host_options.specs.Held.{text_held, sources_held};
 ghost use Rattle.debug_host_commands.specs.RunCauses.{BecauseInput, BecauseSources, outcome_of};
 
-use crate::outcome::Outcome;
+use crate::outcome::CommandEnd;
 use cdp_edge::Shelf;
 use cdp_text::units::Units;
 use debug_host_options::Sources;
@@ -23,13 +23,13 @@ pub(crate) struct Program {
 }
 
 /// The end that the fault of a file of this name is.
-pub(crate) fn outcome_of(name: &str, fault: FileFault) -> Outcome<'_>
+pub(crate) fn outcome_of(name: &str, fault: FileFault) -> CommandEnd<'_>
     ensures { result ≡ outcome_of name.entry fault }
 {
     match fault {
-        FileFault::CannotRead => Outcome::CannotRead(name),
-        FileFault::Refused(refusal) => Outcome::Refused(name, refusal),
-        FileFault::Memory => Outcome::OutOfMemory,
+        FileFault::CannotRead => CommandEnd::CannotRead(name),
+        FileFault::Refused(refusal) => CommandEnd::Refused(name, refusal),
+        FileFault::Memory => CommandEnd::OutOfMemory,
     }
 }
 
@@ -39,8 +39,8 @@ fn read_lines<'w, F: Shelf>(
     input: Option<&'w str>,
     shelf: &mut F,
     evidence: &mut Evidence,
-) -> Result<VecDeque<Units>, Outcome<'w>>
-    ensures lines { IfOk result (λ lines. Told (F.files shelf.old) (λ files. HoldsLines files (text_held input.entry) lines.items)) }
+) -> Result<VecDeque<Units>, CommandEnd<'w>>
+    ensures lines { IfOk result (λ lines. IfTold (F.files shelf.old) (λ files. HoldsLines files (text_held input.entry) lines.items)) }
     ensures quiet { IfOk result (λ lines. F.faults shelf.new ≡ F.faults shelf.old) }
     ensures fault { IfErr result (λ end. BecauseInput end (text_held input.entry) (F.files shelf.old) (F.faults shelf.old) (F.faults shelf.new)) }
     ensures files { F.files shelf.new ≡ F.files shelf.old }
@@ -65,8 +65,8 @@ pub(crate) fn read_sources<'w, F: Shelf>(
     sources: &Sources<'w>,
     shelf: &mut F,
     evidence: &mut Evidence,
-) -> Result<Program, Outcome<'w>>
-    ensures holds { IfOk result (λ p. Told (F.files shelf.old) (λ files. HoldsSources files (sources_held sources.now) p.scripts.items p.input.items)) }
+) -> Result<Program, CommandEnd<'w>>
+    ensures holds { IfOk result (λ p. IfTold (F.files shelf.old) (λ files. HoldsSources files (sources_held sources.now) p.scripts.items p.input.items)) }
     ensures quiet { IfOk result (λ p. F.faults shelf.new ≡ F.faults shelf.old) }
     ensures fault { IfErr result (λ end. BecauseSources end (sources_held sources.now) (F.files shelf.old) (F.faults shelf.old) (F.faults shelf.new)) }
     ensures files { F.files shelf.new ≡ F.files shelf.old }

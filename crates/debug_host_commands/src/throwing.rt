@@ -1,7 +1,7 @@
 //! Where an uncaught throw came from.
 
 use crate::explaining::Remains;
-use crate::outcome::Outcome;
+use crate::outcome::CommandEnd;
 use cdp_host::{Host, State};
 use cdp_text::position::Pos;
 use cdp_text::units::Units;
@@ -48,12 +48,12 @@ fn copy_of(alloc: Global, input: &VecDeque<Units>) -> Result<VecDeque<Units>, Al
 /// Notes where an uncaught throw came from, if a program with this kept input ended so, as far as memory allows.
 pub(crate) fn note_throw(
     alloc: Global,
-    end: &Outcome<'_>,
+    end: &CommandEnd<'_>,
     scripts: &[Script],
     input: Option<VecDeque<Units>>,
     remains: &mut Remains,
 ) {
-    let (Outcome::Threw(_), Some(input)) = (end, input) else {
+    let (CommandEnd::Threw(_), Some(input)) = (end, input) else {
         return;
     };
     if let Ok(calls) = calls_at_throw(alloc, scripts, input) {

@@ -4,7 +4,7 @@ use std::alloc::{AllocError, Global};
 
 /// What ended a command that uses a port.
 #[derive(Clone, Copy)]
-pub enum LinkFault {
+pub enum PortFault {
     /// A server couldn't open this port, or one of its doors failed later.
     Serving { port: u16 },
     /// A client couldn't dial this port, or its link failed.
@@ -18,15 +18,15 @@ pub enum LinkFault {
 /// # Errors
 ///
 /// There is no memory for the line.
-pub fn link_lines(alloc: Global, fault: LinkFault) -> Result<String, AllocError> {
+pub fn link_lines(alloc: Global, fault: PortFault) -> Result<String, AllocError> {
     match fault {
-        LinkFault::Serving { port } => format!(in alloc;
+        PortFault::Serving { port } => format!(in alloc;
             "  port {port} of 127.0.0.1 can't be served: where another program has it, '--port P' names another\n"
         ),
-        LinkFault::Dialling { port } => format!(in alloc;
+        PortFault::Dialling { port } => format!(in alloc;
             "  no host answers at port {port} of 127.0.0.1, or the link to it broke: 'debug_host serve --port {port} SCRIPT...' starts one\n"
         ),
-        LinkFault::Closed => String::from_str(
+        PortFault::Closed => String::from_str(
             alloc,
             "  a host closes once its program has ended: 'debug_host serve --wait' lets none begin before a client says so\n",
         ),

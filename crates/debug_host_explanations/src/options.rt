@@ -3,7 +3,7 @@
 use crate::word_fault::WordFault;
 use cdp_text::decimal::read_decimal;
 use cdp_text::parts::{behind, halves};
-use debug_host_options::{Command, OptionName, has_option, has_value, option_named};
+use debug_host_options::{OptionName, Subcommand, has_option, has_value, option_named};
 
 /// The greatest port.
 const MOST_PORT: u64 = 65_535;
@@ -89,7 +89,7 @@ pub(crate) fn name_of(option: OptionName) -> &'static str {
 ///
 /// Why it can't stand there.
 pub(crate) fn read_word<'w>(
-    command: Command,
+    command: Subcommand,
     before: &[String],
     read: Read,
     word: &'w str,
@@ -119,7 +119,7 @@ fn is_dashed(word: &str) -> bool {
 
 /// Reads an option behind these words.
 fn read_option<'w>(
-    command: Command,
+    command: Subcommand,
     before: &[String],
     read: Read,
     word: &'w str,
@@ -149,7 +149,7 @@ fn read_option<'w>(
 }
 
 /// Why a word that begins with one `-` is no option.
-fn short_fault(command: Command, word: &str) -> WordFault<'_> {
+fn short_fault(command: Subcommand, word: &str) -> WordFault<'_> {
     if word == "-h" {
         WordFault::Help(word)
     } else {
@@ -158,7 +158,7 @@ fn short_fault(command: Command, word: &str) -> WordFault<'_> {
 }
 
 /// Why a word that begins with `--` is no option.
-fn unknown_fault(command: Command, word: &str) -> WordFault<'_> {
+fn unknown_fault(command: Subcommand, word: &str) -> WordFault<'_> {
     if word == "--help" {
         WordFault::Help(word)
     } else if word == "--version" {
@@ -169,7 +169,7 @@ fn unknown_fault(command: Command, word: &str) -> WordFault<'_> {
 }
 
 /// The option of this name, where the command has it.
-fn option_of(command: Command, name: &str) -> Option<OptionName> {
+fn option_of(command: Subcommand, name: &str) -> Option<OptionName> {
     let option = option_named(name)?;
     if has_option(command, option) {
         Some(option)

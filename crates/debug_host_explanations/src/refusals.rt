@@ -18,7 +18,7 @@ const MOST_DEPTH: usize = 200;
 
 /// How a file was refused, as a script or as input.
 #[derive(Clone, Copy)]
-pub enum Refused {
+pub enum FileRefusal {
     /// Its bytes aren't UTF-8.
     NotUtf8,
     /// What stands at this position doesn't go on with a script.
@@ -41,24 +41,24 @@ pub fn refusal_lines(
     alloc: Global,
     files: &[KeptFile],
     others: usize,
-    refused: Refused,
+    refused: FileRefusal,
 ) -> Result<String, AllocError> {
     let Some((file, before)) = files.split_last() else {
         return Ok(String::new(alloc));
     };
     let name = Cut::none(&file.name);
     match refused {
-        Refused::NotUtf8 => byte_line(alloc, file),
-        Refused::UnexpectedToken(at) => {
+        FileRefusal::NotUtf8 => byte_line(alloc, file),
+        FileRefusal::UnexpectedToken(at) => {
             place_lines(alloc, file, before.get(others..).unwrap_or(&[]), at)
         }
-        Refused::TooLong => {
+        FileRefusal::TooLong => {
             format!(in alloc; "  {name}: a script has at most {MOST_UNITS} UTF-16 units\n")
         }
-        Refused::TooDeep => format!(in alloc;
+        FileRefusal::TooDeep => format!(in alloc;
             "  {name}: statements, expressions and methods stand at most {MOST_DEPTH} deep in one another\n"
         ),
-        Refused::TooManyTokens => {
+        FileRefusal::TooManyTokens => {
             format!(in alloc; "  {name}: a script has at most {MOST_TOKENS} tokens\n")
         }
     }

@@ -1,7 +1,7 @@
 //! Why a word is wrong, as a text.
 
 use crate::shown::{Cut, Quoted};
-use debug_host_options::Command;
+use debug_host_options::Subcommand;
 use std::fmt;
 
 /// Why a word is wrong, or one is missing.
@@ -16,9 +16,9 @@ pub(crate) enum WordFault<'w> {
     /// `--version` doesn't stand alone.
     Version,
     /// The command has no such option.
-    NoOption(Command, &'w str),
+    NoOption(Subcommand, &'w str),
     /// The word begins with one `-`.
-    Short(Command, &'w str),
+    Short(Subcommand, &'w str),
     /// The option of this name has a value, and takes none.
     NoValue(&'w str),
     /// The option of this name is given twice.
@@ -37,7 +37,7 @@ pub(crate) enum WordFault<'w> {
         text: &'w str,
     },
     /// The command has no script.
-    NoScript(Command),
+    NoScript(Subcommand),
     /// `replay` has no journal.
     NoJournal,
     /// `replay` has a journal and no script.
@@ -123,12 +123,12 @@ fn write_dashed<W: fmt::Write>(f: &mut fmt::Formatter<W>, name: &str, word: &str
 }
 
 /// The name of a command.
-fn name_of(command: Command) -> &'static str {
+fn name_of(command: Subcommand) -> &'static str {
     match command {
-        Command::Run => "run",
-        Command::Replay => "replay",
-        Command::Drill => "drill",
-        Command::Serve => "serve",
-        Command::Send => "send",
+        Subcommand::Run => "run",
+        Subcommand::Replay => "replay",
+        Subcommand::Drill => "drill",
+        Subcommand::Serve => "serve",
+        Subcommand::Send => "send",
     }
 }

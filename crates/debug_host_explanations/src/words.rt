@@ -2,7 +2,7 @@
 
 use crate::options::{Read, name_of, read_word};
 use crate::word_fault::WordFault;
-use debug_host_options::{Command, command_named, help_text};
+use debug_host_options::{Subcommand, command_named, help_text};
 use std::alloc::{AllocError, Global};
 
 /// Whether `--explain` is one of these words, before `--`.
@@ -51,7 +51,11 @@ fn first_fault(word: &str) -> WordFault<'_> {
 }
 
 /// Why the words after a command's name ask for nothing, and the form of that command.
-fn command_lines(alloc: Global, command: Command, words: &[String]) -> Result<String, AllocError> {
+fn command_lines(
+    alloc: Global,
+    command: Subcommand,
+    words: &[String],
+) -> Result<String, AllocError> {
     let (form, _) = help_text(Some(command))
         .split_once('\n')
         .unwrap_or(("", ""));
@@ -62,7 +66,7 @@ fn command_lines(alloc: Global, command: Command, words: &[String]) -> Result<St
 }
 
 /// The first fault of the words after a command's name.
-fn fault_in(command: Command, words: &[String]) -> Option<WordFault<'_>> {
+fn fault_in(command: Subcommand, words: &[String]) -> Option<WordFault<'_>> {
     match read_all(command, words) {
         Ok(read) => end_fault(command, words, read),
         Err(fault) => Some(fault),
@@ -70,7 +74,7 @@ fn fault_in(command: Command, words: &[String]) -> Option<WordFault<'_>> {
 }
 
 /// What the words after a command's name were read as, or the first fault of them.
-fn read_all(command: Command, words: &[String]) -> Result<Read, WordFault<'_>> {
+fn read_all(command: Subcommand, words: &[String]) -> Result<Read, WordFault<'_>> {
     let mut read = Read::start();
     for (index, word) in words.iter().enumerate() {
         read = read_word(command, first_words(words, index), read, word.as_str())?;
@@ -84,16 +88,16 @@ fn first_words(words: &[String], count: usize) -> &[String] {
 }
 
 /// What is missing once all words are read, or is one too much.
-fn end_fault(command: Command, words: &[String], read: Read) -> Option<WordFault<'_>> {
+fn end_fault(command: Subcommand, words: &[String], read: Read) -> Option<WordFault<'_>> {
     if let Some(option) = read.awaiting {
         return Some(WordFault::NeedsValue(name_of(option)));
     }
     match (command, read.operands) {
-        (Command::Run | Command::Serve, 0) => Some(WordFault::NoScript(command)),
-        (Command::Replay, 0) => Some(WordFault::NoJournal),
-        (Command::Replay, 1) => Some(WordFault::NoScriptAfterJournal),
-        (Command::Send, 0) => Some(WordFault::NoCommands),
-        (Command::Send, _) => Some(WordFault::OneMore(words.get(read.second?)?.as_str())),
+        (Subcommand::Run | Subcommand::Serve, 0) => Some(WordFault::NoScript(command)),
+        (Subcommand::Replay, 0) => Some(WordFault::NoJournal),
+        (Subcommand::Replay, 1) => Some(WordFault::NoScriptAfterJournal),
+        (Subcommand::Send, 0) => Some(WordFault::NoCommands),
+        (Subcommand::Send, _) => Some(WordFault::OneMore(words.get(read.second?)?.as_str())),
         _ => None,
     }
 }

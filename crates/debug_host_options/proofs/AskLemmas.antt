@@ -4,27 +4,27 @@ use Rattle.std.specs.Option.{option_map, option_and_then}
 use Rattle.std.proofs.lemmas.Bool.{or_cases}
 use Rattle.std.proofs.lemmas.Option.{none-some, same_Some, option_and_then_some}
 use Rattle.std.proofs.lemmas.Slice.Eq.{bytes_eq-Decides}
-use Rattle.debug_host_options.specs.declared.command.Command.{Command}
-use Rattle.debug_host_options.specs.declared.command.Command.TheVariants.{Run, Replay, Drill, Serve, Send}
+use Rattle.debug_host_options.specs.declared.command.Subcommand.{Subcommand}
+use Rattle.debug_host_options.specs.declared.command.Subcommand.TheVariants.{Run, Replay, Drill, Serve, Send}
 use Rattle.debug_host_options.specs.declared.request.Request.{Request as HeldRequest}
 use Rattle.debug_host_options.specs.Commands.{command_named}
 use Rattle.debug_host_options.specs.Parts.{Part, parts_of}
 use Rattle.debug_host_options.specs.Requests.{Request, Help, Version, alone, asks_help, command_words, form, is_help, named_words, request_of}
 use Rattle.debug_host_options.specs.Held.{request_held}
-use Rattle.debug_host_options.specs.Written.{Asks, AsksAfter, AsksHelp, command_text}
+use Rattle.debug_host_options.specs.Written.{AsksFor, AsksAfter, AsksHelp, command_text}
 use Rattle.debug_host_options.proofs.KindLemmas.{command_named-some}
 use Rattle.debug_host_options.proofs.WrittenLemmas.{parts-read, parts-some}
 
 -- ---- a word that asks for help is no part of any command
 
-long-unread : (command : Command) → parts_of command (codes "--help" ∷ []) ≡ None
+long-unread : (command : Subcommand) → parts_of command (codes "--help" ∷ []) ≡ None
 long-unread Run = refl
 long-unread Replay = refl
 long-unread Drill = refl
 long-unread Serve = refl
 long-unread Send = refl
 
-short-unread : (command : Command) → parts_of command (codes "-h" ∷ []) ≡ None
+short-unread : (command : Subcommand) → parts_of command (codes "-h" ∷ []) ≡ None
 short-unread Run = refl
 short-unread Replay = refl
 short-unread Drill = refl
@@ -37,19 +37,19 @@ help-word word is = elim (or_cases (bytes_eq word (codes "--help")) (bytes_eq wo
   | inr short ↦ inr ((bytes_eq-Decides word (codes "-h")).0 short)
 ]
 
-help-unread : (command : Command) (word : List ℕ) → is_help word ≡ true → parts_of command (word ∷ []) ≡ None
+help-unread : (command : Subcommand) (word : List ℕ) → is_help word ≡ true → parts_of command (word ∷ []) ≡ None
 help-unread command word is = elim (help-word word is) [
   | inl long ↦ ap (λ w. parts_of command (w ∷ [])) long ∙ long-unread command
   | inr short ↦ ap (λ w. parts_of command (w ∷ [])) short ∙ short-unread command
 ]
 
-one-asks : (command : Command) (word : List ℕ) (parts : List Part) (b : Bool) → is_help word ≡ b
+one-asks : (command : Subcommand) (word : List ℕ) (parts : List Part) (b : Bool) → is_help word ≡ b
     → parts_of command (word ∷ []) ≡ Some parts
     → b ≡ false
 one-asks command word parts true is read = absurd (none-some parts (sym (help-unread command word is) ∙ read))
 one-asks command word parts false is read = refl
 
-parts-ask : (command : Command) (words : List (List ℕ)) (parts : List Part) → parts_of command words ≡ Some parts
+parts-ask : (command : Subcommand) (words : List (List ℕ)) (parts : List Part) → parts_of command words ≡ Some parts
     → asks_help words ≡ false
 parts-ask command [] parts read = refl
 parts-ask command (word ∷ []) parts read = one-asks command word parts (is_help word) refl read
@@ -69,7 +69,7 @@ help-asked words asks = elim asks [
   | inr short ↦ ap asks_help short
 ]
 
-named-read : (command : Command) (words : List (List ℕ))
+named-read : (command : Subcommand) (words : List (List ℕ))
     → form (command_text command ∷ words) ≡ command_words command words
 named-read Run words = refl
 named-read Replay words = refl
@@ -78,10 +78,10 @@ named-read Serve words = refl
 named-read Send words = refl
 
 -- what words after a command's name ask for, by whether they ask for help
-abbrev words_by : Command → Bool → Option (List Part) → Option Request
+abbrev words_by : Subcommand → Bool → Option (List Part) → Option Request
 words_by command helps parts = if helps then Some (Help (Some command)) else option_and_then (request_of command) parts
 
-after-read : (command : Command) (words : List (List ℕ)) (request : Request) → AsksAfter command words request
+after-read : (command : Subcommand) (words : List (List ℕ)) (request : Request) → AsksAfter command words request
     → command_words command words ≡ Some request
 after-read command words request asks = elim asks [
   | inl help ↦ ap (λ b. words_by command b (parts_of command words)) (help-asked words help.0)
@@ -91,7 +91,7 @@ after-read command words request asks = elim asks [
       ap₂ (words_by command) (parts-ask command words given.0 read) read ∙ given.2
 ]
 
-pub asks-read : (words : List (List ℕ)) (request : Request) → Asks words request → form words ≡ Some request
+pub asks-read : (words : List (List ℕ)) (request : Request) → AsksFor words request → form words ≡ Some request
 asks-read words request asks = elim asks [
   | inl help ↦ help-read words help.0 ∙ ap (λ r. Some r) (sym help.1)
   | inr others ↦ elim others [
@@ -120,7 +120,7 @@ asked-help [] is = absurd (true≢false (sym is))
 asked-help (word ∷ []) is = one-help word [] is refl
 asked-help (word ∷ other ∷ words) is = absurd (true≢false (sym is))
 
-after-some : (command : Command) (words : List (List ℕ)) (request : Request) (b : Bool) → asks_help words ≡ b
+after-some : (command : Subcommand) (words : List (List ℕ)) (request : Request) (b : Bool) → asks_help words ≡ b
     → words_by command b (parts_of command words) ≡ Some request
     → AsksAfter command words request
 after-some command words request true helps is =
@@ -131,7 +131,7 @@ after-some command words request false helps is =
 
 named-some : (word : List ℕ) (words : List (List ℕ)) (request : Request)
     → option_and_then (named_words words) (command_named word) ≡ Some request
-    → Asks (word ∷ words) request
+    → AsksFor (word ∷ words) request
 named-some word words request is =
     option_and_then_some (named_words words) (command_named word) request is (λ command named given.
     inr (inr (
@@ -143,8 +143,8 @@ named-some word words request is =
 
 version-some : (b : Bool) (word : List ℕ) (words : List (List ℕ)) (request : Request) (others : Option Request)
     → (b ≡ true → word ≡ codes "--version")
-    → (others ≡ Some request → Asks (word ∷ words) request)
-    → (if b then alone Version words else others) ≡ Some request → Asks (word ∷ words) request
+    → (others ≡ Some request → AsksFor (word ∷ words) request)
+    → (if b then alone Version words else others) ≡ Some request → AsksFor (word ∷ words) request
 version-some true word words request others same more is =
     let only = alone-some Version request words is in
     inr (inl (ap₂ (λ w ws. w ∷ ws) (same refl) only.0, only.1))
@@ -152,14 +152,14 @@ version-some false word words request others same more is = more is
 
 help-some : (b : Bool) (word : List ℕ) (words : List (List ℕ)) (request : Request) (others : Option Request)
     → is_help word ≡ b
-    → (others ≡ Some request → Asks (word ∷ words) request)
-    → (if b then alone (Help None) words else others) ≡ Some request → Asks (word ∷ words) request
+    → (others ≡ Some request → AsksFor (word ∷ words) request)
+    → (if b then alone (Help None) words else others) ≡ Some request → AsksFor (word ∷ words) request
 help-some true word words request others helps more is =
     let only = alone-some (Help None) request words is in
     inl (one-help word words helps only.0, only.1)
 help-some false word words request others helps more is = more is
 
-pub form-some : (words : List (List ℕ)) (request : Request) → form words ≡ Some request → Asks words request
+pub form-some : (words : List (List ℕ)) (request : Request) → form words ≡ Some request → AsksFor words request
 form-some [] request is = absurd (none-some request is)
 form-some (word ∷ words) request is =
     help-some (is_help word) word words request _ refl
@@ -171,13 +171,13 @@ form-some (word ∷ words) request is =
 
 pub held-asks : (words : List (List ℕ)) (r : Option HeldRequest)
     → option_map request_held r ≡ form words
-    → IfSome r (λ request. Asks words (request_held request))
+    → IfSome r (λ request. AsksFor words (request_held request))
 held-asks words None read = tt
 held-asks words (Some request) read = form-some words (request_held request) (sym read)
 
 pub held-one : (words : List (List ℕ)) (r : Option HeldRequest)
     → option_map request_held r ≡ form words
     → (request : Request)
-    → Asks words request
+    → AsksFor words request
     → option_map request_held r ≡ Some request
 held-one words r read request asks = read ∙ asks-read words request asks

@@ -3,7 +3,7 @@ use Rattle.std.proofs.Common.{◌≡◌, ℕ, Bool, true, false, List, [], ◌�
 use lib.Chars.{codes}
 use Prim.Native.String.{String}
 use Rattle.cdp_text.specs.Decimal.{decimal_value}
-use Rattle.debug_host_options.specs.declared.command.Command.TheVariants as command
+use Rattle.debug_host_options.specs.declared.command.Subcommand.TheVariants as command
 use Rattle.debug_host_options.specs.Requests.{Request, Sources, RunWords, ReplayWords, ServeWords, SendWords, Run, Replay, Drill, Serve, Send, Help, Version, form}
 
 -- what these words ask for

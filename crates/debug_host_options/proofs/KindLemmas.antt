@@ -5,36 +5,36 @@ use Rattle.std.proofs.lemmas.Option.{cond_some, none-some, option_and_then_some}
 use Rattle.std.proofs.lemmas.Slice.Eq.{bytes_eq-Decides}
 use Rattle.cdp_text.specs.Parts.{behind, Halves, halves}
 use Rattle.cdp_text.proofs.PartsLemmas.{behind-some, halves-some}
-use Rattle.debug_host_options.specs.declared.command.Command.{Command}
-use Rattle.debug_host_options.specs.declared.command.Command.TheVariants.{Run, Replay, Drill, Serve, Send}
+use Rattle.debug_host_options.specs.declared.command.Subcommand.{Subcommand}
+use Rattle.debug_host_options.specs.declared.command.Subcommand.TheVariants.{Run, Replay, Drill, Serve, Send}
 use Rattle.debug_host_options.specs.declared.command.OptionName.{OptionName}
 use Rattle.debug_host_options.specs.declared.command.OptionName.TheVariants.{Port, Sessions, Input, Wait, Devtools, Explain}
 use Rattle.debug_host_options.specs.Commands.{command_named, option_named, has_option, has_value}
-use Rattle.debug_host_options.specs.Parts.{Part, Operand, Valued, Flag, Kind, End, Whole, Awaiting, Unknown, alone_kind, is_operand, kind_of, known, long_kind, named_kind, option_had, option_of, valued_kind}
+use Rattle.debug_host_options.specs.Parts.{Part, Operand, Valued, Flag, WordKind, End, Whole, Awaiting, Unknown, alone_kind, is_operand, kind_of, known, long_kind, named_kind, option_had, option_of, valued_kind}
 use Rattle.debug_host_options.specs.Written.{HasOption, command_text, option_text, option_word, valued_word}
 
 -- ---- a spelled word is what was spelled
 
-pub kind-operand : (command : Command) (word : List ℕ) → is_operand word ≡ true
+pub kind-operand : (command : Subcommand) (word : List ℕ) → is_operand word ≡ true
     → kind_of command word ≡ Whole (Operand word)
 kind-operand command word is =
     ap (λ b. if b then Whole (Operand word) else if bytes_eq word (codes "--") then End
     else long_kind command (behind (codes "--") word)) is
 
 -- the word of an option by the option that the command has
-had : (command : Command) (option : OptionName) → has_option command option ≡ true
+had : (command : Subcommand) (option : OptionName) → has_option command option ≡ true
     → option_had command option ≡ Some option
 had command option has = ap (λ b. if b then Some option else None) has
 
-alone-had : (command : Command) (option : OptionName) → has_option command option ≡ true
+alone-had : (command : Subcommand) (option : OptionName) → has_option command option ≡ true
     → known (option_map alone_kind (option_had command option)) ≡ alone_kind option
 alone-had command option has = ap (λ o. known (option_map alone_kind o)) (had command option has)
 
-valued-had : (command : Command) (option : OptionName) (value : List ℕ) → has_option command option ≡ true
+valued-had : (command : Subcommand) (option : OptionName) (value : List ℕ) → has_option command option ≡ true
     → known (option_map (valued_kind value) (option_had command option)) ≡ valued_kind value option
 valued-had command option value has = ap (λ o. known (option_map (valued_kind value) o)) (had command option has)
 
-kind-alone : (command : Command) (option : OptionName) → has_option command option ≡ true
+kind-alone : (command : Subcommand) (option : OptionName) → has_option command option ≡ true
     → kind_of command (option_word option) ≡ alone_kind option
 kind-alone command Port has = alone-had command Port has
 kind-alone command Sessions has = alone-had command Sessions has
@@ -43,7 +43,7 @@ kind-alone command Wait has = alone-had command Wait has
 kind-alone command Devtools has = alone-had command Devtools has
 kind-alone command Explain has = alone-had command Explain has
 
-kind-joined : (command : Command) (option : OptionName) (value : List ℕ) → has_option command option ≡ true
+kind-joined : (command : Subcommand) (option : OptionName) (value : List ℕ) → has_option command option ≡ true
     → kind_of command (valued_word option value) ≡ valued_kind value option
 kind-joined command Port value has = valued-had command Port value has
 kind-joined command Sessions value has = valued-had command Sessions value has
@@ -52,17 +52,17 @@ kind-joined command Wait value has = valued-had command Wait value has
 kind-joined command Devtools value has = valued-had command Devtools value has
 kind-joined command Explain value has = valued-had command Explain value has
 
-pub kind-flag : (command : Command) (option : OptionName) → HasOption command option false
+pub kind-flag : (command : Subcommand) (option : OptionName) → HasOption command option false
     → kind_of command (option_word option) ≡ Whole (Flag option)
 kind-flag command option has =
     kind-alone command option has.0 ∙ ap (λ b. if b then Awaiting option else Whole (Flag option)) has.1
 
-pub kind-awaiting : (command : Command) (option : OptionName) → HasOption command option true
+pub kind-awaiting : (command : Subcommand) (option : OptionName) → HasOption command option true
     → kind_of command (option_word option) ≡ Awaiting option
 kind-awaiting command option has =
     kind-alone command option has.0 ∙ ap (λ b. if b then Awaiting option else Whole (Flag option)) has.1
 
-pub kind-valued : (command : Command) (option : OptionName) (value : List ℕ) → HasOption command option true
+pub kind-valued : (command : Subcommand) (option : OptionName) (value : List ℕ) → HasOption command option true
     → kind_of command (valued_word option value) ≡ Whole (Valued option value)
 kind-valued command option value has =
     kind-joined command option value has.0
@@ -71,13 +71,13 @@ kind-valued command option value has =
 -- ---- and a word is spelled so
 
 -- how a part that is one word is spelled
-abbrev pub IsWord : Command → List ℕ → Part → Type 0
+abbrev pub IsWord : Subcommand → List ℕ → Part → Type 0
 IsWord command word (Operand text) = (is_operand text ≡ true) × (word ≡ text)
 IsWord command word (Flag option) = HasOption command option false × (word ≡ option_word option)
 IsWord command word (Valued option value) = HasOption command option true × (word ≡ valued_word option value)
 
 -- how a word of this kind is spelled
-abbrev pub IsSpelled : Command → List ℕ → Kind → Type 0
+abbrev pub IsSpelled : Subcommand → List ℕ → WordKind → Type 0
 IsSpelled command word End = word ≡ codes "--"
 IsSpelled command word (Whole part) = IsWord command word part
 IsSpelled command word (Awaiting option) = HasOption command option true × (word ≡ option_word option)
@@ -106,10 +106,10 @@ option_named-some name option is =
     is
 
 -- a command has an option of this name
-abbrev IsNamed : Command → OptionName → List ℕ → Type 0
+abbrev IsNamed : Subcommand → OptionName → List ℕ → Type 0
 IsNamed command option name = (has_option command option ≡ true) × (name ≡ option_text option)
 
-option_of-some : (command : Command) (name : List ℕ) (option : OptionName)
+option_of-some : (command : Subcommand) (name : List ℕ) (option : OptionName)
     → option_of command name ≡ Some option
     → IsNamed command option name
 option_of-some command name option is =
@@ -119,7 +119,7 @@ option_of-some command name option is =
       option_named-some name named named_is ∙ ap option_text chosen.1,
     ))
 
-alone_by : (command : Command) (word : List ℕ) (option : OptionName) (b : Bool)
+alone_by : (command : Subcommand) (word : List ℕ) (option : OptionName) (b : Bool)
     → has_option command option ≡ true
     → word ≡ option_word option
     → has_value option ≡ b
@@ -127,7 +127,7 @@ alone_by : (command : Command) (word : List ℕ) (option : OptionName) (b : Bool
 alone_by command word option true has is valued = ((has, valued), is)
 alone_by command word option false has is valued = ((has, valued), is)
 
-alone-spelled : (command : Command) (word text : List ℕ) (o : Option OptionName)
+alone-spelled : (command : Subcommand) (word text : List ℕ) (o : Option OptionName)
     → word ≡ codes "--" ++ text
     → ((option : OptionName) → o ≡ Some option → IsNamed command option text)
     → IsSpelled command word (known (option_map alone_kind o))
@@ -136,7 +136,7 @@ alone-spelled command word text (Some option) is named =
     let name = named option refl in
     alone_by command word option (has_value option) name.0 (is ∙ ap (λ t. codes "--" ++ t) name.1) refl
 
-valued_by : (command : Command) (word value : List ℕ) (option : OptionName) (b : Bool)
+valued_by : (command : Subcommand) (word value : List ℕ) (option : OptionName) (b : Bool)
     → has_option command option ≡ true
     → word ≡ valued_word option value
     → has_value option ≡ b
@@ -144,7 +144,7 @@ valued_by : (command : Command) (word value : List ℕ) (option : OptionName) (b
 valued_by command word value option true has is valued = ((has, valued), is)
 valued_by command word value option false has is valued = tt
 
-valued-spelled : (command : Command) (word name value : List ℕ) (o : Option OptionName)
+valued-spelled : (command : Subcommand) (word name value : List ℕ) (o : Option OptionName)
     → word ≡ codes "--" ++ (name ++ (61 ∷ value))
     → ((option : OptionName) → o ≡ Some option → IsNamed command option name)
     → IsSpelled command word (known (option_map (valued_kind value) o))
@@ -154,7 +154,7 @@ valued-spelled command word name value (Some option) is named =
     valued_by command word value option (has_value option) named_is.0
     (is ∙ ap (λ t. codes "--" ++ (t ++ (61 ∷ value))) named_is.1) refl
 
-named-spelled : (command : Command) (word text : List ℕ) (o : Option Halves)
+named-spelled : (command : Subcommand) (word text : List ℕ) (o : Option Halves)
     → word ≡ codes "--" ++ text
     → ((parts : Halves) → o ≡ Some parts → text ≡ parts.front ++ 61 ∷ parts.back)
     → IsSpelled command word (named_kind command text o)
@@ -164,28 +164,28 @@ named-spelled command word text (Some parts) is cut =
     valued-spelled command word parts.front parts.back (option_of command parts.front)
     (is ∙ ap (λ t. codes "--" ++ t) (cut parts refl)) (λ option. option_of-some command parts.front option)
 
-long-spelled : (command : Command) (word : List ℕ) (o : Option (List ℕ))
+long-spelled : (command : Subcommand) (word : List ℕ) (o : Option (List ℕ))
     → ((text : List ℕ) → o ≡ Some text → word ≡ codes "--" ++ text)
     → IsSpelled command word (long_kind command o)
 long-spelled command word None after = tt
 long-spelled command word (Some text) after =
     named-spelled command word text (halves 61 text) (after text refl) (λ parts. halves-some 61 text parts)
 
-end_by : (command : Command) (word : List ℕ) (b : Bool) (kind : Kind)
+end_by : (command : Subcommand) (word : List ℕ) (b : Bool) (kind : WordKind)
     → (b ≡ true → word ≡ codes "--")
     → IsSpelled command word kind
     → IsSpelled command word (if b then End else kind)
 end_by command word true kind same other = same refl
 end_by command word false kind same other = other
 
-operand_by : (command : Command) (word : List ℕ) (b : Bool) (kind : Kind)
+operand_by : (command : Subcommand) (word : List ℕ) (b : Bool) (kind : WordKind)
     → is_operand word ≡ b
     → IsSpelled command word kind
     → IsSpelled command word (if b then Whole (Operand word) else kind)
 operand_by command word true kind is other = (is, refl)
 operand_by command word false kind is other = other
 
-pub word-spelled : (command : Command) (word : List ℕ) → IsSpelled command word (kind_of command word)
+pub word-spelled : (command : Subcommand) (word : List ℕ) → IsSpelled command word (kind_of command word)
 word-spelled command word =
     operand_by command word (is_operand word) _ refl
     (end_by command word (bytes_eq word (codes "--")) _ ((bytes_eq-Decides word (codes "--")).0)
@@ -193,18 +193,18 @@ word-spelled command word =
 
 -- ---- commands by their names
 
-command_step : (b : Bool) (name : List ℕ) (named command : Command) (others : Option Command)
+command_step : (b : Bool) (name : List ℕ) (named command : Subcommand) (others : Option Subcommand)
     → (b ≡ true → name ≡ command_text named)
     → (others ≡ Some command → name ≡ command_text command)
     → (if b then Some named else others) ≡ Some command → name ≡ command_text command
 command_step true name named command others same more is = same refl ∙ ap (λ o. command_name o) is
   where
-    command_name : Option Command → List ℕ
+    command_name : Option Subcommand → List ℕ
     command_name None = []
     command_name (Some c) = command_text c
 command_step false name named command others same more is = more is
 
-pub command_named-some : (name : List ℕ) (command : Command) → command_named name ≡ Some command
+pub command_named-some : (name : List ℕ) (command : Subcommand) → command_named name ≡ Some command
     → name ≡ command_text command
 command_named-some name command is =
     command_step (bytes_eq name (codes "run")) name Run command _ ((bytes_eq-Decides name (codes "run")).0)

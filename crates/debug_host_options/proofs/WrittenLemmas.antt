@@ -1,29 +1,29 @@
 -- The parts of words are those that the words are written of, and words that are written of parts have these.
 use Rattle.std.proofs.Common.{◌≡◌, ℕ, List, [], ◌∷◌, Bool, true, false, Option, Some, None, refl, sym, ap, ap₂, subst, ◌∙◌, inl, inr, if◌then◌else◌}
 use Rattle.std.proofs.lemmas.Option.{none-some, same_Some}
-use Rattle.debug_host_options.specs.declared.command.Command.{Command}
+use Rattle.debug_host_options.specs.declared.command.Subcommand.{Subcommand}
 use Rattle.debug_host_options.specs.declared.command.OptionName.{OptionName}
-use Rattle.debug_host_options.specs.Parts.{Part, Operand, Valued, Flag, Kind, End, Whole, Awaiting, Unknown, begun, is_operand, kind_of, operands_alone, parts_by, parts_of, valued_parts}
+use Rattle.debug_host_options.specs.Parts.{Part, Operand, Valued, Flag, WordKind, End, Whole, Awaiting, Unknown, begun, is_operand, kind_of, operands_alone, parts_by, parts_of, valued_parts}
 use Rattle.debug_host_options.specs.Written.{AreOperands, AreParts, Begins, option_word, valued_word}
 use Rattle.debug_host_options.proofs.KindLemmas.{IsSpelled, IsWord, kind-awaiting, kind-flag, kind-operand, kind-valued, word-spelled}
 
 -- ---- words that are written of parts
 
 -- the parts of words by what the first of them is
-by-kind : (command : Command) (word : List ℕ) (words : List (List ℕ)) (kind : Kind) → kind_of command word ≡ kind
+by-kind : (command : Subcommand) (word : List ℕ) (words : List (List ℕ)) (kind : WordKind) → kind_of command word ≡ kind
     → parts_of command (word ∷ words) ≡ parts_by kind words (parts_of command words) (valued_parts command words)
 by-kind command word words kind is =
     ap (λ k. parts_by k words (parts_of command words) (valued_parts command words)) is
 
 -- a word that is a part, before others
-one-read : (command : Command) (word : List ℕ) (words : List (List ℕ)) (part : Part) (parts : List Part)
+one-read : (command : Subcommand) (word : List ℕ) (words : List (List ℕ)) (part : Part) (parts : List Part)
     → kind_of command word ≡ Whole part
     → parts_of command words ≡ Some parts
     → parts_of command (word ∷ words) ≡ Some (part ∷ parts)
 one-read command word words part parts kind rest = by-kind command word words (Whole part) kind ∙ ap (begun part) rest
 
 -- an option's word, and its value in a word of its own
-two-read : (command : Command) (option : OptionName) (word value : List ℕ) (words : List (List ℕ)) (parts : List Part)
+two-read : (command : Subcommand) (option : OptionName) (word value : List ℕ) (words : List (List ℕ)) (parts : List Part)
     → kind_of command word ≡ Awaiting option
     → is_operand value ≡ true
     → parts_of command words ≡ Some parts
@@ -33,12 +33,12 @@ two-read command option word value words parts kind is rest =
     ∙ ap (λ b. if b then begun (Valued option value) (parts_of command words) else None) is
     ∙ ap (begun (Valued option value)) rest
 
-operands-read : (command : Command) (parts : List Part) (words : List (List ℕ)) → AreOperands parts words
+operands-read : (command : Subcommand) (parts : List Part) (words : List (List ℕ)) → AreOperands parts words
     → parts_of command words ≡ Some parts
 operands-read command parts words are =
     ap (parts_of command) are.1 ∙ ap (λ ps. Some ps) (sym are.2)
 
-begun-read : (command : Command) (part : Part) (parts : List Part) (words rest : List (List ℕ))
+begun-read : (command : Subcommand) (part : Part) (parts : List Part) (words rest : List (List ℕ))
     → Begins command part words rest
     → parts_of command rest ≡ Some parts
     → parts_of command words ≡ Some (part ∷ parts)
@@ -57,7 +57,7 @@ begun-read command (Valued option value) parts words rest begins others = elim b
       others
 ]
 
-pub parts-read : (command : Command) (parts : List Part) (words : List (List ℕ)) → AreParts command parts words
+pub parts-read : (command : Subcommand) (parts : List Part) (words : List (List ℕ)) → AreParts command parts words
     → parts_of command words ≡ Some parts
 parts-read command [] words are = elim are [
   | inl none ↦ ap (parts_of command) none
@@ -70,7 +70,7 @@ parts-read command (part ∷ parts) words are = elim are [
 
 -- ---- and the parts of words
 
-operands-are : (command : Command) (parts : List Part) (words : List (List ℕ)) → AreOperands parts words
+operands-are : (command : Subcommand) (parts : List Part) (words : List (List ℕ)) → AreOperands parts words
     → AreParts command parts words
 operands-are command [] words are = inr are
 operands-are command (part ∷ parts) words are = inr are
@@ -82,14 +82,14 @@ begun-some : {P : Type 0} (part : Part) (o : Option (List Part)) (parts : List P
 begun-some part None parts is from = absurd (none-some parts is)
 begun-some part (Some rest) parts is from = from rest refl (same_Some (part ∷ rest) parts is)
 
-one-begins : (command : Command) (word : List ℕ) (words : List (List ℕ)) (part : Part) → IsWord command word part
+one-begins : (command : Subcommand) (word : List ℕ) (words : List (List ℕ)) (part : Part) → IsWord command word part
     → Begins command part (word ∷ words) words
 one-begins command word words (Operand text) is = (is.0, ap (λ w. w ∷ words) is.1)
 one-begins command word words (Flag option) is = (is.0, ap (λ w. w ∷ words) is.1)
 one-begins command word words (Valued option value) is = (is.0, inl (ap (λ w. w ∷ words) is.1))
 
 -- the words begin with this option's value
-abbrev BeginsValue : Command → OptionName → List Part → List (List ℕ) → Type 0
+abbrev BeginsValue : Subcommand → OptionName → List Part → List (List ℕ) → Type 0
 BeginsValue command option parts words =
     (value : List ℕ)
     × (rest : List (List ℕ))
@@ -99,7 +99,7 @@ BeginsValue command option parts words =
     × (Valued option value ∷ others ≡ parts)
     × AreParts command others rest
 
-value-begins : (command : Command) (option : OptionName) (value : List ℕ) (words : List (List ℕ)) (parts : List Part)
+value-begins : (command : Subcommand) (option : OptionName) (value : List ℕ) (words : List (List ℕ)) (parts : List Part)
     (b : Bool)
     → is_operand value ≡ b
     → ((ps : List Part) → parts_of command words ≡ Some ps → AreParts command ps words)
@@ -110,7 +110,7 @@ value-begins command option value words parts true operand more is =
     (value, words, rest, refl, operand, whole, more rest rest_is))
 value-begins command option value words parts false operand more is = absurd (none-some parts is)
 
-kind-some : (command : Command) (word : List ℕ) (words : List (List ℕ)) (parts : List Part) (kind : Kind)
+kind-some : (command : Subcommand) (word : List ℕ) (words : List (List ℕ)) (parts : List Part) (kind : WordKind)
     → IsSpelled command word kind
     → ((ps : List Part) → parts_of command words ≡ Some ps → AreParts command ps words)
     → ((option : OptionName) (ps : List Part) → valued_parts command words option ≡ Some ps
@@ -131,7 +131,7 @@ kind-some command word words parts (Awaiting option) spelled more valued is =
 kind-some command word words parts Unknown spelled more valued is = absurd (none-some parts is)
 
 -- both of words, and of words that begin with a value
-both-some : (command : Command) (words : List (List ℕ))
+both-some : (command : Subcommand) (words : List (List ℕ))
     → ((parts : List Part) → parts_of command words ≡ Some parts → AreParts command parts words)
     × ((option : OptionName) (parts : List Part) → valued_parts command words option ≡ Some parts
     → BeginsValue command option parts words)
@@ -145,6 +145,6 @@ both-some command (word ∷ words) =
       λ option parts is. value-begins command option word words parts (is_operand word) refl more.0 is,
     )
 
-pub parts-some : (command : Command) (words : List (List ℕ)) (parts : List Part) → parts_of command words ≡ Some parts
+pub parts-some : (command : Subcommand) (words : List (List ℕ)) (parts : List Part) → parts_of command words ≡ Some parts
     → AreParts command parts words
 parts-some command words parts is = (both-some command words).0 parts is

@@ -1,12 +1,12 @@
 -- The commands, and which options each has.
 use Rattle.std.specs.Prelude.{ℕ, List, Bool, true, false, bytes_eq, codes, Option, Some, None, if◌then◌else◌}
-use Rattle.debug_host_options.specs.declared.command.Command.{Command}
-use Rattle.debug_host_options.specs.declared.command.Command.TheVariants.{Run, Replay, Drill, Serve, Send}
+use Rattle.debug_host_options.specs.declared.command.Subcommand.{Subcommand}
+use Rattle.debug_host_options.specs.declared.command.Subcommand.TheVariants.{Run, Replay, Drill, Serve, Send}
 use Rattle.debug_host_options.specs.declared.command.OptionName.{OptionName}
 use Rattle.debug_host_options.specs.declared.command.OptionName.TheVariants.{Port, Sessions, Input, Wait, Devtools, Explain}
 
 -- the command of this name
-abbrev pub command_named : List ℕ → Option Command
+abbrev pub command_named : List ℕ → Option Subcommand
 command_named word =
     if bytes_eq word (codes "run") then Some Run
     else if bytes_eq word (codes "replay") then Some Replay
@@ -25,7 +25,7 @@ option_named name =
     else if bytes_eq name (codes "explain") then Some Explain else None
 
 -- whether a command has an option
-abbrev pub has_option : Command → OptionName → Bool
+abbrev pub has_option : Subcommand → OptionName → Bool
 has_option Run Input = true
 has_option Run Explain = true
 has_option Replay Wait = true

@@ -2,7 +2,7 @@
 use Rattle.std.specs.Prelude.{ℕ, ◌≤◌, List, length, Option, Some, None, map, string_bytes}
 use Rattle.std.specs.Option.{option_map}
 use Rattle.std.specs.Borrow.{Bor}
-use Rattle.debug_host_options.specs.declared.command.Command.{Command}
+use Rattle.debug_host_options.specs.declared.command.Subcommand.{Subcommand}
 use Rattle.debug_host_options.specs.declared.part.Part.{Part as HeldPart}
 use Rattle.debug_host_options.specs.declared.part.Part.TheVariants as part
 use Rattle.debug_host_options.specs.declared.part.Word.{Word}
@@ -17,7 +17,7 @@ use Rattle.debug_host_options.specs.declared.request.SendWords.{SendWords as Hel
 use Rattle.debug_host_options.specs.declared.request.Request.{Request as HeldRequest}
 use Rattle.debug_host_options.specs.declared.request.Request.TheVariants as request
 use Rattle.debug_host_options.specs.declared.session_count.SessionCount.{SessionCount}
-use Rattle.debug_host_options.specs.Parts.{Part, Operand, Valued, Flag, Kind, End, Whole, Awaiting, Unknown, begun, operands_alone, parts_of}
+use Rattle.debug_host_options.specs.Parts.{Part, Operand, Valued, Flag, WordKind, End, Whole, Awaiting, Unknown, begun, operands_alone, parts_of}
 use Rattle.debug_host_options.specs.Requests.{Sources, RunWords, ReplayWords, ServeWords, SendWords, Request, Run, Replay, Drill, Serve, Send, Help, Version}
 
 -- a text that may be there
@@ -39,14 +39,14 @@ abbrev pub parts_held : List HeldPart → List Part
 parts_held parts = map part_held parts
 
 -- what a word is
-abbrev pub word_held : Word → Kind
+abbrev pub word_held : Word → WordKind
 word_held word.End = End
 word_held (word.Whole whole) = Whole (part_held whole)
 word_held (word.Awaiting option) = Awaiting option
 word_held word.Unknown = Unknown
 
 -- the parts of which these are the first ones, by the words after them
-abbrev pub first_held : Command → First → Option (List Part)
+abbrev pub first_held : Subcommand → First → Option (List Part)
 first_held command (first.One one rest) = begun (part_held one) (parts_of command (map string_bytes rest.now))
 first_held command (first.Operands words) = Some (operands_alone (map string_bytes words.now))
 first_held command first.Unknown = None

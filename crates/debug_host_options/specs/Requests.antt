@@ -4,8 +4,8 @@ use Rattle.std.specs.Option.{option_and_then, option_map}
 use Rattle.std.specs.declared.string.String.{String}
 use Rattle.std.specs.declared.alloc.Global.{Global}
 use Rattle.cdp_text.specs.Decimal.{decimal_value}
-use Rattle.debug_host_options.specs.declared.command.Command.{Command}
-use Rattle.debug_host_options.specs.declared.command.Command.TheVariants as command
+use Rattle.debug_host_options.specs.declared.command.Subcommand.{Subcommand}
+use Rattle.debug_host_options.specs.declared.command.Subcommand.TheVariants as command
 use Rattle.debug_host_options.specs.declared.command.OptionName.TheVariants.{Port, Sessions, Input, Wait, Devtools, Explain}
 use Rattle.debug_host_options.specs.declared.request.TheConstants.{DEFAULT_PORT, MOST_PORT, DEFAULT_SESSIONS, MOST_DRILLED}
 use Rattle.debug_host_options.specs.declared.session_count.TheConstants.{MOST_SESSIONS}
@@ -55,7 +55,7 @@ pub data Request : Type 0 where
   Serve : ServeWords → Request
   Send : SendWords → Request
   -- help with the program, or with one command
-  Help : Option Command → Request
+  Help : Option Subcommand → Request
   -- the program's version
   Version : Request
 
@@ -154,7 +154,7 @@ send_of parts (commands ∷ []) = option_map (send_to parts commands) (port_of p
 send_of parts (commands ∷ other ∷ words) = None
 
 -- a command by its parts and its operands
-abbrev pub command_of : Command → List Part → List (List ℕ) → Option Request
+abbrev pub command_of : Subcommand → List Part → List (List ℕ) → Option Request
 command_of command.Run parts operands = run_of parts operands
 command_of command.Replay parts operands = replay_of parts operands
 command_of command.Drill parts operands = drill_of operands
@@ -162,7 +162,7 @@ command_of command.Serve parts operands = serve_of parts operands
 command_of command.Send parts operands = send_of parts operands
 
 -- a command by its parts, of which no option may be there twice
-abbrev pub request_of : Command → List Part → Option Request
+abbrev pub request_of : Subcommand → List Part → Option Request
 request_of c parts = if has_repeat parts then None else command_of c parts (operands_of parts)
 
 -- ---- words
@@ -178,12 +178,12 @@ asks_help (word ∷ []) = is_help word
 asks_help (word ∷ other ∷ words) = false
 
 -- what a command's words ask for
-abbrev pub command_words : Command → List (List ℕ) → Option Request
+abbrev pub command_words : Subcommand → List (List ℕ) → Option Request
 command_words c words =
     if asks_help words then Some (Help (Some c)) else option_and_then (request_of c) (parts_of c words)
 
 -- what words ask for that begin with a command's name
-abbrev pub named_words : List (List ℕ) → Command → Option Request
+abbrev pub named_words : List (List ℕ) → Subcommand → Option Request
 named_words words c = command_words c words
 
 -- what is asked for, where no word is left

@@ -1,7 +1,7 @@
 -- How what is asked for is written in words.
 use Rattle.std.specs.Prelude.{◌≡◌, ◌⊎◌, ℕ, List, [], ◌∷◌, ◌++◌, Bool, true, false, codes, Some, None}
-use Rattle.debug_host_options.specs.declared.command.Command.{Command}
-use Rattle.debug_host_options.specs.declared.command.Command.TheVariants.{Run, Replay, Drill, Serve, Send}
+use Rattle.debug_host_options.specs.declared.command.Subcommand.{Subcommand}
+use Rattle.debug_host_options.specs.declared.command.Subcommand.TheVariants.{Run, Replay, Drill, Serve, Send}
 use Rattle.debug_host_options.specs.declared.command.OptionName.{OptionName}
 use Rattle.debug_host_options.specs.declared.command.OptionName.TheVariants.{Port, Sessions, Input, Wait, Devtools, Explain}
 use Rattle.debug_host_options.specs.Commands.{has_option, has_value}
@@ -9,7 +9,7 @@ use Rattle.debug_host_options.specs.Parts.{Part, Operand, Valued, Flag, is_opera
 use Rattle.debug_host_options.specs.Requests.{Request, Help, Version, request_of}
 
 -- the name of a command
-abbrev pub command_text : Command → List ℕ
+abbrev pub command_text : Subcommand → List ℕ
 command_text Run = codes "run"
 command_text Replay = codes "replay"
 command_text Drill = codes "drill"
@@ -34,11 +34,11 @@ abbrev pub valued_word : OptionName → List ℕ → List ℕ
 valued_word option value = option_word option ++ (61 ∷ value)
 
 -- a command has an option, and whether this has a value
-abbrev pub HasOption : Command → OptionName → Bool → Type 0
+abbrev pub HasOption : Subcommand → OptionName → Bool → Type 0
 HasOption command option valued = (has_option command option ≡ true) × (has_value option ≡ valued)
 
 -- the words are one part and others after it: an operand, `--NAME`, `--NAME=VALUE`, or `--NAME VALUE` with a value like an operand
-abbrev pub Begins : Command → Part → List (List ℕ) → List (List ℕ) → Type 0
+abbrev pub Begins : Subcommand → Part → List (List ℕ) → List (List ℕ) → Type 0
 Begins command (Operand word) words rest = (is_operand word ≡ true) × (words ≡ word ∷ rest)
 Begins command (Flag option) words rest = HasOption command option false × (words ≡ option_word option ∷ rest)
 Begins command (Valued option value) words rest =
@@ -52,7 +52,7 @@ AreOperands parts words =
     (operands : List (List ℕ)) × (words ≡ codes "--" ∷ operands) × (parts ≡ operands_alone operands)
 
 -- the words are these parts one after another, of which the last ones may be operands after `--`
-abbrev pub AreParts : Command → List Part → List (List ℕ) → Type 0
+abbrev pub AreParts : Subcommand → List Part → List (List ℕ) → Type 0
 AreParts command [] words = (words ≡ []) ⊎ AreOperands [] words
 AreParts command (part ∷ parts) words =
     ((rest : List (List ℕ)) × Begins command part words rest × AreParts command parts rest)
@@ -63,17 +63,17 @@ abbrev pub AsksHelp : List (List ℕ) → Type 0
 AsksHelp words = (words ≡ codes "--help" ∷ []) ⊎ (words ≡ codes "-h" ∷ [])
 
 -- the words after a command's name ask for this
-abbrev pub AsksAfter : Command → List (List ℕ) → Request → Type 0
+abbrev pub AsksAfter : Subcommand → List (List ℕ) → Request → Type 0
 AsksAfter command words request =
     (AsksHelp words × (request ≡ Help (Some command)))
     ⊎ ((parts : List Part) × AreParts command parts words × (request_of command parts ≡ Some request))
 
 -- the words ask for this: for help, for the version, or by a command's name
-abbrev pub Asks : List (List ℕ) → Request → Type 0
-Asks words request =
+abbrev pub AsksFor : List (List ℕ) → Request → Type 0
+AsksFor words request =
     (AsksHelp words × (request ≡ Help None))
     ⊎ (((words ≡ codes "--version" ∷ []) × (request ≡ Version))
-    ⊎ ((command : Command)
+    ⊎ ((command : Subcommand)
     × (rest : List (List ℕ))
     × (words ≡ command_text command ∷ rest)
     × AsksAfter command rest request))

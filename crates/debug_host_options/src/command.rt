@@ -5,7 +5,7 @@ ghost use Rattle.debug_host_options.specs.Commands.{command_named, has_option, h
 
 /// A command of the program.
 #[derive(Clone, Copy)]
-pub enum Command {
+pub enum Subcommand {
     /// Runs scripts.
     Run,
     /// Replays a journal over scripts.
@@ -36,19 +36,19 @@ pub enum OptionName {
 }
 
 /// The command of this name.
-pub fn command_named(word: &str) -> Option<Command>
+pub fn command_named(word: &str) -> Option<Subcommand>
     ensures { result ≡ command_named word.now }
 {
     if word == "run" {
-        Some(Command::Run)
+        Some(Subcommand::Run)
     } else if word == "replay" {
-        Some(Command::Replay)
+        Some(Subcommand::Replay)
     } else if word == "drill" {
-        Some(Command::Drill)
+        Some(Subcommand::Drill)
     } else if word == "serve" {
-        Some(Command::Serve)
+        Some(Subcommand::Serve)
     } else if word == "send" {
-        Some(Command::Send)
+        Some(Subcommand::Send)
     } else {
         None
     }
@@ -76,18 +76,18 @@ pub fn option_named(name: &str) -> Option<OptionName>
 }
 
 /// Whether a command has an option.
-pub fn has_option(command: Command, option: OptionName) -> bool
+pub fn has_option(command: Subcommand, option: OptionName) -> bool
     ensures { result ≡ has_option command option }
 {
     match command {
-        Command::Run => matches!(option, OptionName::Input | OptionName::Explain),
-        Command::Replay => matches!(
+        Subcommand::Run => matches!(option, OptionName::Input | OptionName::Explain),
+        Subcommand::Replay => matches!(
             option,
             OptionName::Wait | OptionName::Input | OptionName::Explain
         ),
-        Command::Drill => false,
-        Command::Serve => true,
-        Command::Send => matches!(option, OptionName::Port | OptionName::Explain),
+        Subcommand::Drill => false,
+        Subcommand::Serve => true,
+        Subcommand::Send => matches!(option, OptionName::Port | OptionName::Explain),
     }
 }
 

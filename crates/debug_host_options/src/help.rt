@@ -3,23 +3,23 @@
 ghost use Rattle.std.specs.Prelude.{◌≡◌};
 ghost use Rattle.debug_host_options.specs.Helps.{help_text};
 
-use crate::command::Command;
+use crate::command::Subcommand;
 
 /// The program's name and version.
 pub const VERSION: &str = "debug_host 0.1.0
 ";
 
 /// What `--help` alone prints, or after a command's name.
-pub fn help_text(topic: Option<Command>) -> &'static str
+pub fn help_text(topic: Option<Subcommand>) -> &'static str
     ensures { result.now ≡ help_text topic }
 {
     match topic {
         None => PROGRAM_HELP,
-        Some(Command::Run) => RUN_HELP,
-        Some(Command::Replay) => REPLAY_HELP,
-        Some(Command::Drill) => DRILL_HELP,
-        Some(Command::Serve) => SERVE_HELP,
-        Some(Command::Send) => SEND_HELP,
+        Some(Subcommand::Run) => RUN_HELP,
+        Some(Subcommand::Replay) => REPLAY_HELP,
+        Some(Subcommand::Drill) => DRILL_HELP,
+        Some(Subcommand::Serve) => SERVE_HELP,
+        Some(Subcommand::Send) => SEND_HELP,
     }
 }
 

@@ -5,7 +5,7 @@ ghost use Rattle.std.specs.Option.{option_map};
 ghost use Rattle.debug_host_options.specs.Parts.{alone_kind, is_operand, kind_of, known, long_kind, named_kind, operands_alone, option_had, option_of, parts_of, valued_kind, valued_parts};
 ghost use Rattle.debug_host_options.specs.Held.{IsWithin, first_held, parts_held, word_held};
 
-use crate::command::{Command, OptionName, has_option, has_value, option_named};
+use crate::command::{OptionName, Subcommand, has_option, has_value, option_named};
 use cdp_text::parts::{behind, halves};
 use std::alloc::{AllocError, Global};
 
@@ -52,7 +52,7 @@ enum First<'w> {
 /// There is no memory for the list of parts.
 pub(crate) fn read_parts<'w>(
     alloc: Global,
-    command: Command,
+    command: Subcommand,
     words: &'w [String],
 ) -> Result<Option<Vec<Part<'w>>>, AllocError>
     ensures { IfOk result (λ parts. option_map (λ list. parts_held list.items) parts ≡ parts_of command (map string_bytes words.now)) }
@@ -86,7 +86,7 @@ fn add_operands<'w>(parts: &mut Vec<Part<'w>>, words: &'w [String]) -> Result<()
 }
 
 /// What words begin with, by the first of them and those after it.
-fn first_part<'w>(command: Command, word: &'w str, after: &'w [String]) -> First<'w>
+fn first_part<'w>(command: Subcommand, word: &'w str, after: &'w [String]) -> First<'w>
     ensures value { first_held command result ≡ parts_of command (word.now ∷ map string_bytes after.now) }
     ensures within { IsWithin (length after.now) result }
 {
@@ -116,7 +116,7 @@ fn first_value(option: OptionName, words: &[String]) -> First<'_>
 }
 
 /// What a word is.
-fn word_of(command: Command, word: &str) -> Word<'_>
+fn word_of(command: Subcommand, word: &str) -> Word<'_>
     ensures { word_held result ≡ kind_of command word.now }
 {
     if is_operand(word) {
@@ -143,7 +143,7 @@ fn is_operand(word: &str) -> bool
 }
 
 /// What a word is by what stands after its `--`: a name alone, or one before `=` and a value after it.
-fn named_word(command: Command, text: &str) -> Word<'_>
+fn named_word(command: Subcommand, text: &str) -> Word<'_>
     ensures { word_held result ≡ long_kind command (Some text.now) }
 {
     match halves(text, '=') {
@@ -153,7 +153,7 @@ fn named_word(command: Command, text: &str) -> Word<'_>
 }
 
 /// What `--NAME` is.
-fn alone_word(command: Command, name: &str) -> Word<'static>
+fn alone_word(command: Subcommand, name: &str) -> Word<'static>
     ensures { word_held result ≡ known (option_map alone_kind (option_of command name.now)) }
 {
     match option_of(command, name) {
@@ -169,7 +169,7 @@ fn alone_word(command: Command, name: &str) -> Word<'static>
 }
 
 /// What `--NAME=VALUE` is.
-fn valued_word<'w>(command: Command, name: &str, value: &'w str) -> Word<'w>
+fn valued_word<'w>(command: Subcommand, name: &str, value: &'w str) -> Word<'w>
     ensures { word_held result ≡ known (option_map (valued_kind value.now) (option_of command name.now)) }
 {
     match option_of(command, name) {
@@ -185,7 +185,7 @@ fn valued_word<'w>(command: Command, name: &str, value: &'w str) -> Word<'w>
 }
 
 /// The option of this name, where the command has it.
-fn option_of(command: Command, name: &str) -> Option<OptionName>
+fn option_of(command: Subcommand, name: &str) -> Option<OptionName>
     ensures { result ≡ option_of command name.now }
 {
     let option = option_named(name)?;

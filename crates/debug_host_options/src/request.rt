@@ -5,7 +5,7 @@ ghost use Rattle.std.specs.Option.{option_map};
 ghost use Rattle.debug_host_options.specs.Requests.{command_of, drill_of, number_of, number_or, port_of, replay_of, run_of, send_of, serve_of, sessions_of, sources_of};
 ghost use Rattle.debug_host_options.specs.Held.{count_held, parts_held, request_held, sources_held, text_held, texts_held};
 
-use crate::command::{Command, OptionName};
+use crate::command::{OptionName, Subcommand};
 use crate::given::{is_given, value_of};
 use crate::part::Part;
 use crate::session_count::{MOST_SESSIONS, SessionCount};
@@ -96,25 +96,25 @@ pub enum Request<'w> {
     /// Send commands to a serving host.
     Send(SendWords<'w>),
     /// Help with the program, or with one command.
-    Help(Option<Command>),
+    Help(Option<Subcommand>),
     /// The program's version.
     Version,
 }
 
 /// What a command's parts ask for, of which none is an option that is there twice, and these are the operands.
 pub(crate) fn command_of<'w>(
-    command: Command,
+    command: Subcommand,
     parts: &[Part<'w>],
     operands: Vec<&'w str>,
 ) -> Option<Request<'w>>
     ensures { option_map request_held result ≡ command_of command (parts_held parts.now) (texts_held operands.entry.items) }
 {
     match command {
-        Command::Run => run_of(parts, operands),
-        Command::Replay => replay_of(parts, operands),
-        Command::Drill => drill_of(&operands),
-        Command::Serve => serve_of(parts, operands),
-        Command::Send => send_of(parts, &operands),
+        Subcommand::Run => run_of(parts, operands),
+        Subcommand::Replay => replay_of(parts, operands),
+        Subcommand::Drill => drill_of(&operands),
+        Subcommand::Serve => serve_of(parts, operands),
+        Subcommand::Send => send_of(parts, &operands),
     }
 }
 

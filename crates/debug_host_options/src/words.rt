@@ -4,9 +4,9 @@ ghost use Rattle.std.specs.Prelude.{◌≡◌, ◌∷◌, List, ℕ, map, string
 ghost use Rattle.std.specs.Option.{option_map};
 ghost use Rattle.debug_host_options.specs.Requests.{Request as Meant, alone, asked, asks_help, command_words, form_by, is_help, request_of};
 ghost use Rattle.debug_host_options.specs.Held.{parts_held, request_held};
-ghost use Rattle.debug_host_options.specs.Written.{Asks};
+ghost use Rattle.debug_host_options.specs.Written.{AsksFor};
 
-use crate::command::{Command, command_named};
+use crate::command::{Subcommand, command_named};
 use crate::given::{has_repeat, operands_of};
 use crate::part::{Part, read_parts};
 use crate::request::{Request, command_of};
@@ -24,8 +24,8 @@ use std::alloc::{AllocError, Global};
 /// There is no memory for the list of the words' parts, or for that of the operands.
 pub fn read_words(alloc: Global, words: &[String]) -> Result<Option<Request<'_>>, AllocError>
     ensures value { IfOk result (λ request. option_map request_held request ≡ asked words.now) }
-    ensures is { IfOk result (λ read. IfSome read (λ request. Asks (map string_bytes words.now) (request_held request))) }
-    ensures one { IfOk result (λ read. (request : Meant) → Asks (map string_bytes words.now) request → option_map request_held read ≡ Some request) }
+    ensures is { IfOk result (λ read. IfSome read (λ request. AsksFor (map string_bytes words.now) (request_held request))) }
+    ensures one { IfOk result (λ read. (request : Meant) → AsksFor (map string_bytes words.now) request → option_map request_held read ≡ Some request) }
 {
     read_form(alloc, words)
 }
@@ -73,7 +73,7 @@ fn alone<'w>(request: Request<'w>, words: &[String]) -> Option<Request<'w>>
 /// What the words after a command's name ask for.
 fn read_command<'w>(
     alloc: Global,
-    command: Command,
+    command: Subcommand,
     words: &'w [String],
 ) -> Result<Option<Request<'w>>, AllocError>
     ensures { IfOk result (λ request. option_map request_held request ≡ command_words command (map string_bytes words.now)) }
@@ -90,7 +90,7 @@ fn read_command<'w>(
 /// What a command's parts ask for.
 fn read_request<'w>(
     alloc: Global,
-    command: Command,
+    command: Subcommand,
     parts: &[Part<'w>],
 ) -> Result<Option<Request<'w>>, AllocError>
     ensures { IfOk result (λ request. option_map request_held request ≡ request_of command (parts_held parts.now)) }

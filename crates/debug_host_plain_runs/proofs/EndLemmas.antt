@@ -16,8 +16,8 @@ use Rattle.js_machine_engine.specs.Stepping.{finish_of}
 use Rattle.js_machine.specs.declared.machine.Started.{Started}
 use Rattle.js_machine.specs.Machines.{Machine, program_of, run_at, state_of}
 use Rattle.js_machine.specs.Starts.{IsStarted}
-use Rattle.debug_host_plain_runs.specs.declared.end.RunEnd.{RunEnd}
-use Rattle.debug_host_plain_runs.specs.declared.end.RunEnd.TheVariants as ends
+use Rattle.debug_host_plain_runs.specs.declared.end.PlainRunEnd.{PlainRunEnd}
+use Rattle.debug_host_plain_runs.specs.declared.end.PlainRunEnd.TheVariants as ends
 use Rattle.cdp_edge_printing.specs.Printing.{printed_lines}
 use Rattle.debug_host_plain_runs.specs.Turns.{run_from, HasCome, IsCutFrom, IsLessFrom, IsOverBy}
 use Rattle.debug_host_plain_runs.specs.Runs.{output_after, IsCut, IsCutShort, ComesTo, IsFirstPart, EndsBy}
@@ -64,7 +64,7 @@ cut_at ts input k r st before now is g = record {
       (g ∙ ap (λ (q : Run). gains before (printed_lines (printed_of q))) (sym is));
 }
 
-pub comes_over : (e : RunEnd) (ts : Terms) (input : List (List ℕ)) (s : Started) (n : Machine) (w : World)
+pub comes_over : (e : PlainRunEnd) (ts : Terms) (input : List (List ℕ)) (s : Started) (n : Machine) (w : World)
     (before now : Option (List ℕ)) (f : Finish)
     → IsStarted ts input s
     → HasCome s.machine (heap_world s.machine.names s.heap) n w before now
@@ -125,7 +125,7 @@ comes_short ts input s before now i h = record {
 
 -- ---- a first part of the output
 
-cut_of : (e : RunEnd) (ts : Terms) (input : List (List ℕ)) (before now : Option (List ℕ))
+cut_of : (e : PlainRunEnd) (ts : Terms) (input : List (List ℕ)) (before now : Option (List ℕ))
     → ComesTo e ts input before now
     → IsCut ts input before now
 cut_of ends.Ended ts input before now h = cut_at ts input h.steps (runs.ended h.value) h.state before now h.is h.whole
@@ -147,7 +147,7 @@ output_goes_on ts input k more =
           ∙ ap printed_lines grown.1 ∙ lines-append (printed_of r) grown.0,
     )
 
-pub first_part : (e : RunEnd) (ts : Terms) (input : List (List ℕ)) (before now : Option (List ℕ))
+pub first_part : (e : PlainRunEnd) (ts : Terms) (input : List (List ℕ)) (before now : Option (List ℕ))
     → ComesTo e ts input before now
     → IsFirstPart ts input before now
 first_part e ts input before now h =

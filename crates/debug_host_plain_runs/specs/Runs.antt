@@ -6,13 +6,13 @@ use Rattle.js_heap.specs.declared.value.Value.{Value}
 use Rattle.js_heap.specs.Values.{shown}
 use Rattle.js_heap.specs.World.{World}
 use Rattle.js_semantics.specs.State.{State}
-use Rattle.js_semantics.specs.declared.form.Spot.{Spot}
+use Rattle.js_semantics.specs.declared.form.SourceMark.{SourceMark}
 use Rattle.js_semantics.specs.Terms.{Terms}
 use Rattle.js_semantics.specs.Run.{over, ended, threw, plain, out}
 use Rattle.js_machine_engine.specs.declared.stepped.Finish.{Finish}
 use Rattle.js_machine_engine.specs.declared.stepped.Finish.TheVariants as finishes
-use Rattle.debug_host_plain_runs.specs.declared.end.RunEnd.{RunEnd}
-use Rattle.debug_host_plain_runs.specs.declared.end.RunEnd.TheVariants as ends
+use Rattle.debug_host_plain_runs.specs.declared.end.PlainRunEnd.{PlainRunEnd}
+use Rattle.debug_host_plain_runs.specs.declared.end.PlainRunEnd.TheVariants as ends
 use Rattle.cdp_edge_printing.specs.Printing.{printed_lines}
 
 -- the bytes that so many steps of scripts with an input print
@@ -31,7 +31,7 @@ pub record HasEnded (ts : Terms) (input : List (List ℕ)) (before now : Option 
 pub record HasThrown (ts : Terms) (input : List (List ℕ)) (text : List ℕ) (before now : Option (List ℕ)) : Type 0 where
   pub steps : ℕ
   pub value : Value
-  pub place : Spot
+  pub place : SourceMark
   pub state : State
   pub is : plain steps ts input ≡ over (threw value place) state
   pub told : text ≡ utf8_of (shown state.world value)
@@ -48,7 +48,7 @@ pub record IsCutShort (ts : Terms) (input : List (List ℕ)) (before now : Optio
   pub less : GainsLess before now (output_after steps ts input)
 
 -- what each end says of the run and of what was written
-abbrev pub ComesTo : RunEnd → Terms → List (List ℕ) → Option (List ℕ) → Option (List ℕ) → Type 0
+abbrev pub ComesTo : PlainRunEnd → Terms → List (List ℕ) → Option (List ℕ) → Option (List ℕ) → Type 0
 ComesTo ends.Ended ts input before now = HasEnded ts input before now
 ComesTo (ends.Threw text) ts input before now = HasThrown ts input (string_bytes text) before now
 ComesTo ends.CannotWrite ts input before now = IsCutShort ts input before now
@@ -60,7 +60,7 @@ pub record IsFirstPart (ts : Terms) (input : List (List ℕ)) (before now : Opti
   pub part : (more : ℕ) → GainsPrefix before now (output_after (steps + more) ts input)
 
 -- how a run is told to have ended that is over so in a world; want of memory may hide it
-abbrev pub EndsBy : RunEnd → Finish → World → Type 0
+abbrev pub EndsBy : PlainRunEnd → Finish → World → Type 0
 EndsBy ends.Ended (finishes.Ended v) w = Unit {0}
 EndsBy ends.Ended (finishes.Threw v place) w = ⊥
 EndsBy (ends.Threw text) (finishes.Ended v) w = ⊥

@@ -2,7 +2,7 @@
 
 /// How a run of scripts ended.
 #[derive(Drop)]
-pub enum RunEnd {
+pub enum PlainRunEnd {
     /// By its last script.
     Ended,
     /// By a throw that no `catch` took, of a value that is shown so.

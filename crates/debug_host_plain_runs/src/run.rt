@@ -7,7 +7,7 @@ ghost use Rattle.js_semantics.specs.Sources.{terms_of_scripts};
 ghost use Rattle.js_heap_memory.specs.Heaps.{heap_world};
 ghost use Rattle.debug_host_plain_runs.specs.Runs.{ComesTo, EndsBy, IsFirstPart};
 
-use crate::end::RunEnd;
+use crate::end::PlainRunEnd;
 use crate::turns::run_on;
 use cdp_edge::{Sink, SinkFault};
 use cdp_text::units::{Units, text_of};
@@ -35,14 +35,14 @@ fn shown_text(
 }
 
 /// How a run ended that is over so.
-fn end_of(alloc: Global, machine: &Machine, heap: &BaseHeap, finish: Finish) -> RunEnd
+fn end_of(alloc: Global, machine: &Machine, heap: &BaseHeap, finish: Finish) -> PlainRunEnd
     ensures { EndsBy result finish (heap_world machine.now.names heap.now) }
 {
     match finish {
-        Finish::Ended(_) => RunEnd::Ended,
+        Finish::Ended(_) => PlainRunEnd::Ended,
         Finish::Threw(value, _) => match shown_text(alloc, machine, heap, value) {
-            Ok(text) => RunEnd::Threw(text),
-            Err(AllocError) => RunEnd::Memory,
+            Ok(text) => PlainRunEnd::Threw(text),
+            Err(AllocError) => PlainRunEnd::Memory,
         },
     }
 }
@@ -55,16 +55,16 @@ pub fn run_scripts<R: Wait, O: Sink>(
     scripts: &[Script],
     input: VecDeque<Units>,
     out: &mut O,
-) -> RunEnd
+) -> PlainRunEnd
     // How the definition's run of the scripts ends, and what of its output was written.
     ensures comes { ComesTo result (terms_of_scripts scripts.now) input.items (O.content out.old) (O.content out.new) }
     // At every end, what was written is a first part of all that the run prints.
     ensures part { IsFirstPart (terms_of_scripts scripts.now) input.items (O.content out.old) (O.content out.new) }
-    ensures quiet { (result ≡ RunEnd.CannotWrite) ⊎ (O.faults out.new ≡ O.faults out.old) }
-    ensures failed { result ≡ RunEnd.CannotWrite → Rose (O.faults out.old) (O.faults out.new) }
+    ensures quiet { (result ≡ PlainRunEnd.CannotWrite) ⊎ (O.faults out.new ≡ O.faults out.old) }
+    ensures failed { result ≡ PlainRunEnd.CannotWrite → Rose (O.faults out.old) (O.faults out.new) }
 {
     let Ok(started) = Machine::start(alloc, scripts, input) else {
-        return RunEnd::Memory;
+        return PlainRunEnd::Memory;
     };
     let Started {
         mut machine,
@@ -72,7 +72,7 @@ pub fn run_scripts<R: Wait, O: Sink>(
     } = started;
     match run_on(rt, alloc, &mut machine, &mut heap, out) {
         Ok(finish) => end_of(alloc, &machine, &heap, finish),
-        Err(SinkFault::Memory) => RunEnd::Memory,
-        Err(SinkFault::Failed) => RunEnd::CannotWrite,
+        Err(SinkFault::Memory) => PlainRunEnd::Memory,
+        Err(SinkFault::Failed) => PlainRunEnd::CannotWrite,
     }
 }

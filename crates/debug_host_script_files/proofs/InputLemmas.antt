@@ -7,11 +7,11 @@ use Rattle.std.specs.declared.alloc.Global.{Global}
 use Rattle.std.proofs.lemmas.Bool.{eqb-true}
 use Rattle.std.proofs.lemmas.Str.{IsUtf8-from_is_utf8, is_utf8-from_IsUtf8}
 use Rattle.std.proofs.lemmas.List.Elements.{All-from_get_or}
-use Rattle.cdp_edge.specs.Outside.{Named, Told, Tells}
+use Rattle.cdp_edge.specs.Outside.{NamedFile, IfTold, Tells}
 use Rattle.cdp_text.specs.Lines.{IsOneLine}
 use Rattle.cdp_text.specs.Units.{utf16_of}
 use Rattle.cdp_text.proofs.LinesLemmas.{lines_of-line, lines_of-last}
-use Rattle.debug_host_script_files.specs.declared.fault.Refusal.TheVariants as refusals
+use Rattle.debug_host_script_files.specs.declared.fault.TextFault.TheVariants as refusals
 use Rattle.debug_host_script_files.specs.Input.{input_of, HoldsInput, HoldsNoText}
 
 one_line : (text : List ℕ) → ((i : ℕ) → i < length text → get_or text i 0 ≢ 10) → IsOneLine text
@@ -79,22 +79,22 @@ test_utf8 bs false e h = refl
 pub no_utf8 : (bs : List ℕ) → ¬ (IsUtf8 bs) → is_utf8 bs ≡ false
 no_utf8 bs h = test_utf8 bs (is_utf8 bs) refl h
 
-pub told_no_text : (told : Option (List Named)) (bytes : Vec ℕ Global) (name text : List ℕ)
-    → Told told (λ all. Tells (Ok bytes) name all)
+pub told_no_text : (told : Option (List NamedFile)) (bytes : Vec ℕ Global) (name text : List ℕ)
+    → IfTold told (λ all. Tells (Ok bytes) name all)
     → text ≡ bytes.items
     → ¬ (IsUtf8 text)
-    → Told told (λ files. HoldsNoText files name refusals.NotUtf8)
+    → IfTold told (λ files. HoldsNoText files name refusals.NotUtf8)
 told_no_text None bytes name text h e isnt = tt
 told_no_text (Some files) bytes name text h e isnt =
     record { bytes = bytes.items; there = h; utf8 = ap is_utf8 (sym e) ∙ no_utf8 text isnt; told = refl }
 
-pub told_input : (told : Option (List Named)) (bytes : Vec ℕ Global) (name text given : List ℕ) (lines : List (List ℕ))
-    → Told told (λ all. Tells (Ok bytes) name all)
+pub told_input : (told : Option (List NamedFile)) (bytes : Vec ℕ Global) (name text given : List ℕ) (lines : List (List ℕ))
+    → IfTold told (λ all. Tells (Ok bytes) name all)
     → text ≡ bytes.items
     → given ≡ text
     → IsUtf8 text
     → lines ≡ input_of given
-    → Told told (λ files. HoldsInput files name lines)
+    → IfTold told (λ files. HoldsInput files name lines)
 told_input None bytes name text given lines h e f u is = tt
 told_input (Some files) bytes name text given lines h e f u is =
     record {

@@ -9,7 +9,7 @@ use Rattle.std.specs.declared.alloc.Global.{Global}
 use Rattle.std.proofs.lemmas.List.{take_more, drop_more, take-append-drop, map-append}
 use Rattle.std.proofs.lemmas.Str.{is_utf8-from_IsUtf8}
 use Rattle.cdp_edge.specs.Blame.{Faults}
-use Rattle.cdp_edge.specs.Outside.{Named, Told, Tells, content_of}
+use Rattle.cdp_edge.specs.Outside.{NamedFile, IfTold, Tells, content_of}
 use Rattle.cdp_text.specs.Units.{utf16_of}
 use Rattle.js_tree.specs.declared.script.Script.{Script}
 use Rattle.js_tree.specs.Height.{height_of_statements}
@@ -29,8 +29,8 @@ use Rattle.js_parser.proofs.FaultLemmas.{no_tree}
 use Rattle.js_parser.proofs.PlaceLemmas.{token_in, bad_within}
 use Rattle.debug_host_script_files.specs.declared.fault.FileFault.{FileFault}
 use Rattle.debug_host_script_files.specs.declared.fault.FileFault.TheVariants as faults
-use Rattle.debug_host_script_files.specs.declared.fault.Refusal.{Refusal}
-use Rattle.debug_host_script_files.specs.declared.fault.Refusal.TheVariants as refusals
+use Rattle.debug_host_script_files.specs.declared.fault.TextFault.{TextFault}
+use Rattle.debug_host_script_files.specs.declared.fault.TextFault.TheVariants as refusals
 use Rattle.debug_host_script_files.specs.TopNames.{declared_in, declared_by_script}
 use Rattle.debug_host_script_files.specs.Refusals.{IsFaultOf, IsRefused, StandsWithin, refusal_of, fault_told}
 use Rattle.debug_host_script_files.specs.Scripts.{IsScriptOf, HoldsScript, AreScriptsBehind, AreScripts, IsRefusedNext, StandsBehind, IsReachedAt, IsRefusedAt, IsOneMore, Fails, FailsNext, FailsAs, name_held, names_held}
@@ -91,7 +91,7 @@ pub within_other : (declared : List (List ℕ)) (units slice other : List ℕ) (
 within_other declared units slice other f e g h =
     subst (λ (us : List ℕ). StandsWithin us f) (e ∙ sym g) (stands_within declared slice f h)
 
-told_as_fault : (declared : List (List ℕ)) (bytes : List ℕ) (f : ParseFault) (o : Option Refusal)
+told_as_fault : (declared : List (List ℕ)) (bytes : List ℕ) (f : ParseFault) (o : Option TextFault)
     → is_utf8 bytes ≡ true
     → IsFaultOf declared (utf16_of bytes) f
     → refusal_of (utf16_of bytes) f ≡ o
@@ -132,7 +132,7 @@ declared_more (x ∷ ss) s =
     ap (λ ns. declared_by_script x ++ ns) (declared_more ss s)
     ∙ sym (append_assoc (declared_by_script x) (declared_in ss) (declared_by_script s))
 
-are_more : (files : List Named) (earlier : List Script) (names : List (List ℕ)) (ss : List Script) (name : List ℕ)
+are_more : (files : List NamedFile) (earlier : List Script) (names : List (List ℕ)) (ss : List Script) (name : List ℕ)
     (s : Script)
     → AreScriptsBehind files earlier names ss
     → HoldsScript files (earlier ++ ss) name s
@@ -149,7 +149,7 @@ are_more files earlier (m ∷ names) (x ∷ ss) name s h n = (
 
 -- ---- none is refused
 
-not_told : (d : List (List ℕ)) (source : List ℕ) (body : Statements) (f : ParseFault) (r : Refusal)
+not_told : (d : List (List ℕ)) (source : List ℕ) (body : Statements) (f : ParseFault) (r : TextFault)
     → IsSource (IsScript d) height_of_statements source body
     → Caused (IsScript d) height_of_statements source f
     → refusal_of source f ≡ Some r
@@ -172,7 +172,7 @@ not_told d source body parse.TooDeep r h (inr begun) t =
 not_told d source body parse.Memory r h c t = absurd cc
 
 -- bytes that are a script aren't refused
-script_stands : (d : List (List ℕ)) (before : ℕ) (name bytes : List ℕ) (s : Script) (r : Refusal)
+script_stands : (d : List (List ℕ)) (before : ℕ) (name bytes : List ℕ) (s : Script) (r : TextFault)
     → IsScriptOf d before name bytes s
     → IsRefused d bytes r
     → ⊥
@@ -208,8 +208,8 @@ declared_after a b s t p q =
 pub some_same : (o : Option (List ℕ)) (x y : List ℕ) → o ≡ Some x → o ≡ Some y → x ≡ y
 some_same o x y p q = cc
 
-excluded : (files : List Named) (a b : List Script) (before : List (List ℕ)) (name : List ℕ) (behind : List (List ℕ))
-    (ss us : List Script) (r : Refusal)
+excluded : (files : List NamedFile) (a b : List Script) (before : List (List ℕ)) (name : List ℕ) (behind : List (List ℕ))
+    (ss us : List Script) (r : TextFault)
     → declared_in a ≡ declared_in b
     → AreScriptsBehind files a (before ++ name ∷ behind) ss
     → AreScriptsBehind files b before us
@@ -234,7 +234,7 @@ excluded files a b (n ∷ before) name behind (s ∷ ss) (u ∷ us) r p h j next
     (subst (λ (e : List Script). IsRefusedNext files e name r) (sym (append_assoc b (u ∷ []) us)) next)
 
 -- where all files hold scripts, none is refused
-pub none_refused : (files : List Named) (names : List (List ℕ)) (ss : List Script) (name : List ℕ) (r : Refusal)
+pub none_refused : (files : List NamedFile) (names : List (List ℕ)) (ss : List Script) (name : List ℕ) (r : TextFault)
     → AreScripts files names ss
     → IsRefusedAt files names name r
     → ⊥
@@ -244,13 +244,13 @@ none_refused files names ss name r h i =
 
 -- ---- what a shelf tells
 
-pub told_script : (told : Option (List Named)) (bytes : Vec ℕ Global) (name text : List ℕ) (declared : List (List ℕ))
+pub told_script : (told : Option (List NamedFile)) (bytes : Vec ℕ Global) (name text : List ℕ) (declared : List (List ℕ))
     (earlier : List Script) (s : Script)
-    → Told told (λ all. Tells (Ok bytes) name all)
+    → IfTold told (λ all. Tells (Ok bytes) name all)
     → text ≡ bytes.items
     → declared ≡ declared_in earlier
     → IsScriptOf declared (length earlier) name text s
-    → Told told (λ files. HoldsScript files earlier name s)
+    → IfTold told (λ files. HoldsScript files earlier name s)
 told_script None bytes name text declared earlier s h e d i = tt
 told_script (Some files) bytes name text declared earlier s h e d i = record {
   bytes = bytes.items;
@@ -261,13 +261,13 @@ told_script (Some files) bytes name text declared earlier s h e d i = record {
       subst (λ (ns : List (List ℕ)). IsScriptOf ns (length earlier) name bytes.items s) d here;
 }
 
-told_refused : (told : Option (List Named)) (bytes : Vec ℕ Global) (name text : List ℕ) (declared : List (List ℕ))
-    (earlier : List Script) (r : Refusal)
-    → Told told (λ all. Tells (Ok bytes) name all)
+told_refused : (told : Option (List NamedFile)) (bytes : Vec ℕ Global) (name text : List ℕ) (declared : List (List ℕ))
+    (earlier : List Script) (r : TextFault)
+    → IfTold told (λ all. Tells (Ok bytes) name all)
     → text ≡ bytes.items
     → declared ≡ declared_in earlier
     → IsRefused declared text r
-    → Told told (λ files. IsRefusedNext files earlier name r)
+    → IfTold told (λ files. IsRefusedNext files earlier name r)
 told_refused None bytes name text declared earlier r h e d i = tt
 told_refused (Some files) bytes name text declared earlier r h e d i = record {
   bytes = bytes.items;
@@ -277,9 +277,9 @@ told_refused (Some files) bytes name text declared earlier r h e d i = record {
       subst (λ (ns : List (List ℕ)). IsRefused ns bytes.items r) d here;
 }
 
-pub fails_next : (fault : FileFault) (told : Option (List Named)) (bytes : Vec ℕ Global) (name text : List ℕ)
+pub fails_next : (fault : FileFault) (told : Option (List NamedFile)) (bytes : Vec ℕ Global) (name text : List ℕ)
     (declared : List (List ℕ)) (earlier : List Script) (before after : Faults)
-    → Told told (λ all. Tells (Ok bytes) name all)
+    → IfTold told (λ all. Tells (Ok bytes) name all)
     → text ≡ bytes.items
     → declared ≡ declared_in earlier
     → after ≡ before
@@ -290,21 +290,21 @@ fails_next (faults.Refused r) told bytes name text declared earlier before after
 fails_next faults.CannotRead told bytes name text declared earlier before after h e d same i = absurd i
 fails_next faults.Memory told bytes name text declared earlier before after h e d same i = same
 
-pub read_ok : (r : Result Script FileFault) (told : Option (List Named)) (bytes : Vec ℕ Global) (name text : List ℕ)
+pub read_ok : (r : Result Script FileFault) (told : Option (List NamedFile)) (bytes : Vec ℕ Global) (name text : List ℕ)
     (declared : List (List ℕ)) (earlier : List Script) (n : ℕ)
     → n ≡ length earlier
-    → Told told (λ all. Tells (Ok bytes) name all)
+    → IfTold told (λ all. Tells (Ok bytes) name all)
     → text ≡ bytes.items
     → declared ≡ declared_in earlier
     → IfOk r (λ s. IsScriptOf declared n name text s)
-    → IfOk r (λ s. Told told (λ files. HoldsScript files earlier name s))
+    → IfOk r (λ s. IfTold told (λ files. HoldsScript files earlier name s))
 read_ok (Ok s) told bytes name text declared earlier n l h e d i =
     told_script told bytes name text declared earlier s h e d (subst (λ (m : ℕ). IsScriptOf declared m name text s) l i)
 read_ok (Err f) told bytes name text declared earlier n l h e d i = tt
 
-pub read_fault : (r : Result Script FileFault) (told : Option (List Named)) (bytes : Vec ℕ Global) (name text : List ℕ)
+pub read_fault : (r : Result Script FileFault) (told : Option (List NamedFile)) (bytes : Vec ℕ Global) (name text : List ℕ)
     (declared : List (List ℕ)) (earlier : List Script) (before after : Faults)
-    → Told told (λ all. Tells (Ok bytes) name all)
+    → IfTold told (λ all. Tells (Ok bytes) name all)
     → text ≡ bytes.items
     → declared ≡ declared_in earlier
     → after ≡ before
@@ -314,16 +314,16 @@ read_fault (Ok s) told bytes name text declared earlier before after h e d same 
 read_fault (Err f) told bytes name text declared earlier before after h e d same i =
     fails_next f told bytes name text declared earlier before after h e d same i
 
-pub told_one_more : (told : Option (List Named)) (lent old new : List Script) (s : Script) (name : List ℕ)
+pub told_one_more : (told : Option (List NamedFile)) (lent old new : List Script) (s : Script) (name : List ℕ)
     → lent ≡ old
-    → Told told (λ files. HoldsScript files lent name s)
+    → IfTold told (λ files. HoldsScript files lent name s)
     → new ≡ old ++ s ∷ []
-    → Told told (λ files. IsOneMore files old new name)
+    → IfTold told (λ files. IsOneMore files old new name)
 told_one_more None lent old new s name l h e = tt
 told_one_more (Some files) lent old new s name l h e =
     record { script = s; added = e; holds = subst (λ (ss : List Script). HoldsScript files ss name s) l h }
 
-pub fails_lent : (fault : FileFault) (told : Option (List Named)) (lent old : List Script) (name : List ℕ)
+pub fails_lent : (fault : FileFault) (told : Option (List NamedFile)) (lent old : List Script) (name : List ℕ)
     (before after : Faults)
     → lent ≡ old
     → FailsNext fault told lent name before after
@@ -347,12 +347,12 @@ one_name_more : (names : List (Bor (List ℕ))) (i : ℕ) (other : Bor (List ℕ
 one_name_more names i other h =
     ap names_held (take_more names i other h) ∙ map-append name_held (take i names) (get_or names i other ∷ [])
 
-told_one_name : (told : Option (List Named)) (names : List (Bor (List ℕ))) (i : ℕ) (other : Bor (List ℕ))
+told_one_name : (told : Option (List NamedFile)) (names : List (Bor (List ℕ))) (i : ℕ) (other : Bor (List ℕ))
     (ss new : List Script)
     → i < length names
-    → Told told (λ files. AreScripts files (names_held (take i names)) ss)
-    → Told told (λ files. IsOneMore files ss new (name_held (get_or names i other)))
-    → Told told (λ files. AreScripts files (names_held (take (i + 1) names)) new)
+    → IfTold told (λ files. AreScripts files (names_held (take i names)) ss)
+    → IfTold told (λ files. IsOneMore files ss new (name_held (get_or names i other)))
+    → IfTold told (λ files. AreScripts files (names_held (take (i + 1) names)) new)
 told_one_name None names i other ss new lt h more = tt
 told_one_name (Some files) names i other ss new lt h more =
     let front = names_held (take i names) in
@@ -363,16 +363,16 @@ told_one_name (Some files) names i other ss new lt h more =
     (λ (ns : List (List ℕ)). AreScripts files ns (ss ++ more.script ∷ [])) (sym (one_name_more names i other lt)) there in
     subst (λ (us : List Script). AreScripts files (names_held (take (i + 1) names)) us) (sym more.added) now
 
-pub told_are_more : (told later : Option (List Named)) (names : List (Bor (List ℕ))) (i : ℕ) (other : Bor (List ℕ))
+pub told_are_more : (told later : Option (List NamedFile)) (names : List (Bor (List ℕ))) (i : ℕ) (other : Bor (List ℕ))
     (ss new : List Script)
     → later ≡ told
     → i < length names
-    → Told told (λ files. AreScripts files (names_held (take i names)) ss)
-    → Told later (λ files. IsOneMore files ss new (name_held (get_or names i other)))
-    → Told told (λ files. AreScripts files (names_held (take (i + 1) names)) new)
+    → IfTold told (λ files. AreScripts files (names_held (take i names)) ss)
+    → IfTold later (λ files. IsOneMore files ss new (name_held (get_or names i other)))
+    → IfTold told (λ files. AreScripts files (names_held (take (i + 1) names)) new)
 told_are_more told later names i other ss new same lt h more =
     told_one_name told names i other ss new lt h
-    (subst (λ (o : Option (List Named)). Told o (λ files. IsOneMore files ss new (name_held (get_or names i other)))) same more)
+    (subst (λ (o : Option (List NamedFile)). IfTold o (λ files. IsOneMore files ss new (name_held (get_or names i other)))) same more)
 
 pub stands_behind : (names : List (Bor (List ℕ))) (i : ℕ) (other : Bor (List ℕ))
     → i < length names
@@ -385,31 +385,31 @@ stands_behind names i other lt = record {
       ∙ ap (λ ns. names_held (take i names) ++ names_held ns) (drop_more names i other lt);
 }
 
-abbrev reached : (files : List Named) (names front : List (List ℕ)) (name : List ℕ) (ss : List Script)
+abbrev reached : (files : List NamedFile) (names front : List (List ℕ)) (name : List ℕ) (ss : List Script)
     → StandsBehind names front name
     → AreScripts files front ss
     → IsReachedAt files names name
 reached files names front name ss s h = record { before = front; stands = s; scripts = ss; are = h }
 
-told_reached : (told : Option (List Named)) (names front : List (List ℕ)) (name : List ℕ) (ss : List Script)
+told_reached : (told : Option (List NamedFile)) (names front : List (List ℕ)) (name : List ℕ) (ss : List Script)
     → StandsBehind names front name
-    → Told told (λ files. AreScripts files front ss)
-    → Told told (λ files. IsReachedAt files names name)
+    → IfTold told (λ files. AreScripts files front ss)
+    → IfTold told (λ files. IsReachedAt files names name)
 told_reached None names front name ss s h = tt
 told_reached (Some files) names front name ss s h = reached files names front name ss s h
 
-told_at : (told : Option (List Named)) (names front : List (List ℕ)) (name : List ℕ) (ss : List Script) (r : Refusal)
+told_at : (told : Option (List NamedFile)) (names front : List (List ℕ)) (name : List ℕ) (ss : List Script) (r : TextFault)
     → StandsBehind names front name
-    → Told told (λ files. AreScripts files front ss)
-    → Told told (λ files. IsRefusedNext files ss name r)
-    → Told told (λ files. IsRefusedAt files names name r)
+    → IfTold told (λ files. AreScripts files front ss)
+    → IfTold told (λ files. IsRefusedNext files ss name r)
+    → IfTold told (λ files. IsRefusedAt files names name r)
 told_at None names front name ss r s h n = tt
 told_at (Some files) names front name ss r s h n = record { reached = reached files names front name ss s h; next = n }
 
-fails_here : (fault : FileFault) (told : Option (List Named)) (names front : List (List ℕ)) (name : List ℕ)
+fails_here : (fault : FileFault) (told : Option (List NamedFile)) (names front : List (List ℕ)) (name : List ℕ)
     (ss : List Script) (before after : Faults)
     → StandsBehind names front name
-    → Told told (λ files. AreScripts files front ss)
+    → IfTold told (λ files. AreScripts files front ss)
     → FailsNext fault told ss name before after → Fails fault told names name before after
 fails_here (faults.Refused r) told names front name ss before after s h n =
     (n.0, told_at told names front name ss r s h n.1)
@@ -418,16 +418,16 @@ fails_here faults.CannotRead told names front name ss before after s h n =
 fails_here faults.Memory told names front name ss before after s h n = n
 
 -- the fault of the shelf as it is now is one of the shelf as it was, where nothing failed so far
-pub fails_at : (fault : FileFault) (told later : Option (List Named)) (names front : List (List ℕ)) (name : List ℕ)
+pub fails_at : (fault : FileFault) (told later : Option (List NamedFile)) (names front : List (List ℕ)) (name : List ℕ)
     (ss : List Script) (before now after : Faults)
     → later ≡ told
     → now ≡ before
     → StandsBehind names front name
-    → Told told (λ files. AreScripts files front ss)
+    → IfTold told (λ files. AreScripts files front ss)
     → FailsNext fault later ss name now after
     → Fails fault told names name before after
 fails_at fault told later names front name ss before now after t b s h n =
     let here : FailsNext fault told ss name now after = subst
-    (λ (o : Option (List Named)). FailsNext fault o ss name now after) t n in
+    (λ (o : Option (List NamedFile)). FailsNext fault o ss name now after) t n in
     fails_here fault told names front name ss before after s h
     (subst (λ (x : Faults). FailsNext fault told ss name x after) b here)

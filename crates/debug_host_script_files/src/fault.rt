@@ -5,7 +5,7 @@ use thiserror::Error;
 
 /// Why a text isn't taken as a script, or as input.
 #[derive(Clone, Copy, Debug, Error)]
-pub enum Refusal {
+pub enum TextFault {
     /// Its bytes aren't UTF-8.
     #[error("not UTF-8")]
     NotUtf8,
@@ -31,7 +31,7 @@ pub enum FileFault {
     CannotRead,
     /// It was read, and isn't taken.
     #[error("{0}")]
-    Refused(Refusal),
+    Refused(TextFault),
     /// No memory was left.
     #[error("out of memory")]
     Memory,

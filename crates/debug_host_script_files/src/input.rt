@@ -1,11 +1,11 @@
 //! The lines of input that a file holds.
 
 ghost use Rattle.std.specs.Prelude.{◌≡◌, IfOk, IfErr};
-ghost use Rattle.cdp_edge.specs.Outside.{Told};
+ghost use Rattle.cdp_edge.specs.Outside.{IfTold};
 ghost use Rattle.debug_host_script_files.specs.Input.{input_of, HoldsInput, FailsInput};
 
 use crate::evidence::{Evidence, FileEvidence};
-use crate::fault::{FileFault, Refusal};
+use crate::fault::{FileFault, TextFault};
 use cdp_edge::{Shelf, ShelfFault};
 use cdp_text::parts::halves;
 use cdp_text::units::{Units, units_of};
@@ -39,7 +39,7 @@ pub fn read_input<F: Shelf>(
     name: &str,
     evidence: &mut Evidence,
 ) -> Result<VecDeque<Units>, FileFault>
-    ensures lines { IfOk result (λ lines. Told (F.files shelf.old) (λ files. HoldsInput files name.now lines.items)) }
+    ensures lines { IfOk result (λ lines. IfTold (F.files shelf.old) (λ files. HoldsInput files name.now lines.items)) }
     ensures quiet { IfOk result (λ lines. F.faults shelf.new ≡ F.faults shelf.old) }
     ensures fault { IfErr result (λ fault. FailsInput fault (F.files shelf.old) name.now (F.faults shelf.old) (F.faults shelf.new)) }
     ensures files { F.files shelf.new ≡ F.files shelf.old }
@@ -58,7 +58,7 @@ pub fn read_input<F: Shelf>(
     };
     let Ok(text) = str::from_utf8(&bytes) else {
         evidence.file = FileEvidence::Content(bytes);
-        return Err(FileFault::Refused(Refusal::NotUtf8));
+        return Err(FileFault::Refused(TextFault::NotUtf8));
     };
     match lines_of(alloc, text) {
         Ok(lines) => Ok(lines),

@@ -18,7 +18,7 @@ mod source;
 mod top_names;
 
 pub use evidence::{Evidence, FileEvidence};
-pub use fault::{FileFault, Refusal};
+pub use fault::{FileFault, TextFault};
 pub use input::read_input;
 pub use scripts::{ScriptFault, read_scripts};
 pub use source::script_of;

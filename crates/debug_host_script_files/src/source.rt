@@ -4,7 +4,7 @@ ghost use Rattle.std.specs.Prelude.{◌≡◌, ◌+◌, IfOk, IfErr, IfSome};
 ghost use Rattle.debug_host_script_files.specs.Scripts.{IsScriptOf, FailsAs};
 ghost use Rattle.debug_host_script_files.specs.Refusals.{refusal_of, fault_told, StandsWithin};
 
-use crate::fault::{FileFault, Refusal};
+use crate::fault::{FileFault, TextFault};
 use crate::refusal::refusal_of;
 use cdp_text::units::{Units, units_of};
 use js_parser::parse::parse_script;
@@ -28,7 +28,7 @@ pub fn script_of(
     ensures fault { IfErr result (λ fault. FailsAs fault declared.now bytes.now) }
 {
     let Ok(text) = str::from_utf8(bytes) else {
-        return Err(FileFault::Refused(Refusal::NotUtf8));
+        return Err(FileFault::Refused(TextFault::NotUtf8));
     };
     let Ok(source) = units_of(alloc, text) else {
         return Err(FileFault::Memory);

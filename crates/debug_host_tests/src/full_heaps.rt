@@ -6,7 +6,7 @@
 use crate::answers::{Question, answers};
 use crate::state::lines_of;
 use cdp_text::units::{text_of, units_of};
-use js_machine::plain::{Outcome, run_scripts};
+use js_machine::plain::{PlainRun, run_scripts};
 use js_machine_actions::shown::shown;
 use js_machine_engine::stepped::Finish;
 use js_parser::parse::parse_script;
@@ -118,7 +118,7 @@ const UNITS_MADE: [(&str, &str); 24] = [
 ];
 
 /// How a run ended, as a program tells it.
-fn end_of(alloc: Global, outcome: &Outcome) -> Result<String, AllocError> {
+fn end_of(alloc: Global, outcome: &PlainRun) -> Result<String, AllocError> {
     let value = match outcome.machine.finished() {
         None => return String::from_str(alloc, "running"),
         Some(Finish::Ended(_)) => return String::from_str(alloc, "ended"),
@@ -129,7 +129,7 @@ fn end_of(alloc: Global, outcome: &Outcome) -> Result<String, AllocError> {
 }
 
 /// How a run ended, and in further lines what it printed.
-fn told_of_end(alloc: Global, outcome: &Outcome) -> Result<String, AllocError> {
+fn told_of_end(alloc: Global, outcome: &PlainRun) -> Result<String, AllocError> {
     let end = end_of(alloc, outcome)?;
     let printed = lines_of(alloc, outcome.machine.printed())?;
     format!(in alloc; "{end}\n{printed}")

@@ -3,7 +3,7 @@
 use cdp_text::units::{Units, text_of, units_of};
 use js_heap::change::Counted;
 use js_heap_memory::heap::BaseHeap;
-use js_heap_memory::names::Names;
+use js_heap_memory::names::NameTable;
 use js_heap_memory::start::add_built_in_names;
 use js_heap_memory::stored::Stored;
 use js_heap_memory::world::{Refused, World};
@@ -14,7 +14,7 @@ use std::test::Fail;
 
 /// The heap of a program without literals.
 fn heap(alloc: Global) -> Result<BaseHeap, AllocError> {
-    let mut names = Names::new(alloc);
+    let mut names = NameTable::new(alloc);
     add_built_in_names(alloc, &mut names)?;
     BaseHeap::start(alloc, &names, &[])
 }
@@ -79,7 +79,7 @@ pub(crate) fn lines_of(alloc: Global, texts: &[Units]) -> Result<String, AllocEr
 #[test]
 fn prints_the_lines_that_it_takes(rt: HostRuntime) -> Result<(), Fail> {
     let alloc = rt.alloc();
-    let names = Names::new(alloc);
+    let names = NameTable::new(alloc);
     let heap = heap(alloc)?;
     let mut input = VecDeque::new(alloc);
     for line in ["one", "", "three"] {

@@ -10,7 +10,7 @@ use Rattle.js_heap.specs.declared.change.Change.{Change}
 use Rattle.js_heap.specs.declared.change.Change.TheVariants as changes
 use Rattle.js_heap.specs.declared.change.Counted.TheVariants as counted
 use Rattle.js_heap.specs.BuiltIns.{built_in_cells, literal_cells, first_world}
-use Rattle.js_heap.specs.Cells.{Kind, weight, changed, with_element, binding_of, bound}
+use Rattle.js_heap.specs.Cells.{CellKind, weight, changed, with_element, binding_of, bound}
 use Rattle.js_heap.specs.World.{Room, World, fine, effect, full, read_cell, is_own, next_address, with_cell, room_less, make_cell, replaced, room_after, written, written_at, write_cell}
 use Rattle.js_heap.specs.Worlds.{Leads, IsScopeKind, SoundScope, SoundCell, AfterFine}
 use Rattle.js_heap.proofs.KeepLemmas.{fine_if}
@@ -42,7 +42,7 @@ get-set P (d ∷ cs) (suc j) c h k zero = h zero
 get-set P (d ∷ cs) (suc j) c h k (suc i) = get-set (λ m. P (suc m)) cs j c (λ m. h (suc m)) k i
 
 -- what is read is within the list
-pub live-below : (P : Kind → Type 0) (cs : List Cell) (i : ℕ) → Leads P (slice_get cs i) → i < length cs
+pub live-below : (P : CellKind → Type 0) (cs : List Cell) (i : ℕ) → Leads P (slice_get cs i) → i < length cs
 live-below P [] i h = absurd h
 live-below P (d ∷ cs) zero h = omega arith
 live-below P (d ∷ cs) (suc i) h = let k : i < length cs = live-below P cs i h in omega arith

@@ -18,12 +18,12 @@ use crate::cells::{FunctionRef, function_at};
 use crate::name::Name;
 use crate::places::shown_place;
 use crate::scopes::Scopes;
-use crate::standing::Standing;
+use crate::standing::StandingMachine;
 use cdp_text::position::Place;
 use js_heap::built_in::Code;
 use js_heap::value::{Addr, Value};
 use js_heap_memory::heap::BaseHeap;
-use js_heap_memory::names::Names;
+use js_heap_memory::names::NameTable;
 use js_machine_actions::frame::Frame;
 use js_machine_inspection::arrivals::arrival;
 use js_machine_inspection::frames::active_frame;
@@ -49,7 +49,7 @@ pub struct FrameView<'m> {
 /// The active frames that are still to come, from the top one outward. Contracts see their list.
 #[derive(Drop)]
 pub struct Frames<'m> {
-    standing: Standing<'m>,
+    standing: StandingMachine<'m>,
     passed: usize,
 }
 
@@ -77,7 +77,7 @@ fn function_of<'m>(heap: &'m BaseHeap, function: Option<Addr>) -> Option<Functio
 }
 
 /// Where a function begins, if it is in one of the scripts.
-fn function_place(standing: &Standing, function: Option<FunctionRef>) -> Option<Place>
+fn function_place(standing: &StandingMachine, function: Option<FunctionRef>) -> Option<Place>
     requires lines { standing.now.lines.now ≡ map starts_of standing.now.scripts.now }
     requires short { All (λ s. length s.source < 2 ^ 32) standing.now.scripts.now }
     ensures { (ts : List (List ℕ)) → result ≡ function_place standing.now.scripts.now (function_seen ts function.entry) }
@@ -95,7 +95,7 @@ fn function_place(standing: &Standing, function: Option<FunctionRef>) -> Option<
 }
 
 /// The name of a function; where there is none, the empty one.
-fn function_name<'m>(names: &'m Names, function: Option<FunctionRef<'m>>) -> Name<'m>
+fn function_name<'m>(names: &'m NameTable, function: Option<FunctionRef<'m>>) -> Name<'m>
     ensures { result ≡ function_name (function_seen names.now function.entry) }
 {
     match function {
@@ -105,7 +105,7 @@ fn function_name<'m>(names: &'m Names, function: Option<FunctionRef<'m>>) -> Nam
 }
 
 /// A frame as it is shown.
-fn view_of<'m>(standing: &Standing<'m>, frame: &Frame, here: Mark) -> FrameView<'m>
+fn view_of<'m>(standing: &StandingMachine<'m>, frame: &Frame, here: Mark) -> FrameView<'m>
     requires lines { standing.now.lines.now ≡ map starts_of standing.now.scripts.now }
     requires short { All (λ s. length s.source < 2 ^ 32) standing.now.scripts.now }
     ensures { frame_shown result ≡ shown_frame standing.now.scripts.now (heap_world standing.now.names.now standing.now.heap.now) (record frame.now { here = here }) }
@@ -121,7 +121,7 @@ fn view_of<'m>(standing: &Standing<'m>, frame: &Frame, here: Mark) -> FrameView<
 }
 
 /// Where a frame stands that is shown behind so many: the top one at the arrival, if there is one.
-fn here_of(standing: &Standing, passed: usize, frame: &Frame) -> Mark
+fn here_of(standing: &StandingMachine, passed: usize, frame: &Frame) -> Mark
     requires table { IsTable standing.now.table.now }
     requires at { IsAt standing.now.table.now standing.now.stack.now standing.now.point }
     ensures { (ts : List (List ℕ)) → result ≡ here_at (at (spans_in standing.now.scripts.now (top_spot standing.now.context.now.frames).source) (term_at ts standing.now.table.now standing.now.stack.now standing.now.point)) passed frame.now }
@@ -142,7 +142,7 @@ fn here_of(standing: &Standing, passed: usize, frame: &Frame) -> Mark
     }
 }
 
-impl<'m> Standing<'m> {
+impl<'m> StandingMachine<'m> {
     /// The active frames from the top one outward: those of the configuration, whatever was taken of what it printed.
     pub fn frames(self) -> Frames<'m>
         requires { CanWalk self.table.now self.root self.stack.now self.point self.scripts.now self.lines.now }
@@ -166,7 +166,7 @@ impl<'m> Iterator for Frames<'m> {
     ghost remaining = { item_count (λ left. left) };
 
     fn next(&mut self) -> Option<FrameView<'m>> {
-        let Standing {
+        let StandingMachine {
             table,
             root,
             context,

@@ -1,6 +1,6 @@
 //! The active frames of a machine from the top down, each with its scopes from the innermost one outward. They are lent from
-//! where they are kept: nothing is copied, and walking takes no memory. Where they are wanted all at once, `Standing::call_frames`
-//! puts them into a list, which takes memory; their names are lent all the same.
+//! where they are kept: nothing is copied, and walking takes no memory. Where they are wanted all at once,
+//! `StandingMachine::call_frames` puts them into a list, which takes memory; their names are lent all the same.
 //!
 //! Its words in contracts:
 //!
@@ -22,4 +22,4 @@ mod standing;
 pub use frames::{FrameView, Frames};
 pub use name::Name;
 pub use scopes::{ScopeView, Scopes};
-pub use standing::Standing;
+pub use standing::StandingMachine;

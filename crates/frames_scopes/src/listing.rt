@@ -12,7 +12,7 @@ ghost use Rattle.frames_scopes.specs.Standings.{CanWalk};
 
 use crate::frames::{FrameView, Frames};
 use crate::scopes::{ScopeView, Scopes};
-use crate::standing::Standing;
+use crate::standing::StandingMachine;
 use frames_scopes_types::{CallFrame, Scope};
 use std::alloc::{AllocError, Global};
 
@@ -71,7 +71,7 @@ fn lent_frames<'m>(alloc: Global, frames: Frames<'m>) -> Result<Vec<CallFrame<'m
     Ok(list)
 }
 
-impl<'m> Standing<'m> {
+impl<'m> StandingMachine<'m> {
     /// The active frames from the top one outward, each with its scopes: their names are lent. They are those of the
     /// configuration, whatever was taken of what it printed.
     ///

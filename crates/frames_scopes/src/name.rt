@@ -3,7 +3,7 @@
 ghost use Rattle.std.specs.Prelude.{◌≡◌, IfOk, option_copied};
 ghost use Rattle.frames_scopes.specs.Names.{shown_name};
 
-use js_heap_memory::names::Names;
+use js_heap_memory::names::NameTable;
 use js_heap_memory::stored::FunctionName;
 use js_machine_actions::seen::name_text;
 use std::alloc::AllocError;
@@ -12,7 +12,7 @@ use std::marker::Model;
 /// The name of a function, as a frame or a scope shows it. Contracts see its text, which is empty where there is none.
 #[derive(Drop)]
 pub struct Name<'m> {
-    names: &'m Names,
+    names: &'m NameTable,
     name: Option<&'m FunctionName>,
 }
 
@@ -27,7 +27,7 @@ impl<'m> Model for Name<'m> {
 
 impl<'m> Name<'m> {
     /// A name with the table of its text, or none.
-    pub(crate) fn new(names: &'m Names, name: Option<&'m FunctionName>) -> Name<'m>
+    pub(crate) fn new(names: &'m NameTable, name: Option<&'m FunctionName>) -> Name<'m>
         ensures { result ≡ shown_name names.now (option_copied name.entry) }
     {
         Name { names, name }

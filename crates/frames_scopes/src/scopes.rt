@@ -12,7 +12,7 @@ use frames_scopes_types::ListedKind;
 use js_heap::cell::ScopeKind;
 use js_heap::value::Addr;
 use js_heap_memory::heap::BaseHeap;
-use js_heap_memory::names::Names;
+use js_heap_memory::names::NameTable;
 use js_heap_memory::stored::FunctionName;
 use js_heap_memory::world::World;
 use std::marker::Model;
@@ -31,7 +31,7 @@ pub struct ScopeView<'m> {
 /// The scopes of a frame that are still to come, from the innermost one outward. Contracts see their list.
 #[derive(Drop)]
 pub struct Scopes<'m> {
-    names: &'m Names,
+    names: &'m NameTable,
     heap: &'m BaseHeap,
     // the next one, whether no scope of a call came before it, and how many may come at most
     next: Option<Addr>,
@@ -81,7 +81,7 @@ fn still_inside(kind: ScopeKind, inside: bool) -> bool
 }
 
 /// The name that a scope shows whose function has a name.
-fn shown_name<'m>(names: &'m Names, kind: ListedKind, name: &'m FunctionName) -> Name<'m>
+fn shown_name<'m>(names: &'m NameTable, kind: ListedKind, name: &'m FunctionName) -> Name<'m>
     ensures { result ≡ name_on kind (name_text names.now name.now) }
 {
     match kind {
@@ -93,7 +93,7 @@ fn shown_name<'m>(names: &'m Names, kind: ListedKind, name: &'m FunctionName) ->
 
 impl<'m> Scopes<'m> {
     /// The scopes of a frame with this innermost one.
-    pub(crate) fn of(names: &'m Names, heap: &'m BaseHeap, innermost: Addr) -> Scopes<'m>
+    pub(crate) fn of(names: &'m NameTable, heap: &'m BaseHeap, innermost: Addr) -> Scopes<'m>
         ensures { result ≡ shown_scopes (heap_world names.now heap.now) innermost }
     {
         Scopes {

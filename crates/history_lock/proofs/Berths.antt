@@ -7,7 +7,7 @@ use Rattle.atomic_table.proofs.Lists.{set_again}
 use Rattle.history_lock.specs.declared.view.View.{View}
 use Rattle.history_lock.specs.Histories.{Begins}
 use Rattle.history_lock.specs.Views.{held}
-use Rattle.history_lock.specs.Rule.{total, KeptOf, Kept}
+use Rattle.history_lock.specs.Rule.{total, KeptOf, IsOneHistory}
 
 module _ {S E : Type 0} (stands : S → List (ℕ × E) → Type 0) (n : ℕ) where
   other_words : (s : State (Opt S) (View E)) (served : ℕ) (past : List (ℕ × E)) (ws : List ℕ) → KeptOf stands n served past s → Begins ((served + total held s.views) ∷ served ∷ []) ws
@@ -24,7 +24,7 @@ module _ {S E : Type 0} (stands : S → List (ℕ × E) → Type 0) (n : ℕ) wh
     slot = r.slot;
   }
 
-  steps : (slots id : ℕ) (me : Me (Opt S) (View E)) (i : ℕ) (f : ℕ → ℕ) → 2 ≤ i → Allows (Kept stands n) slots id me i f (λ found you. you ≡ me)
+  steps : (slots id : ℕ) (me : Me (Opt S) (View E)) (i : ℕ) (f : ℕ → ℕ) → 2 ≤ i → Allows (IsOneHistory stands n) slots id me i f (λ found you. you ≡ me)
   steps slots id me zero f le = absurd (omega (arith, le))
   steps slots id me (suc zero) f le = absurd (omega (arith, le))
   steps slots id me (suc (suc i)) f le = λ s kept_now _ at _.
@@ -38,14 +38,14 @@ module _ {S E : Type 0} (stands : S → List (ℕ × E) → Type 0) (n : ℕ) wh
         me.0,
         keeps,
         tt,
-        subst (λ vs. Kept stands n record { words = ws; homes = s.homes; views = vs }) (sym (set_again s.views id me.0 at)) (past, served, end, kept_now.3),
+        subst (λ vs. IsOneHistory stands n record { words = ws; homes = s.homes; views = vs }) (sym (set_again s.views id me.0 at)) (past, served, end, kept_now.3),
         refl,
       )
 
   -- a mark is set
-  pub marks : (slots id : ℕ) (me : Me (Opt S) (View E)) (i mark : ℕ) → 2 ≤ i → Allows (Kept stands n) slots id me i (λ x. bit_or x mark) (λ found you. you ≡ me)
+  pub marks : (slots id : ℕ) (me : Me (Opt S) (View E)) (i mark : ℕ) → 2 ≤ i → Allows (IsOneHistory stands n) slots id me i (λ x. bit_or x mark) (λ found you. you ≡ me)
   marks slots id me i mark le = steps slots id me i (λ x. bit_or x mark) le
 
   -- a mark is taken away, if the word is still the one that was found
-  pub unmarks : (slots id : ℕ) (me : Me (Opt S) (View E)) (i old new : ℕ) → 2 ≤ i → Allows (Kept stands n) slots id me i (λ x. either (eqb x old) new x) (λ found you. you ≡ me)
+  pub unmarks : (slots id : ℕ) (me : Me (Opt S) (View E)) (i old new : ℕ) → 2 ≤ i → Allows (IsOneHistory stands n) slots id me i (λ x. either (eqb x old) new x) (λ found you. you ≡ me)
   unmarks slots id me i old new le = steps slots id me i (λ x. either (eqb x old) new x) le

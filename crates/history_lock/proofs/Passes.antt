@@ -11,7 +11,7 @@ use Rattle.history_lock.specs.declared.view.View.{View}
 use Rattle.history_lock.specs.Histories.{limit, has, by, Begins, longer}
 use Rattle.history_lock.specs.Passes.{LockId, PassState, initial_pass, initial_passes}
 use Rattle.history_lock.specs.Views.{IsSeated, IsOpening, shown, held, Reserved, term, plain, opening, nobody, thinned, newborn, opened, newly_opened, divided, split_off, joined}
-use Rattle.history_lock.specs.Rule.{total, Fits, Meets, KeptOf, Kept, Accounts, IsWithin, WasSplit}
+use Rattle.history_lock.specs.Rule.{total, Fits, Meets, KeptOf, IsOneHistory, Accounts, IsWithin, WasSplit}
 use Rattle.history_lock.specs.Steps.{Recalled}
 use Rattle.history_lock.proofs.Facts.{begins_same, begins_nil, begins_both, by_none, by_within, has_append, has_front, has_behind, has_one, has_same, total_set, total_snoc, each_set, each_snoc, set_there, set_other, set_swap, not_true}
 use Rattle.history_lock.proofs.Reserves.{nobody_reserves, thinned_within, newborn_within, parted, base_taken, base_not_kept, unopened_taken, unopened_not_kept, from_base, base_within}
@@ -32,7 +32,7 @@ module _ {S E : Type 0} (stands : S → List (ℕ × E) → Type 0) (n : ℕ) wh
   St = State (Opt S) V
 
   abbrev Rule : St → Type 0
-  Rule s = Kept stands n s
+  Rule s = IsOneHistory stands n s
 
   abbrev At : ℕ → List (ℕ × E) → St → Type 0
   At served log s = KeptOf stands n served log s

@@ -10,7 +10,7 @@ use Rattle.atomic_table.proofs.Lists.{set_again}
 use Rattle.history_lock.specs.declared.view.View.{View}
 use Rattle.history_lock.specs.Histories.{limit, has, by, made, Begins}
 use Rattle.history_lock.specs.Views.{held, drawn, looked, advanced}
-use Rattle.history_lock.specs.Rule.{total, Fits, Holds, Meets, KeptOf, Kept, Accounts, IsWithin}
+use Rattle.history_lock.specs.Rule.{total, Fits, Holds, Meets, KeptOf, IsOneHistory, Accounts, IsWithin}
 use Rattle.history_lock.specs.Steps.{Drawn, Looked, Advanced, SeesMore}
 use Rattle.history_lock.proofs.Facts.{begins_same, begins_nil, begins_more, by_append, by_made, by_behind, length_made, append_nil, total_set, each_set, set_there, not_true}
 use Rattle.history_lock.proofs.Changes.{fits_later, meets_none, changed, stays_alone, accounts_set, holds_on}
@@ -24,7 +24,7 @@ module _ {S E : Type 0} (stands : S → List (ℕ × E) → Type 0) (n : ℕ) wh
   St = State (Opt S) V
 
   abbrev Rule : St → Type 0
-  Rule s = Kept stands n s
+  Rule s = IsOneHistory stands n s
 
   abbrev At : ℕ → List (ℕ × E) → St → Type 0
   At served log s = KeptOf stands n served log s

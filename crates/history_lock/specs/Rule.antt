@@ -77,5 +77,5 @@ module _ {S E : Type 0} (stands : S → List (ℕ × E) → Type 0) where
     pub slot : Holds s.homes s.views log
 
   -- there is one history
-  abbrev pub Kept : ℕ → State (Opt S) (View E) → Type 0
-  Kept n s = (log : List (ℕ × E)) × (served : ℕ) × KeptOf n served log s × Accounts n s.views log
+  abbrev pub IsOneHistory : ℕ → State (Opt S) (View E) → Type 0
+  IsOneHistory n s = (log : List (ℕ × E)) × (served : ℕ) × KeptOf n served log s × Accounts n s.views log

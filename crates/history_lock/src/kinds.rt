@@ -25,13 +25,13 @@ impl<S: Standing<E, B>, E, B> Play<Option<S>, View<E>> for Looks<S, E, B> {
 }
 
 /// The entries that a turn ends with.
-pub trait Ending<E> {
+pub trait LastEntry<E> {
     ghost use Rattle.std.specs.Prelude.{List};
 
     ghost entries: { List E };
 }
 
-impl<E> Ending<E> for Brand {
+impl<E> LastEntry<E> for Brand {
     ghost use Rattle.std.specs.Prelude.{[]};
 
     ghost entries = { [] };
@@ -42,7 +42,7 @@ pub struct Advances<X> {
     marker: PhantomData<X>,
 }
 
-impl<S, E, X: Ending<E>> Play<Option<S>, View<E>> for Advances<X> {
+impl<S, E, X: LastEntry<E>> Play<Option<S>, View<E>> for Advances<X> {
     ghost use Rattle.history_lock.specs.Steps.{Advanced};
 
     ghost then = { Advanced X.entries };

@@ -6,7 +6,7 @@ ghost use Rattle.history_lock.specs.Passes.{PassState, Follows, IsSamePass, IsNe
 ghost use Rattle.history_lock.specs.Views.{IsOpening, drawn, advanced};
 ghost use Rattle.history_lock.specs.Steps.{Looked, Comes, OnlyInitial};
 
-use crate::kinds::{Advances, Draws, Ending, Joins, Looks, Marks, Opens, Recalls, SplitsOff};
+use crate::kinds::{Advances, Draws, Joins, LastEntry, Looks, Marks, Opens, Recalls, SplitsOff};
 use crate::rule::OneHistory;
 use crate::standing::Standing;
 use crate::view::View;
@@ -248,7 +248,7 @@ impl<S: Standing<E, B>, E, B> HistoryLock<S, E, B> {
     }
 
     // Ends the turn with the entry, and wakes the pass with the ticket after those of this one.
-    fn advance<X: Ending<E>>(&self, seat: &mut Seat<Option<S>, View<E>>, tickets: u64, entry: &E)
+    fn advance<X: LastEntry<E>>(&self, seat: &mut Seat<Option<S>, View<E>>, tickets: u64, entry: &E)
         requires lock { seat.old.table_id ≡ self.now }
         requires turn { (seat.old.me.0.tickets ≡ tickets) × (0 < tickets) × (seat.old.me.0.in_turn ≡ true) }
         requires ending { X.entries ≡ entry.now ∷ [] }
@@ -265,7 +265,7 @@ impl<S: Standing<E, B>, E, B> HistoryLock<S, E, B> {
     }
 
     // The same with the entries of two turns.
-    fn advance_twice<X: Ending<E>>(
+    fn advance_twice<X: LastEntry<E>>(
         &self,
         seat: &mut Seat<Option<S>, View<E>>,
         first: &E,

@@ -11,9 +11,9 @@ pub struct OneHistory<S, E, B> {
 
 impl<S: Standing<E, B>, E, B> TableRule<Option<S>, View<E>, u64> for OneHistory<S, E, B> {
     ghost use Rattle.history_lock.specs.Views.{opening};
-    ghost use Rattle.history_lock.specs.Rule.{Kept};
+    ghost use Rattle.history_lock.specs.Rule.{IsOneHistory};
 
-    ghost holds = { λ n s. Kept S.stands n s };
+    ghost holds = { λ n s. IsOneHistory S.stands n s };
 
     ghost first = { opening };
 }

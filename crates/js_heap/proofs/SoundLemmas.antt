@@ -14,7 +14,7 @@ use Rattle.js_heap.specs.declared.change.Change.{Change}
 use Rattle.js_heap.specs.declared.change.Change.TheVariants as changes
 use Rattle.js_heap.specs.declared.change.Counted.TheVariants as counted
 use Rattle.js_heap.specs.Keys.{same_units, has_key, with_value, stands_before, index_of_key, placed, assigned, put_property, without_key}
-use Rattle.js_heap.specs.Cells.{Kind, kind_of, weight, changed, with_element, binding_of, bound, declared}
+use Rattle.js_heap.specs.Cells.{CellKind, kind_of, weight, changed, with_element, binding_of, bound, declared}
 use Rattle.js_heap.specs.World.{Room, World, fine, effect, full, read_cell, is_own, next_address, with_cell, room_less, make_cell, replaced, room_after, written, written_at, write_cell}
 use Rattle.js_heap.specs.Worlds.{IsObjectKind, IsTextKind, IsScopeKind, Leads, SoundValue, SoundScope, SoundIfSome, SoundValues, SoundProperties, SoundNames, SoundCell, SoundCells, IsSound, SoundChange, KindStays, AfterFine, Later}
 use Rattle.js_heap.proofs.MapLemmas.{get-last}
@@ -22,7 +22,7 @@ use Rattle.js_heap.proofs.KeepLemmas.{fine_if, made_kinds, set_kinds, changed-ki
 
 -- ---- what a later world has
 
-pub leads-stays : (P : Kind → Type 0) (o p : Option Cell) → KindStays o p → Leads P o → Leads P p
+pub leads-stays : (P : CellKind → Type 0) (o p : Option Cell) → KindStays o p → Leads P o → Leads P p
 leads-stays P None p h k = absurd k
 leads-stays P (Some c) None h k = absurd h
 leads-stays P (Some c) (Some d) h k = subst P (sym h) k

@@ -11,11 +11,11 @@ use Rattle.js_heap.specs.declared.change.Change.TheVariants as changes
 use Rattle.js_heap.specs.Keys.{same_units, put_property, without_key}
 
 -- what kind of cell it is
-pub data Kind : Type 0 where
-  an_object an_error an_array a_text a_function a_scope : Kind
+pub data CellKind : Type 0 where
+  an_object an_error an_array a_text a_function a_scope : CellKind
 
 -- the kind of a cell
-abbrev pub kind_of : Cell → Kind
+abbrev pub kind_of : Cell → CellKind
 kind_of (cells.Object ps) = an_object
 kind_of (cells.Error class ps) = an_error
 kind_of (cells.Array vs) = an_array

@@ -9,13 +9,13 @@ use Rattle.js_heap.specs.declared.cell.Cell.{Cell}
 use Rattle.js_heap.specs.declared.cell.Cell.TheVariants as cells
 use Rattle.js_heap.specs.declared.change.Change.{Change}
 use Rattle.js_heap.specs.declared.change.Change.TheVariants as changes
-use Rattle.js_heap.specs.Cells.{Kind, an_object, an_error, an_array, a_text, a_function, a_scope, kind_of, changed}
+use Rattle.js_heap.specs.Cells.{CellKind, an_object, an_error, an_array, a_text, a_function, a_scope, kind_of, changed}
 use Rattle.js_heap.specs.World.{World, Tried, fine, effect, full, read_cell}
 
 -- ---- kinds
 
 -- an object, an error, an array or a function
-abbrev pub IsObjectKind : Kind → Type 0
+abbrev pub IsObjectKind : CellKind → Type 0
 IsObjectKind an_object = Unit {0}
 IsObjectKind an_error = Unit {0}
 IsObjectKind an_array = Unit {0}
@@ -24,15 +24,15 @@ IsObjectKind a_function = Unit {0}
 IsObjectKind a_scope = ⊥
 
 -- a text
-abbrev pub IsTextKind : Kind → Type 0
+abbrev pub IsTextKind : CellKind → Type 0
 IsTextKind k = k ≡ a_text
 
 -- a scope
-abbrev pub IsScopeKind : Kind → Type 0
+abbrev pub IsScopeKind : CellKind → Type 0
 IsScopeKind k = k ≡ a_scope
 
 -- the address is live, and its cell of such a kind
-abbrev pub Leads : (Kind → Type 0) → Option Cell → Type 0
+abbrev pub Leads : (CellKind → Type 0) → Option Cell → Type 0
 Leads P None = ⊥
 Leads P (Some c) = P (kind_of c)
 

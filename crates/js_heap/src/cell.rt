@@ -98,11 +98,11 @@ pub struct Binding {
 
 /// The names of a scope in order. Contracts see their list.
 #[derive(Drop)]
-pub struct Names {
+pub struct ScopeNames {
     items: Vec<Binding>,
 }
 
-impl Model for Names {
+impl Model for ScopeNames {
     ghost use Rattle.std.specs.Prelude.{List};
     ghost use Rattle.js_heap.specs.declared.cell.Binding.{Binding};
 
@@ -111,21 +111,21 @@ impl Model for Names {
     ghost view = { λ names. names.items.items };
 }
 
-impl Names {
+impl ScopeNames {
     /// No name.
-    pub fn new(alloc: Global) -> Names
+    pub fn new(alloc: Global) -> ScopeNames
         ensures { result ≡ [] }
     {
-        Names {
+        ScopeNames {
             items: Vec::new(alloc),
         }
     }
 
     /// The names in the memory of the vector, in its order.
-    pub fn from_vec(items: Vec<Binding>) -> Names
+    pub fn from_vec(items: Vec<Binding>) -> ScopeNames
         ensures { result ≡ items.items }
     {
-        Names { items }
+        ScopeNames { items }
     }
 
     /// The bindings.
@@ -182,6 +182,6 @@ pub enum Cell {
         kind: ScopeKind,
         name: Units,
         outer: Option<Addr>,
-        names: Names,
+        names: ScopeNames,
     },
 }

@@ -11,7 +11,7 @@ use Rattle.js_heap_memory.specs.declared.stored.Stored.{Stored}
 use Rattle.js_heap_memory.specs.declared.stored.Stored.TheVariants as stored
 use Rattle.js_heap_memory.specs.Cells.{cell_of, cells_of, AllWithin}
 use Rattle.js_heap_memory.specs.Heaps.{Heap, Fit, value_in_cells}
-use Rattle.js_heap_memory.specs.Overlays.{Over, overlay_world, over_world, space_of, Marked, space_at, Earlier}
+use Rattle.js_heap_memory.specs.Overlays.{Over, overlay_world, over_world, space_of, OverlayMark, space_at, Earlier}
 use Rattle.js_heap_memory.proofs.HeapLemmas.{cells-append, cells-length}
 use Rattle.js_heap_memory.proofs.WithinLemmas.{within-append, cells-more, value-length}
 use Rattle.std.proofs.lemmas.Bool.{le-leb}
@@ -95,7 +95,7 @@ before_mark : (cs : List Stored) (place known count ends : ℕ)
 before_mark cs place known count ends h l k =
     cells-more known ends (take count cs) k (fewer_within known count place cs l h.within)
 
-pub before-mark : (h g : Heap) (m n : Marked) (place known : ℕ)
+pub before-mark : (h g : Heap) (m n : OverlayMark) (place known : ℕ)
     → h ≡ g
     → m ≡ n
     → Earlier h.cells place known
@@ -104,10 +104,10 @@ pub before-mark : (h g : Heap) (m n : Marked) (place known : ℕ)
     → AllWithin m.ends (take n.count g.cells)
 before-mark h g m n place known e f w l k =
     let P : Heap → Type 0 = λ x. AllWithin m.ends (take n.count x.cells) in
-    let Q : Marked → Type 0 = λ x. AllWithin m.ends (take x.count h.cells) in
+    let Q : OverlayMark → Type 0 = λ x. AllWithin m.ends (take x.count h.cells) in
     subst P e (subst Q f (before_mark h.cells place known m.count m.ends w l k))
 
-pub all-before : (h g : Heap) (n : Marked) (left : ℕ)
+pub all-before : (h g : Heap) (n : OverlayMark) (left : ℕ)
     → h ≡ g
     → Fit h.cells h.ends left
     → AllWithin h.ends (take n.count g.cells)
@@ -115,7 +115,7 @@ all-before h g n left e f =
     let P : Heap → Type 0 = λ x. AllWithin h.ends (take n.count x.cells) in
     subst P e (take-within h.ends n.count h.cells f.within)
 
-pub cut-fit : (h g : Heap) (m n : Marked) (ds : List Stored) (ends : ℕ)
+pub cut-fit : (h g : Heap) (m n : OverlayMark) (ds : List Stored) (ends : ℕ)
     → h ≡ g
     → m ≡ n
     → ds ≡ take m.count h.cells
@@ -124,7 +124,7 @@ pub cut-fit : (h g : Heap) (m n : Marked) (ds : List Stored) (ends : ℕ)
     → Fit ds ends m.cells_left
 cut-fit h g m n ds ends e f k w l =
     let P : Heap → Type 0 = λ x. AllWithin ends (take m.count x.cells) in
-    let Q : Marked → Type 0 = λ x. AllWithin ends (take x.count g.cells) in
+    let Q : OverlayMark → Type 0 = λ x. AllWithin ends (take x.count g.cells) in
     let R : List Stored → Type 0 = λ xs. Fit xs ends m.cells_left in
     subst R (sym k)
     (record {
@@ -165,7 +165,7 @@ cut-min cs ds count place at known e m h =
     cut_earlier cs ds count at known e (omega (arith, m))
     (record { within = fewer_within known at place cs l h.within; before = omega (arith, h.before, l) })
 
-pub cut-space : (h g : Heap) (ds : List Stored) (m n : Marked)
+pub cut-space : (h g : Heap) (ds : List Stored) (m n : OverlayMark)
     → h ≡ g
     → m ≡ n
     → ds ≡ take m.count h.cells
@@ -187,7 +187,7 @@ cut-space h g ds m n e f k ts =
       };
     } in
     let P : Heap → Type 0 = λ y. x ≡ space_at (space_of ts y) n in
-    let Q : Marked → Type 0 = λ y. x ≡ space_at (space_of ts h) y in
+    let Q : OverlayMark → Type 0 = λ y. x ≡ space_at (space_of ts h) y in
     subst P e (subst Q f (rw (k, cells_take ts m.count h.cells) refl))
 
 -- ---- a source that is kept

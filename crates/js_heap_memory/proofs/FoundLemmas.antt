@@ -4,7 +4,7 @@ use Rattle.js_heap.specs.declared.value.Addr.{Addr}
 use Rattle.js_heap.specs.World.{World, read_cell}
 use Rattle.js_heap.specs.declared.cell.Cell.{Cell}
 use Rattle.js_heap.specs.Scopes.{Found, found_in, found_within}
-use Rattle.js_heap_memory.specs.Calls.{Kept, kept_found}
+use Rattle.js_heap_memory.specs.Calls.{KeptBinding, kept_found}
 
 pub found-step : (n m : ℕ) (w : World) (name : List ℕ) (a : Addr)
     → n ≡ suc m
@@ -19,7 +19,7 @@ found-none (suc n) w name a e = absurd (omega arith)
 pub ruleset found_rules = (found-step, found-none)
 
 -- a scope that leads outward
-pub outward-step : (n i : ℕ) (w : World) (name : List ℕ) (at a : Addr) (cell : Option Cell) (first : Option Kept)
+pub outward-step : (n i : ℕ) (w : World) (name : List ℕ) (at a : Addr) (cell : Option Cell) (first : Option KeptBinding)
     → i < n
     → cell ≡ read_cell w at
     → ((further : Addr → Option Found) → kept_found (found_in at cell name further) ≡ kept_found (further a))

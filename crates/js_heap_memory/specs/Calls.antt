@@ -71,21 +71,21 @@ HasPlace (Some (cells.Bindings k n o ns)) place name = (place ≡ name_place ns 
 HasPlace _ place name = ⊥
 
 -- what code keeps of a name that was found
-pub record Kept : Type 0 where
+pub record KeptBinding : Type 0 where
   pub scope : Addr
   pub constant : Bool
   pub value : Option Value
 
 -- what code keeps of a binding that was found
-abbrev pub kept_of : Found → Kept
+abbrev pub kept_of : Found → KeptBinding
 kept_of f = record { scope = f.scope; constant = f.binding.constant; value = f.binding.value }
 
 -- what code keeps of a name that the definition finds, where it finds it
-abbrev pub kept_found : Option Found → Option Kept
+abbrev pub kept_found : Option Found → Option KeptBinding
 kept_found None = None
 kept_found (Some f) = Some (kept_of f)
 
 -- what code keeps of a name that it found by its number, where it found it
-abbrev pub kept_slot : Option FoundSlot → Option Kept
+abbrev pub kept_slot : Option FoundSlot → Option KeptBinding
 kept_slot None = None
 kept_slot (Some f) = Some (record { scope = f.scope; constant = f.constant; value = f.value })

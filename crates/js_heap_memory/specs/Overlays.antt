@@ -54,18 +54,18 @@ next_of h = Scratch (length h.cells)
 -- ---- marks
 
 -- where a session's cells ended, and what was left of their room; names below `ends` were known
-pub record Marked : Type 0 where
+pub record OverlayMark : Type 0 where
   pub count : ℕ
   pub ends : ℕ
   pub cells_left : ℕ
   pub units_left : ℕ
 
 -- a mark at the present end of a session's cells
-abbrev pub mark_of : Heap → Marked
+abbrev pub mark_of : Heap → OverlayMark
 mark_of h = record { count = length h.cells; ends = h.ends; cells_left = h.cells_left; units_left = h.units_left }
 
 -- only the cells before a mark, with the room that was left there
-abbrev pub space_at : ScratchSpace → Marked → ScratchSpace
+abbrev pub space_at : ScratchSpace → OverlayMark → ScratchSpace
 space_at x m = record { cells = take m.count x.cells; room = record { cells = m.cells_left; units = m.units_left } }
 
 -- the cells before a place, which no evaluation may change any more, have only names below a number

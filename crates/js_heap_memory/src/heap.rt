@@ -5,7 +5,7 @@ ghost use Rattle.js_heap.specs.BuiltIns.{first_world};
 ghost use Rattle.js_heap_memory.specs.Heaps.{all_below, is_below, is_within, value_in_cell, value_in_cells, heap_world, Fit, MakesRoom};
 
 use crate::change::{CellChange, change_in};
-use crate::names::{NameId, Names};
+use crate::names::{NameId, NameTable};
 use crate::start::{add_built_ins, add_literals};
 use crate::stored::{FunctionName, Slot, Stored};
 use crate::weight::{taken, weight};
@@ -123,7 +123,11 @@ impl BaseHeap {
     /// # Errors
     ///
     /// There is no memory for them, or a name isn't in the table.
-    pub fn start(alloc: Global, names: &Names, literals: &[Units]) -> Result<BaseHeap, AllocError>
+    pub fn start(
+        alloc: Global,
+        names: &NameTable,
+        literals: &[Units],
+    ) -> Result<BaseHeap, AllocError>
         ensures world { IfOk result (λ heap. heap_world names.now heap ≡ first_world literals.now) }
         ensures known { IfOk result (λ heap. heap.ends ≡ length names.now) }
     {
@@ -165,7 +169,7 @@ impl BaseHeap {
     }
 
     /// From now on the names of a table are known.
-    pub fn know(&mut self, table: &Names)
+    pub fn know(&mut self, table: &NameTable)
         ensures world { (names : List (List ℕ)) → heap_world names self.new ≡ heap_world names self.old }
         ensures known { length table.now ≤ self.new.ends }
     {
@@ -227,7 +231,7 @@ impl World for BaseHeap {
 
     fn bind_at(
         &mut self,
-        names: &Names,
+        names: &NameTable,
         scope: Addr,
         place: usize,
         name: NameId,

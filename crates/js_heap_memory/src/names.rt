@@ -16,13 +16,13 @@ pub struct NameId {
 
 /// The texts of names; none stands twice. Contracts see their list.
 #[derive(Drop)]
-pub struct Names {
+pub struct NameTable {
     texts: Vec<Units>,
     // the number of each text, to find one among many
     index: HashMap<Vec<u16>, u32>,
 }
 
-impl Model for Names {
+impl Model for NameTable {
     ghost use Rattle.std.specs.Prelude.{List, ℕ};
     ghost use Rattle.js_heap_memory.specs.Indexes.{IsIndexed};
 
@@ -33,12 +33,12 @@ impl Model for Names {
     ghost invariant = { λ n. IsIndexed n.texts.items n.index };
 }
 
-impl Names {
+impl NameTable {
     /// No names. It takes no memory.
-    pub fn new(alloc: Global) -> Names
+    pub fn new(alloc: Global) -> NameTable
         ensures { result ≡ [] }
     {
-        Names {
+        NameTable {
             texts: Vec::new(alloc),
             index: HashMap::new(alloc),
         }
@@ -104,10 +104,10 @@ impl Names {
     /// # Errors
     ///
     /// There is no memory for it.
-    pub fn copy(&self) -> Result<Names, AllocError>
+    pub fn copy(&self) -> Result<NameTable, AllocError>
         ensures { IfOk result (λ names. names ≡ self.now) }
     {
-        let mut names = Names::new(*self.texts.allocator());
+        let mut names = NameTable::new(*self.texts.allocator());
         for text in &self.texts {
             names.push(text.as_slice())?;
         }

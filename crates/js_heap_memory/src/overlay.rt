@@ -9,7 +9,7 @@ ghost use Rattle.js_heap_memory.specs.Overlays.{over_world, space_of, first_spac
 
 use crate::change::{CellChange, change_in};
 use crate::heap::{BaseHeap, is_within, push_cell, room_for, stored_at, value_in_cells};
-use crate::names::{NameId, Names};
+use crate::names::{NameId, NameTable};
 use crate::stored::Stored;
 use crate::weight::{taken, weight};
 use crate::world::{Refused, World};
@@ -44,18 +44,18 @@ impl Model for Scratch {
 
 /// Where a session's cells ended, and what was left of their room. Names below `ends` were known.
 #[derive(Drop)]
-pub struct Mark {
+pub struct OverlayMark {
     count: usize,
     ends: usize,
     cells_left: u32,
     units_left: u32,
 }
 
-impl Model for Mark {
+impl Model for OverlayMark {
     ghost use Rattle.std.specs.Prelude.{◌+◌, ◌<◌, ◌^◌};
-    ghost use Rattle.js_heap_memory.specs.Overlays.{Marked};
+    ghost use Rattle.js_heap_memory.specs.Overlays.{OverlayMark as AnyOverlayMark};
 
-    ghost Value = { Marked };
+    ghost Value = { AnyOverlayMark };
 
     ghost view = { λ m. record { count = m.count; ends = m.ends; cells_left = m.cells_left; units_left = m.units_left } };
 
@@ -78,7 +78,7 @@ impl Scratch {
     }
 
     /// From now on the names of a table are known.
-    pub fn know(&mut self, table: &Names)
+    pub fn know(&mut self, table: &NameTable)
         ensures space { (names : List (List ℕ)) → space_of names self.new ≡ space_of names self.old }
         ensures known { length table.now ≤ self.new.ends }
     {
@@ -110,10 +110,10 @@ impl Scratch {
     }
 
     /// Where the cells end now, with the room that is left. It takes no memory.
-    pub fn mark(&self) -> Mark
+    pub fn mark(&self) -> OverlayMark
         ensures { result ≡ mark_of self.now }
     {
-        Mark {
+        OverlayMark {
             count: self.cells.len(),
             ends: self.ends,
             cells_left: self.cells_left,
@@ -122,7 +122,7 @@ impl Scratch {
     }
 
     // How many names the cells before a mark need: those that were known there, where the cells are of that time.
-    fn ends_at(&self, mark: &Mark) -> usize
+    fn ends_at(&self, mark: &OverlayMark) -> usize
         ensures within { AllWithin result (take mark.now.count self.now.cells) }
         ensures known { (result ≡ self.now.ends) ⊎ (result ≡ mark.now.ends) }
     {
@@ -136,7 +136,7 @@ impl Scratch {
     }
 
     /// Only the cells before a mark, with the room that was left there. It takes no memory.
-    pub fn cut(&mut self, mark: Mark)
+    pub fn cut(&mut self, mark: OverlayMark)
         ensures space { (names : List (List ℕ)) → space_of names self.new ≡ space_at (space_of names self.old) mark }
         ensures known { (self.new.ends ≡ self.old.ends) ⊎ (self.new.ends ≡ mark.ends) }
     {
@@ -290,7 +290,7 @@ impl<'a> World for Overlay<'a> {
 
     fn bind_at(
         &mut self,
-        names: &Names,
+        names: &NameTable,
         scope: Addr,
         place: usize,
         name: NameId,

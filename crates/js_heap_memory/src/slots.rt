@@ -52,32 +52,32 @@ pub fn bind(slots: &mut Slots, name: NameId, value: Value)
 
 /// What a scope says of a name.
 #[derive(Clone, Copy)]
-pub enum Looked {
+pub enum SlotLookup {
     Here(FoundSlot),
     Outward(Addr),
     Nowhere,
 }
 
 /// A name that isn't in a scope is looked for in the scope around, if there is one.
-fn outward(outer: Option<Addr>) -> Looked
+fn outward(outer: Option<Addr>) -> SlotLookup
     ensures place { IsNotHere result }
     ensures value { (further : AnyAddr → Option Found) → kept_found (found_outward outer further) ≡ looked_on result (λ a. kept_found (further a)) }
 {
     match outer {
-        Some(a) => Looked::Outward(a),
-        None => Looked::Nowhere,
+        Some(a) => SlotLookup::Outward(a),
+        None => SlotLookup::Nowhere,
     }
 }
 
 /// Looks for a name in the names of the scope at an address.
-fn look_in(slots: &[Slot], at: Addr, outer: Option<Addr>, name: NameId) -> Looked
+fn look_in(slots: &[Slot], at: Addr, outer: Option<Addr>, name: NameId) -> SlotLookup
     ensures place { (names : List (List ℕ)) → Differ names → IsPlacedIn result at (bindings names slots.now) (name_of names name.number) }
     ensures value { (names : List (List ℕ)) → Differ names → (further : AnyAddr → Option Found) → kept_found (found_here at (binding_of (bindings names slots.now) (name_of names name.number)) (found_outward outer further)) ≡ looked_on result (λ a. kept_found (further a)) }
 {
     let place = slot_place(slots, name);
     if place < slots.len() {
         let slot = slots[place];
-        return Looked::Here(FoundSlot {
+        return SlotLookup::Here(FoundSlot {
             scope: at,
             place,
             constant: slot.constant,
@@ -88,13 +88,13 @@ fn look_in(slots: &[Slot], at: Addr, outer: Option<Addr>, name: NameId) -> Looke
 }
 
 /// Looks for a name in the scope at an address.
-pub(crate) fn look(cell: Option<&Stored>, at: Addr, name: NameId) -> Looked
+pub(crate) fn look(cell: Option<&Stored>, at: Addr, name: NameId) -> SlotLookup
     ensures place { (names : List (List ℕ)) → Differ names → IsPlaced result at (cell_at names (option_copied cell.entry)) (name_of names name.number) }
     ensures value { (names : List (List ℕ)) → Differ names → (further : AnyAddr → Option Found) → kept_found (found_in at (cell_at names (option_copied cell.entry)) (name_of names name.number) further) ≡ looked_on result (λ a. kept_found (further a)) }
 {
     match cell {
         Some(Stored::Scope { outer, slots, .. }) => { look_in(slots.slice(), at, *outer, name) }
-        _ => Looked::Nowhere,
+        _ => SlotLookup::Nowhere,
     }
 }
 

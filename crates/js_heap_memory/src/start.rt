@@ -9,7 +9,7 @@ ghost use Rattle.js_heap_memory.specs.Names.{name_of, GoesOn};
 ghost use Rattle.js_heap_memory.specs.Start.{holder, IsCell, IsCellOf, GainsNames, GainsCells};
 
 use crate::heap::push_cell;
-use crate::names::{NameId, Names};
+use crate::names::{NameId, NameTable};
 use crate::properties::PropertyMap;
 use crate::stored::{FunctionCell, FunctionName, Slot, Slots, Stored};
 use cdp_text::units::{Units, ascii};
@@ -41,7 +41,7 @@ const BUILT_IN_NAMES: [&[u8]; 18] = [
 ];
 
 /// Adds a name in ASCII to a table.
-fn add_name(alloc: Global, names: &mut Names, text: &[u8]) -> Result<(), AllocError>
+fn add_name(alloc: Global, names: &mut NameTable, text: &[u8]) -> Result<(), AllocError>
     ensures { GoesOn names.old names.new }
 {
     let units = ascii(alloc, text)?;
@@ -50,7 +50,7 @@ fn add_name(alloc: Global, names: &mut Names, text: &[u8]) -> Result<(), AllocEr
 }
 
 /// Adds names in ASCII to a table, in order.
-fn add_names(alloc: Global, names: &mut Names, texts: &[&[u8]]) -> Result<(), AllocError>
+fn add_names(alloc: Global, names: &mut NameTable, texts: &[&[u8]]) -> Result<(), AllocError>
     ensures { GoesOn names.old names.new }
 {
     for i in 0..texts.len() {
@@ -60,7 +60,7 @@ fn add_names(alloc: Global, names: &mut Names, texts: &[&[u8]]) -> Result<(), Al
 }
 
 /// Adds the names of the built-in cells to a table.
-pub fn add_built_in_names(alloc: Global, names: &mut Names) -> Result<(), AllocError>
+pub fn add_built_in_names(alloc: Global, names: &mut NameTable) -> Result<(), AllocError>
     ensures { GoesOn names.old names.new }
 {
     add_names(alloc, names, &BUILT_IN_NAMES)?;
@@ -68,7 +68,7 @@ pub fn add_built_in_names(alloc: Global, names: &mut Names) -> Result<(), AllocE
 }
 
 /// The number of a name in ASCII. No memory holds the number of a name that the table hasn't.
-fn known(alloc: Global, names: &Names, text: &[u8]) -> Result<NameId, AllocError>
+fn known(alloc: Global, names: &NameTable, text: &[u8]) -> Result<NameId, AllocError>
     ensures text { IfOk result (λ name. name_of names.now name.number ≡ text.now) }
     ensures known { IfOk result (λ name. name.number < length names.now) }
 {
@@ -82,7 +82,7 @@ fn known(alloc: Global, names: &Names, text: &[u8]) -> Result<NameId, AllocError
 /// Adds a name of the global scope, which is constant.
 fn add_global(
     alloc: Global,
-    names: &Names,
+    names: &NameTable,
     slots: &mut Slots,
     name: &[u8],
     value: Value,
@@ -106,7 +106,7 @@ fn object(place: u32) -> Value
 }
 
 /// The global scope.
-fn global_scope(alloc: Global, names: &Names) -> Result<Stored, AllocError>
+fn global_scope(alloc: Global, names: &NameTable) -> Result<Stored, AllocError>
     ensures { IfOk result (λ cell. (d : _) → slice_get built_in_cells 0 ≡ Some d → IsCellOf names.now cell d) }
 {
     let mut slots = Slots::from_vec(Vec::new(alloc));
@@ -193,7 +193,7 @@ fn holder(alloc: Global, enumerable: bool, key: &[u8], a: Addr) -> Result<Stored
 /// The cell of a built-in function.
 fn built_in(
     alloc: Global,
-    names: &Names,
+    names: &NameTable,
     f: BuiltIn,
     name: &[u8],
     length: u32,
@@ -213,7 +213,7 @@ fn built_in(
 /// Adds the cell of a built-in function.
 fn add(
     alloc: Global,
-    names: &Names,
+    names: &NameTable,
     cells: &mut Vec<Stored>,
     f: BuiltIn,
     name: &[u8],
@@ -227,7 +227,7 @@ fn add(
 }
 
 /// `console.log` and `readline`.
-fn add_console(alloc: Global, names: &Names, cells: &mut Vec<Stored>) -> Result<(), AllocError>
+fn add_console(alloc: Global, names: &NameTable, cells: &mut Vec<Stored>) -> Result<(), AllocError>
     ensures { OnOk result (GainsCells names.now cells.old.items cells.new.items (take 2 (drop 7 built_in_cells))) }
 {
     add(alloc, names, cells, BuiltIn::ConsoleLog, b"log", 0)?;
@@ -238,7 +238,7 @@ fn add_console(alloc: Global, names: &Names, cells: &mut Vec<Stored>) -> Result<
 /// Adds the cell of a constructor of errors.
 fn add_class(
     alloc: Global,
-    names: &Names,
+    names: &NameTable,
     cells: &mut Vec<Stored>,
     class: ErrorClass,
     name: &[u8],
@@ -249,7 +249,7 @@ fn add_class(
 }
 
 /// The constructors of errors.
-fn add_errors(alloc: Global, names: &Names, cells: &mut Vec<Stored>) -> Result<(), AllocError>
+fn add_errors(alloc: Global, names: &NameTable, cells: &mut Vec<Stored>) -> Result<(), AllocError>
     ensures { OnOk result (GainsCells names.now cells.old.items cells.new.items (take 4 (drop 9 built_in_cells))) }
 {
     add_class(alloc, names, cells, ErrorClass::Error, b"Error")?;
@@ -261,7 +261,7 @@ fn add_errors(alloc: Global, names: &Names, cells: &mut Vec<Stored>) -> Result<(
 }
 
 /// The functions on objects and arrays.
-fn add_methods(alloc: Global, names: &Names, cells: &mut Vec<Stored>) -> Result<(), AllocError>
+fn add_methods(alloc: Global, names: &NameTable, cells: &mut Vec<Stored>) -> Result<(), AllocError>
     ensures { OnOk result (GainsCells names.now cells.old.items cells.new.items (take 6 (drop 13 built_in_cells))) }
 {
     add(alloc, names, cells, BuiltIn::ObjectKeys, b"keys", 1)?;
@@ -274,7 +274,7 @@ fn add_methods(alloc: Global, names: &Names, cells: &mut Vec<Stored>) -> Result<
 }
 
 /// The other functions, on arrays and strings.
-fn add_others(alloc: Global, names: &Names, cells: &mut Vec<Stored>) -> Result<(), AllocError>
+fn add_others(alloc: Global, names: &NameTable, cells: &mut Vec<Stored>) -> Result<(), AllocError>
     ensures { OnOk result (GainsCells names.now cells.old.items cells.new.items (drop 19 built_in_cells)) }
 {
     add(alloc, names, cells, BuiltIn::ArrayJoin, b"join", 1)?;
@@ -293,7 +293,7 @@ fn add_others(alloc: Global, names: &Names, cells: &mut Vec<Stored>) -> Result<(
 }
 
 /// Adds the scopes, and the error of a heap that is full.
-fn add_scopes(alloc: Global, names: &Names, cells: &mut Vec<Stored>) -> Result<(), AllocError>
+fn add_scopes(alloc: Global, names: &NameTable, cells: &mut Vec<Stored>) -> Result<(), AllocError>
     ensures { OnOk result (GainsCells names.now cells.old.items cells.new.items (take 4 built_in_cells)) }
 {
     let global = global_scope(alloc, names)?;
@@ -334,7 +334,7 @@ fn add_holders(alloc: Global, cells: &mut Vec<Stored>) -> Result<(), AllocError>
 /// Adds the built-in cells.
 pub(crate) fn add_built_ins(
     alloc: Global,
-    names: &Names,
+    names: &NameTable,
     cells: &mut Vec<Stored>,
 ) -> Result<(), AllocError>
     ensures { OnOk result (GainsCells names.now cells.old.items cells.new.items built_in_cells) }

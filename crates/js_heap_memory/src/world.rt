@@ -1,7 +1,7 @@
 //! Worlds whose names a table has that is lent to each call.
 
 use crate::change::CellChange;
-use crate::names::{NameId, Names};
+use crate::names::{NameId, NameTable};
 use crate::stored::Stored;
 use js_heap::change::Counted;
 use js_heap::value::{Addr, Value};
@@ -126,7 +126,7 @@ pub trait World {
     /// Gives a name of a scope a value (9.1.1.1.4).
     fn bind(
         &mut self,
-        names: &Names,
+        names: &NameTable,
         scope: Addr,
         name: NameId,
         value: Value,
@@ -141,7 +141,7 @@ pub trait World {
     /// Gives a name that was found at its place a value.
     fn bind_at(
         &mut self,
-        names: &Names,
+        names: &NameTable,
         scope: Addr,
         place: usize,
         name: NameId,

@@ -19,7 +19,7 @@ use Rattle.js_lexer.specs.Pieces.{Each, run}
 use Rattle.js_lexer.specs.Tokens.{IsListed, Lent}
 use Rattle.js_lexer.specs.Scanning.{gap_piece, gap_len, number_of, word_token, number_token, string_token, token_at, items}
 use Rattle.js_lexer.specs.State.{items_of}
-use Rattle.js_lexer.specs.Written.{Written, AreTokens, blank_before, written, lent, tokens_then, end_after}
+use Rattle.js_lexer.specs.Written.{WrittenToken, AreTokens, blank_before, written, lent, tokens_then, end_after}
 use Rattle.js_lexer.proofs.LeadingLemmas.{leading_all, leading_stops, leading_exact}
 use Rattle.js_lexer.proofs.RunLemmas.{run_exact}
 use Rattle.js_lexer.proofs.GapLemmas.{gap_knows}
@@ -516,7 +516,7 @@ cut (b ∷ bs) at us left e =
 
 pub first_tokens : (source : List ℕ) (before : List Lent) (left : List (Result Lent ℕ))
     → items_of source ≡ tokens_then before left
-    → (ts : List Written)
+    → (ts : List WrittenToken)
     → AreTokens ts
     → items_of (take (end_after 0 before) source ++ written ts) ≡ tokens_then before (lent (end_after 0 before) ts)
 first_tokens source before left e ts h =

@@ -19,7 +19,7 @@ use Rattle.js_lexer.specs.Tokens.{IsListed, IsToken, Lent}
 use Rattle.js_lexer.specs.Tokens.IsToken.{name, reserved, number, string, punctuator}
 use Rattle.js_lexer.specs.Scanning.{gap_piece, gap_len, token_at, items}
 use Rattle.js_lexer.specs.State.{items_of}
-use Rattle.js_lexer.specs.Written.{Written, AreTokens, blank_before, written, lent}
+use Rattle.js_lexer.specs.Written.{WrittenToken, AreTokens, blank_before, written, lent}
 use Rattle.js_lexer.proofs.LeadingLemmas.{leading_exact}
 use Rattle.js_lexer.proofs.RunLemmas.{run_stops, run_more}
 use Rattle.js_lexer.proofs.NumberLemmas.{number_begins, number_parts, number_some}
@@ -230,14 +230,14 @@ line_told false us = refl
 
 -- ---- all of them
 
-pub breaks : (ts : List Written) → Breaks (written ts)
+pub breaks : (ts : List WrittenToken) → Breaks (written ts)
 breaks [] = tt
 breaks (t ∷ ts) = (t.newline_before, refl)
 
-abbrev token_of : ℕ → Written → Result Lent ℕ
+abbrev token_of : ℕ → WrittenToken → Result Lent ℕ
 token_of at t = Ok (record { kind = t.kind; text = t.text; start = at + 1; newline_before = t.newline_before })
 
-one_written : (at : ℕ) (t : Written) (more : List ℕ)
+one_written : (at : ℕ) (t : WrittenToken) (more : List ℕ)
     → gap_len (blank_before t.newline_before ∷ (t.text ++ more)) ≡ 1
     → token_at (t.text ++ more) ≡ found t.kind (length t.text)
     → items (suc (length (blank_before t.newline_before ∷ (t.text ++ more)))) at
@@ -253,7 +253,7 @@ nothing_left : (at : ℕ) → items (suc (length (written []))) at (written []) 
 unfolding token_at gap_len punctuators
 nothing_left at = no_more at [] refl refl
 
-pub written_are : (at : ℕ) (ts : List Written)
+pub written_are : (at : ℕ) (ts : List WrittenToken)
     → AreTokens ts
     → items (suc (length (written ts))) at (written ts) ≡ lent at ts
 written_are at [] h = nothing_left at
@@ -265,5 +265,5 @@ written_are at (t ∷ ts) h =
     one_written at t more (gap_is_one t.newline_before (t.text ++ more) z) here
     ∙ ap (λ (is : List (Result Lent ℕ)). token_of at t ∷ is) (written_are (at + 1 + length t.text) ts h.1)
 
-pub tokens_written : (ts : List Written) → AreTokens ts → items_of (written ts) ≡ lent 0 ts
+pub tokens_written : (ts : List WrittenToken) → AreTokens ts → items_of (written ts) ≡ lent 0 ts
 tokens_written ts h = written_are 0 ts h

@@ -4,13 +4,13 @@ use Rattle.js_lexer.specs.declared.token.TokenKind.{TokenKind}
 use Rattle.js_lexer.specs.Tokens.{Lent, IsToken}
 
 -- a token that is to be written, on a new line or on the line of the one before it
-pub record Written : Type 0 where
+pub record WrittenToken : Type 0 where
   pub kind : TokenKind
   pub text : List ℕ
   pub newline_before : Bool
 
 -- each is a token of its kind where it stands alone
-abbrev pub AreTokens : List Written → Type 0
+abbrev pub AreTokens : List WrittenToken → Type 0
 AreTokens [] = Unit {0}
 AreTokens (t ∷ ts) = IsToken t.kind t.text [] × AreTokens ts
 
@@ -20,12 +20,12 @@ blank_before true = 10
 blank_before false = 32
 
 -- the text that they are written as
-abbrev pub written : List Written → List ℕ
+abbrev pub written : List WrittenToken → List ℕ
 written [] = []
 written (t ∷ ts) = blank_before t.newline_before ∷ (t.text ++ written ts)
 
 -- what they are in a source, from this place on
-abbrev pub lent : ℕ → List Written → List (Result Lent ℕ)
+abbrev pub lent : ℕ → List WrittenToken → List (Result Lent ℕ)
 lent at [] = []
 lent at (t ∷ ts) =
     Ok (record { kind = t.kind; text = t.text; start = at + 1; newline_before = t.newline_before }) ∷ lent

@@ -5,12 +5,12 @@ use Rattle.js_semantics.specs.Terms.{Terms}
 use Rattle.js_semantics.specs.Run as runs
 use Rattle.js_heap_memory.specs.Heaps.{heap_world}
 use Rattle.js_machine_compiler.specs.Scripts.{IsCompiled}
-use Rattle.js_machine.specs.declared.start.Prepared.{Prepared}
+use Rattle.js_machine.specs.declared.start.PreparedScripts.{PreparedScripts}
 use Rattle.js_machine.specs.declared.machine.Started.{Started}
 use Rattle.js_machine.specs.Machines.{program_of, run_at}
 
 -- the code of scripts and the cells before the first step
-pub record IsPrepared (ts : Terms) (p : Prepared) : Type 0 where
+pub record IsPrepared (ts : Terms) (p : PreparedScripts) : Type 0 where
   pub code : IsCompiled p.names (runs.placed_scripts ts) p.code.table p.code.root
   pub cells : heap_world p.names p.heap ≡ first_world (runs.literals_of ts)
 

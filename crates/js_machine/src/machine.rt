@@ -18,22 +18,22 @@ mod standing;
 
 use crate::end::End;
 use crate::scripts::terms_of_scripts;
-use crate::start::{Prepared, prepare};
+use crate::start::{PreparedScripts, prepare};
 use cdp_text::units::Units;
 use js_heap::built_in::script_scope;
 use js_heap_memory::heap::BaseHeap;
-use js_heap_memory::names::Names;
+use js_heap_memory::names::NameTable;
 use js_heap_memory::world::World;
 use js_machine_actions::context::Context;
 use js_machine_compiler::scripts::ScriptCode;
-use js_machine_engine::run::{Asks, Ran, Why, run};
+use js_machine_engine::run::{StopTest, StoppedRun, Why, run};
 use js_machine_engine::settling::uncover;
 use js_machine_engine::stack::Stack;
 use js_machine_engine::step::step;
 use js_machine_engine::stepped::{Finish, Stepped};
 use js_machine_engine::task::Point;
 use js_machine_nodes::table::NodeTable;
-use js_machine_rows::table::Table;
+use js_machine_rows::table::StepTable;
 use js_machine_terms::term::Terms;
 use js_tree::script::Script;
 use std::alloc::{AllocError, Global};
@@ -45,7 +45,7 @@ use std::marker::Model;
 pub struct Machine {
     alloc: Global,
     table: NodeTable,
-    names: Names,
+    names: NameTable,
     context: Context,
     stack: Stack,
     point: Point,
@@ -125,7 +125,7 @@ impl Machine {
     ) -> Result<Started, AllocError>
         ensures { IfOk result (λ s. IsStarted (terms_view scripts.now) input.items s) }
     {
-        let Prepared { names, code, heap } = prepare(alloc, scripts)?;
+        let PreparedScripts { names, code, heap } = prepare(alloc, scripts)?;
         let ScriptCode { table, root } = code;
         let context = Context::start(alloc, input)?;
         let mut stack = Stack::new(alloc);
@@ -155,7 +155,7 @@ impl Machine {
         // The run is one step further.
         ensures run { IsKept self.new.ended → (taken : List (List ℕ)) → run_at self.new (W.world self.new.names world.new) taken ≡ step_in (program_of self.old) script_scope (run_at self.old (W.world self.old.names world.old) taken) }
     {
-        let stepped = step::<Table, W>(
+        let stepped = step::<StepTable, W>(
             self.alloc,
             &self.table,
             &self.names,
@@ -170,7 +170,7 @@ impl Machine {
     }
 
     /// Steps until the host asks for a stop, until a raise, a print or the end, or until so many.
-    pub fn run<W: World, H: Asks>(&mut self, world: &mut W, most: u64, host: &H) -> Ran
+    pub fn run<W: World, H: StopTest>(&mut self, world: &mut W, most: u64, host: &H) -> StoppedRun
         requires { self.old.ended ≡ None }
         // The run is so many steps further, and it wasn't over before any of them.
         ensures run { IsKept self.new.ended → (taken : List (List ℕ)) → run_at self.new (W.world self.new.names world.new) taken ≡ steps_in result.steps (program_of self.old) script_scope (run_at self.old (W.world self.old.names world.old) taken) }
@@ -186,7 +186,7 @@ impl Machine {
         ensures end { self.new.ended ≡ end_of_run result.why }
         ensures code { HasSameCode self.old self.new }
     {
-        let ran = run::<Table, W, H>(
+        let ran = run::<StepTable, W, H>(
             self.alloc,
             &self.table,
             &self.names,
@@ -246,7 +246,7 @@ impl Machine {
     // ---- its parts
 
     /// The names of its code.
-    pub fn names(&self) -> &Names
+    pub fn names(&self) -> &NameTable
         ensures { result.now ≡ self.now.names }
     {
         &self.names

@@ -12,7 +12,7 @@ use cdp_text::units::Units;
 use js_heap_memory::heap::BaseHeap;
 use js_heap_memory::world::World;
 use js_machine_actions::context::Context;
-use js_machine_engine::run::{Asks, Why};
+use js_machine_engine::run::{StopTest, Why};
 use js_machine_engine::stack::Stack;
 use js_machine_engine::task::Point;
 use js_machine_nodes::table::NodeTable;
@@ -24,7 +24,7 @@ use std::collections::VecDeque;
 #[derive(Clone, Copy)]
 pub struct Never;
 
-impl Asks for Never {
+impl StopTest for Never {
     ghost stops = { λ host term frames. false };
 
     fn asks(&self, _table: &NodeTable, _context: &Context, _stack: &Stack, _point: Point) -> bool {
@@ -60,7 +60,7 @@ pub fn run_on<W: World>(machine: &mut Machine, world: &mut W, most: u64) -> Resu
 
 /// How far a run came, after so many steps.
 #[derive(Drop)]
-pub struct Outcome {
+pub struct PlainRun {
     pub machine: Machine,
     pub heap: BaseHeap,
     pub steps: u64,
@@ -76,7 +76,7 @@ pub fn run_scripts(
     scripts: &[Script],
     input: VecDeque<Units>,
     most: u64,
-) -> Result<Outcome, AllocError>
+) -> Result<PlainRun, AllocError>
     // The run is where the definition's run of the scripts is after so many steps: what it has printed, how it has ended.
     ensures reached { IfOk result (λ o. run_at o.machine (heap_world o.machine.names o.heap) [] ≡ plain most (terms_of_scripts scripts.now) input.items) }
     // The steps that it took.
@@ -87,7 +87,7 @@ pub fn run_scripts(
         mut heap,
     } = Machine::start(alloc, scripts, input)?;
     let steps = run_on(&mut machine, &mut heap, most)?;
-    Ok(Outcome {
+    Ok(PlainRun {
         machine,
         heap,
         steps,

@@ -5,7 +5,7 @@ ghost use Rattle.js_machine_terms.specs.Views.{terms_view};
 ghost use Rattle.js_machine.specs.Starts.{IsPrepared};
 
 use js_heap_memory::heap::BaseHeap;
-use js_heap_memory::names::Names;
+use js_heap_memory::names::NameTable;
 use js_heap_memory::start::add_built_in_names;
 use js_machine_compiler::scripts::{ScriptCode, code_of_scripts};
 use js_machine_lowering_parts::literals::{literals_of, placed_scripts};
@@ -14,8 +14,8 @@ use std::alloc::{AllocError, Global};
 
 /// The code of scripts, the names in it, and the cells before the first step.
 #[derive(Drop)]
-pub struct Prepared {
-    pub names: Names,
+pub struct PreparedScripts {
+    pub names: NameTable,
     pub code: ScriptCode,
     pub heap: BaseHeap,
 }
@@ -25,16 +25,16 @@ pub struct Prepared {
 /// # Errors
 ///
 /// There is no memory for them, also where the scripts have more string literals than there are addresses.
-pub fn prepare(alloc: Global, scripts: &Terms) -> Result<Prepared, AllocError>
+pub fn prepare(alloc: Global, scripts: &Terms) -> Result<PreparedScripts, AllocError>
     ensures { IfOk result (λ p. IsPrepared (terms_view scripts.now) p) }
 {
     let literals = literals_of(alloc, scripts)?;
     let placed = placed_scripts(alloc, scripts)?;
-    let mut names = Names::new(alloc);
+    let mut names = NameTable::new(alloc);
     add_built_in_names(alloc, &mut names)?;
     let Some(code) = code_of_scripts(alloc, &mut names, &placed)? else {
         return Err(AllocError);
     };
     let heap = BaseHeap::start(alloc, &names, literals.as_slice())?;
-    Ok(Prepared { names, code, heap })
+    Ok(PreparedScripts { names, code, heap })
 }

@@ -12,14 +12,14 @@ use Rattle.js_semantics.specs.State.{State, with_world, Action, make_text, fail,
 use Rattle.js_semantics.specs.References.{Found, value_of_found, name_written, not_defined, value_or_uninitialized, bound_unless, with_written}
 use Rattle.js_semantics.specs.Rows.{type_of_found}
 use Rattle.js_heap_memory.specs.declared.stored.FoundSlot.{FoundSlot}
-use Rattle.js_heap_memory.specs.Calls.{Kept, kept_slot, kept_found}
+use Rattle.js_heap_memory.specs.Calls.{KeptBinding, kept_slot, kept_found}
 use Rattle.js_machine_actions.specs.declared.action_end.ActionEnd.{ActionEnd}
 use Rattle.js_machine_actions.specs.Flow.{Stops, Ends}
 use Rattle.js_machine_actions.specs.Names.{value_of_slot, slot_written, type_of_bound, type_of_slot}
 
 -- ---- by what is kept
 
-value_of_kept : List ℕ → Option Kept → Computed
+value_of_kept : List ℕ → Option KeptBinding → Computed
 value_of_kept name None = not_defined name
 value_of_kept name (Some f) = value_or_uninitialized name f.value
 
@@ -38,7 +38,7 @@ pub value-kept : (name : List ℕ) (o : Option FoundSlot) (p : Option Found)
     → value_of_slot name o ≡ value_of_found name p
 value-kept name o p e = slot_value name o ∙ ap (λ k. value_of_kept name k) e ∙ sym (found_value name p)
 
-written_kept : List ℕ → Value → Option Kept → Written
+written_kept : List ℕ → Value → Option KeptBinding → Written
 written_kept name v None = refused classes.ReferenceError (name ++ codes " is not defined")
 written_kept name v (Some f) = bound_unless name f.constant f.value f.scope v
 
@@ -60,7 +60,7 @@ pub written-kept : (name : List ℕ) (o : Option FoundSlot) (p : Option Found) (
 written-kept name o p v e =
     slot_is_written name o v ∙ ap (λ k. written_kept name v k) e ∙ sym (found_is_written name p v)
 
-type_of_kept : World → List ℕ → Option Kept → Action
+type_of_kept : World → List ℕ → Option KeptBinding → Action
 type_of_kept w name None = make_text (codes "undefined") give
 type_of_kept w name (Some f) = type_of_bound w name f.value
 

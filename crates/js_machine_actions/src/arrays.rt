@@ -12,20 +12,20 @@ use crate::errors::with_result;
 use crate::lists::{
     Texts, elements_at, first_same, is_array, items_between, joined_parts, last_of, slice_places,
 };
-use crate::seen::{Seen, units_at};
+use crate::seen::{NamedWorld, units_at};
 use crate::shown::between;
 use cdp_text::units::{Units, ascii};
 use js_heap::built_in::BuiltIn;
 use js_heap::cell::Values;
 use js_heap::value::{Addr, Value};
-use js_heap_memory::names::Names;
+use js_heap_memory::names::NameTable;
 use js_heap_memory::slots::argument;
 use js_heap_memory::world::World;
 use js_heap_operators::results::not_a_text;
 use std::alloc::{AllocError, Global};
 
 /// The length of the array at an address; of another cell 0. No memory holds an array whose length 32 bits don't count.
-fn array_len<W: World>(world: &W, names: &Names, a: Addr) -> Result<u32, AllocError>
+fn array_len<W: World>(world: &W, names: &NameTable, a: Addr) -> Result<u32, AllocError>
     ensures { IfOk result (λ len. len ≡ length (elements_at (W.world names.now world.now) a)) }
 {
     match u32::try_from(elements_at(world, names, a).len()) {
@@ -47,7 +47,7 @@ fn next_index(index: u32) -> Result<u32, AllocError>
 /// Puts values behind the elements of an array with this length (ECMA-262, 23.1.3.23).
 fn push_all<W: World>(
     world: &mut W,
-    names: &Names,
+    names: &NameTable,
     a: Addr,
     len: u32,
     values: &[Value],
@@ -65,7 +65,7 @@ fn push_all<W: World>(
 /// `push` (23.1.3.23)
 fn push<W: World>(
     world: &mut W,
-    names: &Names,
+    names: &NameTable,
     a: Addr,
     values: &[Value],
 ) -> Result<Value, ActionEnd>
@@ -77,7 +77,7 @@ fn push<W: World>(
 
 /// `pop` (23.1.3.22)
 #[tactic(auto, using(crate::proofs::CallLemmas::pop_rules))]
-fn pop<W: World>(world: &mut W, names: &Names, a: Addr) -> Result<Value, ActionEnd>
+fn pop<W: World>(world: &mut W, names: &NameTable, a: Addr) -> Result<Value, ActionEnd>
     ensures { Gives (pop_last a (elements_at (W.world names.now world.old) a)) (W.world names.now world.old) result (W.world names.now world.new) }
 {
     let len = array_len(world, names, a)?;
@@ -93,7 +93,7 @@ fn pop<W: World>(world: &mut W, names: &Names, a: Addr) -> Result<Value, ActionE
 fn joined_or_fail<W: World>(
     alloc: Global,
     world: &mut W,
-    names: &Names,
+    names: &NameTable,
     separator: &[u16],
     parts: Option<Texts>,
 ) -> Result<Value, ActionEnd>
@@ -115,7 +115,7 @@ fn joined_or_fail<W: World>(
 fn join<W: World>(
     alloc: Global,
     world: &mut W,
-    names: &Names,
+    names: &NameTable,
     a: Addr,
     separator: Value,
 ) -> Result<Value, ActionEnd>
@@ -126,7 +126,7 @@ fn join<W: World>(
         Value::Text(b) => Units::from_slice(alloc, units_at(world, names, b))?,
         _ => return Err(wrong_type(alloc, world, names)),
     };
-    let seen = Seen {
+    let seen = NamedWorld {
         names,
         world: &*world,
     };
@@ -139,7 +139,7 @@ fn join<W: World>(
 fn array_slice<W: World>(
     alloc: Global,
     world: &mut W,
-    names: &Names,
+    names: &NameTable,
     a: Addr,
     arguments: &[Value],
 ) -> Result<Value, ActionEnd>
@@ -158,7 +158,7 @@ fn array_slice<W: World>(
 pub fn on_array<W: World>(
     alloc: Global,
     world: &mut W,
-    names: &Names,
+    names: &NameTable,
     f: BuiltIn,
     receiver: Value,
     arguments: &[Value],
@@ -178,7 +178,7 @@ pub fn on_array<W: World>(
 fn array_call<W: World>(
     alloc: Global,
     world: &mut W,
-    names: &Names,
+    names: &NameTable,
     f: BuiltIn,
     a: Addr,
     arguments: &[Value],
@@ -189,7 +189,7 @@ fn array_call<W: World>(
         BuiltIn::ArrayPush => push(world, names, a, arguments),
         BuiltIn::ArrayPop => pop(world, names, a),
         BuiltIn::ArrayIndexOf => {
-            let seen = Seen {
+            let seen = NamedWorld {
                 names,
                 world: &*world,
             };

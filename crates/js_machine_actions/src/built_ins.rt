@@ -9,13 +9,13 @@ use crate::arrays::on_array;
 use crate::cells::{make, make_text};
 use crate::errors::{fail_with, with_message, with_result};
 use crate::lists::{is_array, keys_at};
-use crate::seen::Seen;
+use crate::seen::NamedWorld;
 use crate::strings::on_string;
 use cdp_text::units::Units;
 use js_heap::built_in::{BuiltIn, ErrorClass};
 use js_heap::cell::Values;
 use js_heap::value::Value;
-use js_heap_memory::names::Names;
+use js_heap_memory::names::NameTable;
 use js_heap_memory::properties::PropertyMap;
 use js_heap_memory::slots::argument;
 use js_heap_memory::stored::Stored;
@@ -25,7 +25,7 @@ use js_heap_operators::results::not_a_text;
 use std::alloc::Global;
 
 /// The TypeError of an argument of a wrong type.
-pub(crate) fn wrong_type<W: World>(alloc: Global, world: &mut W, names: &Names) -> ActionEnd
+pub(crate) fn wrong_type<W: World>(alloc: Global, world: &mut W, names: &NameTable) -> ActionEnd
     ensures { Ends wrong_type (W.world names.now world.old) result (W.world names.now world.new) }
 {
     fail_with(
@@ -40,7 +40,7 @@ pub(crate) fn wrong_type<W: World>(alloc: Global, world: &mut W, names: &Names) 
 /// The value of a line of the input.
 pub fn line_value<W: World>(
     world: &mut W,
-    names: &Names,
+    names: &NameTable,
     line: Option<Units>,
 ) -> Result<Value, ActionEnd>
     ensures { Gives (line_value line) (W.world names.now world.old) result (W.world names.now world.new) }
@@ -56,7 +56,7 @@ pub fn line_value<W: World>(
 /// A new error of this class with these properties.
 fn new_error<W: World>(
     world: &mut W,
-    names: &Names,
+    names: &NameTable,
     class: ErrorClass,
     properties: PropertyMap,
 ) -> Result<Value, ActionEnd>
@@ -70,7 +70,7 @@ fn new_error<W: World>(
 fn error_of<W: World>(
     alloc: Global,
     world: &mut W,
-    names: &Names,
+    names: &NameTable,
     class: ErrorClass,
     message: Value,
 ) -> Result<Value, ActionEnd>
@@ -90,7 +90,7 @@ fn error_of<W: World>(
 fn text_or_fail<W: World>(
     alloc: Global,
     world: &mut W,
-    names: &Names,
+    names: &NameTable,
     text: Option<Units>,
 ) -> Result<Value, ActionEnd>
     ensures { Gives (text_or_fail text) (W.world names.now world.old) result (W.world names.now world.new) }
@@ -108,7 +108,7 @@ fn text_or_fail<W: World>(
 fn string_of<W: World>(
     alloc: Global,
     world: &mut W,
-    names: &Names,
+    names: &NameTable,
     value: Value,
 ) -> Result<Value, ActionEnd>
     ensures { Gives (string_of (W.world names.now world.old) value) (W.world names.now world.old) result (W.world names.now world.new) }
@@ -116,7 +116,7 @@ fn string_of<W: World>(
     match value {
         Value::Text(_) => Ok(value),
         _ => {
-            let seen = Seen {
+            let seen = NamedWorld {
                 names,
                 world: &*world,
             };
@@ -132,7 +132,7 @@ fn string_of<W: World>(
 fn make_texts<W: World>(
     alloc: Global,
     world: &mut W,
-    names: &Names,
+    names: &NameTable,
     texts: &[Units],
 ) -> Result<Values, ActionEnd>
     ensures { Yields (make_texts texts.now) (W.world names.now world.old) result (W.world names.now world.new) }
@@ -149,7 +149,7 @@ fn make_texts<W: World>(
 /// Makes an array of values.
 pub fn new_array<W: World>(
     world: &mut W,
-    names: &Names,
+    names: &NameTable,
     elements: Values,
 ) -> Result<Value, ActionEnd>
     ensures { Gives (new_array elements) (W.world names.now world.old) result (W.world names.now world.new) }
@@ -162,7 +162,7 @@ pub fn new_array<W: World>(
 fn keys_of<W: World>(
     alloc: Global,
     world: &mut W,
-    names: &Names,
+    names: &NameTable,
     value: Value,
 ) -> Result<Value, ActionEnd>
     ensures { Gives (keys_of (W.world names.now world.old) value) (W.world names.now world.old) result (W.world names.now world.new) }
@@ -183,7 +183,7 @@ fn keys_of<W: World>(
 pub fn built_in_call<W: World>(
     alloc: Global,
     world: &mut W,
-    names: &Names,
+    names: &NameTable,
     f: BuiltIn,
     receiver: Value,
     arguments: &[Value],

@@ -12,7 +12,7 @@ ghost use Rattle.js_machine_actions.specs.Flow.{Yields, Passes, answered};
 use crate::action_end::ActionEnd;
 use cdp_text::units::Units;
 use js_heap::value::{Addr, Value};
-use js_heap_memory::names::{NameId, Names};
+use js_heap_memory::names::{NameId, NameTable};
 use js_heap_memory::stored::Stored;
 use js_heap_memory::world::{Refused, World};
 
@@ -35,7 +35,7 @@ fn answered<W: World, A>(world: &W, answer: Result<A, Refused>) -> Result<A, Act
 }
 
 /// Makes a cell.
-pub fn make<W: World>(world: &mut W, names: &Names, cell: Stored) -> Result<Addr, ActionEnd>
+pub fn make<W: World>(world: &mut W, names: &NameTable, cell: Stored) -> Result<Addr, ActionEnd>
     ensures { Yields (make (cell_of names.now cell)) (W.world names.now world.old) result (W.world names.now world.new) }
 {
     let made = world.make(cell);
@@ -43,7 +43,11 @@ pub fn make<W: World>(world: &mut W, names: &Names, cell: Stored) -> Result<Addr
 }
 
 /// Makes the cell of a text.
-pub fn make_text<W: World>(world: &mut W, names: &Names, units: Units) -> Result<Value, ActionEnd>
+pub fn make_text<W: World>(
+    world: &mut W,
+    names: &NameTable,
+    units: Units,
+) -> Result<Value, ActionEnd>
     ensures { Yields (make_text units) (W.world names.now world.old) result (W.world names.now world.new) }
 {
     let a = make(world, names, Stored::Text { units })?;
@@ -53,7 +57,7 @@ pub fn make_text<W: World>(world: &mut W, names: &Names, units: Units) -> Result
 /// Gives the property of a key of an object a value.
 pub fn put<W: World>(
     world: &mut W,
-    names: &Names,
+    names: &NameTable,
     a: Addr,
     key: &[u16],
     value: Value,
@@ -65,7 +69,12 @@ pub fn put<W: World>(
 }
 
 /// Removes the property of a key of an object.
-pub fn remove<W: World>(world: &mut W, names: &Names, a: Addr, key: &[u16]) -> Result<(), ActionEnd>
+pub fn remove<W: World>(
+    world: &mut W,
+    names: &NameTable,
+    a: Addr,
+    key: &[u16],
+) -> Result<(), ActionEnd>
     ensures { Passes (write a (changes.Remove key.now)) (W.world names.now world.old) result (W.world names.now world.new) }
 {
     let written = world.remove(a, key);
@@ -75,7 +84,7 @@ pub fn remove<W: World>(world: &mut W, names: &Names, a: Addr, key: &[u16]) -> R
 /// Gives the element of an array at an index up to the length a value.
 pub fn put_element<W: World>(
     world: &mut W,
-    names: &Names,
+    names: &NameTable,
     a: Addr,
     index: u32,
     value: Value,
@@ -87,7 +96,12 @@ pub fn put_element<W: World>(
 }
 
 /// Gives an array a length up to the present one.
-pub fn cut<W: World>(world: &mut W, names: &Names, a: Addr, length: u32) -> Result<(), ActionEnd>
+pub fn cut<W: World>(
+    world: &mut W,
+    names: &NameTable,
+    a: Addr,
+    length: u32,
+) -> Result<(), ActionEnd>
     ensures { Passes (write a (changes.Length length)) (W.world names.now world.old) result (W.world names.now world.new) }
 {
     let written = world.cut(a, length);
@@ -97,7 +111,7 @@ pub fn cut<W: World>(world: &mut W, names: &Names, a: Addr, length: u32) -> Resu
 /// Adds a name without a value to a scope.
 pub fn declare<W: World>(
     world: &mut W,
-    names: &Names,
+    names: &NameTable,
     scope: Addr,
     name: NameId,
     constant: bool,
@@ -111,7 +125,7 @@ pub fn declare<W: World>(
 /// Gives a name of a scope a value.
 pub fn bind<W: World>(
     world: &mut W,
-    names: &Names,
+    names: &NameTable,
     scope: Addr,
     name: NameId,
     value: Value,
@@ -125,7 +139,7 @@ pub fn bind<W: World>(
 /// Gives a name that was found at its place a value.
 pub fn bind_at<W: World>(
     world: &mut W,
-    names: &Names,
+    names: &NameTable,
     scope: Addr,
     place: usize,
     name: NameId,

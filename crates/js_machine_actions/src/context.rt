@@ -8,9 +8,9 @@ use crate::action_end::ActionEnd;
 use crate::frame::Frame;
 use cdp_text::units::Units;
 use js_heap::value::{Addr, Value};
-use js_heap_memory::names::Names;
+use js_heap_memory::names::NameTable;
 use js_heap_memory::world::World;
-use js_semantics::form::{Mark, Source, Spot};
+use js_semantics::form::{Mark, Source, SourceMark};
 use std::alloc::{AllocError, Global};
 use std::collections::VecDeque;
 use std::marker::Model;
@@ -109,15 +109,15 @@ impl Context {
     }
 
     /// The place of the top frame.
-    pub fn spot_of(&self) -> Spot
+    pub fn spot_of(&self) -> SourceMark
         ensures { result ≡ top_spot self.now.frames }
     {
         match self.frames.front() {
-            Some(frame) => Spot {
+            Some(frame) => SourceMark {
                 source: frame.source(),
                 mark: frame.here(),
             },
-            None => Spot {
+            None => SourceMark {
                 source: Source::Script(0),
                 mark: Mark::Beginning,
             },
@@ -154,7 +154,7 @@ impl Context {
     pub fn print<W: World>(
         &mut self,
         world: &W,
-        names: &Names,
+        names: &NameTable,
         text: Units,
     ) -> Result<(), ActionEnd>
         ensures { Prints text (W.world names.now world.now) self.old result self.new }
@@ -170,7 +170,7 @@ impl Context {
     pub fn take_line<W: World>(
         &mut self,
         world: &W,
-        names: &Names,
+        names: &NameTable,
     ) -> Result<Option<Units>, ActionEnd>
         ensures { Takes (W.world names.now world.now) self.old result self.new }
     {

@@ -16,7 +16,7 @@ use js_heap::cell::Property;
 use js_heap::change::Change;
 use js_heap::computed::{Computed, Written};
 use js_heap::value::Value;
-use js_heap_memory::names::Names;
+use js_heap_memory::names::NameTable;
 use js_heap_memory::properties::PropertyMap;
 use js_heap_memory::stored::Stored;
 use js_heap_memory::world::World;
@@ -41,7 +41,7 @@ pub(crate) fn with_message(alloc: Global, message: Value) -> Result<PropertyMap,
 fn make_error<W: World>(
     alloc: Global,
     world: &mut W,
-    names: &Names,
+    names: &NameTable,
     class: ErrorClass,
     message: Units,
 ) -> Result<Value, ActionEnd>
@@ -67,7 +67,7 @@ fn raised_or(made: Result<Value, ActionEnd>) -> ActionEnd
 pub fn fail<W: World>(
     alloc: Global,
     world: &mut W,
-    names: &Names,
+    names: &NameTable,
     class: ErrorClass,
     message: Units,
 ) -> ActionEnd
@@ -80,7 +80,7 @@ pub fn fail<W: World>(
 pub fn fail_with<W: World>(
     alloc: Global,
     world: &mut W,
-    names: &Names,
+    names: &NameTable,
     class: ErrorClass,
     message: &[u8],
 ) -> ActionEnd
@@ -96,7 +96,7 @@ pub fn fail_with<W: World>(
 pub fn with_result<W: World>(
     alloc: Global,
     world: &mut W,
-    names: &Names,
+    names: &NameTable,
     computed: Computed,
 ) -> Result<Value, ActionEnd>
     ensures { Yields (with_result computed) (W.world names.now world.old) result (W.world names.now world.new) }
@@ -109,7 +109,7 @@ pub fn with_result<W: World>(
 }
 
 /// The error of a key that is neither a string nor a number.
-pub fn bad_key<W: World>(alloc: Global, world: &mut W, names: &Names) -> ActionEnd
+pub fn bad_key<W: World>(alloc: Global, world: &mut W, names: &NameTable) -> ActionEnd
     ensures { Ends (with_result bad_key give) (W.world names.now world.old) result (W.world names.now world.new) }
 {
     fail_with(
@@ -125,7 +125,7 @@ pub fn bad_key<W: World>(alloc: Global, world: &mut W, names: &Names) -> ActionE
 pub fn with_written<W: World>(
     alloc: Global,
     world: &mut W,
-    names: &Names,
+    names: &NameTable,
     written: Written,
 ) -> Result<(), ActionEnd>
     requires { IsOfProperty written }

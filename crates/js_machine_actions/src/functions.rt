@@ -16,7 +16,7 @@ use cdp_text::units::Units;
 use js_heap::built_in::Code;
 use js_heap::cell::ScopeKind;
 use js_heap::value::{Addr, Value};
-use js_heap_memory::names::{NameId, Names};
+use js_heap_memory::names::{NameId, NameTable};
 use js_heap_memory::stored::{FunctionCell, FunctionName, Slot, Slots, Stored};
 use js_heap_memory::world::World;
 use std::alloc::{AllocError, Global};
@@ -48,7 +48,7 @@ fn function_cell(
 pub fn make_function<W: World>(
     alloc: Global,
     world: &mut W,
-    names: &Names,
+    names: &NameTable,
     code: Code,
     length: u32,
     name: FunctionName,
@@ -78,7 +78,7 @@ fn own_name(alloc: Global, name: NameId) -> Result<Slots, AllocError>
 pub fn named_function<W: World>(
     alloc: Global,
     world: &mut W,
-    names: &Names,
+    names: &NameTable,
     code: Code,
     length: u32,
     name: NameId,
@@ -113,7 +113,7 @@ pub fn named_function<W: World>(
 pub fn declared_function<W: World>(
     alloc: Global,
     world: &mut W,
-    names: &Names,
+    names: &NameTable,
     scope: Addr,
     code: Code,
     length: u32,
@@ -139,7 +139,7 @@ pub fn declared_function<W: World>(
 /// Makes a scope.
 pub fn new_scope<W: World>(
     world: &mut W,
-    names: &Names,
+    names: &NameTable,
     kind: ScopeKind,
     name: FunctionName,
     outer: Addr,
@@ -204,7 +204,7 @@ fn copy_of(alloc: Global, cell: Option<&Stored>) -> Result<Stored, AllocError>
 pub fn copied<W: World>(
     alloc: Global,
     world: &mut W,
-    names: &Names,
+    names: &NameTable,
     a: Addr,
 ) -> Result<Addr, ActionEnd>
     ensures { Yields (copied (W.world names.now world.old) a) (W.world names.now world.old) result (W.world names.now world.new) }
@@ -216,7 +216,7 @@ pub fn copied<W: World>(
 /// Adds names to a scope.
 pub fn with_names<W: World>(
     world: &mut W,
-    names: &Names,
+    names: &NameTable,
     scope: Addr,
     slots: &[Slot],
 ) -> Result<(), ActionEnd>

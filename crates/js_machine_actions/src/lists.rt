@@ -10,7 +10,7 @@ use cdp_text::units::{Units, decimal_units};
 use js_heap::cell::Property;
 use js_heap::reading::Cells;
 use js_heap::value::{Addr, Value};
-use js_heap_memory::names::Names;
+use js_heap_memory::names::NameTable;
 use js_heap_memory::properties::PropertyMap;
 use js_heap_memory::slots::argument;
 use js_heap_memory::stored::Stored;
@@ -107,7 +107,7 @@ fn keys_of_stored(alloc: Global, cell: Option<&Stored>) -> Result<Vec<Units>, Al
 pub(crate) fn keys_at<W: World>(
     alloc: Global,
     world: &W,
-    names: &Names,
+    names: &NameTable,
     a: Addr,
 ) -> Result<Vec<Units>, AllocError>
     ensures { IfOk result (λ keys. keys.items ≡ keys_of_cell (read_cell (W.world names.now world.now) a)) }
@@ -128,7 +128,7 @@ fn is_array_cell(cell: Option<&Stored>) -> bool
 }
 
 /// Whether a value is an array (23.1.2.2).
-pub fn is_array<W: World>(world: &W, names: &Names, value: Value) -> bool
+pub fn is_array<W: World>(world: &W, names: &NameTable, value: Value) -> bool
     ensures { result ≡ is_array (W.world names.now world.now) value }
 {
     match value {
@@ -148,7 +148,7 @@ fn elements_of(cell: Option<&Stored>) -> &[Value]
 }
 
 /// The elements of the array at an address; of another cell none.
-pub(crate) fn elements_at<'a, W: World>(world: &'a W, names: &Names, a: Addr) -> &'a [Value]
+pub(crate) fn elements_at<'a, W: World>(world: &'a W, names: &NameTable, a: Addr) -> &'a [Value]
     ensures { result.now ≡ elements_at (W.world names.now world.now) a }
 {
     elements_of(world.find(a))

@@ -12,13 +12,13 @@ ghost use Rattle.js_machine_actions.specs.Flow.{Ends, Yields, Passes, Gives};
 use crate::action_end::ActionEnd;
 use crate::cells::{bind_at, make_text};
 use crate::errors::{fail, fail_with, with_result};
-use crate::seen::Seen;
+use crate::seen::NamedWorld;
 use cdp_text::units::{Units, ascii};
 use js_heap::built_in::ErrorClass;
 use js_heap::computed::Computed;
 use js_heap::value::{Addr, Value};
 use js_heap_memory::lookup::lookup;
-use js_heap_memory::names::{NameId, Names};
+use js_heap_memory::names::{NameId, NameTable};
 use js_heap_memory::stored::FoundSlot;
 use js_heap_memory::world::World;
 use js_heap_operators::text::quoted;
@@ -26,7 +26,7 @@ use js_heap_operators::values::type_text;
 use std::alloc::{AllocError, Global};
 
 /// The message of a name that isn't defined.
-fn not_defined(alloc: Global, names: &Names, name: NameId) -> Result<Units, AllocError>
+fn not_defined(alloc: Global, names: &NameTable, name: NameId) -> Result<Units, AllocError>
     ensures { IfOk result (λ units. units ≡ name_of names.now name.number ++ codes " is not defined") }
 {
     let text = names.text(name)?;
@@ -34,7 +34,7 @@ fn not_defined(alloc: Global, names: &Names, name: NameId) -> Result<Units, Allo
 }
 
 /// The message of a name without a value.
-fn not_initialized(alloc: Global, names: &Names, name: NameId) -> Result<Units, AllocError>
+fn not_initialized(alloc: Global, names: &NameTable, name: NameId) -> Result<Units, AllocError>
     ensures { IfOk result (λ units. units ≡ codes "Cannot access '" ++ name_of names.now name.number ++ codes "' before initialization") }
 {
     let text = names.text(name)?;
@@ -44,7 +44,7 @@ fn not_initialized(alloc: Global, names: &Names, name: NameId) -> Result<Units, 
 /// The value of a name that was found or not (ECMA-262, 9.1.1.1.6).
 fn value_of_slot(
     alloc: Global,
-    names: &Names,
+    names: &NameTable,
     name: NameId,
     found: Option<FoundSlot>,
 ) -> Result<Computed, AllocError>
@@ -66,7 +66,7 @@ fn value_of_slot(
 pub fn get_name<W: World>(
     alloc: Global,
     world: &mut W,
-    names: &Names,
+    names: &NameTable,
     scope: Addr,
     name: NameId,
 ) -> Result<Value, ActionEnd>
@@ -78,7 +78,12 @@ pub fn get_name<W: World>(
 }
 
 /// The error of a name that isn't defined.
-fn fail_undefined<W: World>(alloc: Global, world: &mut W, names: &Names, name: NameId) -> ActionEnd
+fn fail_undefined<W: World>(
+    alloc: Global,
+    world: &mut W,
+    names: &NameTable,
+    name: NameId,
+) -> ActionEnd
     ensures { Ends (fail classes.ReferenceError (name_of names.now name.number ++ codes " is not defined")) (W.world names.now world.old) result (W.world names.now world.new) }
 {
     match not_defined(alloc, names, name) {
@@ -91,7 +96,7 @@ fn fail_undefined<W: World>(alloc: Global, world: &mut W, names: &Names, name: N
 fn fail_uninitialized<W: World>(
     alloc: Global,
     world: &mut W,
-    names: &Names,
+    names: &NameTable,
     name: NameId,
 ) -> ActionEnd
     ensures { Ends (fail classes.ReferenceError (codes "Cannot access '" ++ name_of names.now name.number ++ codes "' before initialization")) (W.world names.now world.old) result (W.world names.now world.new) }
@@ -106,7 +111,7 @@ fn fail_uninitialized<W: World>(
 fn put_slot<W: World>(
     alloc: Global,
     world: &mut W,
-    names: &Names,
+    names: &NameTable,
     name: NameId,
     found: Option<FoundSlot>,
     value: Value,
@@ -137,7 +142,7 @@ fn put_slot<W: World>(
 pub fn put_name<W: World>(
     alloc: Global,
     world: &mut W,
-    names: &Names,
+    names: &NameTable,
     scope: Addr,
     name: NameId,
     value: Value,
@@ -152,7 +157,7 @@ pub fn put_name<W: World>(
 fn type_of_value<W: World>(
     alloc: Global,
     world: &mut W,
-    names: &Names,
+    names: &NameTable,
     name: NameId,
     value: Option<Value>,
 ) -> Result<Value, ActionEnd>
@@ -160,7 +165,7 @@ fn type_of_value<W: World>(
 {
     match value {
         Some(value) => {
-            let seen = Seen {
+            let seen = NamedWorld {
                 names,
                 world: &*world,
             };
@@ -175,7 +180,7 @@ fn type_of_value<W: World>(
 fn type_of_slot<W: World>(
     alloc: Global,
     world: &mut W,
-    names: &Names,
+    names: &NameTable,
     name: NameId,
     found: Option<FoundSlot>,
 ) -> Result<Value, ActionEnd>
@@ -195,7 +200,7 @@ fn type_of_slot<W: World>(
 pub fn type_of_name<W: World>(
     alloc: Global,
     world: &mut W,
-    names: &Names,
+    names: &NameTable,
     scope: Addr,
     name: NameId,
 ) -> Result<Value, ActionEnd>

@@ -8,7 +8,7 @@ use crate::cells::make;
 use crate::errors::fail_with;
 use js_heap::built_in::ErrorClass;
 use js_heap::value::Value;
-use js_heap_memory::names::Names;
+use js_heap_memory::names::NameTable;
 use js_heap_memory::properties::PropertyMap;
 use js_heap_memory::stored::Stored;
 use js_heap_memory::world::World;
@@ -18,7 +18,7 @@ use std::alloc::Global;
 pub fn object_or_fail<W: World>(
     alloc: Global,
     world: &mut W,
-    names: &Names,
+    names: &NameTable,
     properties: Option<PropertyMap>,
 ) -> Result<Value, ActionEnd>
     ensures { Gives (object_or_fail properties) (W.world names.now world.old) result (W.world names.now world.new) }

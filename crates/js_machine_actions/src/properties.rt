@@ -8,9 +8,9 @@ ghost use Rattle.js_machine_actions.specs.Flow.{Yields, Passes};
 
 use crate::action_end::ActionEnd;
 use crate::errors::{bad_key, with_result, with_written};
-use crate::seen::Seen;
+use crate::seen::NamedWorld;
 use js_heap::value::Value;
-use js_heap_memory::names::{NameId, Names};
+use js_heap_memory::names::{NameId, NameTable};
 use js_heap_memory::world::World;
 use js_heap_operators::operators::key_of;
 use js_heap_operators::properties::{property_deleted, property_of, property_written};
@@ -20,7 +20,7 @@ use std::alloc::Global;
 pub fn get_property<W: World>(
     alloc: Global,
     world: &mut W,
-    names: &Names,
+    names: &NameTable,
     object: Value,
     key: &[u16],
 ) -> Result<Value, ActionEnd>
@@ -28,7 +28,7 @@ pub fn get_property<W: World>(
 {
     let value = property_of(
         alloc,
-        &Seen {
+        &NamedWorld {
             names,
             world: &*world,
         },
@@ -42,7 +42,7 @@ pub fn get_property<W: World>(
 pub fn get_index<W: World>(
     alloc: Global,
     world: &mut W,
-    names: &Names,
+    names: &NameTable,
     object: Value,
     index: Value,
 ) -> Result<Value, ActionEnd>
@@ -50,7 +50,7 @@ pub fn get_index<W: World>(
 {
     let key = key_of(
         alloc,
-        &Seen {
+        &NamedWorld {
             names,
             world: &*world,
         },
@@ -66,7 +66,7 @@ pub fn get_index<W: World>(
 pub fn put_property<W: World>(
     alloc: Global,
     world: &mut W,
-    names: &Names,
+    names: &NameTable,
     object: Value,
     key: &[u16],
     value: Value,
@@ -75,7 +75,7 @@ pub fn put_property<W: World>(
 {
     let written = property_written(
         alloc,
-        &Seen {
+        &NamedWorld {
             names,
             world: &*world,
         },
@@ -90,7 +90,7 @@ pub fn put_property<W: World>(
 pub fn put_index<W: World>(
     alloc: Global,
     world: &mut W,
-    names: &Names,
+    names: &NameTable,
     object: Value,
     index: Value,
     value: Value,
@@ -99,7 +99,7 @@ pub fn put_index<W: World>(
 {
     let key = key_of(
         alloc,
-        &Seen {
+        &NamedWorld {
             names,
             world: &*world,
         },
@@ -115,7 +115,7 @@ pub fn put_index<W: World>(
 pub fn remove_property<W: World>(
     alloc: Global,
     world: &mut W,
-    names: &Names,
+    names: &NameTable,
     object: Value,
     key: &[u16],
 ) -> Result<(), ActionEnd>
@@ -123,7 +123,7 @@ pub fn remove_property<W: World>(
 {
     let written = property_deleted(
         alloc,
-        &Seen {
+        &NamedWorld {
             names,
             world: &*world,
         },
@@ -137,7 +137,7 @@ pub fn remove_property<W: World>(
 pub fn remove_index<W: World>(
     alloc: Global,
     world: &mut W,
-    names: &Names,
+    names: &NameTable,
     object: Value,
     index: Value,
 ) -> Result<(), ActionEnd>
@@ -145,7 +145,7 @@ pub fn remove_index<W: World>(
 {
     let key = key_of(
         alloc,
-        &Seen {
+        &NamedWorld {
             names,
             world: &*world,
         },
@@ -165,7 +165,7 @@ pub fn remove_index<W: World>(
 pub fn put_member<W: World>(
     alloc: Global,
     world: &mut W,
-    names: &Names,
+    names: &NameTable,
     object: Value,
     key: NameId,
     value: Value,

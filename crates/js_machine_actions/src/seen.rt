@@ -10,7 +10,7 @@ use js_heap::change::Change;
 use js_heap::computed::{Computed, Written};
 use js_heap::reading::Cells;
 use js_heap::value::{Addr, Value};
-use js_heap_memory::names::Names;
+use js_heap_memory::names::NameTable;
 use js_heap_memory::stored::{FunctionCell, FunctionName, Stored};
 use js_heap_memory::world::World;
 use js_heap_operators::properties::{
@@ -20,12 +20,12 @@ use std::alloc::{AllocError, Global};
 
 /// A world with its table. Contracts see the world that they are.
 #[derive(Clone, Copy)]
-pub struct Seen<'a, W: World> {
-    pub names: &'a Names,
+pub struct NamedWorld<'a, W: World> {
+    pub names: &'a NameTable,
     pub world: &'a W,
 }
 
-impl<'a, W: World> Cells for Seen<'a, W> {
+impl<'a, W: World> Cells for NamedWorld<'a, W> {
     ghost world = { λ s. W.world s.names.now s.world.now };
 
     fn units_at(&self, a: Addr) -> &[u16] {
@@ -66,7 +66,7 @@ fn units_of(cell: Option<&Stored>) -> &[u16]
 }
 
 /// The units of the text at an address; of another cell none.
-pub fn units_at<'a, W: World>(world: &'a W, names: &Names, a: Addr) -> &'a [u16]
+pub fn units_at<'a, W: World>(world: &'a W, names: &NameTable, a: Addr) -> &'a [u16]
     ensures { result.now ≡ units_at (W.world names.now world.now) a }
 {
     units_of(world.find(a))
@@ -83,7 +83,7 @@ fn object_type(cell: Option<&Stored>) -> &'static [u8]
 }
 
 /// The text of a function's name.
-pub fn name_text<'a>(names: &'a Names, name: &'a FunctionName) -> Result<&'a [u16], AllocError>
+pub fn name_text<'a>(names: &'a NameTable, name: &'a FunctionName) -> Result<&'a [u16], AllocError>
     ensures { IfOk result (λ text. text.now ≡ name_text names.now name.now) }
 {
     match name {
@@ -96,7 +96,7 @@ pub fn name_text<'a>(names: &'a Names, name: &'a FunctionName) -> Result<&'a [u1
 /// A property of a function (20.2.4).
 fn property_of_function(
     alloc: Global,
-    names: &Names,
+    names: &NameTable,
     function: &FunctionCell,
     key: &[u16],
 ) -> Result<Computed, AllocError>
@@ -109,7 +109,7 @@ fn property_of_function(
 /// What reading a property of an object with this cell gives (10.1.8).
 fn stored_property(
     alloc: Global,
-    names: &Names,
+    names: &NameTable,
     cell: Option<&Stored>,
     key: &[u16],
 ) -> Result<Computed, AllocError>

@@ -4,13 +4,13 @@ ghost use Rattle.std.specs.Prelude.{◌≡◌, ◌++◌, IfOk, option_copied, ma
 ghost use Rattle.js_heap.specs.Values.{shown, cell_text, error_text, with_message, message_units, between};
 ghost use Rattle.js_heap_memory.specs.Cells.{cell_at, name_text};
 
-use crate::seen::{Seen, name_text, units_at};
+use crate::seen::{NamedWorld, name_text, units_at};
 use cdp_text::units::{Units, ascii};
 use js_heap::built_in::ErrorClass;
 use js_heap::cell::Property;
 use js_heap::reading::Cells;
 use js_heap::value::Value;
-use js_heap_memory::names::Names;
+use js_heap_memory::names::NameTable;
 use js_heap_memory::stored::{FunctionName, Stored};
 use js_heap_memory::world::World;
 use js_heap_operators::operators::{bool_text, number_text};
@@ -61,7 +61,7 @@ fn error_text<C: Cells>(
 }
 
 /// The text of a function with this name.
-fn function_text(alloc: Global, names: &Names, name: &FunctionName) -> Result<Units, AllocError>
+fn function_text(alloc: Global, names: &NameTable, name: &FunctionName) -> Result<Units, AllocError>
     ensures { IfOk result (λ units. units ≡ codes "function " ++ name_text names.now name.now) }
 {
     let opened = ascii(alloc, b"function ")?;
@@ -73,7 +73,7 @@ fn function_text(alloc: Global, names: &Names, name: &FunctionName) -> Result<Un
 fn cell_text<W: World>(
     alloc: Global,
     world: &W,
-    names: &Names,
+    names: &NameTable,
     cell: Option<&Stored>,
 ) -> Result<Units, AllocError>
     ensures { IfOk result (λ units. units ≡ cell_text (W.world names.now world.now) (cell_at names.now (option_copied cell.entry))) }
@@ -84,7 +84,7 @@ fn cell_text<W: World>(
         Some(Stored::Error { class, properties }) => {
             let key = ascii(alloc, b"message")?;
             let message = properties.find(key.as_slice());
-            error_text(alloc, &Seen { names, world }, *class, message)
+            error_text(alloc, &NamedWorld { names, world }, *class, message)
         }
         _ => ascii(alloc, b"[object Object]"),
     }
@@ -94,7 +94,7 @@ fn cell_text<W: World>(
 pub fn shown<W: World>(
     alloc: Global,
     world: &W,
-    names: &Names,
+    names: &NameTable,
     value: Value,
 ) -> Result<Units, AllocError>
     ensures { IfOk result (λ units. units ≡ shown (W.world names.now world.now) value) }
@@ -113,7 +113,7 @@ pub fn shown<W: World>(
 fn all_shown<W: World>(
     alloc: Global,
     world: &W,
-    names: &Names,
+    names: &NameTable,
     values: &[Value],
 ) -> Result<Vec<Units>, AllocError>
     ensures { IfOk result (λ texts. texts.items ≡ map (shown (W.world names.now world.now)) values.now) }
@@ -145,7 +145,7 @@ pub fn between(alloc: Global, separator: &[u16], texts: &[Units]) -> Result<Unit
 pub fn logged<W: World>(
     alloc: Global,
     world: &W,
-    names: &Names,
+    names: &NameTable,
     values: &[Value],
 ) -> Result<Units, AllocError>
     ensures { IfOk result (λ text. text ≡ between (codes " ") (map (shown (W.world names.now world.now)) values.now)) }

@@ -13,7 +13,7 @@ use crate::seen::units_at;
 use cdp_text::units::Units;
 use js_heap::built_in::BuiltIn;
 use js_heap::value::{Addr, Value};
-use js_heap_memory::names::Names;
+use js_heap_memory::names::NameTable;
 use js_heap_memory::slots::argument;
 use js_heap_memory::world::World;
 use js_heap_operators::results::not_safe;
@@ -23,7 +23,7 @@ use std::alloc::Global;
 fn occurrence_of<W: World>(
     alloc: Global,
     world: &mut W,
-    names: &Names,
+    names: &NameTable,
     a: Addr,
     of: Value,
 ) -> Result<Value, ActionEnd>
@@ -44,7 +44,7 @@ fn occurrence_of<W: World>(
 fn string_slice<W: World>(
     alloc: Global,
     world: &mut W,
-    names: &Names,
+    names: &NameTable,
     a: Addr,
     arguments: &[Value],
 ) -> Result<Value, ActionEnd>
@@ -62,7 +62,7 @@ fn string_slice<W: World>(
 fn unit_or_fail<W: World>(
     alloc: Global,
     world: &mut W,
-    names: &Names,
+    names: &NameTable,
     unit: Option<u16>,
 ) -> Result<Value, ActionEnd>
     ensures { Gives (unit_or_fail unit) (W.world names.now world.old) result (W.world names.now world.new) }
@@ -80,7 +80,7 @@ fn unit_or_fail<W: World>(
 fn unit_at<W: World>(
     alloc: Global,
     world: &mut W,
-    names: &Names,
+    names: &NameTable,
     a: Addr,
     index: Value,
 ) -> Result<Value, ActionEnd>
@@ -99,7 +99,7 @@ fn unit_at<W: World>(
 pub fn on_string<W: World>(
     alloc: Global,
     world: &mut W,
-    names: &Names,
+    names: &NameTable,
     f: BuiltIn,
     receiver: Value,
     arguments: &[Value],

@@ -4,7 +4,7 @@ use Rattle.std.specs.Prelude.{slice_get}
 use Rattle.std.specs.Global.{Vec}
 use Rattle.std.specs.Prelude.{IfOk, Result, Ok, Err}
 use Rattle.std.specs.declared.alloc.AllocError.{AllocError}
-use Rattle.js_machine_compiler.specs.declared.nodes.Entry.{Entry}
+use Rattle.js_machine_compiler.specs.declared.nodes.Instruction.{Instruction}
 use Rattle.js_heap.specs.declared.cell.Binding.{Binding}
 use Rattle.js_semantics.specs.declared.form.Form.{Form}
 use Rattle.js_semantics.specs.declared.form.Form.TheVariants as forms
@@ -459,7 +459,7 @@ index_call_known ts t n e h =
 
 -- ---- equal forms
 
-pub same_form : (ts : List (List ℕ)) (r : Result Entry AllocError) (f g : Form)
+pub same_form : (ts : List (List ℕ)) (r : Result Instruction AllocError) (f g : Form)
     → g ≡ f
     → IfOk r (λ e. (t : NodeTable) → HasForm ts t e.op e.info f)
     → IfOk r (λ e. (t : NodeTable) → HasForm ts t e.op e.info g)
@@ -472,7 +472,7 @@ pub same_entry : (ts : List (List ℕ)) (t : NodeTable) (op : Op) (info : ℕ) (
     → HasForm ts t op info g
 same_entry ts t op info f g h k = subst (λ (x : Form). HasForm ts t op info x) (sym h) k
 
-pub same_call : (ts : List (List ℕ)) (t : NodeTable) (r : Result Entry AllocError) (f g : Form)
+pub same_call : (ts : List (List ℕ)) (t : NodeTable) (r : Result Instruction AllocError) (f g : Form)
     → g ≡ f
     → IfOk r (λ e. (us : List (List ℕ)) → HasForm us t e.op e.info f)
     → IfOk r (λ e. HasForm ts t e.op e.info g)
@@ -530,11 +530,11 @@ alone_enters ts t (forms.Throw n) e = has_placed ts t ops.Throw n refl
 alone_enters ts t (forms.Loop stage scope) e = loop_enters ts t stage scope
 alone_enters ts t _ e = refl
 
-pub answer_enters : (ts : List (List ℕ)) (t : NodeTable) (f : Form) (o : Option Entry)
+pub answer_enters : (ts : List (List ℕ)) (t : NodeTable) (f : Form) (o : Option Instruction)
     → o ≡ alone_entry f
     → needs_names f ≡ false
     → Enters ts t f o
-answer_enters ts t f o e h = subst (λ (x : Option Entry). Enters ts t f x) (sym e) (alone_enters ts t f h)
+answer_enters ts t f o e h = subst (λ (x : Option Instruction). Enters ts t f x) (sym e) (alone_enters ts t f h)
 
 -- a form that is none of those
 pub needs_nothing : (f : Form)

@@ -18,7 +18,7 @@ use Rattle.js_machine_nodes.specs.Ops.{is_task_only, is_loop}
 use Rattle.js_machine_nodes.specs.Forms.{form_of}
 use Rattle.js_machine_nodes.specs.Trees.{constant_at, kids_between, terms, node_term, tree_within, EachBelow, IsNode, IsNodeAt, IsTable}
 use Rattle.js_machine_compiler.specs.Added.{node_behind, IsNodeAdded}
-use Rattle.js_machine_compiler.specs.Grown.{IsEntryAt, IsPlacedAt, IsPlacedNode, HasPlaces, Begins, Extends, Keeps, Grows, HasForm, HasTree, HaveTrees}
+use Rattle.js_machine_compiler.specs.Grown.{IsEntryAt, IsPlacedAt, IsPlacedNode, HasPlaces, Begins, Extends, KeepsTable, Grows, HasForm, HasTree, HaveTrees}
 use Rattle.js_machine_compiler.proofs.NameLemmas.{goes_on_same}
 use Rattle.js_heap_memory.proofs.StartLemmas.{goes-then}
 use Rattle.cdp_text.proofs.ListLemmas.{last_there}
@@ -102,10 +102,10 @@ extends_twice t u v g h = record {
   calls = begins_twice t.calls.items u.calls.items v.calls.items g.calls h.calls;
 }
 
-pub keeps_same : (t : NodeTable) → Keeps t t
+pub keeps_same : (t : NodeTable) → KeepsTable t t
 keeps_same t = record { entries = extends_same t; table = λ h. h; places = λ h. h; sources = refl }
 
-pub keeps_twice : (t u v : NodeTable) → Keeps t u → Keeps u v → Keeps t v
+pub keeps_twice : (t u v : NodeTable) → KeepsTable t u → KeepsTable u v → KeepsTable t v
 keeps_twice t u v g h =
     record {
       entries = extends_twice t u v g.entries h.entries;
@@ -123,7 +123,7 @@ pub grows_twice : (ts us vs : List (List ℕ)) (t u v : NodeTable) → Grows ts 
 grows_twice ts us vs t u v g h =
     record { names = goes-then ts us vs g.names h.names; table = keeps_twice t u v g.table h.table }
 
-pub grows_then : (ts us : List (List ℕ)) (t u : NodeTable) → GoesOn ts us → Keeps t u → Grows ts t us u
+pub grows_then : (ts us : List (List ℕ)) (t u : NodeTable) → GoesOn ts us → KeepsTable t u → Grows ts t us u
 grows_then ts us t u g k = record { names = g; table = k }
 
 -- a table with more entries and the same nodes
@@ -343,7 +343,7 @@ pub node_keeps : (t u : NodeTable) (op : Op) (info n : ℕ) (now later : List �
     → is_task_only op ≡ false
     → (is_loop op ≡ true → info ≡ 0)
     → IsPlacedAt t op info (length t.nodes.items)
-    → Keeps t u
+    → KeepsTable t u
 node_keeps t u op info n now later a b c s l p =
     let g = node_extends t u op info n now later a in record {
       entries = g;

@@ -10,12 +10,12 @@ use Rattle.js_machine_nodes.specs.declared.node.CallEntry.{CallEntry}
 use Rattle.js_machine_nodes.specs.declared.node.MemberEntry.{MemberEntry}
 use Rattle.js_machine_nodes.specs.declared.node.FunctionEntry.{FunctionEntry}
 use Rattle.js_machine_nodes.specs.declared.table.NodeTable.{NodeTable}
-use Rattle.js_machine_compiler.specs.Grown.{Keeps}
+use Rattle.js_machine_compiler.specs.Grown.{KeepsTable}
 use Rattle.js_machine_compiler.proofs.GrownLemmas.{begins_same, begins_more, same_nodes, same_places}
 
 pub keeps_constants : (t : NodeTable) (xs : Vec Value) (x : Value)
     → xs.items ≡ t.constants.items ++ x ∷ []
-    → Keeps t (record t { constants = xs })
+    → KeepsTable t (record t { constants = xs })
 keeps_constants t xs x e = record {
   entries =
       record {
@@ -39,7 +39,7 @@ keeps_constants t xs x e = record {
 
 pub keeps_blocks : (t : NodeTable) (xs : Vec (List Slot)) (x : List Slot)
     → xs.items ≡ t.blocks.items ++ x ∷ []
-    → Keeps t (record t { blocks = xs })
+    → KeepsTable t (record t { blocks = xs })
 keeps_blocks t xs x e = record {
   entries =
       record {
@@ -63,7 +63,7 @@ keeps_blocks t xs x e = record {
 
 pub keeps_scripts : (t : NodeTable) (xs : Vec ScriptEntry) (x : ScriptEntry)
     → xs.items ≡ t.scripts.items ++ x ∷ []
-    → Keeps t (record t { scripts = xs })
+    → KeepsTable t (record t { scripts = xs })
 keeps_scripts t xs x e = record {
   entries =
       record {
@@ -87,7 +87,7 @@ keeps_scripts t xs x e = record {
 
 pub keeps_fors : (t : NodeTable) (xs : Vec ForEntry) (x : ForEntry)
     → xs.items ≡ t.fors.items ++ x ∷ []
-    → Keeps t (record t { fors = xs })
+    → KeepsTable t (record t { fors = xs })
 keeps_fors t xs x e = record {
   entries =
       record {
@@ -111,7 +111,7 @@ keeps_fors t xs x e = record {
 
 pub keeps_for_ofs : (t : NodeTable) (xs : Vec ForOfEntry) (x : ForOfEntry)
     → xs.items ≡ t.for_ofs.items ++ x ∷ []
-    → Keeps t (record t { for_ofs = xs })
+    → KeepsTable t (record t { for_ofs = xs })
 keeps_for_ofs t xs x e = record {
   entries =
       record {
@@ -135,7 +135,7 @@ keeps_for_ofs t xs x e = record {
 
 pub keeps_functions : (t : NodeTable) (xs : Vec FunctionEntry) (x : FunctionEntry)
     → xs.items ≡ t.functions.items ++ x ∷ []
-    → Keeps t (record t { functions = xs })
+    → KeepsTable t (record t { functions = xs })
 keeps_functions t xs x e = record {
   entries =
       record {
@@ -158,7 +158,7 @@ keeps_functions t xs x e = record {
 
 pub keeps_objects : (t : NodeTable) (xs : Vec (Vec MemberEntry)) (x : Vec MemberEntry)
     → xs.items ≡ t.objects.items ++ x ∷ []
-    → Keeps t (record t { objects = xs })
+    → KeepsTable t (record t { objects = xs })
 keeps_objects t xs x e = record {
   entries =
       record {
@@ -181,7 +181,7 @@ keeps_objects t xs x e = record {
 
 pub keeps_calls : (t : NodeTable) (xs : Vec CallEntry) (x : CallEntry)
     → xs.items ≡ t.calls.items ++ x ∷ []
-    → Keeps t (record t { calls = xs })
+    → KeepsTable t (record t { calls = xs })
 keeps_calls t xs x e = record {
   entries =
       record {

@@ -18,7 +18,7 @@ use Rattle.js_machine_nodes.specs.declared.node.SourceEntry.{SourceEntry}
 use Rattle.js_machine_nodes.specs.declared.table.NodeTable.{NodeTable}
 use Rattle.js_machine_nodes.specs.Trees.{IsEmpty, tree, IsNodeAt, IsTable, source_tree, source_trees}
 use Rattle.js_machine_compiler.specs.Added.{IsNodeAdded}
-use Rattle.js_machine_compiler.specs.Grown.{IsPlacedNode, HasPlaces, Extends, HasTree, HaveTrees, Holds, HoldsAll}
+use Rattle.js_machine_compiler.specs.Grown.{IsPlacedNode, HasPlaces, Extends, HasTree, HaveTrees, HoldsTerm, HoldsAll}
 use Rattle.js_semantics.specs.Shapes.{size}
 use Rattle.js_machine_compiler.specs.Scripts.{Continues, IsSourceAdded, AddsSource, IsProgram, HasNodes}
 use Rattle.js_machine_compiler.proofs.GrownLemmas.{extends_same, extends_twice, node_extends, node_keeps, node_tree, no_trees}
@@ -79,7 +79,7 @@ pub script_step : (ts us : List (List ℕ)) (t u : NodeTable) (items : List Term
     → IsProgram ts t (program_from 1 (listed_view (take i items)))
     → Continues ts t us u
     → o ≡ Some root
-    → Holds us u (term_view x) o
+    → HoldsTerm us u (term_view x) o
     → AddsSource t u number o
     → number ≡ i + 1
     → i < length items
@@ -87,7 +87,7 @@ pub script_step : (ts us : List (List ℕ)) (t u : NodeTable) (items : List Term
     → IsProgram us u (program_from 1 (listed_view (take (i + 1) items)))
 script_step ts us t u items i number root x o p g s k a n l is vs v h w =
     let j : HasTree us u root (term_view x)
-    = (let j' : Holds us u (term_view x) (Some root) = subst (λ (q : Option ℕ). Holds us u (term_view x) q) s k in
+    = (let j' : HoldsTerm us u (term_view x) (Some root) = subst (λ (q : Option ℕ). HoldsTerm us u (term_view x) q) s k in
     j')
     in
     let b : IsSourceAdded t u number root = (let b' : AddsSource t u number (Some root) = subst

@@ -6,7 +6,7 @@ use Rattle.std.specs.declared.alloc.AllocError.{AllocError}
 use Rattle.std.proofs.lemmas.List.{take_more}
 use Rattle.js_heap.specs.declared.value.Value.{Value}
 use Rattle.js_semantics.specs.declared.form.Form.{Form}
-use Rattle.js_semantics.specs.declared.form.Spot.{Spot}
+use Rattle.js_semantics.specs.declared.form.SourceMark.{SourceMark}
 use Rattle.js_semantics.specs.Terms as semantics
 use Rattle.js_machine_terms.specs.declared.term.Term.{Term}
 use Rattle.js_machine_terms.specs.declared.term.Terms.{Terms}
@@ -17,10 +17,10 @@ use Rattle.js_machine_nodes.specs.declared.op.Op.TheVariants as ops
 use Rattle.js_machine_nodes.specs.declared.table.NodeTable.{NodeTable}
 use Rattle.js_heap_memory.specs.Names.{GoesOn}
 use Rattle.js_machine_nodes.specs.Trees.{EachBelow}
-use Rattle.js_machine_compiler.specs.declared.nodes.Entry.{Entry}
+use Rattle.js_machine_compiler.specs.declared.nodes.Instruction.{Instruction}
 use Rattle.js_machine_compiler.specs.Added.{IsNodeAdded}
 use Rattle.js_machine_compiler.specs.Plain.{is_plain_form, is_plain, are_plain}
-use Rattle.js_machine_compiler.specs.Grown.{Extends, Keeps, Grows, Enters, HasTree, HaveTrees, Holds, HoldsAll}
+use Rattle.js_machine_compiler.specs.Grown.{Extends, KeepsTable, Grows, Enters, HasTree, HaveTrees, HoldsTerm, HoldsAll}
 use Rattle.js_machine_compiler.proofs.GrownLemmas.{keeps_twice, grows_twice, below_more, begins_length, node_keeps, node_tree, literal_node, trees_stay, trees_go_on, trees_more}
 use Rattle.std.proofs.lemmas.Bool.{and_right}
 
@@ -28,9 +28,9 @@ use Rattle.std.proofs.lemmas.Bool.{and_right}
 
 pub literal_keeps : (r : Result ℕ AllocError) (t u v : NodeTable) (info : ℕ) (none : List ℕ)
     → none ≡ []
-    → Keeps t u
+    → KeepsTable t u
     → IfOk r (λ n. IsNodeAdded u v ops.Literal info none none n)
-    → OnOk r (Keeps t v)
+    → OnOk r (KeepsTable t v)
 literal_keeps (Err e) t u v info none h k a = tt
 literal_keeps (Ok n) t u v info none h k a =
     let b : EachBelow (length u.nodes.items) none = subst (EachBelow (length u.nodes.items)) (sym h) tt in
@@ -45,7 +45,7 @@ literal_trees (Ok n) u v info none x c a = λ ts. literal_node ts u v info n non
 
 -- ---- forms over parts
 
-pub part_grows : (ts us : List (List ℕ)) (t u v : NodeTable) (o : Option Entry) (e : Entry) (n : ℕ) (now later : List ℕ)
+pub part_grows : (ts us : List (List ℕ)) (t u v : NodeTable) (o : Option Instruction) (e : Instruction) (n : ℕ) (now later : List ℕ)
     (f : Form)
     → Grows ts t us u
     → Enters us u f o
@@ -55,7 +55,7 @@ pub part_grows : (ts us : List (List ℕ)) (t u v : NodeTable) (o : Option Entry
     → EachBelow (length t.nodes.items) later
     → Grows ts t us v
 part_grows ts us t u v o e n now later f g h s a b c =
-    let k : Enters us u f (Some e) = subst (λ (x : Option Entry). Enters us u f x) s h in
+    let k : Enters us u f (Some e) = subst (λ (x : Option Instruction). Enters us u f x) s h in
     let m = begins_length t.nodes.items u.nodes.items g.table.entries.nodes in
     record {
       names = g.names;
@@ -66,7 +66,7 @@ part_grows ts us t u v o e n now later f g h s a b c =
           (below_more (length t.nodes.items) (length u.nodes.items) later m c) k.source k.turns k.place);
     }
 
-pub part_tree : (ts us : List (List ℕ)) (t u v : NodeTable) (o : Option Entry) (e : Entry) (n : ℕ) (now later : List ℕ)
+pub part_tree : (ts us : List (List ℕ)) (t u v : NodeTable) (o : Option Instruction) (e : Instruction) (n : ℕ) (now later : List ℕ)
     (f : Form)
     → Grows ts t us u
     → Enters us u f o
@@ -77,7 +77,7 @@ pub part_tree : (ts us : List (List ℕ)) (t u v : NodeTable) (o : Option Entry)
     → HaveTrees ts t later ys
     → HasTree us v n (semantics.part f xs ys)
 part_tree ts us t u v o e n now later f g h s a xs ys x y =
-    let k : Enters us u f (Some e) = subst (λ (x : Option Entry). Enters us u f x) s h in
+    let k : Enters us u f (Some e) = subst (λ (x : Option Instruction). Enters us u f x) s h in
     node_tree us u v e.op e.info n now later f xs ys a k (trees_stay ts us t u now xs g x)
     (trees_stay ts us t u later ys g y)
 
@@ -89,7 +89,7 @@ pub done_holds : (ts : List (List ℕ)) (t : NodeTable) (n : ℕ) (x : Term) (v 
     → HasTree ts t n (term_view x)
 done_holds ts t n x v e h = subst (HasTree ts t n) (sym (ap term_view e ∙ view_done v)) h
 
-pub standing_none : (x : Term) (v : Value) (s : Spot) → x ≡ Term.Standing v s → is_plain (term_view x) ≡ false
+pub standing_none : (x : Term) (v : Value) (s : SourceMark) → x ≡ Term.Standing v s → is_plain (term_view x) ≡ false
 standing_none x v s e = ap is_plain (ap term_view e ∙ view_standing v s)
 
 parts_none : (ts : List (List ℕ)) (t : NodeTable) (o : Option (Vec ℕ)) (xs : semantics.Terms)
@@ -158,13 +158,13 @@ pub parts_tree : (r : Result (Option ℕ) AllocError) (us vs ws : List (List ℕ
     → ((xs ys : semantics.Terms)
     → HaveTrees vs v ns.items xs
     → HaveTrees vs v ms.items ys
-    → IfOk r (λ n. Holds ws w (semantics.part g xs ys) n))
-    → IfOk r (λ n. Holds ws w (term_view x) n)
+    → IfOk r (λ n. HoldsTerm ws w (semantics.part g xs ys) n))
+    → IfOk r (λ n. HoldsTerm ws w (term_view x) n)
 parts_tree r us vs ws u v w o p ns ms x f g now later e d h a y b z k =
     let q : semantics.part g (terms_view now) (terms_view later) ≡ term_view x = ap
     (λ c. semantics.part c (terms_view now) (terms_view later)) d
     ∙ sym (ap term_view e ∙ view_part f now later) in
-    subst (λ (c : semantics.Term). IfOk r (λ n. Holds ws w c n)) q
+    subst (λ (c : semantics.Term). IfOk r (λ n. HoldsTerm ws w c n)) q
     (k (terms_view now) (terms_view later)
     (trees_stay us vs u v ns.items (terms_view now) h (parts_some us u o ns (terms_view now) a y))
     (parts_some vs v p ms (terms_view later) b z))
@@ -177,13 +177,13 @@ pub items_go_on : (ts us : List (List ℕ)) (t u : NodeTable) (ns ms : List ℕ)
     → GoesOn ts us
     → Extends t u
     → o ≡ Some n
-    → Holds us u (term_view x) o
+    → HoldsTerm us u (term_view x) o
     → ms ≡ ns ++ n ∷ []
     → i < length items
     → x ≡ get_or items i x
     → HaveTrees us u ms (listed_view (take (i + 1) items))
 items_go_on ts us t u ns ms items i x n o h g w s k e l is =
-    let j : Holds us u (term_view x) (Some n) = subst (λ (p : Option ℕ). Holds us u (term_view x) p) s k in
+    let j : HoldsTerm us u (term_view x) (Some n) = subst (λ (p : Option ℕ). HoldsTerm us u (term_view x) p) s k in
     let q : listed_view (take (i + 1) items) ≡ semantics.joined (listed_view (take i items))
     (semantics.one (term_view x)) =
     ap listed_view (take_more items i x l)
@@ -198,7 +198,7 @@ pub items_step : (ts us : List (List ℕ)) (t u : NodeTable) (ns ms : List ℕ) 
     → HaveTrees ts t ns (listed_view (take i items))
     → Grows ts t us u
     → o ≡ Some n
-    → Holds us u (term_view x) o
+    → HoldsTerm us u (term_view x) o
     → ms ≡ ns ++ n ∷ []
     → i < length items
     → x ≡ get_or items i x
@@ -220,9 +220,9 @@ pub items_none : (ts : List (List ℕ)) (t : NodeTable) (items all : List Term) 
     → i < length items
     → x ≡ get_or items i x
     → o ≡ None
-    → Holds ts t (term_view x) o
+    → HoldsTerm ts t (term_view x) o
     → items ≡ all
     → are_plain (listed_view all) ≡ false
 items_none ts t items all i x o l is s h e =
-    let k : Holds ts t (term_view x) None = subst (λ (p : Option ℕ). Holds ts t (term_view x) p) s h in
+    let k : HoldsTerm ts t (term_view x) None = subst (λ (p : Option ℕ). HoldsTerm ts t (term_view x) p) s h in
     ap (λ xs. are_plain (listed_view xs)) (sym e) ∙ one_none items i x l (ap (λ y. is_plain (term_view y)) (sym is) ∙ k)

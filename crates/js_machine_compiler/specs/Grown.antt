@@ -19,7 +19,7 @@ use Rattle.js_machine_nodes.specs.declared.table.NodeTable.{NodeTable}
 use Rattle.js_machine_nodes.specs.Ops.{is_literal, is_task_only, is_loop}
 use Rattle.js_machine_nodes.specs.Forms.{member_of, members_of, function_of, form_of}
 use Rattle.js_machine_nodes.specs.Trees.{terms, tree_within, EachBelow, IsTable}
-use Rattle.js_machine_compiler.specs.declared.nodes.Entry.{Entry}
+use Rattle.js_machine_compiler.specs.declared.nodes.Instruction.{Instruction}
 use Rattle.js_machine_compiler.specs.Plain.{is_plain_form, is_plain, are_plain}
 
 -- ---- names, however their table goes on
@@ -95,7 +95,7 @@ pub record HasPlaces (t : NodeTable) : Type 0 where
   pub nodes : (n : ℕ) → IsPlacedNode t n (slice_get t.nodes.items n)
 
 -- a table that goes on, the parts of each node before it, with the sources as they were
-pub record Keeps (t u : NodeTable) : Type 0 where
+pub record KeepsTable (t u : NodeTable) : Type 0 where
   pub entries : Extends t u
   pub table : IsTable t → IsTable u
   pub places : HasPlaces t → HasPlaces u
@@ -104,7 +104,7 @@ pub record Keeps (t u : NodeTable) : Type 0 where
 -- names and a table that go on
 pub record Grows (ts : List (List ℕ)) (t : NodeTable) (us : List (List ℕ)) (u : NodeTable) : Type 0 where
   pub names : GoesOn ts us
-  pub table : Keeps t u
+  pub table : KeepsTable t u
 
 -- what the next node does stands for a form, however names and table go on
 pub record HasForm (ts : List (List ℕ)) (t : NodeTable) (op : Op) (info : ℕ) (f : Form) : Type 0 where
@@ -115,7 +115,7 @@ pub record HasForm (ts : List (List ℕ)) (t : NodeTable) (op : Op) (info : ℕ)
   pub place : IsPlacedAt t op info (length t.nodes.items)
 
 -- the answer for a form: an entry that stands for it, or none where no node has it
-abbrev pub Enters : List (List ℕ) → NodeTable → Form → Option Entry → Type 0
+abbrev pub Enters : List (List ℕ) → NodeTable → Form → Option Instruction → Type 0
 Enters ts t f None = is_plain_form f ≡ false
 Enters ts t f (Some e) = HasForm ts t e.op e.info f
 
@@ -138,9 +138,9 @@ pub record HaveTrees (ts : List (List ℕ)) (t : NodeTable) (ns : List ℕ) (xs 
       → terms (tree_within us u fuel) ns ≡ xs
 
 -- the answer for a term: a node, or none where no node has such a tree
-abbrev pub Holds : List (List ℕ) → NodeTable → Term → Option ℕ → Type 0
-Holds ts t x None = is_plain x ≡ false
-Holds ts t x (Some n) = HasTree ts t n x
+abbrev pub HoldsTerm : List (List ℕ) → NodeTable → Term → Option ℕ → Type 0
+HoldsTerm ts t x None = is_plain x ≡ false
+HoldsTerm ts t x (Some n) = HasTree ts t n x
 
 -- the answer for some terms: nodes, or none where no nodes have such trees
 abbrev pub HoldsAll : List (List ℕ) → NodeTable → Terms → Option (Vec ℕ) → Type 0

@@ -9,7 +9,7 @@ use Rattle.js_semantics.specs.declared.form.Stage.TheVariants.{First as first, D
 use Rattle.js_machine_nodes.specs.declared.op.Op.{Op}
 use Rattle.js_machine_nodes.specs.declared.op.Op.TheVariants as ops
 use Rattle.js_machine_nodes.specs.Ops.{operator_of, is_prefix}
-use Rattle.js_machine_compiler.specs.declared.nodes.Entry.{Entry}
+use Rattle.js_machine_compiler.specs.declared.nodes.Instruction.{Instruction}
 
 -- what needs no number
 abbrev pub is_bare : Op → Bool
@@ -127,20 +127,20 @@ stage_op body = ops.LoopBody
 stage_op updating = ops.LoopUpdating
 
 -- the entry of what needs no number
-abbrev pub bare_entry : Op → Option Entry
+abbrev pub bare_entry : Op → Option Instruction
 bare_entry op = Some (record { op = op; info = 0 })
 
 -- the entry of what has the number of a node of its source
-abbrev pub placed_entry : Op → ℕ → Option Entry
+abbrev pub placed_entry : Op → ℕ → Option Instruction
 placed_entry op node = Some (record { op = op; info = node })
 
 -- a loop has a scope of its turn in a run alone
-abbrev pub loop_entry : Stage → Option Addr → Option Entry
+abbrev pub loop_entry : Stage → Option Addr → Option Instruction
 loop_entry stage None = bare_entry (stage_op stage)
 loop_entry stage (Some a) = None
 
 -- the entry of such a form; none of any other
-abbrev pub alone_entry : Form → Option Entry
+abbrev pub alone_entry : Form → Option Instruction
 alone_entry scripts = bare_entry ops.Scripts
 alone_entry sequence = bare_entry ops.Sequence
 alone_entry choose = bare_entry ops.Choose

@@ -4,14 +4,14 @@ ghost use Rattle.std.specs.Prelude.{◌≡◌, ◌++◌, ◌∷◌, [], true, On
 ghost use Rattle.js_semantics.specs.declared.form.Form.TheVariants as forms;
 ghost use Rattle.js_semantics.specs.declared.form.Reference.TheVariants as references;
 ghost use Rattle.js_heap_memory.specs.Names.{GoesOn};
-ghost use Rattle.js_machine_compiler.specs.Grown.{Keeps, Grows, HasForm, IsFunction};
+ghost use Rattle.js_machine_compiler.specs.Grown.{KeepsTable, Grows, HasForm, IsFunction};
 ghost use Rattle.js_machine_compiler.specs.Operations.{is_bare, bare_form, is_named, named_form};
 
 use crate::names::{members_of, number_of, parameters_of, slot_of, slots_of};
-use crate::nodes::{Entry, next_number};
+use crate::nodes::{Instruction, next_number};
 use cdp_text::units::Units;
-use js_heap::cell::{Binding, Names as ScopeNames};
-use js_heap_memory::names::{NameId, Names};
+use js_heap::cell::{Binding, ScopeNames};
+use js_heap_memory::names::{NameId, NameTable};
 use js_machine_nodes::node::{CallEntry, ForEntry, ForOfEntry, FunctionEntry, ScriptEntry};
 use js_machine_nodes::op::Op;
 use js_machine_nodes::table::NodeTable;
@@ -29,21 +29,21 @@ pub fn put<T: Drop>(entries: &mut Vec<T>, entry: T) -> Result<u32, AllocError>
 }
 
 /// What needs no number.
-pub fn bare(op: Op) -> Entry
+pub fn bare(op: Op) -> Instruction
     requires { is_bare op ≡ true }
     ensures { (ts : _) (t : _) → HasForm ts t result.op result.info (bare_form op) }
 {
-    Entry { op, info: 0 }
+    Instruction { op, info: 0 }
 }
 
 /// What has the number of a name.
-pub fn named(names: &mut Names, op: Op, name: &Units) -> Result<Entry, AllocError>
+pub fn named(names: &mut NameTable, op: Op, name: &Units) -> Result<Instruction, AllocError>
     requires { is_named op ≡ true }
     ensures goes_on { OnOk result (GoesOn names.old names.new) }
     ensures form { IfOk result (λ e. (t : _) → HasForm names.new t e.op e.info (named_form op name.now)) }
 {
     let name = number_of(names, name)?;
-    Ok(Entry {
+    Ok(Instruction {
         op,
         info: name.number,
     })
@@ -53,11 +53,11 @@ pub fn named(names: &mut Names, op: Op, name: &Units) -> Result<Entry, AllocErro
 #[tactic(auto, using(crate::proofs::KeepLemmas::keeps_entries))]
 pub fn script_entry(
     alloc: Global,
-    names: &mut Names,
+    names: &mut NameTable,
     table: &mut NodeTable,
     number: u32,
     declared: &ScopeNames,
-) -> Result<Entry, AllocError>
+) -> Result<Instruction, AllocError>
     ensures grows { OnOk result (Grows names.old table.old names.new table.new) }
     ensures form { IfOk result (λ e. HasForm names.new table.new e.op e.info (forms.Script number declared.now)) }
 {
@@ -67,7 +67,7 @@ pub fn script_entry(
         names: slots,
     };
     let info = put(&mut table.scripts, entry)?;
-    Ok(Entry {
+    Ok(Instruction {
         op: Op::Script,
         info,
     })
@@ -77,12 +77,12 @@ pub fn script_entry(
 #[tactic(auto, using(crate::proofs::KeepLemmas::keeps_entries))]
 pub fn for_entry(
     alloc: Global,
-    names: &mut Names,
+    names: &mut NameTable,
     table: &mut NodeTable,
     node: u32,
     constant: bool,
     declared: &ScopeNames,
-) -> Result<Entry, AllocError>
+) -> Result<Instruction, AllocError>
     ensures grows { OnOk result (Grows names.old table.old names.new table.new) }
     ensures form { IfOk result (λ e. HasForm names.new table.new e.op e.info (forms.EnterFor node constant declared.now)) }
 {
@@ -93,7 +93,7 @@ pub fn for_entry(
         names: slots,
     };
     let info = put(&mut table.fors, entry)?;
-    Ok(Entry {
+    Ok(Instruction {
         op: Op::EnterFor,
         info,
     })
@@ -102,17 +102,17 @@ pub fn for_entry(
 /// A `for .. of` with its name.
 #[tactic(auto, using(crate::proofs::KeepLemmas::keeps_entries))]
 pub fn for_of_entry(
-    names: &mut Names,
+    names: &mut NameTable,
     table: &mut NodeTable,
     node: u32,
     binding: &Binding,
-) -> Result<Entry, AllocError>
+) -> Result<Instruction, AllocError>
     ensures grows { OnOk result (Grows names.old table.old names.new table.new) }
     ensures form { IfOk result (λ e. HasForm names.new table.new e.op e.info (forms.EnterForOf node binding.now)) }
 {
     let slot = slot_of(names, binding)?;
     let info = put(&mut table.for_ofs, ForOfEntry { node, slot })?;
-    Ok(Entry {
+    Ok(Instruction {
         op: Op::EnterForOf,
         info,
     })
@@ -122,16 +122,16 @@ pub fn for_of_entry(
 #[tactic(auto, using(crate::proofs::KeepLemmas::keeps_entries))]
 pub fn block_entry(
     alloc: Global,
-    names: &mut Names,
+    names: &mut NameTable,
     table: &mut NodeTable,
     declared: &ScopeNames,
-) -> Result<Entry, AllocError>
+) -> Result<Instruction, AllocError>
     ensures grows { OnOk result (Grows names.old table.old names.new table.new) }
     ensures form { IfOk result (λ e. HasForm names.new table.new e.op e.info (forms.Block declared.now)) }
 {
     let slots = slots_of(alloc, names, declared)?;
     let info = put(&mut table.blocks, slots)?;
-    Ok(Entry {
+    Ok(Instruction {
         op: Op::Block,
         info,
     })
@@ -140,7 +140,7 @@ pub fn block_entry(
 // a function's code, which is to stand at a node
 fn code_of(
     alloc: Global,
-    names: &mut Names,
+    names: &mut NameTable,
     at: u32,
     function: &FunctionForm,
 ) -> Result<FunctionEntry, AllocError>
@@ -167,17 +167,17 @@ fn code_of(
 #[tactic(auto, using(crate::proofs::KeepLemmas::keeps_entries))]
 pub fn function_entry(
     alloc: Global,
-    names: &mut Names,
+    names: &mut NameTable,
     table: &mut NodeTable,
     function: &FunctionForm,
-) -> Result<Entry, AllocError>
+) -> Result<Instruction, AllocError>
     ensures grows { OnOk result (Grows names.old table.old names.new table.new) }
     ensures form { IfOk result (λ e. HasForm names.new table.new e.op e.info (forms.Function function.now)) }
 {
     let at = next_number(table.nodes.len())?;
     let code = code_of(alloc, names, at, function)?;
     let info = put(&mut table.functions, code)?;
-    Ok(Entry {
+    Ok(Instruction {
         op: Op::Function,
         info,
     })
@@ -187,17 +187,17 @@ pub fn function_entry(
 #[tactic(auto, using(crate::proofs::KeepLemmas::keeps_entries))]
 pub fn method_entry(
     alloc: Global,
-    names: &mut Names,
+    names: &mut NameTable,
     table: &mut NodeTable,
     function: &FunctionForm,
-) -> Result<Entry, AllocError>
+) -> Result<Instruction, AllocError>
     ensures grows { OnOk result (Grows names.old table.old names.new table.new) }
     ensures form { IfOk result (λ e. HasForm names.new table.new e.op e.info (forms.Method function.now)) }
 {
     let at = next_number(table.nodes.len())?;
     let code = code_of(alloc, names, at, function)?;
     let info = put(&mut table.functions, code)?;
-    Ok(Entry {
+    Ok(Instruction {
         op: Op::Method,
         info,
     })
@@ -207,16 +207,16 @@ pub fn method_entry(
 #[tactic(auto, using(crate::proofs::KeepLemmas::keeps_entries))]
 pub fn object_entry(
     alloc: Global,
-    names: &mut Names,
+    names: &mut NameTable,
     table: &mut NodeTable,
     members: &Members,
-) -> Result<Entry, AllocError>
+) -> Result<Instruction, AllocError>
     ensures grows { OnOk result (Grows names.old table.old names.new table.new) }
     ensures form { IfOk result (λ e. HasForm names.new table.new e.op e.info (forms.Object members.now)) }
 {
     let entries = members_of(alloc, names, members)?;
     let info = put(&mut table.objects, entries)?;
-    Ok(Entry {
+    Ok(Instruction {
         op: Op::Object,
         info,
     })
@@ -224,8 +224,12 @@ pub fn object_entry(
 
 /// A call.
 #[tactic(auto, using(crate::proofs::KeepLemmas::keeps_entries))]
-pub fn call_entry(table: &mut NodeTable, place: Mark, statement: u32) -> Result<Entry, AllocError>
-    ensures keeps { OnOk result (Keeps table.old table.new) }
+pub fn call_entry(
+    table: &mut NodeTable,
+    place: Mark,
+    statement: u32,
+) -> Result<Instruction, AllocError>
+    ensures keeps { OnOk result (KeepsTable table.old table.new) }
     ensures form { IfOk result (λ e. (ts : _) → HasForm ts table.new e.op e.info (forms.Call place statement)) }
 {
     let entry = CallEntry {
@@ -234,7 +238,7 @@ pub fn call_entry(table: &mut NodeTable, place: Mark, statement: u32) -> Result<
         name: NO_NAME,
     };
     let info = put(&mut table.calls, entry)?;
-    Ok(Entry { op: Op::Call, info })
+    Ok(Instruction { op: Op::Call, info })
 }
 
 /// What stands where a call has no name: no row reads it.
@@ -243,12 +247,12 @@ const NO_NAME: NameId = NameId { number: 0 };
 /// A call of what a name refers to.
 #[tactic(auto, using(crate::proofs::KeepLemmas::keeps_entries))]
 pub fn name_call_entry(
-    names: &mut Names,
+    names: &mut NameTable,
     table: &mut NodeTable,
     name: &Units,
     place: Mark,
     statement: u32,
-) -> Result<Entry, AllocError>
+) -> Result<Instruction, AllocError>
     ensures grows { OnOk result (Grows names.old table.old names.new table.new) }
     ensures form { IfOk result (λ e. HasForm names.new table.new e.op e.info (forms.CallOf (references.Name name.now) place statement)) }
 {
@@ -259,7 +263,7 @@ pub fn name_call_entry(
         name,
     };
     let info = put(&mut table.calls, entry)?;
-    Ok(Entry {
+    Ok(Instruction {
         op: Op::CallOfName,
         info,
     })
@@ -268,12 +272,12 @@ pub fn name_call_entry(
 /// A call of what a property with a fixed key refers to.
 #[tactic(auto, using(crate::proofs::KeepLemmas::keeps_entries))]
 pub fn member_call_entry(
-    names: &mut Names,
+    names: &mut NameTable,
     table: &mut NodeTable,
     key: &Units,
     place: Mark,
     statement: u32,
-) -> Result<Entry, AllocError>
+) -> Result<Instruction, AllocError>
     ensures grows { OnOk result (Grows names.old table.old names.new table.new) }
     ensures form { IfOk result (λ e. HasForm names.new table.new e.op e.info (forms.CallOf (references.Member key.now) place statement)) }
 {
@@ -284,7 +288,7 @@ pub fn member_call_entry(
         name,
     };
     let info = put(&mut table.calls, entry)?;
-    Ok(Entry {
+    Ok(Instruction {
         op: Op::CallOfMember,
         info,
     })
@@ -296,8 +300,8 @@ pub fn index_call_entry(
     table: &mut NodeTable,
     place: Mark,
     statement: u32,
-) -> Result<Entry, AllocError>
-    ensures keeps { OnOk result (Keeps table.old table.new) }
+) -> Result<Instruction, AllocError>
+    ensures keeps { OnOk result (KeepsTable table.old table.new) }
     ensures form { IfOk result (λ e. (ts : _) → HasForm ts table.new e.op e.info (forms.CallOf references.Index place statement)) }
 {
     let entry = CallEntry {
@@ -306,7 +310,7 @@ pub fn index_call_entry(
         name: NO_NAME,
     };
     let info = put(&mut table.calls, entry)?;
-    Ok(Entry {
+    Ok(Instruction {
         op: Op::CallOfIndex,
         info,
     })

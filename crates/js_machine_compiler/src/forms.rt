@@ -11,10 +11,10 @@ use crate::entries::{
     bare, block_entry, call_entry, for_entry, for_of_entry, function_entry, index_call_entry,
     member_call_entry, method_entry, name_call_entry, named, object_entry, script_entry,
 };
-use crate::nodes::Entry;
+use crate::nodes::Instruction;
 use cdp_text::units::Units;
 use js_heap::value::Addr;
-use js_heap_memory::names::Names;
+use js_heap_memory::names::NameTable;
 use js_machine_nodes::op::{Op, UpdateKind};
 use js_machine_nodes::table::NodeTable;
 use js_semantics::form::{Form, Mark, Reference, Stage};
@@ -45,7 +45,7 @@ fn update_kind(operator: UpdateOperator, prefix: bool) -> UpdateKind
 }
 
 /// A name or a property that is read.
-fn read_entry(names: &mut Names, reference: &Reference) -> Result<Entry, AllocError>
+fn read_entry(names: &mut NameTable, reference: &Reference) -> Result<Instruction, AllocError>
     ensures goes_on { OnOk result (GoesOn names.old names.new) }
     ensures form { IfOk result (λ e. (t : _) → HasForm names.new t e.op e.info (form_variants.Read reference.now)) }
 {
@@ -57,7 +57,7 @@ fn read_entry(names: &mut Names, reference: &Reference) -> Result<Entry, AllocEr
 }
 
 /// `=`
-fn assign_entry(names: &mut Names, reference: &Reference) -> Result<Entry, AllocError>
+fn assign_entry(names: &mut NameTable, reference: &Reference) -> Result<Instruction, AllocError>
     ensures goes_on { OnOk result (GoesOn names.old names.new) }
     ensures form { IfOk result (λ e. (t : _) → HasForm names.new t e.op e.info (form_variants.Assign reference.now)) }
 {
@@ -70,10 +70,10 @@ fn assign_entry(names: &mut Names, reference: &Reference) -> Result<Entry, Alloc
 
 /// `+=` and its like.
 fn compound_entry(
-    names: &mut Names,
+    names: &mut NameTable,
     operator: BinaryOperator,
     reference: &Reference,
-) -> Result<Entry, AllocError>
+) -> Result<Instruction, AllocError>
     ensures goes_on { OnOk result (GoesOn names.old names.new) }
     ensures form { IfOk result (λ e. (t : _) → HasForm names.new t e.op e.info (form_variants.Compound operator reference.now)) }
 {
@@ -86,10 +86,10 @@ fn compound_entry(
 
 /// `++` and `--`.
 fn update_entry(
-    names: &mut Names,
+    names: &mut NameTable,
     kind: UpdateKind,
     reference: &Reference,
-) -> Result<Entry, AllocError>
+) -> Result<Instruction, AllocError>
     ensures goes_on { OnOk result (GoesOn names.old names.new) }
     ensures form { IfOk result (λ e. (t : _) → HasForm names.new t e.op e.info (form_variants.Update (operator_of kind) (is_prefix kind) reference.now)) }
 {
@@ -101,7 +101,7 @@ fn update_entry(
 }
 
 /// `delete`
-fn delete_entry(names: &mut Names, reference: &Reference) -> Result<Entry, AllocError>
+fn delete_entry(names: &mut NameTable, reference: &Reference) -> Result<Instruction, AllocError>
     ensures goes_on { OnOk result (GoesOn names.old names.new) }
     ensures form { IfOk result (λ e. (t : _) → HasForm names.new t e.op e.info (form_variants.Delete reference.now)) }
 {
@@ -113,7 +113,7 @@ fn delete_entry(names: &mut Names, reference: &Reference) -> Result<Entry, Alloc
 }
 
 /// A `catch` without a name or with one.
-fn catch_entry(names: &mut Names, name: &Option<Units>) -> Result<Entry, AllocError>
+fn catch_entry(names: &mut NameTable, name: &Option<Units>) -> Result<Instruction, AllocError>
     ensures goes_on { OnOk result (GoesOn names.old names.new) }
     ensures form { IfOk result (λ e. (t : _) → HasForm names.new t e.op e.info (form_variants.Catching name.now)) }
 {
@@ -125,12 +125,12 @@ fn catch_entry(names: &mut Names, name: &Option<Units>) -> Result<Entry, AllocEr
 
 /// A call of what a reference refers to.
 fn call_of_entry(
-    names: &mut Names,
+    names: &mut NameTable,
     table: &mut NodeTable,
     reference: &Reference,
     place: Mark,
     statement: u32,
-) -> Result<Entry, AllocError>
+) -> Result<Instruction, AllocError>
     ensures grows { OnOk result (Grows names.old table.old names.new table.new) }
     ensures form { IfOk result (λ e. HasForm names.new table.new e.op e.info (form_variants.CallOf reference.now place statement)) }
 {
@@ -155,11 +155,11 @@ fn stage_op(stage: Stage) -> Op
 }
 
 /// A loop without a scope of its turn.
-fn loop_entry(stage: Stage, scope: Option<Addr>) -> Option<Entry>
+fn loop_entry(stage: Stage, scope: Option<Addr>) -> Option<Instruction>
     ensures { result ≡ loop_entry stage scope }
 {
     match scope {
-        None => Some(Entry {
+        None => Some(Instruction {
             op: stage_op(stage),
             info: 0,
         }),
@@ -168,21 +168,21 @@ fn loop_entry(stage: Stage, scope: Option<Addr>) -> Option<Entry>
 }
 
 /// An entry that needs no number.
-fn bare_entry(op: Op) -> Option<Entry>
+fn bare_entry(op: Op) -> Option<Instruction>
     ensures { result ≡ bare_entry op }
 {
-    Some(Entry { op, info: 0 })
+    Some(Instruction { op, info: 0 })
 }
 
 /// An entry whose number is that of a node of the source.
-fn placed_entry(op: Op, node: u32) -> Option<Entry>
+fn placed_entry(op: Op, node: u32) -> Option<Instruction>
     ensures { result ≡ placed_entry op node }
 {
-    Some(Entry { op, info: node })
+    Some(Instruction { op, info: node })
 }
 
 /// A form that needs neither names nor an entry.
-fn alone_entry(form: &Form) -> Option<Entry>
+fn alone_entry(form: &Form) -> Option<Instruction>
     ensures { result ≡ alone_entry form.now }
 {
     match form {
@@ -211,10 +211,10 @@ fn alone_entry(form: &Form) -> Option<Entry>
 /// What a node does for a form; none for what comes up in a run alone, and for a literal without its cell.
 pub fn form_entry(
     alloc: Global,
-    names: &mut Names,
+    names: &mut NameTable,
     table: &mut NodeTable,
     form: &Form,
-) -> Result<Option<Entry>, AllocError>
+) -> Result<Option<Instruction>, AllocError>
     ensures grows { OnOk result (Grows names.old table.old names.new table.new) }
     ensures entry { IfOk result (λ o. Enters names.new table.new form.now o) }
 {

@@ -4,7 +4,7 @@
 //!
 //! - `Grows`: names and a table that go on behind those before, where each node and entry keeps its number.
 //! - `HasForm`: what the next node does stands for a form, however names and table go on; `HasTree` says so of a node and a term.
-//! - `Holds`: the answer for a term: a node that has it, or none where no node can (`are_plain` says which terms have nodes).
+//! - `HoldsTerm`: the answer for a term: a node that has it, or none where no node can (`are_plain` says which terms have nodes).
 //! - `AreCompiled`: the code stands for the scripts, and each source's index finds its functions (`IsIndexed`).
 #![tactic(auto)]
 

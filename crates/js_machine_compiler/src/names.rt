@@ -5,17 +5,17 @@ ghost use Rattle.js_heap_memory.specs.Names.{GoesOn};
 ghost use Rattle.js_machine_compiler.specs.Grown.{Known, IsBinding, AreBindings, AreTexts, IsMember, AreMembers};
 
 use cdp_text::units::Units;
-use js_heap::cell::{Binding, Names as ScopeNames};
-use js_heap_memory::names::{NameId, Names};
+use js_heap::cell::{Binding, ScopeNames};
+use js_heap_memory::names::{NameId, NameTable};
 use js_heap_memory::stored::{Slot, Slots};
 use js_machine_nodes::node::MemberEntry;
 use js_semantics::form::{Member, Members};
-use js_tree::names::Names as ParameterNames;
+use js_tree::names::ParameterNames;
 use std::alloc::{AllocError, Global};
 
 /// The number of a name.
 #[tactic(auto, using(crate::proofs::NameLemmas::known))]
-pub fn number_of(names: &mut Names, text: &Units) -> Result<NameId, AllocError>
+pub fn number_of(names: &mut NameTable, text: &Units) -> Result<NameId, AllocError>
     ensures goes_on { OnOk result (GoesOn names.old names.new) }
     ensures known { IfOk result (λ name. Known names.new name.number text.now) }
 {
@@ -25,7 +25,7 @@ pub fn number_of(names: &mut Names, text: &Units) -> Result<NameId, AllocError>
 
 /// The slot of a declared name.
 #[tactic(auto, using(crate::proofs::NameLemmas::binding_known))]
-pub fn slot_of(names: &mut Names, binding: &Binding) -> Result<Slot, AllocError>
+pub fn slot_of(names: &mut NameTable, binding: &Binding) -> Result<Slot, AllocError>
     ensures goes_on { OnOk result (GoesOn names.old names.new) }
     ensures slot { IfOk result (λ s. IsBinding names.new s binding.now) }
 {
@@ -40,7 +40,7 @@ pub fn slot_of(names: &mut Names, binding: &Binding) -> Result<Slot, AllocError>
 /// The slots of the names of a scope.
 pub fn slots_of(
     alloc: Global,
-    names: &mut Names,
+    names: &mut NameTable,
     declared: &ScopeNames,
 ) -> Result<Slots, AllocError>
     ensures goes_on { OnOk result (GoesOn names.old names.new) }
@@ -56,7 +56,7 @@ pub fn slots_of(
 /// The numbers of parameters.
 pub fn parameters_of(
     alloc: Global,
-    names: &mut Names,
+    names: &mut NameTable,
     texts: &ParameterNames,
 ) -> Result<Vec<NameId>, AllocError>
     ensures goes_on { OnOk result (GoesOn names.old names.new) }
@@ -70,7 +70,7 @@ pub fn parameters_of(
 }
 
 /// The entry of a member of an object literal.
-fn member_of(names: &mut Names, member: &Member) -> Result<MemberEntry, AllocError>
+fn member_of(names: &mut NameTable, member: &Member) -> Result<MemberEntry, AllocError>
     ensures goes_on { OnOk result (GoesOn names.old names.new) }
     ensures member { IfOk result (λ m. IsMember names.new m member.now) }
 {
@@ -86,7 +86,7 @@ fn member_of(names: &mut Names, member: &Member) -> Result<MemberEntry, AllocErr
 /// The members of an object literal.
 pub fn members_of(
     alloc: Global,
-    names: &mut Names,
+    names: &mut NameTable,
     members: &Members,
 ) -> Result<Vec<MemberEntry>, AllocError>
     ensures goes_on { OnOk result (GoesOn names.old names.new) }

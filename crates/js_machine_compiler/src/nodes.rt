@@ -10,7 +10,7 @@ use std::alloc::AllocError;
 
 /// What a node does, with the number that it does it with.
 #[derive(Clone, Copy)]
-pub struct Entry {
+pub struct Instruction {
     pub op: Op,
     pub info: u32,
 }
@@ -38,7 +38,7 @@ pub fn counted_from_one(number: u32) -> Result<u32, AllocError>
 /// A node with parts that the table has.
 pub fn add_node(
     table: &mut NodeTable,
-    entry: Entry,
+    entry: Instruction,
     now: &Vec<u32>,
     later: &Vec<u32>,
 ) -> Result<u32, AllocError>

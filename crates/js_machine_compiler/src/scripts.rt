@@ -5,13 +5,13 @@ ghost use Rattle.js_heap_memory.specs.Names.{GoesOn};
 ghost use Rattle.js_machine_terms.specs.Views.{term_view, terms_view, listed_view};
 ghost use Rattle.js_semantics.specs.Run.{program_from};
 ghost use Rattle.js_machine_nodes.specs.Trees.{IsEmpty, IsTable};
-ghost use Rattle.js_machine_compiler.specs.Grown.{Holds, HoldsAll, HasPlaces};
+ghost use Rattle.js_machine_compiler.specs.Grown.{HoldsTerm, HoldsAll, HasPlaces};
 ghost use Rattle.js_machine_compiler.specs.Scripts.{Continues, AddsSource, IsProgram, HaveNodes, IsIndexedCode, AreCompiled};
 
 use crate::functions::indexed_sources;
-use crate::nodes::{Entry, add_node, counted_from_one, next_number};
+use crate::nodes::{Instruction, add_node, counted_from_one, next_number};
 use crate::terms::add_term;
-use js_heap_memory::names::Names;
+use js_heap_memory::names::NameTable;
 use js_machine_nodes::node::SourceEntry;
 use js_machine_nodes::op::Op;
 use js_machine_nodes::table::NodeTable;
@@ -37,13 +37,13 @@ fn script_number(before: usize) -> Result<u32, AllocError>
 /// A script behind the others: its nodes, and its source; the answer is its node.
 fn add_script(
     alloc: Global,
-    names: &mut Names,
+    names: &mut NameTable,
     table: &mut NodeTable,
     number: u32,
     script: &Term,
 ) -> Result<Option<u32>, AllocError>
     ensures continues { OnOk result (Continues names.old table.old names.new table.new) }
-    ensures tree { IfOk result (λ o. Holds names.new table.new (term_view script.now) o) }
+    ensures tree { IfOk result (λ o. HoldsTerm names.new table.new (term_view script.now) o) }
     ensures source { IfOk result (λ o. AddsSource table.old table.new number o) }
 {
     match add_term(alloc, names, table, script)? {
@@ -62,7 +62,7 @@ fn add_script(
 /// Scripts one after another, numbered from 1 on; the answer is their nodes.
 fn add_scripts(
     alloc: Global,
-    names: &mut Names,
+    names: &mut NameTable,
     table: &mut NodeTable,
     scripts: &[Term],
 ) -> Result<Option<Vec<u32>>, AllocError>
@@ -85,7 +85,7 @@ fn add_scripts(
 /// The code of scripts whose sources have no index yet.
 fn nodes_of_scripts(
     alloc: Global,
-    names: &mut Names,
+    names: &mut NameTable,
     scripts: &Terms,
 ) -> Result<Option<ScriptCode>, AllocError>
     ensures goes_on { OnOk result (GoesOn names.old names.new) }
@@ -96,7 +96,7 @@ fn nodes_of_scripts(
         return Ok(None);
     };
     let none = Vec::new(alloc);
-    let entry = Entry {
+    let entry = Instruction {
         op: Op::Scripts,
         info: 0,
     };
@@ -117,7 +117,7 @@ fn with_indexes(alloc: Global, mut code: ScriptCode) -> Result<ScriptCode, Alloc
 /// The code of scripts; none where something in them comes up in a run alone, or is a literal without its cell.
 pub fn code_of_scripts(
     alloc: Global,
-    names: &mut Names,
+    names: &mut NameTable,
     scripts: &Terms,
 ) -> Result<Option<ScriptCode>, AllocError>
     ensures goes_on { OnOk result (GoesOn names.old names.new) }

@@ -10,11 +10,11 @@ use Rattle.js_heap.specs.declared.value.Value.TheVariants as values
 use Rattle.js_heap.specs.declared.change.Counted.{Counted}
 use Rattle.js_heap.specs.World.{World}
 use Rattle.js_semantics.specs.Terms.{Term, done, standing, settle}
-use Rattle.js_semantics.specs.State.{State, Move, goes, has_effect, is_full, Told, went, raised, printed_values, spot_of, top_spot}
+use Rattle.js_semantics.specs.State.{State, Move, goes, has_effect, is_full, StepTold, went, raised, printed_values, spot_of, top_spot}
 use Rattle.js_machine_actions.specs.Contexts.{Context, state_of}
 use Rattle.js_machine_nodes.specs.declared.table.NodeTable.{NodeTable}
 use Rattle.js_machine_nodes.specs.Trees.{tree}
-use Rattle.js_machine_engine.specs.declared.answer.Answer.{Answer}
+use Rattle.js_machine_engine.specs.declared.answer.Demand.{Demand}
 use Rattle.js_machine_engine.specs.declared.reduced.Reduced.{Reduced}
 use Rattle.js_machine_engine.specs.declared.reduced.Reduced.TheVariants as reduced
 use Rattle.js_machine_engine.specs.declared.stepped.Stepped.{Stepped}
@@ -26,13 +26,13 @@ use Rattle.js_machine_engine.specs.Tasks.{Wide, gaps_of, InScopes}
 use Rattle.js_machine_engine.specs.Points.{term_at, IsAt}
 use Rattle.js_machine_engine.specs.Answers.{reduced_move, reduced_term, Reduces}
 use Rattle.js_machine_engine.specs.Stacks.{outer_of}
-use Rattle.js_machine_engine.specs.Stepping.{IfGoesOn, StandsIn, answer_of, Says, Raises, went_of, TellsWithin}
+use Rattle.js_machine_engine.specs.Stepping.{IfGoesOn, StandsIn, demand_of, Says, Raises, went_of, TellsWithin}
 use Rattle.js_machine_engine.proofs.GapLemmas.{goes-risen, effect-risen, full-risen, plugged-resettled}
 
 -- what an answer says, by what it asks for
 pub says : (ts : List (List ℕ)) (t : NodeTable) (w : Wide) (m : Move Term) (r : Reduced) (s : State)
     → Reduces ts t w m r s
-    → Says ts t w m r (answer_of r) s
+    → Says ts t w m r (demand_of r) s
 unfolding reduced_move
 says ts t w m reduced.Memory s h = tt
 says ts t w m (reduced.Raises v) s h = h
@@ -45,18 +45,18 @@ says ts t w m reduced.Effect s h = h
 says ts t w m (reduced.Full what) s h = h
 says ts t w m r s h = h
 
-pub says-as : (ts : List (List ℕ)) (t : NodeTable) (w : Wide) (m : Move Term) (r : Reduced) (a b : Answer) (s : State)
+pub says-as : (ts : List (List ℕ)) (t : NodeTable) (w : Wide) (m : Move Term) (r : Reduced) (a b : Demand) (s : State)
     → a ≡ b
     → Says ts t w m r a s
     → Says ts t w m r b s
 says-as ts t w m r a b s e h =
-    let P : Answer → Type 0 = λ x. Says ts t w m r x s in
+    let P : Demand → Type 0 = λ x. Says ts t w m r x s in
     subst P e h
 
 -- ---- a move that goes on
 
 goes_to : (ts : List (List ℕ)) (t : NodeTable) (root : Addr) (old new : List Wide) (p : Point) (u : Term) (s : State)
-    (told : Told)
+    (told : StepTold)
     → resettled (gaps_of ts t old) u ≡ term_at ts t new p
     → all_risen root (gaps_of ts t old) (goes u s told) ≡ goes (term_at ts t new p) s told
 goes_to ts t root old new p u s told e = goes-risen root (gaps_of ts t old) u s told ∙ ap (λ x. goes x s told) e
@@ -88,10 +88,10 @@ went-follows r stepped ts t root old new p m u s w e h =
 -- what it says of an answer that is this one
 pub says-of : (ts : List (List ℕ)) (t : NodeTable) (w : Wide) (m : Move Term) (r x : Reduced) (s : State)
     → r ≡ x
-    → Says ts t w m r (answer_of r) s
-    → Says ts t w m x (answer_of x) s
+    → Says ts t w m r (demand_of r) s
+    → Says ts t w m x (demand_of x) s
 says-of ts t w m r x s e h =
-    let P : Reduced → Type 0 = λ x. Says ts t w m x (answer_of x) s in
+    let P : Reduced → Type 0 = λ x. Says ts t w m x (demand_of x) s in
     subst P e h
 
 -- a value came
@@ -99,7 +99,7 @@ pub gives-told : (o : Result (Unit {0}) AllocError) (stepped : Stepped) (ts : Li
     (root : Addr) (old new : List Wide) (p : Point) (m : Move Term) (w : Wide) (r : Reduced) (v : Value) (s : State)
     → stepped ≡ went_of o
     → r ≡ reduced.Gives v
-    → Says ts t w m r (answer_of r) s
+    → Says ts t w m r (demand_of r) s
     → OnOk o ((names : List (List ℕ)) → resettled (gaps_of names t old) (done v) ≡ term_at names t new p)
     → TellsWithin ts t root old m stepped new p s
 unfolding reduced_term
@@ -111,7 +111,7 @@ pub uncovers-told : (o : Result (Unit {0}) AllocError) (stepped : Stepped) (ts :
     (root : Addr) (old new : List Wide) (p : Point) (m : Move Term) (w : Wide) (r : Reduced) (n : ℕ) (s : State)
     → stepped ≡ went_of o
     → r ≡ reduced.Uncovers n
-    → Says ts t w m r (answer_of r) s
+    → Says ts t w m r (demand_of r) s
     → OnOk o ((names : List (List ℕ))
     → resettled (gaps_of names t old) (settle (tree names t n)) ≡ term_at names t new p)
     → TellsWithin ts t root old m stepped new p s

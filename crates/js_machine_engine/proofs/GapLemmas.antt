@@ -4,10 +4,10 @@ use Rattle.js_heap.specs.declared.value.Addr.{Addr}
 use Rattle.js_heap.specs.declared.value.Value.{Value}
 use Rattle.js_heap.specs.declared.change.Counted.{Counted}
 use Rattle.js_semantics.specs.declared.form.Form.{Form}
-use Rattle.js_semantics.specs.declared.form.Spot.{Spot}
+use Rattle.js_semantics.specs.declared.form.SourceMark.{SourceMark}
 use Rattle.js_semantics.specs.declared.form.Completion.TheVariants.{Throws as throws}
 use Rattle.js_semantics.specs.Terms.{Term, Terms, done, standing, part, more, joined, dones, is_done, all_done, finished, settled}
-use Rattle.js_semantics.specs.State.{State, Told, Move, goes, travels, has_effect, is_full, inside}
+use Rattle.js_semantics.specs.State.{State, StepTold, Move, goes, travels, has_effect, is_full, inside}
 use Rattle.js_semantics.specs.Functions.{Program}
 use Rattle.js_semantics.specs.Next.{all_values, moved, with_value, scope_in, around, next, walk}
 use Rattle.js_semantics.specs.Rows.{row}
@@ -78,13 +78,13 @@ next-row-within p root gs f vs later s =
     ∙ ap (all_risen root gs) (next-row p (scope_at root gs) f vs later s)
 
 -- a throw that stands in its gaps
-pub next-standing-within : (p : Program) (root : Addr) (gs : List Gap) (v : Value) (place : Spot) (s : State)
+pub next-standing-within : (p : Program) (root : Addr) (gs : List Gap) (v : Value) (place : SourceMark) (s : State)
     → next p root (plugged gs (standing v place)) s ≡ all_risen root gs (travels (throws v place) s)
 next-standing-within p root gs v place s = next-within p root gs (standing v place) s refl
 
 -- ---- what rises
 
-pub goes-risen : (root : Addr) (gs : List Gap) (t : Term) (s : State) (told : Told)
+pub goes-risen : (root : Addr) (gs : List Gap) (t : Term) (s : State) (told : StepTold)
     → all_risen root gs (goes t s told) ≡ goes (resettled gs t) s told
 goes-risen root [] t s told = refl
 goes-risen root (g ∷ gs) t s told = goes-risen root gs _ s told

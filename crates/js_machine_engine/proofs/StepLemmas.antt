@@ -6,7 +6,7 @@ use Rattle.js_heap.specs.declared.value.Value.{Value}
 use Rattle.js_heap.specs.declared.value.Value.TheVariants as values
 use Rattle.js_semantics.specs.declared.form.Completion.{Completion}
 use Rattle.js_semantics.specs.declared.form.Completion.TheVariants.{Throws as throws}
-use Rattle.js_semantics.specs.declared.form.Spot.{Spot}
+use Rattle.js_semantics.specs.declared.form.SourceMark.{SourceMark}
 use Rattle.js_semantics.specs.Terms.{Term, done, part, dones}
 use Rattle.js_semantics.specs.State.{State, Move, travels}
 use Rattle.js_semantics.specs.Next.{scope_in, next}
@@ -15,7 +15,7 @@ use Rattle.js_machine_actions.specs.Flow.{performed}
 use Rattle.js_machine_nodes.specs.declared.node.Node.{Node}
 use Rattle.js_machine_nodes.specs.declared.table.NodeTable.{NodeTable}
 use Rattle.js_machine_nodes.specs.Trees.{terms, tree, trees, program_of, IsTable}
-use Rattle.js_machine_engine.specs.declared.answer.Answer.{Answer}
+use Rattle.js_machine_engine.specs.declared.answer.Demand.{Demand}
 use Rattle.js_machine_engine.specs.declared.reduced.Reduced.{Reduced}
 use Rattle.js_machine_engine.specs.declared.stepped.Stepped.{Stepped}
 use Rattle.js_machine_engine.specs.declared.task.Extra.{Extra}
@@ -31,7 +31,7 @@ use Rattle.js_machine_engine.specs.Rows.{RowOf, redex}
 use Rattle.js_machine_engine.specs.Answers.{resumed}
 use Rattle.js_machine_engine.specs.Stacks.{wide, outer_of, values_of, extra_of}
 use Rattle.js_machine_engine.specs.Following.{innermost}
-use Rattle.js_machine_engine.specs.Stepping.{Tells, TellsWithin, Steps, answer_of, Says, went_of}
+use Rattle.js_machine_engine.specs.Stepping.{Tells, TellsWithin, Steps, demand_of, Says, went_of}
 use Rattle.js_machine_engine.proofs.GapLemmas.{next-row-within, next-standing-within}
 use Rattle.js_machine_nodes.proofs.TreeLemmas.{kids-end, node-at}
 use Rattle.js_machine_engine.proofs.FinishLemmas.{node-scope}
@@ -70,7 +70,7 @@ row_move ts t outer w s = performed (row (program_of ts t) s outer (task_form ts
 row_says : (ts : List (List ℕ)) (t : NodeTable) (root : Addr) (w : Wide) (ws : List Wide) (r : Reduced) (s u : State)
     → InScopes t root (w ∷ ws)
     → ((outer : Addr) → RowOf ts t w outer s r u)
-    → Says ts t w (row_move ts t (scope_at root (gaps_of ts t ws)) w s) r (answer_of r) u
+    → Says ts t w (row_move ts t (scope_at root (gaps_of ts t ws)) w s) r (demand_of r) u
 row_says ts t root w ws r s u i h =
     says ts t w (row_move ts t (scope_at root (gaps_of ts t ws)) w s) r u
     (h (scope_at root (gaps_of ts t ws)) (ap (scope_in (task_form ts t w)) (scopes-at ts t root ws i.1) ∙ i.0 ts))
@@ -118,11 +118,11 @@ row_of ts t old f vs e r s u a b h =
     subst Q b (subst P a h)
 
 row_told : (ts : List (List ℕ)) (t : NodeTable) (root : Addr) (old new : List Wide) (p : Point) (task : Task)
-    (r : Reduced) (a : Answer) (stepped : Stepped) (s u v : State)
+    (r : Reduced) (a : Demand) (stepped : Stepped) (s u v : State)
     → old ≡ wide task (values_of old) (extra_of old) ∷ outer_of old
     → IsAtRow old
     → InScopes t root old
-    → a ≡ answer_of r
+    → a ≡ demand_of r
     → ((outer : Addr) → RowOf ts t (redex (task_redex task) (values_of old) (extra_of old)) outer s r u)
     → ((m : Move Term) → Says ts t (innermost old) m r a u → TellsWithin ts t root (outer_of old) m stepped new p v)
     → Steps ts t root old points.Row s stepped new p v
@@ -130,20 +130,20 @@ row_told ts t root [] new p task r a stepped s u v i at o b h k = absurd at
 row_told ts t root (w ∷ ws) new p task r a stepped s u v i at o b h k =
     let P : Wide → Type 0 = λ x. (outer : Addr) → RowOf ts t x outer s r u in
     let m : Move Term = row_move ts t (scope_at root (gaps_of ts t ws)) w s in
-    let Q : Answer → Type 0 = λ x. Says ts t w m r x u in
+    let Q : Demand → Type 0 = λ x. Says ts t w m r x u in
     let R : Move Term → Type 0 = λ x. Tells x stepped (term_at ts t new p) v in
     subst R (sym (row_next ts t root w ws s))
     (k m (subst Q (sym b) (row_says ts t root w ws r s u o (subst P (sym (row_is w ws task i at)) h))))
 
 -- the step of the innermost task, from its row's answer and what that is told as
 pub row-told : (ts : List (List ℕ)) (t : NodeTable) (root : Addr) (old new : List Wide) (p : Point) (task : Task)
-    (vs : List Value) (e : Option Extra) (r : Reduced) (a : Answer) (stepped : Stepped) (s u v : State)
+    (vs : List Value) (e : Option Extra) (r : Reduced) (a : Demand) (stepped : Stepped) (s u v : State)
     → old ≡ wide task (values_of old) (extra_of old) ∷ outer_of old
     → IsAtRow old
     → InScopes t root old
     → vs ≡ values_of old
     → e ≡ extra_of old
-    → a ≡ answer_of r
+    → a ≡ demand_of r
     → ((outer : Addr) → RowOf ts t (redex (task_redex task) vs e) outer s r u)
     → ((m : Move Term) → Says ts t (innermost old) m r a u → TellsWithin ts t root (outer_of old) m stepped new p v)
     → Steps ts t root old points.Row s stepped new p v
@@ -227,13 +227,13 @@ leaf_next ts t root old n node inner s table e h =
     (later_of ts t (leaf_task node inner)) s
 
 pub leaf-told : (ts : List (List ℕ)) (t : NodeTable) (root : Addr) (old new : List Wide) (p : Point) (n : ℕ)
-    (node : Node) (inner : Addr) (r : Reduced) (a : Answer) (stepped : Stepped) (s u v : State)
+    (node : Node) (inner : Addr) (r : Reduced) (a : Demand) (stepped : Stepped) (s u v : State)
     → IsTable t
     → slice_get t.nodes.items n ≡ Some node
     → IsLeafAt (slice_get t.nodes.items n)
     → inner ≡ scope_of root old
     → InScopes t root old
-    → a ≡ answer_of r
+    → a ≡ demand_of r
     → ((outer : Addr) → RowOf ts t (redex (node_redex node inner) [] None) outer s r u)
     → ((m : Move Term)
     → Says ts t (redex (node_redex node inner) [] None) m r a u
@@ -243,7 +243,7 @@ leaf-told ts t root old new p n node inner r a stepped s u v table e l i o b h k
     let scope : Addr = scope_at root (gaps_of ts t old) in
     let w : Wide = redex (node_redex node inner) [] None in
     let m : Move Term = row_move ts t scope w s in
-    let Q : Answer → Type 0 = λ x. Says ts t w m r x u in
+    let Q : Demand → Type 0 = λ x. Says ts t w m r x u in
     let R : Move Term → Type 0 = λ x. Tells x stepped (term_at ts t new p) v in
     subst R (sym (leaf_next ts t root old n node inner s table e (leaf_is t n node e l)))
     (k m (subst Q (sym b)
@@ -252,7 +252,7 @@ leaf-told ts t root old new p n node inner r a stepped s u v table e l i o b h k
 
 -- ---- a throw that stands
 
-standing_next : (ts : List (List ℕ)) (t : NodeTable) (root : Addr) (old : List Wide) (v : Value) (place : Spot)
+standing_next : (ts : List (List ℕ)) (t : NodeTable) (root : Addr) (old : List Wide) (v : Value) (place : SourceMark)
     (s : State)
     → next (program_of ts t) root (term_at ts t old (points.Stands v place)) s ≡ all_risen root (gaps_of ts t old)
     (travels (throws v place) s)
@@ -260,7 +260,7 @@ unfolding term_at
 standing_next ts t root old v place s = next-standing-within (program_of ts t) root (gaps_of ts t old) v place s
 
 pub standing-told : (ts : List (List ℕ)) (t : NodeTable) (root : Addr) (old new : List Wide) (p q : Point) (v : Value)
-    (place : Spot) (stepped : Stepped) (s u : State)
+    (place : SourceMark) (stepped : Stepped) (s u : State)
     → q ≡ points.Stands v place
     → TellsWithin ts t root old (travels (throws v place) s) stepped new p u
     → Steps ts t root old q s stepped new p u

@@ -8,7 +8,7 @@ use Rattle.js_heap.specs.World.{World}
 use Rattle.js_semantics.specs.declared.form.Completion.{Completion}
 use Rattle.js_semantics.specs.declared.form.Completion.TheVariants.{Throws as throws, Returns as returns, Breaks as breaks, Continues as continues}
 use Rattle.js_semantics.specs.declared.form.Form.TheVariants.{Ending as ending}
-use Rattle.js_semantics.specs.declared.form.Spot.{Spot}
+use Rattle.js_semantics.specs.declared.form.SourceMark.{SourceMark}
 use Rattle.js_semantics.specs.Terms.{Term, done, end, part, settled}
 use Rattle.js_semantics.specs.State.{State, Move, goes, travels, go, give, pop_frame, went}
 use Rattle.js_semantics.specs.Next.{scope_in}
@@ -20,7 +20,7 @@ use Rattle.js_machine_nodes.specs.declared.op.Op.TheVariants as ops
 use Rattle.js_machine_nodes.specs.declared.node.ForOfEntry.{ForOfEntry}
 use Rattle.js_machine_nodes.specs.declared.table.NodeTable.{NodeTable}
 use Rattle.js_machine_nodes.specs.Trees.{trees}
-use Rattle.js_machine_engine.specs.declared.answer.Answer.{Answer}
+use Rattle.js_machine_engine.specs.declared.answer.Demand.{Demand}
 use Rattle.js_machine_engine.specs.declared.passing.Passing.TheVariants as passings
 use Rattle.js_machine_engine.specs.declared.passing.Taking.{Taking}
 use Rattle.js_machine_engine.specs.declared.passing.Taking.TheVariants as takings
@@ -40,7 +40,7 @@ use Rattle.js_machine_engine.specs.Settling.{proceeding, settled_row, IsInnermos
 use Rattle.js_machine_engine.specs.Following.{innermost}
 use Rattle.js_machine_engine.specs.Passing.{passing_try, passing_call, passing_turn, passing_entry, passing_of, TakesSo}
 use Rattle.js_machine_engine.proofs.Taking.{took}
-use Rattle.js_machine_engine.specs.Stepping.{Tells, TellsWithin, IfGoesOn, StandsIn, answer_of, Says, went_of}
+use Rattle.js_machine_engine.specs.Stepping.{Tells, TellsWithin, IfGoesOn, StandsIn, demand_of, Says, went_of}
 use Rattle.std.proofs.lemmas.Result.{on_ok_weaker}
 use Rattle.js_machine_engine.specs.Answers.{Reduces}
 use Rattle.js_machine_engine.proofs.SettleLemmas.{resettled-part}
@@ -96,7 +96,7 @@ keeps_op t op info c e = cc
 
 -- a throw, of this value
 pub record IsThrow (c : Completion) (v : Value) : Type 0 where
-  pub place : Spot
+  pub place : SourceMark
   pub is : c ≡ throws v place
 
 catches_turn : (c : Completion) (v : Value) → passing_turn c ≡ passings.Takes (takings.Catches v) → ⊥
@@ -361,7 +361,7 @@ at-scopes t root old mid at e s =
     subst P (sym e) (at_scoped t root old at s)
 
 catch_at : (ts : List (List ℕ)) (t : NodeTable) (root : Addr) (task : Task) (vs : List Value) (ws : List Wide)
-    (c : Completion) (v : Value) (place : Spot) (r : Reduced) (s u : State)
+    (c : Completion) (v : Value) (place : SourceMark) (r : Reduced) (s u : State)
     → c ≡ throws v place
     → CatchOf ts t (redex (task_redex task) vs None) (scope_at root (gaps_of ts t ws)) v place s r u
     → InScopes t root (wide task vs None ∷ ws)
@@ -383,10 +383,10 @@ catch_at ts t root task vs ws c v place r s u e h i =
     subst P (sym e) (h (ap (scope_in (task_form ts t (wide task vs None))) (scopes-at ts t root ws i.1) ∙ i.0 ts))
 
 catch_within : (ts : List (List ℕ)) (t : NodeTable) (root : Addr) (old mid : List Wide) (task : Task) (c : Completion)
-    (v : Value) (place : Spot) (r : Reduced) (a : Answer) (s u : State)
+    (v : Value) (place : SourceMark) (r : Reduced) (a : Demand) (s u : State)
     → IsInnermost task None old
     → mid ≡ at_part task.mid old
-    → a ≡ answer_of r
+    → a ≡ demand_of r
     → c ≡ throws v place
     → CatchOf ts t (redex (task_redex task) (values_of old) None) (scope_at root (gaps_of ts t (outer_of old)))
     v place s r u
@@ -402,23 +402,23 @@ catch_within ts t root old mid task c v place r a s u i n b e h o =
     let at : Wide = redex (task_redex task) (values_of old) None in
     let P : List Wide → Type 0 = InScopes t root in
     let m : Wide → Move Term = λ w. performed (taken scope (task_form ts t w) c (later_of ts t w)) s in
-    let Q : Answer → Type 0 = λ x. Says ts t (innermost mid) (m (innermost old)) r x u in
-    let R : Wide → Type 0 = λ w. Says ts t w (m (innermost old)) r (answer_of r) u in
-    let S : Wide → Type 0 = λ w. Says ts t at (m w) r (answer_of r) u in
-    let k : Says ts t at (m (wide task (values_of old) None)) r (answer_of r) u = says ts t at
+    let Q : Demand → Type 0 = λ x. Says ts t (innermost mid) (m (innermost old)) r x u in
+    let R : Wide → Type 0 = λ w. Says ts t w (m (innermost old)) r (demand_of r) u in
+    let S : Wide → Type 0 = λ w. Says ts t at (m w) r (demand_of r) u in
+    let k : Says ts t at (m (wide task (values_of old) None)) r (demand_of r) u = says ts t at
     (m (wide task (values_of old) None)) r u
     (catch_at ts t root task (values_of old) (outer_of old) c v place r s u e h (subst P i o)) in
     subst Q (sym b) (subst R (sym (ap innermost (n ∙ ap (at_part task.mid) i))) (subst S (sym (ap innermost i)) k))
 
 pub catch-told : (ts : List (List ℕ)) (t : NodeTable) (root : Addr) (old mid new : List Wide) (p : Point) (task : Task)
-    (c : Completion) (v : Value) (r : Reduced) (a : Answer) (stepped : Stepped) (s u : State)
+    (c : Completion) (v : Value) (r : Reduced) (a : Demand) (stepped : Stepped) (s u : State)
     → IsInnermost task (extra_of old) old
     → OwnsOnly old
     → TakesSo t old c (Some (takings.Catches v))
     → InScopes t root old
     → mid ≡ at_part task.mid old
-    → a ≡ answer_of r
-    → ((outer : Addr) (place : Spot) (vs : List Value)
+    → a ≡ demand_of r
+    → ((outer : Addr) (place : SourceMark) (vs : List Value)
     → CatchOf ts t (redex (task_redex task) vs None) outer v place s r u)
     → ((m : Move Term) → Says ts t (innermost mid) m r a u → TellsWithin ts t root (outer_of mid) m stepped new p u)
     → TellsWithin ts t root old (travels c s) stepped new p u

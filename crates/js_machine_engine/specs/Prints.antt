@@ -3,7 +3,7 @@ use Rattle.std.specs.Prelude.{◌≡◌, ℕ, zero, suc, ◌<◌, List, [], ◌�
 use Rattle.js_heap.specs.declared.value.Addr.{Addr}
 use Rattle.js_heap.specs.declared.value.Value.{Value}
 use Rattle.js_semantics.specs.Terms.{Term}
-use Rattle.js_semantics.specs.State.{Told, went, raised, printed_values, Move, goes, travels, has_effect, is_full}
+use Rattle.js_semantics.specs.State.{StepTold, went, raised, printed_values, Move, goes, travels, has_effect, is_full}
 use Rattle.js_semantics.specs.Functions.{Program}
 use Rattle.js_semantics.specs.Next.{next}
 use Rattle.js_semantics.specs.Run.{Run, running, over, steps_in}
@@ -13,7 +13,7 @@ use Rattle.js_machine_engine.specs.declared.run.Why.TheVariants as whys
 -- ---- the definition's steps
 
 -- the values that a step tells of as printed, if it prints; `console.log()` prints a line without values
-abbrev pub values_told : Told → Option (List Value)
+abbrev pub values_told : StepTold → Option (List Value)
 values_told went = None
 values_told raised = None
 values_told (printed_values vs) = Some vs

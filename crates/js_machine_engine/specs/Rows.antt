@@ -2,7 +2,7 @@
 use Rattle.std.specs.Prelude.{◌≡◌, ℕ, List, Option}
 use Rattle.js_heap.specs.declared.value.Addr.{Addr}
 use Rattle.js_heap.specs.declared.value.Value.{Value}
-use Rattle.js_semantics.specs.declared.form.Spot.{Spot}
+use Rattle.js_semantics.specs.declared.form.SourceMark.{SourceMark}
 use Rattle.js_semantics.specs.declared.form.Completion.TheVariants.{Throws as throws}
 use Rattle.js_semantics.specs.State.{State}
 use Rattle.js_semantics.specs.Next.{scope_in}
@@ -45,7 +45,7 @@ IsCatching ops.CatchingName = Unit {0}
 IsCatching op = ⊥
 
 -- the answer is what the form makes of a throw
-abbrev pub CatchOf : List (List ℕ) → NodeTable → Wide → Addr → Value → Spot → State → Reduced → State → Type 0
+abbrev pub CatchOf : List (List ℕ) → NodeTable → Wide → Addr → Value → SourceMark → State → Reduced → State → Type 0
 CatchOf ts t w outer v place s r u =
     scope_in (task_form ts t w) outer ≡ w.inner
     → Reduces ts t w (performed (taken outer (task_form ts t w) (throws v place) (later_of ts t w)) s) r u

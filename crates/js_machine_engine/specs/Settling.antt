@@ -16,8 +16,8 @@ use Rattle.js_machine_engine.specs.declared.task.Extra.{Extra}
 use Rattle.js_machine_engine.specs.declared.task.Task.{Task}
 use Rattle.js_machine_engine.specs.declared.closing.Closing.{Closing}
 use Rattle.js_machine_engine.specs.declared.closing.Closing.TheVariants as closings
-use Rattle.js_machine_engine.specs.declared.closing.Kept.{Kept}
-use Rattle.js_machine_engine.specs.declared.closing.Kept.TheVariants as kepts
+use Rattle.js_machine_engine.specs.declared.closing.KeptPart.{KeptPart}
+use Rattle.js_machine_engine.specs.declared.closing.KeptPart.TheVariants as kepts
 use Rattle.js_machine_engine.specs.declared.closing.Next.{Next}
 use Rattle.js_machine_engine.specs.declared.closing.Next.TheVariants as nexts
 use Rattle.js_machine_engine.specs.declared.settling.Entered.{Entered}
@@ -141,7 +141,7 @@ pub record IsOpenPart (t : NodeTable) (place stop : ℕ) (n : ℕ) : Type 0 wher
   pub part : (ts : List (List ℕ)) → test_of (trees ts t place stop) ≡ tree ts t n
 
 -- a kept part is what its tree is
-abbrev pub IsKept : NodeTable → ℕ → ℕ → Kept → Type 0
+abbrev pub IsKept : NodeTable → ℕ → ℕ → KeptPart → Type 0
 IsKept t place stop (kepts.Value v) = (ts : List (List ℕ)) → test_of (trees ts t place stop) ≡ done v
 IsKept t place stop (kepts.Open n) = IsOpenPart t place stop n
 

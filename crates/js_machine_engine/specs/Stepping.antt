@@ -19,8 +19,8 @@ use Rattle.js_machine_engine.specs.declared.stepped.Finish.{Finish}
 use Rattle.js_machine_engine.specs.declared.stepped.Finish.TheVariants as finishes
 use Rattle.js_machine_engine.specs.declared.stepped.Stepped.{Stepped}
 use Rattle.js_machine_engine.specs.declared.stepped.Stepped.TheVariants as steppeds
-use Rattle.js_machine_engine.specs.declared.answer.Answer.{Answer}
-use Rattle.js_machine_engine.specs.declared.answer.Answer.TheVariants as kinds
+use Rattle.js_machine_engine.specs.declared.answer.Demand.{Demand}
+use Rattle.js_machine_engine.specs.declared.answer.Demand.TheVariants as kinds
 use Rattle.js_machine_engine.specs.declared.task.Point.{Point}
 use Rattle.js_machine_engine.specs.declared.task.Point.TheVariants as points
 use Rattle.js_machine_engine.specs.Gaps.{all_risen}
@@ -82,20 +82,20 @@ IsGoing p = Unit {0}
 -- ---- what a row's answer asks for
 
 -- what an answer asks of the machine; all that isn't told of here goes on with a term
-abbrev pub answer_of : Reduced → Answer
-answer_of (reduced.Raises v) = kinds.Raises v
-answer_of (reduced.Returns v) = kinds.Travels (returns v)
-answer_of reduced.Breaks = kinds.Travels breaks
-answer_of reduced.Continues = kinds.Travels continues
-answer_of reduced.Resumes = kinds.Resumes
-answer_of reduced.Prints = kinds.Prints
-answer_of reduced.Effect = kinds.Effect
-answer_of (reduced.Full what) = kinds.Full what
-answer_of reduced.Memory = kinds.Memory
-answer_of r = kinds.Follows
+abbrev pub demand_of : Reduced → Demand
+demand_of (reduced.Raises v) = kinds.Raises v
+demand_of (reduced.Returns v) = kinds.Travels (returns v)
+demand_of reduced.Breaks = kinds.Travels breaks
+demand_of reduced.Continues = kinds.Travels continues
+demand_of reduced.Resumes = kinds.Resumes
+demand_of reduced.Prints = kinds.Prints
+demand_of reduced.Effect = kinds.Effect
+demand_of (reduced.Full what) = kinds.Full what
+demand_of reduced.Memory = kinds.Memory
+demand_of r = kinds.Follows
 
 -- what it says of the move
-abbrev pub Says : List (List ℕ) → NodeTable → Wide → Move Term → Reduced → Answer → State → Type 0
+abbrev pub Says : List (List ℕ) → NodeTable → Wide → Move Term → Reduced → Demand → State → Type 0
 Says ts t w m r kinds.Follows s = m ≡ goes (reduced_term ts t w r) s went
 Says ts t w m r (kinds.Raises v) s = m ≡ goes (standing v (spot_of s)) s raised
 Says ts t w m r (kinds.Travels c) s = m ≡ travels c s

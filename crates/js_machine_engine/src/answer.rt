@@ -1,7 +1,7 @@
 //! What a row's answer asks for.
 
 ghost use Rattle.std.specs.Prelude.{◌≡◌};
-ghost use Rattle.js_machine_engine.specs.Stepping.{answer_of, finished_by, went_of};
+ghost use Rattle.js_machine_engine.specs.Stepping.{demand_of, finished_by, went_of};
 
 use crate::reduced::Reduced;
 use crate::stepped::{Finish, Stepped};
@@ -12,7 +12,7 @@ use std::alloc::AllocError;
 
 /// What a row's answer asks for.
 #[derive(Clone, Copy)]
-pub enum Answer {
+pub enum Demand {
     /// What it names stands in place of what was reduced.
     Follows,
     /// A throw stands in its place.
@@ -32,20 +32,20 @@ pub enum Answer {
 
 /// What a row's answer asks for.
 #[inline(always)]
-pub fn answer_of(reduced: Reduced) -> Answer
-    ensures { result ≡ answer_of reduced }
+pub fn demand_of(reduced: Reduced) -> Demand
+    ensures { result ≡ demand_of reduced }
 {
     match reduced {
-        Reduced::Raises(value) => Answer::Raises(value),
-        Reduced::Returns(value) => Answer::Travels(Completion::Returns(value)),
-        Reduced::Breaks => Answer::Travels(Completion::Breaks),
-        Reduced::Continues => Answer::Travels(Completion::Continues),
-        Reduced::Resumes => Answer::Resumes,
-        Reduced::Prints => Answer::Prints,
-        Reduced::Effect => Answer::Effect,
-        Reduced::Full(what) => Answer::Full(what),
-        Reduced::Memory => Answer::Memory,
-        _ => Answer::Follows,
+        Reduced::Raises(value) => Demand::Raises(value),
+        Reduced::Returns(value) => Demand::Travels(Completion::Returns(value)),
+        Reduced::Breaks => Demand::Travels(Completion::Breaks),
+        Reduced::Continues => Demand::Travels(Completion::Continues),
+        Reduced::Resumes => Demand::Resumes,
+        Reduced::Prints => Demand::Prints,
+        Reduced::Effect => Demand::Effect,
+        Reduced::Full(what) => Demand::Full(what),
+        Reduced::Memory => Demand::Memory,
+        _ => Demand::Follows,
     }
 }
 

@@ -33,7 +33,7 @@ pub enum Closing {
 
 /// A kept part.
 #[derive(Clone, Copy)]
-pub enum Kept {
+pub enum KeptPart {
     Value(Value),
     /// A node that is no value.
     Open(u32),

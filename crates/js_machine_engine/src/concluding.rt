@@ -13,7 +13,7 @@ ghost use Rattle.js_machine_engine.specs.Stacks.{outer_of};
 ghost use Rattle.js_machine_engine.specs.Following.{innermost};
 ghost use Rattle.js_machine_engine.specs.Stepping.{Says, Raises, TellsWithin, IfGoesOn, StandsIn};
 
-use crate::answer::{Answer, went_of};
+use crate::answer::{Demand, went_of};
 use crate::following::follow;
 use crate::reduced::Reduced;
 use crate::settling::give;
@@ -88,23 +88,23 @@ pub fn conclude(
     stack: &mut Stack,
     point: &mut Point,
     reduced: Reduced,
-    answer: Answer,
+    answer: Demand,
 ) -> Stepped
     requires { IsTable table.now }
     ensures told { (ts : List (List ℕ)) (m : Move Term) (w : AnyWorld) (taken : List (List ℕ)) → Says ts table.now (innermost stack.old) m reduced answer (state_of w context.now taken) → TellsWithin ts table.now root (outer_of stack.old) m result stack.new point.new (state_of w context.now taken) }
     ensures stands { IfGoesOn result (InScopes table.now root stack.old → StandsIn table.now root stack.new point.new) }
 {
     match answer {
-        Answer::Follows => went_of(follow(table, root, stack, point, reduced)),
-        Answer::Raises(value) => {
+        Demand::Follows => went_of(follow(table, root, stack, point, reduced)),
+        Demand::Raises(value) => {
             stack.pop();
             raise(context, point, value)
         }
-        Answer::Prints => print_row(alloc, table, stack, point),
-        Answer::Effect => Stepped::Effect,
-        Answer::Full(what) => Stepped::Full(what),
-        Answer::Travels(_) => Stepped::Memory,
-        Answer::Resumes => Stepped::Memory,
-        Answer::Memory => Stepped::Memory,
+        Demand::Prints => print_row(alloc, table, stack, point),
+        Demand::Effect => Stepped::Effect,
+        Demand::Full(what) => Stepped::Full(what),
+        Demand::Travels(_) => Stepped::Memory,
+        Demand::Resumes => Stepped::Memory,
+        Demand::Memory => Stepped::Memory,
     }
 }

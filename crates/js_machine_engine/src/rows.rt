@@ -3,7 +3,7 @@
 use crate::reduced::Reduced;
 use crate::task::{Extra, Redex};
 use js_heap::value::Value;
-use js_heap_memory::names::Names;
+use js_heap_memory::names::NameTable;
 use js_heap_memory::world::World;
 use js_machine_actions::context::Context;
 use js_machine_nodes::table::NodeTable;
@@ -14,7 +14,7 @@ pub trait Rows {
     ghost use Rattle.std.specs.Prelude.{List, ℕ, None};
     ghost use Rattle.js_heap.specs.declared.value.Addr.{Addr as AnyAddr};
     ghost use Rattle.js_heap.specs.declared.value.Value.{Value as AnyValue};
-    ghost use Rattle.js_semantics.specs.declared.form.Spot.{Spot as AnySpot};
+    ghost use Rattle.js_semantics.specs.declared.form.SourceMark.{SourceMark as AnySpot};
     ghost use Rattle.js_machine_nodes.specs.Codes.{HasFunctions};
     ghost use Rattle.js_machine_actions.specs.Contexts.{state_of};
     ghost use Rattle.js_machine_engine.specs.Rows.{RowOf, CatchOf, IsCatching, redex};
@@ -23,7 +23,7 @@ pub trait Rows {
     fn reduce<W: World>(
         alloc: Global,
         table: &NodeTable,
-        names: &Names,
+        names: &NameTable,
         context: &mut Context,
         world: &mut W,
         form: Redex,
@@ -37,7 +37,7 @@ pub trait Rows {
     fn catch<W: World>(
         alloc: Global,
         table: &NodeTable,
-        names: &Names,
+        names: &NameTable,
         context: &Context,
         world: &mut W,
         form: Redex,

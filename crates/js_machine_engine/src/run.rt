@@ -18,7 +18,7 @@ use crate::stepped::{Finish, Stepped};
 use crate::task::Point;
 use js_heap::change::Counted;
 use js_heap::value::{Addr, Value};
-use js_heap_memory::names::Names;
+use js_heap_memory::names::NameTable;
 use js_heap_memory::world::World;
 use js_machine_actions::context::Context;
 use js_machine_nodes::table::NodeTable;
@@ -27,7 +27,7 @@ use std::alloc::Global;
 /// Who is asked after each step that goes on whether the run stops there.
 ///
 /// The answer depends on the residual term, without the texts of its names, and on the frames.
-pub trait Asks {
+pub trait StopTest {
     ghost use Rattle.std.specs.Prelude.{◌≡◌, List, ℕ, Bool};
     ghost use Rattle.js_semantics.specs.Terms.{Term as AnyTerm};
     ghost use Rattle.js_semantics.specs.State.{Frame as AnyFrame};
@@ -66,7 +66,7 @@ pub enum Why {
 
 /// How many steps a run made, and why it stops.
 #[derive(Drop)]
-pub struct Ran {
+pub struct StoppedRun {
     pub steps: u64,
     pub why: Why,
 }
@@ -100,7 +100,7 @@ fn why_of(stepped: Stepped) -> Why
 
 /// Whether the host asks for a stop where the machine stands; it isn't asked where nothing is left to reduce.
 #[inline(always)]
-fn stops_at<H: Asks>(
+fn stops_at<H: StopTest>(
     host: &H,
     table: &NodeTable,
     context: &Context,
@@ -118,10 +118,10 @@ fn stops_at<H: Asks>(
 }
 
 /// Steps until the host asks for a stop, until a raise, a print or the end, or until so many.
-pub fn run<T: Rows, W: World, H: Asks>(
+pub fn run<T: Rows, W: World, H: StopTest>(
     alloc: Global,
     table: &NodeTable,
-    names: &Names,
+    names: &NameTable,
     root: Addr,
     context: &mut Context,
     world: &mut W,
@@ -129,7 +129,7 @@ pub fn run<T: Rows, W: World, H: Asks>(
     point: &mut Point,
     most: u64,
     host: &H,
-) -> Ran
+) -> StoppedRun
     requires table { IsTable table.now }
     requires functions { HasFunctions table.now }
     requires stands { StandsIn table.now root stack.old point.old }
@@ -148,26 +148,26 @@ pub fn run<T: Rows, W: World, H: Asks>(
 {
     for steps in 0..most {
         if let Point::Done(value) = *point {
-            return Ran {
+            return StoppedRun {
                 steps,
                 why: Why::Over(Finish::Ended(value)),
             };
         }
         let stepped = step::<T, W>(alloc, table, names, root, context, world, stack, point);
         if is_stop(&stepped) {
-            return Ran {
+            return StoppedRun {
                 steps: steps + 1,
                 why: why_of(stepped),
             };
         }
         if stops_at(host, table, context, stack, *point) {
-            return Ran {
+            return StoppedRun {
                 steps: steps + 1,
                 why: Why::Asked,
             };
         }
     }
-    Ran {
+    StoppedRun {
         steps: most,
         why: Why::Spent,
     }

@@ -8,7 +8,7 @@ ghost use Rattle.js_machine_engine.specs.Points.{IsAtRow};
 ghost use Rattle.js_machine_engine.specs.Stacks.{values_of};
 ghost use Rattle.js_machine_engine.specs.Settling.{first_kid, IsKept, restaged, StagesAs, staged, Comes, IsInnermost, looped};
 
-use crate::closing::{Kept, Next};
+use crate::closing::{KeptPart, Next};
 use crate::parts::value_at;
 use crate::stack::Stack;
 use crate::task::Task;
@@ -29,14 +29,14 @@ fn kid_within(table: &NodeTable, place: usize, end: u32) -> Option<u32>
 }
 
 /// The kept part at a place before `end`; undefined where there is none.
-fn kept_part(table: &NodeTable, place: usize, end: u32) -> Kept
+fn kept_part(table: &NodeTable, place: usize, end: u32) -> KeptPart
     ensures { IsKept table.now place end result }
 {
     match kid_within(table, place, end) {
-        None => Kept::Value(Value::Undefined),
+        None => KeptPart::Value(Value::Undefined),
         Some(part) => match value_at(table, part) {
-            Some(value) => Kept::Value(value),
-            None => Kept::Open(part),
+            Some(value) => KeptPart::Value(value),
+            None => KeptPart::Open(part),
         },
     }
 }
@@ -64,11 +64,11 @@ fn enter_kept(
     ensures { IfOk result (Comes table.now stack.old stack.new (λ ts. staged ts table.now stack.old (test_of (trees ts table.now place end)))) }
 {
     match kept_part(table, place, end) {
-        Kept::Value(value) => {
+        KeptPart::Value(value) => {
             stack.push_value(value)?;
             Ok(Next::Row)
         }
-        Kept::Open(part) => Ok(Next::Part(part)),
+        KeptPart::Open(part) => Ok(Next::Part(part)),
     }
 }
 
@@ -89,8 +89,8 @@ pub fn at_update(table: &NodeTable, stack: &mut Stack, task: Task) -> Result<Nex
     ensures { IfOk result (Comes table.now stack.old stack.new (λ ts. looped ts table.now stack.old update_stage task)) }
 {
     match kept_part(table, task.mid as usize + 1, task.end) {
-        Kept::Value(_) => at_test(table, stack, task),
-        Kept::Open(part) => {
+        KeptPart::Value(_) => at_test(table, stack, task),
+        KeptPart::Open(part) => {
             restage(stack, Op::LoopUpdating);
             Ok(Next::Part(part))
         }
@@ -117,8 +117,8 @@ pub fn at_body(table: &NodeTable, stack: &mut Stack, task: Task) -> Result<Next,
     ensures { IfOk result (Comes table.now stack.old stack.new (λ ts. looped ts table.now stack.old body_stage task)) }
 {
     match kept_part(table, task.mid as usize + 2, task.end) {
-        Kept::Value(_) => behind_body(table, stack, task),
-        Kept::Open(part) => {
+        KeptPart::Value(_) => behind_body(table, stack, task),
+        KeptPart::Open(part) => {
             restage(stack, Op::LoopBody);
             Ok(Next::Part(part))
         }

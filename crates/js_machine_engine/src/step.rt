@@ -13,10 +13,10 @@ ghost use Rattle.js_machine_engine.specs.Answers.{resumed};
 ghost use Rattle.js_machine_engine.specs.Rows.{redex};
 ghost use Rattle.js_machine_engine.specs.Stacks.{outer_of, has_extra};
 ghost use Rattle.js_machine_engine.specs.Following.{innermost};
-ghost use Rattle.js_machine_engine.specs.Stepping.{answer_of, Says, Tells, TellsWithin, Steps, IfGoesOn, StandsIn, IsGoing};
+ghost use Rattle.js_machine_engine.specs.Stepping.{demand_of, Says, Tells, TellsWithin, Steps, IfGoesOn, StandsIn, IsGoing};
 ghost use Rattle.js_machine_engine.specs.declared.task.Point.TheVariants as points;
 
-use crate::answer::{Answer, answer_of, went_of};
+use crate::answer::{Demand, demand_of, went_of};
 use crate::concluding::{conclude, print, raise};
 use crate::following::parts::follow_value;
 use crate::leaf::follow_leaf;
@@ -28,7 +28,7 @@ use crate::stepped::Stepped;
 use crate::task::{Extra, Point, Redex};
 use crate::travelling::travel;
 use js_heap::value::{Addr, Value};
-use js_heap_memory::names::Names;
+use js_heap_memory::names::NameTable;
 use js_heap_memory::world::World;
 use js_machine_actions::context::Context;
 use js_machine_nodes::table::NodeTable;
@@ -49,7 +49,7 @@ fn kept_of(extra: Option<Extra>) -> Option<Completion>
 fn resume<T: Rows, W: World>(
     alloc: Global,
     table: &NodeTable,
-    names: &Names,
+    names: &NameTable,
     root: Addr,
     context: &mut Context,
     world: &mut W,
@@ -77,7 +77,7 @@ fn resume<T: Rows, W: World>(
 fn leave_row<T: Rows, W: World>(
     alloc: Global,
     table: &NodeTable,
-    names: &Names,
+    names: &NameTable,
     root: Addr,
     context: &mut Context,
     world: &mut W,
@@ -87,17 +87,17 @@ fn leave_row<T: Rows, W: World>(
 ) -> Stepped
     requires table { IsTable table.now }
     requires scoped { InScopes table.now root stack.old }
-    ensures told { (taken : List (List ℕ)) (m : Move Term) → Says names.now table.now (innermost stack.old) m reduced (answer_of reduced) (state_of (W.world names.now world.old) context.old taken) → TellsWithin names.now table.now root (outer_of stack.old) m result stack.new point.new (state_of (W.world names.now world.new) context.new taken) }
+    ensures told { (taken : List (List ℕ)) (m : Move Term) → Says names.now table.now (innermost stack.old) m reduced (demand_of reduced) (state_of (W.world names.now world.old) context.old taken) → TellsWithin names.now table.now root (outer_of stack.old) m result stack.new point.new (state_of (W.world names.now world.new) context.new taken) }
     ensures stands { IfGoesOn result (StandsIn table.now root stack.new point.new) }
 {
-    match answer_of(reduced) {
-        Answer::Travels(completion) => {
+    match demand_of(reduced) {
+        Demand::Travels(completion) => {
             stack.pop();
             travel::<T, W>(
                 alloc, table, names, root, context, world, stack, point, completion,
             )
         }
-        Answer::Resumes => {
+        Demand::Resumes => {
             resume::<T, W>(alloc, table, names, root, context, world, stack, point)
         }
         answer => conclude(alloc, table, root, context, stack, point, reduced, answer),
@@ -109,7 +109,7 @@ fn leave_row<T: Rows, W: World>(
 fn step_row<T: Rows, W: World>(
     alloc: Global,
     table: &NodeTable,
-    names: &Names,
+    names: &NameTable,
     root: Addr,
     context: &mut Context,
     world: &mut W,
@@ -156,7 +156,7 @@ fn step_row<T: Rows, W: World>(
 fn leave_leaf<T: Rows, W: World>(
     alloc: Global,
     table: &NodeTable,
-    names: &Names,
+    names: &NameTable,
     root: Addr,
     context: &mut Context,
     world: &mut W,
@@ -169,22 +169,22 @@ fn leave_leaf<T: Rows, W: World>(
     requires scoped { InScopes table.now root stack.old }
     requires owns { has_extra form.op form.info ≡ false }
     requires inner { (ts : List (List ℕ)) → scope_in (task_form ts table.now (redex form [] None)) (scope_of root stack.old) ≡ form.inner }
-    ensures told { (taken : List (List ℕ)) (m : Move Term) → Says names.now table.now (redex form [] None) m reduced (answer_of reduced) (state_of (W.world names.now world.old) context.old taken) → TellsWithin names.now table.now root stack.old m result stack.new point.new (state_of (W.world names.now world.new) context.new taken) }
+    ensures told { (taken : List (List ℕ)) (m : Move Term) → Says names.now table.now (redex form [] None) m reduced (demand_of reduced) (state_of (W.world names.now world.old) context.old taken) → TellsWithin names.now table.now root stack.old m result stack.new point.new (state_of (W.world names.now world.new) context.new taken) }
     ensures stands { IfGoesOn result (StandsIn table.now root stack.new point.new) }
 {
-    match answer_of(reduced) {
-        Answer::Follows => went_of(follow_leaf(table, root, stack, point, form, reduced)),
-        Answer::Raises(value) => raise(context, point, value),
-        Answer::Travels(completion) => {
+    match demand_of(reduced) {
+        Demand::Follows => went_of(follow_leaf(table, root, stack, point, form, reduced)),
+        Demand::Raises(value) => raise(context, point, value),
+        Demand::Travels(completion) => {
             travel::<T, W>(
                 alloc, table, names, root, context, world, stack, point, completion,
             )
         }
-        Answer::Resumes => went_of(give(table, stack, point, Value::Undefined)),
-        Answer::Prints => print(table, stack, point, Vec::new(alloc)),
-        Answer::Effect => Stepped::Effect,
-        Answer::Full(what) => Stepped::Full(what),
-        Answer::Memory => Stepped::Memory,
+        Demand::Resumes => went_of(give(table, stack, point, Value::Undefined)),
+        Demand::Prints => print(table, stack, point, Vec::new(alloc)),
+        Demand::Effect => Stepped::Effect,
+        Demand::Full(what) => Stepped::Full(what),
+        Demand::Memory => Stepped::Memory,
     }
 }
 
@@ -193,7 +193,7 @@ fn leave_leaf<T: Rows, W: World>(
 fn step_leaf<T: Rows, W: World>(
     alloc: Global,
     table: &NodeTable,
-    names: &Names,
+    names: &NameTable,
     root: Addr,
     context: &mut Context,
     world: &mut W,
@@ -234,7 +234,7 @@ fn step_leaf<T: Rows, W: World>(
 pub fn step<T: Rows, W: World>(
     alloc: Global,
     table: &NodeTable,
-    names: &Names,
+    names: &NameTable,
     root: Addr,
     context: &mut Context,
     world: &mut W,

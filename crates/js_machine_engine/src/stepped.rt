@@ -2,13 +2,13 @@
 
 use js_heap::change::Counted;
 use js_heap::value::Value;
-use js_semantics::form::Spot;
+use js_semantics::form::SourceMark;
 
 /// How a run ended: with a value, or by a throw that no `catch` took.
 #[derive(Clone, Copy)]
 pub enum Finish {
     Ended(Value),
-    Threw(Value, Spot),
+    Threw(Value, SourceMark),
 }
 
 /// What a step tells.

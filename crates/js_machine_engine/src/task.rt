@@ -2,7 +2,7 @@
 
 use js_heap::value::{Addr, Value};
 use js_machine_nodes::op::Op;
-use js_semantics::form::{Completion, Spot};
+use js_semantics::form::{Completion, SourceMark};
 
 /// A form of which a part is being reduced.
 #[derive(Clone, Copy)]
@@ -38,7 +38,7 @@ pub enum Point {
     /// A node without parts to reduce.
     Leaf(u32),
     /// A throw that stands.
-    Stands(Value, Spot),
+    Stands(Value, SourceMark),
     /// Nothing: all is reduced to a value.
     Done(Value),
 }

@@ -16,7 +16,7 @@ ghost use Rattle.js_machine_engine.specs.Following.{innermost};
 ghost use Rattle.js_machine_engine.specs.Passing.{TakesSo};
 ghost use Rattle.js_machine_engine.specs.Stepping.{TellsWithin, IfGoesOn, StandsIn};
 
-use crate::answer::{answer_of, finished_by, went_of};
+use crate::answer::{demand_of, finished_by, went_of};
 use crate::concluding::conclude;
 use crate::following::parts::follow_value;
 use crate::passing::{Taking, pass_outward};
@@ -26,7 +26,7 @@ use crate::stack::Stack;
 use crate::stepped::Stepped;
 use crate::task::{Extra, Point, Redex};
 use js_heap::value::{Addr, Value};
-use js_heap_memory::names::Names;
+use js_heap_memory::names::NameTable;
 use js_heap_memory::world::World;
 use js_machine_actions::context::Context;
 use js_machine_nodes::op::Op;
@@ -83,7 +83,7 @@ fn end_turn(table: &NodeTable, stack: &mut Stack, point: &mut Point) -> Result<(
 fn catch_throw<T: Rows, W: World>(
     alloc: Global,
     table: &NodeTable,
-    names: &Names,
+    names: &NameTable,
     root: Addr,
     context: &Context,
     world: &mut W,
@@ -118,7 +118,7 @@ fn catch_throw<T: Rows, W: World>(
         stack,
         point,
         reduced,
-        answer_of(reduced),
+        demand_of(reduced),
     )
 }
 
@@ -126,7 +126,7 @@ fn catch_throw<T: Rows, W: World>(
 fn take<T: Rows, W: World>(
     alloc: Global,
     table: &NodeTable,
-    names: &Names,
+    names: &NameTable,
     root: Addr,
     context: &mut Context,
     world: &mut W,
@@ -160,7 +160,7 @@ fn take<T: Rows, W: World>(
 pub fn travel<T: Rows, W: World>(
     alloc: Global,
     table: &NodeTable,
-    names: &Names,
+    names: &NameTable,
     root: Addr,
     context: &mut Context,
     world: &mut W,

@@ -2,7 +2,7 @@
 use Rattle.std.proofs.Common.{◌≡◌, ℕ, Bool, false, List, [], ◌∷◌, Option, Some, None, slice_get, if◌then◌else◌, refl, sym, ap, subst, ◌∙◌, arith}
 use Rattle.js_heap.specs.declared.value.Addr.TheVariants as addrs
 use Rattle.js_heap.specs.declared.value.Value.{Value}
-use Rattle.js_semantics.specs.declared.form.Spot.{Spot}
+use Rattle.js_semantics.specs.declared.form.SourceMark.{SourceMark}
 use Rattle.js_semantics.specs.Terms.{Term, Terms, done, standing, part, end, more, joined, dones, is_done}
 use Rattle.js_semantics.specs.Frames.{reduces, stands, nothing_left, only_values, inner, behind, active_of, active, leftmost, at, is_debugger}
 use Rattle.js_machine_nodes.specs.declared.op.Op.{Op}
@@ -51,7 +51,7 @@ active-row ts t w ws =
     active-within (gaps_of ts t ws) (redex_of ts t w) refl
     ∙ ap (active_of (task_form ts t w)) (leftmost_values w.values)
 
-pub active-stands : (ts : List (List ℕ)) (t : NodeTable) (ws : List Wide) (v : Value) (place : Spot)
+pub active-stands : (ts : List (List ℕ)) (t : NodeTable) (ws : List Wide) (v : Value) (place : SourceMark)
     → active (term_at ts t ws (points.Stands v place)) ≡ stands v place
 unfolding term_at
 active-stands ts t ws v place = active-within (gaps_of ts t ws) (standing v place) refl
@@ -132,7 +132,7 @@ leaf-kind ts t ws n node p q e i h =
     let P : Point → Type 0 = λ x. IsAt t ws x in
     ap (λ (x : Point). active_kind (active (term_at ts t ws x))) q ∙ leaf_kind ts t ws n node e i (subst P q h)
 
-pub stands-kind : (ts : List (List ℕ)) (t : NodeTable) (ws : List Wide) (v : Value) (place : Spot) (p : Point)
+pub stands-kind : (ts : List (List ℕ)) (t : NodeTable) (ws : List Wide) (v : Value) (place : SourceMark) (p : Point)
     → p ≡ points.Stands v place
     → active_kind (active (term_at ts t ws p)) ≡ plain
 stands-kind ts t ws v place p q =

@@ -2,7 +2,7 @@
 use Rattle.std.proofs.Common.{◌≡◌, ℕ, zero, suc, ◌+◌, Bool, true, false, not, List, [], ◌∷◌, drop, Option, Some, None, slice_get, if◌then◌else◌, refl, sym, ap, ◌∙◌, arith}
 use Rattle.js_heap.specs.declared.value.Value.{Value}
 use Rattle.js_semantics.specs.declared.form.Form.{Form}
-use Rattle.js_semantics.specs.declared.form.Spot.{Spot}
+use Rattle.js_semantics.specs.declared.form.SourceMark.{SourceMark}
 use Rattle.js_semantics.specs.Terms.{Term, Terms, done, standing, part, more, joined, dones, is_done}
 use Rattle.js_semantics.specs.Frames.{reduces, stands, active, is_catching, is_caught, is_caught_in, standing_of, thrown}
 use Rattle.js_machine_nodes.specs.declared.node.Node.{Node}
@@ -52,21 +52,21 @@ caught_within ts t (w ∷ ws) r h =
     ∙ ap (λ b. if (if b then true else is_caught r) then true else catches ws) (task-catches ts t w)
     ∙ either_or (is_catcher w.op) (is_caught r) (catches ws)
 
-caught_stands : (ts : List (List ℕ)) (t : NodeTable) (ws : List Wide) (v : Value) (place : Spot)
+caught_stands : (ts : List (List ℕ)) (t : NodeTable) (ws : List Wide) (v : Value) (place : SourceMark)
     → is_caught (term_at ts t ws (points.Stands v place)) ≡ catches ws
 unfolding term_at
 caught_stands ts t ws v place = caught_within ts t ws (standing v place) refl
 
 -- ---- throws
 
-stands_throw : (ts : List (List ℕ)) (t : NodeTable) (ws : List Wide) (v : Value) (place : Spot)
+stands_throw : (ts : List (List ℕ)) (t : NodeTable) (ws : List Wide) (v : Value) (place : SourceMark)
     → thrown (term_at ts t ws (points.Stands v place)) ≡ Some (record { value = v; uncaught = not (catches ws) })
 stands_throw ts t ws v place =
     let x : Term = term_at ts t ws (points.Stands v place) in
     ap (λ a. standing_of a (is_caught x)) (active-stands ts t ws v place)
     ∙ ap (λ b. standing_of (stands v place) b) (caught_stands ts t ws v place)
 
-pub stands-throw : (ts : List (List ℕ)) (t : NodeTable) (ws : List Wide) (v : Value) (place : Spot) (p : Point)
+pub stands-throw : (ts : List (List ℕ)) (t : NodeTable) (ws : List Wide) (v : Value) (place : SourceMark) (p : Point)
     (b : Bool)
     → p ≡ points.Stands v place
     → b ≡ catches ws
@@ -102,7 +102,7 @@ none_done ts t ws v h =
 
 -- elsewhere none stands
 pub no-throw : (ts : List (List ℕ)) (t : NodeTable) (ws : List Wide) (p : Point)
-    → ((v : Value) (place : Spot) → p ≡ points.Stands v place → ⊥)
+    → ((v : Value) (place : SourceMark) → p ≡ points.Stands v place → ⊥)
     → IsAt t ws p
     → None ≡ thrown (term_at ts t ws p)
 no-throw ts t ws points.Row n h = none_row ts t ws h

@@ -5,7 +5,7 @@ use Rattle.js_heap.specs.declared.value.Addr.{Addr}
 use Rattle.js_heap.specs.declared.value.Value.{Value}
 use Rattle.js_semantics.specs.declared.form.Form.{Form}
 use Rattle.js_semantics.specs.declared.form.Form.TheVariants.{Frame as frame}
-use Rattle.js_semantics.specs.declared.form.Spot.{Spot}
+use Rattle.js_semantics.specs.declared.form.SourceMark.{SourceMark}
 use Rattle.js_semantics.specs.Terms.{Term, Terms, done, standing, part, end, more, joined, dones, is_done}
 use Rattle.js_semantics.specs.Next.{scope_in}
 use Rattle.js_semantics.specs.Frames.{scopes_at, scopes_in, reversed_onto}
@@ -97,7 +97,7 @@ scopes-row ts t root (w ∷ ws) h s =
     ∙ scopes_task ts t root w ws (dones w.values) (later_of ts t w) (w.inner ∷ []) (s.0 ts)
     (scopes_values w.values w.inner)
 
-pub scopes-stands : (ts : List (List ℕ)) (t : NodeTable) (root : Addr) (ws : List Wide) (v : Value) (place : Spot)
+pub scopes-stands : (ts : List (List ℕ)) (t : NodeTable) (root : Addr) (ws : List Wide) (v : Value) (place : SourceMark)
     → InScopes t root ws
     → reversed_onto (scopes_at root (term_at ts t ws (points.Stands v place))) [] ≡ frame_scopes root ws
 unfolding term_at

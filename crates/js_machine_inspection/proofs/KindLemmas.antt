@@ -19,7 +19,7 @@ use Rattle.js_machine_nodes.specs.declared.table.NodeTable.{NodeTable}
 use Rattle.js_machine_nodes.specs.Forms.{form_of, script_form, for_form, for_of_form, list_form, turn_form, body_form, block_form, function_form, method_form, object_form, members_at, call_form, name_call_form, member_call_form, index_call_form}
 use Rattle.js_machine_engine.specs.declared.task.Extra.{Extra}
 use Rattle.js_machine_engine.specs.Tasks.{Wide, index_of, form_in, task_form}
-use Rattle.js_machine_inspection.specs.Kinds.{Kind, entering, calling, opening, plain, kind_of, active_kind, for_kind, for_of_kind, call_kind, script_kind, op_kind, enters_debugger}
+use Rattle.js_machine_inspection.specs.Kinds.{ActiveKind, entering, calling, opening, plain, kind_of, active_kind, for_kind, for_of_kind, call_kind, script_kind, op_kind, enters_debugger}
 use Rattle.js_machine_inspection.proofs.FrameKinds.{is_debugging, is_leaving, is_guarding}
 use Rattle.js_machine_inspection.specs.Catchers.{is_catcher}
 use Rattle.js_machine_inspection.specs.Scopes.{is_frame}
@@ -124,28 +124,28 @@ catching-kind (catching n) = refl
 catching-kind f = refl
 
 -- a test of kinds that no entry passes
-for_fails : (p : Kind → Bool) (o : Option ForEntry)
+for_fails : (p : ActiveKind → Bool) (o : Option ForEntry)
     → p plain ≡ false
     → ((n : ℕ) → p (entering n) ≡ false)
     → p (for_kind o) ≡ false
 for_fails p (Some e) h k = k e.node
 for_fails p None h k = h
 
-for_of_fails : (p : Kind → Bool) (o : Option ForOfEntry)
+for_of_fails : (p : ActiveKind → Bool) (o : Option ForOfEntry)
     → p plain ≡ false
     → ((n : ℕ) → p (entering n) ≡ false)
     → p (for_of_kind o) ≡ false
 for_of_fails p (Some e) h k = k e.node
 for_of_fails p None h k = h
 
-call_fails : (p : Kind → Bool) (o : Option CallEntry)
+call_fails : (p : ActiveKind → Bool) (o : Option CallEntry)
     → p plain ≡ false
     → ((m : Mark) (n : ℕ) → p (calling m n) ≡ false)
     → p (call_kind o) ≡ false
 call_fails p (Some c) h k = k c.place c.statement
 call_fails p None h k = h
 
-script_fails : (p : Kind → Bool) (o : Option ScriptEntry)
+script_fails : (p : ActiveKind → Bool) (o : Option ScriptEntry)
     → p plain ≡ false
     → ((n : ℕ) → p (opening n) ≡ false)
     → p (script_kind o) ≡ false

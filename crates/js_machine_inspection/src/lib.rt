@@ -2,8 +2,8 @@
 //!
 //! Words of its own, which stand in `specs/`:
 //!
-//! - What is about to be reduced is `Reducing`; its `Kind` is as much of its form as arrivals and frames ask for: a statement that is
-//!   entered, the end of a call's body, a call, a script, a `try` with a `catch`.
+//! - What is about to be reduced is `Reducing`; its `ActiveKind` is as much of its form as arrivals and frames ask for: a
+//!   statement that is entered, the end of a call's body, a call, a script, a `try` with a `catch`.
 //! - `frame_scopes`: the innermost scopes of the active frames, from the top.
 //! - `standing_throw`: the throw that stands, and whether a `catch` takes it.
 #![tactic(auto)]

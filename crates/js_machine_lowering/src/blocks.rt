@@ -13,7 +13,7 @@ use crate::functions::body_parts;
 use crate::statements::{functions_terms, statements_terms};
 use cdp_text::units::Units;
 use js_machine_lowering_parts::names::names_of;
-use js_machine_lowering_parts::places::Place;
+use js_machine_lowering_parts::places::LoweringContext;
 use js_machine_terms::term::{Term, Terms, end, one, part};
 use js_semantics::form::Form;
 use js_tree::tree::{Block, Catch, Stmts};
@@ -22,7 +22,11 @@ use std::alloc::{AllocError, Global};
 /// A block.
 #[cycle(source)]
 #[tactic(auto, using(js_semantics::proofs::TreeLemmas::source_block_body))]
-pub fn block_term<'a>(alloc: Global, block: &Block, place: Place<'a>) -> Result<Term, AllocError>
+pub fn block_term<'a>(
+    alloc: Global,
+    block: &Block,
+    place: LoweringContext<'a>,
+) -> Result<Term, AllocError>
     ensures { IfOk result (λ t. term_view t ≡ makers.block_term (block_source block.now) (context_of place.entry)) }
 {
     let statements = statements_terms(alloc, &block.body, place)?;
@@ -50,7 +54,7 @@ fn block_of(
 pub fn caught_term<'a>(
     alloc: Global,
     handler: &Option<Catch>,
-    place: Place<'a>,
+    place: LoweringContext<'a>,
     term: Term,
 ) -> Result<Term, AllocError>
     ensures { IfOk result (λ t. term_view t ≡ makers.caught (option_map catch_source handler.now) (term_view term) (context_of place.entry)) }
@@ -93,7 +97,7 @@ fn optional_name(name: &Option<Units>) -> Result<Option<Units>, AllocError>
 pub fn finally_term<'a>(
     alloc: Global,
     finalizer: &Option<Block>,
-    place: Place<'a>,
+    place: LoweringContext<'a>,
     term: Term,
 ) -> Result<Term, AllocError>
     ensures { IfOk result (λ t. term_view t ≡ makers.finally_term (option_map block_source finalizer.now) (term_view term) (context_of place.entry)) }

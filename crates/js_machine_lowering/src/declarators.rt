@@ -11,7 +11,7 @@ ghost use Rattle.js_machine_lowering_parts.specs.Sources.{context_of, declarator
 
 use crate::expressions::expression_term;
 use cdp_text::units::Units;
-use js_machine_lowering_parts::places::{Place, naming};
+use js_machine_lowering_parts::places::{LoweringContext, naming};
 use js_machine_terms::term::{Term, Terms, end, one, part, terms_of};
 use js_semantics::form::Form;
 use js_tree::tree::{Declarator, Declarators, Expr};
@@ -23,7 +23,7 @@ use std::alloc::{AllocError, Global};
 pub fn declarators_term<'a>(
     alloc: Global,
     ds: &Declarators,
-    place: Place<'a>,
+    place: LoweringContext<'a>,
 ) -> Result<Term, AllocError>
     ensures { IfOk result (λ t. term_view t ≡ makers.declarators_term (declarators_source ds.now) (context_of place.entry)) }
 {
@@ -36,7 +36,7 @@ pub fn declarators_term<'a>(
 fn declarator_items<'a>(
     alloc: Global,
     items: &Vec<Declarator>,
-    place: Place<'a>,
+    place: LoweringContext<'a>,
 ) -> Result<Vec<Term>, AllocError>
     ensures { IfOk result (λ ts. map term_view ts.items ≡ map (λ d. declarator_term (declarator_source d) (context_of place.entry)) items.now.items) }
 {
@@ -50,7 +50,11 @@ fn declarator_items<'a>(
 /// The term of a declarator, by which its name gets its value.
 #[cycle(source)]
 #[tactic(auto, using(js_semantics::proofs::TreeLemmas::source_declarator, js_machine_lowering_parts::proofs::SourceLemmas::initializer_named))]
-fn declarator<'a>(alloc: Global, d: &Declarator, place: Place<'a>) -> Result<Term, AllocError>
+fn declarator<'a>(
+    alloc: Global,
+    d: &Declarator,
+    place: LoweringContext<'a>,
+) -> Result<Term, AllocError>
     ensures { IfOk result (λ t. term_view t ≡ declarator_term (declarator_source d.now) (context_of place.entry)) }
 {
     let value = named_terms(alloc, &d.initializer, naming(d.name.as_slice(), place))?;
@@ -66,7 +70,11 @@ fn initialize(alloc: Global, name: &Units, value: Terms) -> Result<Term, AllocEr
 
 /// A value that may be absent, where a part gives a name.
 #[cycle(source)]
-fn named_terms<'a>(alloc: Global, e: &Option<Expr>, place: Place<'a>) -> Result<Terms, AllocError>
+fn named_terms<'a>(
+    alloc: Global,
+    e: &Option<Expr>,
+    place: LoweringContext<'a>,
+) -> Result<Terms, AllocError>
     ensures { IfOk result (λ ts. terms_view ts ≡ initialized (option_map expression_source e.now) (context_of place.entry)) }
 {
     match e {

@@ -12,11 +12,11 @@ ghost use Rattle.js_machine_lowering_parts.specs.Sources.{context_of};
 use crate::functions::{arrow_term, block_arrow_term, body_terms, function_term, returned_terms};
 use crate::objects::object_term;
 use cdp_text::units::Units;
-use js_heap::cell::Names as ScopeNames;
+use js_heap::cell::ScopeNames;
 use js_heap::value::Value;
 use js_machine_lowering_parts::objects::{name_read, number_of};
 use js_machine_lowering_parts::operators::{binary_term, choice, comma_term, unary_term};
-use js_machine_lowering_parts::places::{Place, unnamed};
+use js_machine_lowering_parts::places::{LoweringContext, unnamed};
 use js_machine_lowering_parts::references::{assignment, call_term, updated};
 use js_machine_terms::term::{Term, Terms, done, end, leaf, one, part, terms_of, two};
 use js_semantics::form::{Form, Reference};
@@ -26,7 +26,11 @@ use std::alloc::{AllocError, Global};
 
 /// An expression.
 #[cycle(source)]
-pub fn expression_term<'a>(alloc: Global, e: &Expr, place: Place<'a>) -> Result<Term, AllocError>
+pub fn expression_term<'a>(
+    alloc: Global,
+    e: &Expr,
+    place: LoweringContext<'a>,
+) -> Result<Term, AllocError>
     ensures { IfOk result (λ t. term_view t ≡ (expression_source e.now).term (context_of place.entry)) }
 {
     match e {
@@ -186,7 +190,11 @@ fn index_term(alloc: Global, object: Term, key: Term) -> Result<Term, AllocError
 
 /// A part of an expression or a statement, which gives no name.
 #[cycle(source)]
-pub fn part_term<'a>(alloc: Global, e: &Expr, place: Place<'a>) -> Result<Term, AllocError>
+pub fn part_term<'a>(
+    alloc: Global,
+    e: &Expr,
+    place: LoweringContext<'a>,
+) -> Result<Term, AllocError>
     ensures { IfOk result (λ t. term_view t ≡ makers.plain (expression_source e.now) (context_of place.entry)) }
 {
     expression_term(alloc, e, unnamed(place))
@@ -195,7 +203,11 @@ pub fn part_term<'a>(alloc: Global, e: &Expr, place: Place<'a>) -> Result<Term, 
 /// Parts that follow one another.
 #[cycle(source)]
 #[tactic(auto, using(js_machine_lowering_parts::proofs::SourceLemmas::list_laws))]
-pub fn parts_terms<'a>(alloc: Global, es: &Exprs, place: Place<'a>) -> Result<Terms, AllocError>
+pub fn parts_terms<'a>(
+    alloc: Global,
+    es: &Exprs,
+    place: LoweringContext<'a>,
+) -> Result<Terms, AllocError>
     ensures { IfOk result (λ ts. terms_view ts ≡ makers.plains (expressions_source es.now) (context_of place.entry)) }
 {
     Ok(terms_of(expression_items(alloc, &es.items, place)?))
@@ -206,7 +218,7 @@ pub fn parts_terms<'a>(alloc: Global, es: &Exprs, place: Place<'a>) -> Result<Te
 fn expression_items<'a>(
     alloc: Global,
     items: &Vec<Expr>,
-    place: Place<'a>,
+    place: LoweringContext<'a>,
 ) -> Result<Vec<Term>, AllocError>
     ensures { IfOk result (λ ts. map term_view ts.items ≡ map (λ e. makers.plain (expression_source e) (context_of place.entry)) items.now.items) }
 {

@@ -13,16 +13,16 @@ ghost use Rattle.js_machine_lowering_parts.specs.Sources.{context_of, own_form};
 use crate::expressions::expression_term;
 use crate::statements::{functions_terms, statements_terms};
 use cdp_text::units::Units;
-use js_heap::cell::Names as ScopeNames;
+use js_heap::cell::ScopeNames;
 use js_machine_lowering_parts::functions::{
     arrow_function, entered, named_function, own_function, with_front,
 };
 use js_machine_lowering_parts::names::names_of;
-use js_machine_lowering_parts::places::{Place, within};
+use js_machine_lowering_parts::places::{LoweringContext, within};
 use js_machine_terms::term::{Term, Terms, end, one, part};
 use js_semantics::form::{Form, Source};
 use js_semantics::words::node_of;
-use js_tree::names::Names;
+use js_tree::names::ParameterNames;
 use js_tree::tree::{ArrowParameters, Expr, Stmts};
 use std::alloc::{AllocError, Global};
 
@@ -31,9 +31,9 @@ pub fn function_term<'a>(
     alloc: Global,
     node: u32,
     name: &Option<Units>,
-    parameters: &Names,
+    parameters: &ParameterNames,
     body: &Stmts,
-    place: Place<'a>,
+    place: LoweringContext<'a>,
     later: Terms,
 ) -> Result<Term, AllocError>
     ensures { IfOk result (λ t. term_view t ≡ semantics.part (forms.Function (own_form node name.now parameters.now (statements_source body.now).names (context_of place.entry))) semantics.end (terms_view later)) }
@@ -48,7 +48,7 @@ pub fn arrow_term<'a>(
     node: u32,
     parameters: &ArrowParameters,
     names: ScopeNames,
-    place: Place<'a>,
+    place: LoweringContext<'a>,
     later: Terms,
 ) -> Result<Term, AllocError>
     ensures { IfOk result (λ t. term_view t ≡ semantics.part (forms.Function (makers.form_of node (context_of place.entry).source (context_of place.entry).name (parameter_names (parameters_view parameters.now)) names true false)) semantics.end (terms_view later)) }
@@ -63,7 +63,7 @@ pub fn block_arrow_term<'a>(
     node: u32,
     parameters: &ArrowParameters,
     body: &Stmts,
-    place: Place<'a>,
+    place: LoweringContext<'a>,
     later: Terms,
 ) -> Result<Term, AllocError>
     ensures { IfOk result (λ t. term_view t ≡ semantics.part (forms.Function (makers.form_of node (context_of place.entry).source (context_of place.entry).name (parameter_names (parameters_view parameters.now)) (statements_source body.now).names true false)) semantics.end (terms_view later)) }
@@ -77,7 +77,7 @@ fn named_term(
     alloc: Global,
     node: u32,
     name: &[u16],
-    parameters: &Names,
+    parameters: &ParameterNames,
     body: &Stmts,
     source: Source,
     later: Terms,
@@ -111,7 +111,11 @@ fn returned(alloc: Global, node: u32, value: Term) -> Result<Terms, AllocError>
 
 /// The body of a function and the functions that it declares.
 #[cycle(source)]
-pub fn body_terms<'a>(alloc: Global, body: &Stmts, place: Place<'a>) -> Result<Terms, AllocError>
+pub fn body_terms<'a>(
+    alloc: Global,
+    body: &Stmts,
+    place: LoweringContext<'a>,
+) -> Result<Terms, AllocError>
     ensures { IfOk result (λ ts. terms_view ts ≡ makers.body_terms (statements_source body.now) (context_of place.entry)) }
 {
     let inner = within(0, place);
@@ -122,7 +126,11 @@ pub fn body_terms<'a>(alloc: Global, body: &Stmts, place: Place<'a>) -> Result<T
 
 /// An arrow's expression as its body.
 #[cycle(source)]
-pub fn returned_terms<'a>(alloc: Global, e: &Expr, place: Place<'a>) -> Result<Terms, AllocError>
+pub fn returned_terms<'a>(
+    alloc: Global,
+    e: &Expr,
+    place: LoweringContext<'a>,
+) -> Result<Terms, AllocError>
     ensures { IfOk result (λ ts. terms_view ts ≡ makers.body_terms (makers.returned_body (expression_source e.now)) (context_of place.entry)) }
 {
     let node = node_of(e);
@@ -136,9 +144,9 @@ pub fn function_part<'a>(
     alloc: Global,
     node: u32,
     name: &[u16],
-    parameters: &Names,
+    parameters: &ParameterNames,
     body: &Stmts,
-    place: Place<'a>,
+    place: LoweringContext<'a>,
 ) -> Result<Term, AllocError>
     ensures { IfOk result (λ t. term_view t ≡ semantics.part (forms.Function (makers.method_form node name.now parameters.now (statements_source body.now) (context_of place.entry))) semantics.end (makers.body_terms (statements_source body.now) (context_of place.entry))) }
 {

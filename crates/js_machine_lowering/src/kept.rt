@@ -7,7 +7,7 @@ ghost use Rattle.js_machine_terms.specs.Views.{term_view};
 
 use crate::expressions::expression_term;
 use js_heap::value::Addr;
-use js_machine_lowering_parts::places::Place;
+use js_machine_lowering_parts::places::LoweringContext;
 use js_machine_terms::term::Term;
 use js_semantics::form::Source;
 use js_tree::tree::Expr;
@@ -17,7 +17,7 @@ use std::alloc::{AllocError, Global};
 pub fn kept_term(alloc: Global, at: Addr, e: &Expr) -> Result<Term, AllocError>
     ensures { IfOk result (λ t. term_view t ≡ kept_term at (expression_source e.now)) }
 {
-    let place = Place {
+    let place = LoweringContext {
         source: Source::Kept(at),
         statement: 0,
         name: &[],

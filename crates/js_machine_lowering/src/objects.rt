@@ -14,10 +14,10 @@ use js_machine_lowering_parts::functions::named_function;
 use js_machine_lowering_parts::objects::{
     ObjectParts, after_key, before, members_of, name_read, no_parts, number_key,
 };
-use js_machine_lowering_parts::places::{Place, naming};
+use js_machine_lowering_parts::places::{LoweringContext, naming};
 use js_machine_terms::term::{Term, Terms, part};
 use js_semantics::form::{Form, Source};
-use js_tree::names::Names;
+use js_tree::names::ParameterNames;
 use js_tree::tree::{Expr, PropertyDefinition, PropertyDefinitions, PropertyName, Stmts};
 use std::alloc::{AllocError, Global};
 
@@ -26,7 +26,7 @@ use std::alloc::{AllocError, Global};
 pub fn object_term<'a>(
     alloc: Global,
     properties: &PropertyDefinitions,
-    place: Place<'a>,
+    place: LoweringContext<'a>,
 ) -> Result<Term, AllocError>
     ensures { IfOk result (λ t. term_view t ≡ makers.object_term (properties_source properties.now) (makers.properties_parts (properties_source properties.now) (context_of place.entry))) }
 {
@@ -52,7 +52,7 @@ fn object_of(
 fn properties_parts<'a>(
     alloc: Global,
     properties: &PropertyDefinitions,
-    place: Place<'a>,
+    place: LoweringContext<'a>,
 ) -> Result<ObjectParts, AllocError>
     ensures { IfOk result (λ p. parts_view p ≡ makers.properties_parts (properties_source properties.now) (context_of place.entry)) }
 {
@@ -64,7 +64,7 @@ fn properties_parts<'a>(
 fn property_items<'a>(
     alloc: Global,
     items: &Vec<PropertyDefinition>,
-    place: Place<'a>,
+    place: LoweringContext<'a>,
 ) -> Result<ObjectParts, AllocError>
     ensures { IfOk result (λ p. parts_view p ≡ makers.properties_parts (map property_source items.now.items) (context_of place.entry)) }
 {
@@ -81,7 +81,7 @@ fn property_items<'a>(
 fn property_parts<'a>(
     alloc: Global,
     property: &PropertyDefinition,
-    place: Place<'a>,
+    place: LoweringContext<'a>,
     parts: ObjectParts,
 ) -> Result<ObjectParts, AllocError>
     ensures { IfOk result (λ p. parts_view p ≡ makers.property_parts (property_source property.now) (context_of place.entry) (parts_view parts)) }
@@ -175,7 +175,7 @@ fn keyed_value<'a>(
     alloc: Global,
     text: &[u16],
     value: &Expr,
-    place: Place<'a>,
+    place: LoweringContext<'a>,
     parts: ObjectParts,
 ) -> Result<ObjectParts, AllocError>
     ensures { IfOk result (λ p. parts_view p ≡ makers.before ((expression_source value.now).term (makers.naming text.now (context_of place.entry))) (parts_view parts)) }
@@ -188,7 +188,7 @@ fn keyed_value<'a>(
 fn computed_method(
     alloc: Global,
     node: u32,
-    parameters: &Names,
+    parameters: &ParameterNames,
     body: &Stmts,
     source: Source,
     key: Term,

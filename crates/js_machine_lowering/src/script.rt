@@ -7,7 +7,7 @@ ghost use Rattle.js_machine_terms.specs.Views.{term_view};
 use crate::functions::body_parts;
 use crate::statements::{functions_terms, statements_terms};
 use js_machine_lowering_parts::names::names_of;
-use js_machine_lowering_parts::places::Place;
+use js_machine_lowering_parts::places::LoweringContext;
 use js_machine_terms::term::{Term, end, part};
 use js_semantics::form::{Form, Source};
 use js_tree::script::Script;
@@ -17,7 +17,7 @@ use std::alloc::{AllocError, Global};
 pub fn term_of_script(alloc: Global, script: &Script) -> Result<Term, AllocError>
     ensures { IfOk result (λ t. term_view t ≡ term_of_script script.now) }
 {
-    let place = Place {
+    let place = LoweringContext {
         source: Source::Script(script.number),
         statement: 0,
         name: &[],

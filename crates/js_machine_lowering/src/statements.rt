@@ -17,7 +17,7 @@ use crate::loops::{for_lexical_term, for_of_term, for_term, simple_loop};
 use js_heap::value::Value;
 use js_machine_lowering_parts::functions::{entered, loop_parts};
 use js_machine_lowering_parts::operators::choice;
-use js_machine_lowering_parts::places::{Place, within};
+use js_machine_lowering_parts::places::{LoweringContext, within};
 use js_machine_terms::term::{Term, Terms, done, end, joined, leaf, one, part, terms_of};
 use js_semantics::form::{Form, Stage};
 use js_tree::tree::{Expr, Stmt, Stmts};
@@ -29,7 +29,7 @@ use std::alloc::{AllocError, Global};
 pub fn statements_terms<'a>(
     alloc: Global,
     ss: &Stmts,
-    place: Place<'a>,
+    place: LoweringContext<'a>,
 ) -> Result<Terms, AllocError>
     ensures { IfOk result (λ ts. terms_view ts ≡ (statements_source ss.now).terms (context_of place.entry)) }
 {
@@ -41,7 +41,7 @@ pub fn statements_terms<'a>(
 fn statement_items<'a>(
     alloc: Global,
     items: &Vec<Stmt>,
-    place: Place<'a>,
+    place: LoweringContext<'a>,
 ) -> Result<Vec<Term>, AllocError>
     ensures { IfOk result (λ ts. map term_view ts.items ≡ map (λ s. (statement_source s).term (context_of place.entry)) items.now.items) }
 {
@@ -55,7 +55,11 @@ fn statement_items<'a>(
 /// The functions that a list of statements declares.
 #[cycle(source)]
 #[tactic(auto, using(js_semantics::proofs::TreeLemmas::source_statements))]
-pub fn functions_terms<'a>(alloc: Global, ss: &Stmts, place: Place<'a>) -> Result<Terms, AllocError>
+pub fn functions_terms<'a>(
+    alloc: Global,
+    ss: &Stmts,
+    place: LoweringContext<'a>,
+) -> Result<Terms, AllocError>
     ensures { IfOk result (λ ts. terms_view ts ≡ (statements_source ss.now).functions (context_of place.entry)) }
 {
     function_items(alloc, &ss.items, place)
@@ -66,7 +70,7 @@ pub fn functions_terms<'a>(alloc: Global, ss: &Stmts, place: Place<'a>) -> Resul
 fn function_items<'a>(
     alloc: Global,
     items: &Vec<Stmt>,
-    place: Place<'a>,
+    place: LoweringContext<'a>,
 ) -> Result<Terms, AllocError>
     ensures { IfOk result (λ ts. terms_view ts ≡ (makers.items_of (map statement_source items.now.items)).functions (context_of place.entry)) }
 {
@@ -79,7 +83,11 @@ fn function_items<'a>(
 
 /// The function that a statement declares, where it is a function declaration.
 #[cycle(source)]
-fn statement_functions<'a>(alloc: Global, s: &Stmt, place: Place<'a>) -> Result<Terms, AllocError>
+fn statement_functions<'a>(
+    alloc: Global,
+    s: &Stmt,
+    place: LoweringContext<'a>,
+) -> Result<Terms, AllocError>
     ensures { IfOk result (λ ts. terms_view ts ≡ (statement_source s.now).functions (context_of place.entry)) }
 {
     match s {
@@ -113,7 +121,11 @@ fn statement_functions<'a>(alloc: Global, s: &Stmt, place: Place<'a>) -> Result<
 
 /// The term of a statement.
 #[cycle(source)]
-fn statement_term<'a>(alloc: Global, s: &Stmt, place: Place<'a>) -> Result<Term, AllocError>
+fn statement_term<'a>(
+    alloc: Global,
+    s: &Stmt,
+    place: LoweringContext<'a>,
+) -> Result<Term, AllocError>
     ensures { IfOk result (λ t. term_view t ≡ (statement_source s.now).term (context_of place.entry)) }
 {
     match s {
@@ -275,7 +287,7 @@ fn debugger_term(alloc: Global, node: u32) -> Result<Term, AllocError>
 fn alternate_term<'a>(
     alloc: Global,
     s: &Option<Box<Stmt>>,
-    place: Place<'a>,
+    place: LoweringContext<'a>,
 ) -> Result<Term, AllocError>
     ensures { IfOk result (λ t. term_view t ≡ makers.alternate_term (option_map (λ b. statement_source b.value) s.now) (context_of place.entry)) }
 {
@@ -290,7 +302,7 @@ fn alternate_term<'a>(
 fn optional_term<'a>(
     alloc: Global,
     e: &Option<Expr>,
-    place: Place<'a>,
+    place: LoweringContext<'a>,
     absent: Value,
 ) -> Result<Term, AllocError>
     ensures { IfOk result (λ t. term_view t ≡ makers.optional_term (option_map expression_source e.now) (context_of place.entry) (semantics.done absent)) }
@@ -306,7 +318,7 @@ fn optional_term<'a>(
 fn optional_terms<'a>(
     alloc: Global,
     e: &Option<Expr>,
-    place: Place<'a>,
+    place: LoweringContext<'a>,
 ) -> Result<Terms, AllocError>
     ensures { IfOk result (λ ts. terms_view ts ≡ makers.optional_terms (option_map expression_source e.now) (context_of place.entry)) }
 {

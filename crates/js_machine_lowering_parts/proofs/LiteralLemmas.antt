@@ -8,7 +8,7 @@ use Rattle.js_semantics.specs.declared.form.Form.{Form}
 use Rattle.js_semantics.specs.declared.form.Form.TheVariants as forms
 use Rattle.js_semantics.specs.Terms as semantics
 use Rattle.js_semantics.specs.Run as run
-use Rattle.js_semantics.specs.declared.form.Spot.{Spot}
+use Rattle.js_semantics.specs.declared.form.SourceMark.{SourceMark}
 use Rattle.js_heap.specs.declared.value.Value.{Value}
 use Rattle.js_machine_terms.specs.declared.term.Term.{Term}
 use Rattle.js_machine_terms.specs.declared.term.Terms.{Terms}
@@ -73,7 +73,7 @@ pub found_done : (found : List (List ℕ)) (t : Term) (v : Value)
     → found ≡ found ++ run.literals (term_view t)
 found_done found t v e = sym (ap (λ x. found ++ run.literals x) (ap term_view e ∙ view_done v) ∙ append-nil found)
 
-pub found_standing : (found : List (List ℕ)) (t : Term) (v : Value) (s : Spot)
+pub found_standing : (found : List (List ℕ)) (t : Term) (v : Value) (s : SourceMark)
     → t ≡ Term.Standing v s
     → found ≡ found ++ run.literals (term_view t)
 found_standing found t v s e =

@@ -6,8 +6,8 @@ use Rattle.js_semantics.specs.declared.form.Form.{Form}
 use Rattle.js_semantics.specs.declared.form.Reference.{Reference}
 use Rattle.js_semantics.specs.declared.form.Form.TheVariants as forms
 use Rattle.js_semantics.specs.Terms as semantics
-use Rattle.js_machine_lowering_parts.specs.declared.references.Target.{Target}
-use Rattle.js_machine_lowering_parts.specs.declared.references.Target.TheVariants as targets
+use Rattle.js_machine_lowering_parts.specs.declared.references.AssignmentTarget.{AssignmentTarget}
+use Rattle.js_machine_lowering_parts.specs.declared.references.AssignmentTarget.TheVariants as targets
 use Rattle.js_machine_terms.specs.Views.{term_view, terms_view}
 
 -- the reference of a term that is read, and its parts
@@ -22,7 +22,7 @@ read_of (semantics.part (forms.Read r) now later) = Some (record { reference = r
 read_of _ = None
 
 -- a term that is taken apart where it is read
-abbrev pub IsTarget : semantics.Term → Target → Type 0
+abbrev pub IsTarget : semantics.Term → AssignmentTarget → Type 0
 IsTarget t (targets.Reference r now later) =
     read_of t ≡ Some (record { reference = r; now = terms_view now; later = terms_view later })
 IsTarget t (targets.Other u) = (read_of t ≡ None) × (term_view u ≡ t)

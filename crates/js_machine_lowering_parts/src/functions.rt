@@ -11,14 +11,14 @@ ghost use Rattle.js_machine_terms.specs.Views.{term_view, terms_view};
 ghost use Rattle.js_machine_lowering_parts.specs.Sources.{context_of, own_form};
 
 use crate::names::{arrow_parameters, names_of};
-use crate::places::Place;
+use crate::places::LoweringContext;
 use cdp_text::units::Units;
 use js_heap::built_in::Code;
-use js_heap::cell::Names as ScopeNames;
+use js_heap::cell::ScopeNames;
 use js_machine_terms::copies::names_copy;
 use js_machine_terms::term::{Term, Terms, end, joined, one, part, three};
 use js_semantics::form::{Form, FunctionForm, Source, Stage};
-use js_tree::names::Names;
+use js_tree::names::ParameterNames;
 use js_tree::tree::{ArrowParameters, Stmts};
 use std::alloc::{AllocError, Global};
 
@@ -37,9 +37,9 @@ pub fn own_function<'a>(
     alloc: Global,
     node: u32,
     name: &Option<Units>,
-    parameters: &Names,
+    parameters: &ParameterNames,
     body: &Stmts,
-    place: Place<'a>,
+    place: LoweringContext<'a>,
 ) -> Result<FunctionForm, AllocError>
     ensures { IfOk result (λ f. f ≡ own_form node name.now parameters.now (statements_source body.now).names (context_of place.entry)) }
 {
@@ -62,7 +62,7 @@ pub fn named_function(
     alloc: Global,
     node: u32,
     name: &[u16],
-    parameters: &Names,
+    parameters: &ParameterNames,
     body: &Stmts,
     source: Source,
 ) -> Result<FunctionForm, AllocError>
@@ -85,7 +85,7 @@ pub fn arrow_function<'a>(
     node: u32,
     parameters: &ArrowParameters,
     names: ScopeNames,
-    place: Place<'a>,
+    place: LoweringContext<'a>,
 ) -> Result<FunctionForm, AllocError>
     ensures { IfOk result (λ f. f ≡ makers.form_of node (context_of place.entry).source (context_of place.entry).name (parameter_names (parameters_view parameters.now)) names true false) }
 {

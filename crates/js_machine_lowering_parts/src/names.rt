@@ -8,21 +8,24 @@ ghost use Rattle.js_semantics.specs.Sources.{statements_source, statement_source
 ghost use Rattle.js_heap.specs.Cells as cells;
 
 use cdp_text::units::Units;
-use js_heap::cell::{Binding, Names as ScopeNames};
+use js_heap::cell::{Binding, ScopeNames};
 use js_machine_terms::copies::names_copy;
-use js_tree::names::Names;
+use js_tree::names::ParameterNames;
 use js_tree::tree::{ArrowParameters, Declarator, Declarators, Stmt, Stmts};
 use std::alloc::{AllocError, Global};
 
 /// The names of an arrow's parameters.
-pub fn arrow_parameters(alloc: Global, parameters: &ArrowParameters) -> Result<Names, AllocError>
+pub fn arrow_parameters(
+    alloc: Global,
+    parameters: &ArrowParameters,
+) -> Result<ParameterNames, AllocError>
     ensures { IfOk result (λ ns. ns ≡ parameter_names (parameters_view parameters.now)) }
 {
     match parameters {
         ArrowParameters::Name(name) => {
             let mut items = Vec::new(alloc);
             items.push(name.clone()?)?;
-            Ok(Names::from_vec(items))
+            Ok(ParameterNames::from_vec(items))
         }
         ArrowParameters::List(names) => names_copy(alloc, names),
     }

@@ -8,17 +8,17 @@ use js_semantics::form::Source;
 
 /// Where a part stands: its source, the node of its statement, and the name that it gives to a function without one.
 #[derive(Clone, Copy)]
-pub struct Place<'a> {
+pub struct LoweringContext<'a> {
     pub source: Source,
     pub statement: u32,
     pub name: &'a [u16],
 }
 
 /// The place of a part that gives no name.
-pub fn unnamed<'a>(place: Place<'a>) -> Place<'a>
+pub fn unnamed<'a>(place: LoweringContext<'a>) -> LoweringContext<'a>
     ensures { context_of result ≡ makers.unnamed (context_of place.entry) }
 {
-    Place {
+    LoweringContext {
         source: place.source,
         statement: place.statement,
         name: &[],
@@ -26,10 +26,10 @@ pub fn unnamed<'a>(place: Place<'a>) -> Place<'a>
 }
 
 /// The place of a part that gives this name.
-pub fn naming<'a, 'b>(name: &'a [u16], place: Place<'b>) -> Place<'a>
+pub fn naming<'a, 'b>(name: &'a [u16], place: LoweringContext<'b>) -> LoweringContext<'a>
     ensures { context_of result ≡ makers.naming name.now (context_of place.entry) }
 {
-    Place {
+    LoweringContext {
         source: place.source,
         statement: place.statement,
         name,
@@ -37,10 +37,10 @@ pub fn naming<'a, 'b>(name: &'a [u16], place: Place<'b>) -> Place<'a>
 }
 
 /// The place of the parts of a statement.
-pub fn within<'a>(node: u32, place: Place<'a>) -> Place<'a>
+pub fn within<'a>(node: u32, place: LoweringContext<'a>) -> LoweringContext<'a>
     ensures { context_of result ≡ makers.within node (context_of place.entry) }
 {
-    Place {
+    LoweringContext {
         source: place.source,
         statement: node,
         name: &[],

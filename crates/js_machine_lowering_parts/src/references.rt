@@ -19,30 +19,35 @@ use std::alloc::{AllocError, Global};
 
 /// A term that is read, with its parts, or another term.
 #[derive(Drop)]
-pub enum Target {
+pub enum AssignmentTarget {
     Reference(Reference, Terms, Terms),
     Other(Term),
 }
 
 /// A term taken apart where it is read.
 #[tactic(auto, using(js_machine_terms::proofs::TermLemmas::term_laws))]
-fn target_of(alloc: Global, term: Term) -> Result<Target, AllocError>
+fn target_of(alloc: Global, term: Term) -> Result<AssignmentTarget, AllocError>
     ensures { IfOk result (λ target. IsTarget (term_view term) target) }
 {
     match term {
         Term::Part { form, now, later } => read_target(alloc, Box::into_inner(form), now, later),
-        Term::Done(value) => Ok(Target::Other(done(value))),
-        Term::Standing(value, spot) => Ok(Target::Other(standing(value, spot))),
+        Term::Done(value) => Ok(AssignmentTarget::Other(done(value))),
+        Term::Standing(value, spot) => Ok(AssignmentTarget::Other(standing(value, spot))),
     }
 }
 
 // a form with its parts, taken apart where it is read
-fn read_target(alloc: Global, form: Form, now: Terms, later: Terms) -> Result<Target, AllocError>
+fn read_target(
+    alloc: Global,
+    form: Form,
+    now: Terms,
+    later: Terms,
+) -> Result<AssignmentTarget, AllocError>
     ensures { IfOk result (λ target. IsTarget (semantics.part form (terms_view now) (terms_view later)) target) }
 {
     match form {
-        Form::Read(reference) => Ok(Target::Reference(reference, now, later)),
-        other => Ok(Target::Other(part(alloc, other, now, later)?)),
+        Form::Read(reference) => Ok(AssignmentTarget::Reference(reference, now, later)),
+        other => Ok(AssignmentTarget::Other(part(alloc, other, now, later)?)),
     }
 }
 
@@ -52,11 +57,11 @@ fn assigned_to(alloc: Global, target: Term, value: Term) -> Result<Term, AllocEr
     ensures { IfOk result (λ t. term_view t ≡ makers.assigned_to (term_view target) (term_view value)) }
 {
     match target_of(alloc, target)? {
-        Target::Reference(reference, now, _) => {
+        AssignmentTarget::Reference(reference, now, _) => {
             let now = joined(now, one(alloc, value)?)?;
             part(alloc, Form::Assign(reference), now, end(alloc))
         }
-        Target::Other(other) => Ok(other),
+        AssignmentTarget::Other(other) => Ok(other),
     }
 }
 
@@ -71,11 +76,11 @@ fn compounded(
     ensures { IfOk result (λ t. term_view t ≡ makers.compounded operator (term_view target) (term_view value)) }
 {
     match target_of(alloc, target)? {
-        Target::Reference(reference, now, _) => {
+        AssignmentTarget::Reference(reference, now, _) => {
             let later = one(alloc, value)?;
             part(alloc, Form::Compound(operator, reference), now, later)
         }
-        Target::Other(other) => Ok(other),
+        AssignmentTarget::Other(other) => Ok(other),
     }
 }
 
@@ -90,7 +95,7 @@ pub fn updated(
     ensures { IfOk result (λ t. term_view t ≡ makers.updated operator prefix (term_view target)) }
 {
     match target_of(alloc, target)? {
-        Target::Reference(reference, now, _) => {
+        AssignmentTarget::Reference(reference, now, _) => {
             part(
                 alloc,
                 Form::Update(operator, prefix, reference),
@@ -98,7 +103,7 @@ pub fn updated(
                 end(alloc),
             )
         }
-        Target::Other(other) => Ok(other),
+        AssignmentTarget::Other(other) => Ok(other),
     }
 }
 
@@ -108,10 +113,10 @@ pub fn deleted(alloc: Global, target: Term) -> Result<Term, AllocError>
     ensures { IfOk result (λ t. term_view t ≡ makers.deleted (term_view target)) }
 {
     match target_of(alloc, target)? {
-        Target::Reference(reference, now, _) => {
+        AssignmentTarget::Reference(reference, now, _) => {
             part(alloc, Form::Delete(reference), now, end(alloc))
         }
-        Target::Other(other) => Ok(other),
+        AssignmentTarget::Other(other) => Ok(other),
     }
 }
 
@@ -121,8 +126,10 @@ pub(crate) fn type_of(alloc: Global, operand: Term) -> Result<Term, AllocError>
     ensures { IfOk result (λ t. term_view t ≡ makers.type_of (term_view operand)) }
 {
     match target_of(alloc, operand)? {
-        Target::Reference(reference, now, later) => Ok(type_of_read(alloc, reference, now, later)?),
-        Target::Other(other) => Ok(type_of_value(alloc, other)?),
+        AssignmentTarget::Reference(reference, now, later) => Ok(type_of_read(
+            alloc, reference, now, later,
+        )?),
+        AssignmentTarget::Other(other) => Ok(type_of_value(alloc, other)?),
     }
 }
 
@@ -209,10 +216,10 @@ pub fn call_term(
     ensures { IfOk result (λ t. term_view t ≡ makers.call_term place node (term_view callee) (terms_view arguments)) }
 {
     match target_of(alloc, callee)? {
-        Target::Reference(reference, now, _) => {
+        AssignmentTarget::Reference(reference, now, _) => {
             part(alloc, Form::CallOf(reference, place, node), now, arguments)
         }
-        Target::Other(other) => Ok(plain_call(alloc, place, node, other, arguments)?),
+        AssignmentTarget::Other(other) => Ok(plain_call(alloc, place, node, other, arguments)?),
     }
 }
 

@@ -30,10 +30,10 @@ use Rattle.js_machine_engine.specs.declared.reduced.Reduced.{Reduced}
 use Rattle.js_machine_engine.specs.declared.reduced.Reduced.TheVariants as reduced
 use Rattle.js_machine_engine.specs.Tasks.{Wide}
 use Rattle.js_machine_engine.specs.Answers.{Reduces, reduced_move, reduced_term}
-use Rattle.js_machine_rows.specs.declared.codes.Place.{Place}
+use Rattle.js_machine_rows.specs.declared.codes.CodePlace.{CodePlace}
 use Rattle.js_machine_nodes.specs.declared.node.FunctionEntry.{FunctionEntry}
 use Rattle.js_machine_rows.specs.Codes.{code_at, placed_code}
-use Rattle.js_machine_rows.specs.Calls.{entry_code, Called, called_of, called, call_scope, ActsOn, ActsIn, ActsOf, ActsAlways, ActsAnywhere, EntersFrame, entered_within}
+use Rattle.js_machine_rows.specs.Calls.{entry_code, CalleeView, called_of, called, call_scope, ActsOn, ActsIn, ActsOf, ActsAlways, ActsAnywhere, EntersFrame, entered_within}
 use Rattle.js_machine_rows.specs.Does.{Does, stopped, replied}
 use Rattle.js_machine_rows.proofs.AnswerLemmas.{stops-does, replies-by}
 use Rattle.js_semantics.proofs.DepthLemmas.{moved-length}
@@ -151,16 +151,16 @@ acts-by ts t f g v c q w d h k =
     λ e taken. let P : Action → Type 0 = λ a. Does ts t e a (state_of v c taken) q (state_of w d taken) in
     subst P (sym (h (state_of v c taken))) (k e taken)
 
-pub code-none : (ts : List (List ℕ)) (t : NodeTable) (p : Option Place) → p ≡ None → code_at ts t p ≡ None
+pub code-none : (ts : List (List ℕ)) (t : NodeTable) (p : Option CodePlace) → p ≡ None → code_at ts t p ≡ None
 code-none ts t p h = ap (λ x. code_at ts t x) h
 
-pub code-missing : (ts : List (List ℕ)) (t : NodeTable) (p : Option Place) (x : Place)
+pub code-missing : (ts : List (List ℕ)) (t : NodeTable) (p : Option CodePlace) (x : CodePlace)
     → p ≡ Some x
     → None ≡ slice_get t.functions.items x.number
     → code_at ts t p ≡ None
 code-missing ts t p x h g = ap (λ y. code_at ts t y) h ∙ ap (λ o. placed_code ts t x o) (sym g)
 
-pub code-there : (ts : List (List ℕ)) (t : NodeTable) (p : Option Place) (x : Place) (f : FunctionEntry)
+pub code-there : (ts : List (List ℕ)) (t : NodeTable) (p : Option CodePlace) (x : CodePlace) (f : FunctionEntry)
     → p ≡ Some x
     → Some f ≡ slice_get t.functions.items x.number
     → code_at ts t p ≡ Some (entry_code ts t x f)
@@ -301,7 +301,7 @@ cell_called p s a (Some (cells.Function (code.Script number node) n l o made)) g
 cell_called p s a (Some (cells.Function (code.Kept at node) n l o made)) given args = refl
 
 pub cell-acts : (ts : List (List ℕ)) (t : NodeTable) (p : Program) (args : List Value) (a : Addr) (cell : Option Cell)
-    (k : Option Called) (given : Value) (v : World) (c : Context) (q : Reduced) (w : World) (d : Context)
+    (k : Option CalleeView) (given : Value) (v : World) (c : Context) (q : Reduced) (w : World) (d : Context)
     → k ≡ called_of cell →
     ActsIn ts t args (λ s. called p s a k given args) v c q w d
     → ActsIn ts t args (λ s. call_cell p s a cell given args) v c q w d

@@ -8,7 +8,7 @@ use Rattle.js_heap.specs.World.{World}
 use Rattle.js_semantics.specs.declared.form.Form.{Form}
 use Rattle.js_semantics.specs.declared.form.Form.TheVariants as forms
 use Rattle.js_semantics.specs.declared.form.Completion.TheVariants.{Throws as throws}
-use Rattle.js_semantics.specs.declared.form.Spot.{Spot}
+use Rattle.js_semantics.specs.declared.form.SourceMark.{SourceMark}
 use Rattle.js_semantics.specs.declared.form.Stage.TheVariants as stages
 use Rattle.js_semantics.specs.State.{State, with_world, make, give}
 use Rattle.js_semantics.specs.Functions.{function_row}
@@ -342,7 +342,7 @@ rest-row ts t form vs from outer v w c before r (Some ms) h i g =
 -- ---- catches
 
 catch-by : (ts : List (List ℕ)) (t : NodeTable) (form : Redex) (vs : List Value) (name : Option (List ℕ)) (outer : Addr)
-    (thrown : Value) (place : Spot) (v w : World) (c : Context) (before : List (List ℕ)) (r : Reduced)
+    (thrown : Value) (place : SourceMark) (v w : World) (c : Context) (before : List (List ℕ)) (r : Reduced)
     → task_form ts t (redex form vs None) ≡ forms.Catching name →
     RepliesOver ts t (catch_row form.inner name thrown (trees ts t form.mid form.end)) v r w
     → CatchOf ts t (redex form vs None) outer thrown place (state_of v c before) r (state_of w c before)
@@ -358,7 +358,7 @@ catch-by ts t form vs name outer thrown place v w c before r h g = λ k.
     subst Q (sym h) (subst P o (g e (state_of v c before)))
 
 pub nameless-catch : (ts : List (List ℕ)) (t : NodeTable) (form : Redex) (vs : List Value) (outer : Addr)
-    (thrown : Value) (place : Spot) (v : World) (c : Context) (before : List (List ℕ)) (r : Reduced)
+    (thrown : Value) (place : SourceMark) (v : World) (c : Context) (before : List (List ℕ)) (r : Reduced)
     → form.op ≡ ops.Catching →
     ((u : Value) → RepliesInside t (λ us. catch_row form.inner None u (trees us t form.mid form.end)) r)
     → CatchOf ts t (redex form vs None) outer thrown place (state_of v c before) r (state_of v c before)
@@ -368,7 +368,7 @@ nameless-catch ts t form vs outer thrown place v c before r h g =
     (λ e s. g thrown ts e (with_world s v))
 
 pub named-catch : (ts : List (List ℕ)) (t : NodeTable) (form : Redex) (vs : List Value) (outer : Addr) (thrown : Value)
-    (place : Spot) (v w : World) (c : Context) (before : List (List ℕ)) (r : Reduced)
+    (place : SourceMark) (v w : World) (c : Context) (before : List (List ℕ)) (r : Reduced)
     → form.op ≡ ops.CatchingName →
     RepliesOver ts t (catch_row form.inner (Some (name_of ts form.info)) thrown (trees ts t form.mid form.end)) v r w
     → CatchOf ts t (redex form vs None) outer thrown place (state_of v c before) r (state_of w c before)

@@ -18,44 +18,44 @@ use Rattle.js_machine_nodes.specs.Trees.{tree, trees}
 use Rattle.js_machine_actions.specs.Contexts.{Context, state_of}
 use Rattle.js_machine_engine.specs.declared.reduced.Reduced.{Reduced}
 use Rattle.js_machine_engine.specs.Tasks.{Wide}
-use Rattle.js_machine_rows.specs.declared.codes.Place.{Place}
+use Rattle.js_machine_rows.specs.declared.codes.CodePlace.{CodePlace}
 use Rattle.js_machine_rows.specs.declared.calls.Callee.{Callee}
 use Rattle.js_machine_rows.specs.Does.{Does}
 
 -- what a call needs of a function's cell
-pub record Called : Type 0 where
+pub record CalleeView : Type 0 where
   pub code : Code
   pub name : List ℕ
   pub outer : Option Addr
   pub made : Value
 
 -- what a call needs of this cell, where it is a function's
-abbrev pub called_of : Option Cell → Option Called
+abbrev pub called_of : Option Cell → Option CalleeView
 called_of (Some (cells.Function c n l outer made)) = Some (record { code = c; name = n; outer = outer; made = made })
 called_of _ = None
 
 -- what a call needs of a callee, by what code keeps of it
-abbrev pub view_of : List (List ℕ) → Callee → Called
+abbrev pub view_of : List (List ℕ) → Callee → CalleeView
 view_of ts c = record { code = c.code; name = name_text ts c.name; outer = c.outer; made = c.this }
 
 -- what a call needs of a callee, where one was found
-abbrev pub callee_view : List (List ℕ) → Option Callee → Option Called
+abbrev pub callee_view : List (List ℕ) → Option Callee → Option CalleeView
 callee_view ts None = None
 callee_view ts (Some c) = Some (view_of ts c)
 
 -- a callee is called, as `call_cell` calls a function's cell; its length isn't needed
-abbrev pub callee_called : Program → State → Addr → Called → Value → List Value → Action
+abbrev pub callee_called : Program → State → Addr → CalleeView → Value → List Value → Action
 callee_called p s a c given args = call_cell p s a (Some (cells.Function c.code c.name 0 c.outer c.made)) given args
 
 -- a callee is called where one was found; anything else is not a function
-abbrev pub called : Program → State → Addr → Option Called → Value → List Value → Action
+abbrev pub called : Program → State → Addr → Option CalleeView → Value → List Value → Action
 called p s a (Some c) given args = callee_called p s a c given args
 called p s a None given args = not_a_function
 
 -- ---- entering
 
 -- the code of an entry whose body and functions are there
-abbrev pub entry_code : List (List ℕ) → NodeTable → Place → FunctionEntry → FunctionCode
+abbrev pub entry_code : List (List ℕ) → NodeTable → CodePlace → FunctionEntry → FunctionCode
 entry_code ts t p f = record { form = function_of ts f; body = tree ts t p.body; functions = trees ts t p.first p.end }
 
 -- the scope of a call, with its functions

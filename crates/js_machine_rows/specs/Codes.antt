@@ -7,16 +7,16 @@ use Rattle.js_machine_nodes.specs.Codes.{code_of_node}
 use Rattle.js_machine_nodes.specs.declared.table.NodeTable.{NodeTable}
 use Rattle.js_machine_nodes.specs.Forms.{function_of}
 use Rattle.js_machine_nodes.specs.Trees.{tree, trees}
-use Rattle.js_machine_rows.specs.declared.codes.Place.{Place}
+use Rattle.js_machine_rows.specs.declared.codes.CodePlace.{CodePlace}
 
 -- the code of an entry with the places of its parts, where the table has that entry
-abbrev pub placed_code : List (List ℕ) → NodeTable → Place → Option FunctionEntry → Option FunctionCode
+abbrev pub placed_code : List (List ℕ) → NodeTable → CodePlace → Option FunctionEntry → Option FunctionCode
 placed_code ts t p None = None
 placed_code ts t p (Some f) =
     Some (record { form = function_of ts f; body = tree ts t p.body; functions = trees ts t p.first p.end })
 
 -- the code at a place
-abbrev pub code_at : List (List ℕ) → NodeTable → Option Place → Option FunctionCode
+abbrev pub code_at : List (List ℕ) → NodeTable → Option CodePlace → Option FunctionCode
 code_at ts t None = None
 code_at ts t (Some p) = placed_code ts t p (slice_get t.functions.items p.number)
 

@@ -10,7 +10,7 @@ use crate::answers::{assigning, calling};
 use crate::reading::{index_value, member_value, name_value};
 use crate::values::value_at;
 use js_heap::value::{Addr, Value};
-use js_heap_memory::names::{NameId, Names};
+use js_heap_memory::names::{NameId, NameTable};
 use js_heap_memory::world::World;
 use js_machine_engine::reduced::Reduced;
 use std::alloc::Global;
@@ -22,7 +22,7 @@ use std::alloc::Global;
 pub fn callee_of_name<W: World>(
     alloc: Global,
     world: &mut W,
-    names: &Names,
+    names: &NameTable,
     scope: Addr,
     name: NameId,
 ) -> Reduced
@@ -36,7 +36,7 @@ pub fn callee_of_name<W: World>(
 pub fn callee_of_member<W: World>(
     alloc: Global,
     world: &mut W,
-    names: &Names,
+    names: &NameTable,
     values: &[Value],
     key: NameId,
 ) -> Reduced
@@ -53,7 +53,7 @@ pub fn callee_of_member<W: World>(
 pub fn callee_of_index<W: World>(
     alloc: Global,
     world: &mut W,
-    names: &Names,
+    names: &NameTable,
     values: &[Value],
 ) -> Reduced
     ensures { CallsIt names.now (index_result (W.world names.now world.old) values.now) (W.world names.now world.old) result (W.world names.now world.new) }
@@ -74,7 +74,7 @@ pub fn callee_of_index<W: World>(
 pub fn old_of_name<W: World>(
     alloc: Global,
     world: &mut W,
-    names: &Names,
+    names: &NameTable,
     scope: Addr,
     name: NameId,
 ) -> Reduced
@@ -88,7 +88,7 @@ pub fn old_of_name<W: World>(
 pub fn old_of_member<W: World>(
     alloc: Global,
     world: &mut W,
-    names: &Names,
+    names: &NameTable,
     values: &[Value],
     key: NameId,
 ) -> Reduced
@@ -105,7 +105,7 @@ pub fn old_of_member<W: World>(
 pub fn old_of_index<W: World>(
     alloc: Global,
     world: &mut W,
-    names: &Names,
+    names: &NameTable,
     values: &[Value],
 ) -> Reduced
     ensures { AssignsIt names.now (index_result (W.world names.now world.old) values.now) (W.world names.now world.old) result (W.world names.now world.new) }

@@ -13,13 +13,13 @@ ghost use Rattle.js_machine_rows.specs.Codes.{code_at};
 ghost use Rattle.js_machine_rows.specs.Calls.{called_of, callee_view, view_of, callee_called, entry_code, call_scope, entered_within, ActsOn, ActsIn, ActsOf, ActsAlways, ActsAnywhere, EntersFrame};
 
 use crate::answers::{replied, stopped};
-use crate::codes::{Place, function_at};
+use crate::codes::{CodePlace, function_at};
 use crate::declared::with_functions;
 use crate::entries::function_entry;
 use js_heap::built_in::{BuiltIn, Code, ErrorClass};
 use js_heap::cell::ScopeKind;
 use js_heap::value::{Addr, Value};
-use js_heap_memory::names::Names;
+use js_heap_memory::names::NameTable;
 use js_heap_memory::slots::call_slots;
 use js_heap_memory::stored::{FunctionName, Slots, Stored};
 use js_heap_memory::world::World;
@@ -51,7 +51,7 @@ pub struct Callee {
 /// The TypeError of a callee that is no function.
 #[cold]
 #[inline(never)]
-fn not_a_function<W: World>(alloc: Global, world: &mut W, names: &Names) -> ActionEnd
+fn not_a_function<W: World>(alloc: Global, world: &mut W, names: &NameTable) -> ActionEnd
     ensures { Ends not_a_function (W.world names.now world.old) result (W.world names.now world.new) }
 {
     fail_with(
@@ -66,7 +66,7 @@ fn not_a_function<W: World>(alloc: Global, world: &mut W, names: &Names) -> Acti
 /// The RangeError of one frame too many.
 #[cold]
 #[inline(never)]
-fn too_deep<W: World>(alloc: Global, world: &mut W, names: &Names) -> ActionEnd
+fn too_deep<W: World>(alloc: Global, world: &mut W, names: &NameTable) -> ActionEnd
     ensures { Ends too_deep (W.world names.now world.old) result (W.world names.now world.new) }
 {
     fail_with(
@@ -84,9 +84,9 @@ fn too_deep<W: World>(alloc: Global, world: &mut W, names: &Names) -> ActionEnd
 fn call_scope<W: World>(
     alloc: Global,
     table: &NodeTable,
-    names: &Names,
+    names: &NameTable,
     world: &mut W,
-    place: Place,
+    place: CodePlace,
     entry: &FunctionEntry,
     name: FunctionName,
     outer: Addr,
@@ -136,7 +136,7 @@ fn callee_of(alloc: Global, cell: Option<&Stored>) -> Result<Option<Callee>, All
 
 /// A function of a source that is entered, with its `this`.
 #[derive(Drop)]
-pub struct Entry {
+pub struct EnteredFunction {
     pub source: Source,
     pub function: Addr,
     pub name: FunctionName,
@@ -172,17 +172,17 @@ fn enter_frame(
 fn enter<W: World>(
     alloc: Global,
     table: &NodeTable,
-    names: &Names,
+    names: &NameTable,
     context: &mut Context,
     world: &mut W,
-    place: Place,
+    place: CodePlace,
     code: &FunctionEntry,
-    entry: Entry,
+    entry: EnteredFunction,
     arguments: &[Value],
 ) -> Reduced
     ensures { ActsAlways names.now table.now (λ s. entered (entry_code names.now table.now place code.now) entry.source entry.function (name_text names.now entry.name) entry.outer entry.receiver arguments.now) (W.world names.now world.old) context.old result (W.world names.now world.new) context.new }
 {
-    let Entry {
+    let EnteredFunction {
         source,
         function,
         name,
@@ -211,12 +211,12 @@ fn called_this(is_arrow: bool, made: Value, given: Value) -> Value
 fn call_entry<W: World>(
     alloc: Global,
     table: &NodeTable,
-    names: &Names,
+    names: &NameTable,
     context: &mut Context,
     world: &mut W,
-    place: Place,
+    place: CodePlace,
     code: &FunctionEntry,
-    entry: Entry,
+    entry: EnteredFunction,
     arguments: &[Value],
 ) -> Reduced
     ensures { ActsAlways names.now table.now (λ s. entered_within s (entry_code names.now table.now place code.now) entry.source entry.function (name_text names.now entry.name) entry.outer entry.receiver arguments.now) (W.world names.now world.old) context.old result (W.world names.now world.new) context.new }
@@ -234,10 +234,10 @@ fn call_entry<W: World>(
 fn call_code<W: World>(
     alloc: Global,
     table: &NodeTable,
-    names: &Names,
+    names: &NameTable,
     context: &mut Context,
     world: &mut W,
-    place: Option<Place>,
+    place: Option<CodePlace>,
     source: Source,
     function: Addr,
     callee: Callee,
@@ -257,7 +257,7 @@ fn call_code<W: World>(
             Some(code) => match outer {
                 Some(outer) => {
                     let receiver = called_this(code.is_arrow, this, receiver);
-                    let entry = Entry {
+                    let entry = EnteredFunction {
                         source,
                         function,
                         name,
@@ -281,7 +281,7 @@ fn call_code<W: World>(
 /// `console.log` prints its arguments.
 fn log<W: World>(
     alloc: Global,
-    names: &Names,
+    names: &NameTable,
     context: &mut Context,
     world: &W,
     arguments: &[Value],
@@ -298,7 +298,7 @@ fn log<W: World>(
 }
 
 /// `readline` takes the next line of the input.
-fn read_line<W: World>(names: &Names, context: &mut Context, world: &mut W) -> Reduced
+fn read_line<W: World>(names: &NameTable, context: &mut Context, world: &mut W) -> Reduced
     ensures { ActsAnywhere names.now (λ s. take_line line_value) (W.world names.now world.old) context.old result (W.world names.now world.new) context.new }
 {
     match context.take_line(world, names) {
@@ -310,7 +310,7 @@ fn read_line<W: World>(names: &Names, context: &mut Context, world: &mut W) -> R
 /// Calls a built-in function.
 fn call_built_in<W: World>(
     alloc: Global,
-    names: &Names,
+    names: &NameTable,
     context: &mut Context,
     world: &mut W,
     f: BuiltIn,
@@ -332,7 +332,7 @@ fn call_built_in<W: World>(
 fn call_callee<W: World>(
     alloc: Global,
     table: &NodeTable,
-    names: &Names,
+    names: &NameTable,
     context: &mut Context,
     world: &mut W,
     function: Addr,
@@ -368,7 +368,7 @@ fn call_callee<W: World>(
 fn call_at<W: World>(
     alloc: Global,
     table: &NodeTable,
-    names: &Names,
+    names: &NameTable,
     context: &mut Context,
     world: &mut W,
     function: Addr,
@@ -391,7 +391,7 @@ fn call_at<W: World>(
 fn call_value<W: World>(
     alloc: Global,
     table: &NodeTable,
-    names: &Names,
+    names: &NameTable,
     context: &mut Context,
     world: &mut W,
     callee: Value,
@@ -412,7 +412,7 @@ fn call_value<W: World>(
 pub fn call<W: World>(
     alloc: Global,
     table: &NodeTable,
-    names: &Names,
+    names: &NameTable,
     context: &mut Context,
     world: &mut W,
     place: Mark,

@@ -15,7 +15,7 @@ use js_semantics::form::Source;
 
 /// Where a function's code is: the number of its entry, its body, and where the functions begin and end that its body declares.
 #[derive(Clone, Copy)]
-pub struct Place {
+pub struct CodePlace {
     pub number: u32,
     pub body: u32,
     pub first: u32,
@@ -23,11 +23,11 @@ pub struct Place {
 }
 
 /// The code of the entry of a number whose node is this one.
-fn place_of_node(table: &NodeTable, number: u32, node: Node) -> Option<Place>
+fn place_of_node(table: &NodeTable, number: u32, node: Node) -> Option<CodePlace>
     ensures { (ts : List (List ℕ)) → code_at ts table.now result ≡ code_placed ts table.now node (slice_get table.now.functions.items number) }
 {
     match part_at(table, node.mid, node.end, 0) {
-        Some(body) => Some(Place {
+        Some(body) => Some(CodePlace {
             number,
             body,
             first: node.mid + 1,
@@ -38,7 +38,7 @@ fn place_of_node(table: &NodeTable, number: u32, node: Node) -> Option<Place>
 }
 
 /// The code of an entry.
-fn place_of_entry(table: &NodeTable, number: u32) -> Option<Place>
+fn place_of_entry(table: &NodeTable, number: u32) -> Option<CodePlace>
     ensures { (ts : List (List ℕ)) → code_at ts table.now result ≡ code_of_entry ts table.now (slice_get table.now.functions.items number) }
 {
     match function_entry(table, number) {
@@ -58,7 +58,7 @@ fn number_of(entry: &SourceEntry, node: u32) -> Option<u32>
 }
 
 /// The code of the function of a node, as the source's index has it.
-fn indexed(table: &NodeTable, entry: &SourceEntry, node: u32) -> Option<Place>
+fn indexed(table: &NodeTable, entry: &SourceEntry, node: u32) -> Option<CodePlace>
     ensures { (ts : List (List ℕ)) → code_at ts table.now result ≡ indexed_code ts table.now entry.now node }
 {
     match number_of(entry, node) {
@@ -80,7 +80,7 @@ fn same_source(first: Source, second: Source) -> bool
 }
 
 /// The code of the function of a node of a source.
-pub fn function_at(table: &NodeTable, source: Source, node: u32) -> Option<Place>
+pub fn function_at(table: &NodeTable, source: Source, node: u32) -> Option<CodePlace>
     requires { HasFunctions table.now }
     ensures { (ts : List (List ℕ)) → code_at ts table.now result ≡ function_at (program_of ts table.now) source node }
 {

@@ -12,7 +12,7 @@ ghost use Rattle.js_machine_rows.specs.Declaring.{is_function_op, declared, decl
 use crate::entries::function_entry;
 use crate::parts::parts_between;
 use js_heap::value::Addr;
-use js_heap_memory::names::Names;
+use js_heap_memory::names::NameTable;
 use js_heap_memory::world::World;
 use js_machine_actions::action_end::ActionEnd;
 use js_machine_actions::functions::declared_function;
@@ -25,7 +25,7 @@ use std::alloc::Global;
 fn declare_entry<W: World>(
     alloc: Global,
     world: &mut W,
-    names: &Names,
+    names: &NameTable,
     scope: Addr,
     entry: &FunctionEntry,
 ) -> Result<(), ActionEnd>
@@ -67,7 +67,7 @@ fn entry_of_part(table: &NodeTable, part: u32) -> Option<&FunctionEntry>
 fn with_function<W: World>(
     alloc: Global,
     world: &mut W,
-    names: &Names,
+    names: &NameTable,
     table: &NodeTable,
     scope: Addr,
     part: u32,
@@ -85,7 +85,7 @@ fn with_function<W: World>(
 pub fn with_functions<W: World>(
     alloc: Global,
     world: &mut W,
-    names: &Names,
+    names: &NameTable,
     table: &NodeTable,
     scope: Addr,
     from: u32,

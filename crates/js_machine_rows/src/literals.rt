@@ -28,7 +28,7 @@ use crate::parts::part_at;
 use cdp_text::units::Units;
 use js_heap::cell::Values;
 use js_heap::value::{Addr, Value};
-use js_heap_memory::names::Names;
+use js_heap_memory::names::NameTable;
 use js_heap_memory::properties::PropertyMap;
 use js_heap_memory::stored::FunctionName;
 use js_heap_memory::world::World;
@@ -40,7 +40,7 @@ use js_machine_actions::errors::bad_key;
 use js_machine_actions::functions::{make_function, named_function};
 use js_machine_actions::lists::last_of;
 use js_machine_actions::objects::object_or_fail;
-use js_machine_actions::seen::Seen;
+use js_machine_actions::seen::NamedWorld;
 use js_machine_engine::reduced::Reduced;
 use js_machine_engine::task::Redex;
 use js_machine_nodes::node::{FunctionEntry, MemberEntry};
@@ -53,7 +53,7 @@ use std::alloc::{AllocError, Global};
 /// A new array with these elements.
 fn array_of<W: World>(
     alloc: Global,
-    names: &Names,
+    names: &NameTable,
     world: &mut W,
     values: &[Value],
 ) -> Result<Value, ActionEnd>
@@ -64,7 +64,7 @@ fn array_of<W: World>(
 }
 
 /// An array literal (ECMA-262, 13.2.4).
-pub fn array<W: World>(alloc: Global, names: &Names, world: &mut W, values: &[Value]) -> Reduced
+pub fn array<W: World>(alloc: Global, names: &NameTable, world: &mut W, values: &[Value]) -> Reduced
     ensures { Replies names.now (make (cells.Array values.now) (λ a. give (value.Object a))) (W.world names.now world.old) result (W.world names.now world.new) }
 {
     replied(array_of(alloc, names, world, values))
@@ -96,7 +96,7 @@ fn receiver_of(entry: &FunctionEntry, this: Value) -> Value
 /// Makes a function without a name of its own.
 fn nameless_function<W: World>(
     alloc: Global,
-    names: &Names,
+    names: &NameTable,
     world: &mut W,
     scope: Addr,
     entry: &FunctionEntry,
@@ -114,7 +114,7 @@ fn nameless_function<W: World>(
 /// Makes a function with a scope that has its own name.
 fn own_function<W: World>(
     alloc: Global,
-    names: &Names,
+    names: &NameTable,
     world: &mut W,
     scope: Addr,
     entry: &FunctionEntry,
@@ -128,7 +128,7 @@ fn own_function<W: World>(
 /// Makes a function without a name of its own, with this `this`.
 fn plain_function<W: World>(
     alloc: Global,
-    names: &Names,
+    names: &NameTable,
     world: &mut W,
     scope: Addr,
     entry: &FunctionEntry,
@@ -143,7 +143,7 @@ fn plain_function<W: World>(
 /// Makes the function of an entry, in a frame with this `this`.
 fn made_function<W: World>(
     alloc: Global,
-    names: &Names,
+    names: &NameTable,
     world: &mut W,
     scope: Addr,
     entry: &FunctionEntry,
@@ -162,7 +162,7 @@ fn made_function<W: World>(
 /// The function of an entry, made in the active frame.
 fn function_with<W: World>(
     alloc: Global,
-    names: &Names,
+    names: &NameTable,
     context: &Context,
     world: &mut W,
     scope: Addr,
@@ -178,7 +178,7 @@ fn function_with<W: World>(
 pub fn function<W: World>(
     alloc: Global,
     table: &NodeTable,
-    names: &Names,
+    names: &NameTable,
     context: &Context,
     world: &mut W,
     form: Redex,
@@ -196,7 +196,7 @@ pub fn function<W: World>(
 /// The properties of an object literal in order; none where a computed key is no key (13.2.5).
 fn properties_from<W: World>(
     alloc: Global,
-    names: &Names,
+    names: &NameTable,
     world: &W,
     members: &[MemberEntry],
     values: &[Value],
@@ -212,7 +212,7 @@ fn properties_from<W: World>(
                 rest = others;
             }
             (MemberEntry::Computed, [key, value, others @ ..]) => {
-                let Some(key) = key_of(alloc, &Seen { names, world }, *key)? else {
+                let Some(key) = key_of(alloc, &NamedWorld { names, world }, *key)? else {
                     return Ok(None);
                 };
                 properties.put(key.as_slice(), *value)?;
@@ -227,7 +227,7 @@ fn properties_from<W: World>(
 /// Makes the object of an object literal of values.
 fn object_of<W: World>(
     alloc: Global,
-    names: &Names,
+    names: &NameTable,
     world: &mut W,
     members: &[MemberEntry],
     values: &[Value],
@@ -243,7 +243,7 @@ fn object_of<W: World>(
 /// Makes a method with this key.
 fn keyed_method<W: World>(
     alloc: Global,
-    names: &Names,
+    names: &NameTable,
     world: &mut W,
     scope: Addr,
     entry: &FunctionEntry,
@@ -262,7 +262,7 @@ fn keyed_method<W: World>(
 /// Makes a method with the key that a value is (15.4.4).
 fn made_method<W: World>(
     alloc: Global,
-    names: &Names,
+    names: &NameTable,
     world: &mut W,
     scope: Addr,
     entry: &FunctionEntry,
@@ -270,7 +270,7 @@ fn made_method<W: World>(
 ) -> Result<Addr, ActionEnd>
     ensures { Yields (method_made (key_of (W.world names.now world.old) key) (function_of names.now entry.now) scope) (W.world names.now world.old) result (W.world names.now world.new) }
 {
-    let seen = Seen {
+    let seen = NamedWorld {
         names,
         world: &*world,
     };
@@ -293,7 +293,7 @@ fn adds_in(outcome: Result<Addr, ActionEnd>) -> Reduced
 /// An object literal before a method with a computed key: the last value is the key.
 fn before_method<W: World>(
     alloc: Global,
-    names: &Names,
+    names: &NameTable,
     world: &mut W,
     scope: Addr,
     entry: &FunctionEntry,
@@ -308,7 +308,7 @@ fn before_method<W: World>(
 fn before_form<W: World>(
     alloc: Global,
     table: &NodeTable,
-    names: &Names,
+    names: &NameTable,
     world: &mut W,
     scope: Addr,
     op: Op,
@@ -330,7 +330,7 @@ fn before_form<W: World>(
 fn before_part<W: World>(
     alloc: Global,
     table: &NodeTable,
-    names: &Names,
+    names: &NameTable,
     world: &mut W,
     scope: Addr,
     part: u32,
@@ -350,7 +350,7 @@ fn before_part<W: World>(
 fn object_with<W: World>(
     alloc: Global,
     table: &NodeTable,
-    names: &Names,
+    names: &NameTable,
     world: &mut W,
     form: Redex,
     from: u32,
@@ -380,7 +380,7 @@ fn members_entry(table: &NodeTable, number: u32) -> Option<&[MemberEntry]>
 pub fn object<W: World>(
     alloc: Global,
     table: &NodeTable,
-    names: &Names,
+    names: &NameTable,
     world: &mut W,
     form: Redex,
     from: u32,

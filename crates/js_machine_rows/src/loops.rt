@@ -24,7 +24,7 @@ use crate::statements::only;
 use js_heap::built_in::ErrorClass;
 use js_heap::cell::ScopeKind;
 use js_heap::value::{Addr, Value};
-use js_heap_memory::names::Names;
+use js_heap_memory::names::NameTable;
 use js_heap_memory::stored::{Slot, Stored};
 use js_heap_memory::world::World;
 use js_heap_operators::values::is_truthy;
@@ -33,7 +33,7 @@ use js_machine_actions::context::Context;
 use js_machine_actions::errors::fail_with;
 use js_machine_actions::functions::copied;
 use js_machine_actions::lists::is_array;
-use js_machine_actions::seen::Seen;
+use js_machine_actions::seen::NamedWorld;
 use js_machine_engine::reduced::Reduced;
 use js_machine_engine::task::Redex;
 use js_machine_nodes::node::{ForEntry, ForOfEntry};
@@ -57,10 +57,10 @@ fn tested(test: bool) -> Reduced
 
 /// A loop at its test (ECMA-262, 14.7).
 #[inline(always)]
-pub fn loop_test<W: World>(names: &Names, world: &W, values: &[Value]) -> Reduced
+pub fn loop_test<W: World>(names: &NameTable, world: &W, values: &[Value]) -> Reduced
     ensures { (t : AnyTable) (e : AnyWide) → DoesIn names.now t e (loop_row (W.world names.now world.now) stages.Testing (own_scope e) values.now (later_of names.now t e)) (W.world names.now world.now) result (W.world names.now world.now) }
 {
-    tested(is_truthy(&Seen { names, world }, only(values)))
+    tested(is_truthy(&NamedWorld { names, world }, only(values)))
 }
 
 /// A test in a new scope that is made.
@@ -86,7 +86,7 @@ fn updates_in(outcome: Result<Addr, ActionEnd>) -> Reduced
 /// A loop behind its initialiser: where it has a scope for each turn, the first one (14.7.4.4).
 pub fn loop_first<W: World>(
     alloc: Global,
-    names: &Names,
+    names: &NameTable,
     world: &mut W,
     info: u32,
     inner: Addr,
@@ -102,7 +102,7 @@ pub fn loop_first<W: World>(
 /// A loop behind its body: where it has a scope for each turn, the next one.
 pub fn loop_body<W: World>(
     alloc: Global,
-    names: &Names,
+    names: &NameTable,
     world: &mut W,
     info: u32,
     inner: Addr,
@@ -130,7 +130,7 @@ fn initializes_in(outcome: Result<Addr, ActionEnd>, constant: bool) -> Reduced
 /// Entering the `for` of an entry.
 fn enter_for_with<W: World>(
     alloc: Global,
-    names: &Names,
+    names: &NameTable,
     context: &mut Context,
     world: &mut W,
     scope: Addr,
@@ -148,7 +148,7 @@ fn enter_for_with<W: World>(
 pub fn enter_for<W: World>(
     alloc: Global,
     table: &NodeTable,
-    names: &Names,
+    names: &NameTable,
     context: &mut Context,
     world: &mut W,
     form: Redex,
@@ -177,7 +177,7 @@ fn lists_in(outcome: Result<Addr, ActionEnd>) -> Reduced
 fn enter_for_of_with<W: World>(
     alloc: Global,
     table: &NodeTable,
-    names: &Names,
+    names: &NameTable,
     context: &mut Context,
     world: &mut W,
     form: Redex,
@@ -205,7 +205,7 @@ fn enter_for_of_with<W: World>(
 pub fn enter_for_of<W: World>(
     alloc: Global,
     table: &NodeTable,
-    names: &Names,
+    names: &NameTable,
     context: &mut Context,
     world: &mut W,
     form: Redex,
@@ -222,7 +222,7 @@ pub fn enter_for_of<W: World>(
 fn list_with<W: World>(
     alloc: Global,
     table: &NodeTable,
-    names: &Names,
+    names: &NameTable,
     world: &mut W,
     form: Redex,
     entry: ForOfEntry,
@@ -248,7 +248,7 @@ fn list_with<W: World>(
 pub fn list_of<W: World>(
     alloc: Global,
     table: &NodeTable,
-    names: &Names,
+    names: &NameTable,
     world: &mut W,
     form: Redex,
     values: &[Value],
@@ -272,7 +272,7 @@ fn element_of(cell: Option<&Stored>, index: u32) -> Option<Value>
 }
 
 /// The element at an index of a list.
-fn element_at<W: World>(names: &Names, world: &W, list: Value, index: u32) -> Option<Value>
+fn element_at<W: World>(names: &NameTable, world: &W, list: Value, index: u32) -> Option<Value>
     ensures { result ≡ elements_of (W.world names.now world.now) (one (done list)) index }
 {
     match list {
@@ -306,7 +306,7 @@ fn iterated_in(outcome: Result<Addr, ActionEnd>) -> Reduced
 fn turn_with<W: World>(
     alloc: Global,
     table: &NodeTable,
-    names: &Names,
+    names: &NameTable,
     world: &mut W,
     form: Redex,
     entry: ForOfEntry,
@@ -328,7 +328,7 @@ fn turn_with<W: World>(
 pub fn turn_of<W: World>(
     alloc: Global,
     table: &NodeTable,
-    names: &Names,
+    names: &NameTable,
     world: &mut W,
     form: Redex,
     list: Value,

@@ -12,7 +12,7 @@ ghost use Rattle.js_machine_rows.specs.Quick.{slot_value, open_slot};
 use crate::answers::{replied, replied_with};
 use js_heap::value::{Addr, Value};
 use js_heap_memory::lookup::lookup;
-use js_heap_memory::names::{NameId, Names};
+use js_heap_memory::names::{NameId, NameTable};
 use js_heap_memory::stored::FoundSlot;
 use js_heap_memory::world::World;
 use js_machine_actions::cells::bind_at;
@@ -35,7 +35,12 @@ fn slot_value(found: Option<FoundSlot>) -> Option<Value>
 
 /// The value of a name; none where it isn't defined or has no value yet (ECMA-262, 9.1.1.1.6).
 #[inline(always)]
-pub fn value_of_name<W: World>(world: &W, names: &Names, scope: Addr, name: NameId) -> Option<Value>
+pub fn value_of_name<W: World>(
+    world: &W,
+    names: &NameTable,
+    scope: Addr,
+    name: NameId,
+) -> Option<Value>
     ensures { IfSome result (λ v. value_of_found (name_of names.now name.number) (found (W.world names.now world.now) scope (name_of names.now name.number)) ≡ a_value v) }
 {
     slot_value(lookup(world, names, scope, name))
@@ -47,7 +52,7 @@ pub fn value_of_name<W: World>(world: &W, names: &Names, scope: Addr, name: Name
 fn read_name_slowly<W: World>(
     alloc: Global,
     world: &mut W,
-    names: &Names,
+    names: &NameTable,
     scope: Addr,
     name: NameId,
 ) -> Reduced
@@ -62,7 +67,7 @@ fn read_name_slowly<W: World>(
 pub fn read_name<W: World>(
     alloc: Global,
     world: &mut W,
-    names: &Names,
+    names: &NameTable,
     scope: Addr,
     name: NameId,
 ) -> Reduced
@@ -78,7 +83,7 @@ pub fn read_name<W: World>(
 pub fn typeof_name<W: World>(
     alloc: Global,
     world: &mut W,
-    names: &Names,
+    names: &NameTable,
     scope: Addr,
     name: NameId,
 ) -> Reduced
@@ -112,7 +117,7 @@ pub fn open_slot(found: Option<FoundSlot>) -> Option<FoundSlot>
 fn assign_name_slowly<W: World>(
     alloc: Global,
     world: &mut W,
-    names: &Names,
+    names: &NameTable,
     scope: Addr,
     name: NameId,
     value: Value,
@@ -127,7 +132,7 @@ fn assign_name_slowly<W: World>(
 pub fn assign_name<W: World>(
     alloc: Global,
     world: &mut W,
-    names: &Names,
+    names: &NameTable,
     scope: Addr,
     name: NameId,
     value: Value,

@@ -14,7 +14,7 @@ ghost use Rattle.js_machine_rows.specs.Does.{Replies};
 
 use crate::answers::replied;
 use js_heap::value::Value;
-use js_heap_memory::names::Names;
+use js_heap_memory::names::NameTable;
 use js_heap_memory::slots::argument;
 use js_heap_memory::world::World;
 use js_heap_operators::numbers::{shift_count, shifted_right, to_signed, to_unsigned};
@@ -22,7 +22,7 @@ use js_heap_operators::operators::{binary_result, unary_result};
 use js_heap_operators::results::is_safe_integer;
 use js_machine_actions::action_end::ActionEnd;
 use js_machine_actions::errors::with_result;
-use js_machine_actions::seen::Seen;
+use js_machine_actions::seen::NamedWorld;
 use js_machine_engine::reduced::Reduced;
 use js_tree_operators::operator::{BinaryOperator, UnaryOperator};
 use std::alloc::Global;
@@ -150,7 +150,7 @@ pub fn is_safe(value: Value) -> bool
 fn binary_slowly<W: World>(
     alloc: Global,
     world: &mut W,
-    names: &Names,
+    names: &NameTable,
     operator: BinaryOperator,
     left: Value,
     right: Value,
@@ -165,7 +165,7 @@ fn binary_slowly<W: World>(
     }
     let computed = binary_result(
         alloc,
-        &Seen {
+        &NamedWorld {
             names,
             world: &*world,
         },
@@ -182,7 +182,7 @@ fn binary_slowly<W: World>(
 fn binary_value<W: World>(
     alloc: Global,
     world: &mut W,
-    names: &Names,
+    names: &NameTable,
     operator: BinaryOperator,
     left: Value,
     right: Value,
@@ -200,7 +200,7 @@ fn binary_value<W: World>(
 pub fn binary<W: World>(
     alloc: Global,
     world: &mut W,
-    names: &Names,
+    names: &NameTable,
     operator: BinaryOperator,
     values: &[Value],
 ) -> Reduced
@@ -217,7 +217,7 @@ pub fn binary<W: World>(
 fn unary_value<W: World>(
     alloc: Global,
     world: &mut W,
-    names: &Names,
+    names: &NameTable,
     operator: UnaryOperator,
     value: Value,
 ) -> Result<Value, ActionEnd>
@@ -228,7 +228,7 @@ fn unary_value<W: World>(
     }
     let computed = unary_result(
         alloc,
-        &Seen {
+        &NamedWorld {
             names,
             world: &*world,
         },
@@ -242,7 +242,7 @@ fn unary_value<W: World>(
 pub fn unary<W: World>(
     alloc: Global,
     world: &mut W,
-    names: &Names,
+    names: &NameTable,
     operator: UnaryOperator,
     values: &[Value],
 ) -> Reduced

@@ -16,7 +16,7 @@ use crate::reading::{index_value, member_value};
 use crate::values::value_at;
 use crate::writing::{put_index_value, put_member_value};
 use js_heap::value::Value;
-use js_heap_memory::names::{NameId, Names};
+use js_heap_memory::names::{NameId, NameTable};
 use js_heap_memory::world::World;
 use js_machine_actions::action_end::ActionEnd;
 use js_machine_actions::lists::last_of;
@@ -31,7 +31,7 @@ use std::alloc::Global;
 pub fn read_member<W: World>(
     alloc: Global,
     world: &mut W,
-    names: &Names,
+    names: &NameTable,
     values: &[Value],
     key: NameId,
 ) -> Reduced
@@ -48,7 +48,7 @@ pub fn read_member<W: World>(
 pub fn read_index<W: World>(
     alloc: Global,
     world: &mut W,
-    names: &Names,
+    names: &NameTable,
     values: &[Value],
 ) -> Reduced
     ensures { Replies names.now (with_result (index_result (W.world names.now world.old) values.now) give) (W.world names.now world.old) result (W.world names.now world.new) }
@@ -69,7 +69,7 @@ pub fn read_index<W: World>(
 pub fn assign_member<W: World>(
     alloc: Global,
     world: &mut W,
-    names: &Names,
+    names: &NameTable,
     values: &[Value],
     key: NameId,
 ) -> Reduced
@@ -90,7 +90,7 @@ pub fn assign_member<W: World>(
 pub fn assign_index<W: World>(
     alloc: Global,
     world: &mut W,
-    names: &Names,
+    names: &NameTable,
     values: &[Value],
 ) -> Reduced
     ensures { Replies names.now (index_put (W.world names.now world.old) values.now (last_of values.now) (give (last_of values.now))) (W.world names.now world.old) result (W.world names.now world.new) }
@@ -114,7 +114,7 @@ pub fn assign_index<W: World>(
 fn delete_own<W: World>(
     alloc: Global,
     world: &mut W,
-    names: &Names,
+    names: &NameTable,
     object: Value,
     key: NameId,
 ) -> Result<(), ActionEnd>
@@ -128,7 +128,7 @@ fn delete_own<W: World>(
 pub fn delete_member<W: World>(
     alloc: Global,
     world: &mut W,
-    names: &Names,
+    names: &NameTable,
     values: &[Value],
     key: NameId,
 ) -> Reduced
@@ -145,7 +145,7 @@ pub fn delete_member<W: World>(
 pub fn delete_index<W: World>(
     alloc: Global,
     world: &mut W,
-    names: &Names,
+    names: &NameTable,
     values: &[Value],
 ) -> Reduced
     ensures { Replies names.now (index_removed (W.world names.now world.old) values.now (give (value.Bool true))) (W.world names.now world.old) result (W.world names.now world.new) }

@@ -15,7 +15,7 @@ ghost use Rattle.js_machine_actions.specs.References.{indexed};
 
 use crate::names::value_of_name;
 use js_heap::value::{Addr, Value};
-use js_heap_memory::names::{NameId, Names};
+use js_heap_memory::names::{NameId, NameTable};
 use js_heap_memory::stored::Stored;
 use js_heap_memory::world::World;
 use js_machine_actions::action_end::ActionEnd;
@@ -31,7 +31,7 @@ use std::alloc::Global;
 fn name_slowly<W: World>(
     alloc: Global,
     world: &mut W,
-    names: &Names,
+    names: &NameTable,
     scope: Addr,
     name: NameId,
 ) -> Result<Value, ActionEnd>
@@ -46,7 +46,7 @@ fn name_slowly<W: World>(
 pub fn name_value<W: World>(
     alloc: Global,
     world: &mut W,
-    names: &Names,
+    names: &NameTable,
     scope: Addr,
     name: NameId,
 ) -> Result<Value, ActionEnd>
@@ -79,7 +79,7 @@ fn own_value(cell: Option<&Stored>, key: &[u16]) -> Option<Value>
 #[inline(always)]
 pub fn value_of_member<W: World>(
     world: &W,
-    names: &Names,
+    names: &NameTable,
     object: Value,
     key: NameId,
 ) -> Option<Value>
@@ -100,7 +100,7 @@ pub fn value_of_member<W: World>(
 fn member_slowly<W: World>(
     alloc: Global,
     world: &mut W,
-    names: &Names,
+    names: &NameTable,
     object: Value,
     key: NameId,
 ) -> Result<Value, ActionEnd>
@@ -116,7 +116,7 @@ fn member_slowly<W: World>(
 pub fn member_value<W: World>(
     alloc: Global,
     world: &mut W,
-    names: &Names,
+    names: &NameTable,
     object: Value,
     key: NameId,
 ) -> Result<Value, ActionEnd>
@@ -181,7 +181,7 @@ fn indexed_value(cell: Option<&Stored>, at: u32) -> Option<Value>
 #[inline(always)]
 pub fn value_of_index<W: World>(
     world: &W,
-    names: &Names,
+    names: &NameTable,
     object: Value,
     index: Value,
 ) -> Option<Value>
@@ -203,7 +203,7 @@ pub fn value_of_index<W: World>(
 fn index_slowly<W: World>(
     alloc: Global,
     world: &mut W,
-    names: &Names,
+    names: &NameTable,
     object: Value,
     index: Value,
 ) -> Result<Value, ActionEnd>
@@ -218,7 +218,7 @@ fn index_slowly<W: World>(
 pub fn index_value<W: World>(
     alloc: Global,
     world: &mut W,
-    names: &Names,
+    names: &NameTable,
     object: Value,
     index: Value,
 ) -> Result<Value, ActionEnd>

@@ -10,7 +10,7 @@ ghost use Rattle.js_machine_rows.specs.Over.{scope_declared};
 use crate::declared::with_functions;
 use js_heap::cell::ScopeKind;
 use js_heap::value::Addr;
-use js_heap_memory::names::Names;
+use js_heap_memory::names::NameTable;
 use js_heap_memory::stored::{FunctionName, Slot, Slots};
 use js_heap_memory::world::World;
 use js_machine_actions::action_end::ActionEnd;
@@ -21,7 +21,7 @@ use std::alloc::Global;
 /// Makes a scope with these names.
 pub fn nameless_scope<W: World>(
     alloc: Global,
-    names: &Names,
+    names: &NameTable,
     world: &mut W,
     kind: ScopeKind,
     outer: Addr,
@@ -37,7 +37,7 @@ pub fn nameless_scope<W: World>(
 pub fn scope_with<W: World>(
     alloc: Global,
     table: &NodeTable,
-    names: &Names,
+    names: &NameTable,
     world: &mut W,
     kind: ScopeKind,
     outer: Addr,

@@ -19,7 +19,7 @@ use crate::parts::part_at;
 use crate::scopes::{nameless_scope, scope_with};
 use js_heap::cell::ScopeKind;
 use js_heap::value::{Addr, Value};
-use js_heap_memory::names::{NameId, Names};
+use js_heap_memory::names::{NameId, NameTable};
 use js_heap_memory::stored::Slot;
 use js_heap_memory::world::World;
 use js_heap_operators::values::is_truthy;
@@ -28,7 +28,7 @@ use js_machine_actions::cells::bind;
 use js_machine_actions::context::Context;
 use js_machine_actions::frame::Frame;
 use js_machine_actions::functions::with_names;
-use js_machine_actions::seen::Seen;
+use js_machine_actions::seen::NamedWorld;
 use js_machine_engine::reduced::Reduced;
 use js_machine_engine::task::Redex;
 use js_machine_nodes::node::ScriptEntry;
@@ -90,7 +90,7 @@ pub fn enter(table: &NodeTable, context: &mut Context, form: Redex) -> Reduced
 /// A declarator, whose initialiser may be absent (14.3.1.2).
 pub fn initialize<W: World>(
     world: &mut W,
-    names: &Names,
+    names: &NameTable,
     scope: Addr,
     name: NameId,
     values: &[Value],
@@ -108,14 +108,14 @@ pub fn initialize<W: World>(
 #[inline(always)]
 pub fn choose<W: World>(
     table: &NodeTable,
-    names: &Names,
+    names: &NameTable,
     world: &W,
     form: Redex,
     values: &[Value],
 ) -> Reduced
     ensures { RepliesOver names.now table.now (choose_row (W.world names.now world.now) (only values.now) (trees names.now table.now form.mid form.end)) (W.world names.now world.now) result (W.world names.now world.now) }
 {
-    if is_truthy(&Seen { names, world }, only(values)) {
+    if is_truthy(&NamedWorld { names, world }, only(values)) {
         uncovered(part_at(table, form.mid, form.end, 0))
     } else {
         uncovered(part_at(table, form.mid, form.end, 1))
@@ -125,7 +125,7 @@ pub fn choose<W: World>(
 /// `&&` (13.13.1).
 pub fn both<W: World>(
     table: &NodeTable,
-    names: &Names,
+    names: &NameTable,
     world: &W,
     form: Redex,
     values: &[Value],
@@ -133,7 +133,7 @@ pub fn both<W: World>(
     ensures { RepliesOver names.now table.now (both_row (W.world names.now world.now) (only values.now) (trees names.now table.now form.mid form.end)) (W.world names.now world.now) result (W.world names.now world.now) }
 {
     let value = only(values);
-    if is_truthy(&Seen { names, world }, value) {
+    if is_truthy(&NamedWorld { names, world }, value) {
         gone_to(part_at(table, form.mid, form.end, 0), value)
     } else {
         Reduced::Gives(value)
@@ -143,7 +143,7 @@ pub fn both<W: World>(
 /// `||` (13.13.1).
 pub fn either<W: World>(
     table: &NodeTable,
-    names: &Names,
+    names: &NameTable,
     world: &W,
     form: Redex,
     values: &[Value],
@@ -151,7 +151,7 @@ pub fn either<W: World>(
     ensures { RepliesOver names.now table.now (either_row (W.world names.now world.now) (only values.now) (trees names.now table.now form.mid form.end)) (W.world names.now world.now) result (W.world names.now world.now) }
 {
     let value = only(values);
-    if is_truthy(&Seen { names, world }, value) {
+    if is_truthy(&NamedWorld { names, world }, value) {
         Reduced::Gives(value)
     } else {
         gone_to(part_at(table, form.mid, form.end, 0), value)
@@ -206,7 +206,7 @@ fn enter_script(context: &mut Context, number: u32) -> Result<(), AllocError>
 fn declare_script<W: World>(
     alloc: Global,
     table: &NodeTable,
-    names: &Names,
+    names: &NameTable,
     world: &mut W,
     slots: &[Slot],
     from: u32,
@@ -223,7 +223,7 @@ fn declare_script<W: World>(
 fn script_of<W: World>(
     alloc: Global,
     table: &NodeTable,
-    names: &Names,
+    names: &NameTable,
     context: &mut Context,
     world: &mut W,
     form: Redex,
@@ -249,7 +249,7 @@ fn script_of<W: World>(
 pub fn script<W: World>(
     alloc: Global,
     table: &NodeTable,
-    names: &Names,
+    names: &NameTable,
     context: &mut Context,
     world: &mut W,
     form: Redex,
@@ -266,7 +266,7 @@ pub fn script<W: World>(
 fn block_of<W: World>(
     alloc: Global,
     table: &NodeTable,
-    names: &Names,
+    names: &NameTable,
     world: &mut W,
     form: Redex,
     slots: &[Slot],
@@ -297,7 +297,7 @@ fn block_of<W: World>(
 pub fn block<W: World>(
     alloc: Global,
     table: &NodeTable,
-    names: &Names,
+    names: &NameTable,
     world: &mut W,
     form: Redex,
 ) -> Reduced
@@ -322,7 +322,7 @@ pub fn catch_nameless(table: &NodeTable, form: Redex) -> Reduced
 pub fn catch_named<W: World>(
     alloc: Global,
     table: &NodeTable,
-    names: &Names,
+    names: &NameTable,
     world: &mut W,
     form: Redex,
     thrown: Value,

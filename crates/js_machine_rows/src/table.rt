@@ -25,7 +25,7 @@ use crate::statements::{
 };
 use crate::updates::{is_prefix, operator_of, update_index, update_member, update_name};
 use js_heap::value::Value;
-use js_heap_memory::names::{NameId, Names};
+use js_heap_memory::names::{NameId, NameTable};
 use js_heap_memory::world::World;
 use js_machine_actions::context::Context;
 use js_machine_actions::lists::last_of;
@@ -40,14 +40,14 @@ use std::alloc::Global;
 
 /// The table of steps: one row for each form (see [`Rows`]).
 #[derive(Clone, Copy)]
-pub struct Table;
+pub struct StepTable;
 
 /// What is reduced most often.
 #[inline(always)]
 fn frequent<W: World>(
     alloc: Global,
     table: &NodeTable,
-    names: &Names,
+    names: &NameTable,
     context: &mut Context,
     world: &mut W,
     form: Redex,
@@ -89,7 +89,7 @@ fn frequent<W: World>(
 fn expression<W: World>(
     alloc: Global,
     table: &NodeTable,
-    names: &Names,
+    names: &NameTable,
     context: &mut Context,
     world: &mut W,
     form: Redex,
@@ -117,7 +117,7 @@ fn expression<W: World>(
 fn writing<W: World>(
     alloc: Global,
     table: &NodeTable,
-    names: &Names,
+    names: &NameTable,
     context: &mut Context,
     world: &mut W,
     form: Redex,
@@ -160,7 +160,7 @@ fn writing<W: World>(
 fn statement<W: World>(
     alloc: Global,
     table: &NodeTable,
-    names: &Names,
+    names: &NameTable,
     context: &mut Context,
     world: &mut W,
     form: Redex,
@@ -188,7 +188,7 @@ fn statement<W: World>(
 fn looping<W: World>(
     alloc: Global,
     table: &NodeTable,
-    names: &Names,
+    names: &NameTable,
     context: &mut Context,
     world: &mut W,
     form: Redex,
@@ -212,7 +212,7 @@ fn looping<W: World>(
 fn valued<W: World>(
     alloc: Global,
     table: &NodeTable,
-    names: &Names,
+    names: &NameTable,
     context: &mut Context,
     world: &mut W,
     form: Redex,
@@ -236,7 +236,7 @@ fn valued<W: World>(
 fn calling_with<W: World>(
     alloc: Global,
     table: &NodeTable,
-    names: &Names,
+    names: &NameTable,
     context: &mut Context,
     world: &mut W,
     form: Redex,
@@ -261,7 +261,7 @@ fn calling_with<W: World>(
 fn calling<W: World>(
     alloc: Global,
     table: &NodeTable,
-    names: &Names,
+    names: &NameTable,
     context: &mut Context,
     world: &mut W,
     form: Redex,
@@ -281,7 +281,7 @@ fn calling<W: World>(
 fn compound_with<W: World>(
     alloc: Global,
     table: &NodeTable,
-    names: &Names,
+    names: &NameTable,
     context: &mut Context,
     world: &mut W,
     form: Redex,
@@ -317,7 +317,7 @@ fn without_part(op: Op) -> Reduced
 fn compound<W: World>(
     alloc: Global,
     table: &NodeTable,
-    names: &Names,
+    names: &NameTable,
     context: &mut Context,
     world: &mut W,
     form: Redex,
@@ -355,7 +355,7 @@ fn turn_done(table: &NodeTable, form: Redex, values: &[Value]) -> Reduced
 fn turning<W: World>(
     alloc: Global,
     table: &NodeTable,
-    names: &Names,
+    names: &NameTable,
     context: &mut Context,
     world: &mut W,
     form: Redex,
@@ -376,7 +376,7 @@ fn turning<W: World>(
 fn behind_method<W: World>(
     alloc: Global,
     table: &NodeTable,
-    names: &Names,
+    names: &NameTable,
     context: &mut Context,
     world: &mut W,
     form: Redex,
@@ -396,7 +396,7 @@ fn behind_method<W: World>(
 fn owning<W: World>(
     alloc: Global,
     table: &NodeTable,
-    names: &Names,
+    names: &NameTable,
     context: &mut Context,
     world: &mut W,
     form: Redex,
@@ -414,12 +414,12 @@ fn owning<W: World>(
     }
 }
 
-impl Rows for Table {
+impl Rows for StepTable {
     #[inline(always)]
     fn reduce<W: World>(
         alloc: Global,
         table: &NodeTable,
-        names: &Names,
+        names: &NameTable,
         context: &mut Context,
         world: &mut W,
         form: Redex,
@@ -435,7 +435,7 @@ impl Rows for Table {
     fn catch<W: World>(
         alloc: Global,
         table: &NodeTable,
-        names: &Names,
+        names: &NameTable,
         context: &Context,
         world: &mut W,
         form: Redex,

@@ -25,7 +25,7 @@ use js_heap::built_in::ErrorClass;
 use js_heap::computed::Computed;
 use js_heap::value::{Addr, Value};
 use js_heap_memory::lookup::lookup;
-use js_heap_memory::names::{NameId, Names};
+use js_heap_memory::names::{NameId, NameTable};
 use js_heap_memory::world::World;
 use js_heap_operators::operators::{key_of, update_result};
 use js_heap_operators::properties::property_of;
@@ -34,7 +34,7 @@ use js_machine_actions::cells::bind_at;
 use js_machine_actions::errors::{bad_key, fail};
 use js_machine_actions::names::{get_name, put_name};
 use js_machine_actions::properties::put_property;
-use js_machine_actions::seen::Seen;
+use js_machine_actions::seen::NamedWorld;
 use js_machine_engine::reduced::Reduced;
 use js_machine_nodes::op::UpdateKind;
 use js_tree_operators::operator::{BinaryOperator, UpdateOperator};
@@ -131,14 +131,14 @@ fn updated(alloc: Global, operator: UpdateOperator, read: Computed) -> Result<Up
 fn read_updated<W: World>(
     alloc: Global,
     world: &W,
-    names: &Names,
+    names: &NameTable,
     operator: UpdateOperator,
     object: Value,
     key: &[u16],
 ) -> Result<Update, AllocError>
     ensures { IfOk result (λ u. (k : AnyValue → AnyValue → Action) → updated_by operator (property_of (W.world names.now world.now) object key.now) k ≡ on_update u k) }
 {
-    let read = property_of(alloc, &Seen { names, world }, object, key)?;
+    let read = property_of(alloc, &NamedWorld { names, world }, object, key)?;
     updated(alloc, operator, read)
 }
 
@@ -146,7 +146,7 @@ fn read_updated<W: World>(
 fn update_property<W: World>(
     alloc: Global,
     world: &mut W,
-    names: &Names,
+    names: &NameTable,
     operator: UpdateOperator,
     prefix: bool,
     object: Value,
@@ -167,7 +167,7 @@ fn update_property<W: World>(
 pub fn update_index_slowly<W: World>(
     alloc: Global,
     world: &mut W,
-    names: &Names,
+    names: &NameTable,
     operator: UpdateOperator,
     prefix: bool,
     object: Value,
@@ -177,7 +177,7 @@ pub fn update_index_slowly<W: World>(
 {
     let key = key_of(
         alloc,
-        &Seen {
+        &NamedWorld {
             names,
             world: &*world,
         },
@@ -205,7 +205,7 @@ pub fn update_index_slowly<W: World>(
 fn update_member_slowly<W: World>(
     alloc: Global,
     world: &mut W,
-    names: &Names,
+    names: &NameTable,
     operator: UpdateOperator,
     prefix: bool,
     object: Value,
@@ -221,7 +221,7 @@ fn update_member_slowly<W: World>(
 fn update_member_of<W: World>(
     alloc: Global,
     world: &mut W,
-    names: &Names,
+    names: &NameTable,
     operator: UpdateOperator,
     prefix: bool,
     object: Value,
@@ -243,7 +243,7 @@ fn update_member_of<W: World>(
 fn update_index_of<W: World>(
     alloc: Global,
     world: &mut W,
-    names: &Names,
+    names: &NameTable,
     operator: UpdateOperator,
     prefix: bool,
     object: Value,
@@ -265,7 +265,7 @@ fn update_index_of<W: World>(
 pub fn update_member<W: World>(
     alloc: Global,
     world: &mut W,
-    names: &Names,
+    names: &NameTable,
     operator: UpdateOperator,
     prefix: bool,
     values: &[Value],
@@ -283,7 +283,7 @@ pub fn update_member<W: World>(
 pub fn update_index<W: World>(
     alloc: Global,
     world: &mut W,
-    names: &Names,
+    names: &NameTable,
     operator: UpdateOperator,
     prefix: bool,
     values: &[Value],
@@ -305,7 +305,7 @@ pub fn update_index<W: World>(
 fn update_old_name<W: World>(
     alloc: Global,
     world: &mut W,
-    names: &Names,
+    names: &NameTable,
     operator: UpdateOperator,
     prefix: bool,
     scope: Addr,
@@ -339,7 +339,7 @@ fn unread(outcome: Result<Value, ActionEnd>) -> ActionEnd
 fn update_name_slowly<W: World>(
     alloc: Global,
     world: &mut W,
-    names: &Names,
+    names: &NameTable,
     operator: UpdateOperator,
     prefix: bool,
     scope: Addr,
@@ -361,7 +361,7 @@ fn update_name_slowly<W: World>(
 pub fn update_name<W: World>(
     alloc: Global,
     world: &mut W,
-    names: &Names,
+    names: &NameTable,
     operator: UpdateOperator,
     prefix: bool,
     scope: Addr,

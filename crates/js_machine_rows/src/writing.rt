@@ -14,7 +14,7 @@ ghost use Rattle.js_machine_rows.specs.References.{is_object_cell, has_place};
 
 use crate::reading::index_of;
 use js_heap::value::{Addr, Value};
-use js_heap_memory::names::{NameId, Names};
+use js_heap_memory::names::{NameId, NameTable};
 use js_heap_memory::stored::Stored;
 use js_heap_memory::world::World;
 use js_machine_actions::action_end::ActionEnd;
@@ -37,7 +37,7 @@ fn is_object_cell(cell: Option<&Stored>) -> bool
 
 /// Whether an object is at an address, and no other thing.
 #[inline(always)]
-fn is_object<W: World>(world: &W, names: &Names, a: Addr) -> bool
+fn is_object<W: World>(world: &W, names: &NameTable, a: Addr) -> bool
     ensures { result ≡ is_object_cell (read_cell (W.world names.now world.now) a) }
 {
     let _ = names.len();
@@ -47,7 +47,7 @@ fn is_object<W: World>(world: &W, names: &Names, a: Addr) -> bool
 /// Writes a property with a fixed key of the object at an address.
 fn put_own<W: World>(
     world: &mut W,
-    names: &Names,
+    names: &NameTable,
     a: Addr,
     key: NameId,
     value: Value,
@@ -63,7 +63,7 @@ fn put_own<W: World>(
 pub fn put_member_value<W: World>(
     alloc: Global,
     world: &mut W,
-    names: &Names,
+    names: &NameTable,
     object: Value,
     key: NameId,
     value: Value,
@@ -95,7 +95,7 @@ fn has_place_in(cell: Option<&Stored>, at: u32) -> bool
 
 /// Whether an array with an element at this index, or of this length, is at an address.
 #[inline(always)]
-fn has_place<W: World>(world: &W, names: &Names, a: Addr, at: u32) -> bool
+fn has_place<W: World>(world: &W, names: &NameTable, a: Addr, at: u32) -> bool
     ensures { result ≡ has_place (read_cell (W.world names.now world.now) a) at }
 {
     let _ = names.len();
@@ -108,7 +108,7 @@ fn has_place<W: World>(world: &W, names: &Names, a: Addr, at: u32) -> bool
 fn put_index_slowly<W: World>(
     alloc: Global,
     world: &mut W,
-    names: &Names,
+    names: &NameTable,
     object: Value,
     index: Value,
     value: Value,
@@ -123,7 +123,7 @@ fn put_index_slowly<W: World>(
 pub fn put_index_value<W: World>(
     alloc: Global,
     world: &mut W,
-    names: &Names,
+    names: &NameTable,
     object: Value,
     index: Value,
     value: Value,

@@ -4,7 +4,7 @@ use Rattle.std.proofs.lemmas.List.{map-append}
 use Rattle.std.specs.Global.{Vec, Box}
 use Rattle.js_heap.specs.declared.value.Value.{Value}
 use Rattle.js_semantics.specs.Terms as semantics
-use Rattle.js_semantics.specs.declared.form.Spot.{Spot}
+use Rattle.js_semantics.specs.declared.form.SourceMark.{SourceMark}
 use Rattle.js_semantics.specs.declared.form.Form.{Form}
 use Rattle.js_machine_terms.specs.declared.term.Term.{Term}
 use Rattle.js_machine_terms.specs.declared.term.Terms.{Terms}
@@ -20,7 +20,7 @@ view_done v =
     ap term_view (sym (rolls-Done v))
     ∙ fold-roll-Term semantics.Term semantics.Terms term_layer terms_layer (Term-F.Done v)
 
-pub view_standing : (v : Value) (s : Spot) → term_view (Term.Standing v s) ≡ semantics.standing v s
+pub view_standing : (v : Value) (s : SourceMark) → term_view (Term.Standing v s) ≡ semantics.standing v s
 unfolding term_view terms_view
 view_standing v s =
     ap term_view (sym (rolls-Standing v s))

@@ -2,9 +2,9 @@
 
 ghost use Rattle.std.specs.Prelude.{◌≡◌, IfOk};
 
-use js_heap::cell::{Binding, Names as ScopeNames};
+use js_heap::cell::{Binding, ScopeNames};
 use js_semantics::form::{Form, FunctionForm, Member, Members, Reference};
-use js_tree::names::Names;
+use js_tree::names::ParameterNames;
 use std::alloc::{AllocError, Global};
 
 /// A copy of a binding.
@@ -30,14 +30,14 @@ fn scope_names_copy(alloc: Global, names: &ScopeNames) -> Result<ScopeNames, All
 }
 
 /// A copy of the names of parameters.
-pub fn names_copy(alloc: Global, names: &Names) -> Result<Names, AllocError>
+pub fn names_copy(alloc: Global, names: &ParameterNames) -> Result<ParameterNames, AllocError>
     ensures { IfOk result (λ ns. ns ≡ names.now) }
 {
     let mut items = Vec::new(alloc);
     for name in names.as_slice() {
         items.push(name.clone()?)?;
     }
-    Ok(Names::from_vec(items))
+    Ok(ParameterNames::from_vec(items))
 }
 
 /// A copy of a reference.

@@ -7,7 +7,7 @@ ghost use Rattle.js_semantics.specs.Terms as semantics;
 ghost use Rattle.js_machine_terms.specs.Views.{term_view, terms_view, listed_view};
 
 use js_heap::value::Value;
-use js_semantics::form::{Form, Spot};
+use js_semantics::form::{Form, SourceMark};
 use std::alloc::{AllocError, Global};
 
 /// A part of a residual term.
@@ -17,7 +17,7 @@ pub enum Term {
     /// A value.
     Done(Value),
     /// A throw that stands, with the place of its fresh raise.
-    Standing(Value, Spot),
+    Standing(Value, SourceMark),
     /// A form with the parts that are reduced from left to right and those that are kept for later.
     Part {
         form: Box<Form>,
@@ -43,7 +43,7 @@ pub fn done(value: Value) -> Term
 
 /// A throw that stands.
 #[tactic(auto, using(crate::proofs::TermLemmas::term_laws))]
-pub fn standing(value: Value, spot: Spot) -> Term
+pub fn standing(value: Value, spot: SourceMark) -> Term
     ensures { term_view result ≡ semantics.standing value spot }
 {
     Term::Standing(value, spot)

@@ -5,17 +5,17 @@ use Rattle.std.specs.Prelude.{slice_get, Bool, true, false, nat_lt, IfOk}
 use borrow.Author.Tests.{ltb-true, ltb-false}
 use Rattle.std.proofs.lemmas.List.{append-nil, length-append}
 use Rattle.js_parser_language.specs.Tokens.{Token}
-use Rattle.js_parser_language.specs.Language.{InLanguage, Begins}
-use Rattle.js_parser_laws.specs.Exact.{Leaves, LeavesAt, TooDeepFrom}
+use Rattle.js_parser_language.specs.Language.{InLanguage, BeginsLanguage}
+use Rattle.js_parser_laws.specs.Exact.{LeavesAfter, LeavesAt, TooDeepFrom}
 use Rattle.js_parser_readers.specs.declared.fault.ParseError.{ParseError}
 use Rattle.js_parser_readers.specs.declared.fault.ParseError.TheVariants as errors
 use Rattle.js_parser_readers.specs.declared.fault.ParseFault.{ParseFault}
 use Rattle.js_parser_readers.specs.declared.fault.ParseFault.TheVariants as faults
 use Rattle.js_parser_readers.specs.Reading.{Fault, stuck, deep}
 use Rattle.js_parser_readers.specs.Giving.{Gives}
-use Rattle.js_parser.specs.Lexing.{Stop, Lexed, bad, many, lexed_of, start_or, stop_fault, fault_of, unless_deep, complete, told}
+use Rattle.js_parser.specs.Lexing.{LexingEnd, Lexed, bad, many, lexed_of, start_or, stop_fault, fault_of, unless_deep, complete, tree_or_fault}
 use Rattle.js_parser.specs.Answers.{FailsBy, Answers}
-use Rattle.js_parser.specs.Faults.{LeavesLanguage, Stands, BeginsTooDeep, Caused}
+use Rattle.js_parser.specs.Faults.{LeavesLanguage, StandsInSource, BeginsTooDeep, Caused}
 use Rattle.js_parser_descent.specs.declared.limits.TheConstants.{MOST_HEIGHT}
 use Rattle.js_parser.specs.declared.limits.TheConstants.{MOST_UNITS, MOST_TOKENS}
 use Rattle.js_parser.specs.Sources.{tokens_of, bad_place, IsSource, IsTreeOf}
@@ -46,7 +46,7 @@ too_long : {A : Type 0} (f : ParseFault) (n : ℕ) → f ≡ faults.TooLong n �
 too_long f n e = ap (λ (f : ParseFault). fails f) e
 
 long_of : {Tree : Type 0} (Is : List Token → Tree → Type 0) (height_of : Tree → ℕ) (source : List ℕ) (f : ParseFault)
-    → Stands Is height_of source f
+    → StandsInSource Is height_of source f
     → MOST_UNITS < length source
     → f ≡ faults.TooLong (length source)
 long_of Is height_of source (faults.TooLong units) s l = ap (λ (n : ℕ). faults.TooLong n) s.1
@@ -57,7 +57,7 @@ long_of Is height_of source faults.TooDeep s l = absurd (omega (arith, s.1.0.sho
 long_of Is height_of source faults.Memory s l = absurd s
 
 caused_of : {Tree : Type 0} (Is : List Token → Tree → Type 0) (height_of : Tree → ℕ) (source : List ℕ) (f : ParseFault)
-    → Stands Is height_of source f
+    → StandsInSource Is height_of source f
     → Caused Is height_of source f
 caused_of Is height_of source (faults.TooLong units) s = s
 caused_of Is height_of source (faults.Token at) s = s
@@ -77,7 +77,7 @@ fails_by A f faults.Memory e = tt
 -- a fault that stands in the source, which has no tree within the limits
 fault_answers : {A Tree : Type 0} (Is : List Token → Tree → Type 0) (height_of : Tree → ℕ) (source : List ℕ)
     (look : A → Tree) (f : ParseFault)
-    → Stands Is height_of source f
+    → StandsInSource Is height_of source f
     → (HasTree Is height_of source → ⊥)
     → Answers Is height_of source look (Err f)
 fault_answers {A} Is height_of source look f s none = record {
@@ -92,7 +92,7 @@ fault_answers {A} Is height_of source look f s none = record {
 placed_answers : {A Tree : Type 0} (Is : List Token → Tree → Type 0) (height_of : Tree → ℕ) (source : List ℕ)
     (look : A → Tree) (f : ParseFault)
     → IsPlaced f
-    → Stands Is height_of source f
+    → StandsInSource Is height_of source f
     → Answers Is height_of source look (Err f)
 placed_answers Is height_of source look f p s =
     fault_answers Is height_of source look f s (λ h. no_tree Is height_of source f p s h.0 h.1.0)
@@ -114,7 +114,7 @@ memory_answers Is height_of source look short =
 
 -- what is read begins only trees that are too deep, and so does the source
 begins_too_deep : {Tree : Type 0} (Is : List Token → Tree → Type 0) (height_of : Tree → ℕ) (source : List ℕ)
-    (ts : List Token) (stop : Option Stop)
+    (ts : List Token) (stop : Option LexingEnd)
     → length source ≤ MOST_UNITS
     → IsReadOf source ts stop
     → TooDeepFrom Is height_of ts MOST_HEIGHT
@@ -155,7 +155,7 @@ only_deep : {A Tree : Type 0} (Is : List Token → Tree → Type 0) (height_of :
     → IsSource Is height_of source t
     → ((u : Tree) → IsTreeOf Is source u → t ≡ u)
     → (g : ParseFault)
-    → Stands Is height_of source g
+    → StandsInSource Is height_of source g
     → FailsBy g (Ok answer)
 only_deep Is height_of source answer t i one (faults.TooLong units) s =
     no_tree Is height_of source (faults.TooLong units) tt s t i.0
@@ -190,56 +190,56 @@ tree_answers Is height_of source look x i one =
 
 -- no further tokens were read, and those that were begin the language
 stop_stands : {Tree : Type 0} (Is : List Token → Tree → Type 0) (height_of : Tree → ℕ) (source : List ℕ) (end : ℕ)
-    (ts : List Token) (s : Stop)
+    (ts : List Token) (s : LexingEnd)
     → length source ≤ MOST_UNITS
     → IsReadOf source ts (Some s)
-    → Begins Is ts
-    → Stands Is height_of source (stop_fault end (Some s))
+    → BeginsLanguage Is ts
+    → StandsInSource Is height_of source (stop_fault end (Some s))
 stop_stands Is height_of source end ts (bad at) short r b =
-    (short, (r.1, r.2, subst (λ (ts : List Token). Begins Is ts) r.0 b))
+    (short, (r.1, r.2, subst (λ (ts : List Token). BeginsLanguage Is ts) r.0 b))
 stop_stands Is height_of source end ts (many at) short r b = (
   short,
   (
     record { before = r.before; next = r.next; left = r.left; parts = r.parts; place = r.place; counted = r.counted },
-    subst (λ (ts : List Token). Begins Is ts) r.taken b,
+    subst (λ (ts : List Token). BeginsLanguage Is ts) r.taken b,
   ),
 )
 
 -- reading is stuck at the end of what was read
 end_stands : {Tree : Type 0} (Is : List Token → Tree → Type 0) (height_of : Tree → ℕ) (source : List ℕ) (end : ℕ)
-    (ts : List Token) (stop : Option Stop)
+    (ts : List Token) (stop : Option LexingEnd)
     → length source ≤ MOST_UNITS
     → end ≡ length source
     → IsReadOf source ts stop
-    → Begins Is ts
+    → BeginsLanguage Is ts
     → (InLanguage Is ts → ⊥)
-    → Stands Is height_of source (stop_fault end stop)
+    → StandsInSource Is height_of source (stop_fault end stop)
 end_stands Is height_of source end ts None short e r b none =
     let left : LeavesLanguage Is source end = record {
       before = tokens_of source;
       left = [];
       parts = sym (append-nil (tokens_of source));
       place = (r.1, e);
-      begins = subst (λ (ts : List Token). Begins Is ts) r.0 b;
+      begins = subst (λ (ts : List Token). BeginsLanguage Is ts) r.0 b;
       leaves = subst (λ (ts : List Token). InLanguage Is ts → ⊥) r.0 none;
     } in
     (short, (left, r.2))
 end_stands Is height_of source end ts (Some s) short e r b none = stop_stands Is height_of source end ts s short r b
 
 whole_left : {Tree : Type 0} (Is : List Token → Tree → Type 0) (height_of : Tree → ℕ) (source : List ℕ) (end : ℕ)
-    (ts : List Token) (stop : Option Stop)
+    (ts : List Token) (stop : Option LexingEnd)
     → length source ≤ MOST_UNITS
     → end ≡ length source
     → IsReadOf source ts stop
     → (before left : List Token)
     → ts ≡ before ++ left
     → length left ≡ 0
-    → Begins Is before
-    → Leaves Is before left
-    → Stands Is height_of source (stop_fault end stop)
+    → BeginsLanguage Is before
+    → LeavesAfter Is before left
+    → StandsInSource Is height_of source (stop_fault end stop)
 whole_left Is height_of source end ts stop short e r before [] p c b l =
     let q : before ≡ ts = sym (p ∙ append-nil before) in
-    end_stands Is height_of source end ts stop short e r (subst (λ (ts : List Token). Begins Is ts) q b)
+    end_stands Is height_of source end ts stop short e r (subst (λ (ts : List Token). BeginsLanguage Is ts) q b)
     (subst (λ (ts : List Token). InLanguage Is ts → ⊥) q l)
 whole_left Is height_of source end ts stop short e r before (t ∷ left) p c b l = absurd (omega arith)
 
@@ -262,15 +262,15 @@ seam_start end ts before t left k p c =
 
 -- reading is stuck at one of the tokens that were read
 token_stands : {Tree : Type 0} (Is : List Token → Tree → Type 0) (height_of : Tree → ℕ) (source : List ℕ) (end : ℕ)
-    (ts : List Token) (stop : Option Stop)
+    (ts : List Token) (stop : Option LexingEnd)
     → length source ≤ MOST_UNITS
     → IsReadOf source ts stop
     → (k : ℕ) (before left : List Token)
     → ts ≡ before ++ left
     → length left ≡ suc k
-    → Begins Is before
-    → Leaves Is before left
-    → Stands Is height_of source (faults.Syntax (start_or end (slice_get ts (length ts - suc k))))
+    → BeginsLanguage Is before
+    → LeavesAfter Is before left
+    → StandsInSource Is height_of source (faults.Syntax (start_or end (slice_get ts (length ts - suc k))))
 token_stands Is height_of source end ts stop short r k before [] p c b l = absurd (omega arith)
 token_stands Is height_of source end ts stop short r k before (t ∷ left) p c b l =
     let f : AreFirst MOST_TOKENS (tokens_of source) ts = are_first MOST_TOKENS (tokens_of source) (bad_place source)
@@ -286,23 +286,23 @@ token_stands Is height_of source end ts stop short r k before (t ∷ left) p c b
     (short, (here, omega (arith, f.few, ap (λ (ts : List Token). length ts) p, length-append before (t ∷ left))))
 
 fault_stands : {Tree : Type 0} (Is : List Token → Tree → Type 0) (height_of : Tree → ℕ) (source : List ℕ) (end : ℕ)
-    (ts : List Token) (stop : Option Stop)
+    (ts : List Token) (stop : Option LexingEnd)
     → length source ≤ MOST_UNITS
     → end ≡ length source
     → IsReadOf source ts stop
     → (left : ℕ)
     → LeavesAt Is ts left
-    → Stands Is height_of source (fault_of (record { tokens = ts; stop = stop }) end (errors.Syntax left))
+    → StandsInSource Is height_of source (fault_of (record { tokens = ts; stop = stop }) end (errors.Syntax left))
 fault_stands Is height_of source end ts stop short e r zero l =
     whole_left Is height_of source end ts stop short e r l.before l.left l.parts l.counted l.begins l.leaves
 fault_stands Is height_of source end ts stop short e r (suc k) l =
     token_stands Is height_of source end ts stop short r k l.before l.left l.parts l.counted l.begins l.leaves
 
-stop_placed : (end : ℕ) (s : Stop) → IsPlaced (stop_fault end (Some s))
+stop_placed : (end : ℕ) (s : LexingEnd) → IsPlaced (stop_fault end (Some s))
 stop_placed end (bad at) = tt
 stop_placed end (many at) = tt
 
-fault_placed : (ts : List Token) (stop : Option Stop) (end left : ℕ)
+fault_placed : (ts : List Token) (stop : Option LexingEnd) (end left : ℕ)
     → IsPlaced (fault_of (record { tokens = ts; stop = stop }) end (errors.Syntax left))
 fault_placed ts None end zero = tt
 fault_placed ts (Some s) end zero = stop_placed end s
@@ -326,7 +326,7 @@ high_answers {A} {Tree} Is height_of source look x true height b h i one =
     omega (arith, e, h, ltb-true, t.1.1))
 
 complete_answers : {A Tree : Type 0} (Is : List Token → Tree → Type 0) (height_of : Tree → ℕ) (source : List ℕ)
-    (look : A → Tree) (room : ℕ) (read : Result Tree Fault) (end : ℕ) (ts : List Token) (stop : Option Stop) (x : A)
+    (look : A → Tree) (room : ℕ) (read : Result Tree Fault) (end : ℕ) (ts : List Token) (stop : Option LexingEnd) (x : A)
     (height : ℕ)
     → ReadsExactly Is height_of room ts read
     → length source ≤ MOST_UNITS
@@ -340,13 +340,13 @@ complete_answers Is height_of source look room read end ts None x height exact s
     (record { short = short; all_good = r.1; few = r.2; is = subst (λ (ts : List Token). Is ts (look x)) r.0 i })
     (λ t u. exact.one (look x) t i (subst (λ (ts : List Token). Is ts t) (sym r.0) u.is))
 complete_answers Is height_of source look room read end ts (Some s) x height exact short r e h =
-    let st : Stands Is height_of source (stop_fault end (Some s)) = stop_stands Is height_of source end ts s short r
+    let st : StandsInSource Is height_of source (stop_fault end (Some s)) = stop_stands Is height_of source end ts s short r
     (begins_whole Is ts (look x) (exact.sound (look x) e).0) in
     placed_answers Is height_of source look (stop_fault end (Some s)) (stop_placed end s) st
 
 -- a source with a tree is read
 reads_tree : {Tree : Type 0} (Is : List Token → Tree → Type 0) (height_of : Tree → ℕ) (source : List ℕ) (room : ℕ)
-    (read : Result Tree Fault) (ts : List Token) (stop : Option Stop)
+    (read : Result Tree Fault) (ts : List Token) (stop : Option LexingEnd)
     → MOST_HEIGHT ≤ room
     → ReadsExactly Is height_of room ts read
     → IsReadOf source ts stop
@@ -365,7 +365,7 @@ abbrev IsHigh : {A Tree : Type 0} → (Tree → ℕ) → (A → Tree) → Result
 IsHigh height_of look given = IfOk given (λ x. x.1 ≡ height_of (look x.0))
 
 told_by : {A Tree : Type 0} (Is : List Token → Tree → Type 0) (height_of : Tree → ℕ) (source : List ℕ) (look : A → Tree)
-    (room : ℕ) (read : Result Tree Fault) (end : ℕ) (ts : List Token) (stop : Option Stop)
+    (room : ℕ) (read : Result Tree Fault) (end : ℕ) (ts : List Token) (stop : Option LexingEnd)
     (given : Result (A × ℕ) ParseError)
     → MOST_HEIGHT ≤ room
     → ReadsExactly Is height_of room ts read
@@ -374,7 +374,7 @@ told_by : {A Tree : Type 0} (Is : List Token → Tree → Type 0) (height_of : T
     → IsReadOf source ts stop
     → Gives (λ x. look x.0) given read
     → IsHigh height_of look given
-    → Answers Is height_of source look (told (record { tokens = ts; stop = stop }) end given)
+    → Answers Is height_of source look (tree_or_fault (record { tokens = ts; stop = stop }) end given)
 told_by Is height_of source look room read end ts stop (Ok x) le exact short e r g h =
     complete_answers Is height_of source look room read end ts stop x.0 x.1 exact short r g h
 told_by Is height_of source look room read end ts stop (Err errors.Memory) le exact short e r g h =
@@ -397,7 +397,7 @@ told_answers : {A Tree : Type 0} (Is : List Token → Tree → Type 0) (height_o
     → end ≡ length source
     → Gives (λ x. look x.0) given read
     → IsHigh height_of look given
-    → Answers Is height_of source look (told (lexed_of source) end given)
+    → Answers Is height_of source look (tree_or_fault (lexed_of source) end given)
 told_answers Is height_of source look room read end given le exact short e g h =
     told_by Is height_of source look room read end (lexed_of source).tokens
     (lexed_of source).stop given le exact short e (is_read_of source) g h
@@ -414,11 +414,11 @@ pub told_as : {A Tree : Type 0} (Is : List Token → Tree → Type 0) (height_of
     → end ≡ length source
     → Gives (λ x. look x.0) given (read ts)
     → IsHigh height_of look given
-    → answer ≡ told l end given
+    → answer ≡ tree_or_fault l end given
     → Answers Is height_of source look answer
 told_as {A} Is height_of source look room read l ts end given answer le exact p q short e g h a =
     let t : ts ≡ (lexed_of source).tokens = q ∙ ap (λ (l : Lexed). l.tokens) p in
-    let same : answer ≡ told (lexed_of source) end given = a ∙ ap (λ (l : Lexed). told l end given) p in
+    let same : answer ≡ tree_or_fault (lexed_of source) end given = a ∙ ap (λ (l : Lexed). tree_or_fault l end given) p in
     subst (λ (answer : Result A ParseFault). Answers Is height_of source look answer) (sym same)
     (told_answers Is height_of source look room (read (lexed_of source).tokens) end given le
     (exact (lexed_of source).tokens) short e

@@ -3,24 +3,24 @@ use Rattle.std.proofs.Common.{◌≡◌, ℕ, ◌≤◌, ◌<◌, inl, inr, List
 use Rattle.std.proofs.lemmas.Bool.{cases_lt}
 use Rattle.std.proofs.lemmas.List.{append-nil, length-append}
 use Rattle.js_parser_language.specs.Tokens.{Token}
-use Rattle.js_parser_language.specs.Language.{Begins}
-use Rattle.js_parser_laws.specs.Exact.{Leaves}
+use Rattle.js_parser_language.specs.Language.{BeginsLanguage}
+use Rattle.js_parser_laws.specs.Exact.{LeavesAfter}
 use Rattle.js_parser_readers.specs.declared.fault.ParseFault.{ParseFault}
 use Rattle.js_parser_readers.specs.declared.fault.ParseFault.TheVariants as faults
-use Rattle.js_parser.specs.Faults.{IsPlace, LeavesLanguage, PassesLimit, HasBadToken, HasSyntaxFault, HasTooMany, Stands}
+use Rattle.js_parser.specs.Faults.{IsPlace, LeavesLanguage, PassesLimit, HasBadToken, HasSyntaxFault, HasTooMany, StandsInSource}
 use Rattle.js_parser.specs.Sources.{tokens_of, bad_place, IsTreeOf}
 
 -- ---- first tokens
 
 -- what begins the language begins it with fewer tokens
 pub begins_before : {Tree : Type 0} (Is : List Token → Tree → Type 0) (a b : List Token)
-    → Begins Is (a ++ b)
-    → Begins Is a
+    → BeginsLanguage Is (a ++ b)
+    → BeginsLanguage Is a
 begins_before Is a b h = (b ++ h.0, (h.1.0, subst (λ (ts : List Token). Is ts h.1.0) (append_assoc a b h.0) h.1.1))
 
 pub begins_whole : {Tree : Type 0} (Is : List Token → Tree → Type 0) (ts : List Token) (t : Tree)
     → Is ts t
-    → Begins Is ts
+    → BeginsLanguage Is ts
 begins_whole Is ts t h = ([], (t, subst (λ (ts : List Token). Is ts t) (sym (append-nil ts)) h))
 
 -- a first part that is no longer than another begins it
@@ -47,26 +47,26 @@ goes_on (x ∷ a) b (y ∷ c) d p le =
 left_by : {Tree : Type 0} (Is : List Token → Tree → Type 0) (before left middle d : List Token)
     → left ≡ middle ++ d
     → 0 < length middle
-    → Leaves Is before left
-    → Begins Is (before ++ middle)
+    → LeavesAfter Is before left
+    → BeginsLanguage Is (before ++ middle)
     → ⊥
 left_by Is before left [] d p some leaves b = absurd (omega arith)
 left_by Is before left (t ∷ middle) d p some leaves b =
-    let l : Begins Is (before ++ t ∷ []) → ⊥ = subst (λ (left : List Token). Leaves Is before left) p leaves in
+    let l : BeginsLanguage Is (before ++ t ∷ []) → ⊥ = subst (λ (left : List Token). LeavesAfter Is before left) p leaves in
     l (begins_before Is (before ++ t ∷ []) middle
-    (subst (λ (ts : List Token). Begins Is ts) (sym (append_assoc before (t ∷ []) middle)) b))
+    (subst (λ (ts : List Token). BeginsLanguage Is ts) (sym (append_assoc before (t ∷ []) middle)) b))
 
 pub past : {Tree : Type 0} (Is : List Token → Tree → Type 0) (before left c d : List Token)
     → before ++ left ≡ c ++ d
     → length before < length c
-    → Leaves Is before left
-    → Begins Is c
+    → LeavesAfter Is before left
+    → BeginsLanguage Is c
     → ⊥
 past Is before left c d p less leaves b =
     let g : GoesOn before left c d = goes_on before left c d p (omega arith) in
     left_by Is before left g.middle d g.back
     (omega (arith, ap (λ (ts : List Token). length ts) g.front, length-append before g.middle)) leaves
-    (subst (λ (ts : List Token). Begins Is ts) g.front b)
+    (subst (λ (ts : List Token). BeginsLanguage Is ts) g.front b)
 
 -- ---- two faults
 
@@ -106,7 +106,7 @@ many_once source a b f g =
 bad_syntax_by : {Tree : Type 0} (Is : List Token → Tree → Type 0) (source : List ℕ) (a b : ℕ) (before left : List Token)
     → tokens_of source ≡ before ++ left
     → IsPlace source left b
-    → Leaves Is before left
+    → LeavesAfter Is before left
     → HasBadToken Is source a
     → ⊥
 bad_syntax_by Is source a b before [] p place leaves f =
@@ -143,7 +143,7 @@ some_is a b o p q = cc
 -- ---- a fault and a tree
 
 not_in : {Tree : Type 0} (Is : List Token → Tree → Type 0) (before left : List Token) (t : Tree)
-    → Leaves Is before left
+    → LeavesAfter Is before left
     → Is (before ++ left) t
     → ⊥
 not_in Is before [] t leaves i = leaves (t, subst (λ (ts : List Token). Is ts t) (append-nil before) i)
@@ -160,7 +160,7 @@ IsPlaced f = Unit {0}
 pub no_tree : {Tree : Type 0} (Is : List Token → Tree → Type 0) (height_of : Tree → ℕ) (source : List ℕ)
     (f : ParseFault)
     → IsPlaced f
-    → Stands Is height_of source f
+    → StandsInSource Is height_of source f
     → (t : Tree)
     → IsTreeOf Is source t
     → ⊥
@@ -183,8 +183,8 @@ no_tree Is height_of source faults.Memory p s t h = absurd p
 -- At most one fault stands in a source.
 pub one_fault : {Tree : Type 0} (Is : List Token → Tree → Type 0) (height_of : Tree → ℕ) (source : List ℕ)
     (f g : ParseFault)
-    → Stands Is height_of source f
-    → Stands Is height_of source g
+    → StandsInSource Is height_of source f
+    → StandsInSource Is height_of source g
     → f ≡ g
 one_fault Is height_of source (faults.TooLong a) (faults.TooLong b) p q =
     ap (λ (n : ℕ). faults.TooLong n) (p.1 ∙ sym q.1)

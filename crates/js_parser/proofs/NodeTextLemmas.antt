@@ -8,7 +8,7 @@ use Rattle.js_tree.specs.Spans.{span_of, units_in}
 use Rattle.js_tree.specs.Trees.{Expression}
 use Rattle.js_tree.specs.Views.{expression_view}
 use Rattle.js_parser_language.specs.Language.{IsExpression, IsFunction}
-use Rattle.js_parser_language.specs.Places.{Place, expression_places, numbers_of}
+use Rattle.js_parser_language.specs.Places.{FlatPlace, expression_places, numbers_of}
 use Rattle.js_parser_readers.specs.declared.fault.ParseFault.{ParseFault}
 use Rattle.js_parser_readers.specs.declared.fault.ParseFault.TheVariants as faults
 use Rattle.js_parser_numbering.specs.NodeSpans.{node_span}
@@ -30,7 +30,7 @@ pub text_found : (source : List ℕ) (e : Expr) (spans : List Span) (node : ℕ)
 unfolding node_text
 text_found source e spans node is stand numbered =
     ap (λ (s : Span). units_in s source) (span_found spans e (tokens_of source) stand numbered node)
-    ∙ ap (λ (ps : List Place). units_in (node_span node ps (tokens_of source)) source)
+    ∙ ap (λ (ps : List FlatPlace). units_in (node_span node ps (tokens_of source)) source)
     (sym (placed_same e (length spans) numbered))
     ∙ ap (λ (t : Option Expression). node_units t source node) (sym (expression_some source (expression_view e) is))
 

@@ -2,17 +2,17 @@
 use Rattle.std.proofs.Common.{◌≡◌, ℕ, zero, suc, ◌+◌, ◌≤◌, List, [], ◌∷◌, length, refl, ap, subst, arith}
 use Rattle.std.specs.List.{range_with_len}
 use Rattle.js_tree.specs.declared.node.Span.{Span}
-use Rattle.js_parser_language.specs.Places.{Place, stands, stands_maybe, opens, closes, numbers_of}
+use Rattle.js_parser_language.specs.Places.{FlatPlace, stands, stands_maybe, opens, closes, numbers_of}
 use Rattle.js_parser_readers.specs.Placed.{AreNumbered}
 
-no_lower : (first next : ℕ) (ps : List Place) → AreNumbered first ps next → first ≤ next
+no_lower : (first next : ℕ) (ps : List FlatPlace) → AreNumbered first ps next → first ≤ next
 no_lower first next [] h = omega (arith, h)
 no_lower first next (stands s ∷ ps) h = no_lower first next ps h
 no_lower first next (stands_maybe k ∷ ps) h = no_lower first next ps h
 no_lower first next (opens n ∷ ps) h = no_lower first next ps h
 no_lower first next (closes n ∷ ps) h = omega (arith, no_lower (suc first) next ps h.1)
 
-one_by_one : (first next k : ℕ) (ps : List Place)
+one_by_one : (first next k : ℕ) (ps : List FlatPlace)
     → AreNumbered first ps next
     → first + k ≡ next
     → numbers_of ps ≡ range_with_len first k
@@ -28,7 +28,7 @@ one_by_one first next (suc k) (closes n ∷ ps) h e =
     (subst (λ m. numbers_of ps ≡ range_with_len m k) on (one_by_one (suc first) next k ps h.1 (omega (arith, e)))))
 
 -- where there was no node before
-pub from_zero : (old new : List Span) (ps : List Place) (count : ℕ)
+pub from_zero : (old new : List Span) (ps : List FlatPlace) (count : ℕ)
     → old ≡ []
     → AreNumbered (length old) ps (length new)
     → count ≡ length new

@@ -4,7 +4,7 @@ use Rattle.std.proofs.lemmas.Bool.{cases_lt}
 use Rattle.js_parser_language.specs.Tokens.{Token}
 use Rattle.js_parser_readers.specs.declared.fault.ParseFault.{ParseFault}
 use Rattle.js_parser_readers.specs.declared.fault.ParseFault.TheVariants as faults
-use Rattle.js_parser.specs.Faults.{IsPlace, LeavesLanguage, PassesLimit, HasSyntaxFault, HasTooMany, Stands, IsCause, IsNoLater, ComesFirst}
+use Rattle.js_parser.specs.Faults.{IsPlace, LeavesLanguage, PassesLimit, HasSyntaxFault, HasTooMany, StandsInSource, IsCause, IsNoLater, ComesFirst}
 use Rattle.js_parser.specs.Sources.{tokens_of, bad_place}
 use Rattle.js_parser.proofs.FaultLemmas.{GoesOn, goes_on, past, syntax_once, many_once, bad_syntax, bad_many, some_is}
 use Rattle.js_parser.proofs.PlaceLemmas.{token_in, token_before, token_before_bad}
@@ -77,7 +77,7 @@ many_syntax_first Is source a b f g =
 
 pub comes_first : {Tree : Type 0} (Is : List Token → Tree → Type 0) (height_of : Tree → ℕ) (source : List ℕ)
     (f g : ParseFault)
-    → Stands Is height_of source f
+    → StandsInSource Is height_of source f
     → IsCause Is source g
     → ComesFirst f g
 comes_first Is height_of source f (faults.TooLong units) s c = absurd c

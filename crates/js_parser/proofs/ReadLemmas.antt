@@ -4,7 +4,7 @@ use Rattle.std.proofs.lemmas.List.{append-nil, length-append}
 use Rattle.js_lexer.specs.State.{items_of}
 use Rattle.js_lexer.specs.Tokens.{Lent}
 use Rattle.js_parser_language.specs.Tokens.{Token}
-use Rattle.js_parser.specs.Lexing.{Stop, bad, many, lexed, lexed_of}
+use Rattle.js_parser.specs.Lexing.{LexingEnd, bad, many, lexed, lexed_of}
 use Rattle.js_parser.specs.declared.limits.TheConstants.{MOST_TOKENS}
 use Rattle.js_parser.specs.Sources.{lent_view, tokens_in, bad_in, tokens_of, bad_place}
 
@@ -19,12 +19,12 @@ pub record IsCut (n : ℕ) (all read : List Token) (at : ℕ) : Type 0 where
   pub counted : length before ≡ n
 
 -- of all tokens, and the place of a bad one behind them, at most n and one more are read, up to this stop
-abbrev pub IsRead : ℕ → List Token → Option ℕ → List Token → Option Stop → Type 0
+abbrev pub IsRead : ℕ → List Token → Option ℕ → List Token → Option LexingEnd → Type 0
 IsRead n all place read None = (read ≡ all) × (place ≡ None) × (length all ≤ n)
 IsRead n all place read (Some (bad at)) = (read ≡ all) × (place ≡ Some at) × (length all ≤ n)
 IsRead n all place read (Some (many at)) = IsCut n all read at
 
-with_one : (x : Token) (n : ℕ) (all : List Token) (place : Option ℕ) (read : List Token) (stop : Option Stop)
+with_one : (x : Token) (n : ℕ) (all : List Token) (place : Option ℕ) (read : List Token) (stop : Option LexingEnd)
     → IsRead n all place read stop
     → IsRead (suc n) (x ∷ all) place (x ∷ read) stop
 with_one x n all place read None r = (ap (λ (ts : List Token). x ∷ ts) r.0, r.1, omega (arith, r.2))
@@ -57,7 +57,7 @@ is_read (suc n) (Ok t ∷ is) =
     with_one (lent_view t) n (tokens_in is) (bad_in is) (lexed n is).tokens (lexed n is).stop (is_read n is)
 
 -- what is read of a source
-abbrev pub IsReadOf : List ℕ → List Token → Option Stop → Type 0
+abbrev pub IsReadOf : List ℕ → List Token → Option LexingEnd → Type 0
 IsReadOf source read stop = IsRead MOST_TOKENS (tokens_of source) (bad_place source) read stop
 
 pub is_read_of : (source : List ℕ) → IsReadOf source (lexed_of source).tokens (lexed_of source).stop
@@ -69,7 +69,7 @@ pub record AreFirst (n : ℕ) (all read : List Token) : Type 0 where
   pub parts : all ≡ read ++ left
   pub few : length read ≤ suc n
 
-pub are_first : (n : ℕ) (all : List Token) (place : Option ℕ) (read : List Token) (stop : Option Stop)
+pub are_first : (n : ℕ) (all : List Token) (place : Option ℕ) (read : List Token) (stop : Option LexingEnd)
     → IsRead n all place read stop
     → AreFirst n all read
 are_first n all place read None r =
@@ -94,7 +94,7 @@ are_first n all place read (Some (many at)) r = record {
 }
 
 -- where no token is bad and none is too many, all are read
-pub reads_all : (n : ℕ) (all : List Token) (place : Option ℕ) (read : List Token) (stop : Option Stop)
+pub reads_all : (n : ℕ) (all : List Token) (place : Option ℕ) (read : List Token) (stop : Option LexingEnd)
     → IsRead n all place read stop
     → place ≡ None
     → length all ≤ n

@@ -12,13 +12,13 @@ use Rattle.js_lexer.proofs.FrontLemmas.{longest_here}
 use Rattle.js_lexer.proofs.TilingLemmas.{gap_within}
 use Rattle.js_tree.specs.declared.node.Span.{Span}
 use Rattle.js_parser_language.specs.Tokens.{Token, head_of, tail_of}
-use Rattle.js_parser_language.specs.Places.{Place, stands, stands_maybe, opens, closes, start_of, end_of, AreSpans}
+use Rattle.js_parser_language.specs.Places.{FlatPlace, stands, stands_maybe, opens, closes, start_of, end_of, AreSpans}
 use Rattle.js_tree.specs.Spans.{span_of}
 use Rattle.js_parser_readers.specs.Places.{cut_at}
 use Rattle.js_parser_readers.specs.Placed.{Behind, AreInOrder, AreNumbered, IsForward}
 use Rattle.js_parser_readers.specs.declared.fault.ParseError.{ParseError}
 use Rattle.js_parser_readers.specs.declared.fault.ParseFault.{ParseFault}
-use Rattle.js_parser.specs.Lexing.{Lexed, Stop, lexed, lexed_of, unless_deep, complete, told}
+use Rattle.js_parser.specs.Lexing.{Lexed, LexingEnd, lexed, lexed_of, unless_deep, complete, tree_or_fault}
 use Rattle.js_parser_descent.specs.declared.limits.TheConstants.{MOST_HEIGHT}
 use Rattle.js_parser.specs.declared.limits.TheConstants.{MOST_TOKENS}
 use Rattle.js_parser.specs.Sources.{lent_view, tokens_in, tokens_of}
@@ -116,7 +116,7 @@ next_tile low end (t ∷ ts) r = lower t.end 0 end ts (omega arith) r.3
 -- what lies beyond the end of the source is nothing
 cut_nothing : (end : ℕ) (spans : List Span)
     → All IsForward spans
-    → (places : List Place) (before : ℕ) (ts left : List Token)
+    → (places : List FlatPlace) (before : ℕ) (ts left : List Token)
     → before ≤ end
     → Tile 0 end ts
     → AreSpans spans places before ts left
@@ -143,7 +143,7 @@ cut_nothing end spans f (stands_maybe kind ∷ places) before ts left b r (inr p
     inr (p.0, cut_nothing end spans f places before ts left b r p.1)
 
 -- the spans of a source's nodes lie in it
-pub all_within : (source : List ℕ) (spans : List Span) (places : List Place)
+pub all_within : (source : List ℕ) (spans : List Span) (places : List FlatPlace)
     → AreSpansIn source spans places
     → All IsForward spans
     → AreSpansIn source (map (cut_at (length source)) spans) places
@@ -163,33 +163,33 @@ unless_stands : {A : Type 0} (Holds : A → Type 0) (b : Bool) (x : A) → Holds
 unless_stands Holds true x h = tt
 unless_stands Holds false x h = h
 
-complete_stands : {A : Type 0} (Holds : A → Type 0) (end : ℕ) (stop : Option Stop) (x : A) (height : ℕ)
+complete_stands : {A : Type 0} (Holds : A → Type 0) (end : ℕ) (stop : Option LexingEnd) (x : A) (height : ℕ)
     → (stop ≡ None → Holds x)
     → IfOk (complete end stop x height) Holds
 complete_stands Holds end None x height h = unless_stands Holds (nat_lt MOST_HEIGHT height) x (h refl)
 complete_stands Holds end (Some s) x height h = tt
 
-told_stands : {A : Type 0} (places : A → List Place) (source : List ℕ) (old new : List Span) (l : Lexed) (end : ℕ)
+told_stands : {A : Type 0} (places : A → List FlatPlace) (source : List ℕ) (old new : List Span) (l : Lexed) (end : ℕ)
     (given : Result (A × ℕ) ParseError)
     → (l.stop ≡ None → l.tokens ≡ tokens_of source)
     → IfOk given (λ x. AreSpans new (places x.0) 0 l.tokens [])
     → IfOk given (λ x. AreInOrder l.tokens → All IsForward old → All IsForward new)
     → IfOk given (λ x. AreNumbered (length old) (places x.0) (length new))
-    → IfOk (told l end given) (λ x. PlacedIn source old new (places x))
+    → IfOk (tree_or_fault l end given) (λ x. PlacedIn source old new (places x))
 told_stands places source old new l end (Err e) all p f n = tt
 told_stands places source old new l end (Ok x) all p f n =
     complete_stands (λ x. PlacedIn source old new (places x)) end l.stop x.0 x.1
     (λ none. record { exact = rw (all none) at p; forward = f (rw (all none) (are_in_order source)); numbers = n })
 
 -- the spans of a tree that is told
-pub told_placed : {A : Type 0} (places : A → List Place) (source : List ℕ) (old new : List Span) (l : Lexed)
+pub told_placed : {A : Type 0} (places : A → List FlatPlace) (source : List ℕ) (old new : List Span) (l : Lexed)
     (ts : List Token) (end : ℕ) (given : Result (A × ℕ) ParseError) (answer : Result A ParseFault)
     → l ≡ lexed_of source
     → ts ≡ l.tokens
     → IfOk given (λ x. AreSpans new (places x.0) 0 ts [])
     → IfOk given (λ x. AreInOrder ts → All IsForward old → All IsForward new)
     → IfOk given (λ x. AreNumbered (length old) (places x.0) (length new))
-    → answer ≡ told l end given
+    → answer ≡ tree_or_fault l end given
     → IfOk answer (λ x. PlacedIn source old new (places x))
 told_placed places source old new l ts end given answer e t p f n is =
     rw is (told_stands places source old new l end given

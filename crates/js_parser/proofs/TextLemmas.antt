@@ -3,11 +3,11 @@ use Rattle.std.proofs.Common.{◌≡◌, ℕ, ◌+◌, List, [], ◌∷◌, ◌+
 use Rattle.std.specs.Prelude.{map}
 use Rattle.js_lexer.specs.State.{items_of}
 use Rattle.js_lexer.specs.Tokens.{Lent}
-use Rattle.js_lexer.specs.Written.{Written, written, lent, tokens_then, end_after}
+use Rattle.js_lexer.specs.Written.{WrittenToken, written, lent, tokens_then, end_after}
 use Rattle.js_lexer.proofs.FirstLaws.{first_tokens}
 use Rattle.js_tree.specs.Trees.{Identifier}
 use Rattle.js_parser_language.specs.Tokens.{Token}
-use Rattle.js_parser_language.specs.Language.{IsExpression, IsFunction, IsScript, Begins}
+use Rattle.js_parser_language.specs.Language.{IsExpression, IsFunction, IsScript, BeginsLanguage}
 use Rattle.js_parser_laws.specs.Exact.{written_view, AreAlike, BeginsWritten}
 use Rattle.js_parser_laws.proofs.BegunLaws.{expression_written, expression_alike, function_written, function_alike, script_written, script_alike}
 use Rattle.js_parser.specs.Sources.{lent_view, tokens_in, bad_in, tokens_of}
@@ -57,11 +57,11 @@ end_seen at (l ∷ ls) = end_seen (l.start + length l.text) ls
 
 -- ---- the written ones
 
-written_good : (at : ℕ) (ws : List Written) → bad_in (lent at ws) ≡ None
+written_good : (at : ℕ) (ws : List WrittenToken) → bad_in (lent at ws) ≡ None
 written_good at [] = refl
 written_good at (w ∷ ws) = written_good (at + 1 + length w.text) ws
 
-written_alike : (at : ℕ) (ws : List Written) → AreAlike (map written_view ws) (tokens_in (lent at ws))
+written_alike : (at : ℕ) (ws : List WrittenToken) → AreAlike (map written_view ws) (tokens_in (lent at ws))
 written_alike at [] = tt
 written_alike at (w ∷ ws) = (refl, refl, refl, refl, written_alike (at + 1 + length w.text) ws)
 
@@ -72,11 +72,11 @@ alike_behind (t ∷ front) us vs a = (refl, refl, refl, refl, alike_behind front
 -- ---- a text
 
 begins_text : {Tree : Type 0} (Is : List Token → Tree → Type 0)
-    → ((ts : List Token) → Begins Is ts → BeginsWritten Is ts)
+    → ((ts : List Token) → BeginsLanguage Is ts → BeginsWritten Is ts)
     → ((ts us : List Token) (t : Tree) → AreAlike ts us → Is ts t → Is us t)
     → (source : List ℕ) (before left : List Token)
     → tokens_of source ≡ before ++ left
-    → Begins Is before
+    → BeginsLanguage Is before
     → BeginsText Is source before
 begins_text Is writes alike source before left e b =
     let f = fronts (items_of source) before left e in
@@ -111,20 +111,20 @@ begins_text Is writes alike source before left e b =
 
 pub expression_texts : (source : List ℕ) (before left : List Token)
     → tokens_of source ≡ before ++ left
-    → Begins IsExpression before
+    → BeginsLanguage IsExpression before
     → BeginsText IsExpression source before
 expression_texts source before left e b =
     begins_text IsExpression expression_written expression_alike source before left e b
 
 pub function_texts : (source : List ℕ) (before left : List Token)
     → tokens_of source ≡ before ++ left
-    → Begins IsFunction before
+    → BeginsLanguage IsFunction before
     → BeginsText IsFunction source before
 function_texts source before left e b = begins_text IsFunction function_written function_alike source before left e b
 
 pub script_texts : (earlier : List Identifier) (source : List ℕ) (before left : List Token)
     → tokens_of source ≡ before ++ left
-    → Begins (IsScript earlier) before
+    → BeginsLanguage (IsScript earlier) before
     → BeginsText (IsScript earlier) source before
 script_texts earlier source before left e b =
     begins_text (IsScript earlier) (script_written earlier) (script_alike earlier) source before left e b

@@ -5,7 +5,7 @@ use Rattle.js_parser_readers.specs.declared.fault.ParseFault.{ParseFault}
 use Rattle.js_parser_readers.specs.declared.fault.ParseFault.TheVariants as faults
 use Rattle.js_parser.specs.declared.limits.TheConstants.{MOST_UNITS}
 use Rattle.js_parser.specs.Sources.{IsSource}
-use Rattle.js_parser.specs.Faults.{Stands, Caused, IsCause, ComesFirst}
+use Rattle.js_parser.specs.Faults.{StandsInSource, Caused, IsCause, ComesFirst}
 
 -- the answer is this, or memory ran out
 abbrev pub OkOrMemory : {A : Type 0} → (A → Type 0) → Result A ParseFault → Type 0
@@ -26,5 +26,5 @@ pub record Answers {A Tree : Type 0} (Is : List Token → Tree → Type 0) (heig
   pub only : (t : Tree) → IsSource Is height_of source t → OkOrMemory (λ x. look x ≡ t) answer
   pub long : MOST_UNITS < length source → answer ≡ Err (faults.TooLong (length source))
   pub caused : IfErr answer (λ f. Caused Is height_of source f)
-  pub exact : (f : ParseFault) → Stands Is height_of source f → FailsBy f answer
+  pub exact : (f : ParseFault) → StandsInSource Is height_of source f → FailsBy f answer
   pub first : (g : ParseFault) → IsCause Is source g → IfErr answer (λ f. ComesFirst f g)

@@ -1,18 +1,19 @@
 -- The faults that stand in a source, and which of them comes first.
 use Rattle.std.specs.Prelude.{◌≡◌, ◌≤◌, ◌<◌, ◌⊎◌, ℕ, List, [], ◌∷◌, ◌++◌, length, Some, None}
 use Rattle.js_parser_language.specs.Tokens.{Token}
-use Rattle.js_parser_language.specs.Language.{Begins}
+use Rattle.js_parser_language.specs.Language.{BeginsLanguage}
 use Rattle.js_parser_readers.specs.declared.fault.ParseFault.{ParseFault}
 use Rattle.js_parser_readers.specs.declared.fault.ParseFault.TheVariants as faults
-use Rattle.js_parser_laws.specs.Exact.{Leaves, TooDeepFrom}
+use Rattle.js_parser_laws.specs.Exact.{LeavesAfter, TooDeepFrom}
 use Rattle.js_parser_descent.specs.declared.limits.TheConstants.{MOST_HEIGHT}
 use Rattle.js_parser.specs.declared.limits.TheConstants.{MOST_UNITS, MOST_TOKENS}
 use Rattle.js_parser.specs.Sources.{tokens_of, bad_place, HasDeepTree}
 
 -- ---- causes
--- Tokens begin a language where some tokens behind them, of whatever number, make them one of its sources (Begins). The
--- greatest numbers of tokens and of code units play no part in that. Of the first tokens of a source that says as much
--- as that a text of the language begins with them (BeginsText, and the clause texts of each call).
+-- Tokens begin a language where some tokens behind them, of whatever number, make them one of its sources
+-- (BeginsLanguage). The greatest numbers of tokens and of code units play no part in that. Of the first tokens of a
+-- source that says as much as that a text of the language begins with them (BeginsText, and the clause texts of each
+-- call).
 
 -- where the first of these last tokens of a source begins; where none is left, the end of the source, none of whose
 -- tokens is bad
@@ -27,8 +28,8 @@ pub record LeavesLanguage {Tree : Type 0} (Is : List Token → Tree → Type 0) 
   pub left : List Token
   pub parts : tokens_of source ≡ before ++ left
   pub place : IsPlace source left at
-  pub begins : Begins Is before
-  pub leaves : Leaves Is before left
+  pub begins : BeginsLanguage Is before
+  pub leaves : LeavesAfter Is before left
 
 -- The first token that is more than a source may have stands at this place.
 pub record PassesLimit (source : List ℕ) (at : ℕ) : Type 0 where
@@ -45,7 +46,7 @@ pub record PassesLimit (source : List ℕ) (at : ℕ) : Type 0 where
 -- a bad token, behind tokens that begin the language and aren't too many
 abbrev pub HasBadToken : {Tree : Type 0} → (List Token → Tree → Type 0) → List ℕ → ℕ → Type 0
 HasBadToken Is source at =
-    (bad_place source ≡ Some at) × (length (tokens_of source) ≤ MOST_TOKENS) × Begins Is (tokens_of source)
+    (bad_place source ≡ Some at) × (length (tokens_of source) ≤ MOST_TOKENS) × BeginsLanguage Is (tokens_of source)
 
 -- the place where the language is left, behind no more tokens than a source may have
 abbrev pub HasSyntaxFault : {Tree : Type 0} → (List Token → Tree → Type 0) → List ℕ → ℕ → Type 0
@@ -53,17 +54,17 @@ HasSyntaxFault Is source at = (l : LeavesLanguage Is source at) × (length l.bef
 
 -- a token that is one too many, and the tokens through it begin the language
 abbrev pub HasTooMany : {Tree : Type 0} → (List Token → Tree → Type 0) → List ℕ → ℕ → Type 0
-HasTooMany Is source at = (p : PassesLimit source at) × Begins Is (p.before ++ p.next ∷ [])
+HasTooMany Is source at = (p : PassesLimit source at) × BeginsLanguage Is (p.before ++ p.next ∷ [])
 
 -- This fault stands in the source. In a source that isn't too long that is the first of these: a bad token, a syntax
 -- fault, a token too many. A tree is too deep where none of these stands.
-abbrev pub Stands : {Tree : Type 0} → (List Token → Tree → Type 0) → (Tree → ℕ) → List ℕ → ParseFault → Type 0
-Stands Is height_of source (faults.TooLong units) = (MOST_UNITS < length source) × (units ≡ length source)
-Stands Is height_of source (faults.Token at) = (length source ≤ MOST_UNITS) × HasBadToken Is source at
-Stands Is height_of source (faults.Syntax at) = (length source ≤ MOST_UNITS) × HasSyntaxFault Is source at
-Stands Is height_of source (faults.TooMany at) = (length source ≤ MOST_UNITS) × HasTooMany Is source at
-Stands Is height_of source faults.TooDeep = HasDeepTree Is height_of source
-Stands Is height_of source faults.Memory = ⊥
+abbrev pub StandsInSource : {Tree : Type 0} → (List Token → Tree → Type 0) → (Tree → ℕ) → List ℕ → ParseFault → Type 0
+StandsInSource Is height_of source (faults.TooLong units) = (MOST_UNITS < length source) × (units ≡ length source)
+StandsInSource Is height_of source (faults.Token at) = (length source ≤ MOST_UNITS) × HasBadToken Is source at
+StandsInSource Is height_of source (faults.Syntax at) = (length source ≤ MOST_UNITS) × HasSyntaxFault Is source at
+StandsInSource Is height_of source (faults.TooMany at) = (length source ≤ MOST_UNITS) × HasTooMany Is source at
+StandsInSource Is height_of source faults.TooDeep = HasDeepTree Is height_of source
+StandsInSource Is height_of source faults.Memory = ⊥
 
 -- The source isn't too long, and some of its first tokens begin the language, but only trees that are deeper than a
 -- source's may be.
@@ -77,7 +78,7 @@ BeginsTooDeep Is height_of source =
 abbrev pub Caused : {Tree : Type 0} → (List Token → Tree → Type 0) → (Tree → ℕ) → List ℕ → ParseFault → Type 0
 Caused Is height_of source faults.TooDeep = HasDeepTree Is height_of source ⊎ BeginsTooDeep Is height_of source
 Caused Is height_of source faults.Memory = Unit {0}
-Caused Is height_of source f = Stands Is height_of source f
+Caused Is height_of source f = StandsInSource Is height_of source f
 
 -- ---- the order of faults
 

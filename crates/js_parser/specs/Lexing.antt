@@ -5,8 +5,8 @@ use Rattle.js_lexer.specs.State.{items_of}
 use Rattle.js_lexer.specs.Tokens.{Lent}
 use Rattle.js_parser_language.specs.Tokens.{Token}
 use Rattle.js_parser.specs.declared.lexing.Lexed as code
-use Rattle.js_parser.specs.declared.lexing.Stop as declared
-use Rattle.js_parser.specs.declared.lexing.Stop.TheVariants as stops
+use Rattle.js_parser.specs.declared.lexing.LexingEnd as declared
+use Rattle.js_parser.specs.declared.lexing.LexingEnd.TheVariants as stops
 use Rattle.js_parser_descent.specs.declared.limits.TheConstants.{MOST_HEIGHT}
 use Rattle.js_parser.specs.declared.limits.TheConstants.{MOST_TOKENS}
 use Rattle.js_parser.specs.Sources.{lent_view}
@@ -17,14 +17,14 @@ use Rattle.js_parser_readers.specs.declared.fault.ParseFault.TheVariants as faul
 use Rattle.js_parser_readers.specs.Views.{tokens_view}
 
 -- why no further tokens are read: one is bad, or one is too many
-pub data Stop : Type 0 where
-  bad : ℕ → Stop
-  many : ℕ → Stop
+pub data LexingEnd : Type 0 where
+  bad : ℕ → LexingEnd
+  many : ℕ → LexingEnd
 
 -- the tokens that are read, with the first that is too many, and why no further ones are
 pub record Lexed : Type 0 where
   pub tokens : List Token
-  pub stop : Option Stop
+  pub stop : Option LexingEnd
 
 -- what is read, with a token in front
 abbrev pub with_token : Lent → Lexed → Lexed
@@ -44,7 +44,7 @@ lexed_of source = lexed MOST_TOKENS (items_of source)
 -- ---- how the code's values are seen
 
 -- why the code reads no further tokens
-abbrev pub stop_view : Option declared.Stop → Option Stop
+abbrev pub stop_view : Option declared.LexingEnd → Option LexingEnd
 stop_view None = None
 stop_view (Some (stops.Bad at)) = Some (bad at)
 stop_view (Some (stops.Many at)) = Some (many at)
@@ -61,7 +61,7 @@ start_or end None = end
 start_or end (Some t) = t.start
 
 -- a fault for want of further tokens, or else at the end of the source
-abbrev pub stop_fault : ℕ → Option Stop → ParseFault
+abbrev pub stop_fault : ℕ → Option LexingEnd → ParseFault
 stop_fault end None = faults.Syntax end
 stop_fault end (Some (bad at)) = faults.Token at
 stop_fault end (Some (many at)) = faults.TooMany at
@@ -81,11 +81,11 @@ unless_deep false x = Ok x
 
 -- what is told of a source whose tokens were read as a tree of this height: where there are no further tokens for a
 -- cause, that cause
-abbrev pub complete : {A : Type 0} → ℕ → Option Stop → A → ℕ → Result A ParseFault
+abbrev pub complete : {A : Type 0} → ℕ → Option LexingEnd → A → ℕ → Result A ParseFault
 complete end None x height = unless_deep (nat_lt MOST_HEIGHT height) x
 complete end (Some stop) x height = Err (stop_fault end (Some stop))
 
 -- what is told of a source: of the tree that was read with its height, or of why reading stopped
-abbrev pub told : {A : Type 0} → Lexed → ℕ → Result (A × ℕ) ParseError → Result A ParseFault
-told l end (Ok x) = complete end l.stop x.0 x.1
-told l end (Err e) = Err (fault_of l end e)
+abbrev pub tree_or_fault : {A : Type 0} → Lexed → ℕ → Result (A × ℕ) ParseError → Result A ParseFault
+tree_or_fault l end (Ok x) = complete end l.stop x.0 x.1
+tree_or_fault l end (Err e) = Err (fault_of l end e)

@@ -5,18 +5,18 @@ ghost use Rattle.js_parser.specs.Lexing as spec;
 ghost use Rattle.js_parser.specs.Lexing.{lexed_view, stop_view};
 ghost use Rattle.js_parser_readers.specs.Views.{tokens_view};
 
-use crate::lexing::{Lexed, Stop};
+use crate::lexing::{Lexed, LexingEnd};
 use js_parser_descent::limits::MOST_HEIGHT;
 use js_parser_readers::fault::{ParseError, ParseFault};
 
 /// The fault for want of further tokens, or else at the end of the source.
-fn stop_fault(end: usize, stop: Option<Stop>) -> ParseFault
+fn stop_fault(end: usize, stop: Option<LexingEnd>) -> ParseFault
     ensures { result ≡ spec.stop_fault end (stop_view stop) }
 {
     match stop {
         None => ParseFault::Syntax { at: end },
-        Some(Stop::Bad { at }) => ParseFault::Token { at },
-        Some(Stop::Many { at }) => ParseFault::TooMany { at },
+        Some(LexingEnd::Bad { at }) => ParseFault::Token { at },
+        Some(LexingEnd::Many { at }) => ParseFault::TooMany { at },
     }
 }
 
@@ -56,12 +56,12 @@ fn unless_deep<T: Drop>(tree: T, height: u32) -> Result<T, ParseFault>
 }
 
 /// A tree that was read from all tokens, with its height, or the fault of the source.
-pub fn told<T: Drop>(
+pub fn tree_or_fault<T: Drop>(
     lexed: &Lexed<'_>,
     end: usize,
     read: Result<(T, u32), ParseError>,
 ) -> Result<T, ParseFault>
-    ensures { result ≡ spec.told (lexed_view lexed.now) end read }
+    ensures { result ≡ spec.tree_or_fault (lexed_view lexed.now) end read }
 {
     let (tree, height) = match read {
         Ok(read) => read,

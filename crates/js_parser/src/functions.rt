@@ -15,7 +15,7 @@ use js_parser_descent::limits::MOST_ROOM;
 use js_parser_descent::parsed::Parsed;
 use js_parser_descent::primaries::function_at;
 use js_parser_language::boxes::boxed;
-use js_parser_readers::classes::expressions::{Start, start_of};
+use js_parser_readers::classes::expressions::{PrimaryStart, start_of};
 use js_parser_readers::fault::ParseError;
 use js_parser_readers::names::parameters_at;
 use js_parser_readers::nodes::Nodes;
@@ -40,16 +40,18 @@ pub fn function_code_at<'t, 's>(
     ensures placed { ExpressionPlaced nodes.old nodes.new (tokens_view tokens.now) result }
 {
     match start_of(tokens) {
-        Start::Function => {
+        PrimaryStart::Function => {
             let (tree, height, rest) = function_at(nodes, room, tokens, tail(tokens))?;
             Ok((boxed(nodes.alloc(), tree)?, height, rest))
         }
-        Start::Name(_) => arrow_of_one(nodes, room, tokens),
-        Start::Parenthesis => arrow_of_parameters(nodes, room, tokens),
-        Start::This | Start::Number(_) | Start::String(_) | Start::Boolean(_) | Start::Null => {
-            Err(ParseError::Syntax { left: tokens.len() })
-        }
-        Start::Bracket | Start::Brace | Start::Other => {
+        PrimaryStart::Name(_) => arrow_of_one(nodes, room, tokens),
+        PrimaryStart::Parenthesis => arrow_of_parameters(nodes, room, tokens),
+        PrimaryStart::This
+        | PrimaryStart::Number(_)
+        | PrimaryStart::String(_)
+        | PrimaryStart::Boolean(_)
+        | PrimaryStart::Null => { Err(ParseError::Syntax { left: tokens.len() }) }
+        PrimaryStart::Bracket | PrimaryStart::Brace | PrimaryStart::Other => {
             Err(ParseError::Syntax { left: tokens.len() })
         }
     }

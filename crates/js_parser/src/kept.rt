@@ -3,7 +3,7 @@
 ghost use Rattle.std.specs.Prelude.{◌≡◌, length, All, IfErr, IfOk, List};
 ghost use Rattle.cdp_text.specs.Units.{utf16_of};
 ghost use Rattle.js_parser_readers.specs.declared.fault.ParseFault.TheVariants.{Memory};
-ghost use Rattle.js_parser_language.specs.Places.{Place};
+ghost use Rattle.js_parser_language.specs.Places.{FlatPlace};
 ghost use Rattle.js_tree.specs.Spans.{IsWithin};
 ghost use Rattle.js_parser_readers.specs.Placed.{IsForward};
 ghost use Rattle.js_parser.specs.Spans.{AreSpansIn};
@@ -34,7 +34,7 @@ pub fn url_of(alloc: Global, url: &str) -> Result<Units, ParseFault>
 pub fn spans_of(nodes: &Nodes, source: &[u16]) -> Result<Spans, ParseFault>
     ensures counted { IfOk result (λ spans. length spans ≡ length nodes.now) }
     ensures within { IfOk result (λ spans. All (IsWithin (length source.now)) spans) }
-    ensures exact { IfOk result (λ spans. (places : List Place) → AreSpansIn source.now nodes.now places → All IsForward nodes.now → AreSpansIn source.now spans places) }
+    ensures exact { IfOk result (λ spans. (places : List FlatPlace) → AreSpansIn source.now nodes.now places → All IsForward nodes.now → AreSpansIn source.now spans places) }
     ensures fault { IfErr result (λ f. f ≡ Memory) }
 {
     match nodes.spans_within(source.len()) {

@@ -15,7 +15,7 @@ use std::alloc::{AllocError, Global};
 
 /// Why a source has no further tokens. A place counts the code units before it.
 #[derive(Clone, Copy)]
-pub enum Stop {
+pub enum LexingEnd {
     /// No token begins here.
     Bad { at: usize },
     /// The token that begins here is one too many.
@@ -28,7 +28,7 @@ pub struct Lexed<'s> {
     /// The tokens that were read.
     pub tokens: Vec<Token<'s>>,
     /// Why there are no further ones. `None` at the end of the source.
-    pub stop: Option<Stop>,
+    pub stop: Option<LexingEnd>,
 }
 
 /// Reads tokens up to a bad one or one too many.
@@ -43,12 +43,12 @@ pub fn read_tokens<'s>(alloc: Global, items: Tokens<'s>) -> Result<Lexed<'s>, Al
                 let is_last = tokens.len() == MOST_TOKENS;
                 tokens.push(token)?;
                 if is_last {
-                    let stop = Some(Stop::Many { at: token.start });
+                    let stop = Some(LexingEnd::Many { at: token.start });
                     return Ok(Lexed { tokens, stop });
                 }
             }
             Err(bad) => {
-                let stop = Some(Stop::Bad { at: bad.at });
+                let stop = Some(LexingEnd::Bad { at: bad.at });
                 return Ok(Lexed { tokens, stop });
             }
         }

@@ -3,7 +3,7 @@
 //! Its words in contracts:
 //!
 //! - `IsSource`: the text is a source of the language with this tree, within the limits
-//! - *stands*: the fault that a source has, with nothing wrong before it (`Stands`); *cause*: what is wrong at a
+//! - *stands*: the fault that a source has, with nothing wrong before it (`StandsInSource`); *cause*: what is wrong at a
 //!   place, whatever else is
 //! - `tokens_of`, `bad_place`: the tokens of a text, and where a bad one stands behind them
 //! - `expression_of`, `function_of`, `node_text`: the tree of a text, and the text of one of its nodes, as functions

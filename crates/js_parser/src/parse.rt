@@ -4,12 +4,12 @@ ghost use Rattle.std.specs.Prelude.{◌++◌, ◌≡◌, ◌<◌, length, Err, I
 ghost use Rattle.std.specs.List.{range_with_len};
 ghost use Rattle.cdp_text.specs.Units.{utf16_of};
 ghost use Rattle.js_tree.specs.Height.{height, height_of_statements};
-ghost use Rattle.js_parser_language.specs.Language.{Begins, IsExpression, IsFunction, IsScript};
+ghost use Rattle.js_parser_language.specs.Language.{BeginsLanguage, IsExpression, IsFunction, IsScript};
 ghost use Rattle.js_parser_language.specs.Places.{expression_places, numbers_of, statements_places};
 ghost use Rattle.js_tree.specs.Views.{expression_view, statements_view};
 ghost use Rattle.js_parser_readers.specs.declared.fault.ParseFault.TheVariants.{TooLong};
 ghost use Rattle.js_parser.specs.Answers.{FailsBy, OkOrMemory};
-ghost use Rattle.js_parser.specs.Faults.{Caused, ComesFirst, IsCause, Stands};
+ghost use Rattle.js_parser.specs.Faults.{Caused, ComesFirst, IsCause, StandsInSource};
 ghost use Rattle.js_parser.specs.Sources.{IsSource, tokens_of};
 ghost use Rattle.js_parser.specs.Spans.{AreSpansIn};
 ghost use Rattle.js_parser.specs.Texts.{BeginsText};
@@ -45,11 +45,11 @@ pub fn parse_expression(alloc: Global, source: &[u16]) -> Result<Expression, Par
     // A fault that is answered stands in the source.
     ensures faults { IfErr result (λ f. Caused IsExpression height source.now f) }
     // Where first tokens of the source begin the language, the source, cut where the last of them ends, begins a text that is in it.
-    ensures texts { (before : _) (left : _) → tokens_of source.now ≡ before ++ left → Begins IsExpression before → BeginsText IsExpression source.now before }
+    ensures texts { (before : _) (left : _) → tokens_of source.now ≡ before ++ left → BeginsLanguage IsExpression before → BeginsText IsExpression source.now before }
     // Of those that have a place, it is the first for which the source has a cause.
     ensures first { (g : _) → IsCause IsExpression source.now g → IfErr result (λ f. ComesFirst f g) }
     // The fault that stands in a source is answered, unless memory runs out or a tree would be too deep.
-    ensures exact { (f : _) → Stands IsExpression height source.now f → FailsBy f result }
+    ensures exact { (f : _) → StandsInSource IsExpression height source.now f → FailsBy f result }
 {
     let mut nodes = Nodes::new(alloc);
     let tree = expression_tree(&mut nodes, source)?;
@@ -85,11 +85,11 @@ pub fn parse_function(alloc: Global, source: &[u16]) -> Result<FunctionCode, Par
     // A fault that is answered stands in the source.
     ensures faults { IfErr result (λ f. Caused IsFunction height source.now f) }
     // Where first tokens of the source begin the language, the source, cut where the last of them ends, begins a text that is in it.
-    ensures texts { (before : _) (left : _) → tokens_of source.now ≡ before ++ left → Begins IsFunction before → BeginsText IsFunction source.now before }
+    ensures texts { (before : _) (left : _) → tokens_of source.now ≡ before ++ left → BeginsLanguage IsFunction before → BeginsText IsFunction source.now before }
     // Of those that have a place, it is the first for which the source has a cause.
     ensures first { (g : _) → IsCause IsFunction source.now g → IfErr result (λ f. ComesFirst f g) }
     // The fault that stands in a source is answered, unless memory runs out or a tree would be too deep.
-    ensures exact { (f : _) → Stands IsFunction height source.now f → FailsBy f result }
+    ensures exact { (f : _) → StandsInSource IsFunction height source.now f → FailsBy f result }
 {
     let mut nodes = Nodes::new(alloc);
     let tree = function_tree(&mut nodes, source)?;
@@ -131,11 +131,11 @@ pub fn parse_script(
     // A fault that is answered stands in the source.
     ensures faults { IfErr result (λ f. Caused (IsScript declared.now) height_of_statements source.now f) }
     // Where first tokens of the source begin the language, the source, cut where the last of them ends, begins a text that is in it.
-    ensures texts { (before : _) (left : _) → tokens_of source.now ≡ before ++ left → Begins (IsScript declared.now) before → BeginsText (IsScript declared.now) source.now before }
+    ensures texts { (before : _) (left : _) → tokens_of source.now ≡ before ++ left → BeginsLanguage (IsScript declared.now) before → BeginsText (IsScript declared.now) source.now before }
     // Of those that have a place, it is the first for which the source has a cause.
     ensures first { (g : _) → IsCause (IsScript declared.now) source.now g → IfErr result (λ f. ComesFirst f g) }
     // The fault that stands in a source is answered, unless memory runs out or a tree would be too deep.
-    ensures exact { (f : _) → Stands (IsScript declared.now) height_of_statements source.now f → FailsBy f result }
+    ensures exact { (f : _) → StandsInSource (IsScript declared.now) height_of_statements source.now f → FailsBy f result }
 {
     let mut nodes = Nodes::new(alloc);
     let body = script_tree(&mut nodes, source, declared)?;

@@ -10,7 +10,7 @@ ghost use Rattle.js_parser.specs.Answers.{Answers};
 ghost use Rattle.js_parser.specs.Spans.{PlacedIn};
 
 use crate::earlier::earlier_names;
-use crate::faults::told;
+use crate::faults::tree_or_fault;
 use crate::lexing::lex;
 use crate::token_trees::{expression_of, function_of, script_of};
 use cdp_text::units::Units;
@@ -27,7 +27,7 @@ pub fn expression_tree(nodes: &mut Nodes, source: &[u16]) -> Result<Expr, ParseF
 {
     let lexed = lex(nodes.alloc(), source)?;
     let read = expression_of(nodes, lexed.tokens.as_slice());
-    told(&lexed, source.len(), read)
+    tree_or_fault(&lexed, source.len(), read)
 }
 
 /// The tree of a source that is one function expression or one arrow function.
@@ -37,7 +37,7 @@ pub fn function_tree(nodes: &mut Nodes, source: &[u16]) -> Result<Expr, ParseFau
 {
     let lexed = lex(nodes.alloc(), source)?;
     let read = function_of(nodes, lexed.tokens.as_slice());
-    told(&lexed, source.len(), read)
+    tree_or_fault(&lexed, source.len(), read)
 }
 
 /// The names of earlier scripts.
@@ -60,5 +60,5 @@ pub fn script_tree(
     let lexed = lex(nodes.alloc(), source)?;
     let names = names_of(nodes.alloc(), declared)?;
     let read = script_of(nodes, names, lexed.tokens.as_slice());
-    told(&lexed, source.len(), read)
+    tree_or_fault(&lexed, source.len(), read)
 }

@@ -14,7 +14,7 @@ use js_lexer::token::Token;
 use js_parser_descent::blocks::items_at;
 use js_parser_descent::expressions::expression_below;
 use js_parser_descent::limits::MOST_ROOM;
-use js_parser_readers::context::Context;
+use js_parser_readers::context::StatementContext;
 use js_parser_readers::fault::ParseError;
 use js_parser_readers::name_set::NameSet;
 use js_parser_readers::nodes::Nodes;
@@ -65,7 +65,7 @@ pub fn script_of<'s>(
     ensures forward { IfOk result (λ x. AreInOrder (tokens_view tokens.now) → All IsForward nodes.old → All IsForward nodes.new) }
     ensures numbers { IfOk result (λ x. AreNumbered (length nodes.old) (statements_places x.0) (length nodes.new)) }
 {
-    let (body, height, rest) = items_at(nodes, MOST_ROOM, Context::top(), names, tokens)?;
+    let (body, height, rest) = items_at(nodes, MOST_ROOM, StatementContext::top(), names, tokens)?;
     if !rest.is_empty() {
         return Err(ParseError::Syntax { left: rest.len() });
     }

@@ -4,11 +4,11 @@ use Rattle.js_parser_language.specs.Tokens.{tail_of}
 use Rattle.js_tree.specs.Trees as trees
 use Rattle.js_tree.specs.Trees.{Expression}
 use Rattle.js_parser_readers.specs.Classes as classes
-use Rattle.js_parser_readers.specs.Classes.{Start}
+use Rattle.js_parser_readers.specs.Classes.{PrimaryStart}
 use Rattle.js_parser_readers.specs.Reading.{Reader, stuck}
 
 -- the primary expression of one token that begins so
-abbrev pub leaf_by : Start → Reader Expression
+abbrev pub leaf_by : PrimaryStart → Reader Expression
 leaf_by classes.this_word ts = Ok (trees.this, tail_of ts)
 leaf_by (classes.a_name s) ts = Ok (trees.name s, tail_of ts)
 leaf_by (classes.a_number v) ts = Ok (trees.number v, tail_of ts)

@@ -25,7 +25,7 @@ use cdp_text::units::Units;
 use js_lexer::token::{Token, TokenKind};
 use js_parser_language::expressions::{arrow, arrow_block};
 use js_parser_readers::classes::arrows::take_fresh;
-use js_parser_readers::context::Context;
+use js_parser_readers::context::StatementContext;
 use js_parser_readers::fault::ParseError;
 use js_parser_readers::name_set::NameSet;
 use js_parser_readers::nodes::Nodes;
@@ -144,7 +144,13 @@ fn arrow_block_at<'t, 's>(
     ensures height { ExpressionWithin (room + 1) result }
     ensures placed { (old : List Span) → Placed true old nodes.old (in_turn (plain (flat_arrow_parameters (parameters_view parameters)) ∷ plain (a kinds.Arrow) ∷ [])) (tokens_view start.now) (tokens_view tokens.now) → ExpressionPlaced old nodes.new (tokens_view start.now) result }
 {
-    let (body, height, rest) = braces_at(nodes, room, Context::function_body(), taken, tokens)?;
+    let (body, height, rest) = braces_at(
+        nodes,
+        room,
+        StatementContext::function_body(),
+        taken,
+        tokens,
+    )?;
     let node = nodes.add(start, rest)?;
     let tree = arrow_block(nodes.alloc(), node, parameters, body)?;
     Ok((tree, height + 1, rest))

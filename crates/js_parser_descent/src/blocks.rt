@@ -15,11 +15,11 @@ ghost use Rattle.js_parser_language.specs.Flat.{flat_parameters};
 
 use crate::declarations::item_below;
 use crate::limits::MOST_ROOM;
-use crate::parsed::{FunctionParts, ParsedBlock, ParsedFunction, ParsedStatements, deeper};
+use crate::parsed::{ParametersAndBody, ParsedBlock, ParsedFunction, ParsedStatements, deeper};
 use js_lexer::token::{Token, TokenKind};
 use js_parser_language::parts::{block, statements_of};
 use js_parser_readers::classes::lists::ends_list;
-use js_parser_readers::context::Context;
+use js_parser_readers::context::StatementContext;
 use js_parser_readers::fault::ParseError;
 use js_parser_readers::name_set::NameSet;
 use js_parser_readers::names::parameters_at;
@@ -32,7 +32,7 @@ use js_parser_readers::token::expect;
 pub fn block_below<'t, 's>(
     nodes: &mut Nodes,
     room: u32,
-    context: Context,
+    context: StatementContext,
     names: NameSet<'s>,
     tokens: &'t [Token<'s>],
 ) -> ParsedBlock<'t, 's>
@@ -74,7 +74,7 @@ pub fn function_below<'t, 's>(
 pub fn items_at<'t, 's>(
     nodes: &mut Nodes,
     room: u32,
-    context: Context,
+    context: StatementContext,
     names: NameSet<'s>,
     tokens: &'t [Token<'s>],
 ) -> ParsedStatements<'t, 's>
@@ -101,7 +101,7 @@ pub fn items_at<'t, 's>(
 pub fn braces_at<'t, 's>(
     nodes: &mut Nodes,
     room: u32,
-    context: Context,
+    context: StatementContext,
     names: NameSet<'s>,
     tokens: &'t [Token<'s>],
 ) -> ParsedStatements<'t, 's>
@@ -130,6 +130,12 @@ pub fn code_at<'t, 's>(
     ensures placed { IfOk result (λ x. Placed true nodes.old nodes.new (in_turn (plain (flat_parameters x.0.parameters) ∷ in_braces (statements_places x.0.body) ∷ [])) (tokens_view tokens.now) (tokens_view x.2.now)) }
 {
     let (parameters, names, rest) = parameters_at(nodes.alloc(), tokens)?;
-    let (body, height, rest) = braces_at(nodes, room, Context::function_body(), names, rest)?;
-    Ok((FunctionParts { parameters, body }, height, rest))
+    let (body, height, rest) = braces_at(
+        nodes,
+        room,
+        StatementContext::function_body(),
+        names,
+        rest,
+    )?;
+    Ok((ParametersAndBody { parameters, body }, height, rest))
 }

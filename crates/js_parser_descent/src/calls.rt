@@ -24,7 +24,7 @@ use cdp_text::units::Units;
 use js_lexer::token::{Token, TokenKind};
 use js_parser_language::boxes::boxed;
 use js_parser_language::expressions::{call, index, member};
-use js_parser_readers::classes::expressions::{Link, link_of};
+use js_parser_readers::classes::expressions::{CallTail, link_of};
 use js_parser_readers::fault::ParseError;
 use js_parser_readers::nodes::Nodes;
 use js_parser_readers::token::{expect, tail};
@@ -100,7 +100,7 @@ fn links_at<'t, 's>(
 fn linked_at<'t, 's>(
     nodes: &mut Nodes,
     room: u32,
-    link: Link,
+    link: CallTail,
     object: Box<Expr>,
     object_height: u32,
     start: &[Token<'s>],
@@ -114,15 +114,15 @@ fn linked_at<'t, 's>(
     ensures placed { (old : List Span) → link_view (Some link) ≡ classes.link (head_of (tokens_view tokens.now)) → Placed true old nodes.old (expression_places object.value) (tokens_view start.now) (tokens_view tokens.now) → ExpressionPlaced old nodes.new (tokens_view start.now) result }
 {
     match link {
-        Link::Dot => {
+        CallTail::Dot => {
             let (text, rest) = word_at(tail(tokens))?;
             let node = nodes.add(start, rest)?;
             let name = Units::from_slice(nodes.alloc(), text)?;
             let tree = member(nodes.alloc(), node, object, name)?;
             Ok((tree, object_height + 1, rest))
         }
-        Link::Key => indexed_at(nodes, room, object, object_height, start, tokens),
-        Link::Arguments => called_at(nodes, room, object, object_height, start, tokens),
+        CallTail::Key => indexed_at(nodes, room, object, object_height, start, tokens),
+        CallTail::Arguments => called_at(nodes, room, object, object_height, start, tokens),
     }
 }
 

@@ -27,8 +27,8 @@ use cdp_text::units::Units;
 use js_lexer::token::{Token, TokenKind};
 use js_parser_language::parts::{declarator, declarators_of};
 use js_parser_language::statements::{function_declaration, lexical_declaration};
-use js_parser_readers::classes::statements::{First, first_of};
-use js_parser_readers::context::Context;
+use js_parser_readers::classes::statements::{StatementStart, first_of};
+use js_parser_readers::context::StatementContext;
 use js_parser_readers::endings::{end_of, semicolon_at};
 use js_parser_readers::fault::ParseError;
 use js_parser_readers::name_set::NameSet;
@@ -42,7 +42,7 @@ use js_parser_readers::token::{is_next, tail};
 pub fn item_below<'t, 's>(
     nodes: &mut Nodes,
     room: u32,
-    context: Context,
+    context: StatementContext,
     names: &mut NameSet<'s>,
     tokens: &'t [Token<'s>],
 ) -> ParsedStatement<'t, 's>
@@ -64,7 +64,7 @@ pub fn item_below<'t, 's>(
 pub fn item_at<'t, 's>(
     nodes: &mut Nodes,
     room: u32,
-    context: Context,
+    context: StatementContext,
     names: &mut NameSet<'s>,
     tokens: &'t [Token<'s>],
 ) -> ParsedStatement<'t, 's>
@@ -75,15 +75,22 @@ pub fn item_at<'t, 's>(
     ensures placed { StatementPlaced nodes.old nodes.new (tokens_view tokens.now) result }
 {
     match first_of(tokens) {
-        First::Lexical { constant } => lexical_at(nodes, room, constant, names, tokens),
-        First::Function => declaration_at(nodes, room, names, tokens),
-        First::Block | First::Semicolon | First::If | First::Do | First::While | First::For => {
-            statement_at(nodes, room, context, tokens)
-        }
-        First::Continue | First::Break | First::Return | First::Throw | First::Try => {
-            statement_at(nodes, room, context, tokens)
-        }
-        First::Debugger | First::Expression => statement_at(nodes, room, context, tokens),
+        StatementStart::Lexical { constant } => lexical_at(nodes, room, constant, names, tokens),
+        StatementStart::Function => declaration_at(nodes, room, names, tokens),
+        StatementStart::Block
+        | StatementStart::Semicolon
+        | StatementStart::If
+        | StatementStart::Do
+        | StatementStart::While
+        | StatementStart::For => { statement_at(nodes, room, context, tokens) }
+        StatementStart::Continue
+        | StatementStart::Break
+        | StatementStart::Return
+        | StatementStart::Throw
+        | StatementStart::Try => { statement_at(nodes, room, context, tokens) }
+        StatementStart::Debugger | StatementStart::Expression => statement_at(
+            nodes, room, context, tokens,
+        ),
     }
 }
 

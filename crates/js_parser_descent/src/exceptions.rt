@@ -24,7 +24,7 @@ use cdp_text::units::Units;
 use js_lexer::token::{Token, TokenKind};
 use js_parser_language::parts::catch_clause;
 use js_parser_language::statements::try_statement;
-use js_parser_readers::context::Context;
+use js_parser_readers::context::StatementContext;
 use js_parser_readers::fault::ParseError;
 use js_parser_readers::name_set::NameSet;
 use js_parser_readers::nodes::Nodes;
@@ -38,7 +38,7 @@ use js_tree::tree::Catch;
 pub fn try_at<'t, 's>(
     nodes: &mut Nodes,
     room: u32,
-    context: Context,
+    context: StatementContext,
     tokens: &'t [Token<'s>],
 ) -> ParsedStatement<'t, 's>
     requires { room < MOST_ROOM }
@@ -63,7 +63,7 @@ pub fn try_at<'t, 's>(
 fn handler_at<'t, 's>(
     nodes: &mut Nodes,
     room: u32,
-    context: Context,
+    context: StatementContext,
     tokens: &'t [Token<'s>],
 ) -> ParsedHandler<'t, 's>
     requires { room < MOST_ROOM }
@@ -83,7 +83,7 @@ fn handler_at<'t, 's>(
 fn catch_at<'t, 's>(
     nodes: &mut Nodes,
     room: u32,
-    context: Context,
+    context: StatementContext,
     tokens: &'t [Token<'s>],
 ) -> ParsedCatch<'t, 's>
     requires { room < MOST_ROOM }
@@ -111,7 +111,7 @@ fn catch_at<'t, 's>(
 fn finalizer_at<'t, 's>(
     nodes: &mut Nodes,
     room: u32,
-    context: Context,
+    context: StatementContext,
     handler: &Option<Catch>,
     tokens: &'t [Token<'s>],
 ) -> ParsedFinalizer<'t, 's>

@@ -21,7 +21,7 @@ use crate::parsed::{Parsed, deeper};
 use js_lexer::token::{Token, TokenKind};
 use js_parser_language::expressions::{assign, comma, conditional};
 use js_parser_language::parts::expressions_of;
-use js_parser_readers::classes::arrows::{Head, arrow_head};
+use js_parser_readers::classes::arrows::{ArrowStart, arrow_head};
 use js_parser_readers::classes::expressions::{Joint, joint_of};
 use js_parser_readers::fault::ParseError;
 use js_parser_readers::nodes::Nodes;
@@ -134,8 +134,8 @@ pub fn assignment_at<'t, 's>(
     ensures placed { ExpressionPlaced nodes.old nodes.new (tokens_view tokens.now) result }
 {
     match arrow_head(tokens) {
-        Some(Head::Name) => arrow_of_one(nodes, room, tokens),
-        Some(Head::List(only)) => arrow_of_list(nodes, room, only, tokens),
+        Some(ArrowStart::Name) => arrow_of_one(nodes, room, tokens),
+        Some(ArrowStart::List(only)) => arrow_of_list(nodes, room, only, tokens),
         None => {
             let (first, height, rest) = operation_at(nodes, room, 3, tokens)?;
             joined_at(nodes, room, first, height, tokens, rest)

@@ -22,7 +22,7 @@ use crate::limits::MOST_ROOM;
 use crate::parsed::{ParsedExpressions, ParsedItems, deeper, nothing_read};
 use js_lexer::token::{Token, TokenKind};
 use js_parser_language::parts::expressions_of;
-use js_parser_readers::classes::lists::{After, after_of};
+use js_parser_readers::classes::lists::{AfterElement, after_of};
 use js_parser_readers::fault::ParseError;
 use js_parser_readers::nodes::Nodes;
 use js_parser_readers::token::{is_next, tail};
@@ -69,8 +69,8 @@ fn elements_before<'t, 's>(
         items.push(Box::into_inner(item))?;
         height = deeper(height, item_height);
         match after_of(closer, later) {
-            Some(After::GoesOn) => rest = tail(later),
-            Some(After::Ends) => return Ok((items, height, tail(later))),
+            Some(AfterElement::GoesOn) => rest = tail(later),
+            Some(AfterElement::Ends) => return Ok((items, height, tail(later))),
             None => return Err(ParseError::Syntax { left: later.len() }),
         }
     }

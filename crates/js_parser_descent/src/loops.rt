@@ -18,8 +18,8 @@ use js_lexer::token::{Token, TokenKind};
 use js_parser_language::statements::{
     do_while_statement, for_lexical_statement, for_of_statement, for_statement, while_statement,
 };
-use js_parser_readers::classes::statements::{End, ForHead, OF, for_head_of};
-use js_parser_readers::context::Context;
+use js_parser_readers::classes::statements::{ForHead, OF, StatementEnd, for_head_of};
+use js_parser_readers::context::StatementContext;
 use js_parser_readers::endings::semicolon_at;
 use js_parser_readers::name_set::NameSet;
 use js_parser_readers::names::expect_name;
@@ -32,7 +32,7 @@ use js_parser_readers::words::name_at;
 pub fn do_at<'t, 's>(
     nodes: &mut Nodes,
     room: u32,
-    context: Context,
+    context: StatementContext,
     tokens: &'t [Token<'s>],
 ) -> ParsedStatement<'t, 's>
     requires { room < MOST_ROOM }
@@ -46,7 +46,7 @@ pub fn do_at<'t, 's>(
     let rest = expect(TokenKind::LeftParenthesis, rest)?;
     let (test, test_height, rest) = expression_below(nodes, room, rest)?;
     let rest = expect(TokenKind::RightParenthesis, rest)?;
-    let rest = semicolon_at(End::Do, rest)?;
+    let rest = semicolon_at(StatementEnd::Do, rest)?;
     let node = nodes.add(tokens, rest)?;
     let tree = do_while_statement(node, body, test);
     Ok((tree, deeper(body_height, test_height) + 1, rest))
@@ -57,7 +57,7 @@ pub fn do_at<'t, 's>(
 pub fn while_at<'t, 's>(
     nodes: &mut Nodes,
     room: u32,
-    context: Context,
+    context: StatementContext,
     tokens: &'t [Token<'s>],
 ) -> ParsedStatement<'t, 's>
     requires { room < MOST_ROOM }
@@ -81,7 +81,7 @@ pub fn while_at<'t, 's>(
 pub fn for_at<'t, 's>(
     nodes: &mut Nodes,
     room: u32,
-    context: Context,
+    context: StatementContext,
     tokens: &'t [Token<'s>],
 ) -> ParsedStatement<'t, 's>
     requires { room < MOST_ROOM }
@@ -114,7 +114,7 @@ fn let_kind(constant: bool) -> TokenKind
 fn for_of_at<'t, 's>(
     nodes: &mut Nodes,
     room: u32,
-    context: Context,
+    context: StatementContext,
     constant: bool,
     tokens: &'t [Token<'s>],
 ) -> ParsedStatement<'t, 's>
@@ -142,7 +142,7 @@ fn for_of_at<'t, 's>(
 fn for_lexical_at<'t, 's>(
     nodes: &mut Nodes,
     room: u32,
-    context: Context,
+    context: StatementContext,
     constant: bool,
     tokens: &'t [Token<'s>],
 ) -> ParsedStatement<'t, 's>
@@ -174,7 +174,7 @@ fn for_lexical_at<'t, 's>(
 fn for_plain_at<'t, 's>(
     nodes: &mut Nodes,
     room: u32,
-    context: Context,
+    context: StatementContext,
     tokens: &'t [Token<'s>],
 ) -> ParsedStatement<'t, 's>
     requires { room < MOST_ROOM }

@@ -29,7 +29,7 @@ use js_parser_language::parts::{
     computed_key, method, number_key, properties_of, property, shorthand_property, string_key,
     word_key,
 };
-use js_parser_readers::classes::lists::{After, after_of};
+use js_parser_readers::classes::lists::{AfterElement, after_of};
 use js_parser_readers::classes::objects::{
     AfterKey, KeyStart, after_key_of, is_shorthand, key_start_of,
 };
@@ -79,8 +79,8 @@ fn members_before<'t, 's>(
         members.push(member)?;
         height = deeper(height, member_height);
         match after_of(TokenKind::RightBrace, later) {
-            Some(After::GoesOn) => rest = tail(later),
-            Some(After::Ends) => return Ok((members, height, tail(later))),
+            Some(AfterElement::GoesOn) => rest = tail(later),
+            Some(AfterElement::Ends) => return Ok((members, height, tail(later))),
             None => return Err(ParseError::Syntax { left: later.len() }),
         }
     }

@@ -4,7 +4,7 @@ ghost use Rattle.std.specs.Prelude.{◌≡◌, max};
 
 use js_lexer::token::Token;
 use js_parser_readers::fault::ParseError;
-use js_tree::names::Names;
+use js_tree::names::ParameterNames;
 use js_tree::tree::{
     Block, Catch, Declarator, Declarators, Expr, Exprs, PropertyDefinition, PropertyDefinitions,
     PropertyName, Stmt, Stmts,
@@ -70,15 +70,15 @@ pub type ParsedFinalizer<'t, 's> = Result<(Option<Block>, u32, &'t [Token<'s>]),
 
 /// The parameters of a function and its body.
 #[derive(Drop)]
-pub struct FunctionParts {
+pub struct ParametersAndBody {
     /// The names of the parameters.
-    pub parameters: Names,
+    pub parameters: ParameterNames,
     /// The statements and declarations of the body.
     pub body: Stmts,
 }
 
 /// The parameters of a function and its body, the height of the body, and the tokens after it.
-pub type ParsedFunction<'t, 's> = Result<(FunctionParts, u32, &'t [Token<'s>]), ParseError>;
+pub type ParsedFunction<'t, 's> = Result<(ParametersAndBody, u32, &'t [Token<'s>]), ParseError>;
 
 /// The height of nothing, and all of the tokens after it.
 pub fn nothing_read<'t, 's>(tokens: &'t [Token<'s>]) -> (u32, &'t [Token<'s>])

@@ -28,7 +28,7 @@ use js_lexer::token::{Token, TokenKind};
 use js_parser_language::expressions::{
     array, boolean, function, name, null, number, object, parenthesized, string, this,
 };
-use js_parser_readers::classes::expressions::{Start, start_of};
+use js_parser_readers::classes::expressions::{PrimaryStart, start_of};
 use js_parser_readers::classes::lists::is_name_next;
 use js_parser_readers::fault::ParseError;
 use js_parser_readers::nodes::Nodes;
@@ -49,14 +49,16 @@ pub fn primary_at<'t, 's>(
     ensures placed { IfOk result (λ x. Placed true nodes.old nodes.new (expression_places x.0) (tokens_view tokens.now) (tokens_view x.2.now)) }
 {
     match start_of(tokens) {
-        Start::Bracket => array_at(nodes, room, tokens),
-        Start::Brace => object_at(nodes, room, tokens),
-        Start::Parenthesis => parenthesized_at(nodes, room, tokens),
-        Start::Function => function_at(nodes, room, tokens, tail(tokens)),
-        Start::This | Start::Name(_) | Start::Number(_) | Start::String(_) | Start::Boolean(_) => {
-            leaf_at(nodes, tokens)
-        }
-        Start::Null | Start::Other => leaf_at(nodes, tokens),
+        PrimaryStart::Bracket => array_at(nodes, room, tokens),
+        PrimaryStart::Brace => object_at(nodes, room, tokens),
+        PrimaryStart::Parenthesis => parenthesized_at(nodes, room, tokens),
+        PrimaryStart::Function => function_at(nodes, room, tokens, tail(tokens)),
+        PrimaryStart::This
+        | PrimaryStart::Name(_)
+        | PrimaryStart::Number(_)
+        | PrimaryStart::String(_)
+        | PrimaryStart::Boolean(_) => { leaf_at(nodes, tokens) }
+        PrimaryStart::Null | PrimaryStart::Other => leaf_at(nodes, tokens),
     }
 }
 
@@ -67,33 +69,35 @@ fn leaf_at<'t, 's>(nodes: &mut Nodes, tokens: &'t [Token<'s>]) -> ParsedPrimary<
     ensures placed { IfOk result (λ x. Placed true nodes.old nodes.new (expression_places x.0) (tokens_view tokens.now) (tokens_view x.2.now)) }
 {
     match start_of(tokens) {
-        Start::This => {
+        PrimaryStart::This => {
             let (node, rest) = single(nodes, tokens)?;
             Ok((this(node), 1, rest))
         }
-        Start::Name(text) => {
+        PrimaryStart::Name(text) => {
             let (node, rest) = single(nodes, tokens)?;
             Ok((name(node, Units::from_slice(nodes.alloc(), text)?), 1, rest))
         }
-        Start::Number(value) => {
+        PrimaryStart::Number(value) => {
             let (node, rest) = single(nodes, tokens)?;
             Ok((number(node, value), 1, rest))
         }
-        Start::String(text) => {
+        PrimaryStart::String(text) => {
             let (node, rest) = single(nodes, tokens)?;
             Ok((string(node, string_value(nodes.alloc(), text)?), 1, rest))
         }
-        Start::Boolean(value) => {
+        PrimaryStart::Boolean(value) => {
             let (node, rest) = single(nodes, tokens)?;
             Ok((boolean(node, value), 1, rest))
         }
-        Start::Null => {
+        PrimaryStart::Null => {
             let (node, rest) = single(nodes, tokens)?;
             Ok((null(node), 1, rest))
         }
-        Start::Bracket | Start::Brace | Start::Parenthesis | Start::Function | Start::Other => {
-            Err(ParseError::Syntax { left: tokens.len() })
-        }
+        PrimaryStart::Bracket
+        | PrimaryStart::Brace
+        | PrimaryStart::Parenthesis
+        | PrimaryStart::Function
+        | PrimaryStart::Other => { Err(ParseError::Syntax { left: tokens.len() }) }
     }
 }
 

@@ -33,8 +33,8 @@ use js_parser_language::statements::{
     block_statement, break_statement, continue_statement, debugger_statement, empty_statement,
     expression_statement, if_else_statement, if_statement, return_statement, throw_statement,
 };
-use js_parser_readers::classes::statements::{End, First, ends_return, first_of};
-use js_parser_readers::context::Context;
+use js_parser_readers::classes::statements::{StatementEnd, StatementStart, ends_return, first_of};
+use js_parser_readers::context::StatementContext;
 use js_parser_readers::endings::{edge_of, semicolon_at};
 use js_parser_readers::fault::ParseError;
 use js_parser_readers::name_set::NameSet;
@@ -48,7 +48,7 @@ use js_parser_readers::words::single;
 pub fn statement_below<'t, 's>(
     nodes: &mut Nodes,
     room: u32,
-    context: Context,
+    context: StatementContext,
     tokens: &'t [Token<'s>],
 ) -> ParsedSubstatement<'t, 's>
     requires { room ≤ MOST_ROOM }
@@ -69,7 +69,7 @@ pub fn statement_below<'t, 's>(
 pub fn statement_at<'t, 's>(
     nodes: &mut Nodes,
     room: u32,
-    context: Context,
+    context: StatementContext,
     tokens: &'t [Token<'s>],
 ) -> ParsedStatement<'t, 's>
     requires { room < MOST_ROOM }
@@ -78,23 +78,25 @@ pub fn statement_at<'t, 's>(
     ensures placed { StatementPlaced nodes.old nodes.new (tokens_view tokens.now) result }
 {
     match first_of(tokens) {
-        First::Block => block_at(nodes, room, context, tokens),
-        First::Semicolon => {
+        StatementStart::Block => block_at(nodes, room, context, tokens),
+        StatementStart::Semicolon => {
             let (node, rest) = single(nodes, tokens)?;
             Ok((empty_statement(node), 1, rest))
         }
-        First::If => if_at(nodes, room, context, tokens),
-        First::Do => do_at(nodes, room, context, tokens),
-        First::While => while_at(nodes, room, context, tokens),
-        First::For => for_at(nodes, room, context, tokens),
-        First::Continue => continue_at(nodes, context, tokens),
-        First::Break => break_at(nodes, context, tokens),
-        First::Return => return_at(nodes, room, context, tokens),
-        First::Throw => throw_at(nodes, room, tokens),
-        First::Try => try_at(nodes, room, context, tokens),
-        First::Debugger => debugger_at(nodes, tokens),
-        First::Expression => expression_statement_at(nodes, room, tokens),
-        First::Lexical { .. } | First::Function => Err(ParseError::Syntax { left: tokens.len() }),
+        StatementStart::If => if_at(nodes, room, context, tokens),
+        StatementStart::Do => do_at(nodes, room, context, tokens),
+        StatementStart::While => while_at(nodes, room, context, tokens),
+        StatementStart::For => for_at(nodes, room, context, tokens),
+        StatementStart::Continue => continue_at(nodes, context, tokens),
+        StatementStart::Break => break_at(nodes, context, tokens),
+        StatementStart::Return => return_at(nodes, room, context, tokens),
+        StatementStart::Throw => throw_at(nodes, room, tokens),
+        StatementStart::Try => try_at(nodes, room, context, tokens),
+        StatementStart::Debugger => debugger_at(nodes, tokens),
+        StatementStart::Expression => expression_statement_at(nodes, room, tokens),
+        StatementStart::Lexical { .. } | StatementStart::Function => Err(ParseError::Syntax {
+            left: tokens.len(),
+        }),
     }
 }
 
@@ -103,7 +105,7 @@ pub fn statement_at<'t, 's>(
 fn block_at<'t, 's>(
     nodes: &mut Nodes,
     room: u32,
-    context: Context,
+    context: StatementContext,
     tokens: &'t [Token<'s>],
 ) -> ParsedStatement<'t, 's>
     requires { room < MOST_ROOM }
@@ -127,7 +129,7 @@ fn ended_expression<'t, 's>(nodes: &mut Nodes, room: u32, tokens: &'t [Token<'s>
     ensures placed { IfOk result (λ x. Placed true nodes.old nodes.new (in_turn (expression_places x.0.value ∷ may_stand kinds.Semicolon ∷ [])) (tokens_view tokens.now) (tokens_view x.2.now)) }
 {
     let (tree, height, rest) = expression_below(nodes, room, tokens)?;
-    let rest = semicolon_at(End::Expression(edge_of(&tree)), rest)?;
+    let rest = semicolon_at(StatementEnd::Expression(edge_of(&tree)), rest)?;
     Ok((tree, height, rest))
 }
 
@@ -176,7 +178,7 @@ fn expression_statement_at<'t, 's>(
 fn if_at<'t, 's>(
     nodes: &mut Nodes,
     room: u32,
-    context: Context,
+    context: StatementContext,
     tokens: &'t [Token<'s>],
 ) -> ParsedStatement<'t, 's>
     requires { room < MOST_ROOM }
@@ -209,7 +211,7 @@ fn if_at<'t, 's>(
 // `continue` (14.8).
 fn continue_at<'t, 's>(
     nodes: &mut Nodes,
-    context: Context,
+    context: StatementContext,
     tokens: &'t [Token<'s>],
 ) -> ParsedStatement<'t, 's>
     ensures gives { (room : ℕ) → ReadsStatement (reading.statement_by (below room) (context_view context) classes.a_continue (tokens_view tokens.now)) result }
@@ -220,7 +222,7 @@ fn continue_at<'t, 's>(
         return Err(ParseError::Syntax { left: tokens.len() });
     }
     let rest = expect(TokenKind::Continue, tokens)?;
-    let rest = semicolon_at(End::Word, rest)?;
+    let rest = semicolon_at(StatementEnd::Word, rest)?;
     let node = nodes.add(tokens, rest)?;
     Ok((continue_statement(node), 1, rest))
 }
@@ -228,7 +230,7 @@ fn continue_at<'t, 's>(
 // `break` (14.9).
 fn break_at<'t, 's>(
     nodes: &mut Nodes,
-    context: Context,
+    context: StatementContext,
     tokens: &'t [Token<'s>],
 ) -> ParsedStatement<'t, 's>
     ensures gives { (room : ℕ) → ReadsStatement (reading.statement_by (below room) (context_view context) classes.a_break (tokens_view tokens.now)) result }
@@ -239,19 +241,19 @@ fn break_at<'t, 's>(
         return Err(ParseError::Syntax { left: tokens.len() });
     }
     let rest = expect(TokenKind::Break, tokens)?;
-    let rest = semicolon_at(End::Word, rest)?;
+    let rest = semicolon_at(StatementEnd::Word, rest)?;
     let node = nodes.add(tokens, rest)?;
     Ok((break_statement(node), 1, rest))
 }
 
 // `debugger` (14.16).
 fn debugger_at<'t, 's>(nodes: &mut Nodes, tokens: &'t [Token<'s>]) -> ParsedStatement<'t, 's>
-    ensures gives { (room : ℕ) (context : well.Context) → ReadsStatement (reading.statement_by (below room) context classes.a_debugger (tokens_view tokens.now)) result }
+    ensures gives { (room : ℕ) (context : well.StatementContext) → ReadsStatement (reading.statement_by (below room) context classes.a_debugger (tokens_view tokens.now)) result }
     ensures height { IfOk result (λ x. (x.1 ≡ height_of_statement (statement_view x.0)) × (x.1 ≡ 1)) }
     ensures placed { StatementPlaced nodes.old nodes.new (tokens_view tokens.now) result }
 {
     let rest = expect(TokenKind::Debugger, tokens)?;
-    let rest = semicolon_at(End::Word, rest)?;
+    let rest = semicolon_at(StatementEnd::Word, rest)?;
     let node = nodes.add(tokens, rest)?;
     Ok((debugger_statement(node), 1, rest))
 }
@@ -261,7 +263,7 @@ fn debugger_at<'t, 's>(nodes: &mut Nodes, tokens: &'t [Token<'s>]) -> ParsedStat
 fn return_at<'t, 's>(
     nodes: &mut Nodes,
     room: u32,
-    context: Context,
+    context: StatementContext,
     tokens: &'t [Token<'s>],
 ) -> ParsedStatement<'t, 's>
     requires { room < MOST_ROOM }
@@ -274,7 +276,7 @@ fn return_at<'t, 's>(
     }
     let rest = expect(TokenKind::Return, tokens)?;
     if ends_return(tail(tokens)) {
-        let rest = semicolon_at(End::Word, rest)?;
+        let rest = semicolon_at(StatementEnd::Word, rest)?;
         let node = nodes.add(tokens, rest)?;
         return Ok((return_statement(node, None), 1, rest));
     }

@@ -31,7 +31,7 @@ use Rattle.js_tree.specs.declared.tree.Expr.TheViews as views
 use Rattle.js_tree.specs.Views.{parameters_view}
 use Rattle.js_parser_language.specs.Tokens.{identifier_name, numeric_literal, string_literal}
 use Rattle.js_parser_language.specs.Flat.{a, an_identifier, unary_kind, update_kind, binary_kind, assign_kind, flat_parameters, flat_arrow_parameters, flat_optional_name, flat_catch_parameter, flat_boolean, let_or_const}
-use Rattle.js_parser_language.specs.Places.{Place, in_turn, plain, a_symbol, may_stand, node_of, in_braces, in_parentheses, with_commas, assign_if_some, optional_places, handler_places, finalizer_places, expression_places, property_places, key_places, statement_places, block_places, catch_places, declarator_places, declarators_places, expressions_places, properties_places, statements_places, expression_pieces, property_pieces, key_pieces, statement_pieces, block_pieces, catch_pieces, declarator_pieces, declarators_pieces, expressions_pieces, properties_pieces, statements_pieces}
+use Rattle.js_parser_language.specs.Places.{FlatPlace, in_turn, plain, a_symbol, may_stand, node_of, in_braces, in_parentheses, with_commas, assign_if_some, optional_places, handler_places, finalizer_places, expression_places, property_places, key_places, statement_places, block_places, catch_places, declarator_places, declarators_places, expressions_places, properties_places, statements_places, expression_pieces, property_pieces, key_pieces, statement_pieces, block_pieces, catch_pieces, declarator_pieces, declarators_pieces, expressions_pieces, properties_pieces, statements_pieces}
 use Rattle.js_tree.proofs.ViewLemmas.{Layer}
 
 -- the places of a tree are made of the places of its parts
@@ -39,15 +39,15 @@ pub expression_turn : (x : Layer Expr-F)
     → expression_places (views.roll-Expr x) ≡ expression_pieces
     (map-Expr Expr PropertyDefinition PropertyName Stmt Block Catch Declarator Declarators Exprs PropertyDefinitions
     Stmts
-    (List Place) (List Place) (List Place) (List Place) (List Place) (List Place) (List Place) (List Place)
-    (List Place) (List Place) (List Place)
+    (List FlatPlace) (List FlatPlace) (List FlatPlace) (List FlatPlace) (List FlatPlace) (List FlatPlace) (List FlatPlace) (List FlatPlace)
+    (List FlatPlace) (List FlatPlace) (List FlatPlace)
     expression_places property_places key_places statement_places block_places catch_places declarator_places
     declarators_places expressions_places properties_places statements_places x)
 unfolding expression_places property_places key_places statement_places block_places catch_places declarator_places
     declarators_places expressions_places properties_places statements_places
 expression_turn x =
-    fold-roll-Expr (List Place) (List Place) (List Place) (List Place) (List Place) (List Place) (List Place)
-    (List Place) (List Place) (List Place) (List Place)
+    fold-roll-Expr (List FlatPlace) (List FlatPlace) (List FlatPlace) (List FlatPlace) (List FlatPlace) (List FlatPlace) (List FlatPlace)
+    (List FlatPlace) (List FlatPlace) (List FlatPlace) (List FlatPlace)
     expression_pieces property_pieces key_pieces statement_pieces block_pieces catch_pieces declarator_pieces
     declarators_pieces expressions_pieces properties_pieces statements_pieces x
 
@@ -55,15 +55,15 @@ pub property_turn : (x : Layer PropertyDefinition-F)
     → property_places (views.roll-PropertyDefinition x) ≡ property_pieces
     (map-PropertyDefinition Expr PropertyDefinition PropertyName Stmt Block Catch Declarator Declarators Exprs
     PropertyDefinitions Stmts
-    (List Place) (List Place) (List Place) (List Place) (List Place) (List Place) (List Place) (List Place)
-    (List Place) (List Place) (List Place)
+    (List FlatPlace) (List FlatPlace) (List FlatPlace) (List FlatPlace) (List FlatPlace) (List FlatPlace) (List FlatPlace) (List FlatPlace)
+    (List FlatPlace) (List FlatPlace) (List FlatPlace)
     expression_places property_places key_places statement_places block_places catch_places declarator_places
     declarators_places expressions_places properties_places statements_places x)
 unfolding expression_places property_places key_places statement_places block_places catch_places declarator_places
     declarators_places expressions_places properties_places statements_places
 property_turn x =
-    fold-roll-PropertyDefinition (List Place) (List Place) (List Place) (List Place) (List Place) (List Place)
-    (List Place) (List Place) (List Place) (List Place) (List Place)
+    fold-roll-PropertyDefinition (List FlatPlace) (List FlatPlace) (List FlatPlace) (List FlatPlace) (List FlatPlace) (List FlatPlace)
+    (List FlatPlace) (List FlatPlace) (List FlatPlace) (List FlatPlace) (List FlatPlace)
     expression_pieces property_pieces key_pieces statement_pieces block_pieces catch_pieces declarator_pieces
     declarators_pieces expressions_pieces properties_pieces statements_pieces x
 
@@ -71,15 +71,15 @@ pub key_turn : (x : Layer PropertyName-F)
     → key_places (views.roll-PropertyName x) ≡ key_pieces
     (map-PropertyName Expr PropertyDefinition PropertyName Stmt Block Catch Declarator Declarators Exprs
     PropertyDefinitions Stmts
-    (List Place) (List Place) (List Place) (List Place) (List Place) (List Place) (List Place) (List Place)
-    (List Place) (List Place) (List Place)
+    (List FlatPlace) (List FlatPlace) (List FlatPlace) (List FlatPlace) (List FlatPlace) (List FlatPlace) (List FlatPlace) (List FlatPlace)
+    (List FlatPlace) (List FlatPlace) (List FlatPlace)
     expression_places property_places key_places statement_places block_places catch_places declarator_places
     declarators_places expressions_places properties_places statements_places x)
 unfolding expression_places property_places key_places statement_places block_places catch_places declarator_places
     declarators_places expressions_places properties_places statements_places
 key_turn x =
-    fold-roll-PropertyName (List Place) (List Place) (List Place) (List Place) (List Place) (List Place) (List Place)
-    (List Place) (List Place) (List Place) (List Place)
+    fold-roll-PropertyName (List FlatPlace) (List FlatPlace) (List FlatPlace) (List FlatPlace) (List FlatPlace) (List FlatPlace) (List FlatPlace)
+    (List FlatPlace) (List FlatPlace) (List FlatPlace) (List FlatPlace)
     expression_pieces property_pieces key_pieces statement_pieces block_pieces catch_pieces declarator_pieces
     declarators_pieces expressions_pieces properties_pieces statements_pieces x
 
@@ -87,15 +87,15 @@ pub statement_turn : (x : Layer Stmt-F)
     → statement_places (views.roll-Stmt x) ≡ statement_pieces
     (map-Stmt Expr PropertyDefinition PropertyName Stmt Block Catch Declarator Declarators Exprs PropertyDefinitions
     Stmts
-    (List Place) (List Place) (List Place) (List Place) (List Place) (List Place) (List Place) (List Place)
-    (List Place) (List Place) (List Place)
+    (List FlatPlace) (List FlatPlace) (List FlatPlace) (List FlatPlace) (List FlatPlace) (List FlatPlace) (List FlatPlace) (List FlatPlace)
+    (List FlatPlace) (List FlatPlace) (List FlatPlace)
     expression_places property_places key_places statement_places block_places catch_places declarator_places
     declarators_places expressions_places properties_places statements_places x)
 unfolding expression_places property_places key_places statement_places block_places catch_places declarator_places
     declarators_places expressions_places properties_places statements_places
 statement_turn x =
-    fold-roll-Stmt (List Place) (List Place) (List Place) (List Place) (List Place) (List Place) (List Place)
-    (List Place) (List Place) (List Place) (List Place)
+    fold-roll-Stmt (List FlatPlace) (List FlatPlace) (List FlatPlace) (List FlatPlace) (List FlatPlace) (List FlatPlace) (List FlatPlace)
+    (List FlatPlace) (List FlatPlace) (List FlatPlace) (List FlatPlace)
     expression_pieces property_pieces key_pieces statement_pieces block_pieces catch_pieces declarator_pieces
     declarators_pieces expressions_pieces properties_pieces statements_pieces x
 
@@ -103,15 +103,15 @@ pub block_turn : (x : Layer Block-F)
     → block_places (views.roll-Block x) ≡ block_pieces
     (map-Block Expr PropertyDefinition PropertyName Stmt Block Catch Declarator Declarators Exprs PropertyDefinitions
     Stmts
-    (List Place) (List Place) (List Place) (List Place) (List Place) (List Place) (List Place) (List Place)
-    (List Place) (List Place) (List Place)
+    (List FlatPlace) (List FlatPlace) (List FlatPlace) (List FlatPlace) (List FlatPlace) (List FlatPlace) (List FlatPlace) (List FlatPlace)
+    (List FlatPlace) (List FlatPlace) (List FlatPlace)
     expression_places property_places key_places statement_places block_places catch_places declarator_places
     declarators_places expressions_places properties_places statements_places x)
 unfolding expression_places property_places key_places statement_places block_places catch_places declarator_places
     declarators_places expressions_places properties_places statements_places
 block_turn x =
-    fold-roll-Block (List Place) (List Place) (List Place) (List Place) (List Place) (List Place) (List Place)
-    (List Place) (List Place) (List Place) (List Place)
+    fold-roll-Block (List FlatPlace) (List FlatPlace) (List FlatPlace) (List FlatPlace) (List FlatPlace) (List FlatPlace) (List FlatPlace)
+    (List FlatPlace) (List FlatPlace) (List FlatPlace) (List FlatPlace)
     expression_pieces property_pieces key_pieces statement_pieces block_pieces catch_pieces declarator_pieces
     declarators_pieces expressions_pieces properties_pieces statements_pieces x
 
@@ -119,15 +119,15 @@ pub catch_turn : (x : Layer Catch-F)
     → catch_places (views.roll-Catch x) ≡ catch_pieces
     (map-Catch Expr PropertyDefinition PropertyName Stmt Block Catch Declarator Declarators Exprs PropertyDefinitions
     Stmts
-    (List Place) (List Place) (List Place) (List Place) (List Place) (List Place) (List Place) (List Place)
-    (List Place) (List Place) (List Place)
+    (List FlatPlace) (List FlatPlace) (List FlatPlace) (List FlatPlace) (List FlatPlace) (List FlatPlace) (List FlatPlace) (List FlatPlace)
+    (List FlatPlace) (List FlatPlace) (List FlatPlace)
     expression_places property_places key_places statement_places block_places catch_places declarator_places
     declarators_places expressions_places properties_places statements_places x)
 unfolding expression_places property_places key_places statement_places block_places catch_places declarator_places
     declarators_places expressions_places properties_places statements_places
 catch_turn x =
-    fold-roll-Catch (List Place) (List Place) (List Place) (List Place) (List Place) (List Place) (List Place)
-    (List Place) (List Place) (List Place) (List Place)
+    fold-roll-Catch (List FlatPlace) (List FlatPlace) (List FlatPlace) (List FlatPlace) (List FlatPlace) (List FlatPlace) (List FlatPlace)
+    (List FlatPlace) (List FlatPlace) (List FlatPlace) (List FlatPlace)
     expression_pieces property_pieces key_pieces statement_pieces block_pieces catch_pieces declarator_pieces
     declarators_pieces expressions_pieces properties_pieces statements_pieces x
 
@@ -135,15 +135,15 @@ pub declarator_turn : (x : Layer Declarator-F)
     → declarator_places (views.roll-Declarator x) ≡ declarator_pieces
     (map-Declarator Expr PropertyDefinition PropertyName Stmt Block Catch Declarator Declarators Exprs
     PropertyDefinitions Stmts
-    (List Place) (List Place) (List Place) (List Place) (List Place) (List Place) (List Place) (List Place)
-    (List Place) (List Place) (List Place)
+    (List FlatPlace) (List FlatPlace) (List FlatPlace) (List FlatPlace) (List FlatPlace) (List FlatPlace) (List FlatPlace) (List FlatPlace)
+    (List FlatPlace) (List FlatPlace) (List FlatPlace)
     expression_places property_places key_places statement_places block_places catch_places declarator_places
     declarators_places expressions_places properties_places statements_places x)
 unfolding expression_places property_places key_places statement_places block_places catch_places declarator_places
     declarators_places expressions_places properties_places statements_places
 declarator_turn x =
-    fold-roll-Declarator (List Place) (List Place) (List Place) (List Place) (List Place) (List Place) (List Place)
-    (List Place) (List Place) (List Place) (List Place)
+    fold-roll-Declarator (List FlatPlace) (List FlatPlace) (List FlatPlace) (List FlatPlace) (List FlatPlace) (List FlatPlace) (List FlatPlace)
+    (List FlatPlace) (List FlatPlace) (List FlatPlace) (List FlatPlace)
     expression_pieces property_pieces key_pieces statement_pieces block_pieces catch_pieces declarator_pieces
     declarators_pieces expressions_pieces properties_pieces statements_pieces x
 
@@ -151,15 +151,15 @@ pub declarators_turn : (x : Layer Declarators-F)
     → declarators_places (views.roll-Declarators x) ≡ declarators_pieces
     (map-Declarators Expr PropertyDefinition PropertyName Stmt Block Catch Declarator Declarators Exprs
     PropertyDefinitions Stmts
-    (List Place) (List Place) (List Place) (List Place) (List Place) (List Place) (List Place) (List Place)
-    (List Place) (List Place) (List Place)
+    (List FlatPlace) (List FlatPlace) (List FlatPlace) (List FlatPlace) (List FlatPlace) (List FlatPlace) (List FlatPlace) (List FlatPlace)
+    (List FlatPlace) (List FlatPlace) (List FlatPlace)
     expression_places property_places key_places statement_places block_places catch_places declarator_places
     declarators_places expressions_places properties_places statements_places x)
 unfolding expression_places property_places key_places statement_places block_places catch_places declarator_places
     declarators_places expressions_places properties_places statements_places
 declarators_turn x =
-    fold-roll-Declarators (List Place) (List Place) (List Place) (List Place) (List Place) (List Place) (List Place)
-    (List Place) (List Place) (List Place) (List Place)
+    fold-roll-Declarators (List FlatPlace) (List FlatPlace) (List FlatPlace) (List FlatPlace) (List FlatPlace) (List FlatPlace) (List FlatPlace)
+    (List FlatPlace) (List FlatPlace) (List FlatPlace) (List FlatPlace)
     expression_pieces property_pieces key_pieces statement_pieces block_pieces catch_pieces declarator_pieces
     declarators_pieces expressions_pieces properties_pieces statements_pieces x
 
@@ -167,15 +167,15 @@ pub expressions_turn : (x : Layer Exprs-F)
     → expressions_places (views.roll-Exprs x) ≡ expressions_pieces
     (map-Exprs Expr PropertyDefinition PropertyName Stmt Block Catch Declarator Declarators Exprs PropertyDefinitions
     Stmts
-    (List Place) (List Place) (List Place) (List Place) (List Place) (List Place) (List Place) (List Place)
-    (List Place) (List Place) (List Place)
+    (List FlatPlace) (List FlatPlace) (List FlatPlace) (List FlatPlace) (List FlatPlace) (List FlatPlace) (List FlatPlace) (List FlatPlace)
+    (List FlatPlace) (List FlatPlace) (List FlatPlace)
     expression_places property_places key_places statement_places block_places catch_places declarator_places
     declarators_places expressions_places properties_places statements_places x)
 unfolding expression_places property_places key_places statement_places block_places catch_places declarator_places
     declarators_places expressions_places properties_places statements_places
 expressions_turn x =
-    fold-roll-Exprs (List Place) (List Place) (List Place) (List Place) (List Place) (List Place) (List Place)
-    (List Place) (List Place) (List Place) (List Place)
+    fold-roll-Exprs (List FlatPlace) (List FlatPlace) (List FlatPlace) (List FlatPlace) (List FlatPlace) (List FlatPlace) (List FlatPlace)
+    (List FlatPlace) (List FlatPlace) (List FlatPlace) (List FlatPlace)
     expression_pieces property_pieces key_pieces statement_pieces block_pieces catch_pieces declarator_pieces
     declarators_pieces expressions_pieces properties_pieces statements_pieces x
 
@@ -183,15 +183,15 @@ pub properties_turn : (x : Layer PropertyDefinitions-F)
     → properties_places (views.roll-PropertyDefinitions x) ≡ properties_pieces
     (map-PropertyDefinitions Expr PropertyDefinition PropertyName Stmt Block Catch Declarator Declarators Exprs
     PropertyDefinitions Stmts
-    (List Place) (List Place) (List Place) (List Place) (List Place) (List Place) (List Place) (List Place)
-    (List Place) (List Place) (List Place)
+    (List FlatPlace) (List FlatPlace) (List FlatPlace) (List FlatPlace) (List FlatPlace) (List FlatPlace) (List FlatPlace) (List FlatPlace)
+    (List FlatPlace) (List FlatPlace) (List FlatPlace)
     expression_places property_places key_places statement_places block_places catch_places declarator_places
     declarators_places expressions_places properties_places statements_places x)
 unfolding expression_places property_places key_places statement_places block_places catch_places declarator_places
     declarators_places expressions_places properties_places statements_places
 properties_turn x =
-    fold-roll-PropertyDefinitions (List Place) (List Place) (List Place) (List Place) (List Place) (List Place)
-    (List Place) (List Place) (List Place) (List Place) (List Place)
+    fold-roll-PropertyDefinitions (List FlatPlace) (List FlatPlace) (List FlatPlace) (List FlatPlace) (List FlatPlace) (List FlatPlace)
+    (List FlatPlace) (List FlatPlace) (List FlatPlace) (List FlatPlace) (List FlatPlace)
     expression_pieces property_pieces key_pieces statement_pieces block_pieces catch_pieces declarator_pieces
     declarators_pieces expressions_pieces properties_pieces statements_pieces x
 
@@ -199,15 +199,15 @@ pub statements_turn : (x : Layer Stmts-F)
     → statements_places (views.roll-Stmts x) ≡ statements_pieces
     (map-Stmts Expr PropertyDefinition PropertyName Stmt Block Catch Declarator Declarators Exprs PropertyDefinitions
     Stmts
-    (List Place) (List Place) (List Place) (List Place) (List Place) (List Place) (List Place) (List Place)
-    (List Place) (List Place) (List Place)
+    (List FlatPlace) (List FlatPlace) (List FlatPlace) (List FlatPlace) (List FlatPlace) (List FlatPlace) (List FlatPlace) (List FlatPlace)
+    (List FlatPlace) (List FlatPlace) (List FlatPlace)
     expression_places property_places key_places statement_places block_places catch_places declarator_places
     declarators_places expressions_places properties_places statements_places x)
 unfolding expression_places property_places key_places statement_places block_places catch_places declarator_places
     declarators_places expressions_places properties_places statements_places
 statements_turn x =
-    fold-roll-Stmts (List Place) (List Place) (List Place) (List Place) (List Place) (List Place) (List Place)
-    (List Place) (List Place) (List Place) (List Place)
+    fold-roll-Stmts (List FlatPlace) (List FlatPlace) (List FlatPlace) (List FlatPlace) (List FlatPlace) (List FlatPlace) (List FlatPlace)
+    (List FlatPlace) (List FlatPlace) (List FlatPlace) (List FlatPlace)
     expression_pieces property_pieces key_pieces statement_pieces block_pieces catch_pieces declarator_pieces
     declarators_pieces expressions_pieces properties_pieces statements_pieces x
 

@@ -10,8 +10,8 @@ use Rattle.js_tree_operators.specs.declared.operator.BinaryOperator.{BinaryOpera
 use Rattle.js_tree_operators.specs.declared.operator.BinaryOperator.TheVariants as binaries
 use Rattle.js_tree_operators.specs.declared.operator.AssignmentOperator.{AssignmentOperator}
 use Rattle.js_tree_operators.specs.declared.operator.AssignmentOperator.TheVariants as assigns
-use Rattle.js_tree.specs.Trees.{Identifier, Parameters, one_name, name_list, Expression, this, name, number, string, boolean, null, array, object, function, arrow, arrow_block, parenthesized, member, index, call, postfix, prefix, unary, binary, conditional, assign, comma, Expressions, no_expressions, an_expression, OptionalExpression, omitted, present, Key, word_key, string_key, number_key, computed_key, Property, shorthand, value, method, Properties, no_properties, a_property, Declarator, declarator, Declarators, no_declarators, a_declarator, Statement, block, lexical, empty, expression, if_then, if_else, do_while, while, for, for_lexical, for_of, continue, break, return, throw, try, debugger, declared_function, Handler, no_catch, catch, Finalizer, no_finally, finally, Statements, no_statements, a_statement}
-use Rattle.js_parser_language.specs.Tokens.{fixed, identifier, identifier_name, numeric_literal, string_literal, Edge, plain, braces, update, End, after_expression, after_word, after_do, Mark, token, beside, semicolon, trailing_comma}
+use Rattle.js_tree.specs.Trees.{Identifier, Parameters, one_name, name_list, Expression, this, name, number, string, boolean, null, array, object, function, arrow, arrow_block, parenthesized, member, index, call, postfix, prefix, unary, binary, conditional, assign, comma, Expressions, no_expressions, an_expression, OptionalExpression, omitted, present, Key, word_key, string_key, number_key, computed_key, PropertyDefinition, shorthand, value, method, PropertyDefinitions, no_properties, a_property, Declarator, declarator, Declarators, no_declarators, a_declarator, Statement, block, lexical, empty, expression, if_then, if_else, do_while, while, for, for_lexical, for_of, continue, break, return, throw, try, debugger, declared_function, Handler, no_catch, catch, Finalizer, no_finally, finally, Statements, no_statements, a_statement}
+use Rattle.js_parser_language.specs.Tokens.{fixed, identifier, identifier_name, numeric_literal, string_literal, ExpressionEnd, plain, braces, update, StatementEnd, after_expression, after_word, after_do, FlatToken, token, beside, semicolon, trailing_comma}
 
 -- ---- operators
 
@@ -74,7 +74,7 @@ assign_kind assigns.BitwiseXor = kinds.BitwiseXorAssign
 -- what the last token of an expression ends
 abbrev mutual
   -- what the last token of an expression ends
-  pub edge : Expression → Edge
+  pub edge : Expression → ExpressionEnd
   edge (arrow ps e) = edge e
   edge (arrow_block ps body) = braces
   edge (postfix o e) = update
@@ -86,13 +86,13 @@ abbrev mutual
   edge _ = plain
 
   -- what the last token of the last of some expressions ends
-  pub edge_of_last : Expressions → Edge
+  pub edge_of_last : Expressions → ExpressionEnd
   edge_of_last no_expressions = plain
   edge_of_last (an_expression e no_expressions) = edge e
   edge_of_last (an_expression e (an_expression f es)) = edge_of_last (an_expression f es)
 
 -- what a let or const ends in
-abbrev pub end_of_declarators : Declarators → End
+abbrev pub end_of_declarators : Declarators → StatementEnd
 end_of_declarators no_declarators = after_word
 end_of_declarators (a_declarator (declarator n omitted) no_declarators) = after_word
 end_of_declarators (a_declarator (declarator n (present e)) no_declarators) = after_expression (edge e)
@@ -101,88 +101,88 @@ end_of_declarators (a_declarator d (a_declarator c ds)) = end_of_declarators (a_
 -- ---- marks
 
 -- these pieces one after another
-abbrev pub in_order : List (List Mark) → List Mark
+abbrev pub in_order : List (List FlatToken) → List FlatToken
 in_order [] = []
 in_order (ms ∷ pieces) = ms ++ in_order pieces
 
 -- one token
-abbrev pub a : TokenKind → List Mark
+abbrev pub a : TokenKind → List FlatToken
 a k = token (fixed k) ∷ []
 
 -- one token, with no line terminator before it
-abbrev pub beside_last : TokenKind → List Mark
+abbrev pub beside_last : TokenKind → List FlatToken
 beside_last k = beside (fixed k) ∷ []
 
 -- a name that isn't reserved
-abbrev pub an_identifier : Identifier → List Mark
+abbrev pub an_identifier : Identifier → List FlatToken
 an_identifier n = token (identifier n) ∷ []
 
 -- the semicolon of a statement that ends so
-abbrev pub ends : End → List Mark
+abbrev pub ends : StatementEnd → List FlatToken
 ends end = semicolon end ∷ []
 
 -- pieces of which the first token has no line terminator before it
-abbrev pub on_line : List Mark → List Mark
+abbrev pub on_line : List FlatToken → List FlatToken
 on_line (token s ∷ ms) = beside s ∷ ms
 on_line ms = ms
 
 -- names behind the first, each behind a comma
-abbrev pub more_names : List Identifier → List Mark
+abbrev pub more_names : List Identifier → List FlatToken
 more_names [] = []
 more_names (n ∷ ns) = token (fixed kinds.Comma) ∷ token (identifier n) ∷ more_names ns
 
 -- names with commas between, and a trailing comma where there is a name
-abbrev pub flat_names : List Identifier → List Mark
+abbrev pub flat_names : List Identifier → List FlatToken
 flat_names [] = []
 flat_names (n ∷ ns) = token (identifier n) ∷ (more_names ns ++ (trailing_comma ∷ []))
 
 -- names in parentheses
-abbrev pub flat_parameters : List Identifier → List Mark
+abbrev pub flat_parameters : List Identifier → List FlatToken
 flat_parameters ns = in_order (a kinds.LeftParenthesis ∷ flat_names ns ∷ a kinds.RightParenthesis ∷ [])
 
 -- the parameters of an arrow function: one name, or names in parentheses
-abbrev pub flat_arrow_parameters : Parameters → List Mark
+abbrev pub flat_arrow_parameters : Parameters → List FlatToken
 flat_arrow_parameters (one_name n) = an_identifier n
 flat_arrow_parameters (name_list ns) = flat_parameters ns
 
 -- the name of a function expression, which may be left out
-abbrev pub flat_optional_name : Option Identifier → List Mark
+abbrev pub flat_optional_name : Option Identifier → List FlatToken
 flat_optional_name None = []
 flat_optional_name (Some n) = an_identifier n
 
 -- the name of a catch in its parentheses, which may be left out
-abbrev pub flat_catch_parameter : Option Identifier → List Mark
+abbrev pub flat_catch_parameter : Option Identifier → List FlatToken
 flat_catch_parameter None = []
 flat_catch_parameter (Some n) = in_order (a kinds.LeftParenthesis ∷ an_identifier n ∷ a kinds.RightParenthesis ∷ [])
 
 -- `true` or `false`
-abbrev pub flat_boolean : Bool → List Mark
+abbrev pub flat_boolean : Bool → List FlatToken
 flat_boolean true = a kinds.True
 flat_boolean false = a kinds.False
 
 -- the keyword of a declaration, of names that are constant or not
-abbrev pub let_or_const : Bool → List Mark
+abbrev pub let_or_const : Bool → List FlatToken
 let_or_const true = a kinds.Const
 let_or_const false = a kinds.Let
 
 -- a trailing comma behind a list that isn't empty
-abbrev pub trailing : Expressions → List Mark
+abbrev pub trailing : Expressions → List FlatToken
 trailing no_expressions = []
 trailing (an_expression e es) = trailing_comma ∷ []
 
 -- a trailing comma behind members, where there is one at least
-abbrev pub trailing_property : Properties → List Mark
+abbrev pub trailing_property : PropertyDefinitions → List FlatToken
 trailing_property no_properties = []
 trailing_property (a_property p ps) = trailing_comma ∷ []
 
 -- statements in braces
-abbrev pub in_braces : List Mark → List Mark
+abbrev pub in_braces : List FlatToken → List FlatToken
 in_braces ms = in_order (a kinds.LeftBrace ∷ ms ∷ a kinds.RightBrace ∷ [])
 
 -- the flat tokens of each form
 abbrev mutual
   -- the flat tokens of an expression
-  pub flat : Expression → List Mark
+  pub flat : Expression → List FlatToken
   flat this = a kinds.This
   flat (name n) = an_identifier n
   flat (number v) = token (numeric_literal v) ∷ []
@@ -210,60 +210,60 @@ abbrev mutual
   flat (comma es) = flat_expressions es
 
   -- expressions with commas between
-  pub flat_expressions : Expressions → List Mark
+  pub flat_expressions : Expressions → List FlatToken
   flat_expressions no_expressions = []
   flat_expressions (an_expression e es) = flat e ++ more_expressions es
 
   -- expressions behind the first, each behind a comma
-  pub more_expressions : Expressions → List Mark
+  pub more_expressions : Expressions → List FlatToken
   more_expressions no_expressions = []
   more_expressions (an_expression e es) = in_order (a kinds.Comma ∷ flat e ∷ more_expressions es ∷ [])
 
   -- the flat tokens of an expression that may be left out
-  pub flat_optional : OptionalExpression → List Mark
+  pub flat_optional : OptionalExpression → List FlatToken
   flat_optional omitted = []
   flat_optional (present e) = flat e
 
   -- the flat tokens of a key
-  pub flat_key : Key → List Mark
+  pub flat_key : Key → List FlatToken
   flat_key (word_key n) = token (identifier_name n) ∷ []
   flat_key (string_key v) = token (string_literal v) ∷ []
   flat_key (number_key v) = token (numeric_literal v) ∷ []
   flat_key (computed_key e) = in_order (a kinds.LeftBracket ∷ flat e ∷ a kinds.RightBracket ∷ [])
 
   -- the flat tokens of a member of an object literal
-  pub flat_property : Property → List Mark
+  pub flat_property : PropertyDefinition → List FlatToken
   flat_property (shorthand n) = an_identifier n
   flat_property (value k e) = in_order (flat_key k ∷ a kinds.Colon ∷ flat e ∷ [])
   flat_property (method k ps body) = in_order (flat_key k ∷ flat_parameters ps ∷ in_braces (flat_statements body) ∷ [])
 
   -- members with commas between
-  pub flat_properties : Properties → List Mark
+  pub flat_properties : PropertyDefinitions → List FlatToken
   flat_properties no_properties = []
   flat_properties (a_property p ps) = flat_property p ++ more_properties ps
 
   -- members after the first, each after a comma
-  pub more_properties : Properties → List Mark
+  pub more_properties : PropertyDefinitions → List FlatToken
   more_properties no_properties = []
   more_properties (a_property p ps) = in_order (a kinds.Comma ∷ flat_property p ∷ more_properties ps ∷ [])
 
   -- the flat tokens of a declarator
-  pub flat_declarator : Declarator → List Mark
+  pub flat_declarator : Declarator → List FlatToken
   flat_declarator (declarator n omitted) = an_identifier n
   flat_declarator (declarator n (present e)) = in_order (an_identifier n ∷ a kinds.Assign ∷ flat e ∷ [])
 
   -- declarators with commas between
-  pub flat_declarators : Declarators → List Mark
+  pub flat_declarators : Declarators → List FlatToken
   flat_declarators no_declarators = []
   flat_declarators (a_declarator d ds) = flat_declarator d ++ more_declarators ds
 
   -- declarators after the first, each after a comma
-  pub more_declarators : Declarators → List Mark
+  pub more_declarators : Declarators → List FlatToken
   more_declarators no_declarators = []
   more_declarators (a_declarator d ds) = in_order (a kinds.Comma ∷ flat_declarator d ∷ more_declarators ds ∷ [])
 
   -- the flat tokens of a statement or a declaration
-  pub flat_statement : Statement → List Mark
+  pub flat_statement : Statement → List FlatToken
   flat_statement (block ss) = in_braces (flat_statements ss)
   flat_statement (lexical c ds) = in_order (let_or_const c ∷ flat_declarators ds ∷ ends (end_of_declarators ds) ∷ [])
   flat_statement empty = a kinds.Semicolon
@@ -300,16 +300,16 @@ abbrev mutual
       in_order (a kinds.Function ∷ an_identifier n ∷ flat_parameters ps ∷ in_braces (flat_statements body) ∷ [])
 
   -- the flat tokens of a catch, which may be left out
-  pub flat_handler : Handler → List Mark
+  pub flat_handler : Handler → List FlatToken
   flat_handler no_catch = []
   flat_handler (catch n ss) = in_order (a kinds.Catch ∷ flat_catch_parameter n ∷ in_braces (flat_statements ss) ∷ [])
 
   -- the flat tokens of a finally, which may be left out
-  pub flat_finalizer : Finalizer → List Mark
+  pub flat_finalizer : Finalizer → List FlatToken
   flat_finalizer no_finally = []
   flat_finalizer (finally ss) = in_order (a kinds.Finally ∷ in_braces (flat_statements ss) ∷ [])
 
   -- statements one after another
-  pub flat_statements : Statements → List Mark
+  pub flat_statements : Statements → List FlatToken
   flat_statements no_statements = []
   flat_statements (a_statement s ss) = flat_statement s ++ flat_statements ss

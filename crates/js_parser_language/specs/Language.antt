@@ -26,5 +26,5 @@ abbrev pub InLanguage : {Tree : Type 0} → (List Token → Tree → Type 0) →
 InLanguage {Tree} Is ts = (t : Tree) × Is ts t
 
 -- The tokens are the first ones of a source in the language, whatever its size.
-abbrev pub Begins : {Tree : Type 0} → (List Token → Tree → Type 0) → List Token → Type 0
-Begins Is ts = (rest : List Token) × InLanguage Is (ts ++ rest)
+abbrev pub BeginsLanguage : {Tree : Type 0} → (List Token → Tree → Type 0) → List Token → Type 0
+BeginsLanguage Is ts = (rest : List Token) × InLanguage Is (ts ++ rest)

@@ -138,25 +138,25 @@ IsSymbol (string_literal v) t = (t.kind ≡ kinds.String) × (t.string_value ≡
 -- ---- absent semicolons (12.10)
 
 -- what the last token of an expression ends
-pub data Edge : Type 0 where
-  plain : Edge
+pub data ExpressionEnd : Type 0 where
+  plain : ExpressionEnd
   -- an arrow function with a body in braces
-  braces : Edge
+  braces : ExpressionEnd
   -- a postfix ++ or --
-  update : Edge
+  update : ExpressionEnd
 
 -- what a statement ends in before its semicolon
-pub data End : Type 0 where
-  after_expression : Edge → End
+pub data StatementEnd : Type 0 where
+  after_expression : ExpressionEnd → StatementEnd
   -- a keyword, or a declared name without initializer
-  after_word : End
+  after_word : StatementEnd
   -- the ) of a do
-  after_do : End
+  after_do : StatementEnd
 
 -- A token that goes on with an expression which ends so, also on a new line. The project's own: of all tokens that
 -- ECMA-262 lets go on there, these are the ones that could begin a statement too. After an arrow function's braces none
 -- does (15.3), and neither call nor key follows a postfix operator (13.4).
-abbrev pub continues : Edge → TokenKind → Bool
+abbrev pub continues : ExpressionEnd → TokenKind → Bool
 continues plain kinds.LeftParenthesis = true
 continues plain kinds.LeftBracket = true
 continues plain kinds.Plus = true
@@ -167,7 +167,7 @@ continues _ _ = false
 
 -- Whether the semicolon of a statement that ends so may be absent before a token of this kind, with or without a line
 -- terminator between.
-abbrev pub absent_before : End → TokenKind → Bool → Bool
+abbrev pub absent_before : StatementEnd → TokenKind → Bool → Bool
 -- the project's own: where a semicolon stands, it is the statement's
 absent_before end kinds.Semicolon line = false
 -- 12.10.1: before the offending token }
@@ -179,7 +179,7 @@ absent_before after_word kind line = line
 absent_before (after_expression edge) kind line = line && not (continues edge kind)
 
 -- whether that semicolon may be absent before the next token, or at the end of the source
-abbrev pub absent : End → Option Token → Bool
+abbrev pub absent : StatementEnd → Option Token → Bool
 -- 12.10.1: at the end of the input
 absent end None = true
 absent end (Some t) = absent_before end t.kind t.newline_before
@@ -187,15 +187,15 @@ absent end (Some t) = absent_before end t.kind t.newline_before
 -- ---- marks
 
 -- What stands at a place of a tree's flat tokens.
-pub data Mark : Type 0 where
+pub data FlatToken : Type 0 where
   -- a token
-  token : Symbol → Mark
+  token : Symbol → FlatToken
   -- a token with no line terminator before it
-  beside : Symbol → Mark
+  beside : Symbol → FlatToken
   -- the semicolon of a statement that ends so, which may be absent
-  semicolon : End → Mark
+  semicolon : StatementEnd → FlatToken
   -- the comma behind the last element of a list in parentheses, brackets or braces, which may be absent
-  trailing_comma : Mark
+  trailing_comma : FlatToken
 
 -- the next token
 abbrev pub head_of : List Token → Option Token
@@ -218,7 +218,7 @@ is_on_line None = true
 is_on_line (Some t) = not t.newline_before
 
 -- These marks are the first of these tokens, and the others are left.
-abbrev pub Matches : List Mark → List Token → List Token → Type 0
+abbrev pub Matches : List FlatToken → List Token → List Token → Type 0
 Matches [] ts left = ts ≡ left
 Matches (token s ∷ ms) ts left = IsNext s (head_of ts) × Matches ms (tail_of ts) left
 Matches (beside s ∷ ms) ts left =

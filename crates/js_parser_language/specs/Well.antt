@@ -7,9 +7,9 @@ use Rattle.js_tree_operators.specs.declared.operator.UnaryOperator.{UnaryOperato
 use Rattle.js_tree_operators.specs.declared.operator.UnaryOperator.TheVariants as unaries
 use Rattle.js_tree_operators.specs.declared.operator.BinaryOperator.{BinaryOperator}
 use Rattle.js_tree_operators.specs.declared.operator.BinaryOperator.TheVariants as binaries
-use Rattle.js_tree.specs.Trees.{Identifier, Parameters, one_name, name_list, Expression, array, object, function, arrow, arrow_block, parenthesized, member, index, call, postfix, prefix, unary, binary, conditional, assign, comma, Expressions, no_expressions, an_expression, OptionalExpression, omitted, present, Key, computed_key, Property, shorthand, value, method, Properties, no_properties, a_property, Declarator, declarator, Declarators, no_declarators, a_declarator, Statement, block, lexical, expression, if_then, if_else, do_while, while, for, for_lexical, for_of, continue, break, return, throw, try, declared_function, Handler, no_catch, catch, Finalizer, no_finally, finally, Statements, no_statements, a_statement}
+use Rattle.js_tree.specs.Trees.{Identifier, Parameters, one_name, name_list, Expression, array, object, function, arrow, arrow_block, parenthesized, member, index, call, postfix, prefix, unary, binary, conditional, assign, comma, Expressions, no_expressions, an_expression, OptionalExpression, omitted, present, Key, computed_key, PropertyDefinition, shorthand, value, method, PropertyDefinitions, no_properties, a_property, Declarator, declarator, Declarators, no_declarators, a_declarator, Statement, block, lexical, expression, if_then, if_else, do_while, while, for, for_lexical, for_of, continue, break, return, throw, try, declared_function, Handler, no_catch, catch, Finalizer, no_finally, finally, Statements, no_statements, a_statement}
 use Rattle.js_tree.specs.Targets.{is_target}
-use Rattle.js_parser_language.specs.Tokens.{fixed, Mark, token}
+use Rattle.js_parser_language.specs.Tokens.{fixed, FlatToken, token}
 use Rattle.js_parser_language.specs.Flat.{flat}
 
 -- ---- precedence
@@ -97,12 +97,12 @@ takes _ e = true
 -- ---- first tokens
 
 -- the first token is `{`
-abbrev pub begins_with_brace : List Mark → Bool
+abbrev pub begins_with_brace : List FlatToken → Bool
 begins_with_brace (token (fixed kinds.LeftBrace) ∷ ms) = true
 begins_with_brace _ = false
 
 -- the first token is `function`
-abbrev pub begins_with_function : List Mark → Bool
+abbrev pub begins_with_function : List FlatToken → Bool
 begins_with_function (token (fixed kinds.Function) ∷ ms) = true
 begins_with_function _ = false
 
@@ -146,20 +146,20 @@ names_of_parameters (name_list ns) = ns
 -- ---- statements
 
 -- what a statement stands in
-pub record Context : Type 0 where
+pub record StatementContext : Type 0 where
   pub in_loop : Bool
   pub in_function : Bool
 
 -- at the top of a script
-abbrev pub top : Context
+abbrev pub top : StatementContext
 top = record { in_loop = false; in_function = false }
 
 -- in the body of a function, which is in no loop of that function
-abbrev pub function_body : Context
+abbrev pub function_body : StatementContext
 function_body = record { in_loop = false; in_function = true }
 
 -- in the body of a loop
-abbrev pub loop_body : Context → Context
+abbrev pub loop_body : StatementContext → StatementContext
 loop_body c = record c { in_loop = true }
 
 -- neither let, const nor a function declaration (14, Statement)
@@ -261,14 +261,14 @@ abbrev mutual
   WellKey _ = Unit {0}
 
   -- 13.2.5, PropertyDefinition; two members may have one key, also __proto__
-  pub WellProperty : Property → Type 0
+  pub WellProperty : PropertyDefinition → Type 0
   WellProperty (shorthand n) = Unit {0}
   WellProperty (value k e) = WellKey k × Well e × (an_assignment ≤ level e)
   -- 15.4
   WellProperty (method k ps body) = WellKey k × DifferIn ps body × WellStatements function_body body
 
   -- each of these members is well-formed
-  pub WellProperties : Properties → Type 0
+  pub WellProperties : PropertyDefinitions → Type 0
   WellProperties no_properties = Unit {0}
   WellProperties (a_property p ps) = WellProperty p × WellProperties ps
 
@@ -283,7 +283,7 @@ abbrev mutual
   WellDeclarators (a_declarator d ds) = WellDeclarator d × WellDeclarators ds
 
   -- a statement or a declaration is well-formed in what it stands in
-  pub WellStatement : Context → Statement → Type 0
+  pub WellStatement : StatementContext → Statement → Type 0
   -- 14.2, 14.2.1: the names that a block declares differ
   WellStatement c (block ss) = AreFresh [] (declared_names ss) × WellStatements c ss
   -- 14.3.1
@@ -342,18 +342,18 @@ abbrev mutual
   WellStatement c _ = Unit {0}
 
   -- 14.15.1: the name of a catch differs from those of its block
-  pub WellHandler : Context → Handler → Type 0
+  pub WellHandler : StatementContext → Handler → Type 0
   WellHandler c no_catch = Unit {0}
   WellHandler c (catch None ss) = AreFresh [] (declared_names ss) × WellStatements c ss
   WellHandler c (catch (Some n) ss) = AreFresh (n ∷ []) (declared_names ss) × WellStatements c ss
 
   -- a finally, which may be left out, is well-formed
-  pub WellFinalizer : Context → Finalizer → Type 0
+  pub WellFinalizer : StatementContext → Finalizer → Type 0
   WellFinalizer c no_finally = Unit {0}
   WellFinalizer c (finally ss) = AreFresh [] (declared_names ss) × WellStatements c ss
 
   -- each of these statements is well-formed
-  pub WellStatements : Context → Statements → Type 0
+  pub WellStatements : StatementContext → Statements → Type 0
   WellStatements c no_statements = Unit {0}
   WellStatements c (a_statement s ss) = WellStatement c s × WellStatements c ss
 

@@ -15,7 +15,7 @@ ghost use Rattle.js_parser_language.specs.Places.{plain, a_symbol, may_stand, no
 use crate::boxes::boxed;
 use cdp_text::units::Units;
 use js_tree::integer::SafeInteger;
-use js_tree::names::Names;
+use js_tree::names::ParameterNames;
 use js_tree::node::NodeId;
 use js_tree::tree::{ArrowParameters, Expr, Exprs, PropertyDefinitions, Stmts};
 use js_tree_operators::operator::{
@@ -107,7 +107,7 @@ pub fn object(node: NodeId, properties: PropertyDefinitions) -> Expr
 
 /// `function name(parameters) { body }`.
 #[tactic(auto, using(js_tree::proofs::ViewLemmas::view_function, crate::proofs::PlaceLemmas::places_function))]
-pub fn function(node: NodeId, name: Option<Units>, parameters: Names, body: Stmts) -> Expr
+pub fn function(node: NodeId, name: Option<Units>, parameters: ParameterNames, body: Stmts) -> Expr
     ensures view { expression_view result ≡ trees.function name parameters (statements_view body) }
     ensures places { expression_places result ≡ node_of node (plain (a kinds.Function) ∷ plain (flat_optional_name name) ∷ plain (flat_parameters parameters) ∷ in_braces (statements_places body) ∷ []) }
 {

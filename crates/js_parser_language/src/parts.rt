@@ -16,7 +16,7 @@ ghost use Rattle.js_parser_language.specs.Places.{in_turn, plain, a_symbol, node
 use crate::expressions::value_of;
 use cdp_text::units::Units;
 use js_tree::integer::SafeInteger;
-use js_tree::names::Names;
+use js_tree::names::ParameterNames;
 use js_tree::node::NodeId;
 use js_tree::tree::{
     Block, Catch, Declarator, Declarators, Expr, Exprs, PropertyDefinition, PropertyDefinitions,
@@ -86,7 +86,7 @@ pub fn property(key: Box<PropertyName>, value: Box<Expr>) -> PropertyDefinition
 pub fn method(
     node: NodeId,
     key: Box<PropertyName>,
-    parameters: Names,
+    parameters: ParameterNames,
     body: Stmts,
 ) -> PropertyDefinition
     ensures view { property_view result ≡ trees.method (key_view key.value) parameters (statements_view body) }

@@ -13,7 +13,7 @@ ghost use Rattle.js_parser_language.specs.Places.{plain, may_stand, node_of, in_
 
 use crate::expressions::value_of;
 use cdp_text::units::Units;
-use js_tree::names::Names;
+use js_tree::names::ParameterNames;
 use js_tree::node::NodeId;
 use js_tree::tree::{Block, Catch, Declarators, Expr, Stmt, Stmts};
 
@@ -264,7 +264,12 @@ pub fn debugger_statement(node: NodeId) -> Stmt
 
 /// `function name(parameters) { body }`.
 #[tactic(auto, using(js_tree::proofs::ViewLemmas::view_function_declaration, crate::proofs::PlaceLemmas::places_function_declaration))]
-pub fn function_declaration(node: NodeId, name: Units, parameters: Names, body: Stmts) -> Stmt
+pub fn function_declaration(
+    node: NodeId,
+    name: Units,
+    parameters: ParameterNames,
+    body: Stmts,
+) -> Stmt
     ensures view { statement_view result ≡ trees.declared_function name parameters (statements_view body) }
     ensures places { statement_places result ≡ node_of node (plain (a kinds.Function) ∷ plain (an_identifier name) ∷ plain (flat_parameters parameters) ∷ in_braces (statements_places body) ∷ []) }
 {

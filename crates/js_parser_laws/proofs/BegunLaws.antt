@@ -6,12 +6,12 @@ use Rattle.js_lexer.specs.declared.token.TokenKind.{TokenKind}
 use Rattle.js_lexer.specs.declared.token.TokenKind.TheVariants as kinds
 use Rattle.js_tree.specs.Trees.{Identifier, Expression, Statements}
 use Rattle.js_tree.specs.Height.{height, height_of_statements}
-use Rattle.js_parser_language.specs.Tokens.{Token, Symbol, fixed, identifier, identifier_name, numeric_literal, string_literal, is_word, IsSymbol, Mark, token, beside, semicolon, trailing_comma, End, absent, absent_before, head_of, tail_of, is_on_line, IsNext, Matches}
+use Rattle.js_parser_language.specs.Tokens.{Token, Symbol, fixed, identifier, identifier_name, numeric_literal, string_literal, is_word, IsSymbol, FlatToken, token, beside, semicolon, trailing_comma, StatementEnd, absent, absent_before, head_of, tail_of, is_on_line, IsNext, Matches}
 use Rattle.js_parser_language.specs.Flat.{flat, flat_statements}
-use Rattle.js_parser_language.specs.Language.{IsScript, IsExpression, IsFunction, Begins}
+use Rattle.js_parser_language.specs.Language.{IsScript, IsExpression, IsFunction, BeginsLanguage}
 use Rattle.js_parser_readers.specs.Reading.{Fault, stuck, deep}
 use Rattle.js_parser_readers.specs.Parsing.{parse_script, parse_expression, parse_function}
-use Rattle.js_parser_laws.specs.Exact.{AreAlike, BeginsWritten, Leaves, TooDeepFrom}
+use Rattle.js_parser_laws.specs.Exact.{AreAlike, BeginsWritten, LeavesAfter, TooDeepFrom}
 use Rattle.js_parser_laws.proofs.Soundness.{expression_read, function_read, script_read}
 use Rattle.js_parser_laws.proofs.Alive.Whole.{LivesIn, expression_alive, script_alive, function_alive}
 use Rattle.js_parser_laws.proofs.Leaving.{expression_leaves, script_leaves, function_leaves}
@@ -29,14 +29,14 @@ record ReadSo {Tree : Type 0} (Is : List Token → Tree → Type 0) (height_of :
       → parse n ts ≡ Err (stuck k)
       → ts ≡ before ++ left
       → length left ≡ k
-      → Leaves Is before left
+      → LeavesAfter Is before left
   deepens : (n : ℕ) (ts : List Token) (k : ℕ) → parse (n + 3) ts ≡ Err (deep k) → TooDeepFrom Is height_of ts n
 
 -- where no token is left, those before are all
 at_end : {Tree : Type 0} (Is : List Token → Tree → Type 0) (ts before left : List Token)
     → ts ≡ before ++ left
-    → Leaves Is before left
-    → Begins Is ts
+    → LeavesAfter Is before left
+    → BeginsLanguage Is ts
     → BeginsWritten Is before
     → BeginsWritten Is ts
 at_end Is ts before [] p l b w = subst (λ (us : List Token). BeginsWritten Is us) (sym (p ∙ append-nil before)) w
@@ -49,7 +49,7 @@ at_end Is ts before (y ∷ left) p l b w =
 written_by : {Tree : Type 0} (Is : List Token → Tree → Type 0) (height_of : Tree → ℕ)
     (parse : ℕ → List Token → Result Tree Fault)
     → ReadSo Is height_of parse
-    → (ts : List Token) (b : Begins Is ts)
+    → (ts : List Token) (b : BeginsLanguage Is ts)
     → (r : Result Tree Fault) → parse (height_of b.1.0 + 3) ts ≡ r → BeginsWritten Is ts
 written_by Is height_of parse s ts b (Ok t) e =
     record {
@@ -71,7 +71,7 @@ written_by Is height_of parse s ts b (Err (deep k)) e =
     absurd (omega (arith, d.deeper (d.left ++ b.0) b.1.0 (subst (λ (us : List Token). Is us b.1.0) same b.1.1)))
 
 -- Tokens that begin an expression begin one with written tokens behind them.
-pub expression_written : (ts : List Token) → Begins IsExpression ts → BeginsWritten IsExpression ts
+pub expression_written : (ts : List Token) → BeginsLanguage IsExpression ts → BeginsWritten IsExpression ts
 expression_written ts b =
     written_by IsExpression height parse_expression
     (record {
@@ -84,7 +84,7 @@ expression_written ts b =
     ts b (parse_expression (height b.1.0 + 3) ts) refl
 
 -- The same of functions.
-pub function_written : (ts : List Token) → Begins IsFunction ts → BeginsWritten IsFunction ts
+pub function_written : (ts : List Token) → BeginsLanguage IsFunction ts → BeginsWritten IsFunction ts
 function_written ts b =
     written_by IsFunction height parse_function
     (record {
@@ -98,7 +98,7 @@ function_written ts b =
 
 -- The same of scripts.
 pub script_written : (earlier : List Identifier) (ts : List Token)
-    → Begins (IsScript earlier) ts
+    → BeginsLanguage (IsScript earlier) ts
     → BeginsWritten (IsScript earlier) ts
 script_written earlier ts b =
     written_by (IsScript earlier) height_of_statements (λ n ts. parse_script n earlier ts)
@@ -142,7 +142,7 @@ alike_line [] (u ∷ us) a = absurd a
 alike_line (t ∷ ts) [] a = absurd a
 alike_line (t ∷ ts) (u ∷ us) a = ap (λ (b : Bool). not b) a.3
 
-alike_absent : (end : End) (ts us : List Token) → AreAlike ts us → absent end (head_of ts) ≡ absent end (head_of us)
+alike_absent : (end : StatementEnd) (ts us : List Token) → AreAlike ts us → absent end (head_of ts) ≡ absent end (head_of us)
 alike_absent end [] [] a = refl
 alike_absent end [] (u ∷ us) a = absurd a
 alike_absent end (t ∷ ts) [] a = absurd a
@@ -154,7 +154,7 @@ alike_none [] [] a e = refl
 alike_none [] (u ∷ us) a e = absurd a
 alike_none (t ∷ ts) us a e = absurd cc
 
-alike_matches : (ms : List Mark) (ts us : List Token) → AreAlike ts us → Matches ms ts [] → Matches ms us []
+alike_matches : (ms : List FlatToken) (ts us : List Token) → AreAlike ts us → Matches ms ts [] → Matches ms us []
 alike_matches [] ts us a m = alike_none ts us a m
 alike_matches (token s ∷ ms) ts us a m =
     (alike_next s ts us a m.0, alike_matches ms (tail_of ts) (tail_of us) (alike_tail ts us a) m.1)

@@ -3,16 +3,16 @@ use Rattle.std.specs.Prelude.{◌≡◌, ℕ, suc, max, ◌≤◌, Bool, true, f
 use Rattle.js_lexer.specs.declared.token.TokenKind.{TokenKind}
 use Rattle.js_lexer.specs.declared.token.TokenKind.TheVariants as kinds
 use Rattle.js_tree.specs.Trees.{Identifier, Expression, Statement, Statements}
-use Rattle.js_parser_language.specs.Tokens.{Token, fixed, identifier, Mark, token, beside, semicolon, Edge, plain, braces, update, after_expression, head_of, Matches}
+use Rattle.js_parser_language.specs.Tokens.{Token, fixed, identifier, FlatToken, token, beside, semicolon, ExpressionEnd, plain, braces, update, after_expression, head_of, Matches}
 use Rattle.js_parser_language.specs.Flat as flats
 use Rattle.js_parser_language.specs.Flat.{edge, flat, flat_optional, flat_expressions, trailing, flat_declarators, flat_statement, flat_statements, flat_parameters}
 use Rattle.js_parser_language.specs.Well as levels
-use Rattle.js_parser_language.specs.Well.{Context, function_body, level, Well, WellOptional, AreAssignments, WellDeclarators, IsInitialized, is_some_declarator, WellStatement, WellStatements, is_statement, ends_in_if, AreFresh, DifferIn, declared_by, declared_names, names_of_declarators}
+use Rattle.js_parser_language.specs.Well.{StatementContext, function_body, level, Well, WellOptional, AreAssignments, WellDeclarators, IsInitialized, is_some_declarator, WellStatement, WellStatements, is_statement, ends_in_if, AreFresh, DifferIn, declared_by, declared_names, names_of_declarators}
 use Rattle.js_tree.specs.Height.{height, height_of_optional, height_of_expressions, height_of_declarators, height_of_statement, height_of_statements}
 use Rattle.js_parser_language.specs.Kinds.{is_kind}
 use Rattle.js_parser_readers.specs.Classes.{no_link, link, update_near, operator, no_joint, joint, is_arrow}
 use Rattle.js_parser_readers.specs.Parsing.{operator_from}
-use Rattle.js_parser_readers.specs.Productions.{Code, Below, Item, tok, near, a_name, the_name, an_assignment, an_expression, optional, arguments, ended, an_end, declared, a_statement, a_block, in_braces, code, Value, Values, seq}
+use Rattle.js_parser_readers.specs.Productions.{ParametersAndBody, Below, Piece, tok, near, a_name, the_name, an_assignment, an_expression, optional, arguments, ended, an_end, declared, a_statement, a_block, in_braces, code, PieceValue, PieceValues, seq}
 
 -- ---- what is read is a well-formed tree's
 
@@ -28,7 +28,7 @@ abbrev pub NoElse : Statement → List Token → Type 0
 NoElse s r = ends_in_if s ≡ true → is_kind kinds.Else (head_of r) ≡ false
 
 -- a statement or a declaration of other names than those taken
-pub record TakesItem (context : Context) (taken : List Identifier) (n : ℕ) (ts : List Token) (s : Statement)
+pub record TakesItem (context : StatementContext) (taken : List Identifier) (n : ℕ) (ts : List Token) (s : Statement)
     (r : List Token) : Type 0 where
   pub marks : Matches (flat_statement s) ts r
   pub well : WellStatement context s
@@ -37,7 +37,7 @@ pub record TakesItem (context : Context) (taken : List Identifier) (n : ℕ) (ts
   pub height : height_of_statement s ≤ n
 
 -- a statement, at most n high
-pub record TakesStatement (context : Context) (n : ℕ) (ts : List Token) (s : Statement) (r : List Token) : Type 0 where
+pub record TakesStatement (context : StatementContext) (n : ℕ) (ts : List Token) (s : Statement) (r : List Token) : Type 0 where
   pub marks : Matches (flat_statement s) ts r
   pub well : WellStatement context s
   pub form : is_statement s ≡ true
@@ -45,7 +45,7 @@ pub record TakesStatement (context : Context) (n : ℕ) (ts : List Token) (s : S
   pub height : height_of_statement s ≤ n
 
 -- statements in braces, each at most n high
-pub record TakesBlock (context : Context) (taken : List Identifier) (n : ℕ) (ts : List Token) (ss : Statements)
+pub record TakesBlock (context : StatementContext) (taken : List Identifier) (n : ℕ) (ts : List Token) (ss : Statements)
     (r : List Token) : Type 0 where
   pub marks : Matches (flats.in_braces (flat_statements ss)) ts r
   pub well : WellStatements context ss
@@ -53,7 +53,7 @@ pub record TakesBlock (context : Context) (taken : List Identifier) (n : ℕ) (t
   pub height : height_of_statements ss ≤ n
 
 -- the parameters of a function and its body, whose statements are at most n high
-pub record TakesCode (n : ℕ) (ts : List Token) (f : Code) (r : List Token) : Type 0 where
+pub record TakesCode (n : ℕ) (ts : List Token) (f : ParametersAndBody) (r : List Token) : Type 0 where
   pub marks : Matches (flat_parameters f.parameters ++ flats.in_braces (flat_statements f.body)) ts r
   pub differ : DifferIn f.parameters f.body
   pub well : WellStatements function_body f.body
@@ -80,23 +80,23 @@ pub record SoundBelow (n : ℕ) (b : Below) : Type 0 where
   pub call : (ts : List Token) (x : Expression × List Token)
       → b.call ts ≡ Ok x
       → TakesExpression levels.a_call n ts x.0 x.1
-  pub statement : (context : Context) (ts : List Token) (x : Statement × List Token)
+  pub statement : (context : StatementContext) (ts : List Token) (x : Statement × List Token)
       → b.statement context ts ≡ Ok x
       → TakesStatement context n ts x.0 x.1
-  pub item : (context : Context) (taken : List Identifier) (ts : List Token) (x : Statement × List Token)
+  pub item : (context : StatementContext) (taken : List Identifier) (ts : List Token) (x : Statement × List Token)
       → b.item context taken ts ≡ Ok x
       → TakesItem context taken n ts x.0 x.1
-  pub block : (context : Context) (taken : List Identifier) (ts : List Token) (x : Statements × List Token)
+  pub block : (context : StatementContext) (taken : List Identifier) (ts : List Token) (x : Statements × List Token)
       → b.block context taken ts ≡ Ok x
       → TakesBlock context taken n ts x.0 x.1 × (suc (height_of_statements x.0) ≤ n)
-  pub function : (ts : List Token) (x : Code × List Token)
+  pub function : (ts : List Token) (x : ParametersAndBody × List Token)
       → b.function ts ≡ Ok x
       → TakesCode n ts x.0 x.1 × (suc (height_of_statements x.0.body) ≤ n)
 
 -- ---- the flat tokens of a production
 
 -- the flat tokens of an item with this value
-abbrev pub marks_of : (i : Item) → Value i → List Mark
+abbrev pub marks_of : (i : Piece) → PieceValue i → List FlatToken
 marks_of (tok k) v = token (fixed k) ∷ []
 marks_of (near k) v = beside (fixed k) ∷ []
 marks_of a_name n = token (identifier n) ∷ []
@@ -114,12 +114,12 @@ marks_of (in_braces context taken) ss = flats.in_braces (flat_statements ss)
 marks_of code f = flat_parameters f.parameters ++ flats.in_braces (flat_statements f.body)
 
 -- the flat tokens of items with these values, one after another
-abbrev pub marks : (is : List Item) → Values is → List Mark
+abbrev pub marks : (is : List Piece) → PieceValues is → List FlatToken
 marks [] vs = []
 marks (i ∷ is) vs = marks_of i vs.0 ++ marks is vs.1
 
 -- a value of an item is well-formed
-abbrev pub Sane : (i : Item) → Value i → Type 0
+abbrev pub Sane : (i : Piece) → PieceValue i → Type 0
 Sane an_assignment e = Well e × (levels.an_assignment ≤ level e)
 Sane an_expression e = Well e
 Sane (optional k) e = WellOptional e
@@ -137,12 +137,12 @@ Sane code f = DifferIn f.parameters f.body × WellStatements function_body f.bod
 Sane i v = Unit {0}
 
 -- the values of all items are well-formed
-abbrev pub AllSane : (is : List Item) → Values is → Type 0
+abbrev pub AllSane : (is : List Piece) → PieceValues is → Type 0
 AllSane [] vs = Unit {0}
 AllSane (i ∷ is) vs = Sane i vs.0 × AllSane is vs.1
 
 -- how high what an item counts is
-abbrev pub height_at : (i : Item) → Value i → ℕ
+abbrev pub height_at : (i : Piece) → PieceValue i → ℕ
 height_at an_assignment e = height e
 height_at an_expression e = height e
 height_at (optional k) e = height_of_optional e
@@ -156,19 +156,19 @@ height_at code f = height_of_statements f.body
 height_at i v = 0
 
 -- how high the highest of some items' values is
-abbrev pub height_all : (is : List Item) → Values is → ℕ
+abbrev pub height_all : (is : List Piece) → PieceValues is → ℕ
 height_all [] vs = 0
 height_all (i ∷ is) vs = max (height_at i vs.0) (height_all is vs.1)
 
 -- behind the last item: no else after a statement that ends in an if without one
-abbrev pub LastNoElse : (is : List Item) → Values is → List Token → Type 0
+abbrev pub LastNoElse : (is : List Piece) → PieceValues is → List Token → Type 0
 LastNoElse [] vs r = Unit {0}
 LastNoElse (a_statement context ∷ []) vs r = NoElse vs.0 r
 LastNoElse (i ∷ []) vs r = Unit {0}
 LastNoElse (i ∷ j ∷ is) vs r = LastNoElse (j ∷ is) vs.1 r
 
 -- The law of productions: what is read is that of its items.
-pub record TakesAll (n : ℕ) (is : List Item) (ts : List Token) (vs : Values is) (r : List Token) : Type 0 where
+pub record TakesAll (n : ℕ) (is : List Piece) (ts : List Token) (vs : PieceValues is) (r : List Token) : Type 0 where
   pub marks : Matches (marks is vs) ts r
   pub sane : AllSane is vs
   pub last : LastNoElse is vs r
@@ -179,14 +179,14 @@ abbrev pub SeqSound : Type 0
 SeqSound =
     (n : ℕ) (b : Below)
     → SoundBelow n b
-    → (is : List Item) (ts : List Token) (x : Values is × List Token)
+    → (is : List Piece) (ts : List Token) (x : PieceValues is × List Token)
     → seq b is ts ≡ Ok x
     → TakesAll n is ts x.0 x.1
 
 -- ---- what is well-formed is read
 
 -- nothing goes on with an expression that ends so
-abbrev pub Stops : Edge → List Token → Type 0
+abbrev pub Stops : ExpressionEnd → List Token → Type 0
 Stops plain r =
     (link (head_of r) ≡ no_link)
     × (update_near (head_of r) ≡ None)
@@ -201,14 +201,14 @@ abbrev pub NoComma : List Token → Type 0
 NoComma r = is_kind kinds.Comma (head_of r) ≡ false
 
 -- what goes on with an operation is no operator that binds so tightly
-abbrev pub StopsOperation : ℕ → Edge → List Token → Type 0
+abbrev pub StopsOperation : ℕ → ExpressionEnd → List Token → Type 0
 StopsOperation m plain r =
     (link (head_of r) ≡ no_link) × (update_near (head_of r) ≡ None) × (operator_from m (operator (head_of r)) ≡ None)
 StopsOperation m update r = operator_from m (operator (head_of r)) ≡ None
 StopsOperation m braces r = Unit {0}
 
 -- a unary expression is followed by no member, call or update
-abbrev pub StopsUnary : Edge → List Token → Type 0
+abbrev pub StopsUnary : ExpressionEnd → List Token → Type 0
 StopsUnary plain r = (link (head_of r) ≡ no_link) × (update_near (head_of r) ≡ None)
 StopsUnary _ r = Unit {0}
 
@@ -368,7 +368,7 @@ pub record AgainBelow (n : ℕ) (b : Below) : Type 0 where
       → Matches (flat e) ts r
       → link (head_of r) ≡ no_link
       → b.call ts ≡ Ok (e, r)
-  pub statement : (context : Context) (s : Statement)
+  pub statement : (context : StatementContext) (s : Statement)
       → WellStatement context s
       → is_statement s ≡ true
       → height_of_statement s ≤ n
@@ -376,7 +376,7 @@ pub record AgainBelow (n : ℕ) (b : Below) : Type 0 where
       → Matches (flat_statement s) ts r
       → Follows s r
       → b.statement context ts ≡ Ok (s, r)
-  pub item : (context : Context) (taken : List Identifier) (s : Statement)
+  pub item : (context : StatementContext) (taken : List Identifier) (s : Statement)
       → WellStatement context s
       → AreFresh taken (declared_by s)
       → height_of_statement s ≤ n
@@ -384,14 +384,14 @@ pub record AgainBelow (n : ℕ) (b : Below) : Type 0 where
       → Matches (flat_statement s) ts r
       → Follows s r
       → b.item context taken ts ≡ Ok (s, r)
-  pub block : (context : Context) (taken : List Identifier) (ss : Statements)
+  pub block : (context : StatementContext) (taken : List Identifier) (ss : Statements)
       → WellStatements context ss
       → AreFresh taken (declared_names ss)
       → suc (height_of_statements ss) ≤ n
       → (ts r : List Token)
       → Matches (flats.in_braces (flat_statements ss)) ts r
       → b.block context taken ts ≡ Ok (ss, r)
-  pub function : (f : Code)
+  pub function : (f : ParametersAndBody)
       → DifferIn f.parameters f.body
       → WellStatements function_body f.body
       → suc (height_of_statements f.body) ≤ n
@@ -400,7 +400,7 @@ pub record AgainBelow (n : ℕ) (b : Below) : Type 0 where
       → b.function ts ≡ Ok (f, r)
 
 -- what an item's value needs of what follows it
-abbrev pub Ends : (i : Item) → Value i → List Token → Type 0
+abbrev pub Ends : (i : Piece) → PieceValue i → List Token → Type 0
 Ends an_assignment e r = Stops (edge e) r
 Ends an_expression e r = Stops (edge e) r × NoComma r
 Ends ended e r = follows_statement (head_of r) ≡ true
@@ -408,7 +408,7 @@ Ends (a_statement context) s r = Follows s r
 Ends i v r = Unit {0}
 
 -- what the last item's value needs of what follows it
-abbrev pub EndsLast : (is : List Item) → Values is → List Token → Type 0
+abbrev pub EndsLast : (is : List Piece) → PieceValues is → List Token → Type 0
 EndsLast [] vs r = Unit {0}
 EndsLast (i ∷ []) vs r = Ends i vs.0 r
 EndsLast (i ∷ j ∷ is) vs r = EndsLast (j ∷ is) vs.1 r
@@ -423,7 +423,7 @@ closes kinds.Colon = true
 closes _ = false
 
 -- which items may stand before which, so that each ends where it should
-abbrev pub fits : Item → List Item → Bool
+abbrev pub fits : Piece → List Piece → Bool
 fits an_assignment (tok k ∷ is) = closes k
 fits an_assignment [] = true
 fits an_assignment is = false
@@ -442,7 +442,7 @@ fits (arguments k) is = closes k
 fits i is = true
 
 -- each item fits before those behind it
-abbrev pub all_fit : List Item → Bool
+abbrev pub all_fit : List Piece → Bool
 all_fit [] = true
 all_fit (i ∷ is) = fits i is && all_fit is
 
@@ -451,7 +451,7 @@ abbrev pub SeqAgain : Type 0
 SeqAgain =
     (n : ℕ) (b : Below)
     → AgainBelow n b
-    → (is : List Item) (vs : Values is) (ts r : List Token)
+    → (is : List Piece) (vs : PieceValues is) (ts r : List Token)
     → AllSane is vs
     → height_all is vs ≤ n
     → all_fit is ≡ true

@@ -11,7 +11,7 @@ use Rattle.js_tree.specs.Height.{height, height_of_statements}
 use Rattle.js_parser_language.specs.Language.{IsScript, IsExpression, IsFunction}
 use Rattle.js_parser_readers.specs.Reading.{Fault, stuck, deep, Read, Reader, name_at}
 use Rattle.js_parser_readers.specs.Classes as classes
-use Rattle.js_parser_readers.specs.Classes.{Start, start}
+use Rattle.js_parser_readers.specs.Classes.{PrimaryStart, start}
 use Rattle.js_parser_readers.specs.Productions.{Below, parameters_at, items_at}
 use Rattle.js_parser_readers.specs.Parsing.{arrow_rest, arrow_of_one, function_at, below, ended_by, whole, parse_script, parse_expression, parse_function, function_code_by}
 use Rattle.js_parser_laws.specs.Exact.{TooDeepFrom}
@@ -144,7 +144,7 @@ one_deepens b p d n =
     deep_then n (λ ts. name_at ts) (λ s ts. arrow_rest b (trees.one_name s) (s ∷ []) ts) name_follows (name_deepens n)
     (λ s. arrow_rest_deepens b p d n (trees.one_name s) (s ∷ []))
 
-code_by_deepens : (b : Below) → Pair b b → DeepBelow b → (n : ℕ) (v : Start) → Deepens n (λ ts. function_code_by b v ts)
+code_by_deepens : (b : Below) → Pair b b → DeepBelow b → (n : ℕ) (v : PrimaryStart) → Deepens n (λ ts. function_code_by b v ts)
 code_by_deepens b p d n classes.function_word = deep_past n (λ ts. function_at b ts) (function_deepens b p d n)
 code_by_deepens b p d n (classes.a_name s) = one_deepens b p d n
 code_by_deepens b p d n classes.parenthesis =

@@ -4,22 +4,22 @@ use Rattle.std.proofs.lemmas.List.{append-nil}
 use Rattle.js_lexer.specs.declared.token.TokenKind.{TokenKind}
 use Rattle.js_lexer.specs.declared.token.TokenKind.TheVariants as kinds
 use Rattle.js_tree.specs.Trees as trees
-use Rattle.js_tree.specs.Trees.{Expression, Expressions, Key, Property, Declarator, Declarators}
-use Rattle.js_parser_language.specs.Tokens.{fixed, identifier, identifier_name, Mark, token, beside}
+use Rattle.js_tree.specs.Trees.{Expression, Expressions, Key, PropertyDefinition, Declarator, Declarators}
+use Rattle.js_parser_language.specs.Tokens.{fixed, identifier, identifier_name, FlatToken, token, beside}
 use Rattle.js_parser_language.specs.Flat as flats
 use Rattle.js_parser_language.specs.Flat.{unary_kind, update_kind, binary_kind, assign_kind, flat, flat_expressions, more_expressions, trailing, flat_optional_name, flat_names, flat_parameters, flat_arrow_parameters, flat_key, flat_property, flat_properties, trailing_property, flat_declarator, flat_declarators, more_declarators, flat_statements}
 use Rattle.js_parser_language.specs.Well.{Well, WellProperty, is_some_declarator, WellDeclarators, is_two_expressions, AreAssignments}
 use Rattle.js_parser_laws.proofs.Alive.Tools.{is_firm, firm_behind, firm_append}
 
 -- with nothing behind them
-pub firm_nil : (ms : List Mark) → is_firm ms ≡ true → is_firm (ms ++ []) ≡ true
-firm_nil ms f = ap (λ (ms : List Mark). is_firm ms) (append-nil ms) ∙ f
+pub firm_nil : (ms : List FlatToken) → is_firm ms ≡ true → is_firm (ms ++ []) ≡ true
+firm_nil ms f = ap (λ (ms : List FlatToken). is_firm ms) (append-nil ms) ∙ f
 
 -- marks up to a token
-pub firm_last : (ms : List Mark) (k : TokenKind) → is_firm (ms ++ (token (fixed k) ∷ [])) ≡ true
+pub firm_last : (ms : List FlatToken) (k : TokenKind) → is_firm (ms ++ (token (fixed k) ∷ [])) ≡ true
 firm_last ms k = firm_append ms (token (fixed k) ∷ []) refl
 
-pub firm_braces : (ms : List Mark) → is_firm (flats.in_braces ms) ≡ true
+pub firm_braces : (ms : List FlatToken) → is_firm (flats.in_braces ms) ≡ true
 firm_braces ms = firm_append (token (fixed kinds.LeftBrace) ∷ ms) (token (fixed kinds.RightBrace) ∷ []) refl
 
 pub firm_parameters : (ns : List (List ℕ)) → is_firm (flat_parameters ns) ≡ true
@@ -109,7 +109,7 @@ mutual
   expressions_firm (trees.an_expression e es) s w = more_firm (flat e) (expression_firm e w.0) es w.2
 
   -- further ones behind marks that end in a token
-  more_firm : (ms : List Mark)
+  more_firm : (ms : List FlatToken)
       → is_firm ms ≡ true
       → (es : Expressions)
       → AreAssignments es
@@ -118,7 +118,7 @@ mutual
   more_firm ms f (trees.an_expression e es) w =
       firm_append ms (token (fixed kinds.Comma) ∷ (flat e ++ (more_expressions es ++ [])))
       (firm_behind (token (fixed kinds.Comma)) (flat e ++ (more_expressions es ++ []))
-      (ap (λ (l : List Mark). is_firm (flat e ++ l)) (append-nil (more_expressions es))
+      (ap (λ (l : List FlatToken). is_firm (flat e ++ l)) (append-nil (more_expressions es))
       ∙ more_firm (flat e) (expression_firm e w.0) es w.2))
 
 -- ---- parts
@@ -131,7 +131,7 @@ key_firm (trees.computed_key e) =
     firm_behind (token (fixed kinds.LeftBracket)) (flat e ++ (token (fixed kinds.RightBracket) ∷ []))
     (firm_last (flat e) kinds.RightBracket)
 
-pub property_firm : (p : Property) → WellProperty p → is_firm (flat_property p) ≡ true
+pub property_firm : (p : PropertyDefinition) → WellProperty p → is_firm (flat_property p) ≡ true
 property_firm (trees.shorthand n) w = refl
 property_firm (trees.value k e) w =
     firm_append (flat_key k) (token (fixed kinds.Colon) ∷ (flat e ++ []))
@@ -149,7 +149,7 @@ declarator_firm (trees.declarator n (trees.present e)) w =
     firm_behind (token (identifier n)) (token (fixed kinds.Assign) ∷ (flat e ++ []))
     (firm_behind (token (fixed kinds.Assign)) (flat e ++ []) (firm_nil (flat e) (expression_firm e w.0.0)))
 
-more_declarators_firm : (ms : List Mark)
+more_declarators_firm : (ms : List FlatToken)
     → is_firm ms ≡ true
     → (ds : Declarators)
     → WellDeclarators ds
@@ -158,7 +158,7 @@ more_declarators_firm ms f trees.no_declarators w = firm_nil ms f
 more_declarators_firm ms f (trees.a_declarator d ds) w =
     firm_append ms (token (fixed kinds.Comma) ∷ (flat_declarator d ++ (more_declarators ds ++ [])))
     (firm_behind (token (fixed kinds.Comma)) (flat_declarator d ++ (more_declarators ds ++ []))
-    (ap (λ (l : List Mark). is_firm (flat_declarator d ++ l)) (append-nil (more_declarators ds))
+    (ap (λ (l : List FlatToken). is_firm (flat_declarator d ++ l)) (append-nil (more_declarators ds))
     ∙ more_declarators_firm (flat_declarator d) (declarator_firm d (w.0, tt)) ds w.1))
 
 pub declarators_firm : (ds : Declarators)

@@ -11,7 +11,7 @@ use Rattle.js_parser_readers.specs.Reading.{Fault, stuck, deep, Read, Reader}
 use Rattle.js_parser_readers.specs.Classes.{start}
 use Rattle.js_parser_readers.specs.Productions.{items_at}
 use Rattle.js_parser_readers.specs.Parsing.{below, ended_by, whole, parse_script, parse_expression, parse_function, function_code_by}
-use Rattle.js_parser_laws.specs.Exact.{Leaves}
+use Rattle.js_parser_laws.specs.Exact.{LeavesAfter}
 use Rattle.js_parser_laws.proofs.Follows.Tools.{moved, Seen, FollowsAt, Follows, deepens, same_left, same_count}
 use Rattle.js_parser_laws.proofs.Completeness.{expression_again_whole, function_again_whole, script_again_whole}
 use Rattle.js_parser_laws.proofs.Locality.{follows_below, pair_below, items_follows_below, function_code_follows}
@@ -100,7 +100,7 @@ pub leaves : {A : Type 0} (Is : List Token → A → Type 0) (height_of : A → 
     → whole (read n ts) ≡ Err (stuck k)
     → ts ≡ before ++ left
     → length left ≡ k
-    → Leaves Is before left
+    → LeavesAfter Is before left
 leaves Is height_of read h again n ts k before [] e p c = λ q.
     let t = q.0 in
     let m : ℕ = max n (height_of t) in
@@ -123,7 +123,7 @@ pub expression_leaves : (n : ℕ) (ts : List Token) (k : ℕ) (before left : Lis
     → parse_expression n ts ≡ Err (stuck k)
     → ts ≡ before ++ left
     → length left ≡ k
-    → Leaves IsExpression before left
+    → LeavesAfter IsExpression before left
 unfolding parse_expression
 expression_leaves n ts k before left e p c =
     leaves IsExpression height (λ m ts. (below m).expression ts) (λ n m le. (follows_below n m le).expression)
@@ -133,7 +133,7 @@ pub script_leaves : (n : ℕ) (earlier : List Identifier) (ts : List Token) (k :
     → parse_script n earlier ts ≡ Err (stuck k)
     → ts ≡ before ++ left
     → length left ≡ k
-    → Leaves (IsScript earlier) before left
+    → LeavesAfter (IsScript earlier) before left
 unfolding parse_script
 script_leaves n earlier ts k before left e p c =
     leaves (IsScript earlier) height_of_statements (λ m ts. items_at (below m) top earlier ts)
@@ -159,7 +159,7 @@ pub function_leaves : (n : ℕ) (ts : List Token) (k : ℕ) (before left : List 
     → parse_function n ts ≡ Err (stuck k)
     → ts ≡ before ++ left
     → length left ≡ k
-    → Leaves IsFunction before left
+    → LeavesAfter IsFunction before left
 function_leaves n ts k before left e p c =
     leaves IsFunction height function_reader function_reader_follows
     (λ m ts t i l. sym (function_whole m ts) ∙ function_again_whole m ts t i l) n ts k before left

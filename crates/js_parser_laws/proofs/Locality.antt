@@ -4,10 +4,10 @@ use Rattle.std.proofs.Common.{ℕ, zero, suc, ◌≤◌, List, [], ◌∷◌, le
 use Rattle.js_tree.specs.Trees as trees
 use Rattle.js_tree.specs.Trees.{Identifier}
 use Rattle.js_parser_language.specs.Tokens.{head_of}
-use Rattle.js_parser_language.specs.Well.{Context}
+use Rattle.js_parser_language.specs.Well.{StatementContext}
 use Rattle.js_parser_readers.specs.Reading.{deep, name_at}
 use Rattle.js_parser_readers.specs.Classes as classes
-use Rattle.js_parser_readers.specs.Classes.{Start, start}
+use Rattle.js_parser_readers.specs.Classes.{PrimaryStart, start}
 use Rattle.js_parser_readers.specs.Productions.{Below, parameters_at, items_at, braces, code_at}
 use Rattle.js_parser_readers.specs.Parsing.{call, unary, operation, arrow_rest, arrow_of_one, assignment, expression, function_at, statement, item, below, function_code_by}
 use Rattle.js_parser_laws.proofs.Soundness.{sound_below}
@@ -19,7 +19,7 @@ use Rattle.js_parser_laws.proofs.Follows.Assignments.{Spans, assignment_follows,
 use Rattle.js_parser_laws.proofs.Follows.Statements.{statement_follows, list_item_follows}
 
 -- a statement takes a token at least
-pub item_takes : (n : ℕ) (context : Context) (taken : List Identifier) → Takes (λ ts. (below n).item context taken ts)
+pub item_takes : (n : ℕ) (context : StatementContext) (taken : List Identifier) → Takes (λ ts. (below n).item context taken ts)
 item_takes n context taken ts x e =
     let t = (sound_below n).item context taken ts x e in
     let p = statement_starts context x.0 t.well ts x.1 t.marks in
@@ -133,7 +133,7 @@ pair_below n m le = pair_of n m (follows_below n m le) (own m)
 
 pub items_follows_below : (n m : ℕ)
     → n ≤ m
-    → (context : Context) (taken : List Identifier)
+    → (context : StatementContext) (taken : List Identifier)
     → Follows (λ ts. items_at (below n) context taken ts) (λ ts. items_at (below m) context taken ts)
 items_follows_below n m le context taken = items_at_follows (below n) (below m) (pair_below n m le) context taken
 
@@ -146,7 +146,7 @@ one_follows b c p =
 
 code_by_follows : (b c : Below)
     → Pair b c
-    → (v : Start)
+    → (v : PrimaryStart)
     → Follows (λ ts. function_code_by b v ts) (λ ts. function_code_by c v ts)
 code_by_follows b c p classes.function_word =
     past (λ ts. function_at b ts) (λ ts. function_at c ts) (function_follows b c p)

@@ -1,8 +1,8 @@
 -- Marks one after the other.
 use Rattle.std.proofs.Common.{List, [], ◌∷◌, ◌++◌, refl, sym, subst, inl, inr}
-use Rattle.js_parser_language.specs.Tokens.{Token, Mark, token, beside, semicolon, trailing_comma, tail_of, Matches}
+use Rattle.js_parser_language.specs.Tokens.{Token, FlatToken, token, beside, semicolon, trailing_comma, tail_of, Matches}
 
-pub joins : (ms ns : List Mark) (ts us r : List Token) → Matches ms ts us → Matches ns us r → Matches (ms ++ ns) ts r
+pub joins : (ms ns : List FlatToken) (ts us r : List Token) → Matches ms ts us → Matches ns us r → Matches (ms ++ ns) ts r
 joins [] ns ts us r p q = subst (λ (l : List Token). Matches ns l r) (sym p) q
 joins (token s ∷ ms) ns ts us r p q = (p.0, joins ms ns (tail_of ts) us r p.1 q)
 joins (beside s ∷ ms) ns ts us r p q = (p.0, p.1, joins ms ns (tail_of ts) us r p.2 q)
@@ -12,7 +12,7 @@ joins (trailing_comma ∷ ms) ns ts us r (inl p) q = inl (p.0, joins ms ns (tail
 joins (trailing_comma ∷ ms) ns ts us r (inr p) q = inr (joins ms ns ts us r p q)
 
 -- where the first marks end
-pub parts : (ms ns : List Mark) (ts r : List Token)
+pub parts : (ms ns : List FlatToken) (ts r : List Token)
     → Matches (ms ++ ns) ts r
     → (us : List Token) × Matches ms ts us × Matches ns us r
 parts [] ns ts r m = (ts, refl, m)

@@ -3,7 +3,7 @@ use Rattle.std.proofs.Common.{◌≡◌, ℕ, Bool, true, false, cond, List, [],
 use Rattle.js_lexer.specs.declared.token.TokenKind.{TokenKind}
 use Rattle.js_lexer.specs.declared.token.TokenKind.TheVariants as kinds
 use Rattle.js_tree.specs.Trees.{Identifier}
-use Rattle.js_parser_language.specs.Tokens.{Token, fixed, identifier, identifier_name, token, beside, semicolon, head_of, tail_of, IsNext, is_on_line, End, absent, absent_before, Matches}
+use Rattle.js_parser_language.specs.Tokens.{Token, fixed, identifier, identifier_name, token, beside, semicolon, head_of, tail_of, IsNext, is_on_line, StatementEnd, absent, absent_before, Matches}
 use Rattle.js_parser_language.specs.Well.{is_among}
 use Rattle.js_parser_language.specs.Kinds.{is_kind}
 use Rattle.js_parser_readers.specs.Reading.{Fault, stuck, Read, expect, expect_near, text_of, name_at, fresh_name, is_word_next, word_at, semicolon_at}
@@ -126,7 +126,7 @@ word_again n ts r m = let t = word_is n (head_of ts) m.0 in rw (t.0, t.1) (ap (�
 
 -- ---- semicolons
 
-pub semicolon_sound : (end : End) (ts : List Token) (y : Unit {0} × List Token)
+pub semicolon_sound : (end : StatementEnd) (ts : List Token) (y : Unit {0} × List Token)
     → semicolon_at end ts ≡ Ok y
     → Matches (semicolon end ∷ []) ts y.1
 unfolding semicolon_at
@@ -143,17 +143,17 @@ semicolon_sound end ts y e =
           inr (t.0, ap (λ (p : Unit {0} × List Token). p.1) (ok_is (tt, ts) y t.1))
     ]
 
-absent_is : (end : End) (o : Option Token) → absent end o ≡ true → is_kind kinds.Semicolon o ≡ false
+absent_is : (end : StatementEnd) (o : Option Token) → absent end o ≡ true → is_kind kinds.Semicolon o ≡ false
 absent_is end None a = refl
 absent_is end (Some t) a = by_kind end t.kind t.newline_before a
   where
-    by_kind : (end : End) (k : TokenKind) (line : Bool)
+    by_kind : (end : StatementEnd) (k : TokenKind) (line : Bool)
         → absent_before end k line ≡ true
         → is_kind kinds.Semicolon (Some (record t { kind = k })) ≡ false
     by_kind end kinds.Semicolon line a = absurd cc
     by_kind end _ line a = refl
 
-pub semicolon_again : (end : End) (ts r : List Token)
+pub semicolon_again : (end : StatementEnd) (ts r : List Token)
     → Matches (semicolon end ∷ []) ts r
     → semicolon_at end ts ≡ Ok (tt, r)
 unfolding semicolon_at

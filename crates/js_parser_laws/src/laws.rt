@@ -2,7 +2,7 @@
 
 ghost use Rattle.std.specs.Prelude.{◌≡◌, ◌+◌, ◌≤◌, Ok, Err};
 ghost use Rattle.js_tree.specs.Height.{height, height_of_statements};
-ghost use Rattle.js_parser_language.specs.Language.{Begins, IsExpression, IsFunction, IsScript};
+ghost use Rattle.js_parser_language.specs.Language.{BeginsLanguage, IsExpression, IsFunction, IsScript};
 ghost use Rattle.js_parser_laws.specs.Exact.{AreAlike, BeginsWritten, LeavesAt, TooDeepFrom};
 ghost use Rattle.js_parser_readers.specs.Reading.{stuck, deep};
 ghost use Rattle.js_parser_readers.specs.Parsing.{parse_expression, parse_function, parse_script};
@@ -21,7 +21,7 @@ pub fn expressions()
     ensures one { (ts : _) (e f : _) → IsExpression ts e → IsExpression ts f → e ≡ f }
     ensures stuck { (n : _) (ts : _) (left : _) → parse_expression n ts ≡ Err (stuck left) → LeavesAt IsExpression ts left }
     ensures deep { (n : _) (ts : _) (left : _) → parse_expression (n + 3) ts ≡ Err (deep left) → TooDeepFrom IsExpression height ts n }
-    ensures written { (ts : _) → Begins IsExpression ts → BeginsWritten IsExpression ts }
+    ensures written { (ts : _) → BeginsLanguage IsExpression ts → BeginsWritten IsExpression ts }
     ensures alike { (ts : _) (us : _) (e : _) → AreAlike ts us → IsExpression ts e → IsExpression us e }
 {}
 
@@ -33,7 +33,7 @@ pub fn functions()
     ensures one { (ts : _) (e f : _) → IsFunction ts e → IsFunction ts f → e ≡ f }
     ensures stuck { (n : _) (ts : _) (left : _) → parse_function n ts ≡ Err (stuck left) → LeavesAt IsFunction ts left }
     ensures deep { (n : _) (ts : _) (left : _) → parse_function (n + 3) ts ≡ Err (deep left) → TooDeepFrom IsFunction height ts n }
-    ensures written { (ts : _) → Begins IsFunction ts → BeginsWritten IsFunction ts }
+    ensures written { (ts : _) → BeginsLanguage IsFunction ts → BeginsWritten IsFunction ts }
     ensures alike { (ts : _) (us : _) (e : _) → AreAlike ts us → IsFunction ts e → IsFunction us e }
 {}
 
@@ -45,6 +45,6 @@ pub fn scripts()
     ensures one { (earlier : _) (ts : _) (a b : _) → IsScript earlier ts a → IsScript earlier ts b → a ≡ b }
     ensures stuck { (n : _) (earlier : _) (ts : _) (left : _) → parse_script n earlier ts ≡ Err (stuck left) → LeavesAt (IsScript earlier) ts left }
     ensures deep { (n : _) (earlier : _) (ts : _) (left : _) → parse_script (n + 3) earlier ts ≡ Err (deep left) → TooDeepFrom (IsScript earlier) height_of_statements ts n }
-    ensures written { (earlier : _) (ts : _) → Begins (IsScript earlier) ts → BeginsWritten (IsScript earlier) ts }
+    ensures written { (earlier : _) (ts : _) → BeginsLanguage (IsScript earlier) ts → BeginsWritten (IsScript earlier) ts }
     ensures alike { (earlier : _) (ts : _) (us : _) (body : _) → AreAlike ts us → IsScript earlier ts body → IsScript earlier us body }
 {}

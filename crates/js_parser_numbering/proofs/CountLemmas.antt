@@ -4,10 +4,10 @@ use Rattle.std.specs.List.{range_with_len}
 use Rattle.std.proofs.lemmas.List.{append-nil}
 use Rattle.js_lexer.specs.declared.token.TokenKind.TheVariants as kinds
 use Rattle.js_tree.specs.declared.node.NodeId.{NodeId}
-use Rattle.js_parser_language.specs.Tokens.{Mark, token, beside, semicolon, trailing_comma}
+use Rattle.js_parser_language.specs.Tokens.{FlatToken, token, beside, semicolon, trailing_comma}
 use Rattle.js_parser_language.specs.Flat.{a}
-use Rattle.js_parser_language.specs.Places.{Place, stands, stands_maybe, opens, closes, numbers_of, in_turn, plain, node_of, in_braces, in_parentheses, behind_commas, with_commas}
-use Rattle.js_parser_numbering.specs.Numbering.{Counted, Numbering, give, and_then, both, changed, of_part, closed, node, leaf}
+use Rattle.js_parser_language.specs.Places.{FlatPlace, stands, stands_maybe, opens, closes, numbers_of, in_turn, plain, node_of, in_braces, in_parentheses, behind_commas, with_commas}
+use Rattle.js_parser_numbering.specs.Numbering.{Numbered, Numbering, give, and_then, both, changed, of_part, closed, node, leaf}
 
 -- ---- numbers one after another
 
@@ -39,7 +39,7 @@ range_counts first (suc k) =
 
 -- ---- what is made by numbering
 
-abbrev pub counted : {A : Type 0} → A → ℕ → Counted A
+abbrev pub counted : {A : Type 0} → A → ℕ → Numbered A
 counted x n = record { value = x; next = n }
 
 -- from the first of these numbers on, this is made
@@ -92,7 +92,7 @@ node_fits make n f ns x p = record { says = λ first next c. around first next (
 pub end_fits : {A : Type 0} (f : Numbering A) (ns : List ℕ) (x : A) → Fits f ns x → Fits f (ns ++ []) x
 end_fits f ns x p = subst (λ ms. Fits f ms x) (sym (append-nil ns)) p
 
-pub carried : {Tree A : Type 0} (f : Tree → Numbering A) (t u : Tree) (ps qs : List Place) (x y : A)
+pub carried : {Tree A : Type 0} (f : Tree → Numbering A) (t u : Tree) (ps qs : List FlatPlace) (x y : A)
     → t ≡ u
     → ps ≡ qs
     → x ≡ y
@@ -104,7 +104,7 @@ carried f t u ps qs x y p q r h =
 
 -- ---- the numbers of places
 
-pub numbers_append : (ps qs : List Place) → numbers_of (ps ++ qs) ≡ numbers_of ps ++ numbers_of qs
+pub numbers_append : (ps qs : List FlatPlace) → numbers_of (ps ++ qs) ≡ numbers_of ps ++ numbers_of qs
 numbers_append [] qs = refl
 numbers_append (stands s ∷ ps) qs = numbers_append ps qs
 numbers_append (stands_maybe k ∷ ps) qs = numbers_append ps qs
@@ -112,26 +112,26 @@ numbers_append (opens n ∷ ps) qs = numbers_append ps qs
 numbers_append (closes n ∷ ps) qs = ap (λ ns. n ∷ ns) (numbers_append ps qs)
 
 -- of pieces one after another
-abbrev pub numbers_in : List (List Place) → List ℕ
+abbrev pub numbers_in : List (List FlatPlace) → List ℕ
 numbers_in [] = []
 numbers_in (ps ∷ pieces) = numbers_of ps ++ numbers_in pieces
 
-numbers_turn : (pieces : List (List Place)) → numbers_of (in_turn pieces) ≡ numbers_in pieces
+numbers_turn : (pieces : List (List FlatPlace)) → numbers_of (in_turn pieces) ≡ numbers_in pieces
 numbers_turn [] = refl
 numbers_turn (ps ∷ pieces) = numbers_append ps (in_turn pieces) ∙ ap (λ ns. numbers_of ps ++ ns) (numbers_turn pieces)
 
-numbers_node : (n : NodeId) (pieces : List (List Place)) → numbers_of (node_of n pieces) ≡ numbers_in pieces ++ n.0 ∷ []
+numbers_node : (n : NodeId) (pieces : List (List FlatPlace)) → numbers_of (node_of n pieces) ≡ numbers_in pieces ++ n.0 ∷ []
 numbers_node n pieces =
     numbers_append (in_turn pieces) (closes n.0 ∷ []) ∙ ap (λ ns. ns ++ n.0 ∷ []) (numbers_turn pieces)
 
-pub quiet : (ms : List Mark) → numbers_of (plain ms) ≡ []
+pub quiet : (ms : List FlatToken) → numbers_of (plain ms) ≡ []
 quiet [] = refl
 quiet (token s ∷ ms) = quiet ms
 quiet (beside s ∷ ms) = quiet ms
 quiet (semicolon end ∷ ms) = quiet ms
 quiet (trailing_comma ∷ ms) = quiet ms
 
-numbers_behind : (pieces : List (List Place)) → numbers_of (behind_commas pieces) ≡ numbers_in pieces
+numbers_behind : (pieces : List (List FlatPlace)) → numbers_of (behind_commas pieces) ≡ numbers_in pieces
 numbers_behind [] = refl
 numbers_behind (ps ∷ pieces) =
     numbers_append ps (in_turn (behind_commas pieces ∷ []))
@@ -140,31 +140,31 @@ numbers_behind (ps ∷ pieces) =
     ∙ append-nil (numbers_of (behind_commas pieces))
     ∙ numbers_behind pieces)
 
-numbers_commas : (pieces : List (List Place)) → numbers_of (with_commas pieces) ≡ numbers_in pieces
+numbers_commas : (pieces : List (List FlatPlace)) → numbers_of (with_commas pieces) ≡ numbers_in pieces
 numbers_commas [] = refl
 numbers_commas (ps ∷ pieces) =
     numbers_append ps (behind_commas pieces) ∙ ap (λ ns. numbers_of ps ++ ns) (numbers_behind pieces)
 
 -- ---- what is made of pieces
 
-pub turn_fits : {A : Type 0} (f : Numbering A) (pieces : List (List Place)) (x : A)
+pub turn_fits : {A : Type 0} (f : Numbering A) (pieces : List (List FlatPlace)) (x : A)
     → Fits f (numbers_in pieces) x
     → Fits f (numbers_of (in_turn pieces)) x
 turn_fits f pieces x p = subst (λ ns. Fits f ns x) (sym (numbers_turn pieces)) p
 
-pub commas_fit : {A : Type 0} (f : Numbering A) (pieces : List (List Place)) (x : A)
+pub commas_fit : {A : Type 0} (f : Numbering A) (pieces : List (List FlatPlace)) (x : A)
     → Fits f (numbers_in pieces) x
     → Fits f (numbers_of (with_commas pieces)) x
 commas_fit f pieces x p = subst (λ ns. Fits f ns x) (sym (numbers_commas pieces)) p
 
-pub form_fits : {A B : Type 0} (make : ℕ → A → B) (n : NodeId) (f : Numbering A) (pieces : List (List Place)) (x : A)
+pub form_fits : {A B : Type 0} (make : ℕ → A → B) (n : NodeId) (f : Numbering A) (pieces : List (List FlatPlace)) (x : A)
     → Fits f (numbers_in pieces) x
     → Fits (node make f) (numbers_of (node_of n pieces)) (make n.0 x)
 form_fits make n f pieces x p =
     subst (λ ns. Fits (node make f) ns (make n.0 x)) (sym (numbers_node n pieces))
     (node_fits make n.0 f (numbers_in pieces) x p)
 
-pub lone_fits : {B : Type 0} (make : ℕ → B) (n : NodeId) (pieces : List (List Place))
+pub lone_fits : {B : Type 0} (make : ℕ → B) (n : NodeId) (pieces : List (List FlatPlace))
     → numbers_in pieces ≡ []
     → Fits (leaf make) (numbers_of (node_of n pieces)) (make n.0)
 lone_fits make n pieces e =
@@ -172,22 +172,22 @@ lone_fits make n pieces e =
     (leaf_fits make n.0)
 
 -- tokens alone
-pub quiet_fits : {A : Type 0} (ms : List Mark) (f : Numbering A) (ns : List ℕ) (x : A)
+pub quiet_fits : {A : Type 0} (ms : List FlatToken) (f : Numbering A) (ns : List ℕ) (x : A)
     → Fits f ns x
     → Fits f (numbers_of (plain ms) ++ ns) x
 quiet_fits ms f ns x p = subst (λ os. Fits f (os ++ ns) x) (sym (quiet ms)) p
 
-pub quiet_end : (ms : List Mark) → numbers_of (plain ms) ++ [] ≡ []
+pub quiet_end : (ms : List FlatToken) → numbers_of (plain ms) ++ [] ≡ []
 quiet_end ms = append-nil (numbers_of (plain ms)) ∙ quiet ms
 
-pub braces_fit : {A : Type 0} (f : Numbering A) (ps : List Place) (x : A)
+pub braces_fit : {A : Type 0} (f : Numbering A) (ps : List FlatPlace) (x : A)
     → Fits f (numbers_of ps) x
     → Fits f (numbers_of (in_braces ps)) x
 braces_fit f ps x p =
     subst (λ ns. Fits f ns x) (sym (numbers_turn (plain (a kinds.LeftBrace) ∷ ps ∷ plain (a kinds.RightBrace) ∷ [])))
     (end_fits f (numbers_of ps) x p)
 
-pub parentheses_fit : {A : Type 0} (f : Numbering A) (ps : List Place) (x : A)
+pub parentheses_fit : {A : Type 0} (f : Numbering A) (ps : List FlatPlace) (x : A)
     → Fits f (numbers_of ps) x
     → Fits f (numbers_of (in_parentheses ps)) x
 parentheses_fit f ps x p =

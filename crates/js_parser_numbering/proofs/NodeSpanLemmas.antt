@@ -11,7 +11,7 @@ use Rattle.js_tree.specs.declared.node.Span.{Span}
 use Rattle.js_tree.specs.declared.tree.Expr.{Expr}
 use Rattle.js_tree.specs.Spans.{span_of}
 use Rattle.js_parser_language.specs.Tokens.{Token, fixed, head_of, tail_of, IsNext}
-use Rattle.js_parser_language.specs.Places.{Place, stands, stands_maybe, opens, closes, numbers_of, start_of, end_of, AreSpans, expression_places}
+use Rattle.js_parser_language.specs.Places.{FlatPlace, stands, stands_maybe, opens, closes, numbers_of, start_of, end_of, AreSpans, expression_places}
 use Rattle.js_parser_language.specs.Kinds.{is_kind}
 use Rattle.js_parser_numbering.specs.NodeSpans.{left_behind, end_behind, node_start, node_end, node_span}
 use Rattle.js_parser_numbering.proofs.PlacingLemmas.{is_number, openings_of, AreOpened}
@@ -60,7 +60,7 @@ zero_step : (at further : ℕ) (is rest : Bool)
 zero_step at further true rest later e = absurd cc
 zero_step at further false rest later e = later e
 
-opened_start : (spans : List Span) (n : ℕ) (ps : List Place) (before : ℕ) (ts left : List Token)
+opened_start : (spans : List Span) (n : ℕ) (ps : List FlatPlace) (before : ℕ) (ts left : List Token)
     → AreSpans spans ps before ts left
     → is_number n (openings_of ps) ≡ true
     → (span_of spans n).start ≡ node_start n ps ts
@@ -77,7 +77,7 @@ opened_start spans n (stands_maybe kind ∷ ps) before ts left (inl s) e =
 opened_start spans n (stands_maybe kind ∷ ps) before ts left (inr s) e =
     opened_start spans n ps before ts left s.1 e ∙ ap (λ us. node_start n ps us) (sym (left_absent kind ts s.0))
 
-no_start : (n : ℕ) (ps : List Place) (ts : List Token) → is_number n (openings_of ps) ≡ false → node_start n ps ts ≡ 0
+no_start : (n : ℕ) (ps : List FlatPlace) (ts : List Token) → is_number n (openings_of ps) ≡ false → node_start n ps ts ≡ 0
 no_start n [] ts e = refl
 no_start n (opens m ∷ ps) ts e =
     zero_step (start_of (head_of ts)) (node_start n ps ts) (nat_eq n m) (is_number n (openings_of ps))
@@ -97,7 +97,7 @@ end_step : (spans : List Span) (n m at further : ℕ) (is rest : Bool)
 end_step spans n m at further true rest same ends later e = ap (λ k. (span_of spans k).end) (same refl) ∙ ends
 end_step spans n m at further false rest same ends later e = later e
 
-closed_end : (spans : List Span) (n : ℕ) (ps : List Place) (before : ℕ) (ts left : List Token)
+closed_end : (spans : List Span) (n : ℕ) (ps : List FlatPlace) (before : ℕ) (ts left : List Token)
     → AreSpans spans ps before ts left
     → is_number n (numbers_of ps) ≡ true
     → (span_of spans n).end ≡ node_end n ps before ts
@@ -117,7 +117,7 @@ closed_end spans n (stands_maybe kind ∷ ps) before ts left (inr s) e =
     ∙ ap (λ us. node_end n ps before us) (sym (left_absent kind ts s.0))
     ∙ ap (λ k. node_end n ps k (left_behind kind ts)) (sym (end_absent kind before ts s.0))
 
-no_end : (n : ℕ) (ps : List Place) (before : ℕ) (ts : List Token)
+no_end : (n : ℕ) (ps : List FlatPlace) (before : ℕ) (ts : List Token)
     → is_number n (numbers_of ps) ≡ false
     → node_end n ps before ts ≡ 0
 no_end n [] before ts e = refl
@@ -165,7 +165,7 @@ as_span s a b p q =
     ap (λ (k : ℕ). let t : Span = record { start = k; end = s.end } in t) p
     ∙ ap (λ (k : ℕ). let t : Span = record { start = a; end = k } in t) q
 
-start_of_none : (spans : List Span) (n : ℕ) (ps : List Place) (ts : List Token) (begins : Bool)
+start_of_none : (spans : List Span) (n : ℕ) (ps : List FlatPlace) (ts : List Token) (begins : Bool)
     → is_number n (openings_of ps) ≡ begins
     → AreSpans spans ps 0 ts []
     → (span_of spans n).start ≡ 0
@@ -173,7 +173,7 @@ start_of_none : (spans : List Span) (n : ℕ) (ps : List Place) (ts : List Token
 start_of_none spans n ps ts true e s none = opened_start spans n ps 0 ts [] s e
 start_of_none spans n ps ts false e s none = none ∙ sym (no_start n ps ts e)
 
-span_by : (spans : List Span) (n : ℕ) (ps : List Place) (ts : List Token) (ends : Bool)
+span_by : (spans : List Span) (n : ℕ) (ps : List FlatPlace) (ts : List Token) (ends : Bool)
     → is_number n (numbers_of ps) ≡ ends
     → AreOpened ps
     → AreSpans spans ps 0 ts []

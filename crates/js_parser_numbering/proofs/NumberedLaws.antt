@@ -23,15 +23,15 @@ use Rattle.js_tree.specs.Views.{parameters_view, expressions, statements, proper
 use Rattle.js_tree.proofs.ViewLemmas.{expression_roll, property_roll, key_roll, statement_roll, block_roll, catch_roll, declarator_roll, declarators_roll, expressions_roll, properties_roll, statements_roll}
 use Rattle.js_parser_language.specs.Tokens.{identifier_name, numeric_literal, string_literal}
 use Rattle.js_parser_language.specs.Flat.{a, an_identifier, unary_kind, update_kind, binary_kind, assign_kind, flat_parameters, flat_arrow_parameters, flat_optional_name, flat_catch_parameter, flat_boolean, let_or_const}
-use Rattle.js_parser_language.specs.Places.{Place, a_symbol, may_stand, in_braces, in_parentheses, numbers_of, if_some, finally_if_some, plain, node_of, expression_places, property_places, key_places, statement_places, block_places, catch_places, declarator_places, declarators_places, expressions_places, properties_places, statements_places, expression_pieces, property_pieces, key_pieces, statement_pieces, block_pieces, catch_pieces, declarator_pieces, declarators_pieces, expressions_pieces, properties_pieces, statements_pieces}
+use Rattle.js_parser_language.specs.Places.{FlatPlace, a_symbol, may_stand, in_braces, in_parentheses, numbers_of, if_some, finally_if_some, plain, node_of, expression_places, property_places, key_places, statement_places, block_places, catch_places, declarator_places, declarators_places, expressions_places, properties_places, statements_places, expression_pieces, property_pieces, key_pieces, statement_pieces, block_pieces, catch_pieces, declarator_pieces, declarators_pieces, expressions_pieces, properties_pieces, statements_pieces}
 use Rattle.js_parser_language.proofs.PlaceLemmas as standing
-use Rattle.js_semantics.specs.Makers.{Made, CatchMade, items_of}
+use Rattle.js_semantics.specs.Makers.{MadeExpression, MadeCatch, items_of}
 use Rattle.js_semantics.specs.Sources.{expression_layer, property_layer, key_layer, statement_layer, block_layer, catch_layer, declarator_layer, declarators_layer, expressions_layer, properties_layer, statements_layer, expression_source, property_source, key_source, statement_source, block_source, catch_source, declarator_source, declarators_source, expressions_source, properties_source, statements_source}
 use Rattle.js_tree.proofs.ViewLemmas.{Layer}
 use Rattle.js_semantics.proofs.TreeFolds.{Former, Mapper, Claims, Known, known_trees, Grows, every-expression}
 use Rattle.js_semantics.proofs.SourceFolds as sources
 use Rattle.js_semantics.proofs.SourceFolds.{made_parts, clean_parts}
-use Rattle.js_parser_numbering.specs.Numbering.{Counted, Numbering}
+use Rattle.js_parser_numbering.specs.Numbering.{Numbered, Numbering}
 use Rattle.js_parser_numbering.specs.Numbered.{block_node, expression_numbered, expressions_numbered, optional_numbered, key_numbered, property_numbered, properties_numbered, declarator_numbered, declarators_numbered, statement_numbered, handler_numbered, statements_numbered, numbered_made}
 use Rattle.js_parser_numbering.proofs.CountLemmas.{Fits, give_fits, both_fits, of_part_fits, end_fits, carried, numbers_in, turn_fits, commas_fit, form_fits, lone_fits, quiet_fits, quiet_end, braces_fit, parentheses_fit, range_counts}
 
@@ -63,14 +63,14 @@ fits = record {
 
 abbrev pub PlaceLayer : Former → Type 0
 PlaceLayer F =
-    F (List Place) (List Place) (List Place) (List Place) (List Place) (List Place) (List Place) (List Place)
-    (List Place) (List Place) (List Place)
+    F (List FlatPlace) (List FlatPlace) (List FlatPlace) (List FlatPlace) (List FlatPlace) (List FlatPlace) (List FlatPlace) (List FlatPlace)
+    (List FlatPlace) (List FlatPlace) (List FlatPlace)
 
 abbrev pub place_parts : (F : Former) → Mapper F → Layer F → PlaceLayer F
 place_parts F change =
     change Expr PropertyDefinition PropertyName Stmt Block Catch Declarator Declarators Exprs PropertyDefinitions Stmts
-    (List Place) (List Place) (List Place) (List Place) (List Place) (List Place) (List Place) (List Place)
-    (List Place) (List Place) (List Place)
+    (List FlatPlace) (List FlatPlace) (List FlatPlace) (List FlatPlace) (List FlatPlace) (List FlatPlace) (List FlatPlace) (List FlatPlace)
+    (List FlatPlace) (List FlatPlace) (List FlatPlace)
     expression_places property_places key_places statement_places block_places catch_places declarator_places
     declarators_places expressions_places properties_places statements_places
 
@@ -221,13 +221,13 @@ key-known (PropertyName-F.Computed key) =
 abbrev SomeKnown : Type 0
 SomeKnown = Option ((x : Expr) × fits.of_expression x)
 
-abbrev some_numbered : SomeKnown → Numbering (Option Made)
+abbrev some_numbered : SomeKnown → Numbering (Option MadeExpression)
 some_numbered o = optional_numbered (optional (option_map (λ e. expression_view e.0) o))
 
-abbrev some_places : SomeKnown → List Place
+abbrev some_places : SomeKnown → List FlatPlace
 some_places o = if_some (option_map (λ e. expression_places e.0) o)
 
-abbrev some_made : SomeKnown → Option Made
+abbrev some_made : SomeKnown → Option MadeExpression
 some_made o = option_map (λ e. expression_source e.0) o
 
 optional-known : (o : SomeKnown) → Fits (some_numbered o) (numbers_of (some_places o)) (some_made o)
@@ -572,7 +572,7 @@ grown-catch : (y : Known fits layers.Catch-F) → fits.of_catch (views.roll-Catc
 grown-catch y =
     carried (λ t. handler_numbered t) _ _ _ _ _ _ (catch_roll (trees_of layers.Catch-F map-Catch y))
     (standing.catch_turn (trees_of layers.Catch-F map-Catch y))
-    (ap (λ (h : CatchMade). Some h) (sources.catch_turn (trees_of layers.Catch-F map-Catch y))) (catch-known y)
+    (ap (λ (h : MadeCatch). Some h) (sources.catch_turn (trees_of layers.Catch-F map-Catch y))) (catch-known y)
 
 grown-declarator : (y : Known fits layers.Declarator-F)
     → fits.of_declarator (views.roll-Declarator (trees_of layers.Declarator-F map-Declarator y))
@@ -637,4 +637,4 @@ unfolding numbered_made
 numbered_same e count is =
     let h : Fits (expression_numbered (expression_view e)) (numbers_of (expression_places e)) (expression_source e)
     = every-expression fits grown e in
-    ap (λ (c : Counted Made). c.value) (h.says 0 (0 + count) (rw is (range_counts 0 count)))
+    ap (λ (c : Numbered MadeExpression). c.value) (h.says 0 (0 + count) (rw is (range_counts 0 count)))

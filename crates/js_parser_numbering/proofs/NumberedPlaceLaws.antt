@@ -18,11 +18,11 @@ use Rattle.js_tree.specs.Views.{parameters_view, expressions, statements, proper
 use Rattle.js_tree.proofs.ViewLemmas.{expression_roll, property_roll, key_roll, statement_roll, block_roll, catch_roll, declarator_roll, declarators_roll, expressions_roll, properties_roll, statements_roll}
 use Rattle.js_parser_language.specs.Tokens.{identifier_name, numeric_literal, string_literal}
 use Rattle.js_parser_language.specs.Flat.{a, an_identifier, unary_kind, update_kind, binary_kind, assign_kind, flat_parameters, flat_arrow_parameters, flat_optional_name, flat_catch_parameter, flat_boolean, let_or_const}
-use Rattle.js_parser_language.specs.Places.{Place, a_symbol, may_stand, in_braces, in_parentheses, numbers_of, if_some, finally_if_some, plain, node_of, expression_places, property_places, key_places, statement_places, block_places, catch_places, declarator_places, declarators_places, expressions_places, properties_places, statements_places, expression_pieces, property_pieces, key_pieces, statement_pieces, block_pieces, catch_pieces, declarator_pieces, declarators_pieces, expressions_pieces, properties_pieces, statements_pieces}
+use Rattle.js_parser_language.specs.Places.{FlatPlace, a_symbol, may_stand, in_braces, in_parentheses, numbers_of, if_some, finally_if_some, plain, node_of, expression_places, property_places, key_places, statement_places, block_places, catch_places, declarator_places, declarators_places, expressions_places, properties_places, statements_places, expression_pieces, property_pieces, key_pieces, statement_pieces, block_pieces, catch_pieces, declarator_pieces, declarators_pieces, expressions_pieces, properties_pieces, statements_pieces}
 use Rattle.js_parser_language.proofs.PlaceLemmas as standing
 use Rattle.js_tree.proofs.ViewLemmas.{Layer}
 use Rattle.js_semantics.proofs.TreeFolds.{Former, Mapper, Claims, Known, known_trees, Grows, every-expression}
-use Rattle.js_parser_numbering.specs.Numbering.{Counted}
+use Rattle.js_parser_numbering.specs.Numbering.{Numbered}
 use Rattle.js_parser_numbering.specs.NumberedPlaces.{in_row, node_placed, braced, comma_separated, expression_placed, expressions_placed, key_placed, property_placed, properties_placed, declarator_placed, declarators_placed, statement_placed, handler_placed, statements_placed, numbered_places}
 use Rattle.js_parser_numbering.proofs.CountLemmas.{range_counts}
 use Rattle.js_parser_numbering.proofs.NumberedLaws.{place_parts}
@@ -677,5 +677,5 @@ pub placed_same : (e : Expr) (count : ℕ)
     → numbered_places (expression_view e) ≡ expression_places e
 unfolding numbered_places
 placed_same e count is =
-    ap (λ (c : Counted (List Place)). c.value)
+    ap (λ (c : Numbered (List FlatPlace)). c.value)
     ((expression-stands e).fits.says 0 (0 + count) (rw is (range_counts 0 count)))

@@ -4,9 +4,9 @@ use Rattle.std.specs.Prelude.{nat_eq, if◌then◌else◌}
 use Rattle.js_lexer.specs.declared.token.TokenKind.{TokenKind}
 use Rattle.js_lexer.specs.declared.token.TokenKind.TheVariants as kinds
 use Rattle.js_tree.specs.declared.node.NodeId.{NodeId}
-use Rattle.js_parser_language.specs.Tokens.{Mark}
+use Rattle.js_parser_language.specs.Tokens.{FlatToken}
 use Rattle.js_parser_language.specs.Flat.{a}
-use Rattle.js_parser_language.specs.Places.{Place, stands, stands_maybe, opens, closes, numbers_of, in_turn, plain, may_stand, node_of, in_braces, in_parentheses, behind_commas, with_commas}
+use Rattle.js_parser_language.specs.Places.{FlatPlace, stands, stands_maybe, opens, closes, numbers_of, in_turn, plain, may_stand, node_of, in_braces, in_parentheses, behind_commas, with_commas}
 use Rattle.js_parser_numbering.specs.Numbering.{both}
 use Rattle.js_parser_numbering.specs.NumberedPlaces.{Placing, tokens, optional_token, before, in_row, enclosed, node_placed, braced, parenthesized, each_behind_comma, comma_separated}
 use Rattle.js_parser_numbering.proofs.CountLemmas.{Fits, give_fits, both_fits, of_part_fits, node_fits, numbers_append, quiet}
@@ -19,7 +19,7 @@ is_number n [] = false
 is_number n (m ∷ ms) = if (nat_eq n m) then true else is_number n ms
 
 -- the numbers of the nodes, in the order in which the nodes begin
-abbrev pub openings_of : List Place → List ℕ
+abbrev pub openings_of : List FlatPlace → List ℕ
 openings_of [] = []
 openings_of (stands s ∷ ps) = openings_of ps
 openings_of (stands_maybe kind ∷ ps) = openings_of ps
@@ -27,10 +27,10 @@ openings_of (opens n ∷ ps) = n ∷ openings_of ps
 openings_of (closes n ∷ ps) = openings_of ps
 
 -- each node that ends has begun
-abbrev pub AreOpened : List Place → Type 0
+abbrev pub AreOpened : List FlatPlace → Type 0
 AreOpened ps = (n : ℕ) → is_number n (numbers_of ps) ≡ true → is_number n (openings_of ps) ≡ true
 
-openings_append : (ps qs : List Place) → openings_of (ps ++ qs) ≡ openings_of ps ++ openings_of qs
+openings_append : (ps qs : List FlatPlace) → openings_of (ps ++ qs) ≡ openings_of ps ++ openings_of qs
 openings_append [] qs = refl
 openings_append (stands s ∷ ps) qs = openings_append ps qs
 openings_append (stands_maybe k ∷ ps) qs = openings_append ps qs
@@ -82,7 +82,7 @@ among_either n (m ∷ ms) ns e =
 
 -- ---- nodes that have begun
 
-opened_either : (n : ℕ) (ps qs : List Place)
+opened_either : (n : ℕ) (ps qs : List FlatPlace)
     → AreOpened ps
     → AreOpened qs
     → (is_number n (numbers_of ps) ≡ true) ⊎ (is_number n (numbers_of qs) ≡ true)
@@ -94,12 +94,12 @@ opened_either n ps qs p q (inr e) =
     subst (λ ns. is_number n ns ≡ true) (sym (openings_append ps qs))
     (among_last n (openings_of ps) (openings_of qs) (q n e))
 
-opened_append : (ps qs : List Place) → AreOpened ps → AreOpened qs → AreOpened (ps ++ qs)
+opened_append : (ps qs : List FlatPlace) → AreOpened ps → AreOpened qs → AreOpened (ps ++ qs)
 opened_append ps qs p q n e =
     opened_either n ps qs p q
     (among_either n (numbers_of ps) (numbers_of qs) (subst (λ ns. is_number n ns ≡ true) (numbers_append ps qs) e))
 
-opened_in : (n m : ℕ) (ps : List Place)
+opened_in : (n m : ℕ) (ps : List FlatPlace)
     → AreOpened ps
     → (is_number m (numbers_of ps) ≡ true) ⊎ (is_number m (n ∷ []) ≡ true)
     → is_number m (openings_of (enclosed n ps)) ≡ true
@@ -110,35 +110,35 @@ opened_in n m ps p (inl e) =
 opened_in n m ps p (inr e) =
     here (nat_eq m n) (is_number m (openings_of (ps ++ (closes n ∷ [])))) (alone (nat_eq m n) e)
 
-opened_node : (n : ℕ) (ps : List Place) → AreOpened ps → AreOpened (enclosed n ps)
+opened_node : (n : ℕ) (ps : List FlatPlace) → AreOpened ps → AreOpened (enclosed n ps)
 opened_node n ps p m e =
     opened_in n m ps p
     (among_either m (numbers_of ps) (n ∷ [])
     (subst (λ ns. is_number m ns ≡ true) (numbers_append ps (closes n ∷ [])) e))
 
-opened_quiet : (ps : List Place) → numbers_of ps ≡ [] → AreOpened ps
+opened_quiet : (ps : List FlatPlace) → numbers_of ps ≡ [] → AreOpened ps
 opened_quiet ps none n e = let f : is_number n [] ≡ true = subst (λ ns. is_number n ns ≡ true) none e in absurd cc
 
 -- ---- places that are those of a part
 
 -- From the first of their numbers on, these are the places that are given, and each node among them that ends has
 -- begun.
-pub record Stand (f : Placing) (ps : List Place) : Type 0 where
+pub record Stand (f : Placing) (ps : List FlatPlace) : Type 0 where
   pub fits : Fits f (numbers_of ps) ps
   pub opened : AreOpened ps
 
 -- of each of these parts
-abbrev pub AllStand : List Placing → List (List Place) → Type 0
+abbrev pub AllStand : List Placing → List (List FlatPlace) → Type 0
 AllStand [] [] = Unit {0}
 AllStand (f ∷ fs) (ps ∷ pieces) = Stand f ps × AllStand fs pieces
 AllStand [] (ps ∷ pieces) = ⊥
 AllStand (f ∷ fs) [] = ⊥
 
-quiet_stands : (ps : List Place) (f : Placing) → numbers_of ps ≡ [] → Fits f [] ps → Stand f ps
+quiet_stands : (ps : List FlatPlace) (f : Placing) → numbers_of ps ≡ [] → Fits f [] ps → Stand f ps
 quiet_stands ps f none fits =
     record { fits = subst (λ ns. Fits f ns ps) (sym none) fits; opened = opened_quiet ps none }
 
-pub tokens-stand : (ms : List Mark) → Stand (tokens ms) (plain ms)
+pub tokens-stand : (ms : List FlatToken) → Stand (tokens ms) (plain ms)
 unfolding tokens
 tokens-stand ms = quiet_stands (plain ms) (tokens ms) (quiet ms) (give_fits (plain ms))
 
@@ -150,7 +150,7 @@ pub nothing-stands : Stand (in_row []) []
 unfolding in_row
 nothing-stands = quiet_stands [] (in_row []) refl (give_fits [])
 
-pub before-stands : (f g : Placing) (ps qs : List Place) → Stand f ps → Stand g qs → Stand (before f g) (ps ++ qs)
+pub before-stands : (f g : Placing) (ps qs : List FlatPlace) → Stand f ps → Stand g qs → Stand (before f g) (ps ++ qs)
 before-stands f g ps qs p q =
     let fits : Fits (before f g) (numbers_of ps ++ numbers_of qs) (ps ++ qs) = of_part_fits (λ x. x.0 ++ x.1) (both f g)
     (numbers_of ps ++ numbers_of qs) (ps, qs) (both_fits f g (numbers_of ps) (numbers_of qs) ps qs p.fits q.fits)
@@ -161,7 +161,7 @@ before-stands f g ps qs p q =
       opened = opened_append ps qs p.opened q.opened;
     }
 
-pub row-stands : (fs : List Placing) (pieces : List (List Place))
+pub row-stands : (fs : List Placing) (pieces : List (List FlatPlace))
     → AllStand fs pieces
     → Stand (in_row fs) (in_turn pieces)
 unfolding in_row
@@ -171,7 +171,7 @@ row-stands (f ∷ fs) (ps ∷ pieces) all =
 row-stands [] (ps ∷ pieces) all = absurd all
 row-stands (f ∷ fs) [] all = absurd all
 
-node_around : (n : ℕ) (fs : List Placing) (ps : List Place)
+node_around : (n : ℕ) (fs : List Placing) (ps : List FlatPlace)
     → Stand (in_row fs) ps
     → Stand (node_placed fs) (enclosed n ps)
 unfolding node_placed
@@ -184,24 +184,24 @@ node_around n fs ps p =
       opened = opened_node n ps p.opened;
     }
 
-pub node-stands : (n : NodeId) (fs : List Placing) (pieces : List (List Place))
+pub node-stands : (n : NodeId) (fs : List Placing) (pieces : List (List FlatPlace))
     → AllStand fs pieces
     → Stand (node_placed fs) (node_of n pieces)
 node-stands n fs pieces all = node_around n.0 fs (in_turn pieces) (row-stands fs pieces all)
 
-pub braces-stand : (f : Placing) (ps : List Place) → Stand f ps → Stand (braced f) (in_braces ps)
+pub braces-stand : (f : Placing) (ps : List FlatPlace) → Stand f ps → Stand (braced f) (in_braces ps)
 braces-stand f ps p =
     row-stands (tokens (a kinds.LeftBrace) ∷ f ∷ tokens (a kinds.RightBrace) ∷ [])
     (plain (a kinds.LeftBrace) ∷ ps ∷ plain (a kinds.RightBrace) ∷ [])
     (tokens-stand (a kinds.LeftBrace), (p, (tokens-stand (a kinds.RightBrace), tt)))
 
-pub parentheses-stand : (f : Placing) (ps : List Place) → Stand f ps → Stand (parenthesized f) (in_parentheses ps)
+pub parentheses-stand : (f : Placing) (ps : List FlatPlace) → Stand f ps → Stand (parenthesized f) (in_parentheses ps)
 parentheses-stand f ps p =
     row-stands (tokens (a kinds.LeftParenthesis) ∷ f ∷ tokens (a kinds.RightParenthesis) ∷ [])
     (plain (a kinds.LeftParenthesis) ∷ ps ∷ plain (a kinds.RightParenthesis) ∷ [])
     (tokens-stand (a kinds.LeftParenthesis), (p, (tokens-stand (a kinds.RightParenthesis), tt)))
 
-behind-stand : (fs : List Placing) (pieces : List (List Place))
+behind-stand : (fs : List Placing) (pieces : List (List FlatPlace))
     → AllStand fs pieces
     → Stand (each_behind_comma fs) (behind_commas pieces)
 unfolding each_behind_comma in_row
@@ -213,7 +213,7 @@ behind-stand (f ∷ fs) (ps ∷ pieces) all =
 behind-stand [] (ps ∷ pieces) all = absurd all
 behind-stand (f ∷ fs) [] all = absurd all
 
-pub commas-stand : (fs : List Placing) (pieces : List (List Place))
+pub commas-stand : (fs : List Placing) (pieces : List (List FlatPlace))
     → AllStand fs pieces
     → Stand (comma_separated fs) (with_commas pieces)
 unfolding comma_separated in_row
@@ -224,7 +224,7 @@ commas-stand [] (ps ∷ pieces) all = absurd all
 commas-stand (f ∷ fs) [] all = absurd all
 
 -- the same of a tree that is made of its parts
-pub carried : {Tree : Type 0} (f : Tree → Placing) (t u : Tree) (ps qs : List Place)
+pub carried : {Tree : Type 0} (f : Tree → Placing) (t u : Tree) (ps qs : List FlatPlace)
     → t ≡ u
     → ps ≡ qs
     → Stand (f u) qs

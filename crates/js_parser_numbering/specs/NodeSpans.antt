@@ -5,7 +5,7 @@ use Rattle.js_lexer.specs.declared.token.TokenKind.{TokenKind}
 use Rattle.js_tree.specs.declared.node.Span.{Span}
 use Rattle.js_parser_language.specs.Tokens.{Token, head_of, tail_of}
 use Rattle.js_parser_language.specs.Kinds.{is_kind}
-use Rattle.js_parser_language.specs.Places.{Place, stands, stands_maybe, opens, closes, start_of, end_of}
+use Rattle.js_parser_language.specs.Places.{FlatPlace, stands, stands_maybe, opens, closes, start_of, end_of}
 
 -- the tokens left behind this one, which may be absent
 abbrev pub left_behind : TokenKind → List Token → List Token
@@ -16,7 +16,7 @@ abbrev pub end_behind : TokenKind → ℕ → List Token → ℕ
 end_behind kind before ts = if (is_kind kind (head_of ts)) then end_of (head_of ts) else before
 
 -- where the first token of the node of this number starts; 0 where no node has it
-abbrev pub node_start : ℕ → List Place → List Token → ℕ
+abbrev pub node_start : ℕ → List FlatPlace → List Token → ℕ
 node_start n [] ts = 0
 node_start n (opens m ∷ ps) ts = if (nat_eq n m) then start_of (head_of ts) else node_start n ps ts
 node_start n (closes m ∷ ps) ts = node_start n ps ts
@@ -25,7 +25,7 @@ node_start n (stands_maybe kind ∷ ps) ts = node_start n ps (left_behind kind t
 
 -- where the last token of the node of this number ends; 0 where no node has it. The token before the first place ends
 -- at `before`.
-abbrev pub node_end : ℕ → List Place → ℕ → List Token → ℕ
+abbrev pub node_end : ℕ → List FlatPlace → ℕ → List Token → ℕ
 node_end n [] before ts = 0
 node_end n (opens m ∷ ps) before ts = node_end n ps before ts
 node_end n (closes m ∷ ps) before ts = if (nat_eq n m) then before else node_end n ps before ts
@@ -34,5 +34,5 @@ node_end n (stands_maybe kind ∷ ps) before ts = node_end n ps (end_behind kind
 
 -- The span of the node of this number, in a tree with these places and a source with these tokens; where no node has
 -- the number, the empty span at the start.
-abbrev pub node_span : ℕ → List Place → List Token → Span
+abbrev pub node_span : ℕ → List FlatPlace → List Token → Span
 node_span n ps ts = record { start = node_start n ps ts; end = node_end n ps 0 ts }

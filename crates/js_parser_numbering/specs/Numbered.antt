@@ -1,29 +1,29 @@
 -- The terms of clean trees whose nodes are numbered one after another, in the order in which they end.
 use Rattle.std.specs.Prelude.{ℕ, true, false, List, [], ◌∷◌, Option, Some, None, decimal}
 use Rattle.js_tree.specs.Trees as trees
-use Rattle.js_tree.specs.Trees.{Expression, Expressions, OptionalExpression, Key, Property, Properties, Statement, Statements, Handler, Finalizer}
+use Rattle.js_tree.specs.Trees.{Expression, Expressions, OptionalExpression, Key, PropertyDefinition, PropertyDefinitions, Statement, Statements, Handler, Finalizer}
 use Rattle.js_heap.specs.declared.value.Value.TheVariants as values
-use Rattle.js_semantics.specs.Makers.{parameter_names, Made, Item, Items, PropertyKey, fixed_key, computed_key, PropertyMade, value_property, method_property, DeclaratorMade, CatchMade, value_made, number_made, string_made, this_made, name_made, array_made, parenthesized_made, member_made, index_made, assign_made, update_made, unary_made, binary_made, conditional_made, comma_made, call_made, function_made, returned_body, arrow_made, object_made, no_items, and_items, block_item, empty_item, expression_item, lexical_item, if_item, while_item, do_while_item, for_item, for_lexical_item, for_of_item, continue_item, break_item, return_item, throw_item, try_item, debugger_item, function_item}
+use Rattle.js_semantics.specs.Makers.{parameter_names, MadeExpression, MadeStatement, MadeStatements, PropertyKey, fixed_key, computed_key, MadeProperty, value_property, method_property, MadeDeclarator, MadeCatch, value_made, number_made, string_made, this_made, name_made, array_made, parenthesized_made, member_made, index_made, assign_made, update_made, unary_made, binary_made, conditional_made, comma_made, call_made, function_made, returned_body, arrow_made, object_made, no_items, and_items, block_item, empty_item, expression_item, lexical_item, if_item, while_item, do_while_item, for_item, for_lexical_item, for_of_item, continue_item, break_item, return_item, throw_item, try_item, debugger_item, function_item}
 use Rattle.js_parser_numbering.specs.Numbering.{Numbering, give, both, of_part, node, leaf}
 
 -- the node of a call's arguments with their parentheses
-abbrev pub arguments_node : Numbering (List Made) → Numbering (ℕ × List Made)
+abbrev pub arguments_node : Numbering (List MadeExpression) → Numbering (ℕ × List MadeExpression)
 arguments_node es = node (λ n xs. (n, xs)) es
 
 -- the node of a block
-abbrev pub block_node : Numbering Items → Numbering Items
+abbrev pub block_node : Numbering MadeStatements → Numbering MadeStatements
 block_node ss = node (λ n is. is) ss
 
 -- a declarator with its initialiser, if there is one
-abbrev pub a_declarator_made : List ℕ → Option Made → DeclaratorMade
+abbrev pub a_declarator_made : List ℕ → Option MadeExpression → MadeDeclarator
 a_declarator_made n e = record { name = n; initializer = e }
 
 -- a catch with its name, if it has one, and its block
-abbrev pub a_catch_made : Option (List ℕ) → Items → Option CatchMade
+abbrev pub a_catch_made : Option (List ℕ) → MadeStatements → Option MadeCatch
 a_catch_made n b = Some (record { name = n; body = b })
 
 -- a key that is computed
-abbrev pub a_computed_key : Made → PropertyKey
+abbrev pub a_computed_key : MadeExpression → PropertyKey
 a_computed_key e = computed_key e
 
 -- a part that isn't left out
@@ -33,7 +33,7 @@ a_present x = Some x
 -- what is made of each type of tree, from the first number for its nodes
 abbrev mutual
   -- what is made of an expression
-  pub expression_numbered : Expression → Numbering Made
+  pub expression_numbered : Expression → Numbering MadeExpression
   expression_numbered trees.this = leaf (λ n. this_made n)
   expression_numbered (trees.name x) = leaf (λ n. name_made n x)
   expression_numbered (trees.number v) = leaf (λ n. number_made n v)
@@ -67,13 +67,13 @@ abbrev mutual
   expression_numbered (trees.comma es) = node (λ n xs. comma_made n xs) (expressions_numbered es)
 
   -- what is made of each of these expressions
-  pub expressions_numbered : Expressions → Numbering (List Made)
+  pub expressions_numbered : Expressions → Numbering (List MadeExpression)
   expressions_numbered trees.no_expressions = give []
   expressions_numbered (trees.an_expression e es) =
       of_part (λ x. x.0 ∷ x.1) (both (expression_numbered e) (expressions_numbered es))
 
   -- what is made of an expression that may be left out
-  pub optional_numbered : OptionalExpression → Numbering (Option Made)
+  pub optional_numbered : OptionalExpression → Numbering (Option MadeExpression)
   optional_numbered trees.omitted = give None
   optional_numbered (trees.present e) = of_part (λ x. a_present x) (expression_numbered e)
 
@@ -85,7 +85,7 @@ abbrev mutual
   key_numbered (trees.computed_key e) = of_part (λ x. a_computed_key x) (expression_numbered e)
 
   -- what is made of a member of an object literal, of which a method alone is a node
-  pub property_numbered : Property → Numbering PropertyMade
+  pub property_numbered : PropertyDefinition → Numbering MadeProperty
   property_numbered (trees.shorthand n) = give (value_property (fixed_key n) (name_made 0 n))
   property_numbered (trees.value k e) =
       of_part (λ x. value_property x.0 x.1) (both (key_numbered k) (expression_numbered e))
@@ -93,23 +93,23 @@ abbrev mutual
       node (λ n x. method_property n x.0 ps x.1) (both (key_numbered k) (statements_numbered body))
 
   -- what is made of each of these members
-  pub properties_numbered : Properties → Numbering (List PropertyMade)
+  pub properties_numbered : PropertyDefinitions → Numbering (List MadeProperty)
   properties_numbered trees.no_properties = give []
   properties_numbered (trees.a_property p ps) =
       of_part (λ x. x.0 ∷ x.1) (both (property_numbered p) (properties_numbered ps))
 
   -- what is made of a declarator, which is no node of its own
-  pub declarator_numbered : trees.Declarator → Numbering DeclaratorMade
+  pub declarator_numbered : trees.Declarator → Numbering MadeDeclarator
   declarator_numbered (trees.declarator n e) = of_part (λ x. a_declarator_made n x) (optional_numbered e)
 
   -- what is made of each of these declarators
-  pub declarators_numbered : trees.Declarators → Numbering (List DeclaratorMade)
+  pub declarators_numbered : trees.Declarators → Numbering (List MadeDeclarator)
   declarators_numbered trees.no_declarators = give []
   declarators_numbered (trees.a_declarator d ds) =
       of_part (λ x. x.0 ∷ x.1) (both (declarator_numbered d) (declarators_numbered ds))
 
   -- what is made of a statement or a declaration
-  pub statement_numbered : Statement → Numbering Item
+  pub statement_numbered : Statement → Numbering MadeStatement
   statement_numbered (trees.block ss) = of_part (λ b. block_item b) (block_node (statements_numbered ss))
   statement_numbered (trees.lexical constant ds) = node (λ n x. lexical_item n constant x) (declarators_numbered ds)
   statement_numbered trees.empty = leaf (λ n. empty_item)
@@ -144,21 +144,21 @@ abbrev mutual
       node (λ n b. function_item n name ps b) (statements_numbered body)
 
   -- what is made of a catch, which may be left out and is no node of its own
-  pub handler_numbered : Handler → Numbering (Option CatchMade)
+  pub handler_numbered : Handler → Numbering (Option MadeCatch)
   handler_numbered trees.no_catch = give None
   handler_numbered (trees.catch n ss) = of_part (λ b. a_catch_made n b) (block_node (statements_numbered ss))
 
   -- what is made of a finally, which may be left out and is no node of its own
-  pub finalizer_numbered : Finalizer → Numbering (Option Items)
+  pub finalizer_numbered : Finalizer → Numbering (Option MadeStatements)
   finalizer_numbered trees.no_finally = give None
   finalizer_numbered (trees.finally ss) = of_part (λ b. a_present b) (block_node (statements_numbered ss))
 
   -- what is made of these statements
-  pub statements_numbered : Statements → Numbering Items
+  pub statements_numbered : Statements → Numbering MadeStatements
   statements_numbered trees.no_statements = give no_items
   statements_numbered (trees.a_statement s ss) =
       of_part (λ x. and_items x.0 x.1) (both (statement_numbered s) (statements_numbered ss))
 
 -- what is made of an expression whose nodes have the numbers from 0 on
-unfoldable pub numbered_made : Expression → Made
+unfoldable pub numbered_made : Expression → MadeExpression
 numbered_made e = (expression_numbered e 0).value

@@ -3,18 +3,18 @@ use Rattle.std.specs.Prelude.{ℕ, List, [], ◌∷◌, ◌++◌, codes}
 use Rattle.js_lexer.specs.declared.token.TokenKind.{TokenKind}
 use Rattle.js_lexer.specs.declared.token.TokenKind.TheVariants as kinds
 use Rattle.js_tree.specs.Trees as trees
-use Rattle.js_tree.specs.Trees.{Expression, Expressions, OptionalExpression, Key, Property, Properties, Statement, Statements, Handler, Finalizer}
-use Rattle.js_parser_language.specs.Tokens.{Mark, identifier_name, numeric_literal, string_literal}
+use Rattle.js_tree.specs.Trees.{Expression, Expressions, OptionalExpression, Key, PropertyDefinition, PropertyDefinitions, Statement, Statements, Handler, Finalizer}
+use Rattle.js_parser_language.specs.Tokens.{FlatToken, identifier_name, numeric_literal, string_literal}
 use Rattle.js_parser_language.specs.Flat.{a, an_identifier, unary_kind, update_kind, binary_kind, assign_kind, flat_parameters, flat_arrow_parameters, flat_optional_name, flat_catch_parameter, flat_boolean, let_or_const}
-use Rattle.js_parser_language.specs.Places.{Place, opens, closes, a_symbol, may_stand, plain}
+use Rattle.js_parser_language.specs.Places.{FlatPlace, opens, closes, a_symbol, may_stand, plain}
 use Rattle.js_parser_numbering.specs.Numbering.{Numbering, give, both, of_part, node}
 
 -- the places of a part of a tree, from the first number for its nodes
 abbrev pub Placing : Type 0
-Placing = Numbering (List Place)
+Placing = Numbering (List FlatPlace)
 
 -- tokens, among which no node begins or ends
-unfoldable pub tokens : List Mark → Placing
+unfoldable pub tokens : List FlatToken → Placing
 tokens ms = give (plain ms)
 
 -- a semicolon or a comma that may be absent
@@ -31,7 +31,7 @@ in_row [] = give []
 in_row (f ∷ fs) = before f (in_row fs)
 
 -- places between where the node of this number begins and where it ends
-abbrev pub enclosed : ℕ → List Place → List Place
+abbrev pub enclosed : ℕ → List FlatPlace → List FlatPlace
 enclosed n ps = opens n ∷ (ps ++ (closes n ∷ []))
 
 -- a node of these parts
@@ -129,14 +129,14 @@ abbrev mutual
       in_row (tokens (a kinds.LeftBracket) ∷ expression_placed e ∷ tokens (a kinds.RightBracket) ∷ [])
 
   -- of a member of an object literal, of which a method alone is a node
-  pub property_placed : Property → Placing
+  pub property_placed : PropertyDefinition → Placing
   property_placed (trees.shorthand n) = tokens (an_identifier n)
   property_placed (trees.value k e) = in_row (key_placed k ∷ tokens (a kinds.Colon) ∷ expression_placed e ∷ [])
   property_placed (trees.method k ps body) =
       node_placed (key_placed k ∷ tokens (flat_parameters ps) ∷ braced (in_row (statements_placed body)) ∷ [])
 
   -- the places of each of these members
-  pub properties_placed : Properties → List Placing
+  pub properties_placed : PropertyDefinitions → List Placing
   properties_placed trees.no_properties = []
   properties_placed (trees.a_property p ps) = property_placed p ∷ properties_placed ps
 
@@ -225,5 +225,5 @@ abbrev mutual
   statements_placed (trees.a_statement s ss) = statement_placed s ∷ statements_placed ss
 
 -- The places of an expression whose nodes have the numbers from 0 on.
-unfoldable pub numbered_places : Expression → List Place
+unfoldable pub numbered_places : Expression → List FlatPlace
 numbered_places e = (expression_placed e 0).value

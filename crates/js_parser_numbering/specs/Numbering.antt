@@ -2,20 +2,20 @@
 use Rattle.std.specs.Prelude.{ℕ, suc}
 
 -- what is made of a part of a tree, and the number after those of its nodes
-pub record Counted (A : Type 0) : Type 0 where
+pub record Numbered (A : Type 0) : Type 0 where
   pub value : A
   pub next : ℕ
 
 -- what makes something of a part of a tree, from the first number for its nodes
 abbrev pub Numbering : Type 0 → Type 0
-Numbering A = ℕ → Counted A
+Numbering A = ℕ → Numbered A
 
 -- this, of no nodes
 unfoldable pub give : {A : Type 0} → A → Numbering A
 give a n = record { value = a; next = n }
 
 -- a part, and behind it another
-abbrev pub and_then : {A B : Type 0} → Counted A → Counted B → Counted (A × B)
+abbrev pub and_then : {A B : Type 0} → Numbered A → Numbered B → Numbered (A × B)
 and_then x y = record { value = (x.value, y.value); next = y.next }
 
 -- a part, and behind it another
@@ -23,7 +23,7 @@ unfoldable pub both : {A B : Type 0} → Numbering A → Numbering B → Numberi
 both f g n = and_then (f n) (g (f n).next)
 
 -- something is made of a part
-abbrev pub changed : {A B : Type 0} → (A → B) → Counted A → Counted B
+abbrev pub changed : {A B : Type 0} → (A → B) → Numbered A → Numbered B
 changed make x = record { value = make x.value; next = x.next }
 
 -- something made of a part, which adds no node
@@ -31,7 +31,7 @@ unfoldable pub of_part : {A B : Type 0} → (A → B) → Numbering A → Number
 of_part make f n = changed make (f n)
 
 -- a node around its parts, which has the number after theirs
-abbrev pub closed : {A B : Type 0} → (ℕ → A → B) → Counted A → Counted B
+abbrev pub closed : {A B : Type 0} → (ℕ → A → B) → Numbered A → Numbered B
 closed make x = record { value = make x.next x.value; next = suc x.next }
 
 -- a node around its parts, which has the number after theirs

@@ -6,7 +6,7 @@ use Rattle.js_tree.specs.declared.tree.Expr.{Expr}
 use Rattle.js_tree.specs.declared.tree.Declarator.{Declarator}
 use Rattle.js_tree.specs.declared.tree.Declarators.{Declarators}
 use Rattle.js_tree.proofs.ViewLemmas.{declarator_of}
-use Rattle.js_parser_language.specs.Tokens.{End, after_expression, after_word, plain}
+use Rattle.js_parser_language.specs.Tokens.{StatementEnd, after_expression, after_word, plain}
 use Rattle.js_tree.specs.Trees as trees
 use Rattle.js_parser_language.specs.Flat.{edge, edge_of_last, end_of_declarators}
 use Rattle.js_tree.specs.Views.{expressions, declarators, expression_view, declarator_view}
@@ -35,7 +35,7 @@ no_edge [] e = refl
 no_edge (y ∷ ys) e = let p = slice_get-get_or (y ∷ ys) (length (y ∷ ys) - 1) y (omega arith) in absurd cc
 
 -- what one declared name ends in
-abbrev pub end_of_one : trees.Declarator → End
+abbrev pub end_of_one : trees.Declarator → StatementEnd
 end_of_one (trees.declarator n trees.omitted) = after_word
 end_of_one (trees.declarator n (trees.present e)) = after_expression (edge e)
 

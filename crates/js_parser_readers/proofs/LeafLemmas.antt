@@ -3,21 +3,21 @@ use Rattle.std.proofs.Common.{◌≡◌, ℕ, zero, suc, ◌<◌, ◌≤◌, Boo
 use Rattle.std.specs.Prelude.{nat_le, if◌then◌else◌}
 use Rattle.js_lexer.specs.declared.token.TokenKind.{TokenKind}
 use Rattle.js_lexer.specs.declared.token.TokenKind.TheVariants as kinds
-use Rattle.js_parser_language.specs.Tokens.{Token, End, after_word, absent, head_of, tail_of, is_on_line}
+use Rattle.js_parser_language.specs.Tokens.{Token, StatementEnd, after_word, absent, head_of, tail_of, is_on_line}
 use Rattle.js_tree.specs.Trees as trees
 use Rattle.js_tree.specs.Trees.{Identifier, Expression, Parameters, Key, Handler, Statement}
 use Rattle.js_parser_language.specs.Flat.{assign_kind}
-use Rattle.js_parser_language.specs.Well.{function_body, Context, is_among, is_property, strength}
+use Rattle.js_parser_language.specs.Well.{function_body, StatementContext, is_among, is_property, strength}
 use Rattle.js_tree.specs.Targets.{is_target}
 use Rattle.js_tree_operators.specs.declared.operator.UnaryOperator.TheVariants as unaries
 use Rattle.js_parser_language.specs.Kinds.{is_kind}
-use Rattle.js_parser_readers.specs.Reading.{with_names, deep, Read, Reader, ◌>>=◌, expect, expect_near, name_at, fresh_name, word_at, is_word_next, semicolon_at, After, goes_on, ends, neither, after, go_after, elements, elements_by, others, others_by, items, items_by, ends_list, with_name, no_state}
+use Rattle.js_parser_readers.specs.Reading.{with_names, deep, Read, Reader, ◌>>=◌, expect, expect_near, name_at, fresh_name, word_at, is_word_next, semicolon_at, AfterElement, goes_on, ends, neither, after, go_after, elements, elements_by, others, others_by, items, items_by, ends_list, with_name, no_state}
 use Rattle.js_parser_readers.specs.Classes as classes
-use Rattle.js_parser_readers.specs.Classes.{Start, start, Link, link, update_near, prefix, Prefix, operator, Joint, joint, Head, arrow_head, KeyStart, key_start, AfterKey, after_key, is_shorthand, First, first, ends_return, ForHead, for_head, is_name}
+use Rattle.js_parser_readers.specs.Classes.{PrimaryStart, start, CallTail, link, update_near, prefix, Prefix, operator, Joint, joint, ArrowStart, arrow_head, KeyStart, key_start, AfterKey, after_key, is_shorthand, StatementStart, first, ends_return, ForHead, for_head, is_name}
 use Rattle.js_parser_readers.specs.Parsing as parsing
 use Rattle.js_parser_readers.specs.Parsing.{if_low}
 use Rattle.js_parser_readers.specs.Productions as productions
-use Rattle.js_parser_readers.specs.Productions.{tok, a_name, an_assignment, an_expression, arguments, ended, an_end, a_statement, a_block, in_braces, code, Below, Item, item, seq, made, one_of, arguments_before, more_assignments, names_before, parameters_at, items_at, braces, code_at, initializer_by, declarator_at, declarators_at, with_declarator, with_declared, optional_by, optional_before, ended_expression, expect_name}
+use Rattle.js_parser_readers.specs.Productions.{tok, a_name, an_assignment, an_expression, arguments, ended, an_end, a_statement, a_block, in_braces, code, Below, Piece, item, seq, made, one_of, arguments_before, more_assignments, names_before, parameters_at, items_at, braces, code_at, initializer_by, declarator_at, declarators_at, with_declarator, with_declared, optional_by, optional_before, ended_expression, expect_name}
 use Rattle.js_parser_readers.proofs.LoopStepLemmas.{tail_shorter}
 
 -- what is read leaves fewer than n tokens
@@ -76,7 +76,7 @@ unfolding word_at
 word_short [] = tt
 word_short (t ∷ ts) = choose (length (t ∷ ts)) (is_word_next (Some t)) (Ok (t.string_value, ts)) _ (omega arith) tt
 
-semicolon_weak : (end : End) → Weak (semicolon_at end)
+semicolon_weak : (end : StatementEnd) → Weak (semicolon_at end)
 unfolding semicolon_at
 semicolon_weak end ts =
     choose (suc (length ts)) (is_kind kinds.Semicolon (head_of ts)) (Ok (tt, tail_of ts)) _
@@ -90,7 +90,7 @@ the_name_short n (t ∷ ts) = choose (length (t ∷ ts)) (is_name n (Some t)) (O
 
 -- ---- lists
 
-go_after_leaves : {A : Type 0} (n : ℕ) (go : Reader (List A)) (a : After) (ts : List Token)
+go_after_leaves : {A : Type 0} (n : ℕ) (go : Reader (List A)) (a : AfterElement) (ts : List Token)
     → length ts < n
     → Weak go
     → Leaves n (go_after go a ts)
@@ -184,9 +184,9 @@ pub record ShortBelow (b : Below) : Type 0 where
   pub operation : (m : ℕ) → Short (b.operation m)
   pub unary : Short b.unary
   pub call : Short b.call
-  pub statement : (c : Context) → Short (b.statement c)
-  pub item : (c : Context) (taken : List Identifier) → Short (b.item c taken)
-  pub block : (c : Context) (taken : List Identifier) → Short (b.block c taken)
+  pub statement : (c : StatementContext) → Short (b.statement c)
+  pub item : (c : StatementContext) (taken : List Identifier) → Short (b.item c taken)
+  pub block : (c : StatementContext) (taken : List Identifier) → Short (b.block c taken)
   pub function : Short b.function
 
 -- ---- productions
@@ -216,13 +216,13 @@ parameters_short ts =
     (elements_short fresh_name with_name kinds.RightParenthesis fresh_short (suc (length o.1)) [] o.1)
     (omega arith))
 
-items_at_weak : (b : Below) (h : ShortBelow b) (c : Context) (taken : List Identifier) → Weak (items_at b c taken)
+items_at_weak : (b : Below) (h : ShortBelow b) (c : StatementContext) (taken : List Identifier) → Weak (items_at b c taken)
 unfolding items_at
 items_at_weak b h c taken ts =
     after_that (suc (length ts)) (suc (length ts)) _ _
     (items_weak (λ names r. b.item c names r) with_declared (h.item c) (suc (length ts)) taken ts) (λ x l. l)
 
-braces_short : (b : Below) (h : ShortBelow b) (c : Context) (taken : List Identifier) → Short (braces b c taken)
+braces_short : (b : Below) (h : ShortBelow b) (c : StatementContext) (taken : List Identifier) → Short (braces b c taken)
 unfolding braces
 braces_short b h c taken ts =
     after_that (length ts) (length ts) (expect kinds.LeftBrace ts) _ (expect_short kinds.LeftBrace ts)
@@ -282,11 +282,11 @@ ended_short b h ts =
     (λ x l. after_that (suc (length x.1)) (length ts) _ _ (semicolon_weak _ x.1) (λ y k. omega arith))
 
 -- an item that reads some token
-abbrev reads_some : Item → Bool
+abbrev reads_some : Piece → Bool
 reads_some (productions.an_end end) = false
 reads_some i = true
 
-item_short : (b : Below) (h : ShortBelow b) (i : Item) → reads_some i ≡ true → Short (item b i)
+item_short : (b : Below) (h : ShortBelow b) (i : Piece) → reads_some i ≡ true → Short (item b i)
 item_short b h (productions.tok k) e ts = expect_short k ts
 item_short b h (productions.near k) e ts = near_short k ts
 item_short b h productions.a_name e ts = name_short ts
@@ -303,29 +303,29 @@ item_short b h (productions.a_block c taken) e ts = h.block c taken ts
 item_short b h (productions.in_braces c taken) e ts = braces_short b h c taken ts
 item_short b h productions.code e ts = code_short b h ts
 
-item_weak : (b : Below) (h : ShortBelow b) (i : Item) (c : Bool) → reads_some i ≡ c → Weak (item b i)
+item_weak : (b : Below) (h : ShortBelow b) (i : Piece) (c : Bool) → reads_some i ≡ c → Weak (item b i)
 item_weak b h i true e ts = weaken (item b i) (item_short b h i e) ts
 item_weak b h (productions.an_end end) false e ts = semicolon_weak end ts
 item_weak b h _ false e ts = absurd cc
 
-seq_weak : (b : Below) (h : ShortBelow b) (is : List Item) → Weak (seq b is)
+seq_weak : (b : Below) (h : ShortBelow b) (is : List Piece) → Weak (seq b is)
 seq_weak b h [] ts = omega arith
 seq_weak b h (i ∷ is) ts =
     after_that (suc (length ts)) (suc (length ts)) (item b i ts) _ (item_weak b h i (reads_some i) refl ts)
     (λ x l. after_that (suc (length x.1)) (suc (length ts)) (seq b is x.1) _ (seq_weak b h is x.1)
     (λ y k. omega arith))
 
-abbrev reads_first : List Item → Bool
+abbrev reads_first : List Piece → Bool
 reads_first [] = false
 reads_first (i ∷ is) = reads_some i
 
-seq_short : (b : Below) (h : ShortBelow b) (is : List Item) → reads_first is ≡ true → Short (seq b is)
+seq_short : (b : Below) (h : ShortBelow b) (is : List Piece) → reads_first is ≡ true → Short (seq b is)
 seq_short b h [] e ts = absurd cc
 seq_short b h (i ∷ is) e ts =
     after_that (length ts) (length ts) (item b i ts) _ (item_short b h i e ts)
     (λ x l. after_that (suc (length x.1)) (length ts) (seq b is x.1) _ (seq_weak b h is x.1) (λ y k. omega arith))
 
-made_short : {A : Type 0} (b : Below) (h : ShortBelow b) (is : List Item) (make : productions.Values is → A)
+made_short : {A : Type 0} (b : Below) (h : ShortBelow b) (is : List Piece) (make : productions.PieceValues is → A)
     → reads_first is ≡ true
     → Short (made b is make)
 made_short b h is make e ts = after_that (length ts) (length ts) (seq b is ts) _ (seq_short b h is e ts) (λ x l. l)
@@ -388,7 +388,7 @@ function_short : (b : Below) (h : ShortBelow b) → Short (parsing.function_at b
 unfolding parsing.function_at
 function_short b h ts = function_by_short b h (parsing.is_name_next (head_of ts)) ts
 
-primary_by_short : (b : Below) (h : ShortBelow b) (n : ℕ) (t : Token) (ts : List Token) (s : Start)
+primary_by_short : (b : Below) (h : ShortBelow b) (n : ℕ) (t : Token) (ts : List Token) (s : PrimaryStart)
     → Leaves (length (t ∷ ts)) (parsing.primary_by b n s (t ∷ ts))
 primary_by_short b h n t ts classes.this_word = omega arith
 primary_by_short b h n t ts (classes.a_name s) = omega arith
@@ -413,7 +413,7 @@ unfolding parsing.primary
 primary_short b h n [] = tt
 primary_short b h n (t ∷ ts) = primary_by_short b h n t ts (start (Some t))
 
-linked_weak : (b : Below) (h : ShortBelow b) (e : Expression) (l : Link) → Weak (parsing.linked_by b e l)
+linked_weak : (b : Below) (h : ShortBelow b) (e : Expression) (l : CallTail) → Weak (parsing.linked_by b e l)
 linked_weak b h e classes.dot ts =
     after_that (length (tail_of ts)) (suc (length ts)) (word_at (tail_of ts)) _ (word_short (tail_of ts))
     (λ x l. omega (arith, tail_shorter ts))
@@ -427,7 +427,7 @@ linked_weak b h e classes.arguments ts =
     ts
 linked_weak b h e classes.no_link ts = tt
 
-links_then : (b : Below) (h : ShortBelow b) (n : ℕ) (go : Expression → Reader Expression) (e : Expression) (l : Link)
+links_then : (b : Below) (h : ShortBelow b) (n : ℕ) (go : Expression → Reader Expression) (e : Expression) (l : CallTail)
     → ((f : Expression) → Weak (go f))
     → Weak (parsing.links_by b n go e l)
 links_then b h n go e classes.no_link g ts = omega arith
@@ -568,7 +568,7 @@ joined_by_weak b h n t (classes.assigns_by o) ts =
     tt
 joined_by_weak b h n t classes.no_joint ts = omega arith
 
-assignment_by_short : (b : Below) (h : ShortBelow b) (n : ℕ) (a : Head) → Short (parsing.assignment_by b n a)
+assignment_by_short : (b : Below) (h : ShortBelow b) (n : ℕ) (a : ArrowStart) → Short (parsing.assignment_by b n a)
 unfolding parsing.joined
 assignment_by_short b h n classes.one_parameter ts = arrow_of_one_short b h ts
 assignment_by_short b h n (classes.listed only) ts = arrow_of_list_short b h only ts
@@ -596,20 +596,20 @@ expression_short b h n ts =
 
 -- ---- statements
 
-else_weak : (b : Below) (h : ShortBelow b) (c : Context) (e : Expression) (s : Statement) (o : Bool)
+else_weak : (b : Below) (h : ShortBelow b) (c : StatementContext) (e : Expression) (s : Statement) (o : Bool)
     → Weak (parsing.else_by b c e s o)
 else_weak b h c e s true ts =
     weaken _ (made_short b h (tok kinds.Else ∷ a_statement c ∷ []) (λ v. trees.if_else e s v.1.0) refl) ts
 else_weak b h c e s false ts = omega arith
 
-if_short : (b : Below) (h : ShortBelow b) (c : Context) → Short (parsing.if_at b c)
+if_short : (b : Below) (h : ShortBelow b) (c : StatementContext) → Short (parsing.if_at b c)
 unfolding parsing.if_at
 if_short b h c ts =
     after_that (length ts) (length ts) (seq b (parsing.if_items c) ts) _ (seq_short b h (parsing.if_items c) refl ts)
     (λ x l. wider (suc (length x.1)) (length ts) _
     (else_weak b h c x.0.1.1.0 x.0.1.1.1.1.0 (is_kind kinds.Else (head_of x.1)) x.1) (omega arith))
 
-for_by_short : (b : Below) (h : ShortBelow b) (c : Context) (a : ForHead) → Short (parsing.for_by b c a)
+for_by_short : (b : Below) (h : ShortBelow b) (c : StatementContext) (a : ForHead) → Short (parsing.for_by b c a)
 for_by_short b h c (classes.each constant) ts =
     made_short b h (parsing.for_of_items c constant)
     (λ v. trees.for_of constant v.1.1.1.0 v.1.1.1.1.1.0 v.1.1.1.1.1.1.1.0) refl ts
@@ -619,7 +619,7 @@ for_by_short b h c (classes.declares constant) ts =
 for_by_short b h c classes.plain_head ts =
     made_short b h (parsing.for_items c) (λ v. trees.for v.1.1.0 v.1.1.1.0 v.1.1.1.1.0 v.1.1.1.1.1.0) refl ts
 
-for_short : (b : Below) (h : ShortBelow b) (c : Context) → Short (parsing.for_at b c)
+for_short : (b : Below) (h : ShortBelow b) (c : StatementContext) → Short (parsing.for_at b c)
 unfolding parsing.for_at
 for_short b h c ts = for_by_short b h c (for_head (tail_of (tail_of ts))) ts
 
@@ -633,7 +633,7 @@ throw_short : (b : Below) (h : ShortBelow b) (o : Bool) → Short (parsing.throw
 throw_short b h true ts = made_short b h (tok kinds.Throw ∷ ended ∷ []) (λ v. trees.throw v.1.0) refl ts
 throw_short b h false ts = tt
 
-catch_short : (b : Below) (h : ShortBelow b) (c : Context) (o : Bool) → Short (parsing.catch_by b c o)
+catch_short : (b : Below) (h : ShortBelow b) (c : StatementContext) (o : Bool) → Short (parsing.catch_by b c o)
 catch_short b h c true ts =
     after_that (length ts) (length ts) (seq b (tok kinds.LeftParenthesis ∷ a_name ∷ tok kinds.RightParenthesis ∷ []) ts)
     _ (seq_short b h (tok kinds.LeftParenthesis ∷ a_name ∷ tok kinds.RightParenthesis ∷ []) refl ts)
@@ -641,21 +641,21 @@ catch_short b h c true ts =
     (λ x k. omega arith))
 catch_short b h c false ts = after_that (length ts) (length ts) (b.block c [] ts) _ (h.block c [] ts) (λ x l. l)
 
-handler_by_weak : (b : Below) (h : ShortBelow b) (c : Context) (o : Bool) → Weak (parsing.handler_by b c o)
+handler_by_weak : (b : Below) (h : ShortBelow b) (c : StatementContext) (o : Bool) → Weak (parsing.handler_by b c o)
 handler_by_weak b h c true ts =
     wider (length (tail_of ts)) (suc (length ts)) _
     (catch_short b h c (is_kind kinds.LeftParenthesis (head_of (tail_of ts))) (tail_of ts))
     (omega (arith, tail_shorter ts))
 handler_by_weak b h c false ts = omega arith
 
-finalizer_by_weak : (b : Below) (h : ShortBelow b) (c : Context) (a : Handler) (o : Bool)
+finalizer_by_weak : (b : Below) (h : ShortBelow b) (c : StatementContext) (a : Handler) (o : Bool)
     → Weak (parsing.finalizer_by b c a o)
 finalizer_by_weak b h c a true ts =
     weaken _ (made_short b h (tok kinds.Finally ∷ a_block c [] ∷ []) (λ v. trees.finally v.1.0) refl) ts
 finalizer_by_weak b h c trees.no_catch false ts = tt
 finalizer_by_weak b h c (trees.catch n ss) false ts = omega arith
 
-try_short : (b : Below) (h : ShortBelow b) (c : Context) → Short (parsing.try_at b c)
+try_short : (b : Below) (h : ShortBelow b) (c : StatementContext) → Short (parsing.try_at b c)
 unfolding parsing.try_at parsing.handler_at parsing.finalizer_at
 try_short b h c ts =
     after_that (length ts) (length ts) (seq b (tok kinds.Try ∷ a_block c [] ∷ []) ts) _
@@ -665,7 +665,7 @@ try_short b h c ts =
     (λ a k. after_that (suc (length a.1)) (length ts) (parsing.finalizer_at b c a.0 a.1) _
     (finalizer_by_weak b h c a.0 (is_kind kinds.Finally (head_of a.1)) a.1) (λ f m. omega arith)))
 
-statement_by_short : (b : Below) (h : ShortBelow b) (c : Context) (t : Token) (ts : List Token) (f : First)
+statement_by_short : (b : Below) (h : ShortBelow b) (c : StatementContext) (t : Token) (ts : List Token) (f : StatementStart)
     → Leaves (length (t ∷ ts)) (parsing.statement_by b c f (t ∷ ts))
 statement_by_short b h c t ts classes.a_block =
     made_short b h (in_braces c [] ∷ []) (λ v. trees.block v.0) refl (t ∷ ts)
@@ -693,7 +693,7 @@ statement_by_short b h c t ts classes.a_function = tt
 statement_by_short b h c t ts classes.an_expression =
     made_short b h (ended ∷ []) (λ v. trees.expression v.0) refl (t ∷ ts)
 
-statement_short : (b : Below) (h : ShortBelow b) (c : Context) → Short (parsing.statement b c)
+statement_short : (b : Below) (h : ShortBelow b) (c : StatementContext) → Short (parsing.statement b c)
 unfolding parsing.statement
 statement_short b h c [] = made_short b h (ended ∷ []) (λ v. trees.expression v.0) refl []
 statement_short b h c (t ∷ ts) = statement_by_short b h c t ts (first (Some t))
@@ -714,13 +714,13 @@ declaration_short b h taken ts =
     (λ n l. after_that (length n.1) (length ts) (code_at b n.1) _ (code_short b h n.1)
     (λ x k. omega (arith, tail_shorter ts)))
 
-item_by_short : (b : Below) (h : ShortBelow b) (c : Context) (taken : List Identifier) (f : First)
+item_by_short : (b : Below) (h : ShortBelow b) (c : StatementContext) (taken : List Identifier) (f : StatementStart)
     → Short (parsing.item_by b c taken f)
 item_by_short b h c taken (classes.a_lexical constant) ts = lexical_short b h constant taken ts
 item_by_short b h c taken classes.a_function ts = declaration_short b h taken ts
 item_by_short b h c taken _ ts = statement_short b h c ts
 
-one_item_short : (b : Below) (h : ShortBelow b) (c : Context) (taken : List Identifier) → Short (parsing.item b c taken)
+one_item_short : (b : Below) (h : ShortBelow b) (c : StatementContext) (taken : List Identifier) → Short (parsing.item b c taken)
 unfolding parsing.item
 one_item_short b h c taken ts = item_by_short b h c taken (first (head_of ts)) ts
 

@@ -8,8 +8,8 @@ use Rattle.js_tree.specs.Trees.{Expression}
 use Rattle.js_parser_language.specs.Well.{strength}
 use Rattle.js_parser_language.specs.Tokens.{Token, head_of, tail_of}
 use Rattle.js_tree.specs.Height.{height}
-use Rattle.js_parser_readers.specs.declared.classes.expressions.Link.{Link}
-use Rattle.js_parser_readers.specs.declared.classes.expressions.Link.TheVariants as code
+use Rattle.js_parser_readers.specs.declared.classes.expressions.CallTail.{CallTail}
+use Rattle.js_parser_readers.specs.declared.classes.expressions.CallTail.TheVariants as code
 use Rattle.js_parser_readers.specs.Classes as classes
 use Rattle.js_parser_readers.specs.Classes.{operator}
 use Rattle.js_parser_readers.specs.Heads.{link_view}
@@ -17,7 +17,7 @@ use Rattle.js_parser_readers.specs.Reading.{deep, Reader, ◌>>=◌}
 use Rattle.js_parser_readers.specs.Productions.{Below}
 use Rattle.js_parser_readers.specs.Parsing.{if_low, linked_by, links_by, links, operator_from, chain}
 
-goes_on : (b : Below) (n : ℕ) (go : Expression → Reader Expression) (e : Expression) (l : Link) (ts : List Token)
+goes_on : (b : Below) (n : ℕ) (go : Expression → Reader Expression) (e : Expression) (l : CallTail) (ts : List Token)
     → links_by b n go e (link_view (Some l)) ts ≡ if_low (height e) n ts
     (linked_by b e (link_view (Some l)) ts >>= λ x. go x.0 x.1)
 goes_on b n go e code.Dot ts = refl
@@ -28,7 +28,7 @@ high : (m n : ℕ) → n < m → nat_le m n ≡ false
 high m n h = grind arith
 
 -- too high for a node above
-pub links_deep : (b : Below) (n turns : ℕ) (e : Expression) (l : Link) (ts : List Token)
+pub links_deep : (b : Below) (n turns : ℕ) (e : Expression) (l : CallTail) (ts : List Token)
     → link_view (Some l) ≡ classes.link (head_of ts)
     → n < height e
     → 0 < turns
@@ -39,7 +39,7 @@ links_deep b n (suc turns) e l ts is h k =
     rw (← is) (goes_on b n (λ f r. links b n turns f r) e l ts ∙ rw (high (height e) n h) refl)
 
 -- one more
-pub links_more : (b : Below) (n turns : ℕ) (e t : Expression) (l : Link) (ts r : List Token)
+pub links_more : (b : Below) (n turns : ℕ) (e t : Expression) (l : CallTail) (ts r : List Token)
     → link_view (Some l) ≡ classes.link (head_of ts)
     → height e ≤ n
     → linked_by b e (link_view (Some l)) ts ≡ Ok (t, r)

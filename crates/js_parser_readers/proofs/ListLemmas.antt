@@ -5,7 +5,7 @@ use Rattle.js_lexer.specs.declared.token.TokenKind.TheVariants as kinds
 use Rattle.js_tree.specs.Trees as trees
 use Rattle.js_tree.specs.Trees.{Identifier, Declarator, Statement}
 use Rattle.js_parser_language.specs.Tokens.{Token, head_of, tail_of}
-use Rattle.js_parser_language.specs.Well.{Context, names_of_declarators}
+use Rattle.js_parser_language.specs.Well.{StatementContext, names_of_declarators}
 use Rattle.js_tree.specs.Height.{height_of_statement, height_of_statements, height_of_declarator, height_of_declarators}
 use Rattle.js_tree.specs.Views.{statements, declarators}
 use Rattle.js_parser_readers.specs.declared.fault.ParseError.{ParseError}
@@ -25,13 +25,13 @@ map_push f (y ∷ xs) x = ap (λ ys. f y ∷ ys) (map_push f xs x)
 -- ---- statements
 
 -- these statements were read, the highest of which is so high; their names are taken beside those before them
-pub record ReadsStatements (room : ℕ) (context : Context) (taken : List Identifier) (ts : List Token)
+pub record ReadsStatements (room : ℕ) (context : StatementContext) (taken : List Identifier) (ts : List Token)
     (xs : List Statement) (height : ℕ) (names : List Identifier) (rest : List Token) : Type 0 where
   pub is_height : height ≡ height_of_statements (statements xs)
   pub within : height ≤ room
   pub reads : ReadsItems (λ names r. (below room).item context names r) with_declared taken ts xs names rest
 
-pub statements_begin : (room : ℕ) (context : Context) (taken : List Identifier) (ts : List Token)
+pub statements_begin : (room : ℕ) (context : StatementContext) (taken : List Identifier) (ts : List Token)
     → ReadsStatements room context taken ts [] 0 taken ts
 statements_begin room context taken ts = record {
   is_height = refl;
@@ -45,7 +45,7 @@ statements_push : (xs : List Statement) (s : Statement)
 statements_push [] s = omega arith
 statements_push (x ∷ xs) s = omega (arith, statements_push xs s)
 
-pub statements_go_on : (room : ℕ) (context : Context) (taken : List Identifier) (ts : List Token) (xs : List Statement)
+pub statements_go_on : (room : ℕ) (context : StatementContext) (taken : List Identifier) (ts : List Token) (xs : List Statement)
     (height : ℕ) (names : List Identifier) (rest : List Token) (s : Statement) (h : ℕ) (later : List Token)
     → ReadsStatements room context taken ts xs height names rest
     → ends_list (head_of rest) ≡ false
@@ -61,7 +61,7 @@ statements_go_on room context taken ts xs height names rest s h later r g a d l 
       with_declared taken ts xs names rest s later r.reads g a (item_shorter room context names rest s later a);
 }
 
-pub statements_end : (room : ℕ) (context : Context) (taken : List Identifier) (ts : List Token) (xs : List Statement)
+pub statements_end : (room : ℕ) (context : StatementContext) (taken : List Identifier) (ts : List Token) (xs : List Statement)
     (height : ℕ) (names : List Identifier) (rest : List Token)
     → ReadsStatements room context taken ts xs height names rest
     → ends_list (head_of rest) ≡ true
@@ -77,7 +77,7 @@ fails_behind errors.Memory read f h = tt
 fails_behind (errors.TooDeep left) read f h = rw h refl
 fails_behind (errors.Syntax left) read f h = rw h refl
 
-pub statements_fail : (room : ℕ) (context : Context) (taken : List Identifier) (ts : List Token) (xs : List Statement)
+pub statements_fail : (room : ℕ) (context : StatementContext) (taken : List Identifier) (ts : List Token) (xs : List Statement)
     (height : ℕ) (names : List Identifier) (rest : List Token) (e : ParseError)
     → ReadsStatements room context taken ts xs height names rest
     → ends_list (head_of rest) ≡ false

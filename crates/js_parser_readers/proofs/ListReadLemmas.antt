@@ -7,7 +7,7 @@ use Rattle.js_tree.specs.declared.tree.Expr.{Expr}
 use Rattle.js_tree.specs.declared.tree.PropertyDefinition.{PropertyDefinition}
 use Rattle.js_lexer.specs.declared.token.Token as lexer
 use Rattle.js_parser_readers.specs.Views.{tokens_view}
-use Rattle.js_tree.specs.Trees.{Expression, Property}
+use Rattle.js_tree.specs.Trees.{Expression, PropertyDefinition as Property}
 use Rattle.js_parser_language.specs.Tokens.{Token, head_of, tail_of}
 use Rattle.js_tree.specs.Height.{height, height_of_expressions, height_of_property, height_of_properties}
 use Rattle.js_tree.specs.Views.{expression_view, property_view, expressions, properties}

@@ -9,7 +9,7 @@ use Rattle.js_parser_readers.specs.declared.fault.ParseError.{ParseError}
 use Rattle.js_parser_readers.specs.declared.fault.ParseError.TheVariants as errors
 use Rattle.js_parser_readers.specs.Giving.{Fails}
 use Rattle.js_parser_language.specs.Kinds.{is_kind}
-use Rattle.js_parser_readers.specs.Reading.{Fault, stuck, deep, Read, Reader, ◌>>=◌, After, goes_on, ends, neither, after, elements, others}
+use Rattle.js_parser_readers.specs.Reading.{Fault, stuck, deep, Read, Reader, ◌>>=◌, AfterElement, goes_on, ends, neither, after, elements, others}
 
 -- what was read before, and what is still read
 abbrev pub with_front : {A : Type 0} → List A → Read (List A) → Read (List A)
@@ -91,7 +91,7 @@ elements_fail one next closer all front s rest (errors.Syntax left) r c o =
     one_fails one next closer all front s rest r.fuel (stuck left) r.enough r.same c o
 
 one_more : {S A : Type 0} (one : S → Reader A) (next : S → A → S) (closer : TokenKind) (all : Read (List A))
-    (front : List A) (s : S) (rest : List Token) (k : ℕ) (x : A) (later : List Token) (a : After)
+    (front : List A) (s : S) (rest : List Token) (k : ℕ) (x : A) (later : List Token) (a : AfterElement)
     → length rest < k
     → with_front front (elements one next closer k s rest) ≡ all
     → is_kind closer (head_of rest) ≡ false

@@ -7,7 +7,7 @@ use Rattle.std.proofs.lemmas.Bool.{eqb-true}
 use Rattle.js_lexer.specs.declared.token.Token as lexer
 use Rattle.js_tree.specs.declared.node.Span.{Span}
 use Rattle.js_parser_language.specs.Tokens.{Token, head_of, tail_of}
-use Rattle.js_parser_language.specs.Places.{Place, stands, stands_maybe, opens, closes, end_of, AreSpans}
+use Rattle.js_parser_language.specs.Places.{FlatPlace, stands, stands_maybe, opens, closes, end_of, AreSpans}
 use Rattle.js_tree.specs.Spans.{span_of}
 use Rattle.js_parser_readers.specs.Views.{tokens_view}
 use Rattle.js_parser_readers.specs.Places.{end_before, span_between}
@@ -40,7 +40,7 @@ numbered {new} {spans} old s e g = rw (g.is, e) (last_index old s g.more)
 -- ---- pieces one after another
 
 -- two runs of places
-runs : (spans : List Span) (ps qs : List Place) (before : ℕ) (ts mid left : List Token)
+runs : (spans : List Span) (ps qs : List FlatPlace) (before : ℕ) (ts mid left : List Token)
     → AreSpans spans ps before ts mid
     → ((before : ℕ) → AreSpans spans qs before mid left)
     → AreSpans spans (ps ++ qs) before ts left
@@ -59,7 +59,7 @@ last_end before [] = before
 last_end before (t ∷ ts) = last_end t.end ts
 
 -- which tokens a run of places took
-used : (spans : List Span) (ps : List Place) (before : ℕ) (ts left : List Token)
+used : (spans : List Span) (ps : List FlatPlace) (before : ℕ) (ts left : List Token)
     → AreSpans spans ps before ts left
     → (us : List Token) × (ts ≡ us ++ left)
 used spans [] before ts left p = ([], p)
@@ -74,7 +74,7 @@ used spans (stands_maybe k ∷ ps) before (t ∷ ts) left (inl p) =
 used spans (stands_maybe k ∷ ps) before ts left (inr p) = used spans ps before ts left p.1
 
 -- the end of a node that closes where a run of places ends
-closed_run : (spans : List Span) (n : ℕ) (ps : List Place) (before : ℕ) (ts left : List Token)
+closed_run : (spans : List Span) (n : ℕ) (ps : List FlatPlace) (before : ℕ) (ts left : List Token)
     → AreSpans spans ps before ts left
     → ((us : List Token) → ts ≡ us ++ left → (span_of spans n).end ≡ last_end before us)
     → AreSpans spans (ps ++ closes n ∷ []) before ts left
@@ -106,7 +106,7 @@ end_of_used before (u ∷ us) left h =
 -- ---- numbers
 
 -- two runs of places
-numbered_runs : (first mid next : ℕ) (ps qs : List Place)
+numbered_runs : (first mid next : ℕ) (ps qs : List FlatPlace)
     → AreNumbered first ps mid
     → AreNumbered mid qs next
     → AreNumbered first (ps ++ qs) next
@@ -167,7 +167,7 @@ either_some : (a b : Bool) (l m n : ℕ)
 either_some true b l m n p q le lf h = let k = p h in omega arith
 either_some false b l m n p q le lf h = let k = q h in omega arith
 
-no_longer : {some : Bool} {old new : List Span} {ps : List Place} {ts left : List Token}
+no_longer : {some : Bool} {old new : List Span} {ps : List FlatPlace} {ts left : List Token}
     → InPlace some old new ps ts left
     → length left ≤ length ts
 no_longer {some} {old} {new} {ps} {ts} {left} p =
@@ -175,7 +175,7 @@ no_longer {some} {old} {new} {ps} {ts} {left} p =
     rw u.1 (omega (arith, length-append u.0 left))
 
 -- the tokens that are left are in order
-left_in_order : {some : Bool} {old new : List Span} {ps : List Place} {ts left : List Token}
+left_in_order : {some : Bool} {old new : List Span} {ps : List FlatPlace} {ts left : List Token}
     → InPlace some old new ps ts left
     → AreInOrder ts
     → AreInOrder left
@@ -184,7 +184,7 @@ left_in_order {some} {old} {new} {ps} {ts} {left} p i =
     order_behind u.0 left (rw u.1 at i)
 
 -- and then
-then_stands : {a b : Bool} {old mid new : List Span} {ps qs : List Place} {ts rest left : List Token}
+then_stands : {a b : Bool} {old mid new : List Span} {ps qs : List FlatPlace} {ts rest left : List Token}
     → InPlace a old mid ps ts rest
     → InPlace b mid new qs rest left
     → InPlace (a || b) old new (ps ++ qs) ts left
@@ -197,7 +197,7 @@ then_stands {a} {b} {old} {mid} {new} {ps} {qs} {ts} {rest} {left} p q = record 
   numbers = numbered_runs (length old) (length mid) (length new) ps qs p.numbers q.numbers;
 }
 
-pub then : {a b : Bool} {old mid new : List Span} {ps qs : List Place} {ts rest left : List Token}
+pub then : {a b : Bool} {old mid new : List Span} {ps qs : List FlatPlace} {ts rest left : List Token}
     → Placed a old mid ps ts rest
     → Placed b mid new qs rest left
     → Placed (a || b) old new (ps ++ qs) ts left
@@ -209,20 +209,20 @@ then p q =
     }
 
 -- two pieces, and then
-pub then_both : {a b : Bool} {old mid new : List Span} {rs : List Place} {ts rest left : List Token}
-    (ps qs : List Place)
+pub then_both : {a b : Bool} {old mid new : List Span} {rs : List FlatPlace} {ts rest left : List Token}
+    (ps qs : List FlatPlace)
     → Placed a old mid (ps ++ qs) ts rest
     → Placed b mid new rs rest left
     → Placed (a || b) old new (ps ++ (qs ++ rs)) ts left
 then_both {a} {b} {old} {mid} {new} {rs} {ts} {rest} {left} ps qs p q = rw (← append_assoc ps qs rs) (then p q)
 
 -- less is said of how many tokens were read
-loosely_stands : {some : Bool} {old new : List Span} {ps : List Place} {ts left : List Token}
+loosely_stands : {some : Bool} {old new : List Span} {ps : List FlatPlace} {ts left : List Token}
     → InPlace some old new ps ts left
     → InPlace false old new ps ts left
 loosely_stands p = record { grew = p.grew; fewer = λ h. absurd cc; exact = p.exact; numbers = p.numbers }
 
-pub loosely : {some : Bool} {old new : List Span} {ps : List Place} {ts left : List Token}
+pub loosely : {some : Bool} {old new : List Span} {ps : List FlatPlace} {ts left : List Token}
     → Placed some old new ps ts left
     → Placed false old new ps ts left
 loosely p = record { stands = loosely_stands p.stands; forward = p.forward }
@@ -230,7 +230,7 @@ loosely p = record { stands = loosely_stands p.stands; forward = p.forward }
 -- ---- nodes
 
 -- a node that was numbered when its pieces had been read
-node : {old mid new : List Span} {n : ℕ} {ps : List Place} {ts left : List Token}
+node : {old mid new : List Span} {n : ℕ} {ps : List FlatPlace} {ts left : List Token}
     → InPlace true old mid ps ts left
     → new ≡ mid ++ span_between ts left ∷ []
     → n ≡ length mid
@@ -251,7 +251,7 @@ node {old} {mid} {new} {n} {ps} {ts} {left} p e h =
           (h, one_longer mid (span_between ts left) e);
     }
 
-pub closed : {old mid new : List Span} {n : ℕ} {ps : List Place} {ts left : List Token} (places : List Place)
+pub closed : {old mid new : List Span} {n : ℕ} {ps : List FlatPlace} {ts left : List Token} (places : List FlatPlace)
     → Placed true old mid ps ts left
     → new ≡ mid ++ span_between ts left ∷ []
     → n ≡ length mid
@@ -265,8 +265,8 @@ closed {old} {mid} {new} {n} {ps} {ts} {left} places p e h is = rw is (record {
 })
 
 -- A node whose last piece is a node over the last tokens, which ends first and was numbered before it.
-pub closed_twice : {old mid m0 m1 new : List Span} {n k : ℕ} {ps qs : List Place} {ts rest left : List Token}
-    (places : List Place)
+pub closed_twice : {old mid m0 m1 new : List Span} {n k : ℕ} {ps qs : List FlatPlace} {ts rest left : List Token}
+    (places : List FlatPlace)
     → Placed true old mid ps ts rest
     → Placed true mid m0 qs rest left
     → new ≡ m1 ++ span_between ts left ∷ []
@@ -280,7 +280,7 @@ closed_twice places p q e n_is f k_is is = closed places (then p (then (closed _
 -- ---- whole sources
 
 -- all of the tokens
-pub whole_source : {some : Bool} {old new : List Span} {ps : List Place} {ts left : List Token}
+pub whole_source : {some : Bool} {old new : List Span} {ps : List FlatPlace} {ts left : List Token}
     → Placed some old new ps ts left
     → left ≡ []
     → AreSpans new ps 0 ts []

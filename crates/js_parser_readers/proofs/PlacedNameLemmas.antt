@@ -3,11 +3,11 @@ use Rattle.std.proofs.Common.{◌≡◌, ℕ, zero, suc, Bool, true, false, List
 use Rattle.js_lexer.specs.declared.token.TokenKind.TheVariants as kinds
 use Rattle.js_tree.specs.declared.node.Span.{Span}
 use Rattle.js_tree.specs.Trees.{Identifier}
-use Rattle.js_parser_language.specs.Tokens.{Token, Mark, fixed, identifier, token, trailing_comma, head_of, tail_of}
+use Rattle.js_parser_language.specs.Tokens.{Token, FlatToken, fixed, identifier, token, trailing_comma, head_of, tail_of}
 use Rattle.js_parser_language.specs.Flat.{more_names, flat_names, flat_parameters}
-use Rattle.js_parser_language.specs.Places.{Place, stands, stands_maybe, place_of, plain}
+use Rattle.js_parser_language.specs.Places.{FlatPlace, stands, stands_maybe, place_of, plain}
 use Rattle.js_parser_language.specs.Kinds.{is_kind}
-use Rattle.js_parser_readers.specs.Reading.{Read, Reader, ◌>>=◌, After, goes_on, ends, neither, after, after_by, go_after, elements, elements_by, expect, name_at, fresh_name, no_state, with_name}
+use Rattle.js_parser_readers.specs.Reading.{Read, Reader, ◌>>=◌, AfterElement, goes_on, ends, neither, after, after_by, go_after, elements, elements_by, expect, name_at, fresh_name, no_state, with_name}
 use Rattle.js_parser_readers.specs.Productions.{one_of, names_before, parameters_at}
 use Rattle.js_parser_language.proofs.KindLemmas.{kind_not}
 use Rattle.js_parser_readers.specs.Placed.{Placed}
@@ -16,10 +16,10 @@ use Rattle.js_parser_readers.proofs.PlacedTokenLemmas.{tested, expected, named, 
 use Rattle.js_parser_readers.proofs.ShorterLemmas.{bind_ok}
 
 -- names up to the parenthesis that ends them, and the same behind a name
-abbrev behind_name : List Identifier → List Place
+abbrev behind_name : List Identifier → List FlatPlace
 behind_name ns = plain (more_names ns) ++ (stands_maybe kinds.Comma ∷ stands (fixed kinds.RightParenthesis) ∷ [])
 
-abbrev up_to_end : List Identifier → List Place
+abbrev up_to_end : List Identifier → List FlatPlace
 up_to_end [] = stands (fixed kinds.RightParenthesis) ∷ []
 up_to_end (n ∷ ns) = stands (identifier n) ∷ behind_name ns
 
@@ -72,7 +72,7 @@ go_on : (spans : List Span) (go : Reader (List Identifier))
     → ((ts : List Token) (x : List Identifier × List Token)
     → go ts ≡ Ok x
     → Placed true spans spans (up_to_end x.0) ts x.1)
-    → (a : After) (ts : List Token)
+    → (a : AfterElement) (ts : List Token)
     → after kinds.RightParenthesis (head_of ts) ≡ a
     → (x : List Identifier × List Token)
     → go_after go a ts ≡ Ok x
@@ -126,11 +126,11 @@ names_up_to spans one next h (suc k) s ts x e =
     (λ s ts x e. names_up_to spans one next h k s ts x e) s (is_kind kinds.RightParenthesis (head_of ts))
     ts refl x e
 
-plain-append : (ms ns : List Mark) → plain (ms ++ ns) ≡ plain ms ++ plain ns
+plain-append : (ms ns : List FlatToken) → plain (ms ++ ns) ≡ plain ms ++ plain ns
 plain-append [] ns = refl
 plain-append (m ∷ ms) ns = ap (λ ps. place_of m ∷ ps) (plain-append ms ns)
 
-regroup : (ps : List Place) (p q : Place) → (ps ++ p ∷ []) ++ q ∷ [] ≡ ps ++ p ∷ q ∷ []
+regroup : (ps : List FlatPlace) (p q : FlatPlace) → (ps ++ p ∷ []) ++ q ∷ [] ≡ ps ++ p ∷ q ∷ []
 regroup [] p q = refl
 regroup (r ∷ ps) p q = ap (λ ps. r ∷ ps) (regroup ps p q)
 

@@ -5,7 +5,7 @@ use Rattle.std.specs.Cmp.Lexicographic.{pointwise, same_text}
 use Rattle.js_lexer.specs.declared.token.TokenKind.{TokenKind}
 use Rattle.js_lexer.specs.declared.token.TokenKind.TheVariants as kinds
 use Rattle.js_tree.specs.declared.node.Span.{Span}
-use Rattle.js_parser_language.specs.Tokens.{Token, Symbol, End, fixed, identifier, identifier_name, absent, head_of, tail_of, is_on_line, IsNext}
+use Rattle.js_parser_language.specs.Tokens.{Token, Symbol, StatementEnd, fixed, identifier, identifier_name, absent, head_of, tail_of, is_on_line, IsNext}
 use Rattle.js_parser_language.specs.Flat.{let_or_const, flat_boolean}
 use Rattle.js_parser_language.specs.Places.{stands, stands_maybe, plain}
 use Rattle.js_parser_language.specs.Kinds.{is_kind}
@@ -192,7 +192,7 @@ semicolon_by spans false true ts left h e =
 semicolon_by spans false false ts left h e = absurd cc
 
 -- the semicolon of a statement, present or absent
-pub ended_so : (spans : List Span) (end : End) (ts left : List Token)
+pub ended_so : (spans : List Span) (end : StatementEnd) (ts left : List Token)
     → semicolon_at end ts ≡ Ok (tt, left)
     → Placed false spans spans (stands_maybe kinds.Semicolon ∷ []) ts left
 unfolding semicolon_at

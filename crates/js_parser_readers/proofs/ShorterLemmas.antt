@@ -4,12 +4,12 @@ use Rattle.js_lexer.specs.declared.token.TokenKind.TheVariants as kinds
 use Rattle.js_tree.specs.Trees as trees
 use Rattle.js_tree.specs.Trees.{Identifier, Declarator, Statement, Expression}
 use Rattle.js_parser_language.specs.Tokens.{Token, after_word, head_of, tail_of, is_on_line}
-use Rattle.js_parser_language.specs.Well.{Context, declared_by}
+use Rattle.js_parser_language.specs.Well.{StatementContext, declared_by}
 use Rattle.js_parser_language.specs.Kinds.{is_kind}
 use Rattle.js_parser_readers.specs.Reading.{stuck, Read, ◌>>=◌, name_at, fresh_name}
 use Rattle.js_parser_readers.specs.Classes as classes
-use Rattle.js_parser_readers.specs.Classes.{First, first, ForHead, for_head, ends_return}
-use Rattle.js_parser_readers.specs.Productions.{Below, Item, Values, seq, made, tok, a_statement, a_block, in_braces, an_end, ended, initializer_by, declarator_at, with_declared}
+use Rattle.js_parser_readers.specs.Classes.{StatementStart, first, ForHead, for_head, ends_return}
+use Rattle.js_parser_readers.specs.Productions.{Below, Piece, PieceValues, seq, made, tok, a_statement, a_block, in_braces, an_end, ended, initializer_by, declarator_at, with_declared}
 use Rattle.js_parser_readers.specs.Parsing as parsing
 use Rattle.js_parser_readers.specs.Parsing.{below, statement, statement_by}
 use Rattle.js_parser_readers.proofs.LeafLemmas.{short, shorter, name_short}
@@ -29,7 +29,7 @@ pub fresh_shorter : (taken : List Identifier) (ts : List Token) (n : Identifier)
     → length r < length ts
 fresh_shorter taken ts n r e = shorter name_at ts n r name_short (name_of_fresh taken ts (n, r) e)
 
-pub item_shorter : (n : ℕ) (context : Context) (taken : List Identifier) (ts : List Token) (s : Statement)
+pub item_shorter : (n : ℕ) (context : StatementContext) (taken : List Identifier) (ts : List Token) (s : Statement)
     (r : List Token)
     → (below n).item context taken ts ≡ Ok (s, r)
     → length r < length ts
@@ -85,8 +85,8 @@ then_nothing : {A : Type 0} (read : Read A) (f : A × List Token → Read Statem
 then_nothing (Ok x) f h = h x
 then_nothing (Err e) f h = tt
 
-made_nothing : (b : Below) (is : List Item) (make : Values is → Statement)
-    → ((v : Values is) → declared_by (make v) ≡ [])
+made_nothing : (b : Below) (is : List Piece) (make : PieceValues is → Statement)
+    → ((v : PieceValues is) → declared_by (make v) ≡ [])
     → (ts : List Token)
     → Nothing (made b is make ts)
 made_nothing b is make h ts = then_nothing (seq b is ts) (λ x. Ok (make x.0, x.1)) (λ x. h x.0)
@@ -95,20 +95,20 @@ choose_nothing : (c : Bool) (read : Read Statement) (n : ℕ) → Nothing read �
 choose_nothing true read n h = h
 choose_nothing false read n h = tt
 
-else_nothing : (b : Below) (c : Context) (e : Expression) (s : Statement) (o : Bool) (ts : List Token)
+else_nothing : (b : Below) (c : StatementContext) (e : Expression) (s : Statement) (o : Bool) (ts : List Token)
     → Nothing (parsing.else_by b c e s o ts)
 else_nothing b c e s true ts =
     made_nothing b (tok kinds.Else ∷ a_statement c ∷ []) (λ v. trees.if_else e s v.1.0) (λ v. refl) ts
 else_nothing b c e s false ts = refl
 
-if_nothing : (b : Below) (c : Context) (ts : List Token) → Nothing (parsing.if_at b c ts)
+if_nothing : (b : Below) (c : StatementContext) (ts : List Token) → Nothing (parsing.if_at b c ts)
 unfolding parsing.if_at
 if_nothing b c ts =
     then_nothing (seq b (parsing.if_items c) ts)
     (λ x. parsing.else_by b c x.0.1.1.0 x.0.1.1.1.1.0 (is_kind kinds.Else (head_of x.1)) x.1)
     (λ x. else_nothing b c x.0.1.1.0 x.0.1.1.1.1.0 (is_kind kinds.Else (head_of x.1)) x.1)
 
-for_nothing : (b : Below) (c : Context) (h : ForHead) (ts : List Token) → Nothing (parsing.for_by b c h ts)
+for_nothing : (b : Below) (c : StatementContext) (h : ForHead) (ts : List Token) → Nothing (parsing.for_by b c h ts)
 for_nothing b c (classes.each constant) ts =
     made_nothing b (parsing.for_of_items c constant)
     (λ v. trees.for_of constant v.1.1.1.0 v.1.1.1.1.1.0 v.1.1.1.1.1.1.1.0) (λ v. refl) ts
@@ -128,7 +128,7 @@ throw_nothing : (b : Below) (o : Bool) (ts : List Token) → Nothing (parsing.th
 throw_nothing b true ts = made_nothing b (tok kinds.Throw ∷ ended ∷ []) (λ v. trees.throw v.1.0) (λ v. refl) ts
 throw_nothing b false ts = tt
 
-try_nothing : (b : Below) (c : Context) (ts : List Token) → Nothing (parsing.try_at b c ts)
+try_nothing : (b : Below) (c : StatementContext) (ts : List Token) → Nothing (parsing.try_at b c ts)
 unfolding parsing.try_at
 try_nothing b c ts =
     then_nothing (seq b (tok kinds.Try ∷ a_block c [] ∷ []) ts)
@@ -139,7 +139,7 @@ try_nothing b c ts =
     (λ h. parsing.finalizer_at b c h.0 h.1 >>= λ f. Ok (trees.try x.0.1.0 h.0 f.0, f.1)) (λ h.
     then_nothing (parsing.finalizer_at b c h.0 h.1) (λ f. Ok (trees.try x.0.1.0 h.0 f.0, f.1)) (λ f. refl)))
 
-statement_nothing : (b : Below) (c : Context) (f : First) (ts : List Token) → Nothing (statement_by b c f ts)
+statement_nothing : (b : Below) (c : StatementContext) (f : StatementStart) (ts : List Token) → Nothing (statement_by b c f ts)
 unfolding parsing.for_at
 statement_nothing b c classes.a_block ts = made_nothing b (in_braces c [] ∷ []) (λ v. trees.block v.0) (λ v. refl) ts
 statement_nothing b c (classes.a_lexical constant) ts = tt
@@ -167,7 +167,7 @@ statement_nothing b c classes.a_function ts = tt
 statement_nothing b c classes.an_expression ts = made_nothing b (ended ∷ []) (λ v. trees.expression v.0) (λ v. refl) ts
 
 -- a statement that is no declaration takes no names
-pub takes_nothing : (n : ℕ) (context : Context) (taken : List Identifier) (ts : List Token) (s : Statement)
+pub takes_nothing : (n : ℕ) (context : StatementContext) (taken : List Identifier) (ts : List Token) (s : Statement)
     (r : List Token)
     → statement (below n) context ts ≡ Ok (s, r)
     → taken ≡ with_declared taken s

@@ -7,7 +7,7 @@ use Rattle.js_tree.specs.declared.tree.Catch.{Catch}
 use Rattle.js_tree.specs.Trees as trees
 use Rattle.js_tree.specs.Trees.{Identifier, Statement}
 use Rattle.js_parser_language.specs.Tokens.{Token, head_of, tail_of}
-use Rattle.js_parser_language.specs.Well.{Context}
+use Rattle.js_parser_language.specs.Well.{StatementContext}
 use Rattle.js_tree.specs.Views.{handler_view}
 use Rattle.js_tree.proofs.ViewLemmas.{catch_of}
 use Rattle.js_parser_readers.specs.declared.fault.ParseError.{ParseError}
@@ -23,7 +23,7 @@ unfolding expect
 expect_found k ts e = rw e refl
 
 -- a statement that is no declaration takes no names
-pub names_kept : {X : Type 0} (n : ℕ) (context : Context) (taken : List Identifier) (ts : List Token)
+pub names_kept : {X : Type 0} (n : ℕ) (context : StatementContext) (taken : List Identifier) (ts : List Token)
     (r : Result X ParseError) (look : X → Statement × List Token)
     → Gives look r (statement (below n) context ts)
     → IfOk r (λ x. taken ≡ with_declared taken (look x).0)
@@ -31,7 +31,7 @@ names_kept n context taken ts (Ok x) look g = takes_nothing n context taken ts (
 names_kept n context taken ts (Err e) look g = tt
 
 -- nothing stands for a finally behind a catch
-pub no_finalizer : (b : Below) (context : Context) (h : Option Catch) (ts : List Token)
+pub no_finalizer : (b : Below) (context : StatementContext) (h : Option Catch) (ts : List Token)
     → is_some h ≡ true
     → is_kind kinds.Finally (head_of ts) ≡ false
     → finalizer_at b context (handler_view h) ts ≡ Ok (trees.no_finally, ts)

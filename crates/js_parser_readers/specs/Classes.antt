@@ -18,21 +18,21 @@ use Rattle.js_parser_readers.specs.Reading.{text_of}
 -- ---- expressions
 
 -- what begins a primary expression (ECMA-262, 13.2)
-pub data Start : Type 0 where
-  this_word : Start
-  a_name : List ℕ → Start
-  a_number : ℕ → Start
-  a_string : List ℕ → Start
-  a_boolean : Bool → Start
-  null_word : Start
-  bracket : Start
-  brace : Start
-  parenthesis : Start
-  function_word : Start
-  no_start : Start
+pub data PrimaryStart : Type 0 where
+  this_word : PrimaryStart
+  a_name : List ℕ → PrimaryStart
+  a_number : ℕ → PrimaryStart
+  a_string : List ℕ → PrimaryStart
+  a_boolean : Bool → PrimaryStart
+  null_word : PrimaryStart
+  bracket : PrimaryStart
+  brace : PrimaryStart
+  parenthesis : PrimaryStart
+  function_word : PrimaryStart
+  no_start : PrimaryStart
 
 -- what a token of this kind begins, with its string value and its number
-abbrev pub start_by : TokenKind → List ℕ → ℕ → Start
+abbrev pub start_by : TokenKind → List ℕ → ℕ → PrimaryStart
 start_by kinds.This s n = this_word
 start_by kinds.Name s n = a_name s
 start_by kinds.Number s n = a_number n
@@ -47,26 +47,26 @@ start_by kinds.Function s n = function_word
 start_by _ s n = no_start
 
 -- what the next token begins, if there is one
-abbrev pub start : Option Token → Start
+abbrev pub start : Option Token → PrimaryStart
 start None = no_start
 start (Some t) = start_by t.kind t.string_value t.numeric_value
 
 -- what goes on with a call or a member (13.3)
-pub data Link : Type 0 where
-  dot : Link
-  key : Link
-  arguments : Link
-  no_link : Link
+pub data CallTail : Type 0 where
+  dot : CallTail
+  key : CallTail
+  arguments : CallTail
+  no_link : CallTail
 
 -- what a token of this kind is behind a call or a member
-abbrev pub link_by : TokenKind → Link
+abbrev pub link_by : TokenKind → CallTail
 link_by kinds.Dot = dot
 link_by kinds.LeftBracket = key
 link_by kinds.LeftParenthesis = arguments
 link_by _ = no_link
 
 -- what the next token is behind a call or a member
-abbrev pub link : Option Token → Link
+abbrev pub link : Option Token → CallTail
 link None = no_link
 link (Some t) = link_by t.kind
 
@@ -182,26 +182,26 @@ past_names false (t ∷ ts) =
     (if is_kind kinds.Comma (Some t) then past_names true ts else None)
 
 -- what an arrow function begins with
-pub data Head : Type 0 where
-  one_parameter : Head
+pub data ArrowStart : Type 0 where
+  one_parameter : ArrowStart
   -- names in parentheses; of true no expression in parentheses begins so
-  listed : Bool → Head
-  no_arrow : Head
+  listed : Bool → ArrowStart
+  no_arrow : ArrowStart
 
 -- the head that names in parentheses are, by how they end: where an expression can begin so, an arrow must follow
-abbrev pub listed_by : Option (Bool × List Token) → Head
+abbrev pub listed_by : Option (Bool × List Token) → ArrowStart
 listed_by None = no_arrow
 listed_by (Some (true, ts)) = listed true
 listed_by (Some (false, ts)) = if is_arrow (head_of ts) then listed false else no_arrow
 
 -- what a token that begins so and those behind it are the head of
-abbrev pub head_by : Start → List Token → Head
+abbrev pub head_by : PrimaryStart → List Token → ArrowStart
 head_by (a_name n) ts = if is_arrow (head_of ts) then one_parameter else no_arrow
 head_by parenthesis ts = listed_by (past_names true ts)
 head_by _ ts = no_arrow
 
 -- the head of an arrow function with which the tokens begin, if they begin with one
-abbrev pub arrow_head : List Token → Head
+abbrev pub arrow_head : List Token → ArrowStart
 arrow_head ts = head_by (start (head_of ts)) (tail_of ts)
 
 -- ---- object literals (13.2.5)
@@ -255,25 +255,25 @@ is_shorthand ts = is_shorthand_by (is_kind kinds.Name (head_of ts)) (after_key (
 -- ---- statements (14)
 
 -- what begins a statement or a declaration
-pub data First : Type 0 where
-  a_block : First
-  a_lexical : Bool → First
-  a_semicolon : First
-  an_if : First
-  a_do : First
-  a_while : First
-  a_for : First
-  a_continue : First
-  a_break : First
-  a_return : First
-  a_throw : First
-  a_try : First
-  a_debugger : First
-  a_function : First
-  an_expression : First
+pub data StatementStart : Type 0 where
+  a_block : StatementStart
+  a_lexical : Bool → StatementStart
+  a_semicolon : StatementStart
+  an_if : StatementStart
+  a_do : StatementStart
+  a_while : StatementStart
+  a_for : StatementStart
+  a_continue : StatementStart
+  a_break : StatementStart
+  a_return : StatementStart
+  a_throw : StatementStart
+  a_try : StatementStart
+  a_debugger : StatementStart
+  a_function : StatementStart
+  an_expression : StatementStart
 
 -- what a token of this kind begins; any that begins no other statement begins an expression, if any
-abbrev pub first_by : TokenKind → First
+abbrev pub first_by : TokenKind → StatementStart
 first_by kinds.LeftBrace = a_block
 first_by kinds.Let = a_lexical false
 first_by kinds.Const = a_lexical true
@@ -292,7 +292,7 @@ first_by kinds.Function = a_function
 first_by _ = an_expression
 
 -- what the next token begins
-abbrev pub first : Option Token → First
+abbrev pub first : Option Token → StatementStart
 first None = an_expression
 first (Some t) = first_by t.kind
 
@@ -313,7 +313,7 @@ pub data ForHead : Type 0 where
   plain_head : ForHead
 
 -- the head whose first token begins so, with the tokens behind it
-abbrev pub for_head_by : First → List Token → ForHead
+abbrev pub for_head_by : StatementStart → List Token → ForHead
 for_head_by (a_lexical c) ts =
     if is_kind kinds.Name (head_of ts) && is_name (codes "of") (head_of (tail_of ts)) then each c else declares c
 for_head_by _ ts = plain_head

@@ -5,28 +5,28 @@ use Rattle.js_lexer.specs.declared.token.Token as lexer
 use Rattle.js_lexer.specs.Characters.{string_value}
 use Rattle.js_parser_language.specs.Tokens as tokens
 use Rattle.js_parser_language.specs.Tokens.{Token}
-use Rattle.js_parser_readers.specs.declared.classes.arrows.Head.{Head}
-use Rattle.js_parser_readers.specs.declared.classes.arrows.Head.TheVariants as heads
+use Rattle.js_parser_readers.specs.declared.classes.arrows.ArrowStart.{ArrowStart}
+use Rattle.js_parser_readers.specs.declared.classes.arrows.ArrowStart.TheVariants as heads
 use Rattle.js_parser_readers.specs.declared.classes.expressions.Joint.{Joint}
 use Rattle.js_parser_readers.specs.declared.classes.expressions.Joint.TheVariants as joints
-use Rattle.js_parser_readers.specs.declared.classes.expressions.Link.{Link}
-use Rattle.js_parser_readers.specs.declared.classes.expressions.Link.TheVariants as links
+use Rattle.js_parser_readers.specs.declared.classes.expressions.CallTail.{CallTail}
+use Rattle.js_parser_readers.specs.declared.classes.expressions.CallTail.TheVariants as links
 use Rattle.js_parser_readers.specs.declared.classes.expressions.Prefix.{Prefix}
 use Rattle.js_parser_readers.specs.declared.classes.expressions.Prefix.TheVariants as prefixes
-use Rattle.js_parser_readers.specs.declared.classes.expressions.Start.{Start}
-use Rattle.js_parser_readers.specs.declared.classes.expressions.Start.TheVariants as starts
-use Rattle.js_parser_readers.specs.declared.classes.lists.After.{After}
-use Rattle.js_parser_readers.specs.declared.classes.lists.After.TheVariants as afters
+use Rattle.js_parser_readers.specs.declared.classes.expressions.PrimaryStart.{PrimaryStart}
+use Rattle.js_parser_readers.specs.declared.classes.expressions.PrimaryStart.TheVariants as starts
+use Rattle.js_parser_readers.specs.declared.classes.lists.AfterElement.{AfterElement}
+use Rattle.js_parser_readers.specs.declared.classes.lists.AfterElement.TheVariants as afters
 use Rattle.js_parser_readers.specs.declared.classes.objects.AfterKey.{AfterKey}
 use Rattle.js_parser_readers.specs.declared.classes.objects.AfterKey.TheVariants as after_keys
 use Rattle.js_parser_readers.specs.declared.classes.objects.KeyStart.{KeyStart}
 use Rattle.js_parser_readers.specs.declared.classes.objects.KeyStart.TheVariants as key_starts
-use Rattle.js_parser_readers.specs.declared.classes.statements.Edge.{Edge}
-use Rattle.js_parser_readers.specs.declared.classes.statements.Edge.TheVariants as edges
-use Rattle.js_parser_readers.specs.declared.classes.statements.End.{End}
-use Rattle.js_parser_readers.specs.declared.classes.statements.End.TheVariants as ends
-use Rattle.js_parser_readers.specs.declared.classes.statements.First.{First}
-use Rattle.js_parser_readers.specs.declared.classes.statements.First.TheVariants as firsts
+use Rattle.js_parser_readers.specs.declared.classes.statements.ExpressionEnd.{ExpressionEnd}
+use Rattle.js_parser_readers.specs.declared.classes.statements.ExpressionEnd.TheVariants as edges
+use Rattle.js_parser_readers.specs.declared.classes.statements.StatementEnd.{StatementEnd}
+use Rattle.js_parser_readers.specs.declared.classes.statements.StatementEnd.TheVariants as ends
+use Rattle.js_parser_readers.specs.declared.classes.statements.StatementStart.{StatementStart}
+use Rattle.js_parser_readers.specs.declared.classes.statements.StatementStart.TheVariants as firsts
 use Rattle.js_parser_readers.specs.declared.classes.statements.ForHead.{ForHead}
 use Rattle.js_parser_readers.specs.declared.classes.statements.ForHead.TheVariants as for_heads
 use Rattle.js_parser_readers.specs.Classes as classes
@@ -36,7 +36,7 @@ use Rattle.js_parser_readers.specs.Views.{tokens_view}
 -- ---- expressions
 
 -- what begins a primary expression
-abbrev pub start_view : Start → classes.Start
+abbrev pub start_view : PrimaryStart → classes.PrimaryStart
 start_view starts.This = classes.this_word
 start_view (starts.Name text) = classes.a_name text.now
 start_view (starts.Number n) = classes.a_number n.value
@@ -50,7 +50,7 @@ start_view starts.Function = classes.function_word
 start_view starts.Other = classes.no_start
 
 -- what goes on with a call or a member
-abbrev pub link_view : Option Link → classes.Link
+abbrev pub link_view : Option CallTail → classes.CallTail
 link_view None = classes.no_link
 link_view (Some links.Dot) = classes.dot
 link_view (Some links.Key) = classes.key
@@ -77,7 +77,7 @@ past_view None = None
 past_view (Some x) = Some (x.0, tokens_view x.1.now)
 
 -- what an arrow function begins with
-abbrev pub head_view : Option Head → classes.Head
+abbrev pub head_view : Option ArrowStart → classes.ArrowStart
 head_view None = classes.no_arrow
 head_view (Some heads.Name) = classes.one_parameter
 head_view (Some (heads.List only)) = classes.listed only
@@ -101,7 +101,7 @@ after_key_view (Some after_keys.Parameters) = classes.parameters
 -- ---- statements
 
 -- what begins a statement or a declaration
-abbrev pub first_view : First → classes.First
+abbrev pub first_view : StatementStart → classes.StatementStart
 first_view firsts.Block = classes.a_block
 first_view (firsts.Lexical constant) = classes.a_lexical constant
 first_view firsts.Semicolon = classes.a_semicolon
@@ -125,13 +125,13 @@ for_head_view (Some (for_heads.Each constant)) = classes.each constant
 for_head_view (Some (for_heads.Declares constant)) = classes.declares constant
 
 -- how an expression ends before an absent semicolon
-abbrev pub edge_view : Edge → tokens.Edge
+abbrev pub edge_view : ExpressionEnd → tokens.ExpressionEnd
 edge_view edges.Plain = tokens.plain
 edge_view edges.Braces = tokens.braces
 edge_view edges.Update = tokens.update
 
 -- what a statement ends in before its semicolon
-abbrev pub end_view : End → tokens.End
+abbrev pub end_view : StatementEnd → tokens.StatementEnd
 end_view (ends.Expression edge) = tokens.after_expression (edge_view edge)
 end_view ends.Word = tokens.after_word
 end_view ends.Do = tokens.after_do
@@ -139,7 +139,7 @@ end_view ends.Do = tokens.after_do
 -- ---- lists
 
 -- what comes after an element of a list
-abbrev pub after_view : Option After → reading.After
+abbrev pub after_view : Option AfterElement → reading.AfterElement
 after_view None = reading.neither
 after_view (Some afters.GoesOn) = reading.goes_on
 after_view (Some afters.Ends) = reading.ends

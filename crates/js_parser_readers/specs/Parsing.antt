@@ -6,18 +6,18 @@ use Rattle.js_tree_operators.specs.declared.operator.UnaryOperator.TheVariants a
 use Rattle.js_tree_operators.specs.declared.operator.UpdateOperator.{UpdateOperator}
 use Rattle.js_tree_operators.specs.declared.operator.BinaryOperator.{BinaryOperator}
 use Rattle.js_tree.specs.Trees as trees
-use Rattle.js_tree.specs.Trees.{Identifier, Parameters, Expression, Key, Property, Properties, Statement, Statements, Handler, Finalizer}
+use Rattle.js_tree.specs.Trees.{Identifier, Parameters, Expression, Key, PropertyDefinition, PropertyDefinitions, Statement, Statements, Handler, Finalizer}
 use Rattle.js_parser_language.specs.Tokens.{Token, after_word, after_do, head_of, tail_of, is_on_line}
 use Rattle.js_parser_language.specs.Flat.{end_of_declarators, assign_kind}
-use Rattle.js_parser_language.specs.Well.{Context, top, function_body, loop_body, strength, is_property, is_among}
+use Rattle.js_parser_language.specs.Well.{StatementContext, top, function_body, loop_body, strength, is_property, is_among}
 use Rattle.js_tree.specs.Targets.{is_target}
 use Rattle.js_tree.specs.Height.{height, height_of_key}
 use Rattle.js_tree.specs.Views.{properties}
 use Rattle.js_parser_language.specs.Kinds.{is_kind}
 use Rattle.js_parser_readers.specs.Reading.{Fault, stuck, deep, Read, Reader, ◌>>=◌, expect, expect_near, name_at, fresh_name, word_at, semicolon_at, elements, no_state, with_names}
 use Rattle.js_parser_readers.specs.Classes as classes
-use Rattle.js_parser_readers.specs.Classes.{Start, start, Link, dot, key, no_link, link, update_near, Prefix, deletes, a_unary, an_update, no_prefix, prefix, operator, Joint, question, assigns_by, no_joint, joint, Head, one_parameter, listed, no_arrow, arrow_head, KeyStart, key_start, AfterKey, after_key, is_shorthand, First, first, ends_return, ForHead, each, declares, plain_head, for_head}
-use Rattle.js_parser_readers.specs.Productions.{Below, more_assignments, names_before, parameters_at, items_at, braces, code_at, declarators_at, one_of, Item, tok, a_name, the_name, an_assignment, an_expression, optional, arguments, ended, an_end, declared, a_statement, a_block, in_braces, code, seq, made}
+use Rattle.js_parser_readers.specs.Classes.{PrimaryStart, start, CallTail, dot, key, no_link, link, update_near, Prefix, deletes, a_unary, an_update, no_prefix, prefix, operator, Joint, question, assigns_by, no_joint, joint, ArrowStart, one_parameter, listed, no_arrow, arrow_head, KeyStart, key_start, AfterKey, after_key, is_shorthand, StatementStart, first, ends_return, ForHead, each, declares, plain_head, for_head}
+use Rattle.js_parser_readers.specs.Productions.{Below, more_assignments, names_before, parameters_at, items_at, braces, code_at, declarators_at, one_of, Piece, tok, a_name, the_name, an_assignment, an_expression, optional, arguments, ended, an_end, declared, a_statement, a_block, in_braces, code, seq, made}
 
 -- what is made of a tree, where it is low enough for a node above it, which the next token shows
 abbrev pub if_low : {A : Type 0} → ℕ → ℕ → List Token → Read A → Read A
@@ -39,7 +39,7 @@ unfoldable pub key_at : Below → Reader Key
 key_at b ts = key_by b (key_start (head_of ts)) ts
 
 -- a member behind its key: a value behind a colon, or a method, which is a level of its own
-abbrev pub member_by : Below → ℕ → Key → AfterKey → Reader Property
+abbrev pub member_by : Below → ℕ → Key → AfterKey → Reader PropertyDefinition
 member_by b n k classes.colon ts = made b (tok kinds.Colon ∷ an_assignment ∷ []) (λ v. trees.value k v.1.0) ts
 member_by b n k classes.parameters ts = if_low (suc (height_of_key k)) n ts (do
   f ← b.function ts
@@ -47,7 +47,7 @@ member_by b n k classes.parameters ts = if_low (suc (height_of_key k)) n ts (do
 member_by b n k classes.no_member ts = Err (stuck (length ts))
 
 -- a member that is a name alone, or a key with what belongs to it
-abbrev pub property_by : Below → ℕ → Bool → Reader Property
+abbrev pub property_by : Below → ℕ → Bool → Reader PropertyDefinition
 property_by b n true ts = do
   x ← name_at ts
   Ok (trees.shorthand x.0, x.1)
@@ -56,11 +56,11 @@ property_by b n false ts = do
   member_by b n k.0 (after_key (head_of k.1)) k.1
 
 -- a member of an object literal (13.2.5, PropertyDefinition)
-unfoldable pub property_at : Below → ℕ → Reader Property
+unfoldable pub property_at : Below → ℕ → Reader PropertyDefinition
 property_at b n ts = property_by b n (is_shorthand ts) ts
 
 -- members up to the brace that ends them
-unfoldable pub properties_at : Below → ℕ → Reader Properties
+unfoldable pub properties_at : Below → ℕ → Reader PropertyDefinitions
 properties_at b n ts = do
   x ← elements (one_of (λ r. property_at b n r)) no_state kinds.RightBrace (suc (length ts)) tt ts
   Ok (properties x.0, x.1)
@@ -81,7 +81,7 @@ unfoldable pub function_at : Below → Reader Expression
 function_at b ts = function_by b (is_name_next (head_of ts)) ts
 
 -- a primary expression that begins so
-abbrev pub primary_by : Below → ℕ → Start → Reader Expression
+abbrev pub primary_by : Below → ℕ → PrimaryStart → Reader Expression
 primary_by b n classes.this_word ts = Ok (trees.this, tail_of ts)
 primary_by b n (classes.a_name s) ts = Ok (trees.name s, tail_of ts)
 primary_by b n (classes.a_number v) ts = Ok (trees.number v, tail_of ts)
@@ -104,7 +104,7 @@ unfoldable pub primary : Below → ℕ → Reader Expression
 primary b n ts = primary_by b n (start (head_of ts)) ts
 
 -- what goes on with the expression that was read
-abbrev pub linked_by : Below → Expression → Link → Reader Expression
+abbrev pub linked_by : Below → Expression → CallTail → Reader Expression
 linked_by b e dot ts = do
   x ← word_at (tail_of ts)
   Ok (trees.member e x.0, x.1)
@@ -115,7 +115,7 @@ linked_by b e classes.arguments ts =
 linked_by b e no_link ts = Err (stuck (length ts))
 
 -- what was read, alone or with what goes on with it and all that follows
-abbrev pub links_by : Below → ℕ → (Expression → Reader Expression) → Expression → Link → Reader Expression
+abbrev pub links_by : Below → ℕ → (Expression → Reader Expression) → Expression → CallTail → Reader Expression
 links_by b n go e no_link ts = Ok (e, ts)
 links_by b n go e l ts = if_low (height e) n ts (do
   x ← linked_by b e l ts
@@ -250,7 +250,7 @@ joined b n t ts = joined_by b n t (joint (head_of ts)) ts
 
 -- an arrow function where the tokens begin one, else an operation, whose operators bind as `||` at least (3,
 -- an_operation of the levels), with what goes on with it
-abbrev pub assignment_by : Below → ℕ → Head → Reader Expression
+abbrev pub assignment_by : Below → ℕ → ArrowStart → Reader Expression
 assignment_by b n one_parameter ts = arrow_of_one b ts
 assignment_by b n (listed only) ts = arrow_of_list b only ts
 assignment_by b n no_arrow ts = do
@@ -277,17 +277,17 @@ expression b n ts = do
 -- ---- statements
 
 -- an `if` whose first branch was read, with the `else` that may follow
-abbrev pub else_by : Below → Context → Expression → Statement → Bool → Reader Statement
+abbrev pub else_by : Below → StatementContext → Expression → Statement → Bool → Reader Statement
 else_by b context e s true ts = made b (tok kinds.Else ∷ a_statement context ∷ []) (λ v. trees.if_else e s v.1.0) ts
 else_by b context e s false ts = Ok (trees.if_then e s, ts)
 
 -- an `if` up to its first branch
-abbrev pub if_items : Context → List Item
+abbrev pub if_items : StatementContext → List Piece
 if_items context =
     tok kinds.If ∷ tok kinds.LeftParenthesis ∷ an_expression ∷ tok kinds.RightParenthesis ∷ a_statement context ∷ []
 
 -- an `if` statement; an `else` goes with the nearest one (14.6)
-unfoldable pub if_at : Below → Context → Reader Statement
+unfoldable pub if_at : Below → StatementContext → Reader Statement
 if_at b context ts = do
   x ← seq b (if_items context) ts
   else_by b context x.0.1.1.0 x.0.1.1.1.1.0 (is_kind kinds.Else (head_of x.1)) x.1
@@ -298,26 +298,26 @@ let_kind true = kinds.Const
 let_kind false = kinds.Let
 
 -- a `do` statement (14.7.2)
-abbrev pub do_items : Context → List Item
+abbrev pub do_items : StatementContext → List Piece
 do_items context =
     tok kinds.Do ∷ a_statement (loop_body context)
     ∷ tok kinds.While ∷ tok kinds.LeftParenthesis ∷ an_expression ∷ tok kinds.RightParenthesis ∷ an_end after_do ∷ []
 
 -- a `while` statement (14.7.3)
-abbrev pub while_items : Context → List Item
+abbrev pub while_items : StatementContext → List Piece
 while_items context =
     tok kinds.While ∷ tok kinds.LeftParenthesis ∷ an_expression ∷ tok kinds.RightParenthesis ∷ a_statement
     (loop_body context) ∷ []
 
 -- a `for` without a declaration, each part of which may be left out (14.7.4)
-abbrev pub for_items : Context → List Item
+abbrev pub for_items : StatementContext → List Piece
 for_items context =
     tok kinds.For ∷ tok kinds.LeftParenthesis ∷ optional kinds.Semicolon ∷ optional kinds.Semicolon ∷ optional
     kinds.RightParenthesis ∷ a_statement
     (loop_body context) ∷ []
 
 -- a `for` with `let` or `const` (14.7.4)
-abbrev pub for_lexical_items : Context → Bool → List Item
+abbrev pub for_lexical_items : StatementContext → Bool → List Piece
 for_lexical_items context constant =
     tok kinds.For ∷ tok kinds.LeftParenthesis ∷ tok (let_kind constant)
     ∷ declared constant [] ∷ tok kinds.Semicolon ∷ optional kinds.Semicolon ∷ optional kinds.RightParenthesis ∷
@@ -325,13 +325,13 @@ for_lexical_items context constant =
     (loop_body context) ∷ []
 
 -- a `for .. of` with one name (14.7.5)
-abbrev pub for_of_items : Context → Bool → List Item
+abbrev pub for_of_items : StatementContext → Bool → List Piece
 for_of_items context constant =
     tok kinds.For ∷ tok kinds.LeftParenthesis ∷ tok (let_kind constant) ∷ a_name ∷ the_name (codes "of")
     ∷ an_assignment ∷ tok kinds.RightParenthesis ∷ a_statement (loop_body context) ∷ []
 
 -- a `for` whose head begins so
-abbrev pub for_by : Below → Context → ForHead → Reader Statement
+abbrev pub for_by : Below → StatementContext → ForHead → Reader Statement
 for_by b context (each constant) ts =
     made b (for_of_items context constant) (λ v. trees.for_of constant v.1.1.1.0 v.1.1.1.1.1.0 v.1.1.1.1.1.1.1.0) ts
 for_by b context (declares constant) ts =
@@ -341,7 +341,7 @@ for_by b context plain_head ts =
     made b (for_items context) (λ v. trees.for v.1.1.0 v.1.1.1.0 v.1.1.1.1.0 v.1.1.1.1.1.0) ts
 
 -- a `for` of any kind, by what stands behind its parenthesis
-unfoldable pub for_at : Below → Context → Reader Statement
+unfoldable pub for_at : Below → StatementContext → Reader Statement
 for_at b context ts = for_by b context (for_head (tail_of (tail_of ts))) ts
 
 -- a `return` without a value, or with one (14.10)
@@ -357,7 +357,7 @@ throw_by b false ts = Err (stuck (length (tail_of ts)))
 -- ---- try
 
 -- the block of a catch with its name, if it has one
-abbrev pub catch_by : Below → Context → Bool → Reader Handler
+abbrev pub catch_by : Below → StatementContext → Bool → Reader Handler
 catch_by b context true ts = do
   n ← seq b (tok kinds.LeftParenthesis ∷ a_name ∷ tok kinds.RightParenthesis ∷ []) ts
   x ← b.block context (n.0.1.0 ∷ []) n.1
@@ -367,26 +367,26 @@ catch_by b context false ts = do
   Ok (trees.catch None x.0, x.1)
 
 -- the catch that stands here, or none
-abbrev pub handler_by : Below → Context → Bool → Reader Handler
+abbrev pub handler_by : Below → StatementContext → Bool → Reader Handler
 handler_by b context true ts = catch_by b context (is_kind kinds.LeftParenthesis (head_of (tail_of ts))) (tail_of ts)
 handler_by b context false ts = Ok (trees.no_catch, ts)
 
 -- the catch of a `try`, if it has one
-unfoldable pub handler_at : Below → Context → Reader Handler
+unfoldable pub handler_at : Below → StatementContext → Reader Handler
 handler_at b context ts = handler_by b context (is_kind kinds.Catch (head_of ts)) ts
 
 -- the finally that stands here, or none behind a catch; a `try` has one of the two
-abbrev pub finalizer_by : Below → Context → Handler → Bool → Reader Finalizer
+abbrev pub finalizer_by : Below → StatementContext → Handler → Bool → Reader Finalizer
 finalizer_by b context h true ts = made b (tok kinds.Finally ∷ a_block context [] ∷ []) (λ v. trees.finally v.1.0) ts
 finalizer_by b context trees.no_catch false ts = Err (stuck (length ts))
 finalizer_by b context (trees.catch n ss) false ts = Ok (trees.no_finally, ts)
 
 -- the finally of a `try`, if it has one
-unfoldable pub finalizer_at : Below → Context → Handler → Reader Finalizer
+unfoldable pub finalizer_at : Below → StatementContext → Handler → Reader Finalizer
 finalizer_at b context h ts = finalizer_by b context h (is_kind kinds.Finally (head_of ts)) ts
 
 -- a `try` statement (14.15)
-unfoldable pub try_at : Below → Context → Reader Statement
+unfoldable pub try_at : Below → StatementContext → Reader Statement
 try_at b context ts = do
   x ← seq b (tok kinds.Try ∷ a_block context [] ∷ []) ts
   h ← handler_at b context x.1
@@ -396,7 +396,7 @@ try_at b context ts = do
 -- ---- any statement
 
 -- a statement that begins so; declarations are none
-abbrev pub statement_by : Below → Context → First → Reader Statement
+abbrev pub statement_by : Below → StatementContext → StatementStart → Reader Statement
 statement_by b context classes.a_block ts = made b (in_braces context [] ∷ []) (λ v. trees.block v.0) ts
 statement_by b context (classes.a_lexical constant) ts = Err (stuck (length ts))
 statement_by b context classes.a_semicolon ts = Ok (trees.empty, tail_of ts)
@@ -420,7 +420,7 @@ statement_by b context classes.a_function ts = Err (stuck (length ts))
 statement_by b context classes.an_expression ts = made b (ended ∷ []) (λ v. trees.expression v.0) ts
 
 -- a statement (14, Statement)
-unfoldable pub statement : Below → Context → Reader Statement
+unfoldable pub statement : Below → StatementContext → Reader Statement
 statement b context ts = statement_by b context (first (head_of ts)) ts
 
 -- let or const with its names
@@ -438,13 +438,13 @@ declaration_at b taken ts = do
   Ok (trees.declared_function n.0 f.0.parameters f.0.body, f.1)
 
 -- a statement or declaration that begins so
-abbrev pub item_by : Below → Context → List Identifier → First → Reader Statement
+abbrev pub item_by : Below → StatementContext → List Identifier → StatementStart → Reader Statement
 item_by b context taken (classes.a_lexical constant) ts = lexical_at b constant taken ts
 item_by b context taken classes.a_function ts = declaration_at b taken ts
 item_by b context taken f ts = statement b context ts
 
 -- a statement or declaration, whose names differ from those before it in its list (14.2, StatementListItem)
-unfoldable pub item : Below → Context → List Identifier → Reader Statement
+unfoldable pub item : Below → StatementContext → List Identifier → Reader Statement
 item b context taken ts = item_by b context taken (first (head_of ts)) ts
 
 -- ---- what reads trees that are at most n high
@@ -495,7 +495,7 @@ unfoldable pub parse_expression : ℕ → List Token → Result Expression Fault
 parse_expression n ts = whole ((below n).expression ts)
 
 -- a function expression, or an arrow function, at most n below it
-abbrev pub function_code_by : Below → Start → Reader Expression
+abbrev pub function_code_by : Below → PrimaryStart → Reader Expression
 function_code_by b classes.function_word ts = function_at b (tail_of ts)
 function_code_by b (classes.a_name s) ts = arrow_of_one b ts
 function_code_by b classes.parenthesis ts = do

@@ -4,16 +4,16 @@ use Rattle.js_lexer.specs.declared.token.TokenKind.{TokenKind}
 use Rattle.js_lexer.specs.declared.token.TokenKind.TheVariants as kinds
 use Rattle.js_tree.specs.Trees as trees
 use Rattle.js_tree.specs.Trees.{Identifier, Expression, Expressions, OptionalExpression, Declarator, Declarators, Statement, Statements}
-use Rattle.js_parser_language.specs.Tokens.{End, after_expression, head_of, tail_of}
+use Rattle.js_parser_language.specs.Tokens.{StatementEnd, after_expression, head_of, tail_of}
 use Rattle.js_parser_language.specs.Flat.{edge}
-use Rattle.js_parser_language.specs.Well.{Context, function_body, declared_by}
+use Rattle.js_parser_language.specs.Well.{StatementContext, function_body, declared_by}
 use Rattle.js_tree.specs.Views.{expressions, statements, declarators}
 use Rattle.js_parser_language.specs.Kinds.{is_kind}
 use Rattle.js_parser_readers.specs.Reading.{stuck, Reader, ◌>>=◌, expect, expect_near, name_at, fresh_name, semicolon_at, elements, others, items, no_state, with_name, with_names}
 use Rattle.js_parser_readers.specs.Classes.{is_name}
 
 -- the parameters of a function and its body
-pub record Code : Type 0 where
+pub record ParametersAndBody : Type 0 where
   pub parameters : List Identifier
   pub body : Statements
 
@@ -25,11 +25,11 @@ pub record Below : Type 0 where
   pub operation : ℕ → Reader Expression
   pub unary : Reader Expression
   pub call : Reader Expression
-  pub statement : Context → Reader Statement
+  pub statement : StatementContext → Reader Statement
   -- a statement or a declaration of names that differ from these
-  pub item : Context → List Identifier → Reader Statement
-  pub block : Context → List Identifier → Reader Statements
-  pub function : Reader Code
+  pub item : StatementContext → List Identifier → Reader Statement
+  pub block : StatementContext → List Identifier → Reader Statements
+  pub function : Reader ParametersAndBody
 
 -- ---- lists of trees
 
@@ -64,13 +64,13 @@ abbrev pub with_declared : List Identifier → Statement → List Identifier
 with_declared taken s = with_names taken (declared_by s)
 
 -- statements up to what ends a list, that declare other names than these
-unfoldable pub items_at : Below → Context → List Identifier → Reader Statements
+unfoldable pub items_at : Below → StatementContext → List Identifier → Reader Statements
 items_at b context taken ts = do
   x ← items (λ names r. b.item context names r) with_declared (suc (length ts)) taken ts
   Ok (statements x.0, x.1)
 
 -- statements in braces
-unfoldable pub braces : Below → Context → List Identifier → Reader Statements
+unfoldable pub braces : Below → StatementContext → List Identifier → Reader Statements
 braces b context taken ts = do
   o ← expect kinds.LeftBrace ts
   x ← items_at b context taken o.1
@@ -78,7 +78,7 @@ braces b context taken ts = do
   Ok (x.0, c.1)
 
 -- the parameters of a function and its body
-unfoldable pub code_at : Below → Reader Code
+unfoldable pub code_at : Below → Reader ParametersAndBody
 code_at b ts = do
   ps ← parameters_at ts
   body ← braces b function_body (with_names [] ps.0) ps.1
@@ -140,53 +140,53 @@ ended_expression b ts = do
 -- ---- items
 
 -- a piece of a production: a token, a name, a tree, or a list of trees with what ends it
-pub data Item : Type 0 where
-  tok : TokenKind → Item
-  near : TokenKind → Item
-  a_name : Item
+pub data Piece : Type 0 where
+  tok : TokenKind → Piece
+  near : TokenKind → Piece
+  a_name : Piece
   -- this name
-  the_name : List ℕ → Item
-  an_assignment : Item
-  an_expression : Item
-  optional : TokenKind → Item
-  arguments : TokenKind → Item
-  ended : Item
-  an_end : End → Item
-  declared : Bool → List Identifier → Item
-  a_statement : Context → Item
-  a_block : Context → List Identifier → Item
-  in_braces : Context → List Identifier → Item
-  code : Item
+  the_name : List ℕ → Piece
+  an_assignment : Piece
+  an_expression : Piece
+  optional : TokenKind → Piece
+  arguments : TokenKind → Piece
+  ended : Piece
+  an_end : StatementEnd → Piece
+  declared : Bool → List Identifier → Piece
+  a_statement : StatementContext → Piece
+  a_block : StatementContext → List Identifier → Piece
+  in_braces : StatementContext → List Identifier → Piece
+  code : Piece
 
 -- the type of what is read for a piece
-abbrev pub Value : Item → Type 0
-Value (tok k) = Unit {0}
-Value (near k) = Unit {0}
-Value a_name = Identifier
-Value (the_name n) = Unit {0}
-Value an_assignment = Expression
-Value an_expression = Expression
-Value (optional k) = OptionalExpression
-Value (arguments k) = Expressions
-Value ended = Expression
-Value (an_end end) = Unit {0}
-Value (declared constant taken) = Declarators
-Value (a_statement context) = Statement
-Value (a_block context taken) = Statements
-Value (in_braces context taken) = Statements
-Value code = Code
+abbrev pub PieceValue : Piece → Type 0
+PieceValue (tok k) = Unit {0}
+PieceValue (near k) = Unit {0}
+PieceValue a_name = Identifier
+PieceValue (the_name n) = Unit {0}
+PieceValue an_assignment = Expression
+PieceValue an_expression = Expression
+PieceValue (optional k) = OptionalExpression
+PieceValue (arguments k) = Expressions
+PieceValue ended = Expression
+PieceValue (an_end end) = Unit {0}
+PieceValue (declared constant taken) = Declarators
+PieceValue (a_statement context) = Statement
+PieceValue (a_block context taken) = Statements
+PieceValue (in_braces context taken) = Statements
+PieceValue code = ParametersAndBody
 
 -- the types of what is read for some pieces, one after the other
-abbrev pub Values : List Item → Type 0
-Values [] = Unit {0}
-Values (i ∷ is) = Value i × Values is
+abbrev pub PieceValues : List Piece → Type 0
+PieceValues [] = Unit {0}
+PieceValues (i ∷ is) = PieceValue i × PieceValues is
 
 -- this name
 unfoldable pub expect_name : List ℕ → Reader (Unit {0})
 expect_name n ts = if is_name n (head_of ts) then Ok (tt, tail_of ts) else Err (stuck (length ts))
 
 -- what reads a piece
-abbrev pub item : Below → (i : Item) → Reader (Value i)
+abbrev pub item : Below → (i : Piece) → Reader (PieceValue i)
 item b (tok k) ts = expect k ts
 item b (near k) ts = expect_near k ts
 item b a_name ts = name_at ts
@@ -204,10 +204,10 @@ item b (in_braces context taken) ts = braces b context taken ts
 item b code ts = code_at b ts
 
 -- one after the other
-abbrev pub seq : Below → (is : List Item) → Reader (Values is)
+abbrev pub seq : Below → (is : List Piece) → Reader (PieceValues is)
 seq b [] ts = Ok (tt, ts)
 seq b (i ∷ is) ts = item b i ts >>= λ x. seq b is x.1 >>= λ y. Ok ((x.0, y.0), y.1)
 
 -- a form made from the values of a production
-abbrev pub made : {A : Type 0} → Below → (is : List Item) → (Values is → A) → Reader A
+abbrev pub made : {A : Type 0} → Below → (is : List Piece) → (PieceValues is → A) → Reader A
 made b is make ts = seq b is ts >>= λ x. Ok (make x.0, x.1)

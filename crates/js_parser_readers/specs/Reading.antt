@@ -3,7 +3,7 @@ use Rattle.std.specs.Prelude.{ℕ, zero, suc, Bool, true, false, List, [], ◌�
 use Rattle.js_lexer.specs.declared.token.TokenKind.{TokenKind}
 use Rattle.js_lexer.specs.declared.token.TokenKind.TheVariants as kinds
 use Rattle.js_tree.specs.Trees.{Identifier}
-use Rattle.js_parser_language.specs.Tokens.{Token, End, head_of, tail_of, is_on_line, is_word, absent}
+use Rattle.js_parser_language.specs.Tokens.{Token, StatementEnd, head_of, tail_of, is_on_line, is_word, absent}
 use Rattle.js_parser_language.specs.Well.{is_among}
 use Rattle.js_parser_language.specs.Kinds.{is_kind}
 
@@ -59,7 +59,7 @@ unfoldable pub word_at : Reader (List ℕ)
 word_at ts = if is_word_next (head_of ts) then Ok (text_of (head_of ts), tail_of ts) else Err (stuck (length ts))
 
 -- the semicolon of a statement that ends so, present or absent
-unfoldable pub semicolon_at : End → Reader (Unit {0})
+unfoldable pub semicolon_at : StatementEnd → Reader (Unit {0})
 semicolon_at end ts =
     if is_kind kinds.Semicolon (head_of ts) then Ok (tt, tail_of ts)
     else (if absent end (head_of ts) then Ok (tt, ts) else Err (stuck (length ts)))
@@ -67,24 +67,24 @@ semicolon_at end ts =
 -- ---- lists
 
 -- what comes after an element of a list that this token ends
-pub data After : Type 0 where
-  goes_on : After
-  ends : After
-  neither : After
+pub data AfterElement : Type 0 where
+  goes_on : AfterElement
+  ends : AfterElement
+  neither : AfterElement
 
 -- what it is where the token that ends the list comes, and where a comma does
-abbrev pub after_by : Bool → Bool → After
+abbrev pub after_by : Bool → Bool → AfterElement
 after_by true comma = ends
 after_by false true = goes_on
 after_by false false = neither
 
 -- what comes after an element, by the next token
-abbrev pub after : TokenKind → Option Token → After
+abbrev pub after : TokenKind → Option Token → AfterElement
 after closer o = after_by (is_kind closer o) (is_kind kinds.Comma o)
 
 -- A list with commas between its elements and the token that ends it, before which a comma may stand. Each element is
 -- read with a state that the elements before it made. The bound on the turns, here and below, is never too small.
-abbrev pub go_after : {A : Type 0} → Reader (List A) → After → Reader (List A)
+abbrev pub go_after : {A : Type 0} → Reader (List A) → AfterElement → Reader (List A)
 go_after go goes_on ts = go (tail_of ts)
 go_after go ends ts = Ok ([], tail_of ts)
 go_after go neither ts = Err (stuck (length ts))

@@ -8,7 +8,7 @@ ghost use Rattle.js_parser_readers.specs.Heads.{edge_view, end_view};
 ghost use Rattle.js_parser_readers.specs.Reading as reading;
 ghost use Rattle.js_parser_readers.specs.Views.{tokens_view};
 
-use crate::classes::statements::{Edge, End, is_absent};
+use crate::classes::statements::{ExpressionEnd, StatementEnd, is_absent};
 use crate::fault::ParseError;
 use crate::token::{is_next, tail};
 use js_lexer::token::{Token, TokenKind};
@@ -21,7 +21,7 @@ use js_tree::tree::{Declarators, Expr};
 /// `Syntax` at the next token where the semicolon is absent and may not be.
 #[tactic(auto, unfolding(crate::specs::Reading::semicolon_at))]
 pub fn semicolon_at<'t, 's>(
-    end: End,
+    end: StatementEnd,
     tokens: &'t [Token<'s>],
 ) -> Result<&'t [Token<'s>], ParseError>
     ensures { Gives (λ rest. (tt, tokens_view rest.now)) result (reading.semicolon_at (end_view end) (tokens_view tokens.now)) }
@@ -37,12 +37,12 @@ pub fn semicolon_at<'t, 's>(
 
 /// What the last token of an expression ends.
 #[tactic(auto, using(js_tree::proofs::ViewLemmas::expression_laws))]
-pub fn edge_of(tree: &Expr) -> Edge
+pub fn edge_of(tree: &Expr) -> ExpressionEnd
     ensures { edge_view result ≡ flat.edge (expression_view tree.now) }
 {
     match tree {
-        Expr::ArrowBlock { .. } => Edge::Braces,
-        Expr::Postfix { .. } => Edge::Update,
+        Expr::ArrowBlock { .. } => ExpressionEnd::Braces,
+        Expr::Postfix { .. } => ExpressionEnd::Update,
         Expr::Arrow { body, .. } => edge_of(body),
         Expr::Unary { operand, .. } => edge_of(operand),
         Expr::Binary { right, .. } => edge_of(right),
@@ -50,27 +50,28 @@ pub fn edge_of(tree: &Expr) -> Edge
         Expr::Assign { value, .. } => edge_of(value),
         Expr::Comma { expressions, .. } => match expressions.items.last() {
             Some(last) => edge_of(last),
-            None => Edge::Plain,
+            None => ExpressionEnd::Plain,
         },
         Expr::This { .. } | Expr::Name { .. } | Expr::Number { .. } | Expr::String { .. } => {
-            Edge::Plain
+            ExpressionEnd::Plain
         }
-        Expr::Boolean { .. } | Expr::Null { .. } | Expr::Array { .. } => Edge::Plain,
-        Expr::Object { .. } | Expr::Function { .. } | Expr::Parenthesized { .. } => Edge::Plain,
-        Expr::Member { .. } | Expr::Index { .. } | Expr::Call { .. } => Edge::Plain,
-        Expr::Prefix { .. } => Edge::Plain,
+        Expr::Boolean { .. } | Expr::Null { .. } | Expr::Array { .. } => ExpressionEnd::Plain,
+        Expr::Object { .. } | Expr::Function { .. } | Expr::Parenthesized { .. } =>
+            ExpressionEnd::Plain,
+        Expr::Member { .. } | Expr::Index { .. } | Expr::Call { .. } => ExpressionEnd::Plain,
+        Expr::Prefix { .. } => ExpressionEnd::Plain,
     }
 }
 
 /// What a declaration of these names ends in.
-pub fn end_of(declarators: &Declarators) -> End
+pub fn end_of(declarators: &Declarators) -> StatementEnd
     ensures { end_view result ≡ flat.end_of_declarators (declarators_view declarators.now) }
 {
     match declarators.items.last() {
         Some(last) => match &last.initializer {
-            Some(tree) => End::Expression(edge_of(tree)),
-            None => End::Word,
+            Some(tree) => StatementEnd::Expression(edge_of(tree)),
+            None => StatementEnd::Word,
         },
-        None => End::Word,
+        None => StatementEnd::Word,
     }
 }

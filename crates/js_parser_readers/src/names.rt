@@ -8,7 +8,7 @@ ghost use Rattle.js_parser_readers.specs.Reading as reading;
 ghost use Rattle.js_parser_readers.specs.Reading.{with_names};
 ghost use Rattle.js_parser_readers.specs.Views.{tokens_view};
 
-use crate::classes::lists::{After, after_of};
+use crate::classes::lists::{AfterElement, after_of};
 use crate::classes::statements::is_name;
 use crate::fault::ParseError;
 use crate::name_set::NameSet;
@@ -16,7 +16,7 @@ use crate::token::{expect, is_next, tail};
 use crate::words::name_at;
 use cdp_text::units::Units;
 use js_lexer::token::{Token, TokenKind};
-use js_tree::names::Names;
+use js_tree::names::ParameterNames;
 use std::alloc::Global;
 
 /// A name that differs from these, lent from its source, and the tokens after it.
@@ -67,7 +67,7 @@ pub fn expect_name<'t, 's>(
 pub fn parameters_at<'t, 's>(
     alloc: Global,
     tokens: &'t [Token<'s>],
-) -> Result<(Names, NameSet<'s>, &'t [Token<'s>]), ParseError>
+) -> Result<(ParameterNames, NameSet<'s>, &'t [Token<'s>]), ParseError>
     ensures gives { Gives (λ x. (x.0, tokens_view x.2.now)) result (productions.parameters_at (tokens_view tokens.now)) }
     ensures names { IfOk result (λ x. x.1 ≡ with_names [] x.0) }
 {
@@ -79,7 +79,7 @@ pub fn parameters_at<'t, 's>(
 fn parameters_before<'t, 's>(
     alloc: Global,
     tokens: &'t [Token<'s>],
-) -> Result<(Names, NameSet<'s>, &'t [Token<'s>]), ParseError>
+) -> Result<(ParameterNames, NameSet<'s>, &'t [Token<'s>]), ParseError>
     ensures gives { Gives (λ x. (x.0, tokens_view x.2.now)) result (reading.elements reading.fresh_name reading.with_name kinds.RightParenthesis (suc (length (tokens_view tokens.now))) [] (tokens_view tokens.now)) }
     ensures names { IfOk result (λ x. x.1 ≡ with_names [] x.0) }
 {
@@ -88,15 +88,15 @@ fn parameters_before<'t, 's>(
     let mut names = NameSet::new(alloc);
     'parameters: loop {
         if is_next(TokenKind::RightParenthesis, rest) {
-            return Ok((Names::from_vec(parameters), names, tail(rest)));
+            return Ok((ParameterNames::from_vec(parameters), names, tail(rest)));
         }
         let (name, later) = fresh_name(&names, rest)?;
         parameters.push(Units::from_slice(alloc, name)?)?;
         names.insert(name)?;
         match after_of(TokenKind::RightParenthesis, later) {
-            Some(After::GoesOn) => rest = tail(later),
-            Some(After::Ends) => {
-                return Ok((Names::from_vec(parameters), names, tail(later)));
+            Some(AfterElement::GoesOn) => rest = tail(later),
+            Some(AfterElement::Ends) => {
+                return Ok((ParameterNames::from_vec(parameters), names, tail(later)));
             }
             None => return Err(ParseError::Syntax { left: later.len() }),
         }

@@ -10,13 +10,13 @@ ghost use Rattle.js_parser_readers.specs.Views.{tokens_view};
 ghost use Rattle.js_parser_language.specs.Places.{stands, node_of};
 ghost use Rattle.js_parser_readers.specs.Placed.{Placed};
 
-use crate::classes::lists::{After, after_of, is_word};
+use crate::classes::lists::{AfterElement, after_of, is_word};
 use crate::fault::ParseError;
 use crate::nodes::Nodes;
 use crate::token::{expect, is_next, tail};
 use cdp_text::units::Units;
 use js_lexer::token::{Token, TokenKind};
-use js_tree::names::Names;
+use js_tree::names::ParameterNames;
 use js_tree::node::NodeId;
 use std::alloc::{AllocError, Global};
 
@@ -101,20 +101,20 @@ pub fn names_before<'t, 's>(
         let (name, later) = name_at(rest)?;
         names.push(name)?;
         match after_of(TokenKind::RightParenthesis, later) {
-            Some(After::GoesOn) => rest = tail(later),
-            Some(After::Ends) => return Ok((names, tail(later))),
+            Some(AfterElement::GoesOn) => rest = tail(later),
+            Some(AfterElement::Ends) => return Ok((names, tail(later))),
             None => return Err(ParseError::Syntax { left: later.len() }),
         }
     }
 }
 
 /// Copies of names, in order.
-pub fn names_of(alloc: Global, names: &[&[u16]]) -> Result<Names, AllocError>
+pub fn names_of(alloc: Global, names: &[&[u16]]) -> Result<ParameterNames, AllocError>
     ensures { IfOk result (λ copies. copies ≡ texts names.now) }
 {
     let mut copies = Vec::new(alloc);
     for name in names {
         copies.push(Units::from_slice(alloc, name)?)?;
     }
-    Ok(Names::from_vec(copies))
+    Ok(ParameterNames::from_vec(copies))
 }

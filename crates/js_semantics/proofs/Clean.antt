@@ -4,10 +4,10 @@
 -- functions differ, is not proved.
 use Rattle.std.specs.Prelude.{ℕ, ◌+◌, ◌*◌, true, false, List, [], ◌∷◌, Option, Some, None, decimal}
 use Rattle.js_tree.specs.Trees as trees
-use Rattle.js_tree.specs.Trees.{Expression, Expressions, OptionalExpression, Key, Property, Properties, Statement, Statements, Handler, Finalizer}
+use Rattle.js_tree.specs.Trees.{Expression, Expressions, OptionalExpression, Key, PropertyDefinition, PropertyDefinitions, Statement, Statements, Handler, Finalizer}
 use Rattle.js_heap.specs.declared.value.Value.TheVariants as values
 use Rattle.js_semantics.specs.Terms.{Term, Terms, end, more}
-use Rattle.js_semantics.specs.Makers.{parameter_names, Made, Item, Items, PropertyKey, fixed_key, computed_key, PropertyMade, value_property, method_property, DeclaratorMade, CatchMade, value_made, number_made, string_made, this_made, name_made, array_made, parenthesized_made, member_made, index_made, assign_made, update_made, unary_made, binary_made, conditional_made, comma_made, call_made, function_made, returned_body, arrow_made, object_made, no_items, and_items, block_item, empty_item, expression_item, lexical_item, if_item, while_item, do_while_item, for_item, for_lexical_item, for_of_item, continue_item, break_item, return_item, throw_item, try_item, debugger_item, function_item, script_term}
+use Rattle.js_semantics.specs.Makers.{parameter_names, MadeExpression, MadeStatement, MadeStatements, PropertyKey, fixed_key, computed_key, MadeProperty, value_property, method_property, MadeDeclarator, MadeCatch, value_made, number_made, string_made, this_made, name_made, array_made, parenthesized_made, member_made, index_made, assign_made, update_made, unary_made, binary_made, conditional_made, comma_made, call_made, function_made, returned_body, arrow_made, object_made, no_items, and_items, block_item, empty_item, expression_item, lexical_item, if_item, while_item, do_while_item, for_item, for_lexical_item, for_of_item, continue_item, break_item, return_item, throw_item, try_item, debugger_item, function_item, script_term}
 
 -- the numbers of a node's parts: the node's own times five and one to four more, so that nodes on different paths
 -- differ
@@ -16,7 +16,7 @@ part_number n i = n * 5 + i
 
 -- what is made of each type of clean tree, its node having this number
 abbrev mutual
-  pub expression_made : ℕ → Expression → Made
+  pub expression_made : ℕ → Expression → MadeExpression
   expression_made n trees.this = this_made n
   expression_made n (trees.name x) = name_made n x
   expression_made n (trees.number v) = number_made n v
@@ -48,12 +48,12 @@ abbrev mutual
       assign_made n o (expression_made (part_number n 1) t) (expression_made (part_number n 2) e)
   expression_made n (trees.comma es) = comma_made n (expressions_made (part_number n 1) es)
 
-  pub expressions_made : ℕ → Expressions → List Made
+  pub expressions_made : ℕ → Expressions → List MadeExpression
   expressions_made n trees.no_expressions = []
   expressions_made n (trees.an_expression e es) =
       expression_made (part_number n 1) e ∷ expressions_made (part_number n 2) es
 
-  pub optional_made : ℕ → OptionalExpression → Option Made
+  pub optional_made : ℕ → OptionalExpression → Option MadeExpression
   optional_made n trees.omitted = None
   optional_made n (trees.present e) = Some (expression_made n e)
 
@@ -63,26 +63,26 @@ abbrev mutual
   key_made n (trees.number_key v) = fixed_key (decimal v)
   key_made n (trees.computed_key e) = computed_key (expression_made n e)
 
-  pub property_made : ℕ → Property → PropertyMade
+  pub property_made : ℕ → PropertyDefinition → MadeProperty
   property_made n (trees.shorthand x) = value_property (fixed_key x) (name_made n x)
   property_made n (trees.value k e) =
       value_property (key_made (part_number n 1) k) (expression_made (part_number n 2) e)
   property_made n (trees.method k ps body) =
       method_property n (key_made (part_number n 1) k) ps (statements_made (part_number n 2) body)
 
-  pub properties_made : ℕ → Properties → List PropertyMade
+  pub properties_made : ℕ → PropertyDefinitions → List MadeProperty
   properties_made n trees.no_properties = []
   properties_made n (trees.a_property p ps) = property_made (part_number n 1) p ∷ properties_made (part_number n 2) ps
 
-  pub declarator_made : ℕ → trees.Declarator → DeclaratorMade
+  pub declarator_made : ℕ → trees.Declarator → MadeDeclarator
   declarator_made n (trees.declarator x e) = record { name = x; initializer = optional_made n e }
 
-  pub declarators_made : ℕ → trees.Declarators → List DeclaratorMade
+  pub declarators_made : ℕ → trees.Declarators → List MadeDeclarator
   declarators_made n trees.no_declarators = []
   declarators_made n (trees.a_declarator d ds) =
       declarator_made (part_number n 1) d ∷ declarators_made (part_number n 2) ds
 
-  pub statement_made : ℕ → Statement → Item
+  pub statement_made : ℕ → Statement → MadeStatement
   statement_made n (trees.block ss) = block_item (statements_made (part_number n 1) ss)
   statement_made n (trees.lexical constant ds) = lexical_item n constant (declarators_made (part_number n 1) ds)
   statement_made n trees.empty = empty_item
@@ -114,15 +114,15 @@ abbrev mutual
   statement_made n trees.debugger = debugger_item n
   statement_made n (trees.declared_function x ps body) = function_item n x ps (statements_made (part_number n 1) body)
 
-  pub handler_made : ℕ → Handler → Option CatchMade
+  pub handler_made : ℕ → Handler → Option MadeCatch
   handler_made n trees.no_catch = None
   handler_made n (trees.catch x ss) = Some (record { name = x; body = statements_made n ss })
 
-  pub finalizer_made : ℕ → Finalizer → Option Items
+  pub finalizer_made : ℕ → Finalizer → Option MadeStatements
   finalizer_made n trees.no_finally = None
   finalizer_made n (trees.finally ss) = Some (statements_made n ss)
 
-  pub statements_made : ℕ → Statements → Items
+  pub statements_made : ℕ → Statements → MadeStatements
   statements_made n trees.no_statements = no_items
   statements_made n (trees.a_statement s ss) =
       and_items (statement_made (part_number n 1) s) (statements_made (part_number n 2) ss)

@@ -19,7 +19,7 @@ use Rattle.js_heap.proofs.KeepLemmas.{stays-same, stays-append, keeps-same, keep
 use Rattle.js_semantics.specs.Terms.{script_source, kept_source, Term}
 use Rattle.js_semantics.specs.State.{State}
 use Rattle.js_semantics.specs.Functions.{Program, FunctionCode, same_source, function_in, function_at}
-use Rattle.js_semantics.specs.Makers.{Made}
+use Rattle.js_semantics.specs.Makers.{MadeExpression}
 use Rattle.js_semantics.specs.Run.{ended, threw, by_effect, by_full, Run, running, over, run_of, state_of, steps_in, literals}
 use Rattle.js_semantics.specs.Evaluation.{ScratchSpace, copied_world, after_try, keep_source, make_literals, place_literals, Json, json_null, json_bool, json_number, json_string, json_array, json_object, Jsons, no_jsons, a_json, Members, no_members, a_member, object_value, make_json, make_jsons, make_members, Argument, given, made_of, make_argument, make_arguments, budget, Answer, answer_of, evaluation_state, answered, next_kept, kept_term, kept_tree, with_source, prepared, evaluated, evaluate, call_with_values, with_arguments, evaluate_call}
 use Rattle.js_semantics.specs.Laws.{Follows, Undisturbed, AnswerKeeps}
@@ -134,7 +134,7 @@ arguments-keep w (a ∷ rest) =
     (λ x v. then_keeps v (make_arguments v rest) (λ xs u. fine (x ∷ xs) u) (arguments-keep v rest)
     (λ xs u. keeps-same u))
 
-prepared-keeps : (w : World) (x : ScratchSpace) (source : List ℕ) (order : List (List ℕ)) (e : Made)
+prepared-keeps : (w : World) (x : ScratchSpace) (source : List ℕ) (order : List (List ℕ)) (e : MadeExpression)
     → AfterFine (prepared w x source order e) (λ u v. Keeps (copied_world w x) v)
 prepared-keeps w x source order e =
     let c : World = copied_world w x in
@@ -175,14 +175,14 @@ answered-keeps w x effect k h rest = tt
 answered-keeps w x (full what) k h rest = tt
 
 pub evaluate-keeps : (p : Program) (w : World) (x : ScratchSpace) (scope : Addr) (receiver : Value) (source : List ℕ)
-    (order : List (List ℕ)) (e : Made)
+    (order : List (List ℕ)) (e : MadeExpression)
     → AnswerKeeps w x (evaluate p w x scope receiver source order e)
 evaluate-keeps p w x scope receiver source order e =
     answered-keeps w x (prepared w x source order e) (evaluated (with_source p x e) scope receiver)
     (prepared-keeps w x source order e)
     (λ v u k. evaluated-keeps (with_source p x e) scope receiver w x v u k)
 
-pub call-keeps : (p : Program) (w : World) (x : ScratchSpace) (source : List ℕ) (order : List (List ℕ)) (callee : Made)
+pub call-keeps : (p : Program) (w : World) (x : ScratchSpace) (source : List ℕ) (order : List (List ℕ)) (callee : MadeExpression)
     (receiver : Value) (given_args : List Argument)
     → AnswerKeeps w x (evaluate_call p w x source order callee receiver given_args)
 call-keeps p w x source order callee receiver given_args =
@@ -202,13 +202,13 @@ found_if : (b : Bool) (o q : Option FunctionCode) → b ≡ true → (if b then 
 found_if true o q e = refl
 found_if false o q e = cc
 
-pub own-found : (p : Program) (x : ScratchSpace) (e : Made) (node : ℕ)
+pub own-found : (p : Program) (x : ScratchSpace) (e : MadeExpression) (node : ℕ)
     → function_at (with_source p x e) (kept_source (next_kept x)) node ≡ function_in node (kept_tree (next_kept x) e)
 own-found p x e node =
     found_if (same_source (kept_source (next_kept x)) (kept_source (next_kept x)))
     (function_in node (kept_tree (next_kept x) e)) (function_at p (kept_source (next_kept x)) node)
     (eq-eqb (length x.cells) (length x.cells) refl)
 
-pub others-found : (p : Program) (x : ScratchSpace) (e : Made) (number node : ℕ)
+pub others-found : (p : Program) (x : ScratchSpace) (e : MadeExpression) (number node : ℕ)
     → function_at (with_source p x e) (script_source number) node ≡ function_at p (script_source number) node
 others-found p x e number node = refl

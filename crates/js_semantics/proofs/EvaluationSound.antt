@@ -21,7 +21,7 @@ use Rattle.js_heap.proofs.SoundLemmas.{sound-value, sound-scope, sound_propertie
 use Rattle.js_semantics.specs.Terms.{Term}
 use Rattle.js_semantics.specs.State.{State}
 use Rattle.js_semantics.specs.Functions.{Program}
-use Rattle.js_semantics.specs.Makers.{Context, Made}
+use Rattle.js_semantics.specs.Makers.{LoweringContext, MadeExpression}
 use Rattle.js_semantics.specs.Untouched.{IsUntouched}
 use Rattle.js_semantics.specs.Run.{ended, threw, by_effect, by_full, Run, running, over, run_of, steps_in, literals}
 use Rattle.js_semantics.specs.Evaluation.{ScratchSpace, copied_world, after_try, keep_source, make_literals, place_literals, Json, json_null, json_bool, json_number, json_string, json_array, json_object, Jsons, no_jsons, a_json, Members, no_members, a_member, object_value, make_json, make_jsons, make_members, Argument, given, made_of, make_argument, make_arguments, budget, Answer, answer_of, evaluation_state, answered, next_kept, kept_term, kept_tree, with_source, prepared, evaluated, evaluate, call_with_values, with_arguments, evaluate_call}
@@ -175,7 +175,7 @@ source-good k w us s e =
       behind k w r us (Some k) refl e,
     )
 
-abbrev IsTree : ScratchSpace → Made → World → Term → Type 0
+abbrev IsTree : ScratchSpace → MadeExpression → World → Term → Type 0
 IsTree x e z t = SoundTerm z t × SoundTerm z (kept_tree (next_kept x) e)
 
 -- refused as the first call is, else the second one's answer in the same world
@@ -187,10 +187,10 @@ second-good w effect u P h = tt
 second-good w (full what) u P h = tt
 
 -- what is made holds no address, wherever it stands
-abbrev pub MadeUntouched : Made → Type 0
-MadeUntouched e = (c : Context) → IsUntouched (e.term c)
+abbrev pub MadeUntouched : MadeExpression → Type 0
+MadeUntouched e = (c : LoweringContext) → IsUntouched (e.term c)
 
-placed-good : (k : ℕ) (x : ScratchSpace) (order : List (List ℕ)) (e : Made) (v : World)
+placed-good : (k : ℕ) (x : ScratchSpace) (order : List (List ℕ)) (e : MadeExpression) (v : World)
     → MadeUntouched e
     → IsSound v
     → v.start ≡ Some k
@@ -210,7 +210,7 @@ placed-good k x order e v f s q n =
     (λ i low high. h i (omega (arith, n, low)) (omega (arith, n, high))) in
     (t_sound, later-same z, (tree, tree)))
 
-prepared-good : (w : World) (x : ScratchSpace) (source : List ℕ) (order : List (List ℕ)) (e : Made)
+prepared-good : (w : World) (x : ScratchSpace) (source : List ℕ) (order : List (List ℕ)) (e : MadeExpression)
     → MadeUntouched e
     → IsSound (copied_world w x)
     → Good (copied_world w x) (prepared w x source order e) (IsTree x e)
@@ -331,7 +331,7 @@ answered-sound w p effect k P h rest = tt
 answered-sound w p (full what) k P h rest = tt
 
 -- what an evaluation begins in, in a later world, with its own source
-ready-later : (p : Program) (w v : World) (scope : Addr) (receiver : Value) (x : ScratchSpace) (e : Made)
+ready-later : (p : Program) (w v : World) (scope : Addr) (receiver : Value) (x : ScratchSpace) (e : MadeExpression)
     → IsReady p w scope receiver
     → IsSound v
     → Later w v
@@ -346,7 +346,7 @@ ready-later p w v scope receiver x e h s l tree = record {
 }
 
 pub evaluate-sound : (p : Program) (w : World) (x : ScratchSpace) (scope : Addr) (receiver : Value) (source : List ℕ)
-    (order : List (List ℕ)) (e : Made)
+    (order : List (List ℕ)) (e : MadeExpression)
     → MadeUntouched e
     → IsReady p (copied_world w x) scope receiver
     → SoundAnswer (with_source p x e) (evaluate p w x scope receiver source order e)
@@ -357,7 +357,7 @@ evaluate-sound p w x scope receiver source order e f h =
     (prepared-good w x source order e f h.world)
     (λ v u s l k. evaluated-sound q scope receiver v u (ready-later p c v scope receiver x e h s l k.1) k.0)
 
-called-good : (w : World) (x : ScratchSpace) (source : List ℕ) (order : List (List ℕ)) (e : Made) (receiver : Value)
+called-good : (w : World) (x : ScratchSpace) (source : List ℕ) (order : List (List ℕ)) (e : MadeExpression) (receiver : Value)
     (args : List Argument)
     → MadeUntouched e
     → IsSound (copied_world w x)
@@ -381,7 +381,7 @@ called-good w x source order e receiver args f s h a =
     )))
 
 pub evaluate_call-sound : (p : Program) (w : World) (x : ScratchSpace) (source : List ℕ) (order : List (List ℕ))
-    (e : Made) (receiver : Value) (args : List Argument)
+    (e : MadeExpression) (receiver : Value) (args : List Argument)
     → MadeUntouched e
     → IsReady p (copied_world w x) script_scope receiver
     → SoundArguments (copied_world w x) args

@@ -14,7 +14,7 @@ use Rattle.js_tree.specs.Trees.{Expression, Statements}
 use Rattle.js_tree.specs.Views.{expression_view}
 use Rattle.js_semantics.specs.Terms.{Mark, to_name, read, literal, Term, done, standing, part, Terms, end, more, one, joined}
 use Rattle.js_semantics.specs.Run.{literals, literals_of}
-use Rattle.js_semantics.specs.Makers.{Context, Made, Items, unnamed, naming, within, plain, plains, assigned_to, compounded, updated, deleted, type_of, operator_of, assignment, unary_term, binary_term, comma_term, call_term, function_term, PropertyKey, fixed_key, computed_key, value_property, method_property, Parts, property_parts, properties_parts, block_term, initializer_terms, declarators_terms, optional_term, optional_terms, CatchMade, caught, finally_term}
+use Rattle.js_semantics.specs.Makers.{LoweringContext, MadeExpression, MadeStatements, unnamed, naming, within, plain, plains, assigned_to, compounded, updated, deleted, type_of, operator_of, assignment, unary_term, binary_term, comma_term, call_term, function_term, PropertyKey, fixed_key, computed_key, value_property, method_property, Parts, property_parts, properties_parts, block_term, initializer_terms, declarators_terms, optional_term, optional_terms, MadeCatch, caught, finally_term}
 use Rattle.js_semantics.specs.Sources.{expression_source}
 use Rattle.js_semantics.specs.Literals.{expression_literals, expressions_literals, optional_literals, key_literals, property_literals, properties_literals, declarator_literals, declarators_literals, statement_literals, declared_literals, handler_literals, finalizer_literals, statements_literals}
 use Rattle.js_tree.specs.Targets.{is_target}
@@ -230,22 +230,22 @@ call-becomes m place node (part f now later) args h =
 
 -- ---- what is made of the parts of a form
 
-abbrev made_amount : (List ℕ → ℕ) → Option Made → Context → ℕ
+abbrev made_amount : (List ℕ → ℕ) → Option MadeExpression → LoweringContext → ℕ
 made_amount m None c = 0
 made_amount m (Some e) c = amount m (e.term c)
 
-abbrev key_amount : (List ℕ → ℕ) → PropertyKey → Context → ℕ
+abbrev key_amount : (List ℕ → ℕ) → PropertyKey → LoweringContext → ℕ
 key_amount m (fixed_key k) c = 0
 key_amount m (computed_key e) c = amount m (e.term c)
 
-abbrev items_amount : (List ℕ → ℕ) → Items → Context → ℕ
+abbrev items_amount : (List ℕ → ℕ) → MadeStatements → LoweringContext → ℕ
 items_amount m is c = amounts m (is.terms c) + amounts m (is.functions c)
 
-abbrev handler_amount : (List ℕ → ℕ) → Option CatchMade → Context → ℕ
+abbrev handler_amount : (List ℕ → ℕ) → Option MadeCatch → LoweringContext → ℕ
 handler_amount m None c = 0
 handler_amount m (Some h) c = items_amount m h.body c
 
-abbrev finalizer_amount : (List ℕ → ℕ) → Option Items → Context → ℕ
+abbrev finalizer_amount : (List ℕ → ℕ) → Option MadeStatements → LoweringContext → ℕ
 finalizer_amount m None c = 0
 finalizer_amount m (Some f) c = items_amount m f c
 
@@ -254,63 +254,63 @@ parts_amount m p = amounts m p.now + amounts m p.later
 
 abbrev counting : (List ℕ → ℕ) → Relations
 counting m = record {
-  expression = λ e x. (c : Context) → Counts m (e.term c) x;
-  expressions = λ es xs. (c : Context) → amounts m (plains es c) ≡ total m (expressions_literals xs);
-  optional = λ e x. (c : Context) → made_amount m e c ≡ total m (optional_literals x);
-  key = λ k x. (c : Context) → key_amount m k c ≡ total m (key_literals x);
+  expression = λ e x. (c : LoweringContext) → Counts m (e.term c) x;
+  expressions = λ es xs. (c : LoweringContext) → amounts m (plains es c) ≡ total m (expressions_literals xs);
+  optional = λ e x. (c : LoweringContext) → made_amount m e c ≡ total m (optional_literals x);
+  key = λ k x. (c : LoweringContext) → key_amount m k c ≡ total m (key_literals x);
   property =
-      λ e x. (c : Context) (p : Parts)
+      λ e x. (c : LoweringContext) (p : Parts)
       → parts_amount m (property_parts e c p) ≡ total m (property_literals x) + parts_amount m p;
-  properties = λ es xs. (c : Context) → parts_amount m (properties_parts es c) ≡ total m (properties_literals xs);
+  properties = λ es xs. (c : LoweringContext) → parts_amount m (properties_parts es c) ≡ total m (properties_literals xs);
   declarator =
-      λ d x. (c : Context) → amounts m (initializer_terms d.name d.initializer c) ≡ total m (declarator_literals x);
-  declarators = λ ds xs. (c : Context) → amounts m (declarators_terms ds c) ≡ total m (declarators_literals xs);
+      λ d x. (c : LoweringContext) → amounts m (initializer_terms d.name d.initializer c) ≡ total m (declarator_literals x);
+  declarators = λ ds xs. (c : LoweringContext) → amounts m (declarators_terms ds c) ≡ total m (declarators_literals xs);
   statement =
-      λ i x. ((c : Context) → amount m (i.term c) ≡ total m (statement_literals x))
-      × ((c : Context) → amounts m (i.functions c) ≡ total m (declared_literals x));
-  handler = λ h x. (c : Context) → handler_amount m h c ≡ total m (handler_literals x);
-  finalizer = λ f x. (c : Context) → finalizer_amount m f c ≡ total m (finalizer_literals x);
-  statements = λ is xs. (c : Context) → items_amount m is c ≡ total m (statements_literals xs);
+      λ i x. ((c : LoweringContext) → amount m (i.term c) ≡ total m (statement_literals x))
+      × ((c : LoweringContext) → amounts m (i.functions c) ≡ total m (declared_literals x));
+  handler = λ h x. (c : LoweringContext) → handler_amount m h c ≡ total m (handler_literals x);
+  finalizer = λ f x. (c : LoweringContext) → finalizer_amount m f c ≡ total m (finalizer_literals x);
+  statements = λ is xs. (c : LoweringContext) → items_amount m is c ≡ total m (statements_literals xs);
 }
 
-function-amount : (m : List ℕ → ℕ) (node : ℕ) (n : Option (List ℕ)) (ps : List (List ℕ)) (body : Items) (c : Context)
+function-amount : (m : List ℕ → ℕ) (node : ℕ) (n : Option (List ℕ)) (ps : List (List ℕ)) (body : MadeStatements) (c : LoweringContext)
     → Becomes m (function_term node n ps body c) (items_amount m body (within 0 c))
 function-amount m node (Some n) ps body c = record { amounts_to = omega arith; no_read = refl }
 function-amount m node None ps body c = record { amounts_to = omega arith; no_read = refl }
 
-initializer-amount : (m : List ℕ → ℕ) (n : List ℕ) (e : Option Made) (c : Context)
+initializer-amount : (m : List ℕ → ℕ) (n : List ℕ) (e : Option MadeExpression) (c : LoweringContext)
     → amounts m (initializer_terms n e c) ≡ made_amount m e (naming n c)
 initializer-amount m n None c = refl
 initializer-amount m n (Some e) c = plus_zero (amount m (e.term (naming n c)))
 
-optional-amount : (m : List ℕ → ℕ) (e : Option Made) (c : Context) (v : Value)
+optional-amount : (m : List ℕ → ℕ) (e : Option MadeExpression) (c : LoweringContext) (v : Value)
     → amount m (optional_term e c (done v)) ≡ made_amount m e (unnamed c)
 optional-amount m None c v = refl
 optional-amount m (Some e) c v = refl
 
-optional-amounts : (m : List ℕ → ℕ) (e : Option Made) (c : Context)
+optional-amounts : (m : List ℕ → ℕ) (e : Option MadeExpression) (c : LoweringContext)
     → amounts m (optional_terms e c) ≡ made_amount m e (unnamed c)
 optional-amounts m None c = refl
 optional-amounts m (Some e) c = plus_zero (amount m (e.term (unnamed c)))
 
-caught-amount : (m : List ℕ → ℕ) (h : Option CatchMade) (t : Term) (c : Context)
+caught-amount : (m : List ℕ → ℕ) (h : Option MadeCatch) (t : Term) (c : LoweringContext)
     → amount m (caught h t c) ≡ amount m t + handler_amount m h c
 caught-amount m None t c = omega arith
 caught-amount m (Some h) t c = omega arith
 
-finally-amount : (m : List ℕ → ℕ) (f : Option Items) (t : Term) (c : Context)
+finally-amount : (m : List ℕ → ℕ) (f : Option MadeStatements) (t : Term) (c : LoweringContext)
     → amount m (finally_term f t c) ≡ amount m t + finalizer_amount m f c
 finally-amount m None t c = omega arith
 finally-amount m (Some f) t c = omega arith
 
-try-amount : (m : List ℕ → ℕ) (b : Items) (h : Option CatchMade) (f : Option Items) (c : Context)
+try-amount : (m : List ℕ → ℕ) (b : MadeStatements) (h : Option MadeCatch) (f : Option MadeStatements) (c : LoweringContext)
     → amount m (finally_term f (caught h (block_term b c) c) c)
     ≡ items_amount m b c + handler_amount m h c + finalizer_amount m f c
 try-amount m b h f c =
     omega (arith, finally-amount m f (caught h (block_term b c) c) c, caught-amount m h (block_term b c) c)
 
 -- the parts before a key, and the key with its value or method
-value-amount : (m : List ℕ → ℕ) (k : PropertyKey) (e : Made) (x : trees.Key) (y : Expression)
+value-amount : (m : List ℕ → ℕ) (k : PropertyKey) (e : MadeExpression) (x : trees.Key) (y : Expression)
     → (counting m).key k x
     → (counting m).expression e y
     → (counting m).property (value_property k e) (trees.value x y)
@@ -320,7 +320,7 @@ value-amount m (computed_key k) e x y h i c p =
     let j = i (unnamed c) in
     omega (arith, h (unnamed c), j.counted, total-append m (key_literals x) (expression_literals y))
 
-method-amount : (m : List ℕ → ℕ) (node : ℕ) (k : PropertyKey) (ps : List (List ℕ)) (body : Items) (x : trees.Key)
+method-amount : (m : List ℕ → ℕ) (node : ℕ) (k : PropertyKey) (ps : List (List ℕ)) (body : MadeStatements) (x : trees.Key)
     (xs : Statements)
     → (counting m).key k x
     → (counting m).statements body xs
@@ -576,7 +576,7 @@ keeps-counting m = record {
       );
 }
 
-pub expression-counted : (m : List ℕ → ℕ) (e : Expr) (c : Context)
+pub expression-counted : (m : List ℕ → ℕ) (e : Expr) (c : LoweringContext)
     → total m (literals ((expression_source e).term c)) ≡ total m (expression_literals (expression_view e))
 expression-counted m e c =
     let j = expression-related (counting m) (keeps-counting m) e c in

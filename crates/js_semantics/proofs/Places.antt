@@ -7,7 +7,7 @@ use Rattle.js_heap.specs.declared.value.Value.TheVariants as values
 use Rattle.js_heap.specs.BuiltIns.{script_scope}
 use Rattle.js_semantics.specs.Terms.{Terms, one, Source, script_source}
 use Rattle.js_semantics.specs.State.{Frame, State}
-use Rattle.js_semantics.specs.Makers.{Items, number_made, name_made, member_made, call_made, items_of, no_items, expression_item, return_item, function_item, script_term}
+use Rattle.js_semantics.specs.Makers.{MadeStatements, number_made, name_made, member_made, call_made, items_of, no_items, expression_item, return_item, function_item, script_term}
 use Rattle.js_semantics.proofs.Clean.{clean_script, clean_scripts}
 use Rattle.js_semantics.specs.Run.{Run, running, over, plain, threw}
 use Rattle.js_semantics.specs.Frames.{offset_of, at, StandingThrow, thrown, frames, Listed, as_block, as_catch, as_local, as_closure, as_script, as_global, scope_chain}
@@ -27,7 +27,7 @@ abbrev span : ℕ → ℕ → Span
 span i j = record { start = i; end = j }
 
 -- function f() { / return 1; / } / f(); / console.log(2); each on a line
-abbrev returning : Items
+abbrev returning : MadeStatements
 returning = items_of (
     function_item 0 (codes "f") [] (items_of (return_item 1 (Some (number_made 2 1)) ∷ []))
     ∷ expression_item 3 (call_made 4 (name_made 5 (codes "f")) 6 [])
@@ -46,7 +46,7 @@ arrivals : offsets_from 11 0 returning_spans (one (script_term 1 returning))
 arrivals = refl
 
 -- function f() { / } / f();
-abbrev falling : Items
+abbrev falling : MadeStatements
 falling =
     items_of (function_item 0 (codes "f") [] no_items ∷ expression_item 1 (call_made 2 (name_made 3 (codes "f")) 4 [])
     ∷ [])

@@ -8,30 +8,30 @@ use Rattle.js_tree_operators.specs.declared.operator.BinaryOperator.TheVariants 
 use Rattle.js_heap.specs.declared.value.Value.TheVariants as values
 use Rattle.js_semantics.specs.Terms.{Mark, to_name, first, doing, read, return_, function, choose, loop, Term, done, standing, part, Terms, end, more, one, joined, enter_debugger, break_, continue_, throw_}
 use Rattle.js_semantics.specs.Shapes.{size, AreFunctions, AreMethods, methods_size, members_size, IsShaped, AreShaped}
-use Rattle.js_semantics.specs.Makers.{parameter_names, Context, Made, Item, Items, untouched, lexical_item, if_item, while_item, do_while_item, for_item, for_lexical_item, for_of_item, return_item, try_item, function_item, unnamed, naming, within, plain, plains, assigned_to, compounded, updated, deleted, type_of, assignment, unary_term, binary_term, comma_term, call_term, form_of, body_terms, function_term, returned_body, PropertyKey, fixed_key, computed_key, PropertyMade, value_property, method_property, member_of, Parts, property_parts, properties_parts, object_term, and_items, block_term, DeclaratorMade, initializer_terms, declarators_terms, optional_term, optional_terms, for_parts, CatchMade, caught, finally_term, script_term, leaf, nothing, item}
+use Rattle.js_semantics.specs.Makers.{parameter_names, LoweringContext, MadeExpression, MadeStatement, MadeStatements, untouched, lexical_item, if_item, while_item, do_while_item, for_item, for_lexical_item, for_of_item, return_item, try_item, function_item, unnamed, naming, within, plain, plains, assigned_to, compounded, updated, deleted, type_of, assignment, unary_term, binary_term, comma_term, call_term, form_of, body_terms, function_term, returned_body, PropertyKey, fixed_key, computed_key, MadeProperty, value_property, method_property, member_of, Parts, property_parts, properties_parts, object_term, and_items, block_term, MadeDeclarator, initializer_terms, declarators_terms, optional_term, optional_terms, for_parts, MadeCatch, caught, finally_term, script_term, leaf, nothing, item}
 use Rattle.js_semantics.proofs.SourceFolds.{Relations, Keeps}
 use Rattle.js_semantics.proofs.ShapeLemmas.{joined-shaped, size-joined}
 
 -- ---- what is made is well-shaped
 
-abbrev pub MadeShaped : Made → Type 0
-MadeShaped e = (c : Context) → IsShaped (e.term c)
+abbrev pub MadeShaped : MadeExpression → Type 0
+MadeShaped e = (c : LoweringContext) → IsShaped (e.term c)
 
-pub record ItemShaped (i : Item) : Type 0 where
-  pub functions_only : (c : Context) → AreFunctions (i.functions c)
-  pub functions_shaped : (c : Context) → AreShaped (i.functions c)
-  pub term_shaped : (c : Context) → IsShaped (i.term c)
+pub record ItemShaped (i : MadeStatement) : Type 0 where
+  pub functions_only : (c : LoweringContext) → AreFunctions (i.functions c)
+  pub functions_shaped : (c : LoweringContext) → AreShaped (i.functions c)
+  pub term_shaped : (c : LoweringContext) → IsShaped (i.term c)
 
-pub record ItemsShaped (i : Items) : Type 0 where
-  pub functions_only : (c : Context) → AreFunctions (i.functions c)
-  pub functions_shaped : (c : Context) → AreShaped (i.functions c)
-  pub terms_shaped : (c : Context) → AreShaped (i.terms c)
+pub record ItemsShaped (i : MadeStatements) : Type 0 where
+  pub functions_only : (c : LoweringContext) → AreFunctions (i.functions c)
+  pub functions_shaped : (c : LoweringContext) → AreShaped (i.functions c)
+  pub terms_shaped : (c : LoweringContext) → AreShaped (i.terms c)
 
-abbrev pub AllShaped : List Made → Type 0
+abbrev pub AllShaped : List MadeExpression → Type 0
 AllShaped [] = Unit {0}
 AllShaped (e ∷ es) = MadeShaped e × AllShaped es
 
-plains-shaped : (es : List Made) (c : Context) → AllShaped es → AreShaped (plains es c)
+plains-shaped : (es : List MadeExpression) (c : LoweringContext) → AllShaped es → AreShaped (plains es c)
 plains-shaped [] c h = tt
 plains-shaped (e ∷ es) c h = (h.0 (unnamed c), plains-shaped es c h.1)
 
@@ -115,13 +115,13 @@ call-shaped m node (part f now later) args h k =
 
 -- ---- functions
 
-body-shaped : (b : Items) (c : Context) → ItemsShaped b → AreShaped (body_terms b c)
+body-shaped : (b : MadeStatements) (c : LoweringContext) → ItemsShaped b → AreShaped (body_terms b c)
 body-shaped b c h = (
   (record { reduced = omega arith; kept = omega arith; others = tt }, h.terms_shaped (within 0 c), tt),
   h.functions_shaped (within 0 c),
 )
 
-function-shaped : (node : ℕ) (n : Option (List ℕ)) (ps : List (List ℕ)) (b : Items) (c : Context)
+function-shaped : (node : ℕ) (n : Option (List ℕ)) (ps : List (List ℕ)) (b : MadeStatements) (c : LoweringContext)
     → ItemsShaped b
     → IsShaped (function_term node n ps b c)
 function-shaped node (Some n) ps b c h = (
@@ -135,7 +135,7 @@ function-shaped node None ps b c h = (
   body-shaped b c h,
 )
 
-returned-shaped : (e : Made) → MadeShaped e → ItemsShaped (returned_body e)
+returned-shaped : (e : MadeExpression) → MadeShaped e → ItemsShaped (returned_body e)
 returned-shaped e h = record {
   functions_only = λ c. tt;
   functions_shaped = λ c. tt;
@@ -150,7 +150,7 @@ returned-shaped e h = record {
       );
 }
 
-arrow-shaped : (node : ℕ) (n : List ℕ) (ps : List (List ℕ)) (b : Items) (c : Context)
+arrow-shaped : (node : ℕ) (n : List ℕ) (ps : List (List ℕ)) (b : MadeStatements) (c : LoweringContext)
     → ItemsShaped b
     → IsShaped (part (function (form_of node c.source n ps b.names true false)) end (body_terms b c))
 arrow-shaped node n ps b c h = (
@@ -166,14 +166,14 @@ functions-joined end us h k = k
 functions-joined (more (part (function f) now later) ts) us h k = functions-joined ts us h k
 functions-joined (more _ ts) us h k = absurd h
 
-and-shaped : (i : Item) (is : Items) → ItemShaped i → ItemsShaped is → ItemsShaped (and_items i is)
+and-shaped : (i : MadeStatement) (is : MadeStatements) → ItemShaped i → ItemsShaped is → ItemsShaped (and_items i is)
 and-shaped i is h k = record {
   functions_only = λ c. functions-joined (i.functions c) (is.functions c) (h.functions_only c) (k.functions_only c);
   functions_shaped = λ c. joined-shaped (i.functions c) (is.functions c) (h.functions_shaped c) (k.functions_shaped c);
   terms_shaped = λ c. (h.term_shaped c, k.terms_shaped c);
 }
 
-block-shaped : (b : Items) (c : Context) → ItemsShaped b → IsShaped (block_term b c)
+block-shaped : (b : MadeStatements) (c : LoweringContext) → ItemsShaped b → IsShaped (block_term b c)
 block-shaped b c h = (
   record { reduced = omega arith; kept = omega arith; others = h.functions_only c },
   tt,
@@ -183,7 +183,7 @@ block-shaped b c h = (
   ),
 )
 
-pub script-shaped : (number : ℕ) (b : Items) → ItemsShaped b → IsShaped (script_term number b)
+pub script-shaped : (number : ℕ) (b : MadeStatements) → ItemsShaped b → IsShaped (script_term number b)
 script-shaped number b h = (
   record { reduced = omega arith; kept = omega arith; others = h.functions_only _ },
   tt,
@@ -195,16 +195,16 @@ script-shaped number b h = (
 
 -- ---- each kind of statement
 
-abbrev pub OptionalShaped : Option Made → Type 0
+abbrev pub OptionalShaped : Option MadeExpression → Type 0
 OptionalShaped None = Unit {0}
 OptionalShaped (Some e) = MadeShaped e
 
-abbrev pub DeclaratorsShaped : List DeclaratorMade → Type 0
+abbrev pub DeclaratorsShaped : List MadeDeclarator → Type 0
 DeclaratorsShaped [] = Unit {0}
 DeclaratorsShaped (d ∷ ds) = OptionalShaped d.initializer × DeclaratorsShaped ds
 
-entered-shaped : (node : ℕ) (term : Context → Term)
-    → ((c : Context) → IsShaped (term c))
+entered-shaped : (node : ℕ) (term : LoweringContext → Term)
+    → ((c : LoweringContext) → IsShaped (term c))
     → ItemShaped (untouched node term)
 entered-shaped node term h =
     record {
@@ -214,13 +214,13 @@ entered-shaped node term h =
           (record { reduced = omega arith; kept = omega arith; others = tt }, tt, (h (within node c), tt));
     }
 
-initializer-shaped : (n : List ℕ) (e : Option Made) (c : Context)
+initializer-shaped : (n : List ℕ) (e : Option MadeExpression) (c : LoweringContext)
     → OptionalShaped e
     → AreShaped (initializer_terms n e c)
 initializer-shaped n None c h = tt
 initializer-shaped n (Some e) c h = (h (naming n c), tt)
 
-declarators-shaped : (ds : List DeclaratorMade) (c : Context)
+declarators-shaped : (ds : List MadeDeclarator) (c : LoweringContext)
     → DeclaratorsShaped ds
     → AreShaped (declarators_terms ds c)
 declarators-shaped [] c h = tt
@@ -233,7 +233,7 @@ declarators-shaped (d ∷ ds) c h = (
   declarators-shaped ds c h.1,
 )
 
-lexical-shaped : (node : ℕ) (constant : Bool) (ds : List DeclaratorMade)
+lexical-shaped : (node : ℕ) (constant : Bool) (ds : List MadeDeclarator)
     → DeclaratorsShaped ds
     → ItemShaped (lexical_item node constant ds)
 lexical-shaped node constant ds h = record {
@@ -254,18 +254,18 @@ lexical-shaped node constant ds h = record {
       );
 }
 
-optional_terms-shaped : (e : Option Made) (c : Context) → OptionalShaped e → AreShaped (optional_terms e c)
+optional_terms-shaped : (e : Option MadeExpression) (c : LoweringContext) → OptionalShaped e → AreShaped (optional_terms e c)
 optional_terms-shaped None c h = tt
 optional_terms-shaped (Some e) c h = (h (unnamed c), tt)
 
-optional-shaped : (e : Option Made) (c : Context) (t : Term)
+optional-shaped : (e : Option MadeExpression) (c : LoweringContext) (t : Term)
     → OptionalShaped e
     → IsShaped t
     → IsShaped (optional_term e c t)
 optional-shaped None c t h k = k
 optional-shaped (Some e) c t h k = h (unnamed c)
 
-parts-shaped : (t u : Option Made) (s : Item) (c : Context)
+parts-shaped : (t u : Option MadeExpression) (s : MadeStatement) (c : LoweringContext)
     → OptionalShaped t
     → OptionalShaped u
     → ItemShaped s
@@ -275,7 +275,7 @@ parts-shaped t u s c h k i = (
   (optional-shaped u c (done values.Undefined) k tt, (i.term_shaped c, tt)),
 )
 
-if-shaped : (node : ℕ) (e : Made) (s t : Item)
+if-shaped : (node : ℕ) (e : MadeExpression) (s t : MadeStatement)
     → MadeShaped e
     → ItemShaped s
     → ItemShaped t
@@ -288,7 +288,7 @@ if-shaped node e s t h k i =
       (k.term_shaped c, (i.term_shaped c, tt)),
     ))
 
-if_then-shaped : (node : ℕ) (e : Made) (s : Item) → MadeShaped e → ItemShaped s → ItemShaped (if_item node e s None)
+if_then-shaped : (node : ℕ) (e : MadeExpression) (s : MadeStatement) → MadeShaped e → ItemShaped s → ItemShaped (if_item node e s None)
 if_then-shaped node e s h k =
     entered-shaped node (λ c. part choose (one (plain e c)) (more (s.term c) (one (done values.Undefined))))
     (λ c. (
@@ -297,7 +297,7 @@ if_then-shaped node e s h k =
       (k.term_shaped c, (tt, tt)),
     ))
 
-while-shaped : (node : ℕ) (e : Made) (s : Item) → MadeShaped e → ItemShaped s → ItemShaped (while_item node e s)
+while-shaped : (node : ℕ) (e : MadeExpression) (s : MadeStatement) → MadeShaped e → ItemShaped s → ItemShaped (while_item node e s)
 while-shaped node e s h k =
     entered-shaped node
     (λ c. part (loop first None) end (more (plain e c) (more (done values.Undefined) (one (s.term c)))))
@@ -307,7 +307,7 @@ while-shaped node e s h k =
       (h (unnamed c), (tt, (k.term_shaped c, tt))),
     ))
 
-do_while-shaped : (node : ℕ) (s : Item) (e : Made) → ItemShaped s → MadeShaped e → ItemShaped (do_while_item node s e)
+do_while-shaped : (node : ℕ) (s : MadeStatement) (e : MadeExpression) → ItemShaped s → MadeShaped e → ItemShaped (do_while_item node s e)
 do_while-shaped node s e k h =
     entered-shaped node
     (λ c. part (loop doing None) end (more (plain e c) (more (done values.Undefined) (one (s.term c)))))
@@ -317,7 +317,7 @@ do_while-shaped node s e k h =
       (h (unnamed c), (tt, (k.term_shaped c, tt))),
     ))
 
-for-shaped : (node : ℕ) (i t u : Option Made) (s : Item)
+for-shaped : (node : ℕ) (i t u : Option MadeExpression) (s : MadeStatement)
     → OptionalShaped i
     → OptionalShaped t
     → OptionalShaped u
@@ -331,7 +331,7 @@ for-shaped node i t u s a b d k =
       parts-shaped t u s c b d k,
     ))
 
-for_lexical-shaped : (node : ℕ) (constant : Bool) (ds : List DeclaratorMade) (t u : Option Made) (s : Item)
+for_lexical-shaped : (node : ℕ) (constant : Bool) (ds : List MadeDeclarator) (t u : Option MadeExpression) (s : MadeStatement)
     → DeclaratorsShaped ds
     → OptionalShaped t
     → OptionalShaped u
@@ -355,7 +355,7 @@ for_lexical-shaped node constant ds t u s h a b k = record {
       );
 }
 
-for_of-shaped : (node : ℕ) (constant : Bool) (n : List ℕ) (e : Made) (s : Item)
+for_of-shaped : (node : ℕ) (constant : Bool) (n : List ℕ) (e : MadeExpression) (s : MadeStatement)
     → MadeShaped e
     → ItemShaped s
     → ItemShaped (for_of_item node constant n e s)
@@ -370,25 +370,25 @@ for_of-shaped node constant n e s h k = record {
       );
 }
 
-return-shaped : (node : ℕ) (e : Option Made) → OptionalShaped e → ItemShaped (return_item node e)
+return-shaped : (node : ℕ) (e : Option MadeExpression) → OptionalShaped e → ItemShaped (return_item node e)
 return-shaped node e h =
     entered-shaped node (λ c. part return_ (optional_terms e c) end)
     (λ c. (record { reduced = omega arith; kept = omega arith; others = tt }, optional_terms-shaped e c h, tt))
 
-abbrev pub HandlerShaped : Option CatchMade → Type 0
+abbrev pub HandlerShaped : Option MadeCatch → Type 0
 HandlerShaped None = Unit {0}
 HandlerShaped (Some h) = ItemsShaped h.body
 
-abbrev pub FinalizerShaped : Option Items → Type 0
+abbrev pub FinalizerShaped : Option MadeStatements → Type 0
 FinalizerShaped None = Unit {0}
 FinalizerShaped (Some b) = ItemsShaped b
 
-caught-shaped : (h : Option CatchMade) (t : Term) (c : Context) → HandlerShaped h → IsShaped t → IsShaped (caught h t c)
+caught-shaped : (h : Option MadeCatch) (t : Term) (c : LoweringContext) → HandlerShaped h → IsShaped t → IsShaped (caught h t c)
 caught-shaped None t c k i = i
 caught-shaped (Some h) t c k i =
     (record { reduced = omega arith; kept = omega arith; others = tt }, (i, tt), (block-shaped h.body c k, tt))
 
-finally-shaped : (f : Option Items) (t : Term) (c : Context)
+finally-shaped : (f : Option MadeStatements) (t : Term) (c : LoweringContext)
     → FinalizerShaped f
     → IsShaped t
     → IsShaped (finally_term f t c)
@@ -396,7 +396,7 @@ finally-shaped None t c k i = i
 finally-shaped (Some f) t c k i =
     (record { reduced = omega arith; kept = omega arith; others = tt }, (i, tt), (block-shaped f c k, tt))
 
-try-shaped : (node : ℕ) (b : Items) (h : Option CatchMade) (f : Option Items)
+try-shaped : (node : ℕ) (b : MadeStatements) (h : Option MadeCatch) (f : Option MadeStatements)
     → ItemsShaped b
     → HandlerShaped h
     → FinalizerShaped f
@@ -406,7 +406,7 @@ try-shaped node b h f i j k =
     (λ c. finally-shaped f (caught h (block_term b c) c) c k
     (caught-shaped h (block_term b c) c j (block-shaped b c i)))
 
-function_item-shaped : (node : ℕ) (n : List ℕ) (ps : List (List ℕ)) (b : Items)
+function_item-shaped : (node : ℕ) (n : List ℕ) (ps : List (List ℕ)) (b : MadeStatements)
     → ItemsShaped b
     → ItemShaped (function_item node n ps b)
 function_item-shaped node n ps b h = record {
@@ -429,11 +429,11 @@ abbrev pub KeyShaped : PropertyKey → Type 0
 KeyShaped (fixed_key k) = Unit {0}
 KeyShaped (computed_key e) = MadeShaped e
 
-abbrev pub PropertyShaped : PropertyMade → Type 0
+abbrev pub PropertyShaped : MadeProperty → Type 0
 PropertyShaped (value_property k e) = KeyShaped k × MadeShaped e
 PropertyShaped (method_property node k ps b) = KeyShaped k × ItemsShaped b
 
-abbrev pub PropertiesShaped : List PropertyMade → Type 0
+abbrev pub PropertiesShaped : List MadeProperty → Type 0
 PropertiesShaped [] = Unit {0}
 PropertiesShaped (m ∷ ms) = PropertyShaped m × PropertiesShaped ms
 
@@ -444,7 +444,7 @@ record PartsShaped (n : ℕ) (p : Parts) : Type 0 where
   now_shaped : AreShaped p.now
   later_shaped : AreShaped p.later
 
-property-shaped : (m : PropertyMade) (ms : List PropertyMade) (c : Context) (p : Parts)
+property-shaped : (m : MadeProperty) (ms : List MadeProperty) (c : LoweringContext) (p : Parts)
     → PropertyShaped m
     → PartsShaped (members_size (map member_of ms)) p
     → PartsShaped (members_size (map member_of (m ∷ ms))) (property_parts m c p)
@@ -498,13 +498,13 @@ property-shaped (method_property node (computed_key k) ps b) ms c p h q =
       );
     }
 
-properties-shaped : (ms : List PropertyMade) (c : Context)
+properties-shaped : (ms : List MadeProperty) (c : LoweringContext)
     → PropertiesShaped ms
     → PartsShaped (members_size (map member_of ms)) (properties_parts ms c)
 properties-shaped [] c h = record { methods = tt; counted = refl; now_shaped = tt; later_shaped = tt }
 properties-shaped (m ∷ ms) c h = property-shaped m ms c (properties_parts ms c) h.0 (properties-shaped ms c h.1)
 
-object-shaped : (ms : List PropertyMade) (c : Context)
+object-shaped : (ms : List MadeProperty) (c : LoweringContext)
     → PropertiesShaped ms
     → IsShaped (object_term ms (properties_parts ms c))
 object-shaped ms c h =
@@ -532,7 +532,7 @@ well_shaped = record {
   statements = λ is xs. ItemsShaped is;
 }
 
-item-shaped : (term : Context → Term) → ((c : Context) → IsShaped (term c)) → ItemShaped (item term)
+item-shaped : (term : LoweringContext → Term) → ((c : LoweringContext) → IsShaped (term c)) → ItemShaped (item term)
 item-shaped term h = record { functions_only = λ c. tt; functions_shaped = λ c. tt; term_shaped = h }
 
 pub keeps-shaped : Keeps well_shaped

@@ -17,7 +17,7 @@ use Rattle.js_heap.specs.declared.cell.Cell.TheVariants as cells
 use Rattle.js_heap.specs.declared.cell.Binding.{Binding}
 use Rattle.js_heap.specs.declared.cell.Property.{Property}
 use Rattle.js_heap.specs.Keys.{same_units, index_of_key, property_at}
-use Rattle.js_heap.specs.Cells.{Kind, kind_of, binding_of}
+use Rattle.js_heap.specs.Cells.{CellKind, kind_of, binding_of}
 use Rattle.js_heap.specs.World.{World, read_cell}
 use Rattle.js_heap.specs.Worlds.{Leads, IsTextKind, IsObjectKind, SoundValue, SoundIfSome, SoundValues, SoundProperties, SoundNames, SoundCell, SoundChange, IsSound, Later}
 use Rattle.js_heap.specs.BuiltIns.{function_value, message_property}
@@ -46,7 +46,7 @@ SoundThen w k = (v : World) → Later w v → SoundAction v k
 pub give-sound : (w : World) → SoundK w give
 give-sound w v l x h = h
 
-pub leads-as : (P : Kind → Type 0) (c : Cell) (o : Option Cell)
+pub leads-as : (P : CellKind → Type 0) (c : Cell) (o : Option Cell)
     → P (kind_of c)
     → Leads (λ k. k ≡ kind_of c) o
     → Leads P o

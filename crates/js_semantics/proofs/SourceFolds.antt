@@ -17,7 +17,7 @@ use Rattle.js_tree.specs.declared.tree.Expr.TheOpen.{Expr-F, Stmt-F, PropertyNam
 use Rattle.js_tree.specs.declared.tree.Expr.TheFolds.{map-Expr, map-PropertyDefinition, map-PropertyName, map-Stmt, map-Block, map-Catch, map-Declarator, map-Declarators, map-Exprs, map-PropertyDefinitions, map-Stmts, fold-roll-Expr, fold-roll-PropertyDefinition, fold-roll-PropertyName, fold-roll-Stmt, fold-roll-Block, fold-roll-Catch, fold-roll-Declarator, fold-roll-Declarators, fold-roll-Exprs, fold-roll-PropertyDefinitions, fold-roll-Stmts}
 use Rattle.js_tree.specs.declared.tree.Expr.TheViews as views
 use Rattle.js_tree.specs.Trees as trees
-use Rattle.js_tree.specs.Trees.{Parameters, Expression, Expressions, OptionalExpression, Key, Property, Properties, Statement, Statements, Handler, Finalizer}
+use Rattle.js_tree.specs.Trees.{Parameters, Expression, Expressions, OptionalExpression, Key, PropertyDefinition as Property, PropertyDefinitions as Properties, Statement, Statements, Handler, Finalizer}
 use Rattle.js_tree.specs.Views.{parameters_view, expressions, statements, properties, declarators, optional, expression_step, property_step, key_step, statement_step, block_step, catch_step, declarator_step, declarators_step, expressions_step, properties_step, statements_step, expression_view, property_view, key_view, statement_view, block_view, catch_view, declarator_view, declarators_view, expressions_view, properties_view, statements_view}
 use Rattle.js_tree.proofs.ViewLemmas.{Layer as Level, expression_roll, property_roll, key_roll, statement_roll, block_roll, catch_roll, declarator_roll, declarators_roll, expressions_roll, properties_roll, statements_roll}
 use Rattle.js_tree_operators.specs.declared.operator.UnaryOperator.{UnaryOperator}
@@ -25,7 +25,7 @@ use Rattle.js_tree_operators.specs.declared.operator.UpdateOperator.{UpdateOpera
 use Rattle.js_tree_operators.specs.declared.operator.BinaryOperator.{BinaryOperator}
 use Rattle.js_tree_operators.specs.declared.operator.AssignmentOperator.{AssignmentOperator}
 use Rattle.js_heap.specs.declared.value.Value.TheVariants as values
-use Rattle.js_semantics.specs.Makers.{parameter_names, Made, Item, Items, PropertyKey, fixed_key, computed_key, PropertyMade, value_property, method_property, DeclaratorMade, CatchMade, value_made, number_made, string_made, this_made, name_made, array_made, parenthesized_made, member_made, index_made, assign_made, update_made, unary_made, binary_made, conditional_made, comma_made, call_made, function_made, returned_body, arrow_made, object_made, no_items, and_items, items_of, block_item, empty_item, expression_item, lexical_item, if_item, while_item, do_while_item, for_item, for_lexical_item, for_of_item, continue_item, break_item, return_item, throw_item, try_item, debugger_item, function_item}
+use Rattle.js_semantics.specs.Makers.{parameter_names, MadeExpression, MadeStatement, MadeStatements, PropertyKey, fixed_key, computed_key, MadeProperty, value_property, method_property, MadeDeclarator, MadeCatch, value_made, number_made, string_made, this_made, name_made, array_made, parenthesized_made, member_made, index_made, assign_made, update_made, unary_made, binary_made, conditional_made, comma_made, call_made, function_made, returned_body, arrow_made, object_made, no_items, and_items, items_of, block_item, empty_item, expression_item, lexical_item, if_item, while_item, do_while_item, for_item, for_lexical_item, for_of_item, continue_item, break_item, return_item, throw_item, try_item, debugger_item, function_item}
 use Rattle.js_semantics.specs.Sources.{Layer, expression_layer, property_layer, key_layer, statement_layer, block_layer, catch_layer, declarator_layer, declarators_layer, expressions_layer, properties_layer, statements_layer, expression_source, property_source, key_source, statement_source, block_source, catch_source, declarator_source, declarators_source, expressions_source, properties_source, statements_source}
 use Rattle.js_semantics.proofs.TreeFolds.{Former, Mapper, Claims, Known, known_trees, Grows, every-expression, every-statements}
 
@@ -41,9 +41,9 @@ CleanLayer F =
 abbrev pub made_parts : (F : Former) → Mapper F → Level F → Layer F
 made_parts F change =
     change Expr PropertyDefinition PropertyName Stmt Block Catch Declarator Declarators Exprs PropertyDefinitions Stmts
-    Made PropertyMade PropertyKey Item Items CatchMade DeclaratorMade
-    (List DeclaratorMade) (List Made) (List PropertyMade)
-    Items expression_source property_source key_source statement_source block_source catch_source declarator_source
+    MadeExpression MadeProperty PropertyKey MadeStatement MadeStatements MadeCatch MadeDeclarator
+    (List MadeDeclarator) (List MadeExpression) (List MadeProperty)
+    MadeStatements expression_source property_source key_source statement_source block_source catch_source declarator_source
     declarators_source expressions_source properties_source statements_source
 
 abbrev pub clean_parts : (F : Former) → Mapper F → Level F → CleanLayer F
@@ -59,9 +59,9 @@ pub expression_turn : (x : Level Expr-F)
 unfolding expression_source property_source key_source statement_source block_source catch_source declarator_source
     declarators_source expressions_source properties_source statements_source
 expression_turn x =
-    fold-roll-Expr Made PropertyMade PropertyKey Item Items CatchMade DeclaratorMade (List DeclaratorMade) (List Made)
-    (List PropertyMade)
-    Items expression_layer property_layer key_layer statement_layer block_layer catch_layer declarator_layer
+    fold-roll-Expr MadeExpression MadeProperty PropertyKey MadeStatement MadeStatements MadeCatch MadeDeclarator (List MadeDeclarator) (List MadeExpression)
+    (List MadeProperty)
+    MadeStatements expression_layer property_layer key_layer statement_layer block_layer catch_layer declarator_layer
     declarators_layer expressions_layer properties_layer statements_layer x
 
 pub property_turn : (x : Level PropertyDefinition-F)
@@ -70,9 +70,9 @@ pub property_turn : (x : Level PropertyDefinition-F)
 unfolding expression_source property_source key_source statement_source block_source catch_source declarator_source
     declarators_source expressions_source properties_source statements_source
 property_turn x =
-    fold-roll-PropertyDefinition Made PropertyMade PropertyKey Item Items CatchMade DeclaratorMade (List DeclaratorMade)
-    (List Made) (List PropertyMade)
-    Items expression_layer property_layer key_layer statement_layer block_layer catch_layer declarator_layer
+    fold-roll-PropertyDefinition MadeExpression MadeProperty PropertyKey MadeStatement MadeStatements MadeCatch MadeDeclarator (List MadeDeclarator)
+    (List MadeExpression) (List MadeProperty)
+    MadeStatements expression_layer property_layer key_layer statement_layer block_layer catch_layer declarator_layer
     declarators_layer expressions_layer properties_layer statements_layer x
 
 pub key_turn : (x : Level PropertyName-F)
@@ -80,9 +80,9 @@ pub key_turn : (x : Level PropertyName-F)
 unfolding expression_source property_source key_source statement_source block_source catch_source declarator_source
     declarators_source expressions_source properties_source statements_source
 key_turn x =
-    fold-roll-PropertyName Made PropertyMade PropertyKey Item Items CatchMade DeclaratorMade (List DeclaratorMade)
-    (List Made) (List PropertyMade)
-    Items expression_layer property_layer key_layer statement_layer block_layer catch_layer declarator_layer
+    fold-roll-PropertyName MadeExpression MadeProperty PropertyKey MadeStatement MadeStatements MadeCatch MadeDeclarator (List MadeDeclarator)
+    (List MadeExpression) (List MadeProperty)
+    MadeStatements expression_layer property_layer key_layer statement_layer block_layer catch_layer declarator_layer
     declarators_layer expressions_layer properties_layer statements_layer x
 
 pub statement_turn : (x : Level Stmt-F)
@@ -90,9 +90,9 @@ pub statement_turn : (x : Level Stmt-F)
 unfolding expression_source property_source key_source statement_source block_source catch_source declarator_source
     declarators_source expressions_source properties_source statements_source
 statement_turn x =
-    fold-roll-Stmt Made PropertyMade PropertyKey Item Items CatchMade DeclaratorMade (List DeclaratorMade) (List Made)
-    (List PropertyMade)
-    Items expression_layer property_layer key_layer statement_layer block_layer catch_layer declarator_layer
+    fold-roll-Stmt MadeExpression MadeProperty PropertyKey MadeStatement MadeStatements MadeCatch MadeDeclarator (List MadeDeclarator) (List MadeExpression)
+    (List MadeProperty)
+    MadeStatements expression_layer property_layer key_layer statement_layer block_layer catch_layer declarator_layer
     declarators_layer expressions_layer properties_layer statements_layer x
 
 pub block_turn : (x : Level layers.Block-F)
@@ -100,9 +100,9 @@ pub block_turn : (x : Level layers.Block-F)
 unfolding expression_source property_source key_source statement_source block_source catch_source declarator_source
     declarators_source expressions_source properties_source statements_source
 block_turn x =
-    fold-roll-Block Made PropertyMade PropertyKey Item Items CatchMade DeclaratorMade (List DeclaratorMade) (List Made)
-    (List PropertyMade)
-    Items expression_layer property_layer key_layer statement_layer block_layer catch_layer declarator_layer
+    fold-roll-Block MadeExpression MadeProperty PropertyKey MadeStatement MadeStatements MadeCatch MadeDeclarator (List MadeDeclarator) (List MadeExpression)
+    (List MadeProperty)
+    MadeStatements expression_layer property_layer key_layer statement_layer block_layer catch_layer declarator_layer
     declarators_layer expressions_layer properties_layer statements_layer x
 
 pub catch_turn : (x : Level layers.Catch-F)
@@ -110,9 +110,9 @@ pub catch_turn : (x : Level layers.Catch-F)
 unfolding expression_source property_source key_source statement_source block_source catch_source declarator_source
     declarators_source expressions_source properties_source statements_source
 catch_turn x =
-    fold-roll-Catch Made PropertyMade PropertyKey Item Items CatchMade DeclaratorMade (List DeclaratorMade) (List Made)
-    (List PropertyMade)
-    Items expression_layer property_layer key_layer statement_layer block_layer catch_layer declarator_layer
+    fold-roll-Catch MadeExpression MadeProperty PropertyKey MadeStatement MadeStatements MadeCatch MadeDeclarator (List MadeDeclarator) (List MadeExpression)
+    (List MadeProperty)
+    MadeStatements expression_layer property_layer key_layer statement_layer block_layer catch_layer declarator_layer
     declarators_layer expressions_layer properties_layer statements_layer x
 
 pub declarator_turn : (x : Level layers.Declarator-F)
@@ -120,9 +120,9 @@ pub declarator_turn : (x : Level layers.Declarator-F)
 unfolding expression_source property_source key_source statement_source block_source catch_source declarator_source
     declarators_source expressions_source properties_source statements_source
 declarator_turn x =
-    fold-roll-Declarator Made PropertyMade PropertyKey Item Items CatchMade DeclaratorMade (List DeclaratorMade)
-    (List Made) (List PropertyMade)
-    Items expression_layer property_layer key_layer statement_layer block_layer catch_layer declarator_layer
+    fold-roll-Declarator MadeExpression MadeProperty PropertyKey MadeStatement MadeStatements MadeCatch MadeDeclarator (List MadeDeclarator)
+    (List MadeExpression) (List MadeProperty)
+    MadeStatements expression_layer property_layer key_layer statement_layer block_layer catch_layer declarator_layer
     declarators_layer expressions_layer properties_layer statements_layer x
 
 pub declarators_turn : (x : Level layers.Declarators-F)
@@ -131,9 +131,9 @@ pub declarators_turn : (x : Level layers.Declarators-F)
 unfolding expression_source property_source key_source statement_source block_source catch_source declarator_source
     declarators_source expressions_source properties_source statements_source
 declarators_turn x =
-    fold-roll-Declarators Made PropertyMade PropertyKey Item Items CatchMade DeclaratorMade (List DeclaratorMade)
-    (List Made) (List PropertyMade)
-    Items expression_layer property_layer key_layer statement_layer block_layer catch_layer declarator_layer
+    fold-roll-Declarators MadeExpression MadeProperty PropertyKey MadeStatement MadeStatements MadeCatch MadeDeclarator (List MadeDeclarator)
+    (List MadeExpression) (List MadeProperty)
+    MadeStatements expression_layer property_layer key_layer statement_layer block_layer catch_layer declarator_layer
     declarators_layer expressions_layer properties_layer statements_layer x
 
 pub expressions_turn : (x : Level layers.Exprs-F)
@@ -141,9 +141,9 @@ pub expressions_turn : (x : Level layers.Exprs-F)
 unfolding expression_source property_source key_source statement_source block_source catch_source declarator_source
     declarators_source expressions_source properties_source statements_source
 expressions_turn x =
-    fold-roll-Exprs Made PropertyMade PropertyKey Item Items CatchMade DeclaratorMade (List DeclaratorMade) (List Made)
-    (List PropertyMade)
-    Items expression_layer property_layer key_layer statement_layer block_layer catch_layer declarator_layer
+    fold-roll-Exprs MadeExpression MadeProperty PropertyKey MadeStatement MadeStatements MadeCatch MadeDeclarator (List MadeDeclarator) (List MadeExpression)
+    (List MadeProperty)
+    MadeStatements expression_layer property_layer key_layer statement_layer block_layer catch_layer declarator_layer
     declarators_layer expressions_layer properties_layer statements_layer x
 
 pub properties_turn : (x : Level layers.PropertyDefinitions-F)
@@ -152,9 +152,9 @@ pub properties_turn : (x : Level layers.PropertyDefinitions-F)
 unfolding expression_source property_source key_source statement_source block_source catch_source declarator_source
     declarators_source expressions_source properties_source statements_source
 properties_turn x =
-    fold-roll-PropertyDefinitions Made PropertyMade PropertyKey Item Items CatchMade DeclaratorMade
-    (List DeclaratorMade) (List Made) (List PropertyMade)
-    Items expression_layer property_layer key_layer statement_layer block_layer catch_layer declarator_layer
+    fold-roll-PropertyDefinitions MadeExpression MadeProperty PropertyKey MadeStatement MadeStatements MadeCatch MadeDeclarator
+    (List MadeDeclarator) (List MadeExpression) (List MadeProperty)
+    MadeStatements expression_layer property_layer key_layer statement_layer block_layer catch_layer declarator_layer
     declarators_layer expressions_layer properties_layer statements_layer x
 
 pub statements_turn : (x : Level layers.Stmts-F)
@@ -162,27 +162,27 @@ pub statements_turn : (x : Level layers.Stmts-F)
 unfolding expression_source property_source key_source statement_source block_source catch_source declarator_source
     declarators_source expressions_source properties_source statements_source
 statements_turn x =
-    fold-roll-Stmts Made PropertyMade PropertyKey Item Items CatchMade DeclaratorMade (List DeclaratorMade) (List Made)
-    (List PropertyMade)
-    Items expression_layer property_layer key_layer statement_layer block_layer catch_layer declarator_layer
+    fold-roll-Stmts MadeExpression MadeProperty PropertyKey MadeStatement MadeStatements MadeCatch MadeDeclarator (List MadeDeclarator) (List MadeExpression)
+    (List MadeProperty)
+    MadeStatements expression_layer property_layer key_layer statement_layer block_layer catch_layer declarator_layer
     declarators_layer expressions_layer properties_layer statements_layer x
 
 -- ---- what is made of a tree beside its clean tree
 
 -- a relation for each type of what is made
 pub record Relations : Type 1 where
-  pub expression : Made → Expression → Type 0
-  pub expressions : List Made → Expressions → Type 0
-  pub optional : Option Made → OptionalExpression → Type 0
+  pub expression : MadeExpression → Expression → Type 0
+  pub expressions : List MadeExpression → Expressions → Type 0
+  pub optional : Option MadeExpression → OptionalExpression → Type 0
   pub key : PropertyKey → Key → Type 0
-  pub property : PropertyMade → Property → Type 0
-  pub properties : List PropertyMade → Properties → Type 0
-  pub declarator : DeclaratorMade → trees.Declarator → Type 0
-  pub declarators : List DeclaratorMade → trees.Declarators → Type 0
-  pub statement : Item → Statement → Type 0
-  pub handler : Option CatchMade → Handler → Type 0
-  pub finalizer : Option Items → Finalizer → Type 0
-  pub statements : Items → Statements → Type 0
+  pub property : MadeProperty → Property → Type 0
+  pub properties : List MadeProperty → Properties → Type 0
+  pub declarator : MadeDeclarator → trees.Declarator → Type 0
+  pub declarators : List MadeDeclarator → trees.Declarators → Type 0
+  pub statement : MadeStatement → Statement → Type 0
+  pub handler : Option MadeCatch → Handler → Type 0
+  pub finalizer : Option MadeStatements → Finalizer → Type 0
+  pub statements : MadeStatements → Statements → Type 0
 
 -- each maker keeps it: what it makes of related parts is related
 pub record Keeps (R : Relations) : Type 0 where
@@ -192,161 +192,161 @@ pub record Keeps (R : Relations) : Type 0 where
   pub of_string : (node : ℕ) (us : List ℕ) → R.expression (string_made node us) (trees.string us)
   pub of_boolean : (node : ℕ) (b : Bool) → R.expression (value_made node (values.Bool b)) (trees.boolean b)
   pub of_null : (node : ℕ) → R.expression (value_made node values.Null) trees.null
-  pub of_array : (node : ℕ) (es : List Made) (xs : Expressions)
+  pub of_array : (node : ℕ) (es : List MadeExpression) (xs : Expressions)
       → R.expressions es xs
       → R.expression (array_made node es) (trees.array xs)
-  pub of_object : (node : ℕ) (ps : List PropertyMade) (xs : Properties)
+  pub of_object : (node : ℕ) (ps : List MadeProperty) (xs : Properties)
       → R.properties ps xs
       → R.expression (object_made node ps) (trees.object xs)
-  pub of_function : (node : ℕ) (n : Option (List ℕ)) (ps : List (List ℕ)) (body : Items) (xs : Statements)
+  pub of_function : (node : ℕ) (n : Option (List ℕ)) (ps : List (List ℕ)) (body : MadeStatements) (xs : Statements)
       → R.statements body xs
       → R.expression (function_made node n ps body) (trees.function n ps xs)
-  pub of_arrow : (node : ℕ) (ps : Parameters) (e : Made) (x : Expression)
+  pub of_arrow : (node : ℕ) (ps : Parameters) (e : MadeExpression) (x : Expression)
       → R.expression e x
       → R.expression (arrow_made node (parameter_names ps) (returned_body e)) (trees.arrow ps x)
-  pub of_arrow_block : (node : ℕ) (ps : Parameters) (body : Items) (xs : Statements)
+  pub of_arrow_block : (node : ℕ) (ps : Parameters) (body : MadeStatements) (xs : Statements)
       → R.statements body xs
       → R.expression (arrow_made node (parameter_names ps) body) (trees.arrow_block ps xs)
-  pub of_parenthesized : (node : ℕ) (e : Made) (x : Expression)
+  pub of_parenthesized : (node : ℕ) (e : MadeExpression) (x : Expression)
       → R.expression e x
       → R.expression (parenthesized_made node e) (trees.parenthesized x)
-  pub of_member : (node : ℕ) (e : Made) (n : List ℕ) (x : Expression)
+  pub of_member : (node : ℕ) (e : MadeExpression) (n : List ℕ) (x : Expression)
       → R.expression e x
       → R.expression (member_made node e n) (trees.member x n)
-  pub of_index : (node : ℕ) (e k : Made) (x y : Expression)
+  pub of_index : (node : ℕ) (e k : MadeExpression) (x y : Expression)
       → R.expression e x
       → R.expression k y
       → R.expression (index_made node e k) (trees.index x y)
-  pub of_call : (node parentheses : ℕ) (f : Made) (es : List Made) (x : Expression) (xs : Expressions)
+  pub of_call : (node parentheses : ℕ) (f : MadeExpression) (es : List MadeExpression) (x : Expression) (xs : Expressions)
       → R.expression f x
       → R.expressions es xs
       → R.expression (call_made node f parentheses es) (trees.call x xs)
-  pub of_postfix : (node : ℕ) (o : UpdateOperator) (e : Made) (x : Expression)
+  pub of_postfix : (node : ℕ) (o : UpdateOperator) (e : MadeExpression) (x : Expression)
       → R.expression e x
       → R.expression (update_made node o false e) (trees.postfix o x)
-  pub of_prefix : (node : ℕ) (o : UpdateOperator) (e : Made) (x : Expression)
+  pub of_prefix : (node : ℕ) (o : UpdateOperator) (e : MadeExpression) (x : Expression)
       → R.expression e x
       → R.expression (update_made node o true e) (trees.prefix o x)
-  pub of_unary : (node : ℕ) (o : UnaryOperator) (e : Made) (x : Expression)
+  pub of_unary : (node : ℕ) (o : UnaryOperator) (e : MadeExpression) (x : Expression)
       → R.expression e x
       → R.expression (unary_made node o e) (trees.unary o x)
-  pub of_binary : (node : ℕ) (o : BinaryOperator) (l r : Made) (x y : Expression)
+  pub of_binary : (node : ℕ) (o : BinaryOperator) (l r : MadeExpression) (x y : Expression)
       → R.expression l x
       → R.expression r y
       → R.expression (binary_made node o l r) (trees.binary o x y)
-  pub of_conditional : (node : ℕ) (t a b : Made) (x y z : Expression)
+  pub of_conditional : (node : ℕ) (t a b : MadeExpression) (x y z : Expression)
       → R.expression t x
       → R.expression a y
       → R.expression b z
       → R.expression (conditional_made node t a b) (trees.conditional x y z)
-  pub of_assign : (node : ℕ) (o : AssignmentOperator) (t e : Made) (x y : Expression)
+  pub of_assign : (node : ℕ) (o : AssignmentOperator) (t e : MadeExpression) (x y : Expression)
       → R.expression t x
       → R.expression e y
       → R.expression (assign_made node o t e) (trees.assign o x y)
-  pub of_comma : (node : ℕ) (es : List Made) (xs : Expressions)
+  pub of_comma : (node : ℕ) (es : List MadeExpression) (xs : Expressions)
       → R.expressions es xs
       → R.expression (comma_made node es) (trees.comma xs)
   pub of_no_expressions : R.expressions [] trees.no_expressions
-  pub of_an_expression : (e : Made) (es : List Made) (x : Expression) (xs : Expressions)
+  pub of_an_expression : (e : MadeExpression) (es : List MadeExpression) (x : Expression) (xs : Expressions)
       → R.expression e x
       → R.expressions es xs
       → R.expressions (e ∷ es) (trees.an_expression x xs)
   pub of_omitted : R.optional None trees.omitted
-  pub of_present : (e : Made) (x : Expression) → R.expression e x → R.optional (Some e) (trees.present x)
+  pub of_present : (e : MadeExpression) (x : Expression) → R.expression e x → R.optional (Some e) (trees.present x)
   pub of_word_key : (us : List ℕ) → R.key (fixed_key us) (trees.word_key us)
   pub of_string_key : (us : List ℕ) → R.key (fixed_key us) (trees.string_key us)
   pub of_number_key : (v : ℕ) → R.key (fixed_key (decimal v)) (trees.number_key v)
-  pub of_computed_key : (e : Made) (x : Expression) → R.expression e x → R.key (computed_key e) (trees.computed_key x)
+  pub of_computed_key : (e : MadeExpression) (x : Expression) → R.expression e x → R.key (computed_key e) (trees.computed_key x)
   pub of_shorthand : (n : List ℕ) → R.property (value_property (fixed_key n) (name_made 0 n)) (trees.shorthand n)
-  pub of_value : (k : PropertyKey) (e : Made) (x : Key) (y : Expression)
+  pub of_value : (k : PropertyKey) (e : MadeExpression) (x : Key) (y : Expression)
       → R.key k x
       → R.expression e y
       → R.property (value_property k e) (trees.value x y)
-  pub of_method : (node : ℕ) (k : PropertyKey) (ps : List (List ℕ)) (body : Items) (x : Key) (xs : Statements)
+  pub of_method : (node : ℕ) (k : PropertyKey) (ps : List (List ℕ)) (body : MadeStatements) (x : Key) (xs : Statements)
       → R.key k x
       → R.statements body xs
       → R.property (method_property node k ps body) (trees.method x ps xs)
   pub of_no_properties : R.properties [] trees.no_properties
-  pub of_a_property : (p : PropertyMade) (ps : List PropertyMade) (x : Property) (xs : Properties)
+  pub of_a_property : (p : MadeProperty) (ps : List MadeProperty) (x : Property) (xs : Properties)
       → R.property p x
       → R.properties ps xs
       → R.properties (p ∷ ps) (trees.a_property x xs)
-  pub of_declarator : (n : List ℕ) (e : Option Made) (x : OptionalExpression)
+  pub of_declarator : (n : List ℕ) (e : Option MadeExpression) (x : OptionalExpression)
       → R.optional e x
       → R.declarator (record { name = n; initializer = e }) (trees.declarator n x)
   pub of_no_declarators : R.declarators [] trees.no_declarators
-  pub of_a_declarator : (d : DeclaratorMade) (ds : List DeclaratorMade) (x : trees.Declarator) (xs : trees.Declarators)
+  pub of_a_declarator : (d : MadeDeclarator) (ds : List MadeDeclarator) (x : trees.Declarator) (xs : trees.Declarators)
       → R.declarator d x
       → R.declarators ds xs
       → R.declarators (d ∷ ds) (trees.a_declarator x xs)
-  pub of_block : (b : Items) (xs : Statements) → R.statements b xs → R.statement (block_item b) (trees.block xs)
-  pub of_lexical : (node : ℕ) (constant : Bool) (ds : List DeclaratorMade) (xs : trees.Declarators)
+  pub of_block : (b : MadeStatements) (xs : Statements) → R.statements b xs → R.statement (block_item b) (trees.block xs)
+  pub of_lexical : (node : ℕ) (constant : Bool) (ds : List MadeDeclarator) (xs : trees.Declarators)
       → R.declarators ds xs
       → R.statement (lexical_item node constant ds) (trees.lexical constant xs)
   pub of_empty : R.statement empty_item trees.empty
-  pub of_expression : (node : ℕ) (e : Made) (x : Expression)
+  pub of_expression : (node : ℕ) (e : MadeExpression) (x : Expression)
       → R.expression e x
       → R.statement (expression_item node e) (trees.expression x)
-  pub of_if_then : (node : ℕ) (e : Made) (s : Item) (x : Expression) (y : Statement)
+  pub of_if_then : (node : ℕ) (e : MadeExpression) (s : MadeStatement) (x : Expression) (y : Statement)
       → R.expression e x
       → R.statement s y
       → R.statement (if_item node e s None) (trees.if_then x y)
-  pub of_if_else : (node : ℕ) (e : Made) (s t : Item) (x : Expression) (y z : Statement)
+  pub of_if_else : (node : ℕ) (e : MadeExpression) (s t : MadeStatement) (x : Expression) (y z : Statement)
       → R.expression e x
       → R.statement s y
       → R.statement t z
       → R.statement (if_item node e s (Some t)) (trees.if_else x y z)
-  pub of_do_while : (node : ℕ) (s : Item) (e : Made) (x : Statement) (y : Expression)
+  pub of_do_while : (node : ℕ) (s : MadeStatement) (e : MadeExpression) (x : Statement) (y : Expression)
       → R.statement s x
       → R.expression e y
       → R.statement (do_while_item node s e) (trees.do_while x y)
-  pub of_while : (node : ℕ) (e : Made) (s : Item) (x : Expression) (y : Statement)
+  pub of_while : (node : ℕ) (e : MadeExpression) (s : MadeStatement) (x : Expression) (y : Statement)
       → R.expression e x
       → R.statement s y
       → R.statement (while_item node e s) (trees.while x y)
-  pub of_for : (node : ℕ) (i t u : Option Made) (s : Item) (x y z : OptionalExpression) (w : Statement)
+  pub of_for : (node : ℕ) (i t u : Option MadeExpression) (s : MadeStatement) (x y z : OptionalExpression) (w : Statement)
       → R.optional i x
       → R.optional t y
       → R.optional u z
       → R.statement s w
       → R.statement (for_item node i t u s) (trees.for x y z w)
-  pub of_for_lexical : (node : ℕ) (constant : Bool) (ds : List DeclaratorMade) (t u : Option Made) (s : Item)
+  pub of_for_lexical : (node : ℕ) (constant : Bool) (ds : List MadeDeclarator) (t u : Option MadeExpression) (s : MadeStatement)
       (x : trees.Declarators) (y z : OptionalExpression) (w : Statement)
       → R.declarators ds x
       → R.optional t y
       → R.optional u z
       → R.statement s w
       → R.statement (for_lexical_item node constant ds t u s) (trees.for_lexical constant x y z w)
-  pub of_for_of : (node : ℕ) (constant : Bool) (n : List ℕ) (e : Made) (s : Item) (x : Expression) (y : Statement)
+  pub of_for_of : (node : ℕ) (constant : Bool) (n : List ℕ) (e : MadeExpression) (s : MadeStatement) (x : Expression) (y : Statement)
       → R.expression e x
       → R.statement s y
       → R.statement (for_of_item node constant n e s) (trees.for_of constant n x y)
   pub of_continue : (node : ℕ) → R.statement (continue_item node) trees.continue
   pub of_break : (node : ℕ) → R.statement (break_item node) trees.break
-  pub of_return : (node : ℕ) (e : Option Made) (x : OptionalExpression)
+  pub of_return : (node : ℕ) (e : Option MadeExpression) (x : OptionalExpression)
       → R.optional e x
       → R.statement (return_item node e) (trees.return x)
-  pub of_throw : (node : ℕ) (e : Made) (x : Expression)
+  pub of_throw : (node : ℕ) (e : MadeExpression) (x : Expression)
       → R.expression e x
       → R.statement (throw_item node e) (trees.throw x)
-  pub of_try : (node : ℕ) (b : Items) (h : Option CatchMade) (f : Option Items) (xs : Statements) (y : Handler)
+  pub of_try : (node : ℕ) (b : MadeStatements) (h : Option MadeCatch) (f : Option MadeStatements) (xs : Statements) (y : Handler)
       (z : Finalizer)
       → R.statements b xs
       → R.handler h y
       → R.finalizer f z
       → R.statement (try_item node b h f) (trees.try xs y z)
   pub of_debugger : (node : ℕ) → R.statement (debugger_item node) trees.debugger
-  pub of_declared_function : (node : ℕ) (n : List ℕ) (ps : List (List ℕ)) (body : Items) (xs : Statements)
+  pub of_declared_function : (node : ℕ) (n : List ℕ) (ps : List (List ℕ)) (body : MadeStatements) (xs : Statements)
       → R.statements body xs
       → R.statement (function_item node n ps body) (trees.declared_function n ps xs)
   pub of_no_catch : R.handler None trees.no_catch
-  pub of_catch : (n : Option (List ℕ)) (b : Items) (xs : Statements)
+  pub of_catch : (n : Option (List ℕ)) (b : MadeStatements) (xs : Statements)
       → R.statements b xs
       → R.handler (Some (record { name = n; body = b })) (trees.catch n xs)
   pub of_no_finally : R.finalizer None trees.no_finally
-  pub of_finally : (b : Items) (xs : Statements) → R.statements b xs → R.finalizer (Some b) (trees.finally xs)
+  pub of_finally : (b : MadeStatements) (xs : Statements) → R.statements b xs → R.finalizer (Some b) (trees.finally xs)
   pub of_no_statements : R.statements no_items trees.no_statements
-  pub of_a_statement : (i : Item) (is : Items) (x : Statement) (xs : Statements)
+  pub of_a_statement : (i : MadeStatement) (is : MadeStatements) (x : Statement) (xs : Statements)
       → R.statement i x
       → R.statements is xs
       → R.statements (and_items i is) (trees.a_statement x xs)

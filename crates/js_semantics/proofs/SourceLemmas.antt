@@ -3,7 +3,7 @@
 use Rattle.std.proofs.Common.{ℕ, List, [], ◌∷◌}
 use Rattle.js_tree.specs.declared.tree.Expr.{Expr}
 use Rattle.js_tree.specs.declared.script.Script.{Script}
-use Rattle.js_semantics.specs.Makers.{Context}
+use Rattle.js_semantics.specs.Makers.{LoweringContext}
 use Rattle.js_semantics.specs.Sources.{expression_source, statements_source, terms_of_scripts}
 use Rattle.js_semantics.specs.Run.{program_of, plain as plain_run}
 use Rattle.js_semantics.specs.Sound.{SoundRun}
@@ -21,7 +21,7 @@ use Rattle.js_semantics.proofs.ShapeStart.{plain-shaped}
 use Rattle.js_semantics.proofs.WaitLemmas.{plain-waits}
 use Rattle.js_semantics.proofs.DepthLaws.{plain-listed}
 
-pub expression-untouched : (e : Expr) (c : Context) → IsUntouched ((expression_source e).term c)
+pub expression-untouched : (e : Expr) (c : LoweringContext) → IsUntouched ((expression_source e).term c)
 expression-untouched e c = term-untouched _ (expression-related unstarted keeps-fresh e c)
 
 -- ---- the scripts

@@ -30,7 +30,7 @@ use Rattle.js_tree.specs.declared.tree.Expr.TheViews as views
 use Rattle.js_tree.specs.Views.{parameters_view}
 use Rattle.js_heap.specs.declared.value.Value.TheVariants as values
 use Rattle.js_semantics.specs.Makers as makers
-use Rattle.js_semantics.specs.Makers.{parameter_names, Made, Item, Items, PropertyKey, PropertyMade, DeclaratorMade, CatchMade}
+use Rattle.js_semantics.specs.Makers.{parameter_names, MadeExpression, MadeStatement, MadeStatements, PropertyKey, MadeProperty, MadeDeclarator, MadeCatch}
 use Rattle.js_semantics.specs.Sources.{expression_source, statements_source, expression_layer, property_layer, key_layer, statement_layer, block_layer, catch_layer, declarator_layer, declarators_layer, expressions_layer, properties_layer, statements_layer, property_source, key_source, statement_source, block_source, catch_source, declarator_source, declarators_source, expressions_source, properties_source}
 use Rattle.js_semantics.proofs.SourceFolds.{expression_turn, property_turn, key_turn, statement_turn}
 
@@ -296,18 +296,18 @@ pub source_block_body : (b : Block) → block_source b ≡ statements_source b.b
 unfolding expression_source property_source key_source statement_source block_source catch_source declarator_source
     declarators_source expressions_source properties_source statements_source
 source_block_body b =
-    fold_out-Block Made PropertyMade PropertyKey Item Items CatchMade DeclaratorMade (List DeclaratorMade) (List Made)
-    (List PropertyMade)
-    Items expression_layer property_layer key_layer statement_layer block_layer catch_layer declarator_layer
+    fold_out-Block MadeExpression MadeProperty PropertyKey MadeStatement MadeStatements MadeCatch MadeDeclarator (List MadeDeclarator) (List MadeExpression)
+    (List MadeProperty)
+    MadeStatements expression_layer property_layer key_layer statement_layer block_layer catch_layer declarator_layer
     declarators_layer expressions_layer properties_layer statements_layer b
 
 pub source_catch : (h : Catch) → catch_source h ≡ record { name = h.parameter; body = block_source h.block }
 unfolding expression_source property_source key_source statement_source block_source catch_source declarator_source
     declarators_source expressions_source properties_source statements_source
 source_catch h =
-    fold_out-Catch Made PropertyMade PropertyKey Item Items CatchMade DeclaratorMade (List DeclaratorMade) (List Made)
-    (List PropertyMade)
-    Items expression_layer property_layer key_layer statement_layer block_layer catch_layer declarator_layer
+    fold_out-Catch MadeExpression MadeProperty PropertyKey MadeStatement MadeStatements MadeCatch MadeDeclarator (List MadeDeclarator) (List MadeExpression)
+    (List MadeProperty)
+    MadeStatements expression_layer property_layer key_layer statement_layer block_layer catch_layer declarator_layer
     declarators_layer expressions_layer properties_layer statements_layer h
 
 pub source_declarators : (ds : Declarators)
@@ -315,36 +315,36 @@ pub source_declarators : (ds : Declarators)
 unfolding expression_source property_source key_source statement_source block_source catch_source declarator_source
     declarators_source expressions_source properties_source statements_source
 source_declarators ds =
-    fold_out-Declarators Made PropertyMade PropertyKey Item Items CatchMade DeclaratorMade (List DeclaratorMade)
-    (List Made) (List PropertyMade)
-    Items expression_layer property_layer key_layer statement_layer block_layer catch_layer declarator_layer
+    fold_out-Declarators MadeExpression MadeProperty PropertyKey MadeStatement MadeStatements MadeCatch MadeDeclarator (List MadeDeclarator)
+    (List MadeExpression) (List MadeProperty)
+    MadeStatements expression_layer property_layer key_layer statement_layer block_layer catch_layer declarator_layer
     declarators_layer expressions_layer properties_layer statements_layer ds
 
 pub source_expressions : (es : Exprs) → expressions_source es ≡ map expression_source es.items.items
 unfolding expression_source property_source key_source statement_source block_source catch_source declarator_source
     declarators_source expressions_source properties_source statements_source
 source_expressions es =
-    fold_out-Exprs Made PropertyMade PropertyKey Item Items CatchMade DeclaratorMade (List DeclaratorMade) (List Made)
-    (List PropertyMade)
-    Items expression_layer property_layer key_layer statement_layer block_layer catch_layer declarator_layer
+    fold_out-Exprs MadeExpression MadeProperty PropertyKey MadeStatement MadeStatements MadeCatch MadeDeclarator (List MadeDeclarator) (List MadeExpression)
+    (List MadeProperty)
+    MadeStatements expression_layer property_layer key_layer statement_layer block_layer catch_layer declarator_layer
     declarators_layer expressions_layer properties_layer statements_layer es
 
 pub source_properties : (ps : PropertyDefinitions) → properties_source ps ≡ map property_source ps.items.items
 unfolding expression_source property_source key_source statement_source block_source catch_source declarator_source
     declarators_source expressions_source properties_source statements_source
 source_properties ps =
-    fold_out-PropertyDefinitions Made PropertyMade PropertyKey Item Items CatchMade DeclaratorMade (List DeclaratorMade)
-    (List Made) (List PropertyMade)
-    Items expression_layer property_layer key_layer statement_layer block_layer catch_layer declarator_layer
+    fold_out-PropertyDefinitions MadeExpression MadeProperty PropertyKey MadeStatement MadeStatements MadeCatch MadeDeclarator (List MadeDeclarator)
+    (List MadeExpression) (List MadeProperty)
+    MadeStatements expression_layer property_layer key_layer statement_layer block_layer catch_layer declarator_layer
     declarators_layer expressions_layer properties_layer statements_layer ps
 
 pub source_statements : (ss : Stmts) → statements_source ss ≡ makers.items_of (map statement_source ss.items.items)
 unfolding expression_source property_source key_source statement_source block_source catch_source declarator_source
     declarators_source expressions_source properties_source statements_source
 source_statements ss =
-    fold_out-Stmts Made PropertyMade PropertyKey Item Items CatchMade DeclaratorMade (List DeclaratorMade) (List Made)
-    (List PropertyMade)
-    Items expression_layer property_layer key_layer statement_layer block_layer catch_layer declarator_layer
+    fold_out-Stmts MadeExpression MadeProperty PropertyKey MadeStatement MadeStatements MadeCatch MadeDeclarator (List MadeDeclarator) (List MadeExpression)
+    (List MadeProperty)
+    MadeStatements expression_layer property_layer key_layer statement_layer block_layer catch_layer declarator_layer
     declarators_layer expressions_layer properties_layer statements_layer ss
 
 declarator_by : (n : List ℕ) (o : Option Expr)
@@ -353,15 +353,15 @@ declarator_by : (n : List ℕ) (o : Option Expr)
 unfolding expression_source property_source key_source statement_source block_source catch_source declarator_source
     declarators_source expressions_source properties_source statements_source
 declarator_by n None =
-    fold_out-Declarator Made PropertyMade PropertyKey Item Items CatchMade DeclaratorMade (List DeclaratorMade)
-    (List Made) (List PropertyMade)
-    Items expression_layer property_layer key_layer statement_layer block_layer catch_layer declarator_layer
+    fold_out-Declarator MadeExpression MadeProperty PropertyKey MadeStatement MadeStatements MadeCatch MadeDeclarator (List MadeDeclarator)
+    (List MadeExpression) (List MadeProperty)
+    MadeStatements expression_layer property_layer key_layer statement_layer block_layer catch_layer declarator_layer
     declarators_layer expressions_layer properties_layer statements_layer
     (record { name = n; initializer = None })
 declarator_by n (Some e) =
-    fold_out-Declarator Made PropertyMade PropertyKey Item Items CatchMade DeclaratorMade (List DeclaratorMade)
-    (List Made) (List PropertyMade)
-    Items expression_layer property_layer key_layer statement_layer block_layer catch_layer declarator_layer
+    fold_out-Declarator MadeExpression MadeProperty PropertyKey MadeStatement MadeStatements MadeCatch MadeDeclarator (List MadeDeclarator)
+    (List MadeExpression) (List MadeProperty)
+    MadeStatements expression_layer property_layer key_layer statement_layer block_layer catch_layer declarator_layer
     declarators_layer expressions_layer properties_layer statements_layer
     (record { name = n; initializer = Some e })
 

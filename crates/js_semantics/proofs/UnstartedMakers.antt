@@ -9,7 +9,7 @@ use Rattle.js_heap.specs.declared.value.Value.TheVariants as values
 use Rattle.js_heap.specs.declared.cell.Binding.{Binding}
 use Rattle.js_semantics.specs.Terms.{Mark, to_name, first, doing, read, function, choose, loop, Term, done, standing, part, Terms, end, more, one, joined, Form, enter_debugger, break_, continue_, throw_, ending}
 use Rattle.js_semantics.specs.Untouched.{HasNoAddress, AreDeclared, UntouchedForm, IsUntouched, AreUntouched}
-use Rattle.js_semantics.specs.Makers.{parameter_names, Context, Made, Item, Items, untouched, lexical_item, if_item, while_item, do_while_item, for_item, for_lexical_item, for_of_item, return_item, try_item, function_item, unnamed, naming, within, plain, plains, assigned_to, compounded, updated, deleted, type_of, assignment, unary_term, binary_term, comma_term, call_term, form_of, body_terms, function_term, returned_body, PropertyKey, fixed_key, computed_key, PropertyMade, value_property, method_property, Parts, property_parts, properties_parts, object_term, and_items, block_term, DeclaratorMade, initializer_terms, declarators_terms, declarators_names, optional_term, optional_terms, for_parts, CatchMade, caught, finally_term, script_term, leaf, nothing, item}
+use Rattle.js_semantics.specs.Makers.{parameter_names, LoweringContext, MadeExpression, MadeStatement, MadeStatements, untouched, lexical_item, if_item, while_item, do_while_item, for_item, for_lexical_item, for_of_item, return_item, try_item, function_item, unnamed, naming, within, plain, plains, assigned_to, compounded, updated, deleted, type_of, assignment, unary_term, binary_term, comma_term, call_term, form_of, body_terms, function_term, returned_body, PropertyKey, fixed_key, computed_key, MadeProperty, value_property, method_property, Parts, property_parts, properties_parts, object_term, and_items, block_term, MadeDeclarator, initializer_terms, declarators_terms, declarators_names, optional_term, optional_terms, for_parts, MadeCatch, caught, finally_term, script_term, leaf, nothing, item}
 use Rattle.js_semantics.proofs.SourceFolds.{Relations, Keeps}
 
 -- ---- unstarted terms
@@ -45,20 +45,20 @@ mutual
 
 -- ---- what is made is unstarted
 
-abbrev pub Fresh : Made → Type 0
-Fresh e = (c : Context) → IsUnstarted (e.term c)
+abbrev pub Fresh : MadeExpression → Type 0
+Fresh e = (c : LoweringContext) → IsUnstarted (e.term c)
 
-pub record FreshItem (i : Item) : Type 0 where
+pub record FreshItem (i : MadeStatement) : Type 0 where
   pub names_declared : AreDeclared i.names
-  pub functions_fresh : (c : Context) → AreUnstarted (i.functions c)
-  pub term_fresh : (c : Context) → IsUnstarted (i.term c)
+  pub functions_fresh : (c : LoweringContext) → AreUnstarted (i.functions c)
+  pub term_fresh : (c : LoweringContext) → IsUnstarted (i.term c)
 
-pub record FreshItems (i : Items) : Type 0 where
+pub record FreshItems (i : MadeStatements) : Type 0 where
   pub names_declared : AreDeclared i.names
-  pub functions_fresh : (c : Context) → AreUnstarted (i.functions c)
-  pub terms_fresh : (c : Context) → AreUnstarted (i.terms c)
+  pub functions_fresh : (c : LoweringContext) → AreUnstarted (i.functions c)
+  pub terms_fresh : (c : LoweringContext) → AreUnstarted (i.terms c)
 
-abbrev pub AllFresh : List Made → Type 0
+abbrev pub AllFresh : List MadeExpression → Type 0
 AllFresh [] = Unit {0}
 AllFresh (e ∷ es) = Fresh e × AllFresh es
 
@@ -66,7 +66,7 @@ joined-fresh : (ts us : Terms) → AreUnstarted ts → AreUnstarted us → AreUn
 joined-fresh end us h k = k
 joined-fresh (more t ts) us h k = (h.0, joined-fresh ts us h.1 k)
 
-plains-fresh : (es : List Made) (c : Context) → AllFresh es → AreUnstarted (plains es c)
+plains-fresh : (es : List MadeExpression) (c : LoweringContext) → AllFresh es → AreUnstarted (plains es c)
 plains-fresh [] c h = tt
 plains-fresh (e ∷ es) c h = (h.0 (unnamed c), plains-fresh es c h.1)
 
@@ -138,16 +138,16 @@ call-fresh m node (part f now later) args h k = (tt, (tt, (h, k)), tt)
 
 -- ---- functions
 
-body-fresh : (b : Items) (c : Context) → FreshItems b → AreUnstarted (body_terms b c)
+body-fresh : (b : MadeStatements) (c : LoweringContext) → FreshItems b → AreUnstarted (body_terms b c)
 body-fresh b c h = ((tt, h.terms_fresh (within 0 c), tt), h.functions_fresh (within 0 c))
 
-function-fresh : (node : ℕ) (n : Option (List ℕ)) (ps : List (List ℕ)) (b : Items) (c : Context)
+function-fresh : (node : ℕ) (n : Option (List ℕ)) (ps : List (List ℕ)) (b : MadeStatements) (c : LoweringContext)
     → FreshItems b
     → IsUnstarted (function_term node n ps b c)
 function-fresh node (Some n) ps b c h = (h.names_declared, tt, body-fresh b c h)
 function-fresh node None ps b c h = (h.names_declared, tt, body-fresh b c h)
 
-returned-fresh : (e : Made) → Fresh e → FreshItems (returned_body e)
+returned-fresh : (e : MadeExpression) → Fresh e → FreshItems (returned_body e)
 returned-fresh e h =
     record {
       names_declared = tt;
@@ -156,7 +156,7 @@ returned-fresh e h =
           ((tt, tt, ((tt, (h (within e.node c), tt), tt), tt)), tt);
     }
 
-arrow-fresh : (node : ℕ) (n : List ℕ) (ps : List (List ℕ)) (b : Items) (c : Context)
+arrow-fresh : (node : ℕ) (n : List ℕ) (ps : List (List ℕ)) (b : MadeStatements) (c : LoweringContext)
     → FreshItems b
     → IsUnstarted (part (function (form_of node c.source n ps b.names true false)) end (body_terms b c))
 arrow-fresh node n ps b c h = (h.names_declared, tt, body-fresh b c h)
@@ -167,52 +167,52 @@ names-joined : (bs cs : List Binding) → AreDeclared bs → AreDeclared cs → 
 names-joined [] cs h k = k
 names-joined (b ∷ bs) cs h k = (h.0, names-joined bs cs h.1 k)
 
-and-fresh : (i : Item) (is : Items) → FreshItem i → FreshItems is → FreshItems (and_items i is)
+and-fresh : (i : MadeStatement) (is : MadeStatements) → FreshItem i → FreshItems is → FreshItems (and_items i is)
 and-fresh i is h k = record {
   names_declared = names-joined i.names is.names h.names_declared k.names_declared;
   functions_fresh = λ c. joined-fresh (i.functions c) (is.functions c) (h.functions_fresh c) (k.functions_fresh c);
   terms_fresh = λ c. (h.term_fresh c, k.terms_fresh c);
 }
 
-block-fresh : (b : Items) (c : Context) → FreshItems b → IsUnstarted (block_term b c)
+block-fresh : (b : MadeStatements) (c : LoweringContext) → FreshItems b → IsUnstarted (block_term b c)
 block-fresh b c h = (h.names_declared, tt, ((tt, h.terms_fresh c, tt), h.functions_fresh c))
 
-pub script-fresh : (number : ℕ) (b : Items) → FreshItems b → IsUnstarted (script_term number b)
+pub script-fresh : (number : ℕ) (b : MadeStatements) → FreshItems b → IsUnstarted (script_term number b)
 script-fresh number b h = (h.names_declared, tt, ((tt, h.terms_fresh _, tt), h.functions_fresh _))
 
 -- ---- each kind of statement
 
-abbrev pub FreshOptional : Option Made → Type 0
+abbrev pub FreshOptional : Option MadeExpression → Type 0
 FreshOptional None = Unit {0}
 FreshOptional (Some e) = Fresh e
 
-abbrev pub FreshDeclarators : List DeclaratorMade → Type 0
+abbrev pub FreshDeclarators : List MadeDeclarator → Type 0
 FreshDeclarators [] = Unit {0}
 FreshDeclarators (d ∷ ds) = FreshOptional d.initializer × FreshDeclarators ds
 
-entered-fresh : (node : ℕ) (term : Context → Term)
-    → ((c : Context) → IsUnstarted (term c))
+entered-fresh : (node : ℕ) (term : LoweringContext → Term)
+    → ((c : LoweringContext) → IsUnstarted (term c))
     → FreshItem (untouched node term)
 entered-fresh node term h =
     record { names_declared = tt; functions_fresh = λ c. tt; term_fresh = λ c. (tt, tt, (h (within node c), tt)) }
 
-initializer-fresh : (n : List ℕ) (e : Option Made) (c : Context)
+initializer-fresh : (n : List ℕ) (e : Option MadeExpression) (c : LoweringContext)
     → FreshOptional e
     → AreUnstarted (initializer_terms n e c)
 initializer-fresh n None c h = tt
 initializer-fresh n (Some e) c h = (h (naming n c), tt)
 
-declarators-fresh : (ds : List DeclaratorMade) (c : Context)
+declarators-fresh : (ds : List MadeDeclarator) (c : LoweringContext)
     → FreshDeclarators ds
     → AreUnstarted (declarators_terms ds c)
 declarators-fresh [] c h = tt
 declarators-fresh (d ∷ ds) c h = ((tt, initializer-fresh d.name d.initializer c h.0, tt), declarators-fresh ds c h.1)
 
-declared-names : (constant : Bool) (ds : List DeclaratorMade) → AreDeclared (declarators_names constant ds)
+declared-names : (constant : Bool) (ds : List MadeDeclarator) → AreDeclared (declarators_names constant ds)
 declared-names constant [] = tt
 declared-names constant (d ∷ ds) = (refl, declared-names constant ds)
 
-lexical-fresh : (node : ℕ) (constant : Bool) (ds : List DeclaratorMade)
+lexical-fresh : (node : ℕ) (constant : Bool) (ds : List MadeDeclarator)
     → FreshDeclarators ds
     → FreshItem (lexical_item node constant ds)
 lexical-fresh node constant ds h =
@@ -223,18 +223,18 @@ lexical-fresh node constant ds h =
           (tt, tt, ((tt, declarators-fresh ds (within node c) h, tt), tt));
     }
 
-optional-terms : (e : Option Made) (c : Context) → FreshOptional e → AreUnstarted (optional_terms e c)
+optional-terms : (e : Option MadeExpression) (c : LoweringContext) → FreshOptional e → AreUnstarted (optional_terms e c)
 optional-terms None c h = tt
 optional-terms (Some e) c h = (h (unnamed c), tt)
 
-optional-fresh : (e : Option Made) (c : Context) (t : Term)
+optional-fresh : (e : Option MadeExpression) (c : LoweringContext) (t : Term)
     → FreshOptional e
     → IsUnstarted t
     → IsUnstarted (optional_term e c t)
 optional-fresh None c t h k = k
 optional-fresh (Some e) c t h k = h (unnamed c)
 
-parts-fresh : (t u : Option Made) (s : Item) (c : Context)
+parts-fresh : (t u : Option MadeExpression) (s : MadeStatement) (c : LoweringContext)
     → FreshOptional t
     → FreshOptional u
     → FreshItem s
@@ -244,7 +244,7 @@ parts-fresh t u s c h k i = (
   (optional-fresh u c (done values.Undefined) k tt, (i.term_fresh c, tt)),
 )
 
-if-fresh : (node : ℕ) (e : Made) (s t : Item)
+if-fresh : (node : ℕ) (e : MadeExpression) (s t : MadeStatement)
     → Fresh e
     → FreshItem s
     → FreshItem t
@@ -253,24 +253,24 @@ if-fresh node e s t h k i =
     entered-fresh node (λ c. part choose (one (plain e c)) (more (s.term c) (one (t.term c))))
     (λ c. (tt, (h (unnamed c), tt), (k.term_fresh c, (i.term_fresh c, tt))))
 
-if_then-fresh : (node : ℕ) (e : Made) (s : Item) → Fresh e → FreshItem s → FreshItem (if_item node e s None)
+if_then-fresh : (node : ℕ) (e : MadeExpression) (s : MadeStatement) → Fresh e → FreshItem s → FreshItem (if_item node e s None)
 if_then-fresh node e s h k =
     entered-fresh node (λ c. part choose (one (plain e c)) (more (s.term c) (one (done values.Undefined))))
     (λ c. (tt, (h (unnamed c), tt), (k.term_fresh c, (tt, tt))))
 
-while-fresh : (node : ℕ) (e : Made) (s : Item) → Fresh e → FreshItem s → FreshItem (while_item node e s)
+while-fresh : (node : ℕ) (e : MadeExpression) (s : MadeStatement) → Fresh e → FreshItem s → FreshItem (while_item node e s)
 while-fresh node e s h k =
     entered-fresh node
     (λ c. part (loop first None) end (more (plain e c) (more (done values.Undefined) (one (s.term c)))))
     (λ c. (refl, tt, (h (unnamed c), (tt, (k.term_fresh c, tt)))))
 
-do_while-fresh : (node : ℕ) (s : Item) (e : Made) → FreshItem s → Fresh e → FreshItem (do_while_item node s e)
+do_while-fresh : (node : ℕ) (s : MadeStatement) (e : MadeExpression) → FreshItem s → Fresh e → FreshItem (do_while_item node s e)
 do_while-fresh node s e k h =
     entered-fresh node
     (λ c. part (loop doing None) end (more (plain e c) (more (done values.Undefined) (one (s.term c)))))
     (λ c. (refl, tt, (h (unnamed c), (tt, (k.term_fresh c, tt)))))
 
-for-fresh : (node : ℕ) (i t u : Option Made) (s : Item)
+for-fresh : (node : ℕ) (i t u : Option MadeExpression) (s : MadeStatement)
     → FreshOptional i
     → FreshOptional t
     → FreshOptional u
@@ -280,7 +280,7 @@ for-fresh node i t u s a b d k =
     entered-fresh node (λ c. part (loop first None) (optional_terms i c) (for_parts t u s c))
     (λ c. (refl, optional-terms i c a, parts-fresh t u s c b d k))
 
-for_lexical-fresh : (node : ℕ) (constant : Bool) (ds : List DeclaratorMade) (t u : Option Made) (s : Item)
+for_lexical-fresh : (node : ℕ) (constant : Bool) (ds : List MadeDeclarator) (t u : Option MadeExpression) (s : MadeStatement)
     → FreshDeclarators ds
     → FreshOptional t
     → FreshOptional u
@@ -297,7 +297,7 @@ for_lexical-fresh node constant ds t u s h a b k = record {
       );
 }
 
-for_of-fresh : (node : ℕ) (constant : Bool) (n : List ℕ) (e : Made) (s : Item)
+for_of-fresh : (node : ℕ) (constant : Bool) (n : List ℕ) (e : MadeExpression) (s : MadeStatement)
     → Fresh e
     → FreshItem s
     → FreshItem (for_of_item node constant n e s)
@@ -309,7 +309,7 @@ for_of-fresh node constant n e s h k =
           (refl, tt, (h (unnamed (within node c)), (k.term_fresh (within node c), tt)));
     }
 
-return-fresh : (node : ℕ) (e : Option Made) → FreshOptional e → FreshItem (return_item node e)
+return-fresh : (node : ℕ) (e : Option MadeExpression) → FreshOptional e → FreshItem (return_item node e)
 return-fresh node e h =
     record {
       names_declared = tt;
@@ -318,29 +318,29 @@ return-fresh node e h =
           (tt, tt, ((tt, optional-terms e (within node c) h, tt), tt));
     }
 
-abbrev pub FreshHandler : Option CatchMade → Type 0
+abbrev pub FreshHandler : Option MadeCatch → Type 0
 FreshHandler None = Unit {0}
 FreshHandler (Some h) = FreshItems h.body
 
-abbrev pub FreshFinalizer : Option Items → Type 0
+abbrev pub FreshFinalizer : Option MadeStatements → Type 0
 FreshFinalizer None = Unit {0}
 FreshFinalizer (Some b) = FreshItems b
 
-caught-fresh : (h : Option CatchMade) (t : Term) (c : Context)
+caught-fresh : (h : Option MadeCatch) (t : Term) (c : LoweringContext)
     → FreshHandler h
     → IsUnstarted t
     → IsUnstarted (caught h t c)
 caught-fresh None t c k i = i
 caught-fresh (Some h) t c k i = (tt, (i, tt), (block-fresh h.body c k, tt))
 
-finally-fresh : (f : Option Items) (t : Term) (c : Context)
+finally-fresh : (f : Option MadeStatements) (t : Term) (c : LoweringContext)
     → FreshFinalizer f
     → IsUnstarted t
     → IsUnstarted (finally_term f t c)
 finally-fresh None t c k i = i
 finally-fresh (Some f) t c k i = (tt, (i, tt), (block-fresh f c k, tt))
 
-try-fresh : (node : ℕ) (b : Items) (h : Option CatchMade) (f : Option Items)
+try-fresh : (node : ℕ) (b : MadeStatements) (h : Option MadeCatch) (f : Option MadeStatements)
     → FreshItems b
     → FreshHandler h
     → FreshFinalizer f
@@ -350,7 +350,7 @@ try-fresh node b h f i j k =
     (λ c. finally-fresh f (caught h (block_term b c) c) c k
     (caught-fresh h (block_term b c) c j (block-fresh b c i)))
 
-function_item-fresh : (node : ℕ) (n : List ℕ) (ps : List (List ℕ)) (b : Items)
+function_item-fresh : (node : ℕ) (n : List ℕ) (ps : List (List ℕ)) (b : MadeStatements)
     → FreshItems b
     → FreshItem (function_item node n ps b)
 function_item-fresh node n ps b h =
@@ -367,18 +367,18 @@ abbrev pub FreshKey : PropertyKey → Type 0
 FreshKey (fixed_key k) = Unit {0}
 FreshKey (computed_key e) = Fresh e
 
-abbrev pub FreshProperty : PropertyMade → Type 0
+abbrev pub FreshProperty : MadeProperty → Type 0
 FreshProperty (value_property k e) = FreshKey k × Fresh e
 FreshProperty (method_property node k ps b) = FreshKey k × FreshItems b
 
-abbrev pub FreshProperties : List PropertyMade → Type 0
+abbrev pub FreshProperties : List MadeProperty → Type 0
 FreshProperties [] = Unit {0}
 FreshProperties (m ∷ ms) = FreshProperty m × FreshProperties ms
 
 abbrev FreshParts : Parts → Type 0
 FreshParts p = AreUnstarted p.now × AreUnstarted p.later
 
-property-fresh : (m : PropertyMade) (c : Context) (p : Parts)
+property-fresh : (m : MadeProperty) (c : LoweringContext) (p : Parts)
     → FreshProperty m
     → FreshParts p
     → FreshParts (property_parts m c p)
@@ -389,11 +389,11 @@ property-fresh (method_property node (fixed_key k) ps b) c p h q =
 property-fresh (method_property node (computed_key k) ps b) c p h q =
     let i = h.1 in ((h.0 (unnamed c), tt), ((i.names_declared, q.0, body-fresh b c h.1), q.1))
 
-properties-fresh : (ms : List PropertyMade) (c : Context) → FreshProperties ms → FreshParts (properties_parts ms c)
+properties-fresh : (ms : List MadeProperty) (c : LoweringContext) → FreshProperties ms → FreshParts (properties_parts ms c)
 properties-fresh [] c h = (tt, tt)
 properties-fresh (m ∷ ms) c h = property-fresh m c (properties_parts ms c) h.0 (properties-fresh ms c h.1)
 
-object-fresh : (ms : List PropertyMade) (c : Context)
+object-fresh : (ms : List MadeProperty) (c : LoweringContext)
     → FreshProperties ms
     → IsUnstarted (object_term ms (properties_parts ms c))
 object-fresh ms c h = let q = properties-fresh ms c h in (tt, q.0, q.1)
@@ -416,7 +416,7 @@ unstarted = record {
   statements = λ is xs. FreshItems is;
 }
 
-item-fresh : (term : Context → Term) → ((c : Context) → IsUnstarted (term c)) → FreshItem (item term)
+item-fresh : (term : LoweringContext → Term) → ((c : LoweringContext) → IsUnstarted (term c)) → FreshItem (item term)
 item-fresh term h = record { names_declared = tt; functions_fresh = λ c. tt; term_fresh = h }
 
 pub keeps-fresh : Keeps unstarted

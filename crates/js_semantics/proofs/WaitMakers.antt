@@ -9,7 +9,7 @@ use Rattle.js_heap.specs.declared.value.Value.TheVariants as values
 use Rattle.js_semantics.specs.Terms.{Mark, to_name, first, doing, read, return_, function, choose, loop, Term, done, standing, part, Terms, end, more, one, enter_debugger, break_, continue_, throw_}
 use Rattle.js_semantics.proofs.Ready.{all_ready, joined-waits}
 use Rattle.js_semantics.specs.Waiting.{Waits, AllWait, PartsWait, RestWaits}
-use Rattle.js_semantics.specs.Makers.{parameter_names, Context, Made, Item, Items, untouched, lexical_item, if_item, while_item, do_while_item, for_item, for_lexical_item, for_of_item, return_item, try_item, function_item, unnamed, naming, within, plain, plains, assigned_to, compounded, updated, deleted, type_of, assignment, unary_term, binary_term, comma_term, call_term, form_of, body_terms, function_term, returned_body, PropertyKey, fixed_key, computed_key, PropertyMade, value_property, method_property, Parts, property_parts, properties_parts, object_term, and_items, block_term, DeclaratorMade, initializer_terms, declarators_terms, optional_term, optional_terms, for_parts, CatchMade, caught, finally_term, script_term, leaf, nothing, item}
+use Rattle.js_semantics.specs.Makers.{parameter_names, LoweringContext, MadeExpression, MadeStatement, MadeStatements, untouched, lexical_item, if_item, while_item, do_while_item, for_item, for_lexical_item, for_of_item, return_item, try_item, function_item, unnamed, naming, within, plain, plains, assigned_to, compounded, updated, deleted, type_of, assignment, unary_term, binary_term, comma_term, call_term, form_of, body_terms, function_term, returned_body, PropertyKey, fixed_key, computed_key, MadeProperty, value_property, method_property, Parts, property_parts, properties_parts, object_term, and_items, block_term, MadeDeclarator, initializer_terms, declarators_terms, optional_term, optional_terms, for_parts, MadeCatch, caught, finally_term, script_term, leaf, nothing, item}
 use Rattle.js_semantics.proofs.SourceFolds.{Relations, Keeps}
 
 -- ---- what is made waits
@@ -28,22 +28,22 @@ made-loosened (done v) h = tt
 made-loosened (standing v place) h = tt
 made-loosened (part f now later) h = (h.1, h.2)
 
-abbrev pub MadeWaits : Made → Type 0
-MadeWaits e = (c : Context) → Waits all_ready (e.term c)
+abbrev pub MadeWaits : MadeExpression → Type 0
+MadeWaits e = (c : LoweringContext) → Waits all_ready (e.term c)
 
-pub record ItemWaits (i : Item) : Type 0 where
-  pub functions_wait : (c : Context) → AllWait all_ready (i.functions c)
-  pub term_waits : (c : Context) → Waits all_ready (i.term c)
+pub record ItemWaits (i : MadeStatement) : Type 0 where
+  pub functions_wait : (c : LoweringContext) → AllWait all_ready (i.functions c)
+  pub term_waits : (c : LoweringContext) → Waits all_ready (i.term c)
 
-pub record ItemsWait (i : Items) : Type 0 where
-  pub functions_wait : (c : Context) → AllWait all_ready (i.functions c)
-  pub terms_wait : (c : Context) → AllWait all_ready (i.terms c)
+pub record ItemsWait (i : MadeStatements) : Type 0 where
+  pub functions_wait : (c : LoweringContext) → AllWait all_ready (i.functions c)
+  pub terms_wait : (c : LoweringContext) → AllWait all_ready (i.terms c)
 
-abbrev pub AllMadeWait : List Made → Type 0
+abbrev pub AllMadeWait : List MadeExpression → Type 0
 AllMadeWait [] = Unit {0}
 AllMadeWait (e ∷ es) = MadeWaits e × AllMadeWait es
 
-plains-waits : (es : List Made) (c : Context) → AllMadeWait es → AllWait all_ready (plains es c)
+plains-waits : (es : List MadeExpression) (c : LoweringContext) → AllMadeWait es → AllWait all_ready (plains es c)
 plains-waits [] c h = tt
 plains-waits (e ∷ es) c h = (h.0 (unnamed c), plains-waits es c h.1)
 
@@ -118,60 +118,60 @@ call-waits m node (part f now later) args h k = (λ q. refl, (tt, (h, k)), tt)
 
 -- ---- functions
 
-body-waits : (b : Items) (c : Context) → ItemsWait b → RestWaits all_ready (body_terms b c)
+body-waits : (b : MadeStatements) (c : LoweringContext) → ItemsWait b → RestWaits all_ready (body_terms b c)
 body-waits b c h = ((h.terms_wait (within 0 c), tt), h.functions_wait (within 0 c))
 
-function-waits : (node : ℕ) (n : Option (List ℕ)) (ps : List (List ℕ)) (b : Items) (c : Context)
+function-waits : (node : ℕ) (n : Option (List ℕ)) (ps : List (List ℕ)) (b : MadeStatements) (c : LoweringContext)
     → ItemsWait b
     → Waits all_ready (function_term node n ps b c)
 function-waits node (Some n) ps b c h = (λ q. refl, tt, body-waits b c h)
 function-waits node None ps b c h = (λ q. refl, tt, body-waits b c h)
 
-returned-waits : (e : Made) → MadeWaits e → ItemsWait (returned_body e)
+returned-waits : (e : MadeExpression) → MadeWaits e → ItemsWait (returned_body e)
 returned-waits e h =
     record { functions_wait = λ c. tt; terms_wait = λ c. ((λ q. refl, tt, (((h (within e.node c), tt), tt), tt)), tt) }
 
-arrow-waits : (node : ℕ) (n : List ℕ) (ps : List (List ℕ)) (b : Items) (c : Context)
+arrow-waits : (node : ℕ) (n : List ℕ) (ps : List (List ℕ)) (b : MadeStatements) (c : LoweringContext)
     → ItemsWait b
     → Waits all_ready (part (function (form_of node c.source n ps b.names true false)) end (body_terms b c))
 arrow-waits node n ps b c h = (λ q. refl, tt, body-waits b c h)
 
 -- ---- statements
 
-and-waits : (i : Item) (is : Items) → ItemWaits i → ItemsWait is → ItemsWait (and_items i is)
+and-waits : (i : MadeStatement) (is : MadeStatements) → ItemWaits i → ItemsWait is → ItemsWait (and_items i is)
 and-waits i is h k = record {
   functions_wait = λ c. joined-waits all_ready (i.functions c) (is.functions c) (h.functions_wait c) (k.functions_wait c);
   terms_wait = λ c. (h.term_waits c, k.terms_wait c);
 }
 
-block-waits : (b : Items) (c : Context) → ItemsWait b → Waits all_ready (block_term b c)
+block-waits : (b : MadeStatements) (c : LoweringContext) → ItemsWait b → Waits all_ready (block_term b c)
 block-waits b c h = (λ q. refl, tt, ((h.terms_wait c, tt), h.functions_wait c))
 
-pub script-waits : (number : ℕ) (b : Items) → ItemsWait b → Waits all_ready (script_term number b)
+pub script-waits : (number : ℕ) (b : MadeStatements) → ItemsWait b → Waits all_ready (script_term number b)
 script-waits number b h = (λ q. refl, tt, ((h.terms_wait _, tt), h.functions_wait _))
 
-abbrev pub OptionalWaits : Option Made → Type 0
+abbrev pub OptionalWaits : Option MadeExpression → Type 0
 OptionalWaits None = Unit {0}
 OptionalWaits (Some e) = MadeWaits e
 
-abbrev pub DeclaratorsWait : List DeclaratorMade → Type 0
+abbrev pub DeclaratorsWait : List MadeDeclarator → Type 0
 DeclaratorsWait [] = Unit {0}
 DeclaratorsWait (d ∷ ds) = OptionalWaits d.initializer × DeclaratorsWait ds
 
-entered-waits : (node : ℕ) (term : Context → Term) → ((c : Context) → Loose (term c)) → ItemWaits (untouched node term)
+entered-waits : (node : ℕ) (term : LoweringContext → Term) → ((c : LoweringContext) → Loose (term c)) → ItemWaits (untouched node term)
 entered-waits node term h =
     record { functions_wait = λ c. tt; term_waits = λ c. (λ q. refl, tt, (h (within node c), tt)) }
 
-initializer-waits : (n : List ℕ) (e : Option Made) (c : Context) → OptionalWaits e → Tights (initializer_terms n e c)
+initializer-waits : (n : List ℕ) (e : Option MadeExpression) (c : LoweringContext) → OptionalWaits e → Tights (initializer_terms n e c)
 initializer-waits n None c h = tt
 initializer-waits n (Some e) c h = (h (naming n c), tt)
 
-declarators-wait : (ds : List DeclaratorMade) (c : Context) → DeclaratorsWait ds → Tights (declarators_terms ds c)
+declarators-wait : (ds : List MadeDeclarator) (c : LoweringContext) → DeclaratorsWait ds → Tights (declarators_terms ds c)
 declarators-wait [] c h = tt
 declarators-wait (d ∷ ds) c h =
     ((λ q. refl, initializer-waits d.name d.initializer c h.0, tt), declarators-wait ds c h.1)
 
-lexical-waits : (node : ℕ) (constant : Bool) (ds : List DeclaratorMade)
+lexical-waits : (node : ℕ) (constant : Bool) (ds : List MadeDeclarator)
     → DeclaratorsWait ds
     → ItemWaits (lexical_item node constant ds)
 lexical-waits node constant ds h =
@@ -181,15 +181,15 @@ lexical-waits node constant ds h =
           (λ q. refl, tt, ((declarators-wait ds (within node c) h, tt), tt));
     }
 
-optional_terms-wait : (e : Option Made) (c : Context) → OptionalWaits e → Tights (optional_terms e c)
+optional_terms-wait : (e : Option MadeExpression) (c : LoweringContext) → OptionalWaits e → Tights (optional_terms e c)
 optional_terms-wait None c h = tt
 optional_terms-wait (Some e) c h = (h (unnamed c), tt)
 
-optional-waits : (e : Option Made) (c : Context) (t : Term) → OptionalWaits e → Tight t → Tight (optional_term e c t)
+optional-waits : (e : Option MadeExpression) (c : LoweringContext) (t : Term) → OptionalWaits e → Tight t → Tight (optional_term e c t)
 optional-waits None c t h k = k
 optional-waits (Some e) c t h k = h (unnamed c)
 
-parts-wait : (t u : Option Made) (s : Item) (c : Context)
+parts-wait : (t u : Option MadeExpression) (s : MadeStatement) (c : LoweringContext)
     → OptionalWaits t
     → OptionalWaits u
     → ItemWaits s
@@ -199,7 +199,7 @@ parts-wait t u s c h k i = (
   (optional-waits u c (done values.Undefined) k tt, (i.term_waits c, tt)),
 )
 
-if-waits : (node : ℕ) (e : Made) (s t : Item)
+if-waits : (node : ℕ) (e : MadeExpression) (s t : MadeStatement)
     → MadeWaits e
     → ItemWaits s
     → ItemWaits t
@@ -208,24 +208,24 @@ if-waits node e s t h k i =
     entered-waits node (λ c. part choose (one (plain e c)) (more (s.term c) (one (t.term c))))
     (λ c. ((h (unnamed c), tt), (k.term_waits c, (i.term_waits c, tt))))
 
-if_then-waits : (node : ℕ) (e : Made) (s : Item) → MadeWaits e → ItemWaits s → ItemWaits (if_item node e s None)
+if_then-waits : (node : ℕ) (e : MadeExpression) (s : MadeStatement) → MadeWaits e → ItemWaits s → ItemWaits (if_item node e s None)
 if_then-waits node e s h k =
     entered-waits node (λ c. part choose (one (plain e c)) (more (s.term c) (one (done values.Undefined))))
     (λ c. ((h (unnamed c), tt), (k.term_waits c, (tt, tt))))
 
-while-waits : (node : ℕ) (e : Made) (s : Item) → MadeWaits e → ItemWaits s → ItemWaits (while_item node e s)
+while-waits : (node : ℕ) (e : MadeExpression) (s : MadeStatement) → MadeWaits e → ItemWaits s → ItemWaits (while_item node e s)
 while-waits node e s h k =
     entered-waits node
     (λ c. part (loop first None) end (more (plain e c) (more (done values.Undefined) (one (s.term c)))))
     (λ c. (tt, (h (unnamed c), (tt, (k.term_waits c, tt)))))
 
-do_while-waits : (node : ℕ) (s : Item) (e : Made) → ItemWaits s → MadeWaits e → ItemWaits (do_while_item node s e)
+do_while-waits : (node : ℕ) (s : MadeStatement) (e : MadeExpression) → ItemWaits s → MadeWaits e → ItemWaits (do_while_item node s e)
 do_while-waits node s e k h =
     entered-waits node
     (λ c. part (loop doing None) end (more (plain e c) (more (done values.Undefined) (one (s.term c)))))
     (λ c. (tt, (h (unnamed c), (tt, (k.term_waits c, tt)))))
 
-for-waits : (node : ℕ) (i t u : Option Made) (s : Item)
+for-waits : (node : ℕ) (i t u : Option MadeExpression) (s : MadeStatement)
     → OptionalWaits i
     → OptionalWaits t
     → OptionalWaits u
@@ -235,7 +235,7 @@ for-waits node i t u s a b d k =
     entered-waits node (λ c. part (loop first None) (optional_terms i c) (for_parts t u s c))
     (λ c. (optional_terms-wait i c a, parts-wait t u s c b d k))
 
-for_lexical-waits : (node : ℕ) (constant : Bool) (ds : List DeclaratorMade) (t u : Option Made) (s : Item)
+for_lexical-waits : (node : ℕ) (constant : Bool) (ds : List MadeDeclarator) (t u : Option MadeExpression) (s : MadeStatement)
     → DeclaratorsWait ds
     → OptionalWaits t
     → OptionalWaits u
@@ -248,7 +248,7 @@ for_lexical-waits node constant ds t u s h a b k =
           (λ q. refl, tt, ((declarators-wait ds (within node c) h, tt), parts-wait t u s (within node c) a b k));
     }
 
-for_of-waits : (node : ℕ) (constant : Bool) (n : List ℕ) (e : Made) (s : Item)
+for_of-waits : (node : ℕ) (constant : Bool) (n : List ℕ) (e : MadeExpression) (s : MadeStatement)
     → MadeWaits e
     → ItemWaits s
     → ItemWaits (for_of_item node constant n e s)
@@ -259,31 +259,31 @@ for_of-waits node constant n e s h k =
           (λ q. refl, tt, (h (unnamed (within node c)), (k.term_waits (within node c), tt)));
     }
 
-return-waits : (node : ℕ) (e : Option Made) → OptionalWaits e → ItemWaits (return_item node e)
+return-waits : (node : ℕ) (e : Option MadeExpression) → OptionalWaits e → ItemWaits (return_item node e)
 return-waits node e h =
     entered-waits node (λ c. part return_ (optional_terms e c) end) (λ c. (optional_terms-wait e c h, tt))
 
-abbrev pub HandlerWaits : Option CatchMade → Type 0
+abbrev pub HandlerWaits : Option MadeCatch → Type 0
 HandlerWaits None = Unit {0}
 HandlerWaits (Some h) = ItemsWait h.body
 
-abbrev pub FinalizerWaits : Option Items → Type 0
+abbrev pub FinalizerWaits : Option MadeStatements → Type 0
 FinalizerWaits None = Unit {0}
 FinalizerWaits (Some b) = ItemsWait b
 
 -- a block is no value, so a `try` around one waits
-caught-waits : (h : Option CatchMade) (b : Items) (c : Context)
+caught-waits : (h : Option MadeCatch) (b : MadeStatements) (c : LoweringContext)
     → HandlerWaits h
     → ItemsWait b
     → Tight (caught h (block_term b c) c)
 caught-waits None b c k i = block-waits b c i
 caught-waits (Some h) b c k i = (λ q. absurd cc, (block-waits b c i, tt), (block-waits h.body c k, tt))
 
-finally-waits : (f : Option Items) (t : Term) (c : Context) → FinalizerWaits f → Tight t → Loose (finally_term f t c)
+finally-waits : (f : Option MadeStatements) (t : Term) (c : LoweringContext) → FinalizerWaits f → Tight t → Loose (finally_term f t c)
 finally-waits None t c k i = made-loosened t i
 finally-waits (Some f) t c k i = ((i, tt), (block-waits f c k, tt))
 
-try-waits : (node : ℕ) (b : Items) (h : Option CatchMade) (f : Option Items)
+try-waits : (node : ℕ) (b : MadeStatements) (h : Option MadeCatch) (f : Option MadeStatements)
     → ItemsWait b
     → HandlerWaits h
     → FinalizerWaits f
@@ -292,7 +292,7 @@ try-waits node b h f i j k =
     entered-waits node (λ c. finally_term f (caught h (block_term b c) c) c)
     (λ c. finally-waits f (caught h (block_term b c) c) c k (caught-waits h b c j i))
 
-function_item-waits : (node : ℕ) (n : List ℕ) (ps : List (List ℕ)) (b : Items)
+function_item-waits : (node : ℕ) (n : List ℕ) (ps : List (List ℕ)) (b : MadeStatements)
     → ItemsWait b
     → ItemWaits (function_item node n ps b)
 function_item-waits node n ps b h =
@@ -304,18 +304,18 @@ abbrev pub KeyWaits : PropertyKey → Type 0
 KeyWaits (fixed_key k) = Unit {0}
 KeyWaits (computed_key e) = MadeWaits e
 
-abbrev pub PropertyWaits : PropertyMade → Type 0
+abbrev pub PropertyWaits : MadeProperty → Type 0
 PropertyWaits (value_property k e) = KeyWaits k × MadeWaits e
 PropertyWaits (method_property node k ps b) = KeyWaits k × ItemsWait b
 
-abbrev pub PropertiesWait : List PropertyMade → Type 0
+abbrev pub PropertiesWait : List MadeProperty → Type 0
 PropertiesWait [] = Unit {0}
 PropertiesWait (m ∷ ms) = PropertyWaits m × PropertiesWait ms
 
 abbrev PartsTight : Parts → Type 0
 PartsTight p = Tights p.now × Tights p.later
 
-property-waits : (m : PropertyMade) (c : Context) (p : Parts)
+property-waits : (m : MadeProperty) (c : LoweringContext) (p : Parts)
     → PropertyWaits m
     → PartsTight p
     → PartsTight (property_parts m c p)
@@ -325,11 +325,11 @@ property-waits (method_property node (fixed_key k) ps b) c p h q = (((λ e. refl
 property-waits (method_property node (computed_key k) ps b) c p h q =
     ((h.0 (unnamed c), tt), ((λ e. refl, q.0, body-waits b c h.1), q.1))
 
-properties-wait : (ms : List PropertyMade) (c : Context) → PropertiesWait ms → PartsTight (properties_parts ms c)
+properties-wait : (ms : List MadeProperty) (c : LoweringContext) → PropertiesWait ms → PartsTight (properties_parts ms c)
 properties-wait [] c h = (tt, tt)
 properties-wait (m ∷ ms) c h = property-waits m c (properties_parts ms c) h.0 (properties-wait ms c h.1)
 
-object-waits : (ms : List PropertyMade) (c : Context)
+object-waits : (ms : List MadeProperty) (c : LoweringContext)
     → PropertiesWait ms
     → Waits all_ready (object_term ms (properties_parts ms c))
 object-waits ms c h = let q = properties-wait ms c h in (λ e. refl, q.0, q.1)
@@ -352,7 +352,7 @@ waiting = record {
   statements = λ is xs. ItemsWait is;
 }
 
-item-waits : (term : Context → Term) → ((c : Context) → Tight (term c)) → ItemWaits (item term)
+item-waits : (term : LoweringContext → Term) → ((c : LoweringContext) → Tight (term c)) → ItemWaits (item term)
 item-waits term h = record { functions_wait = λ c. tt; term_waits = h }
 
 pub keeps-waits : Keeps waiting

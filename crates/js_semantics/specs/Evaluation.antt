@@ -17,7 +17,7 @@ use Rattle.js_tree.specs.declared.script.FunctionCode.{FunctionCode}
 use Rattle.js_semantics.specs.Terms.{kept_source, beginning, call, Term, done, part, end, more, dones}
 use Rattle.js_semantics.specs.State.{State}
 use Rattle.js_semantics.specs.Functions.{Program}
-use Rattle.js_semantics.specs.Makers.{Made}
+use Rattle.js_semantics.specs.Makers.{MadeExpression}
 use Rattle.js_semantics.specs.Sources.{expression_source}
 use Rattle.js_semantics.specs.Literals.{source_literals}
 use Rattle.js_semantics.specs.declared.bounds.TheConstants.{MOST_STEPS}
@@ -143,7 +143,7 @@ abbrev pub next_kept : ScratchSpace → Addr
 next_kept x = Scratch (length x.cells)
 
 -- the term of a source that is kept at an address: an expression that stands in no statement
-abbrev pub kept_term : Addr → Made → Term
+abbrev pub kept_term : Addr → MadeExpression → Term
 kept_term at e = e.term (record { source = kept_source at; statement = 0; name = [] })
 
 -- with the cells of its literals, which stand behind that address
@@ -152,16 +152,16 @@ literals_placed (Scratch n) t = with_literals (λ i. Scratch i) (n + 1) t
 literals_placed (Base n) t = t
 
 -- the term of a kept source, its literals being their cells
-abbrev pub kept_tree : Addr → Made → Term
+abbrev pub kept_tree : Addr → MadeExpression → Term
 kept_tree at e = literals_placed at (kept_term at e)
 
 -- The program with the source of an evaluation in front. It is the program of later evaluations too, as long as the
 -- session keeps the source.
-abbrev pub with_source : Program → ScratchSpace → Made → Program
+abbrev pub with_source : Program → ScratchSpace → MadeExpression → Program
 with_source p x e = record { source = kept_source (next_kept x); tree = kept_tree (next_kept x) e } ∷ p
 
 -- a source with its string literals in its own order, and what is made of its tree
-abbrev pub prepared : World → ScratchSpace → List ℕ → List (List ℕ) → Made → Tried Term
+abbrev pub prepared : World → ScratchSpace → List ℕ → List (List ℕ) → MadeExpression → Tried Term
 prepared w x source order e =
     after_try (keep_source (copied_world w x) source)
     (λ at v. after_try (place_literals v order (literals (kept_term at e))) (λ u z. fine (kept_tree at e) z))
@@ -172,7 +172,7 @@ evaluated p scope receiver w t = answer_of (steps_in budget p scope (run_of t (e
 
 -- Evaluates a source's expression in a scope with a `this`. The program has the scripts and the sources kept before;
 -- this one is added, so that functions which it makes can be called.
-abbrev pub evaluate : Program → World → ScratchSpace → Addr → Value → List ℕ → List (List ℕ) → Made → Answer
+abbrev pub evaluate : Program → World → ScratchSpace → Addr → Value → List ℕ → List (List ℕ) → MadeExpression → Answer
 evaluate p w x scope receiver source order e =
     answered (prepared w x source order e) (evaluated (with_source p x e) scope receiver)
 
@@ -191,7 +191,7 @@ abbrev pub evaluate_call : Program
     → ScratchSpace
     → List ℕ
     → List (List ℕ)
-    → Made
+    → MadeExpression
     → Value
     → List Argument
     → Answer

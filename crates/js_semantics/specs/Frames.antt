@@ -9,7 +9,7 @@ use Rattle.js_heap.specs.declared.cell.ScopeKind.TheVariants as kinds
 use Rattle.js_heap.specs.declared.cell.Cell.{Cell}
 use Rattle.js_heap.specs.declared.cell.Cell.TheVariants as cells
 use Rattle.js_heap.specs.World.{World, read_cell}
-use Rattle.js_semantics.specs.Terms.{script_source, Mark, beginning, start, before_end, Spot, Form, script, enter, enter_debugger, enter_for, enter_for_of, frame, catching, call, Term, done, standing, part, Terms, end, more}
+use Rattle.js_semantics.specs.Terms.{script_source, Mark, beginning, start, before_end, SourceMark, Form, script, enter, enter_debugger, enter_for, enter_for_of, frame, catching, call, Term, done, standing, part, Terms, end, more}
 use Rattle.js_semantics.specs.State.{Frame, State}
 use Rattle.js_semantics.specs.Next.{scope_in}
 
@@ -18,7 +18,7 @@ use Rattle.js_semantics.specs.Next.{scope_in}
 -- a form whose parts are all values, or a throw that stands
 pub data Active : Type 0 where
   reduces : Form → List Value → Active
-  stands : Value → Spot → Active
+  stands : Value → SourceMark → Active
   nothing_left : Active
 
 -- the values of parts, or the first part that has none

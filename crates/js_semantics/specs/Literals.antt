@@ -4,7 +4,7 @@
 use Rattle.std.specs.Prelude.{ℕ, List, [], ◌∷◌, ◌++◌, if◌then◌else◌}
 use Rattle.js_tree.specs.declared.tree.Expr.{Expr}
 use Rattle.js_tree.specs.Trees as trees
-use Rattle.js_tree.specs.Trees.{Expression, Expressions, OptionalExpression, Key, Property, Properties, Statement, Statements, Handler, Finalizer}
+use Rattle.js_tree.specs.Trees.{Expression, Expressions, OptionalExpression, Key, PropertyDefinition, PropertyDefinitions, Statement, Statements, Handler, Finalizer}
 use Rattle.js_tree.specs.Targets.{is_target}
 use Rattle.js_tree.specs.Views.{expression_view}
 
@@ -49,13 +49,13 @@ abbrev mutual
   key_literals _ = []
 
   -- the string literals of a member of an object literal
-  pub property_literals : Property → List (List ℕ)
+  pub property_literals : PropertyDefinition → List (List ℕ)
   property_literals (trees.shorthand x) = []
   property_literals (trees.value k e) = key_literals k ++ expression_literals e
   property_literals (trees.method k ps body) = key_literals k ++ statements_literals body
 
   -- the string literals of each of these members
-  pub properties_literals : Properties → List (List ℕ)
+  pub properties_literals : PropertyDefinitions → List (List ℕ)
   properties_literals trees.no_properties = []
   properties_literals (trees.a_property p ps) = property_literals p ++ properties_literals ps
 

@@ -6,7 +6,7 @@ use Rattle.js_heap.specs.declared.value.Value.{Value}
 use Rattle.js_heap.specs.declared.value.Value.TheVariants as values
 use Rattle.js_heap.specs.declared.change.Counted.{Counted}
 use Rattle.js_heap.specs.BuiltIns.{script_scope, first_literal, first_world}
-use Rattle.js_semantics.specs.Terms.{script_source, Spot, Completion, throws, returns, breaks, continues, scripts, literal, Term, done, standing, part, Terms, end, more, settled}
+use Rattle.js_semantics.specs.Terms.{script_source, SourceMark, Completion, throws, returns, breaks, continues, scripts, literal, Term, done, standing, part, Terms, end, more, settled}
 use Rattle.js_semantics.specs.State.{Frame, State, Move, goes, travels, has_effect, is_full}
 use Rattle.js_semantics.specs.Functions.{Program}
 use Rattle.js_semantics.specs.Rows.{script_frame}
@@ -79,7 +79,7 @@ first_state ts input =
 -- how a run ended: normally, by a throw that no catch took, or, of an evaluation alone, by an effect or a full scratch
 pub data Finish : Type 0 where
   ended : Value → Finish
-  threw : Value → Spot → Finish
+  threw : Value → SourceMark → Finish
   by_effect : Finish
   by_full : Counted → Finish
 

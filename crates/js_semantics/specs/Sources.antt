@@ -18,18 +18,18 @@ use Rattle.js_tree.specs.declared.tree.Expr.TheFolds.{fold-Expr, fold-PropertyDe
 use Rattle.js_tree.specs.Views.{parameters_view}
 use Rattle.js_heap.specs.declared.value.Value.TheVariants as values
 use Rattle.js_semantics.specs.Terms.{Term, Terms, end, more}
-use Rattle.js_semantics.specs.Makers.{parameter_names, Made, Item, Items, PropertyKey, fixed_key, computed_key, PropertyMade, value_property, method_property, DeclaratorMade, CatchMade, value_made, number_made, string_made, this_made, name_made, array_made, parenthesized_made, member_made, index_made, assign_made, update_made, unary_made, binary_made, conditional_made, comma_made, call_made, function_made, returned_body, arrow_made, object_made, items_of, block_item, empty_item, expression_item, lexical_item, if_item, while_item, do_while_item, for_item, for_lexical_item, for_of_item, continue_item, break_item, return_item, throw_item, try_item, debugger_item, function_item, script_term}
+use Rattle.js_semantics.specs.Makers.{parameter_names, MadeExpression, MadeStatement, MadeStatements, PropertyKey, fixed_key, computed_key, MadeProperty, value_property, method_property, MadeDeclarator, MadeCatch, value_made, number_made, string_made, this_made, name_made, array_made, parenthesized_made, member_made, index_made, assign_made, update_made, unary_made, binary_made, conditional_made, comma_made, call_made, function_made, returned_body, arrow_made, object_made, items_of, block_item, empty_item, expression_item, lexical_item, if_item, while_item, do_while_item, for_item, for_lexical_item, for_of_item, continue_item, break_item, return_item, throw_item, try_item, debugger_item, function_item, script_term}
 
 -- what is made of each type of tree
 abbrev pub Layer :
     (Type 0 → Type 0 → Type 0 → Type 0 → Type 0 → Type 0 → Type 0 → Type 0 → Type 0 → Type 0 → Type 0 → Type 0)
     → Type 0
 Layer F =
-    F Made PropertyMade PropertyKey Item Items CatchMade DeclaratorMade (List DeclaratorMade) (List Made)
-    (List PropertyMade) Items
+    F MadeExpression MadeProperty PropertyKey MadeStatement MadeStatements MadeCatch MadeDeclarator (List MadeDeclarator) (List MadeExpression)
+    (List MadeProperty) MadeStatements
 
 -- one level of an expression, with what is made of its parts
-abbrev pub expression_layer : Layer Expr-F → Made
+abbrev pub expression_layer : Layer Expr-F → MadeExpression
 expression_layer (Expr-F.This node) = this_made node.0
 expression_layer (Expr-F.Name node n) = name_made node.0 n
 expression_layer (Expr-F.Number node v) = number_made node.0 v.value
@@ -62,13 +62,13 @@ key_layer (PropertyName-F.NumericLiteral v) = fixed_key (decimal v.value)
 key_layer (PropertyName-F.Computed e) = computed_key e
 
 -- one level of a member of an object literal
-abbrev pub property_layer : Layer PropertyDefinition-F → PropertyMade
+abbrev pub property_layer : Layer PropertyDefinition-F → MadeProperty
 property_layer (PropertyDefinition-F.Shorthand n) = value_property (fixed_key n) (name_made 0 n)
 property_layer (PropertyDefinition-F.Value k e) = value_property k e
 property_layer (PropertyDefinition-F.Method node k ps body) = method_property node.0 k ps body
 
 -- one level of a statement or declaration
-abbrev pub statement_layer : Layer Stmt-F → Item
+abbrev pub statement_layer : Layer Stmt-F → MadeStatement
 statement_layer (Stmt-F.Block b) = block_item b
 statement_layer (Stmt-F.Lexical node c ds) = lexical_item node.0 c ds
 statement_layer (Stmt-F.Empty node) = empty_item
@@ -89,119 +89,119 @@ statement_layer (Stmt-F.Debugger node) = debugger_item node.0
 statement_layer (Stmt-F.FunctionDeclaration node n ps body) = function_item node.0 n ps body
 
 -- one level of a block
-abbrev pub block_layer : Layer layers.Block-F → Items
+abbrev pub block_layer : Layer layers.Block-F → MadeStatements
 block_layer b = b.body
 
 -- one level of a catch
-abbrev pub catch_layer : Layer layers.Catch-F → CatchMade
+abbrev pub catch_layer : Layer layers.Catch-F → MadeCatch
 catch_layer c = record { name = c.parameter; body = c.block }
 
 -- one level of a declarator
-abbrev pub declarator_layer : Layer layers.Declarator-F → DeclaratorMade
+abbrev pub declarator_layer : Layer layers.Declarator-F → MadeDeclarator
 declarator_layer d = record { name = d.name; initializer = d.initializer }
 
 -- one level of the declarators of a declaration
-abbrev pub declarators_layer : Layer layers.Declarators-F → List DeclaratorMade
+abbrev pub declarators_layer : Layer layers.Declarators-F → List MadeDeclarator
 declarators_layer ds = ds.items.items
 
 -- one level of a list of expressions
-abbrev pub expressions_layer : Layer layers.Exprs-F → List Made
+abbrev pub expressions_layer : Layer layers.Exprs-F → List MadeExpression
 expressions_layer es = es.items.items
 
 -- one level of the members of an object literal
-abbrev pub properties_layer : Layer layers.PropertyDefinitions-F → List PropertyMade
+abbrev pub properties_layer : Layer layers.PropertyDefinitions-F → List MadeProperty
 properties_layer ps = ps.items.items
 
 -- one level of a list of statements
-abbrev pub statements_layer : Layer layers.Stmts-F → Items
+abbrev pub statements_layer : Layer layers.Stmts-F → MadeStatements
 statements_layer ss = items_of ss.items.items
 
 -- what is made of an expression
-unfoldable pub expression_source : Expr → Made
+unfoldable pub expression_source : Expr → MadeExpression
 expression_source =
-    fold-Expr Made PropertyMade PropertyKey Item Items CatchMade DeclaratorMade (List DeclaratorMade) (List Made)
-    (List PropertyMade)
-    Items expression_layer property_layer key_layer statement_layer block_layer catch_layer declarator_layer
+    fold-Expr MadeExpression MadeProperty PropertyKey MadeStatement MadeStatements MadeCatch MadeDeclarator (List MadeDeclarator) (List MadeExpression)
+    (List MadeProperty)
+    MadeStatements expression_layer property_layer key_layer statement_layer block_layer catch_layer declarator_layer
     declarators_layer expressions_layer properties_layer statements_layer
 
 -- what is made of a member of an object literal
-unfoldable pub property_source : PropertyDefinition → PropertyMade
+unfoldable pub property_source : PropertyDefinition → MadeProperty
 property_source =
-    fold-PropertyDefinition Made PropertyMade PropertyKey Item Items CatchMade DeclaratorMade (List DeclaratorMade)
-    (List Made) (List PropertyMade)
-    Items expression_layer property_layer key_layer statement_layer block_layer catch_layer declarator_layer
+    fold-PropertyDefinition MadeExpression MadeProperty PropertyKey MadeStatement MadeStatements MadeCatch MadeDeclarator (List MadeDeclarator)
+    (List MadeExpression) (List MadeProperty)
+    MadeStatements expression_layer property_layer key_layer statement_layer block_layer catch_layer declarator_layer
     declarators_layer expressions_layer properties_layer statements_layer
 
 -- what is made of a property's key
 unfoldable pub key_source : PropertyName → PropertyKey
 key_source =
-    fold-PropertyName Made PropertyMade PropertyKey Item Items CatchMade DeclaratorMade (List DeclaratorMade)
-    (List Made) (List PropertyMade)
-    Items expression_layer property_layer key_layer statement_layer block_layer catch_layer declarator_layer
+    fold-PropertyName MadeExpression MadeProperty PropertyKey MadeStatement MadeStatements MadeCatch MadeDeclarator (List MadeDeclarator)
+    (List MadeExpression) (List MadeProperty)
+    MadeStatements expression_layer property_layer key_layer statement_layer block_layer catch_layer declarator_layer
     declarators_layer expressions_layer properties_layer statements_layer
 
 -- what is made of a statement or declaration
-unfoldable pub statement_source : Stmt → Item
+unfoldable pub statement_source : Stmt → MadeStatement
 statement_source =
-    fold-Stmt Made PropertyMade PropertyKey Item Items CatchMade DeclaratorMade (List DeclaratorMade) (List Made)
-    (List PropertyMade)
-    Items expression_layer property_layer key_layer statement_layer block_layer catch_layer declarator_layer
+    fold-Stmt MadeExpression MadeProperty PropertyKey MadeStatement MadeStatements MadeCatch MadeDeclarator (List MadeDeclarator) (List MadeExpression)
+    (List MadeProperty)
+    MadeStatements expression_layer property_layer key_layer statement_layer block_layer catch_layer declarator_layer
     declarators_layer expressions_layer properties_layer statements_layer
 
 -- what is made of a block
-unfoldable pub block_source : Block → Items
+unfoldable pub block_source : Block → MadeStatements
 block_source =
-    fold-Block Made PropertyMade PropertyKey Item Items CatchMade DeclaratorMade (List DeclaratorMade) (List Made)
-    (List PropertyMade)
-    Items expression_layer property_layer key_layer statement_layer block_layer catch_layer declarator_layer
+    fold-Block MadeExpression MadeProperty PropertyKey MadeStatement MadeStatements MadeCatch MadeDeclarator (List MadeDeclarator) (List MadeExpression)
+    (List MadeProperty)
+    MadeStatements expression_layer property_layer key_layer statement_layer block_layer catch_layer declarator_layer
     declarators_layer expressions_layer properties_layer statements_layer
 
 -- what is made of a catch
-unfoldable pub catch_source : Catch → CatchMade
+unfoldable pub catch_source : Catch → MadeCatch
 catch_source =
-    fold-Catch Made PropertyMade PropertyKey Item Items CatchMade DeclaratorMade (List DeclaratorMade) (List Made)
-    (List PropertyMade)
-    Items expression_layer property_layer key_layer statement_layer block_layer catch_layer declarator_layer
+    fold-Catch MadeExpression MadeProperty PropertyKey MadeStatement MadeStatements MadeCatch MadeDeclarator (List MadeDeclarator) (List MadeExpression)
+    (List MadeProperty)
+    MadeStatements expression_layer property_layer key_layer statement_layer block_layer catch_layer declarator_layer
     declarators_layer expressions_layer properties_layer statements_layer
 
 -- what is made of a declarator
-unfoldable pub declarator_source : Declarator → DeclaratorMade
+unfoldable pub declarator_source : Declarator → MadeDeclarator
 declarator_source =
-    fold-Declarator Made PropertyMade PropertyKey Item Items CatchMade DeclaratorMade (List DeclaratorMade) (List Made)
-    (List PropertyMade)
-    Items expression_layer property_layer key_layer statement_layer block_layer catch_layer declarator_layer
+    fold-Declarator MadeExpression MadeProperty PropertyKey MadeStatement MadeStatements MadeCatch MadeDeclarator (List MadeDeclarator) (List MadeExpression)
+    (List MadeProperty)
+    MadeStatements expression_layer property_layer key_layer statement_layer block_layer catch_layer declarator_layer
     declarators_layer expressions_layer properties_layer statements_layer
 
 -- what is made of the declarators of a declaration
-unfoldable pub declarators_source : Declarators → List DeclaratorMade
+unfoldable pub declarators_source : Declarators → List MadeDeclarator
 declarators_source =
-    fold-Declarators Made PropertyMade PropertyKey Item Items CatchMade DeclaratorMade (List DeclaratorMade) (List Made)
-    (List PropertyMade)
-    Items expression_layer property_layer key_layer statement_layer block_layer catch_layer declarator_layer
+    fold-Declarators MadeExpression MadeProperty PropertyKey MadeStatement MadeStatements MadeCatch MadeDeclarator (List MadeDeclarator) (List MadeExpression)
+    (List MadeProperty)
+    MadeStatements expression_layer property_layer key_layer statement_layer block_layer catch_layer declarator_layer
     declarators_layer expressions_layer properties_layer statements_layer
 
 -- what is made of a list of expressions
-unfoldable pub expressions_source : Exprs → List Made
+unfoldable pub expressions_source : Exprs → List MadeExpression
 expressions_source =
-    fold-Exprs Made PropertyMade PropertyKey Item Items CatchMade DeclaratorMade (List DeclaratorMade) (List Made)
-    (List PropertyMade)
-    Items expression_layer property_layer key_layer statement_layer block_layer catch_layer declarator_layer
+    fold-Exprs MadeExpression MadeProperty PropertyKey MadeStatement MadeStatements MadeCatch MadeDeclarator (List MadeDeclarator) (List MadeExpression)
+    (List MadeProperty)
+    MadeStatements expression_layer property_layer key_layer statement_layer block_layer catch_layer declarator_layer
     declarators_layer expressions_layer properties_layer statements_layer
 
 -- what is made of the members of an object literal
-unfoldable pub properties_source : PropertyDefinitions → List PropertyMade
+unfoldable pub properties_source : PropertyDefinitions → List MadeProperty
 properties_source =
-    fold-PropertyDefinitions Made PropertyMade PropertyKey Item Items CatchMade DeclaratorMade (List DeclaratorMade)
-    (List Made) (List PropertyMade)
-    Items expression_layer property_layer key_layer statement_layer block_layer catch_layer declarator_layer
+    fold-PropertyDefinitions MadeExpression MadeProperty PropertyKey MadeStatement MadeStatements MadeCatch MadeDeclarator (List MadeDeclarator)
+    (List MadeExpression) (List MadeProperty)
+    MadeStatements expression_layer property_layer key_layer statement_layer block_layer catch_layer declarator_layer
     declarators_layer expressions_layer properties_layer statements_layer
 
 -- what is made of a list of statements
-unfoldable pub statements_source : Stmts → Items
+unfoldable pub statements_source : Stmts → MadeStatements
 statements_source =
-    fold-Stmts Made PropertyMade PropertyKey Item Items CatchMade DeclaratorMade (List DeclaratorMade) (List Made)
-    (List PropertyMade)
-    Items expression_layer property_layer key_layer statement_layer block_layer catch_layer declarator_layer
+    fold-Stmts MadeExpression MadeProperty PropertyKey MadeStatement MadeStatements MadeCatch MadeDeclarator (List MadeDeclarator) (List MadeExpression)
+    (List MadeProperty)
+    MadeStatements expression_layer property_layer key_layer statement_layer block_layer catch_layer declarator_layer
     declarators_layer expressions_layer properties_layer statements_layer
 
 -- the term of a script

@@ -10,7 +10,7 @@ use Rattle.js_heap.specs.declared.change.Change.{Change}
 use Rattle.js_heap.specs.declared.change.Counted.{Counted}
 use Rattle.js_heap.specs.World.{World, Tried, fine, effect, full, make_cell, write_cell, is_evaluation}
 use Rattle.js_heap.specs.BuiltIns.{heap_full_error, message_property}
-use Rattle.js_semantics.specs.Terms.{Source, script_source, Mark, beginning, Spot, Completion, Term, done, standing}
+use Rattle.js_semantics.specs.Terms.{Source, script_source, Mark, beginning, SourceMark, Completion, Term, done, standing}
 
 -- An active call, or the script as the bottom one: its function, the source of its code, its `this`, the scope of its
 -- body, and `here`, the place of the statement last entered or call last reduced in it.
@@ -31,15 +31,15 @@ pub record State : Type 0 where
   pub printed : List (List ℕ)
 
 -- what a step tells besides
-pub data Told : Type 0 where
-  went : Told
-  raised : Told
-  printed_values : List Value → Told
+pub data StepTold : Type 0 where
+  went : StepTold
+  raised : StepTold
+  printed_values : List Value → StepTold
 
 -- What a step makes of a part: another part, with the state after it; a completion that travels on outward; or the end
 -- of an evaluation, by an effect or by a full scratch.
 pub data Move (T : Type 0) : Type 0 where
-  goes : T → State → Told → Move T
+  goes : T → State → StepTold → Move T
   travels : Completion → State → Move T
   has_effect : State → Move T
   is_full : Counted → State → Move T
@@ -92,12 +92,12 @@ rest_of [] = []
 rest_of (f ∷ fs) = fs
 
 -- where the top frame stands; without a frame at the beginning of no script
-abbrev pub top_spot : List Frame → Spot
+abbrev pub top_spot : List Frame → SourceMark
 top_spot [] = record { source = script_source 0; mark = beginning }
 top_spot (f ∷ fs) = record { source = f.source; mark = f.here }
 
 -- the place of the top frame; in an evaluation outside all calls the beginning of no script
-abbrev pub spot_of : State → Spot
+abbrev pub spot_of : State → SourceMark
 spot_of s = top_spot s.frames
 
 -- the top frame's `this`, or where there is no frame the one outside all calls

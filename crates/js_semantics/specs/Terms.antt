@@ -9,7 +9,7 @@ pub use Rattle.js_semantics.specs.declared.form.Source.{Source}
 pub use Rattle.js_semantics.specs.declared.form.Source.TheVariants.{Script as script_source, Kept as kept_source}
 pub use Rattle.js_semantics.specs.declared.form.Mark.{Mark}
 pub use Rattle.js_semantics.specs.declared.form.Mark.TheVariants.{Beginning as beginning, Start as start, BeforeEnd as before_end}
-pub use Rattle.js_semantics.specs.declared.form.Spot.{Spot}
+pub use Rattle.js_semantics.specs.declared.form.SourceMark.{SourceMark}
 pub use Rattle.js_semantics.specs.declared.form.Completion.{Completion}
 pub use Rattle.js_semantics.specs.declared.form.Completion.TheVariants.{Throws as throws, Returns as returns, Breaks as breaks, Continues as continues}
 pub use Rattle.js_semantics.specs.declared.form.Reference.{Reference}
@@ -29,7 +29,7 @@ pub use Rattle.js_semantics.specs.declared.form.Form.TheVariants.{Scripts as scr
 mutual
   pub data Term : Type 0 where
     done : Value → Term
-    standing : Value → Spot → Term
+    standing : Value → SourceMark → Term
     part : Form → Terms → Terms → Term
 
   pub data Terms : Type 0 where

@@ -4,9 +4,9 @@ ghost use Rattle.std.specs.Prelude.{◌≡◌};
 
 use cdp_text::units::Units;
 use js_heap::built_in::Code;
-use js_heap::cell::{Binding, Names as ScopeNames};
+use js_heap::cell::{Binding, ScopeNames};
 use js_heap::value::{Addr, Value};
-use js_tree::names::Names;
+use js_tree::names::ParameterNames;
 use js_tree_operators::operator::{BinaryOperator, UnaryOperator, UpdateOperator};
 use std::marker::Model;
 
@@ -27,7 +27,7 @@ pub enum Mark {
 
 /// A place in one of the sources.
 #[derive(Clone, Copy)]
-pub struct Spot {
+pub struct SourceMark {
     pub source: Source,
     pub mark: Mark,
 }
@@ -35,7 +35,7 @@ pub struct Spot {
 /// How a statement ends that doesn't end normally (ECMA-262, 6.2.4). A throw has the place of its fresh raise.
 #[derive(Clone, Copy)]
 pub enum Completion {
-    Throws(Value, Spot),
+    Throws(Value, SourceMark),
     Returns(Value),
     Breaks,
     Continues,
@@ -57,7 +57,7 @@ pub struct FunctionForm {
     pub code: Code,
     pub node: u32,
     pub name: Units,
-    pub parameters: Names,
+    pub parameters: ParameterNames,
     pub names: ScopeNames,
     pub is_arrow: bool,
     pub is_named: bool,

@@ -9,7 +9,7 @@ ghost use Rattle.js_heap.specs.declared.value.Addr.{Addr};
 ghost use Rattle.js_semantics.specs.Terms.{Mark, Term, Terms, script_source, kept_source, all_done};
 ghost use Rattle.js_semantics.specs.State.{State};
 ghost use Rattle.js_semantics.specs.Functions.{Program, function_in, function_at};
-ghost use Rattle.js_semantics.specs.Makers.{Made};
+ghost use Rattle.js_semantics.specs.Makers.{MadeExpression};
 ghost use Rattle.js_semantics.specs.Next.{next};
 ghost use Rattle.js_semantics.specs.Run.{literals, Run, Finish, over, program_of, state_of, steps_in, plain, out};
 ghost use Rattle.js_heap.specs.declared.value.Value.{Value};
@@ -72,12 +72,12 @@ pub fn steps_keep_sound()
 
 /// An evaluation leaves the program's cells as they are, and those that its session made before.
 pub fn an_evaluation_disturbs_nothing()
-    ensures { (p : Program) (w : World) (x : ScratchSpace) (scope : Addr) (receiver : Value) (source : List ℕ) (order : List (List ℕ)) (e : Made) → AnswerKeeps w x (evaluate p w x scope receiver source order e) }
+    ensures { (p : Program) (w : World) (x : ScratchSpace) (scope : Addr) (receiver : Value) (source : List ℕ) (order : List (List ℕ)) (e : MadeExpression) → AnswerKeeps w x (evaluate p w x scope receiver source order e) }
 {}
 
 /// A call of a function leaves the program's cells as they are, and those that its session made before.
 pub fn an_evaluated_call_disturbs_nothing()
-    ensures { (p : Program) (w : World) (x : ScratchSpace) (source : List ℕ) (order : List (List ℕ)) (callee : Made) (receiver : Value) (arguments : List Argument) → AnswerKeeps w x (evaluate_call p w x source order callee receiver arguments) }
+    ensures { (p : Program) (w : World) (x : ScratchSpace) (source : List ℕ) (order : List (List ℕ)) (callee : MadeExpression) (receiver : Value) (arguments : List Argument) → AnswerKeeps w x (evaluate_call p w x source order callee receiver arguments) }
 {}
 
 /// An evaluation that begins in a sound world, in a live scope and with a live `this`, answers a live value in a sound
@@ -94,8 +94,8 @@ pub fn an_evaluated_call_keeps_sound()
 
 /// The code of a function that an evaluation makes is found in its source, and that of a script's function where it was.
 pub fn an_evaluation_finds_its_functions()
-    ensures own { (p : Program) (x : ScratchSpace) (e : Made) (node : ℕ) → function_at (with_source p x e) (kept_source (next_kept x)) node ≡ function_in node (kept_tree (next_kept x) e) }
-    ensures others { (p : Program) (x : ScratchSpace) (e : Made) (number node : ℕ) → function_at (with_source p x e) (script_source number) node ≡ function_at p (script_source number) node }
+    ensures own { (p : Program) (x : ScratchSpace) (e : MadeExpression) (node : ℕ) → function_at (with_source p x e) (kept_source (next_kept x)) node ≡ function_in node (kept_tree (next_kept x) e) }
+    ensures others { (p : Program) (x : ScratchSpace) (e : MadeExpression) (number node : ℕ) → function_at (with_source p x e) (script_source number) node ≡ function_at p (script_source number) node }
 {}
 
 /// The term of an evaluation's tree has the string literals of its source, though in an order of its own: each measure of

@@ -10,7 +10,8 @@
 //! - `Move`: what a step makes of a term: another term, a completion that travels on outward, or the end of an evaluation.
 //! - `row`: the table of steps: the action of a form whose parts have their values. `next` is one step, of the leftmost innermost part.
 //! - `Run`: a term with its state, or how the run ended; `plain` is the run of scripts after so many steps.
-//! - `Made` and `Item`: the makers' answers, from which the terms of expressions and statements come for the place where they stand.
+//! - `MadeExpression` and `MadeStatement`: the makers' answers, from which the terms of expressions and statements come
+//!   for the place where they stand.
 //! - Sound (`SoundRun`): all that is named is live and of the right kind. Shaped (`ShapedRun`): each form has the parts that its row takes.
 //!   Waiting (`RunWaits`): what takes no step is done at once. Listed (`RunListsFrames`): the frames of the state are those of the term.
 #![tactic(auto)]

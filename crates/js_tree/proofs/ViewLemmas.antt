@@ -27,7 +27,7 @@ use Rattle.js_tree.specs.declared.tree.PropertyName.TheVariants.{rolls-Word, rol
 use Rattle.js_tree.specs.declared.tree.PropertyDefinition.TheVariants.{rolls-Shorthand, rolls-Value, rolls-Method}
 use Rattle.js_tree.specs.declared.tree.Expr.TheViews as views
 use Rattle.js_tree.specs.Trees as trees
-use Rattle.js_tree.specs.Trees.{Expression, Expressions, Property, Properties, Key, Statement, Statements, Handler}
+use Rattle.js_tree.specs.Trees.{Expression, Expressions, PropertyDefinition as Property, PropertyDefinitions as Properties, Key, Statement, Statements, Handler}
 use Rattle.js_tree.specs.Views.{parameters_view, optional_view, handler_view, finalizer_view, expressions, statements, properties, declarators, expression_view, property_view, key_view, statement_view, block_view, catch_view, declarator_view, declarators_view, expressions_view, properties_view, statements_view, expression_step, property_step, key_step, statement_step, block_step, catch_step, declarator_step, declarators_step, expressions_step, properties_step, statements_step}
 
 -- one level of each type, with the trees themselves in its places

@@ -1,7 +1,7 @@
 -- How deep a tree is: the greatest number of statements, expressions and methods on a path from its root. The project's
 -- own.
 use Rattle.std.specs.Prelude.{ℕ, suc, max}
-use Rattle.js_tree.specs.Trees.{Expression, array, object, function, arrow, arrow_block, parenthesized, member, index, call, postfix, prefix, unary, binary, conditional, assign, comma, Expressions, no_expressions, an_expression, OptionalExpression, omitted, present, Key, computed_key, Property, shorthand, value, method, Properties, no_properties, a_property, Declarator, declarator, Declarators, no_declarators, a_declarator, Statement, block, lexical, expression, if_then, if_else, do_while, while, for, for_lexical, for_of, return, throw, try, declared_function, Handler, no_catch, catch, Finalizer, no_finally, finally, Statements, no_statements, a_statement}
+use Rattle.js_tree.specs.Trees.{Expression, array, object, function, arrow, arrow_block, parenthesized, member, index, call, postfix, prefix, unary, binary, conditional, assign, comma, Expressions, no_expressions, an_expression, OptionalExpression, omitted, present, Key, computed_key, PropertyDefinition, shorthand, value, method, PropertyDefinitions, no_properties, a_property, Declarator, declarator, Declarators, no_declarators, a_declarator, Statement, block, lexical, expression, if_then, if_else, do_while, while, for, for_lexical, for_of, return, throw, try, declared_function, Handler, no_catch, catch, Finalizer, no_finally, finally, Statements, no_statements, a_statement}
 
 -- Each statement, expression and method counts one over its parts. Lists, declarators, other members, names and a catch
 -- count nothing of their own; the blocks of a try are statements.
@@ -42,13 +42,13 @@ abbrev mutual
   height_of_key _ = 0
 
   -- the height of a member of an object literal
-  pub height_of_property : Property → ℕ
+  pub height_of_property : PropertyDefinition → ℕ
   height_of_property (shorthand n) = 0
   height_of_property (value k e) = max (height_of_key k) (height e)
   height_of_property (method k ps body) = suc (max (height_of_key k) (height_of_statements body))
 
   -- the greatest height of these members
-  pub height_of_properties : Properties → ℕ
+  pub height_of_properties : PropertyDefinitions → ℕ
   height_of_properties no_properties = 0
   height_of_properties (a_property p ps) = max (height_of_property p) (height_of_properties ps)
 

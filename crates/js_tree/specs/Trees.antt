@@ -24,7 +24,7 @@ mutual
     boolean : Bool → Expression
     null : Expression
     array : Expressions → Expression
-    object : Properties → Expression
+    object : PropertyDefinitions → Expression
     function : Option Identifier → List Identifier → Statements → Expression
     arrow : Parameters → Expression → Expression
     arrow_block : Parameters → Statements → Expression
@@ -57,14 +57,14 @@ mutual
     computed_key : Expression → Key
 
   -- a member of an object literal
-  pub data Property : Type 0 where
-    shorthand : Identifier → Property
-    value : Key → Expression → Property
-    method : Key → List Identifier → Statements → Property
+  pub data PropertyDefinition : Type 0 where
+    shorthand : Identifier → PropertyDefinition
+    value : Key → Expression → PropertyDefinition
+    method : Key → List Identifier → Statements → PropertyDefinition
 
-  pub data Properties : Type 0 where
-    no_properties : Properties
-    a_property : Property → Properties → Properties
+  pub data PropertyDefinitions : Type 0 where
+    no_properties : PropertyDefinitions
+    a_property : PropertyDefinition → PropertyDefinitions → PropertyDefinitions
 
   -- a declared name with its initializer
   pub data Declarator : Type 0 where

@@ -18,7 +18,7 @@ use Rattle.js_tree.specs.declared.tree.Expr.TheOpen as layers
 use Rattle.js_tree.specs.declared.tree.Expr.TheOpen.{Expr-F, Stmt-F, PropertyName-F, PropertyDefinition-F}
 use Rattle.js_tree.specs.declared.tree.Expr.TheFolds.{fold-Expr, fold-Stmt, fold-Exprs, fold-Stmts, fold-PropertyName, fold-PropertyDefinition, fold-PropertyDefinitions, fold-Declarator, fold-Declarators, fold-Block, fold-Catch}
 use Rattle.js_tree.specs.Trees as trees
-use Rattle.js_tree.specs.Trees.{Expression, Expressions, OptionalExpression, Key, Property, Properties, Statement, Statements, Handler, Finalizer, Parameters}
+use Rattle.js_tree.specs.Trees.{Expression, Expressions, OptionalExpression, Key, PropertyDefinition as Property, PropertyDefinitions as Properties, Statement, Statements, Handler, Finalizer, Parameters}
 
 -- the parameters of an arrow function
 abbrev pub parameters_view : ArrowParameters → Parameters

@@ -7,11 +7,11 @@ use std::marker::Model;
 
 /// The names of parameters, in order. Contracts see a list of the names' code units.
 #[derive(Drop)]
-pub struct Names {
+pub struct ParameterNames {
     items: Vec<Units>,
 }
 
-impl Model for Names {
+impl Model for ParameterNames {
     ghost use Rattle.std.specs.Prelude.{List, ℕ};
     ghost use Rattle.std.specs.Coded.{coded_ℕ, coded_list};
 
@@ -22,12 +22,12 @@ impl Model for Names {
     ghost view = { λ names. names.items.items };
 }
 
-impl Names {
+impl ParameterNames {
     /// The names in the memory of the vector.
-    pub fn from_vec(items: Vec<Units>) -> Names
+    pub fn from_vec(items: Vec<Units>) -> ParameterNames
         ensures { result ≡ items.items }
     {
-        Names { items }
+        ParameterNames { items }
     }
 
     /// The names.

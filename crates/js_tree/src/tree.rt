@@ -3,7 +3,7 @@
 //! The lists in a tree are small types over a vector.
 
 use crate::integer::SafeInteger;
-use crate::names::Names;
+use crate::names::ParameterNames;
 use crate::node::NodeId;
 use cdp_text::units::Units;
 use js_tree_operators::operator::{
@@ -16,7 +16,7 @@ pub enum ArrowParameters {
     /// One name without parentheses.
     Name(Units),
     /// Names in parentheses.
-    List(Names),
+    List(ParameterNames),
 }
 
 /// An expression (ECMA-262, 13).
@@ -65,7 +65,7 @@ pub enum Expr {
     Function {
         node: NodeId,
         name: Option<Units>,
-        parameters: Names,
+        parameters: ParameterNames,
         body: Stmts,
     },
     /// `parameters => body` with an expression (15.3).
@@ -181,7 +181,7 @@ pub enum PropertyDefinition {
     Method {
         node: NodeId,
         key: PropertyName,
-        parameters: Names,
+        parameters: ParameterNames,
         body: Stmts,
     },
 }
@@ -314,7 +314,7 @@ pub enum Stmt {
     FunctionDeclaration {
         node: NodeId,
         name: Units,
-        parameters: Names,
+        parameters: ParameterNames,
         body: Stmts,
     },
 }

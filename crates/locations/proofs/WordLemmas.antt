@@ -5,7 +5,7 @@ use Rattle.js_tree.specs.declared.tree.Expr.TheOpen.{Expr-F}
 use Rattle.js_tree.specs.declared.tree.Expr.TheFolds.{map-Expr}
 use Rattle.js_tree.specs.declared.tree.Expr.TheViews as views
 use Rattle.js_tree.proofs.ViewLemmas.{Layer}
-use Rattle.js_semantics.specs.Makers.{Made}
+use Rattle.js_semantics.specs.Makers.{MadeExpression}
 use Rattle.js_semantics.specs.Sources as sources
 use Rattle.js_semantics.specs.Sources.{expression_source}
 use Rattle.js_semantics.proofs.TreeFolds.{Claims, Known, known_trees, Grows, every-expression}
@@ -15,7 +15,7 @@ use Rattle.locations.specs.Marks.{Marking, expression_marks, expression_layer}
 use Rattle.locations.proofs.TreeLemmas.{marks_of, expression_turn}
 
 -- what is made of an expression, and its marks, name one node and one last word
-record SameHead (e : Made) (m : Marking) : Type 0 where
+record SameHead (e : MadeExpression) (m : Marking) : Type 0 where
   same_node : m.node ≡ e.node
   same_word : m.last_word ≡ e.last_word
 
@@ -67,7 +67,7 @@ heads = record {
 rolled-head : (x : Layer Expr-F)
     → SameHead (expression_source (views.roll-Expr x)) (expression_marks (views.roll-Expr x))
 rolled-head x =
-    subst (λ (e : Made). SameHead e (expression_marks (views.roll-Expr x))) (sym (made.expression_turn x))
+    subst (λ (e : MadeExpression). SameHead e (expression_marks (views.roll-Expr x))) (sym (made.expression_turn x))
     (subst (λ (m : Marking). SameHead (sources.expression_layer (made_parts Expr-F map-Expr x)) m)
     (sym (expression_turn x)) (level-head x))
 

@@ -42,7 +42,7 @@ pub fn first_at_or_after(spots: &[Spot], pos: Pos) -> Option<Spot>
 /// The locations that aren't before the start, and are before the end, where there is one.
 ///
 /// The locations are in ascending order, as `break_locations` gives them. By halving.
-pub fn between(spots: &[Spot], start: Pos, end: Option<Pos>) -> &[Spot]
+pub fn spots_between(spots: &[Spot], start: Pos, end: Option<Pos>) -> &[Spot]
     requires { IsAscending spots.now }
     ensures { result.now ≡ filter (is_between start end) spots.now }
 {

@@ -15,7 +15,7 @@ use Rattle.js_semantics.specs.State.{Frame, State, top_spot}
 use Rattle.js_semantics.specs.Frames.{Active, reduces, stands, nothing_left, Leftmost, only_values, inner, behind, active_of, active, leftmost, offset_of, arrival, is_debugger, in_bottom, shown_frames, scopes_at, with_scopes, reversed_onto, frame_at}
 use Rattle.locations.specs.declared.spot.SpotKind.TheVariants as kinds
 use Rattle.locations.specs.declared.marks.Marked.{Marked}
-use Rattle.locations_arrivals.specs.Belonging.{HasMark, FirstReturns, Closes, FormBelongs, Sources, top, top_marks, sources_of, TermStands, AllStand, ScriptStands, ScriptsStand, RunningStands}
+use Rattle.locations_arrivals.specs.Belonging.{HasMark, FirstReturns, Closes, FormBelongs, MarkedSources, top, top_marks, sources_of, TermStands, AllStand, ScriptStands, ScriptsStand, RunningStands}
 use Rattle.locations_arrivals.proofs.StepLemmas.{Inside, opened}
 
 -- ---- what is about to be reduced
@@ -42,44 +42,44 @@ form-active P (call place node) vs later h = h
 form-active P f vs later h = tt
 
 -- the sources of frames run
-abbrev pub EachRuns : Sources → List Source → Type 0
+abbrev pub EachRuns : MarkedSources → List Source → Type 0
 EachRuns R [] = Unit {0}
 EachRuns R (source ∷ sources) = R.runs source × EachRuns R sources
 
-abbrev AllRun : Sources → List Source → Type 0
+abbrev AllRun : MarkedSources → List Source → Type 0
 AllRun R all = R.runs (top all) × EachRuns R all
 
 -- so does a script that is about to begin
-abbrev ScriptRuns : Sources → Active → Type 0
+abbrev ScriptRuns : MarkedSources → Active → Type 0
 ScriptRuns R (reduces (script number names) vs) = R.runs (script_source number)
 ScriptRuns R a = Unit {0}
 
 -- what is known where a throw stands
-abbrev pub ThrowKnown : Sources → Active → Type 0
+abbrev pub ThrowKnown : MarkedSources → Active → Type 0
 ThrowKnown R (stands v place) = R.raises
 ThrowKnown R a = Unit {0}
 
 -- the sources of all frames run, and that of the top one has the place of what is about to be reduced
-pub record ActiveStands (R : Sources) (all : List Source) (a : Active) : Type 0 where
+pub record ActiveStands (R : MarkedSources) (all : List Source) (a : Active) : Type 0 where
   pub all_run : AllRun R all
   pub script_runs : ScriptRuns R a
   pub throw_known : ThrowKnown R a
   pub belongs : ActiveBelongs (top_marks R all) a
 
-abbrev LeftmostStands : Sources → List Source → List Source → Leftmost → Type 0
+abbrev LeftmostStands : MarkedSources → List Source → List Source → Leftmost → Type 0
 LeftmostStands R outside all (only_values vs) = all ≡ outside
 LeftmostStands R outside all (inner a) = ActiveStands R all a
 
-behind-stands : (R : Sources) (outside all : List Source) (v : Value) (l : Leftmost)
+behind-stands : (R : MarkedSources) (outside all : List Source) (v : Value) (l : Leftmost)
     → LeftmostStands R outside all l
     → LeftmostStands R outside all (behind v l)
 behind-stands R outside all v (only_values vs) h = h
 behind-stands R outside all v (inner a) h = h
 
-runs-here : (R : Sources) (outside all : List Source) → all ≡ outside → AllRun R outside → AllRun R all
+runs-here : (R : MarkedSources) (outside all : List Source) → all ≡ outside → AllRun R outside → AllRun R all
 runs-here R outside all e h = subst (λ (x : List Source). AllRun R x) (sym e) h
 
-form-runs : (R : Sources) (P : Marked → Type 0) (f : Form) (vs : List Value) (later : Terms)
+form-runs : (R : MarkedSources) (P : Marked → Type 0) (f : Form) (vs : List Value) (later : Terms)
     → FormBelongs P f later
     → ScriptRuns R (reduces f vs)
 form-runs R P (script number names) vs later h = absurd h
@@ -99,7 +99,7 @@ closing-mark : (P : Marked → Type 0) (node : ℕ) (now : Terms) (vs : List Val
 closing-mark P node now vs (inl r) e = absurd (never-ends now vs r e)
 closing-mark P node now vs (inr m) e = m
 
-reduced-stands : (R : Sources) (outside : List Source) (f : Form) (now later : Terms) (parts all : List Source)
+reduced-stands : (R : MarkedSources) (outside : List Source) (f : Form) (now later : Terms) (parts all : List Source)
     (l : Leftmost)
     → leftmost now ≡ l
     → AllRun R parts
@@ -128,7 +128,7 @@ reduced-stands R outside f now later parts all (only_values vs) e r i h =
           (form-active (top_marks R outside) f vs later i.1);
     }
 
-inside-runs : (R : Sources) (outside : List Source) (f : Form) (now later : Terms) (parts : List Source)
+inside-runs : (R : MarkedSources) (outside : List Source) (f : Form) (now later : Terms) (parts : List Source)
     → AllRun R outside
     → Inside R outside f now later parts
     → AllRun R parts
@@ -136,7 +136,7 @@ inside-runs R outside (frame node a) now later parts r i = runs-here R (i.0 ∷ 
 inside-runs R outside f now later parts r i = runs-here R outside parts i.0 r
 
 mutual
-  active-stands : (R : Sources) (outside : List Source) (t : Term) (all : List Source)
+  active-stands : (R : MarkedSources) (outside : List Source) (t : Term) (all : List Source)
       → AllRun R outside
       → TermStands R outside t all
       → ActiveStands R all (active t)
@@ -150,7 +150,7 @@ mutual
       reduced-stands R outside f now later o.0 all (leftmost now) refl within o.1
       (leftmost-stands R o.0 now all within o.2)
 
-  leftmost-stands : (R : Sources) (outside : List Source) (ts : Terms) (all : List Source)
+  leftmost-stands : (R : MarkedSources) (outside : List Source) (ts : Terms) (all : List Source)
       → AllRun R outside
       → AllStand R outside ts all
       → LeftmostStands R outside all (leftmost ts)
@@ -163,10 +163,10 @@ mutual
 
 -- ---- scripts
 
-alone : (R : Sources) (source : Source) → R.runs source → AllRun R (source ∷ [])
+alone : (R : MarkedSources) (source : Source) → R.runs source → AllRun R (source ∷ [])
 alone R source r = (r, (r, tt))
 
-script-active : (R : Sources) (source : Source) (f : Form) (now later : Terms) (all : List Source)
+script-active : (R : MarkedSources) (source : Source) (f : Form) (now later : Terms) (all : List Source)
     → R.runs source
     → ScriptStands R source (part f now later) all
     → ActiveStands R all (active (part f now later))
@@ -181,7 +181,7 @@ script-active R source (script number names) end later all r h =
 script-active R source (script number names) (more t ts) later all r h = absurd h.1
 script-active R source f now later all r h = active-stands R (source ∷ []) (part f now later) all (alone R source r) h
 
-scripts-leftmost : (R : Sources) (source : Source) (ts : Terms) (all : List Source)
+scripts-leftmost : (R : MarkedSources) (source : Source) (ts : Terms) (all : List Source)
     → R.runs source
     → ScriptsStand R source ts all
     → LeftmostStands R (source ∷ []) all (leftmost ts)
@@ -198,7 +198,7 @@ scripts-leftmost R source (more (standing v place) ts) all r h =
     }
 scripts-leftmost R source (more (part f now later) ts) all r h = script-active R source f now later all r h.0
 
-scripts-active : (R : Sources) (source : Source) (all : List Source) (l : Leftmost)
+scripts-active : (R : MarkedSources) (source : Source) (all : List Source) (l : Leftmost)
     → R.runs source
     → LeftmostStands R (source ∷ []) all l
     → ActiveStands R all (active_of scripts l)
@@ -212,7 +212,7 @@ scripts-active R source all (only_values vs) r h =
     }
 scripts-active R source all (inner a) r h = h
 
-pub running-active : (R : Sources) (t : Term) (all : List Source)
+pub running-active : (R : MarkedSources) (t : Term) (all : List Source)
     → RunningStands R t all
     → ActiveStands R all (active t)
 running-active R (done v) all h = absurd h
@@ -228,13 +228,13 @@ pub top-source : (fs : List Frame) → top (sources_of fs) ≡ (top_spot fs).sou
 top-source [] = refl
 top-source (f ∷ fs) = refl
 
-bottom-runs : (R : Sources) (a : Active) (f : Frame) → ScriptRuns R a → R.runs f.source → R.runs (in_bottom a f).source
+bottom-runs : (R : MarkedSources) (a : Active) (f : Frame) → ScriptRuns R a → R.runs f.source → R.runs (in_bottom a f).source
 bottom-runs R (reduces (script number names) vs) f k h = k
 bottom-runs R (reduces g vs) f k h = h
 bottom-runs R (stands v place) f k h = h
 bottom-runs R nothing_left f k h = h
 
-shown-run : (R : Sources) (a : Active) (fs : List Frame)
+shown-run : (R : MarkedSources) (a : Active) (fs : List Frame)
     → ScriptRuns R a
     → EachRuns R (sources_of fs)
     → EachRuns R (sources_of (shown_frames a fs))
@@ -242,7 +242,7 @@ shown-run R a [] k h = tt
 shown-run R a (f ∷ []) k h = (bottom-runs R a f k h.0, tt)
 shown-run R a (f ∷ g ∷ fs) k h = (h.0, shown-run R a (g ∷ fs) k h.1)
 
-scoped-run : (R : Sources) (fs : List Frame) (scopes : List Addr)
+scoped-run : (R : MarkedSources) (fs : List Frame) (scopes : List Addr)
     → EachRuns R (sources_of fs)
     → EachRuns R (sources_of (with_scopes fs scopes))
 scoped-run R [] scopes h = h
@@ -252,7 +252,7 @@ scoped-run R (f ∷ fs) (a ∷ scopes) h = (h.0, scoped-run R fs scopes h.1)
 same_frame : (f g : Frame) → Some f ≡ Some g → f ≡ g
 same_frame f g e = cc
 
-found-runs : (R : Sources) (fs : List Frame) (d : ℕ) (f : Frame)
+found-runs : (R : MarkedSources) (fs : List Frame) (d : ℕ) (f : Frame)
     → EachRuns R (sources_of fs)
     → slice_get fs d ≡ Some f
     → R.runs f.source
@@ -261,7 +261,7 @@ found-runs R (g ∷ fs) zero f h e = subst (λ (x : Frame). R.runs x.source) (sa
 found-runs R (g ∷ fs) (suc d) f h e = found-runs R fs d f h.1 e
 
 -- the source of each active frame runs
-pub frame-runs : (R : Sources) (scope : Addr) (t : Term) (s : State) (d : ℕ) (f : Frame)
+pub frame-runs : (R : MarkedSources) (scope : Addr) (t : Term) (s : State) (d : ℕ) (f : Frame)
     → ActiveStands R (sources_of s.frames) (active t)
     → frame_at d scope t s ≡ Some f
     → R.runs f.source

@@ -13,7 +13,7 @@ use Rattle.js_semantics.specs.declared.form.Mark.TheVariants.{Start as start}
 use Rattle.js_semantics.specs.declared.form.Reference.TheVariants.{Name as to_name}
 use Rattle.js_semantics.specs.declared.form.Form.TheVariants.{Choose as choose, Loop as loop, Return as return_, Throw as throw_, Read as read}
 use Rattle.js_semantics.specs.Terms.{Term, done, standing, part, Terms, end, more, one}
-use Rattle.js_semantics.specs.Makers.{Context, Made, Item, Items, PropertyKey, fixed_key, computed_key, PropertyMade, value_property, method_property, DeclaratorMade, CatchMade, Parts, nothing, loop_parts, for_parts, unnamed, naming, within, plain, plains, made, name_made, member_made, assigned_to, compounded, updated, deleted, type_of, assignment, unary_term, binary_term, conditional_made, comma_term, place_or, call_term, call_made, no_items, body_terms, function_made, returned_body, arrow_made, property_parts, properties_parts, and_items, block_term, block_item, empty_item, untouched, expression_item, initializer_terms, declarators_terms, lexical_item, if_item, while_item, do_while_item, optional_term, optional_terms, for_item, for_lexical_item, for_of_item, continue_item, break_item, return_item, throw_item, caught, finally_term, try_item, debugger_item, function_item}
+use Rattle.js_semantics.specs.Makers.{LoweringContext, MadeExpression, MadeStatement, MadeStatements, PropertyKey, fixed_key, computed_key, MadeProperty, value_property, method_property, MadeDeclarator, MadeCatch, Parts, nothing, loop_parts, for_parts, unnamed, naming, within, plain, plains, made, name_made, member_made, assigned_to, compounded, updated, deleted, type_of, assignment, unary_term, binary_term, conditional_made, comma_term, place_or, call_term, call_made, no_items, body_terms, function_made, returned_body, arrow_made, property_parts, properties_parts, and_items, block_term, block_item, empty_item, untouched, expression_item, initializer_terms, declarators_terms, lexical_item, if_item, while_item, do_while_item, optional_term, optional_terms, for_item, for_lexical_item, for_of_item, continue_item, break_item, return_item, throw_item, caught, finally_term, try_item, debugger_item, function_item}
 use Rattle.locations.specs.declared.spot.SpotKind.{SpotKind}
 use Rattle.locations.specs.declared.spot.SpotKind.TheVariants as kinds
 use Rattle.locations.specs.declared.marks.Marked.{Marked}
@@ -33,69 +33,69 @@ both-marks P (m ∷ ms) ns h = let k = both-marks P ms ns h.1 in ((h.0, k.0), k.
 
 -- ---- what is made belongs to its source where its marks are marks of it
 
-pub record ExpressionFits (P : Marked → Type 0) (e : Made) (k : Marking) : Type 0 where
+pub record ExpressionFits (P : Marked → Type 0) (e : MadeExpression) (k : Marking) : Type 0 where
   pub same_node : e.node ≡ k.node
   pub same_word : e.last_word ≡ k.last_word
-  pub belongs : (c : Context) → AllMarks P k.marks → Belongs P (e.term c)
+  pub belongs : (c : LoweringContext) → AllMarks P k.marks → Belongs P (e.term c)
 
-abbrev pub ExpressionsFit : (Marked → Type 0) → List Made → Marks → Type 0
-ExpressionsFit P es ms = (c : Context) → AllMarks P ms → AllBelong P (plains es c)
+abbrev pub ExpressionsFit : (Marked → Type 0) → List MadeExpression → Marks → Type 0
+ExpressionsFit P es ms = (c : LoweringContext) → AllMarks P ms → AllBelong P (plains es c)
 
-pub record OptionalFits (P : Marked → Type 0) (o : Option Made) (ms : Marks) : Type 0 where
-  pub listed : (c : Context) → AllMarks P ms → AllBelong P (optional_terms o c)
-  pub or_other : (c : Context) (v : Value) → AllMarks P ms → Belongs P (optional_term o c (done v))
+pub record OptionalFits (P : Marked → Type 0) (o : Option MadeExpression) (ms : Marks) : Type 0 where
+  pub listed : (c : LoweringContext) → AllMarks P ms → AllBelong P (optional_terms o c)
+  pub or_other : (c : LoweringContext) (v : Value) → AllMarks P ms → Belongs P (optional_term o c (done v))
 
-pub record ItemFits (P : Marked → Type 0) (i : Item) (ms : Marks) : Type 0 where
-  pub belongs : (c : Context) → AllMarks P ms → Belongs P (i.term c)
-  pub functions_belong : (c : Context) → AllMarks P ms → AllBelong P (i.functions c)
+pub record ItemFits (P : Marked → Type 0) (i : MadeStatement) (ms : Marks) : Type 0 where
+  pub belongs : (c : LoweringContext) → AllMarks P ms → Belongs P (i.term c)
+  pub functions_belong : (c : LoweringContext) → AllMarks P ms → AllBelong P (i.functions c)
 
-pub record ItemsFit (P : Marked → Type 0) (i : Items) (ms : Marks) : Type 0 where
-  pub belong : (c : Context) → AllMarks P ms → AllBelong P (i.terms c)
-  pub functions_belong : (c : Context) → AllMarks P ms → AllBelong P (i.functions c)
+pub record ItemsFit (P : Marked → Type 0) (i : MadeStatements) (ms : Marks) : Type 0 where
+  pub belong : (c : LoweringContext) → AllMarks P ms → AllBelong P (i.terms c)
+  pub functions_belong : (c : LoweringContext) → AllMarks P ms → AllBelong P (i.functions c)
 
 abbrev pub KeyFits : (Marked → Type 0) → PropertyKey → Marks → Type 0
 KeyFits P (fixed_key k) ms = Unit {0}
-KeyFits P (computed_key e) ms = (c : Context) → AllMarks P ms → Belongs P (plain e c)
+KeyFits P (computed_key e) ms = (c : LoweringContext) → AllMarks P ms → Belongs P (plain e c)
 
 pub record PartsBelong (P : Marked → Type 0) (p : Parts) : Type 0 where
   pub now_belong : AllBelong P p.now
   pub later_belong : AllBelong P p.later
 
-abbrev pub PropertyFits : (Marked → Type 0) → PropertyMade → Marks → Type 0
-PropertyFits P m ms = (c : Context) (p : Parts) → AllMarks P ms → PartsBelong P p → PartsBelong P (property_parts m c p)
+abbrev pub PropertyFits : (Marked → Type 0) → MadeProperty → Marks → Type 0
+PropertyFits P m ms = (c : LoweringContext) (p : Parts) → AllMarks P ms → PartsBelong P p → PartsBelong P (property_parts m c p)
 
-abbrev pub PropertiesFit : (Marked → Type 0) → List PropertyMade → Marks → Type 0
-PropertiesFit P ps ms = (c : Context) → AllMarks P ms → PartsBelong P (properties_parts ps c)
+abbrev pub PropertiesFit : (Marked → Type 0) → List MadeProperty → Marks → Type 0
+PropertiesFit P ps ms = (c : LoweringContext) → AllMarks P ms → PartsBelong P (properties_parts ps c)
 
-abbrev pub InitializerFits : (Marked → Type 0) → List ℕ → Option Made → Marks → Type 0
-InitializerFits P n o ms = (c : Context) → AllMarks P ms → AllBelong P (initializer_terms n o c)
+abbrev pub InitializerFits : (Marked → Type 0) → List ℕ → Option MadeExpression → Marks → Type 0
+InitializerFits P n o ms = (c : LoweringContext) → AllMarks P ms → AllBelong P (initializer_terms n o c)
 
-abbrev pub DeclaratorsFit : (Marked → Type 0) → List DeclaratorMade → Marks → Type 0
-DeclaratorsFit P ds ms = (c : Context) → AllMarks P ms → AllBelong P (declarators_terms ds c)
+abbrev pub DeclaratorsFit : (Marked → Type 0) → List MadeDeclarator → Marks → Type 0
+DeclaratorsFit P ds ms = (c : LoweringContext) → AllMarks P ms → AllBelong P (declarators_terms ds c)
 
 -- ---- expressions
 
-pub made-fits : (P : Marked → Type 0) (node : ℕ) (term : Context → Term) (ms : Marks)
-    → ((c : Context) → AllMarks P ms → Belongs P (term c))
+pub made-fits : (P : Marked → Type 0) (node : ℕ) (term : LoweringContext → Term) (ms : Marks)
+    → ((c : LoweringContext) → AllMarks P ms → Belongs P (term c))
     → ExpressionFits P (made node term) (marking node ms)
 made-fits P node term ms h = record { same_node = refl; same_word = refl; belongs = h }
 
 pub name-fits : (P : Marked → Type 0) (node : ℕ) (n : List ℕ) → ExpressionFits P (name_made node n) (name_marking node)
 name-fits P node n = record { same_node = refl; same_word = refl; belongs = λ c h. (tt, tt, tt) }
 
-pub member-fits : (P : Marked → Type 0) (node : ℕ) (e : Made) (k : Marking) (n : List ℕ)
+pub member-fits : (P : Marked → Type 0) (node : ℕ) (e : MadeExpression) (k : Marking) (n : List ℕ)
     → ExpressionFits P e k
     → ExpressionFits P (member_made node e n) (member_marking node k (length n))
 member-fits P node e k n f =
     record { same_node = refl; same_word = refl; belongs = λ c h. (tt, (f.belongs (unnamed c) h, tt), tt) }
 
-body-belongs : (P : Marked → Type 0) (b : Items) (ms : Marks) (c : Context)
+body-belongs : (P : Marked → Type 0) (b : MadeStatements) (ms : Marks) (c : LoweringContext)
     → ItemsFit P b ms
     → AllMarks P ms
     → AllBelong P (body_terms b c)
 body-belongs P b ms c f h = ((tt, f.belong (within 0 c) h, tt), f.functions_belong (within 0 c) h)
 
-pub function-fits : (P : Marked → Type 0) (node : ℕ) (n : Option (List ℕ)) (ps : List (List ℕ)) (b : Items) (ms : Marks)
+pub function-fits : (P : Marked → Type 0) (node : ℕ) (n : Option (List ℕ)) (ps : List (List ℕ)) (b : MadeStatements) (ms : Marks)
     → ItemsFit P b ms
     → ExpressionFits P (function_made node n ps b) (marking node (in_function node ms))
 function-fits P node (Some n) ps b ms f =
@@ -105,14 +105,14 @@ function-fits P node None ps b ms f =
     made-fits P node _ (in_function node ms)
     (λ c h. let k = both-marks P ms _ h in (inr k.1.0, tt, body-belongs P b ms c f k.0))
 
-pub arrow_block-fits : (P : Marked → Type 0) (node : ℕ) (ps : List (List ℕ)) (b : Items) (ms : Marks)
+pub arrow_block-fits : (P : Marked → Type 0) (node : ℕ) (ps : List (List ℕ)) (b : MadeStatements) (ms : Marks)
     → ItemsFit P b ms
     → ExpressionFits P (arrow_made node ps b) (marking node (in_function node ms))
 arrow_block-fits P node ps b ms f =
     made-fits P node _ (in_function node ms)
     (λ c h. let k = both-marks P ms _ h in (inr k.1.0, tt, body-belongs P b ms c f k.0))
 
-returned-fits : (P : Marked → Type 0) (e : Made) (k : Marking)
+returned-fits : (P : Marked → Type 0) (e : MadeExpression) (k : Marking)
     → ExpressionFits P e k
     → ItemsFit P (returned_body e) (in_returned k)
 returned-fits P e k f = record {
@@ -127,7 +127,7 @@ returned-fits P e k f = record {
   functions_belong = λ c h. tt;
 }
 
-pub arrow-fits : (P : Marked → Type 0) (node : ℕ) (ps : List (List ℕ)) (e : Made) (k : Marking)
+pub arrow-fits : (P : Marked → Type 0) (node : ℕ) (ps : List (List ℕ)) (e : MadeExpression) (k : Marking)
     → ExpressionFits P e k
     → ExpressionFits P (arrow_made node ps (returned_body e)) (marking node (in_returned k))
 arrow-fits P node ps e k f =
@@ -144,7 +144,7 @@ call-belongs P m node (standing v place) args i h k = (i, (tt, (h, k)), tt)
 call-belongs P m node (part (read r) now later) args i h k = (i, h.1, k)
 call-belongs P m node (part f now later) args i h k = (i, (tt, (h, k)), tt)
 
-pub call-fits : (P : Marked → Type 0) (node : ℕ) (f : Made) (k : Marking) (parentheses : ℕ) (es : List Made)
+pub call-fits : (P : Marked → Type 0) (node : ℕ) (f : MadeExpression) (k : Marking) (parentheses : ℕ) (es : List MadeExpression)
     (ms : Marks)
     → ExpressionFits P f k
     → ExpressionsFit P es ms
@@ -222,7 +222,7 @@ comma-fits P end h = tt
 comma-fits P (more t ts) h = (tt, (h.0, tt), h.1)
 
 -- an expression of two parts, and one of three
-pub two-fit : (P : Marked → Type 0) (d e : Made) (k l : Marking) (c : Context)
+pub two-fit : (P : Marked → Type 0) (d e : MadeExpression) (k l : Marking) (c : LoweringContext)
     → ExpressionFits P d k
     → ExpressionFits P e l
     → AllMarks P (k.marks ++ l.marks)
@@ -230,7 +230,7 @@ pub two-fit : (P : Marked → Type 0) (d e : Made) (k l : Marking) (c : Context)
 two-fit P d e k l c f g h =
     let m = both-marks P k.marks l.marks h in (f.belongs (unnamed c) m.0, g.belongs (unnamed c) m.1)
 
-pub conditional-fits : (P : Marked → Type 0) (node : ℕ) (t a b : Made) (k l m : Marking)
+pub conditional-fits : (P : Marked → Type 0) (node : ℕ) (t a b : MadeExpression) (k l m : Marking)
     → ExpressionFits P t k
     → ExpressionFits P a l
     → ExpressionFits P b m
@@ -242,7 +242,7 @@ conditional-fits P node t a b k l m f g i = made-fits P node _ _ (λ c h.
 
 -- ---- object literals
 
-pub value-fits : (P : Marked → Type 0) (key : PropertyKey) (e : Made) (ms : Marks) (k : Marking)
+pub value-fits : (P : Marked → Type 0) (key : PropertyKey) (e : MadeExpression) (ms : Marks) (k : Marking)
     → KeyFits P key ms
     → ExpressionFits P e k
     → PropertyFits P (value_property key e) (ms ++ k.marks)
@@ -253,7 +253,7 @@ value-fits P (computed_key n) e ms k f g c p h q =
     let m = both-marks P ms k.marks h in
     record { now_belong = (f c m.0, (g.belongs (unnamed c) m.1, q.now_belong)); later_belong = q.later_belong }
 
-pub method-fits : (P : Marked → Type 0) (node : ℕ) (key : PropertyKey) (ps : List (List ℕ)) (b : Items) (ms ns : Marks)
+pub method-fits : (P : Marked → Type 0) (node : ℕ) (key : PropertyKey) (ps : List (List ℕ)) (b : MadeStatements) (ms ns : Marks)
     → KeyFits P key ms
     → ItemsFit P b ns
     → PropertyFits P (method_property node key ps b) (ms ++ in_function node ns)
@@ -277,31 +277,31 @@ method-fits P node (computed_key e) ps b ms ns f g c p h q =
 pub optional-none : (P : Marked → Type 0) → OptionalFits P None []
 optional-none P = record { listed = λ c h. tt; or_other = λ c v h. tt }
 
-pub optional-some : (P : Marked → Type 0) (e : Made) (k : Marking)
+pub optional-some : (P : Marked → Type 0) (e : MadeExpression) (k : Marking)
     → ExpressionFits P e k
     → OptionalFits P (Some e) k.marks
 optional-some P e k f =
     record { listed = λ c h. (f.belongs (unnamed c) h, tt); or_other = λ c v h. f.belongs (unnamed c) h }
 
-entered-fits : (P : Marked → Type 0) (node : ℕ) (kind : SpotKind) (term : Context → Term) (ms : Marks)
-    → ((c : Context) → AllMarks P ms → Belongs P (term c))
+entered-fits : (P : Marked → Type 0) (node : ℕ) (kind : SpotKind) (term : LoweringContext → Term) (ms : Marks)
+    → ((c : LoweringContext) → AllMarks P ms → Belongs P (term c))
     → ItemFits P (untouched node term) (beginning kind node ++ ms)
 entered-fits P node kind term ms f =
     record { belongs = λ c h. ((kind, h.0), tt, (f (within node c) h.1, tt)); functions_belong = λ c h. tt }
 
-block-fits : (P : Marked → Type 0) (b : Items) (ms : Marks) (c : Context)
+block-fits : (P : Marked → Type 0) (b : MadeStatements) (ms : Marks) (c : LoweringContext)
     → ItemsFit P b ms
     → AllMarks P ms
     → Belongs P (block_term b c)
 block-fits P b ms c f h = (tt, tt, ((tt, f.belong c h, tt), f.functions_belong c h))
 
-pub block_item-fits : (P : Marked → Type 0) (b : Items) (ms : Marks) → ItemsFit P b ms → ItemFits P (block_item b) ms
+pub block_item-fits : (P : Marked → Type 0) (b : MadeStatements) (ms : Marks) → ItemsFit P b ms → ItemFits P (block_item b) ms
 block_item-fits P b ms f = record { belongs = λ c h. block-fits P b ms c f h; functions_belong = λ c h. tt }
 
 pub empty-fits : (P : Marked → Type 0) → ItemFits P empty_item []
 empty-fits P = record { belongs = λ c h. tt; functions_belong = λ c h. tt }
 
-pub lexical-fits : (P : Marked → Type 0) (node : ℕ) (constant : Bool) (ds : List DeclaratorMade) (ms : Marks)
+pub lexical-fits : (P : Marked → Type 0) (node : ℕ) (constant : Bool) (ds : List MadeDeclarator) (ms : Marks)
     → DeclaratorsFit P ds ms
     → ItemFits P (lexical_item node constant ds) (beginning kinds.Plain node ++ ms)
 lexical-fits P node constant ds ms f =
@@ -311,12 +311,12 @@ lexical-fits P node constant ds ms f =
       functions_belong = λ c h. tt;
     }
 
-pub expression-fits : (P : Marked → Type 0) (node : ℕ) (e : Made) (k : Marking)
+pub expression-fits : (P : Marked → Type 0) (node : ℕ) (e : MadeExpression) (k : Marking)
     → ExpressionFits P e k
     → ItemFits P (expression_item node e) (beginning kinds.Plain node ++ k.marks)
 expression-fits P node e k f = entered-fits P node kinds.Plain (plain e) k.marks (λ c h. f.belongs (unnamed c) h)
 
-pub if-fits : (P : Marked → Type 0) (node : ℕ) (e : Made) (s : Item) (k : Marking) (ms : Marks)
+pub if-fits : (P : Marked → Type 0) (node : ℕ) (e : MadeExpression) (s : MadeStatement) (k : Marking) (ms : Marks)
     → ExpressionFits P e k
     → ItemFits P s ms
     → ItemFits P (if_item node e s None) (beginning kinds.Plain node ++ k.marks ++ ms ++ [])
@@ -327,7 +327,7 @@ if-fits P node e s k ms f g =
     let m = both-marks P k.marks ms all.0 in
     (tt, (f.belongs (unnamed c) m.0, tt), (g.belongs c m.1, (tt, tt))))
 
-pub if_else-fits : (P : Marked → Type 0) (node : ℕ) (e : Made) (s t : Item) (k : Marking) (ms ns : Marks)
+pub if_else-fits : (P : Marked → Type 0) (node : ℕ) (e : MadeExpression) (s t : MadeStatement) (k : Marking) (ms ns : Marks)
     → ExpressionFits P e k
     → ItemFits P s ms
     → ItemFits P t ns
@@ -339,7 +339,7 @@ if_else-fits P node e s t k ms ns f g i =
     let m = both-marks P k.marks ms all.0 in
     (tt, (f.belongs (unnamed c) m.0, tt), (g.belongs c m.1, (i.belongs c all.1, tt))))
 
-pub do_while-fits : (P : Marked → Type 0) (node : ℕ) (s : Item) (e : Made) (ms : Marks) (k : Marking)
+pub do_while-fits : (P : Marked → Type 0) (node : ℕ) (s : MadeStatement) (e : MadeExpression) (ms : Marks) (k : Marking)
     → ItemFits P s ms
     → ExpressionFits P e k
     → ItemFits P (do_while_item node s e) (beginning kinds.Plain node ++ ms ++ k.marks)
@@ -349,7 +349,7 @@ do_while-fits P node s e ms k g f =
     let m = both-marks P ms k.marks h in
     (tt, tt, (f.belongs (unnamed c) m.1, (tt, (g.belongs c m.0, tt)))))
 
-pub while-fits : (P : Marked → Type 0) (node : ℕ) (e : Made) (s : Item) (k : Marking) (ms : Marks)
+pub while-fits : (P : Marked → Type 0) (node : ℕ) (e : MadeExpression) (s : MadeStatement) (k : Marking) (ms : Marks)
     → ExpressionFits P e k
     → ItemFits P s ms
     → ItemFits P (while_item node e s) (beginning kinds.Plain node ++ k.marks ++ ms)
@@ -359,7 +359,7 @@ while-fits P node e s k ms f g =
     let m = both-marks P k.marks ms h in
     (tt, tt, (f.belongs (unnamed c) m.0, (tt, (g.belongs c m.1, tt)))))
 
-pub for-fits : (P : Marked → Type 0) (node : ℕ) (i t u : Option Made) (s : Item) (is ts us ms : Marks)
+pub for-fits : (P : Marked → Type 0) (node : ℕ) (i t u : Option MadeExpression) (s : MadeStatement) (is ts us ms : Marks)
     → OptionalFits P i is
     → OptionalFits P t ts
     → OptionalFits P u us
@@ -376,8 +376,8 @@ for-fits P node i t u s is ts us ms f g h k =
       (g.or_other c (values.Bool true) two.1, (h.or_other c values.Undefined three.1, (k.belongs c four.1, tt))),
     ))
 
-pub for_lexical-fits : (P : Marked → Type 0) (node : ℕ) (constant : Bool) (ds : List DeclaratorMade) (t u : Option Made)
-    (s : Item) (is ts us ms : Marks)
+pub for_lexical-fits : (P : Marked → Type 0) (node : ℕ) (constant : Bool) (ds : List MadeDeclarator) (t u : Option MadeExpression)
+    (s : MadeStatement) (is ts us ms : Marks)
     → DeclaratorsFit P ds is
     → OptionalFits P t ts
     → OptionalFits P u us
@@ -388,7 +388,7 @@ for_lexical-fits P node constant ds t u s is ts us ms f g h k = record {
       let four = both-marks P (is ++ ts ++ us) ms all.1 in
       let three = both-marks P (is ++ ts) us four.0 in
       let two = both-marks P is ts three.0 in
-      let d : Context = within node c in (
+      let d : LoweringContext = within node c in (
         (kinds.Plain, all.0),
         tt,
         (
@@ -402,7 +402,7 @@ for_lexical-fits P node constant ds t u s is ts us ms f g h k = record {
   functions_belong = λ c h. tt;
 }
 
-pub for_of-fits : (P : Marked → Type 0) (node : ℕ) (constant : Bool) (n : List ℕ) (e : Made) (s : Item) (k : Marking)
+pub for_of-fits : (P : Marked → Type 0) (node : ℕ) (constant : Bool) (n : List ℕ) (e : MadeExpression) (s : MadeStatement) (k : Marking)
     (ms : Marks)
     → ExpressionFits P e k
     → ItemFits P s ms
@@ -422,13 +422,13 @@ pub break-fits : (P : Marked → Type 0) (node : ℕ) → ItemFits P (break_item
 break-fits P node =
     record { belongs = λ c h. ((kinds.Plain, h.0), tt, ((tt, tt, tt), tt)); functions_belong = λ c h. tt }
 
-pub return-fits : (P : Marked → Type 0) (node : ℕ) (e : Option Made) (ms : Marks)
+pub return-fits : (P : Marked → Type 0) (node : ℕ) (e : Option MadeExpression) (ms : Marks)
     → OptionalFits P e ms
     → ItemFits P (return_item node e) (beginning kinds.Return node ++ ms)
 return-fits P node e ms f =
     entered-fits P node kinds.Return (λ c. part return_ (optional_terms e c) end) ms (λ c h. (tt, f.listed c h, tt))
 
-pub throw-fits : (P : Marked → Type 0) (node : ℕ) (e : Made) (k : Marking)
+pub throw-fits : (P : Marked → Type 0) (node : ℕ) (e : MadeExpression) (k : Marking)
     → ExpressionFits P e k
     → ItemFits P (throw_item node e) (beginning kinds.Plain node ++ k.marks)
 throw-fits P node e k f =
@@ -436,25 +436,25 @@ throw-fits P node e k f =
     (λ c h. (tt, (f.belongs (unnamed c) h, tt), tt))
 
 -- a catch and a finally, where they are
-pub record CatchFits (P : Marked → Type 0) (o : Option CatchMade) (ms : Marks) : Type 0 where
-  pub around_belongs : (t : Term) (c : Context) → Belongs P t → AllMarks P ms → Belongs P (caught o t c)
+pub record CatchFits (P : Marked → Type 0) (o : Option MadeCatch) (ms : Marks) : Type 0 where
+  pub around_belongs : (t : Term) (c : LoweringContext) → Belongs P t → AllMarks P ms → Belongs P (caught o t c)
 
 pub no_catch-fits : (P : Marked → Type 0) → CatchFits P None []
 no_catch-fits P = record { around_belongs = λ t c h k. h }
 
-pub catch-fits : (P : Marked → Type 0) (h : CatchMade) (ms : Marks) → ItemsFit P h.body ms → CatchFits P (Some h) ms
+pub catch-fits : (P : Marked → Type 0) (h : MadeCatch) (ms : Marks) → ItemsFit P h.body ms → CatchFits P (Some h) ms
 catch-fits P h ms f = record { around_belongs = λ t c i k. (tt, (i, tt), (block-fits P h.body ms c f k, tt)) }
 
-pub record FinallyFits (P : Marked → Type 0) (o : Option Items) (ms : Marks) : Type 0 where
-  pub around_belongs : (t : Term) (c : Context) → Belongs P t → AllMarks P ms → Belongs P (finally_term o t c)
+pub record FinallyFits (P : Marked → Type 0) (o : Option MadeStatements) (ms : Marks) : Type 0 where
+  pub around_belongs : (t : Term) (c : LoweringContext) → Belongs P t → AllMarks P ms → Belongs P (finally_term o t c)
 
 pub no_finally-fits : (P : Marked → Type 0) → FinallyFits P None []
 no_finally-fits P = record { around_belongs = λ t c h k. h }
 
-pub finally-fits : (P : Marked → Type 0) (b : Items) (ms : Marks) → ItemsFit P b ms → FinallyFits P (Some b) ms
+pub finally-fits : (P : Marked → Type 0) (b : MadeStatements) (ms : Marks) → ItemsFit P b ms → FinallyFits P (Some b) ms
 finally-fits P b ms f = record { around_belongs = λ t c i k. (tt, (i, tt), (block-fits P b ms c f k, tt)) }
 
-pub try-fits : (P : Marked → Type 0) (node : ℕ) (b : Items) (h : Option CatchMade) (f : Option Items) (ms ns os : Marks)
+pub try-fits : (P : Marked → Type 0) (node : ℕ) (b : MadeStatements) (h : Option MadeCatch) (f : Option MadeStatements) (ms ns os : Marks)
     → ItemsFit P b ms
     → CatchFits P h ns
     → FinallyFits P f os
@@ -469,7 +469,7 @@ try-fits P node b h f ms ns os g i k =
 pub debugger-fits : (P : Marked → Type 0) (node : ℕ) → ItemFits P (debugger_item node) (beginning kinds.Debugger node)
 debugger-fits P node = record { belongs = λ c h. (h.0, tt, (tt, tt)); functions_belong = λ c h. tt }
 
-pub declaration-fits : (P : Marked → Type 0) (node : ℕ) (n : List ℕ) (ps : List (List ℕ)) (b : Items) (ms : Marks)
+pub declaration-fits : (P : Marked → Type 0) (node : ℕ) (n : List ℕ) (ps : List (List ℕ)) (b : MadeStatements) (ms : Marks)
     → ItemsFit P b ms
     → ItemFits P (function_item node n ps b) (in_function node ms)
 declaration-fits P node n ps b ms f =
@@ -482,7 +482,7 @@ declaration-fits P node n ps b ms f =
 pub no_items-fit : (P : Marked → Type 0) → ItemsFit P no_items []
 no_items-fit P = record { belong = λ c h. tt; functions_belong = λ c h. tt }
 
-pub and_items-fit : (P : Marked → Type 0) (i : Item) (is : Items) (ms ns : Marks)
+pub and_items-fit : (P : Marked → Type 0) (i : MadeStatement) (is : MadeStatements) (ms ns : Marks)
     → ItemFits P i ms
     → ItemsFit P is ns
     → ItemsFit P (and_items i is) (ms ++ ns)

@@ -10,7 +10,7 @@ use Rattle.js_heap.specs.BuiltIns.{script_scope, first_literal}
 use Rattle.js_semantics.specs.declared.form.Source.TheVariants.{Script as script_source}
 use Rattle.js_semantics.specs.declared.form.Form.{Form}
 use Rattle.js_semantics.specs.Terms.{Term, done, standing, part, Terms, end, more, all_done, finished}
-use Rattle.js_semantics.specs.State.{State, Told, went, raised, printed_values, Move, goes, travels, has_effect, is_full, inside, Action, go, raise, leave, make, write, print, take_line, set_here, push_frame, pop_frame, with_world, with_here, rest_of, first_line, other_lines, after, raised_at, perform}
+use Rattle.js_semantics.specs.State.{State, StepTold, went, raised, printed_values, Move, goes, travels, has_effect, is_full, inside, Action, go, raise, leave, make, write, print, take_line, set_here, push_frame, pop_frame, with_world, with_here, rest_of, first_line, other_lines, after, raised_at, perform}
 use Rattle.js_semantics.specs.Functions.{Program}
 use Rattle.js_semantics.specs.Rows.{row, taken}
 use Rattle.js_semantics.specs.Next.{Walked, all_values, moved, with_value, scope_in, around, next, walk}
@@ -20,7 +20,7 @@ use Rattle.js_semantics.specs.Run.{literals, all_with_literals, placed_scripts, 
 use Rattle.js_semantics.proofs.FollowLemmas.{steps-suc}
 use Rattle.locations.specs.declared.marks.Marked.{Marked}
 use Rattle.locations.specs.Locations.{script_marks}
-use Rattle.locations_arrivals.specs.Belonging.{AllBelong, Sources, behind_step, sources_of, ProgramBelongs, AllWait, RunStands}
+use Rattle.locations_arrivals.specs.Belonging.{AllBelong, MarkedSources, behind_step, sources_of, ProgramBelongs, AllWait, RunStands}
 use Rattle.locations_arrivals.specs.Raises.{told_of, told_by, HasThrow, StandsWhereRaised}
 use Rattle.locations_arrivals.proofs.RunLemmas.{run-moves, RunStandsBehind, steps-stand, start-stands}
 use Rattle.locations_arrivals.proofs.ActiveLemmas.{ThrowKnown, running-active}
@@ -37,7 +37,7 @@ LeadsToThrow (only_values vs) = ⊥
 LeadsToThrow (inner a) = IsThrow a
 
 -- where a step raised
-abbrev IfRaised : Told → Type 0 → Type 0
+abbrev IfRaised : StepTold → Type 0 → Type 0
 IfRaised raised P = P
 IfRaised told P = Unit {0}
 
@@ -49,7 +49,7 @@ abbrev WalkRaises : Walked → Type 0
 WalkRaises (moved (goes ts s told)) = IfRaised told (LeadsToThrow (leftmost ts))
 WalkRaises x = Unit {0}
 
-if_raised : (told : Told) (P Q : Type 0) → (P → Q) → IfRaised told P → IfRaised told Q
+if_raised : (told : StepTold) (P Q : Type 0) → (P → Q) → IfRaised told P → IfRaised told Q
 if_raised raised P Q f h = f h
 if_raised told P Q f h = tt
 
@@ -156,7 +156,7 @@ mutual
 
 -- ---- one step, both ways
 
-raised-known : (told : Told) (P : Type 0) → IfRaised told P → Some told ≡ Some raised → P
+raised-known : (told : StepTold) (P : Type 0) → IfRaised told P → Some told ≡ Some raised → P
 raised-known raised P h e = h
 raised-known went P h e = cc
 raised-known (printed_values vs) P h e = cc
@@ -177,17 +177,17 @@ raised-stands (travels c s) h e = cc
 raised-stands (has_effect s) h e = cc
 raised-stands (is_full what s) h e = cc
 
-known-throw : (R : Sources) (a : Active) (caught : Bool) → ThrowKnown R a → IsSome (standing_of a caught) → R.raises
+known-throw : (R : MarkedSources) (a : Active) (caught : Bool) → ThrowKnown R a → IsSome (standing_of a caught) → R.raises
 known-throw R (stands v place) caught h e = h
 known-throw R (reduces f vs) caught h e = cc
 known-throw R nothing_left caught h e = cc
 
-stands-known : (R : Sources) (r : Run) → RunStands R r → HasThrow r → R.raises
+stands-known : (R : MarkedSources) (r : Run) → RunStands R r → HasThrow r → R.raises
 stands-known R (running t s) h e =
     known-throw R (active t) (is_caught t) (running-active R t (sources_of s.frames) h).throw_known e
 stands-known R (over f s) h e = absurd e
 
-step-raises : (R : Sources) (p : Program) (r : Run)
+step-raises : (R : MarkedSources) (p : Program) (r : Run)
     → ProgramBelongs R p
     → RunStandsBehind R r
     → HasThrow (step_in p script_scope r) ↔ (told_by p r ≡ Some raised)
@@ -205,7 +205,7 @@ step-raises R p (over f s) g h = (λ e. absurd e, λ e. cc)
 abbrev every_mark : Marked → Type 0
 every_mark m = Unit {0}
 
-abbrev every : Sources
+abbrev every : MarkedSources
 every = record { runs = λ source. Unit {0}; marks = λ source. every_mark; raises = ⊥ }
 
 every-part : (n : ℕ) (s : Script) → AllBelong every_mark (all_with_literals (λ i. Base i) (n + 0) (kept_parts s))

@@ -9,14 +9,14 @@ use Rattle.js_semantics.specs.declared.form.Source.TheVariants.{Script as script
 use Rattle.js_semantics.specs.declared.form.Form.{Form}
 use Rattle.js_semantics.specs.declared.form.Form.TheVariants.{Scripts as scripts, Script as script}
 use Rattle.js_semantics.specs.Terms.{Term, done, standing, part, Terms, end, more, all_done, settled, settle}
-use Rattle.js_semantics.specs.State.{Frame, State, Told, Action, Move, goes, travels, has_effect, is_full, inside, go, rest_of, perform}
+use Rattle.js_semantics.specs.State.{Frame, State, StepTold, Action, Move, goes, travels, has_effect, is_full, inside, go, rest_of, perform}
 use Rattle.js_semantics.specs.Functions.{Program, with_functions, with_names}
 use Rattle.js_semantics.specs.Rows.{script_frame, script_row}
 use Rattle.js_semantics.specs.Next.{Walked, all_values, moved, with_value, around, next, walk}
 use Rattle.js_semantics.specs.Run.{Run, running, over, run_of, run_after, step_in, steps_in}
 use Rattle.js_heap.specs.BuiltIns.{script_scope}
 use Rattle.locations.specs.declared.marks.Marked.{Marked}
-use Rattle.locations_arrivals.specs.Belonging.{AllBelong, Sources, behind_step, sources_of, TermStands, MoveStands, ProgramBelongs, AllWait, ScriptStands, ScriptsStand, RunningStands, RunStands}
+use Rattle.locations_arrivals.specs.Belonging.{AllBelong, MarkedSources, behind_step, sources_of, TermStands, MoveStands, ProgramBelongs, AllWait, ScriptStands, ScriptsStand, RunningStands, RunStands}
 use Rattle.locations_arrivals.specs.Raises.{told_of}
 use Rattle.locations_arrivals.proofs.PartLemmas.{BelongsAction, settle-belongs, functions-belongs, names-belongs}
 use Rattle.locations_arrivals.proofs.StepLemmas.{ActionStands, action-stands, perform-stands, next-stands}
@@ -24,14 +24,14 @@ use Rattle.locations_arrivals.proofs.StepLemmas.{ActionStands, action-stands, pe
 -- ---- a script begins
 
 -- the bottom frame, of a script that runs, with what it makes of a script
-abbrev ScriptMoves : Sources → Move Term → Type 0
+abbrev ScriptMoves : MarkedSources → Move Term → Type 0
 ScriptMoves R (goes t s told) =
     (source : Source) × R.runs source × TermStands (behind_step R (Some told)) (source ∷ []) t (sources_of s.frames)
 ScriptMoves R (travels c s) = Unit {0}
 ScriptMoves R (has_effect s) = Unit {0}
 ScriptMoves R (is_full what s) = Unit {0}
 
-of-source : (R : Sources) (source : Source) (m : Move Term)
+of-source : (R : MarkedSources) (source : Source) (m : Move Term)
     → R.runs source
     → MoveStands R (source ∷ []) m
     → ScriptMoves R m
@@ -45,7 +45,7 @@ rest-nothing [] source e = cc
 rest-nothing (f ∷ fs) source e = cc
 
 -- what becomes of a script belongs to it, and the bottom frame is of its source
-script-begins : (R : Sources) (source : Source) (number : ℕ) (names : List Binding) (later : Terms) (s : State)
+script-begins : (R : MarkedSources) (source : Source) (number : ℕ) (names : List Binding) (later : Terms) (s : State)
     → sources_of s.frames ≡ source ∷ []
     → R.runs source
     → R.runs (script_source number)
@@ -64,7 +64,7 @@ script-begins R source number names (more t fs) s e r w h =
     (subst (λ (under : List Source). ActionStands R own (script_source number ∷ under) rest)
     (sym (rest-nothing s.frames source e)) (action-stands R own rest belongs)))
 
-script-moves : (R : Sources) (source : Source) (p : Program) (scope : Addr) (f : Form) (now later : Terms) (s : State)
+script-moves : (R : MarkedSources) (source : Source) (p : Program) (scope : Addr) (f : Form) (now later : Terms) (s : State)
     → ProgramBelongs R p
     → R.runs source
     → ScriptStands R source (part f now later) (sources_of s.frames)
@@ -78,7 +78,7 @@ script-moves R source p scope f now later s g r h =
 
 -- ---- scripts one after another
 
-waits-stand : (R : Sources) (source : Source) (ts : Terms) (all : List Source)
+waits-stand : (R : MarkedSources) (source : Source) (ts : Terms) (all : List Source)
     → all ≡ source ∷ []
     → AllWait R ts
     → ScriptsStand R source ts all
@@ -88,24 +88,24 @@ waits-stand R source (more (standing v place) ts) all e h = absurd h.0
 waits-stand R source (more (part (script number names) now later) ts) all e h = ((e, h.0), h.1)
 waits-stand R source (more (part f now later) ts) all e h = absurd h.0
 
-script-stands : (R : Sources) (source : Source) (f : Form) (now later : Terms) (all : List Source)
+script-stands : (R : MarkedSources) (source : Source) (f : Form) (now later : Terms) (all : List Source)
     → TermStands R (source ∷ []) (part f now later) all
     → ScriptStands R source (part f now later) all
 script-stands R source (script number names) now later all h = absurd h.0
 script-stands R source f now later all h = h
 
-abbrev ScriptsMove : Sources → Move Terms → Type 0
+abbrev ScriptsMove : MarkedSources → Move Terms → Type 0
 ScriptsMove R (goes ts s told) =
     (source : Source) × R.runs source × ScriptsStand (behind_step R (Some told)) source ts (sources_of s.frames)
 ScriptsMove R (travels c s) = Unit {0}
 ScriptsMove R (has_effect s) = Unit {0}
 ScriptsMove R (is_full what s) = Unit {0}
 
-abbrev ScriptsWalk : Sources → Walked → Type 0
+abbrev ScriptsWalk : MarkedSources → Walked → Type 0
 ScriptsWalk R (all_values vs) = Unit {0}
 ScriptsWalk R (moved m) = ScriptsMove R m
 
-inside-scripts : (R : Sources) (ts : Terms) (m : Move Term)
+inside-scripts : (R : MarkedSources) (ts : Terms) (m : Move Term)
     → AllWait R ts
     → ScriptMoves R m
     → ScriptsMove R (inside (λ t. more t ts) m)
@@ -118,7 +118,7 @@ inside-scripts R ts (travels c s) k h = tt
 inside-scripts R ts (has_effect s) k h = tt
 inside-scripts R ts (is_full what s) k h = tt
 
-behind-value : (R : Sources) (v : Value) (m : Move Terms)
+behind-value : (R : MarkedSources) (v : Value) (m : Move Terms)
     → ScriptsMove R m
     → ScriptsMove R (inside (λ ts. more (done v) ts) m)
 behind-value R v (goes ts s told) h = h
@@ -126,11 +126,11 @@ behind-value R v (travels c s) h = tt
 behind-value R v (has_effect s) h = tt
 behind-value R v (is_full what s) h = tt
 
-with_value-scripts : (R : Sources) (v : Value) (x : Walked) → ScriptsWalk R x → ScriptsWalk R (with_value v x)
+with_value-scripts : (R : MarkedSources) (v : Value) (x : Walked) → ScriptsWalk R x → ScriptsWalk R (with_value v x)
 with_value-scripts R v (all_values vs) h = tt
 with_value-scripts R v (moved m) h = behind-value R v m h
 
-walk-scripts : (R : Sources) (source : Source) (p : Program) (scope : Addr) (ts : Terms) (s : State)
+walk-scripts : (R : MarkedSources) (source : Source) (p : Program) (scope : Addr) (ts : Terms) (s : State)
     → ProgramBelongs R p
     → R.runs source
     → ScriptsStand R source ts (sources_of s.frames)
@@ -144,7 +144,7 @@ walk-scripts R source p scope (more (part f now later) ts) s g r h =
 
 -- ---- runs
 
-scripts_if : (R : Sources) (b : Bool) (source : Source) (ts later : Terms) (s : State)
+scripts_if : (R : MarkedSources) (b : Bool) (source : Source) (ts later : Terms) (s : State)
     → R.runs source
     → ScriptsStand R source ts (sources_of s.frames)
     → RunStands R (run_of (if b then done values.Undefined else part scripts ts later) s)
@@ -152,10 +152,10 @@ scripts_if R true source ts later s r h = tt
 scripts_if R false source ts later s r h = (source, r, h)
 
 -- a run behind a step
-abbrev pub RunMoves : Sources → Move Term → Type 0
+abbrev pub RunMoves : MarkedSources → Move Term → Type 0
 RunMoves R m = RunStands (behind_step R (told_of m)) (run_after m)
 
-around-scripts : (R : Sources) (p : Program) (scope : Addr) (later : Terms) (s : State) (x : Walked)
+around-scripts : (R : MarkedSources) (p : Program) (scope : Addr) (later : Terms) (s : State) (x : Walked)
     → ScriptsWalk R x
     → RunMoves R (around p scope scripts later s x)
 around-scripts R p scope later s (all_values vs) h = tt
@@ -165,7 +165,7 @@ around-scripts R p scope later s (moved (travels c t)) h = tt
 around-scripts R p scope later s (moved (has_effect t)) h = tt
 around-scripts R p scope later s (moved (is_full what t)) h = tt
 
-pub run-moves : (R : Sources) (p : Program) (scope : Addr) (t : Term) (s : State)
+pub run-moves : (R : MarkedSources) (p : Program) (scope : Addr) (t : Term) (s : State)
     → ProgramBelongs R p
     → RunningStands R t (sources_of s.frames)
     → RunMoves R (next p scope t s)
@@ -176,17 +176,17 @@ run-moves R p scope (part scripts now later) s g h =
 run-moves R p scope (part f now later) s g h = absurd h
 
 -- behind a step, whatever it told, or before the first one
-abbrev pub RunStandsBehind : Sources → Run → Type 0
-RunStandsBehind R r = (told : Option Told) × RunStands (behind_step R told) r
+abbrev pub RunStandsBehind : MarkedSources → Run → Type 0
+RunStandsBehind R r = (told : Option StepTold) × RunStands (behind_step R told) r
 
-step-stands : (R : Sources) (p : Program) (scope : Addr) (r : Run)
+step-stands : (R : MarkedSources) (p : Program) (scope : Addr) (r : Run)
     → ProgramBelongs R p
     → RunStands R r
     → RunStandsBehind R (step_in p scope r)
 step-stands R p scope (running t s) g h = (told_of (next p scope t s), run-moves R p scope t s g h)
 step-stands R p scope (over f s) g h = (None, tt)
 
-pub steps-stand : (R : Sources) (k : ℕ) (p : Program) (scope : Addr) (r : Run)
+pub steps-stand : (R : MarkedSources) (k : ℕ) (p : Program) (scope : Addr) (r : Run)
     → ProgramBelongs R p
     → RunStandsBehind R r
     → RunStandsBehind R (steps_in k p scope r)
@@ -194,7 +194,7 @@ steps-stand R zero p scope r g h = h
 steps-stand R (suc k) p scope r g h =
     steps-stand R k p scope (step_in p scope r) g (step-stands (behind_step R h.0) p scope r g h.1)
 
-pub start-stands : (R : Sources) (source : Source) (ts : Terms) (s : State)
+pub start-stands : (R : MarkedSources) (source : Source) (ts : Terms) (s : State)
     → sources_of s.frames ≡ source ∷ []
     → R.runs source
     → AllWait R ts

@@ -13,8 +13,8 @@ use Rattle.js_semantics.specs.declared.form.Mark.{Mark}
 use Rattle.js_semantics.specs.declared.form.Form.{Form}
 use Rattle.js_semantics.specs.declared.form.Form.TheVariants.{Sequence as sequence, Enter as enter, Return as return_, Function as function, Method as method, Literal as literal}
 use Rattle.js_semantics.specs.Terms.{Term, done, standing, part, Terms, end, more}
-use Rattle.js_semantics.specs.State.{State, Told, spot_of}
-use Rattle.js_semantics.specs.Makers.{Context, Items}
+use Rattle.js_semantics.specs.State.{State, StepTold, spot_of}
+use Rattle.js_semantics.specs.Makers.{LoweringContext, MadeStatements}
 use Rattle.js_semantics.specs.Sources.{statements_source, term_of_script, terms_of_scripts}
 use Rattle.js_semantics.specs.Run.{literals, literals_of, with_literals, all_with_literals, placed_scripts, program_from, program_of, first_state, start as start_of, plain as plain_run, Run, running, over}
 use Rattle.js_semantics.specs.Frames.{active, at}
@@ -23,7 +23,7 @@ use Rattle.locations.specs.declared.marks.Marked.{Marked}
 use Rattle.locations.specs.Marks.{Marks}
 use Rattle.locations.specs.Locations.{script_marks, break_locations}
 use Rattle.locations.proofs.CoverLemmas.{mark_found}
-use Rattle.locations_arrivals.specs.Belonging.{Returns, FirstReturns, Closes, FormBelongs, Belongs, AllBelong, Sources, behind_step, top_marks, sources_of, ProgramBelongs, AllWait, RunStands}
+use Rattle.locations_arrivals.specs.Belonging.{Returns, FirstReturns, Closes, FormBelongs, Belongs, AllBelong, MarkedSources, behind_step, top_marks, sources_of, ProgramBelongs, AllWait, RunStands}
 use Rattle.locations_arrivals.specs.Arrivals.{ScriptsAreNumbered, RunsIn, Arrives, RunArrives}
 use Rattle.locations_arrivals.proofs.StrengthLemmas.{mark-located}
 use Rattle.locations_arrivals.proofs.MakerLemmas.{AllMarks}
@@ -87,7 +87,7 @@ mutual
 -- ---- numbers of scripts
 
 -- the scripts' sources, and the marks of each
-abbrev known : List Script → Sources
+abbrev known : List Script → MarkedSources
 known scripts = record {
   runs = λ source. (script : Script) × Contains scripts script × (source ≡ script_source script.number);
   marks =
@@ -143,14 +143,14 @@ own-marks scripts s h k = each-mark ((known scripts).marks (script_source s.numb
 -- the parts of a script's term
 abbrev pub kept_parts : Script → Terms
 kept_parts s =
-    let body : Items = statements_source s.body in
-    let c : Context = record { source = script_source s.number; statement = 0; name = [] } in
+    let body : MadeStatements = statements_source s.body in
+    let c : LoweringContext = record { source = script_source s.number; statement = 0; name = [] } in
     more (part sequence (body.terms c) end) (body.functions c)
 
 pub parts-belong : (P : Marked → Type 0) (s : Script) → AllMarks P (script_marks s) → AllBelong P (kept_parts s)
 parts-belong P s own =
     let f = statements-fit P s.body in
-    let c : Context = record { source = script_source s.number; statement = 0; name = [] } in
+    let c : LoweringContext = record { source = script_source s.number; statement = 0; name = [] } in
     ((tt, f.belong c own, tt), f.functions_belong c own)
 
 -- ---- the start
@@ -208,7 +208,7 @@ begins scripts (s ∷ ss) input e h =
 
 -- ---- the law
 
-arrives : (scripts : List Script) (told : Option Told) (t : Term) (s : State)
+arrives : (scripts : List Script) (told : Option StepTold) (t : Term) (s : State)
     → ActiveStands (behind_step (known scripts) told) (sources_of s.frames) (active t)
     → Arrives scripts t s
 arrives scripts told t s h =

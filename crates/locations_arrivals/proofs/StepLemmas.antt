@@ -31,7 +31,7 @@ use Rattle.js_semantics.specs.Rows.{only, enter_row, block_row, chosen, kept_or,
 use Rattle.js_semantics.specs.Next.{Walked, all_values, moved, with_value, scope_in, around, next, walk}
 use Rattle.js_semantics.proofs.GiveLemmas.{GivesValues, put-gives, remove-gives, built_in-gives, type_of-gives, update_row-gives, function_row-gives}
 use Rattle.locations.specs.declared.marks.Marked.{Marked}
-use Rattle.locations_arrivals.specs.Belonging.{FirstReturns, Closes, FormBelongs, Belongs, AllBelong, Sources, behind_step, top_marks, sources_of, TermStands, AllStand, MoveStands, TreeBelongs, ProgramBelongs}
+use Rattle.locations_arrivals.specs.Belonging.{FirstReturns, Closes, FormBelongs, Belongs, AllBelong, MarkedSources, behind_step, top_marks, sources_of, TermStands, AllStand, MoveStands, TreeBelongs, ProgramBelongs}
 use Rattle.locations_arrivals.proofs.PartLemmas.{finished-belongs, settled-belongs, settle-belongs, BelongsAction, gives-belongs, fail-belongs, result-belongs, enter-belongs, block-belongs, chosen-belongs, kept-belongs, otherwise-belongs, loop-belongs, for_in-belongs, enter_for_of-belongs, list-belongs, turn-belongs, comma-belongs, compound-belongs, callee-belongs, object-belongs, catch-belongs}
 use Rattle.locations_arrivals.proofs.ReturnLemmas.{settle-returns, WalkKeeps, walk-keeps}
 use Rattle.js_semantics.proofs.SameSources.{same_source-true}
@@ -102,18 +102,18 @@ mutual
       (function_in_all-belongs P node ts h.1)
 
 -- the code is of a source that runs
-abbrev KnownCode : Sources → Source → Option FunctionCode → Type 0
+abbrev KnownCode : MarkedSources → Source → Option FunctionCode → Type 0
 KnownCode R source None = Unit {0}
 KnownCode R source (Some c) = R.runs source × CodeBelongs (R.marks source) (Some c)
 
-known-code : (R : Sources) (source : Source) (o : Option FunctionCode)
+known-code : (R : MarkedSources) (source : Source) (o : Option FunctionCode)
     → R.runs source
     → CodeBelongs (R.marks source) o
     → KnownCode R source o
 known-code R source None r h = tt
 known-code R source (Some c) r h = (r, h)
 
-tree-code : (R : Sources) (source : Source) (node : ℕ) (t : Term)
+tree-code : (R : MarkedSources) (source : Source) (node : ℕ) (t : Term)
     → TreeBelongs R source t
     → KnownCode R source (function_in node t)
 tree-code R source node (done v) h = absurd h
@@ -125,7 +125,7 @@ tree-code R source node (part (script number names) now later) h =
     (function_in_all-belongs P node now h.1) (function_in_all-belongs P node later h.2))
 tree-code R source node (part f now later) h = absurd h
 
-at_if : (R : Sources) (other source : Source) (b : Bool) (o q : Option FunctionCode)
+at_if : (R : MarkedSources) (other source : Source) (b : Bool) (o q : Option FunctionCode)
     → same_source other source ≡ b
     → KnownCode R other o
     → KnownCode R source q
@@ -133,7 +133,7 @@ at_if : (R : Sources) (other source : Source) (b : Bool) (o q : Option FunctionC
 at_if R other source true o q e h k = subst (λ x. KnownCode R x o) (same_source-true other source e) h
 at_if R other source false o q e h k = k
 
-function_at-known : (R : Sources) (p : Program) (source : Source) (node : ℕ)
+function_at-known : (R : MarkedSources) (p : Program) (source : Source) (node : ℕ)
     → ProgramBelongs R p
     → KnownCode R source (function_at p source node)
 function_at-known R [] source node h = tt
@@ -144,7 +144,7 @@ function_at-known R (t ∷ ts) source node h =
 -- ---- a part that waits, in its frame
 
 mutual
-  belongs-stands : (R : Sources) (outside : List Source) (t : Term)
+  belongs-stands : (R : MarkedSources) (outside : List Source) (t : Term)
       → Belongs (top_marks R outside) t
       → TermStands R outside t outside
   belongs-stands R outside (done v) h = refl
@@ -152,7 +152,7 @@ mutual
   belongs-stands R outside (part (frame node a) now later) h = absurd h.0
   belongs-stands R outside (part f now later) h = (h.0, all-stand R outside now h.1, h.2)
 
-  all-stand : (R : Sources) (outside : List Source) (ts : Terms)
+  all-stand : (R : MarkedSources) (outside : List Source) (ts : Terms)
       → AllBelong (top_marks R outside) ts
       → AllStand R outside ts outside
   all-stand R outside end h = refl
@@ -166,7 +166,7 @@ abbrev outer_of : List Source → List Source
 outer_of [] = []
 outer_of (source ∷ sources) = sources
 
-abbrev pub ActionStands : Sources → List Source → List Source → Action → Type 0
+abbrev pub ActionStands : MarkedSources → List Source → List Source → Action → Type 0
 ActionStands R outside all (go t) = TermStands (behind_step R (Some went)) outside t all
 ActionStands R outside all (raise v) = all ≡ outside
 ActionStands R outside all (leave c) = all ≡ outside
@@ -178,7 +178,7 @@ ActionStands R outside all (set_here m k) = ActionStands R outside all k
 ActionStands R outside all (push_frame f k) = ActionStands R outside (f.source ∷ all) k
 ActionStands R outside all (pop_frame k) = ActionStands R outside (outer_of all) k
 
-pub action-stands : (R : Sources) (outside : List Source) (a : Action)
+pub action-stands : (R : MarkedSources) (outside : List Source) (a : Action)
     → BelongsAction (top_marks R outside) a
     → ActionStands R outside outside a
 action-stands R outside (go t) h = belongs-stands (behind_step R (Some went)) outside t h
@@ -200,19 +200,19 @@ rest-sources : (fs : List Frame) → sources_of (rest_of fs) ≡ outer_of (sourc
 rest-sources [] = refl
 rest-sources (f ∷ fs) = refl
 
-full_stands : (R : Sources) (outside : List Source) (b : Bool) (what : Counted) (s : State) (v : Value)
+full_stands : (R : MarkedSources) (outside : List Source) (b : Bool) (what : Counted) (s : State) (v : Value)
     → sources_of s.frames ≡ outside
     → MoveStands R outside (if b then is_full what s else raised_at v s)
 full_stands R outside true what s v e = tt
 full_stands R outside false what s v e = (e, refl)
 
-outside_stands : (R : Sources) (outside : List Source) (b : Bool) (s : State) (m : Move Term)
+outside_stands : (R : MarkedSources) (outside : List Source) (b : Bool) (s : State) (m : Move Term)
     → MoveStands R outside m
     → MoveStands R outside (if b then has_effect s else m)
 outside_stands R outside true s m h = tt
 outside_stands R outside false s m h = h
 
-after_stands : {A : Type 0} (R : Sources) (outside : List Source) (s : State) (t : Tried A) (k : A → State → Move Term)
+after_stands : {A : Type 0} (R : MarkedSources) (outside : List Source) (s : State) (t : Tried A) (k : A → State → Move Term)
     → sources_of s.frames ≡ outside
     → ((a : A) (w : World) → MoveStands R outside (k a (with_world s w)))
     → MoveStands R outside (after t s k)
@@ -220,7 +220,7 @@ after_stands R outside s (fine a w) k e h = h a w
 after_stands R outside s effect k e h = tt
 after_stands R outside s (full what) k e h = full_stands R outside (is_evaluation s.world) what s _ e
 
-pub perform-stands : (R : Sources) (outside : List Source) (a : Action) (s : State)
+pub perform-stands : (R : MarkedSources) (outside : List Source) (a : Action) (s : State)
     → ActionStands R outside (sources_of s.frames) a
     → MoveStands R outside (perform a s)
 perform-stands R outside (go t) s h = h
@@ -247,7 +247,7 @@ perform-stands R outside (pop_frame k) s h =
 
 -- ---- calls
 
-entered-stands : (R : Sources) (outside : List Source) (scope : Addr) (ts : Terms) (c : FunctionCode) (source : Source)
+entered-stands : (R : MarkedSources) (outside : List Source) (scope : Addr) (ts : Terms) (c : FunctionCode) (source : Source)
     (a : Addr) (x : Value) (s : Addr)
     → KnownCode R source (Some c)
     → ActionStands R outside outside (with_functions scope ts (frame_entered c source a x s))
@@ -263,19 +263,19 @@ entered-stands R outside scope (more (part (function f) now later) ts) c source 
     (refl, λ d. (refl, entered-stands R outside scope ts c source a x s h))
 entered-stands R outside scope (more _ ts) c source a x s h = entered-stands R outside scope ts c source a x s h
 
-choose_stands : (R : Sources) (outside all : List Source) (b : Bool) (x y : Action)
+choose_stands : (R : MarkedSources) (outside all : List Source) (b : Bool) (x y : Action)
     → ActionStands R outside all x
     → ActionStands R outside all y
     → ActionStands R outside all (if b then x else y)
 choose_stands R outside all true x y h k = h
 choose_stands R outside all false x y h k = k
 
-fail-stands : (R : Sources) (outside : List Source) (class : ErrorClass) (message : List ℕ)
+fail-stands : (R : MarkedSources) (outside : List Source) (class : ErrorClass) (message : List ℕ)
     → ActionStands R outside outside (fail class message)
 fail-stands R outside class message =
     action-stands R outside (fail class message) (fail-belongs (top_marks R outside) class message)
 
-code-stands : (R : Sources) (outside : List Source) (s : State) (o : Option FunctionCode) (source : Source) (a : Addr)
+code-stands : (R : MarkedSources) (outside : List Source) (s : State) (o : Option FunctionCode) (source : Source) (a : Addr)
     (name : List ℕ) (outer : Option Addr) (x y : Value) (args : List Value)
     → KnownCode R source o
     → ActionStands R outside outside (call_code s o source a name outer x y args)
@@ -289,7 +289,7 @@ code-stands R outside s (Some c) source a name (Some outer) x y args h =
     (refl, λ d. entered-stands R outside d c.functions c source a (called_this c.form.is_arrow x y) d h)
     (fail-stands R outside classes.RangeError (codes "Maximum call stack size exceeded"))
 
-cell-stands : (R : Sources) (outside : List Source) (p : Program) (s : State) (a : Addr) (o : Option Cell) (y : Value)
+cell-stands : (R : MarkedSources) (outside : List Source) (p : Program) (s : State) (a : Addr) (o : Option Cell) (y : Value)
     (args : List Value)
     → ProgramBelongs R p
     → ActionStands R outside outside (call_cell p s a o y args)
@@ -314,13 +314,13 @@ cell-stands R outside p s a (Some (cells.Text us)) y args h =
 cell-stands R outside p s a (Some (cells.Bindings kind n o ns)) y args h =
     fail-stands R outside classes.TypeError (codes "Value is not a function")
 
-value-stands : (R : Sources) (outside : List Source) (p : Program) (s : State) (f y : Value) (args : List Value)
+value-stands : (R : MarkedSources) (outside : List Source) (p : Program) (s : State) (f y : Value) (args : List Value)
     → ProgramBelongs R p
     → ActionStands R outside outside (call_value p s f y args)
 value-stands R outside p s (values.Object a) y args h = cell-stands R outside p s a (read_cell s.world a) y args h
 value-stands R outside p s _ y args h = fail-stands R outside classes.TypeError (codes "Value is not a function")
 
-call-stands : (R : Sources) (outside : List Source) (p : Program) (s : State) (m : Mark) (vs : List Value)
+call-stands : (R : MarkedSources) (outside : List Source) (p : Program) (s : State) (m : Mark) (vs : List Value)
     → ProgramBelongs R p
     → ActionStands R outside outside (call_row p s m vs)
 call-stands R outside p s m [] h = refl
@@ -329,12 +329,12 @@ call-stands R outside p s m (x ∷ f ∷ args) h = value-stands R outside p s f 
 
 -- ---- a form outside the part about to be reduced, and the frames outside its parts
 
-abbrev pub Inside : Sources → List Source → Form → Terms → Terms → List Source → Type 0
+abbrev pub Inside : MarkedSources → List Source → Form → Terms → Terms → List Source → Type 0
 Inside R outside (frame node a) now later parts =
     (source : Source) × (parts ≡ source ∷ outside) × R.runs source × Closes (R.marks source) node now
 Inside R outside f now later parts = (parts ≡ outside) × FormBelongs (top_marks R outside) f later
 
-pub opened : (R : Sources) (outside : List Source) (f : Form) (now later : Terms) (all : List Source)
+pub opened : (R : MarkedSources) (outside : List Source) (f : Form) (now later : Terms) (all : List Source)
     → TermStands R outside (part f now later) all
     → (parts : List Source)
     × Inside R outside f now later parts
@@ -343,7 +343,7 @@ pub opened : (R : Sources) (outside : List Source) (f : Form) (now later : Terms
 opened R outside (frame node a) now later all h = (h.0 ∷ outside, (h.0, refl, h.1, h.2), h.3, h.4)
 opened R outside f now later all h = (outside, (refl, h.0), h.1, h.2)
 
-inside-keeps : (R : Sources) (outside : List Source) (f : Form) (now ts later : Terms) (parts : List Source)
+inside-keeps : (R : MarkedSources) (outside : List Source) (f : Form) (now ts later : Terms) (parts : List Source)
     → Inside R outside f now later parts
     → (FirstReturns now → FirstReturns ts)
     → Inside R outside f ts later parts
@@ -351,7 +351,7 @@ inside-keeps R outside (frame node a) now ts later parts i h =
     (i.0, i.1, i.2, closes_first (R.marks i.0) node now ts i.3 h)
 inside-keeps R outside f now ts later parts i h = i
 
-part-stands : (R : Sources) (outside : List Source) (f : Form) (now later : Terms) (parts all : List Source)
+part-stands : (R : MarkedSources) (outside : List Source) (f : Form) (now later : Terms) (parts all : List Source)
     → Inside R outside f now later parts
     → AllStand R parts now all
     → AllBelong (top_marks R outside) later
@@ -366,7 +366,7 @@ values-belong P (more (done v) ts) e = (tt, values-belong P ts e)
 values-belong P (more (standing v place) ts) e = cc
 values-belong P (more (part f now later) ts) e = cc
 
-values-stand : (R : Sources) (outside : List Source) (ts : Terms) (all : List Source)
+values-stand : (R : MarkedSources) (outside : List Source) (ts : Terms) (all : List Source)
     → all_done ts ≡ true
     → AllStand R outside ts all
     → all ≡ outside
@@ -375,14 +375,14 @@ values-stand R outside (more (done v) ts) all e h = values-stand R outside ts al
 values-stand R outside (more (standing v place) ts) all e h = cc
 values-stand R outside (more (part f now later) ts) all e h = cc
 
-at-stands : (R : Sources) (outside : List Source) (t : Term) (all : List Source)
+at-stands : (R : MarkedSources) (outside : List Source) (t : Term) (all : List Source)
     → all ≡ outside
     → Belongs (top_marks R outside) t
     → TermStands R outside t all
 at-stands R outside t all e h =
     subst (λ (x : List Source). TermStands R outside t x) (sym e) (belongs-stands R outside t h)
 
-finished-stands : (R : Sources) (outside : List Source) (f : Form) (now later : Terms) (parts all : List Source)
+finished-stands : (R : MarkedSources) (outside : List Source) (f : Form) (now later : Terms) (parts all : List Source)
     → Inside R outside f now later parts
     → all_done now ≡ true
     → AllStand R parts now all
@@ -394,7 +394,7 @@ finished-stands R outside f now later parts all i e h k =
     at-stands R outside (finished f now later) all (values-stand R parts now all e h ∙ i.0)
     (finished-belongs (top_marks R outside) f now later (i.1, values-belong (top_marks R outside) now e, k))
 
-settled_if : (R : Sources) (outside : List Source) (b : Bool) (f : Form) (now later : Terms) (parts all : List Source)
+settled_if : (R : MarkedSources) (outside : List Source) (b : Bool) (f : Form) (now later : Terms) (parts all : List Source)
     → all_done now ≡ b
     → Inside R outside f now later parts
     → AllStand R parts now all
@@ -405,20 +405,20 @@ settled_if R outside false f now later parts all e i h k = part-stands R outside
 
 -- ---- THE TABLE OF STEPS
 
-row-belongs : (R : Sources) (outside parts : List Source) (a : Action)
+row-belongs : (R : MarkedSources) (outside parts : List Source) (a : Action)
     → parts ≡ outside
     → BelongsAction (top_marks R outside) a
     → ActionStands R outside parts a
 row-belongs R outside parts a e h =
     subst (λ (x : List Source). ActionStands R outside x a) (sym e) (action-stands R outside a h)
 
-row-gives : (R : Sources) (outside parts : List Source) (a : Action)
+row-gives : (R : MarkedSources) (outside parts : List Source) (a : Action)
     → parts ≡ outside
     → GivesValues a
     → ActionStands R outside parts a
 row-gives R outside parts a e h = row-belongs R outside parts a e (gives-belongs (top_marks R outside) a h)
 
-row-stands : (R : Sources) (outside : List Source) (p : Program) (s : State) (scope : Addr) (f : Form) (vs : List Value)
+row-stands : (R : MarkedSources) (outside : List Source) (p : Program) (s : State) (scope : Addr) (f : Form) (vs : List Value)
     (now later : Terms) (parts : List Source)
     → ProgramBelongs R p
     → Inside R outside f now later parts
@@ -506,7 +506,7 @@ row-stands R outside p s scope _ vs now later parts g i k = i.0
 
 -- ---- THE TABLE OF COMPLETIONS
 
-taken-stands : (R : Sources) (outside : List Source) (scope : Addr) (f : Form) (c : Completion) (now later : Terms)
+taken-stands : (R : MarkedSources) (outside : List Source) (scope : Addr) (f : Form) (c : Completion) (now later : Terms)
     (parts : List Source)
     → Inside R outside f now later parts
     → AllBelong (top_marks R outside) later
@@ -539,17 +539,17 @@ taken-stands R outside scope f c now later parts i k = i.0
 
 -- ---- steps
 
-abbrev MovesStand : Sources → List Source → Move Terms → Type 0
+abbrev MovesStand : MarkedSources → List Source → Move Terms → Type 0
 MovesStand R outside (goes ts s told) = AllStand (behind_step R (Some told)) outside ts (sources_of s.frames)
 MovesStand R outside (travels c s) = sources_of s.frames ≡ outside
 MovesStand R outside (has_effect s) = Unit {0}
 MovesStand R outside (is_full what s) = Unit {0}
 
-abbrev WalkStands : Sources → List Source → State → Walked → Type 0
+abbrev WalkStands : MarkedSources → List Source → State → Walked → Type 0
 WalkStands R outside s (all_values vs) = sources_of s.frames ≡ outside
 WalkStands R outside s (moved m) = MovesStand R outside m
 
-value_in : (R : Sources) (outside : List Source) (v : Value) (m : Move Terms)
+value_in : (R : MarkedSources) (outside : List Source) (v : Value) (m : Move Terms)
     → MovesStand R outside m
     → MovesStand R outside (inside (λ ts. more (done v) ts) m)
 value_in R outside v (goes ts s told) h = h
@@ -557,20 +557,20 @@ value_in R outside v (travels c s) h = h
 value_in R outside v (has_effect s) h = tt
 value_in R outside v (is_full what s) h = tt
 
-with_value-stands : (R : Sources) (outside : List Source) (s : State) (v : Value) (x : Walked)
+with_value-stands : (R : MarkedSources) (outside : List Source) (s : State) (v : Value) (x : Walked)
     → WalkStands R outside s x
     → WalkStands R outside s (with_value v x)
 with_value-stands R outside s v (all_values vs) h = h
 with_value-stands R outside s v (moved m) h = value_in R outside v m h
 
-values-before : (R : Sources) (outside : List Source) (ts : Terms) (all : List Source)
+values-before : (R : MarkedSources) (outside : List Source) (ts : Terms) (all : List Source)
     → all ≡ outside
     → AllBelong (top_marks R outside) ts
     → AllStand R outside ts all
 values-before R outside ts all e h =
     subst (λ (x : List Source). AllStand R outside ts x) (sym e) (all-stand R outside ts h)
 
-inside-stands : (R : Sources) (outside : List Source) (ts : Terms) (m : Move Term)
+inside-stands : (R : MarkedSources) (outside : List Source) (ts : Terms) (m : Move Term)
     → AllBelong (top_marks R outside) ts
     → MoveStands R outside m
     → MovesStand R outside (inside (λ t. more t ts) m)
@@ -582,7 +582,7 @@ inside-stands R outside ts (travels c s) k h = h
 inside-stands R outside ts (has_effect s) k h = tt
 inside-stands R outside ts (is_full what s) k h = tt
 
-around-stands : (R : Sources) (outside : List Source) (p : Program) (scope : Addr) (f : Form) (now later : Terms)
+around-stands : (R : MarkedSources) (outside : List Source) (p : Program) (scope : Addr) (f : Form) (now later : Terms)
     (s : State) (x : Walked) (parts : List Source)
     → ProgramBelongs R p
     → Inside R outside f now later parts
@@ -605,7 +605,7 @@ around-stands R outside p scope f now later s (moved (has_effect t)) parts g i k
 around-stands R outside p scope f now later s (moved (is_full what t)) parts g i k h keep = tt
 
 mutual
-  pub next-stands : (R : Sources) (outside : List Source) (p : Program) (scope : Addr) (t : Term) (s : State)
+  pub next-stands : (R : MarkedSources) (outside : List Source) (p : Program) (scope : Addr) (t : Term) (s : State)
       → ProgramBelongs R p
       → TermStands R outside t (sources_of s.frames)
       → MoveStands R outside (next p scope t s)
@@ -616,7 +616,7 @@ mutual
       around-stands R outside p scope f now later s (walk p (scope_in f scope) now s) o.0 g o.1 o.3
       (walk-stands R o.0 p (scope_in f scope) now s g o.2) (walk-keeps p (scope_in f scope) now s)
 
-  walk-stands : (R : Sources) (outside : List Source) (p : Program) (scope : Addr) (ts : Terms) (s : State)
+  walk-stands : (R : MarkedSources) (outside : List Source) (p : Program) (scope : Addr) (ts : Terms) (s : State)
       → ProgramBelongs R p
       → AllStand R outside ts (sources_of s.frames)
       → WalkStands R outside s (walk p scope ts s)

@@ -11,7 +11,7 @@ use Rattle.js_tree.specs.declared.tree.Expr.TheOpen.{Expr-F, Stmt-F, PropertyNam
 use Rattle.js_tree.specs.declared.tree.Expr.TheFolds.{map-Expr, map-PropertyDefinition, map-PropertyName, map-Stmt, map-Block, map-Catch, map-Declarator, map-Declarators, map-Exprs, map-PropertyDefinitions, map-Stmts, fold-roll-Block, fold-roll-Catch, fold-roll-Declarator, fold-roll-Declarators, fold-roll-Exprs, fold-roll-PropertyDefinitions, fold-roll-Stmts}
 use Rattle.js_tree.specs.declared.tree.Expr.TheViews as views
 use Rattle.js_tree.specs.Views.{parameters_view}
-use Rattle.js_semantics.specs.Makers.{parameter_names, DeclaratorMade, items_of, operator_of, unnamed, naming}
+use Rattle.js_semantics.specs.Makers.{parameter_names, MadeDeclarator, items_of, operator_of, unnamed, naming}
 use Rattle.js_semantics.specs.Sources.{expression_source, property_source, key_source, statement_source, block_source, catch_source, declarator_source, declarators_source, expressions_source, properties_source, statements_source, expression_layer, property_layer, key_layer, statement_layer, block_layer, catch_layer, declarator_layer, declarators_layer, expressions_layer, properties_layer, statements_layer}
 use Rattle.js_tree.proofs.ViewLemmas.{Layer}
 use Rattle.js_semantics.proofs.TreeFolds.{Former, Claims, Known, known_trees, Grows, every-statements}
@@ -262,7 +262,7 @@ catch-known P h = catch-fits P _ _ h.block.1
 
 initializer-known : (P : Marked → Type 0) (n : List ℕ) (o : SomeKnown P) →
     let y : Parts P layers.Declarator-F = record { name = n; initializer = o } in
-    let d : DeclaratorMade = declarator_layer
+    let d : MadeDeclarator = declarator_layer
     (made_parts layers.Declarator-F map-Declarator (known_trees (fits P) layers.Declarator-F map-Declarator y)) in
     InitializerFits P d.name d.initializer
     (marks.declarator_layer

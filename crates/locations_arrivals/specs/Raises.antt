@@ -3,21 +3,21 @@
 use Rattle.std.specs.Prelude.{◌≡◌, ◌↔◌, ℕ, zero, suc, List, Option, Some, None, IsSome}
 use Rattle.js_heap.specs.BuiltIns.{script_scope}
 use Rattle.js_semantics.specs.Terms.{Term, Terms}
-use Rattle.js_semantics.specs.State.{Told, raised, Move, goes, travels, has_effect, is_full}
+use Rattle.js_semantics.specs.State.{StepTold, raised, Move, goes, travels, has_effect, is_full}
 use Rattle.js_semantics.specs.Functions.{Program}
 use Rattle.js_semantics.specs.Next.{next}
 use Rattle.js_semantics.specs.Frames.{thrown}
 use Rattle.js_semantics.specs.Run.{Run, running, over, program_of, plain}
 
 -- what a step tells where it goes on
-abbrev pub told_of : Move Term → Option Told
+abbrev pub told_of : Move Term → Option StepTold
 told_of (goes t s told) = Some told
 told_of (travels c s) = None
 told_of (has_effect s) = None
 told_of (is_full what s) = None
 
 -- what the next step of a run tells; one that is over makes none
-abbrev pub told_by : Program → Run → Option Told
+abbrev pub told_by : Program → Run → Option StepTold
 told_by p (running t s) = told_of (next p script_scope t s)
 told_by p (over f s) = None
 

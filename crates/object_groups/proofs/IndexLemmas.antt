@@ -16,7 +16,7 @@ use Rattle.object_groups.specs.declared.handle.Handle.{Handle}
 use Rattle.object_groups.specs.declared.groups.Groups.{Groups}
 use Rattle.object_groups.specs.declared.fault.TheConstants.{MOST_HELD, MOST_MADE}
 use Rattle.object_groups.specs.declared.fault.HandleFault.TheVariants.{Full}
-use Rattle.object_groups.specs.Handles.{State, fault_of, without_group, has_number, has_another_number, is_named, is_in, is_outside}
+use Rattle.object_groups.specs.Handles.{HeldHandles, fault_of, without_group, has_number, has_another_number, is_named, is_in, is_outside}
 use Rattle.object_groups.specs.Numbers.{AllBelow, AllAbove, IsAscending}
 use Rattle.object_groups.specs.Groups.{numbers_in, number_of, group_numbers, AreGroupsOf}
 use Rattle.object_groups.specs.Index.{without_all, IsIndexed}
@@ -309,7 +309,7 @@ length-less n hs new h a f e =
     ∙ length-without n hs a
 
 -- one more may be made where no fault stands
-pub more-may-be : (s : State) → fault_of s ≡ None → s.made < MOST_MADE
+pub more-may-be : (s : HeldHandles) → fault_of s ≡ None → s.made < MOST_MADE
 more-may-be s e = at (nat_le MOST_HELD (length s.held)) (nat_le MOST_MADE s.made) refl e
   where
     at : (b d : Bool)
@@ -320,11 +320,11 @@ more-may-be s e = at (nat_le MOST_HELD (length s.held)) (nat_le MOST_MADE s.made
     at false true f e = absurd (cc)
     at false false f e = grind (arith, nat_tests)
 
-abbrev state : List Handle → ℕ → State
+abbrev state : List Handle → ℕ → HeldHandles
 state hs made = record { held = hs; made = made }
 
 -- what is left of a state without a group
-pub left-state : (g : List ℕ) (s : State) (hs left : List Handle) (made : ℕ)
+pub left-state : (g : List ℕ) (s : HeldHandles) (hs left : List Handle) (made : ℕ)
     → record { held = hs; made = made } ≡ s
     → left ≡ filter (is_outside g) hs
     → record { held = left; made = made } ≡ without_group g s

@@ -9,18 +9,18 @@ use Rattle.object_groups.specs.declared.fault.HandleFault.TheVariants.{Full, Mem
 use Rattle.object_groups.specs.declared.fault.TheConstants.{MOST_HELD, MOST_MADE}
 
 -- the handles that are held, in the order of making, and how many were made
-pub record State : Type 0 where
+pub record HeldHandles : Type 0 where
   pub held : List Handle
   pub made : ℕ
 
 -- the handles of a session before the first is made
-abbrev pub none_made : State
+abbrev pub none_made : HeldHandles
 none_made = record { held = []; made = 0 }
 
 -- ---- making
 
 -- why no handle is made, if none is
-abbrev pub fault_of : State → Option HandleFault
+abbrev pub fault_of : HeldHandles → Option HandleFault
 fault_of s =
     if nat_le MOST_HELD (length s.held) then Some (Full MOST_HELD) else if nat_le MOST_MADE s.made then Some
     (Full MOST_MADE) else None
@@ -31,11 +31,11 @@ Answers (Some fault) result = result ≡ Err fault
 Answers None result = IfErr result (λ fault. fault ≡ Memory)
 
 -- the number of the next handle, counted from 1
-abbrev pub next_number : State → ℕ
+abbrev pub next_number : HeldHandles → ℕ
 next_number s = s.made + 1
 
 -- one handle more, in a group or in none
-abbrev pub with_handle : Target → Option (List ℕ) → State → State
+abbrev pub with_handle : Target → Option (List ℕ) → HeldHandles → HeldHandles
 with_handle target group s =
     record {
       held = s.held ++ record { number = next_number s; target = target; group = group } ∷ [];
@@ -53,7 +53,7 @@ abbrev pub has_another_number : ℕ → Handle → Bool
 has_another_number n h = not (has_number n h)
 
 -- the handles of a session without that of a number
-abbrev pub without : ℕ → State → State
+abbrev pub without : ℕ → HeldHandles → HeldHandles
 without n s = record s { held = filter (has_another_number n) s.held }
 
 -- no group has a handle without a group
@@ -70,7 +70,7 @@ abbrev pub is_outside : List ℕ → Handle → Bool
 is_outside g h = not (is_in g h)
 
 -- the handles of a session without those of a group
-abbrev pub without_group : List ℕ → State → State
+abbrev pub without_group : List ℕ → HeldHandles → HeldHandles
 without_group g s = record s { held = filter (is_outside g) s.held }
 
 -- ---- cells that evaluations made

@@ -11,7 +11,7 @@ ghost use Rattle.object_groups.specs.Handles.{Answers, fault_of, has_number, is_
 use crate::fault::{HandleFault, MOST_HELD, MOST_MADE};
 use crate::groups::Groups;
 use crate::handle::{Handle, Target};
-use crate::table::Table;
+use crate::table::HandleTable;
 use cdp_text::units::Units;
 use std::alloc::{AllocError, Global};
 use std::collections::BTreeSet;
@@ -22,15 +22,15 @@ use std::marker::Model;
 #[derive(Drop)]
 pub struct Handles {
     alloc: Global,
-    table: Table,
+    table: HandleTable,
     groups: Groups,
     made: u64,
 }
 
 impl Model for Handles {
-    ghost use Rattle.object_groups.specs.Handles.{State};
+    ghost use Rattle.object_groups.specs.Handles.{HeldHandles};
 
-    ghost Value = { State };
+    ghost Value = { HeldHandles };
 
     ghost view = { λ h. record { held = h.table; made = h.made } };
 
@@ -52,7 +52,7 @@ fn name_of(alloc: Global, group: Option<&[u16]>) -> Result<Option<Units>, AllocE
 /// Adds a handle to a table, and its number to its group, which is lent beside it.
 fn hold(
     alloc: Global,
-    table: &mut Table,
+    table: &mut HandleTable,
     groups: &mut Groups,
     handle: Handle,
     group: Option<&[u16]>,
@@ -79,7 +79,7 @@ fn hold(
 }
 
 /// Takes the handles of these numbers out.
-fn remove_all(table: &mut Table, numbers: BTreeSet<u64>)
+fn remove_all(table: &mut HandleTable, numbers: BTreeSet<u64>)
     ensures { table.new ≡ without_all numbers.keys table.old }
 {
     for number in numbers {
@@ -94,7 +94,7 @@ impl Handles {
     {
         Handles {
             alloc,
-            table: Table::new(alloc),
+            table: HandleTable::new(alloc),
             groups: Groups::new(alloc),
             made: 0,
         }

@@ -14,12 +14,12 @@ use std::marker::Model;
 
 /// Handles by number. It is seen as their list, in the order of their numbers.
 #[derive(Drop)]
-pub struct Table {
+pub struct HandleTable {
     by_number: BTreeMap<u64, Handle>,
     on_scratch: usize,
 }
 
-impl Model for Table {
+impl Model for HandleTable {
     ghost use Rattle.std.specs.Prelude.{List};
     ghost use Rattle.std.specs.Map.{values_of};
     ghost use Rattle.object_groups.specs.declared.handle.Handle.{Handle};
@@ -33,12 +33,12 @@ impl Model for Table {
     ghost invariant = { λ t. IsTable t.by_number.entries t.on_scratch };
 }
 
-impl Table {
+impl HandleTable {
     /// No handles. It takes no memory.
-    pub fn new(alloc: Global) -> Table
+    pub fn new(alloc: Global) -> HandleTable
         ensures { result ≡ [] }
     {
-        Table {
+        HandleTable {
             by_number: BTreeMap::new(alloc),
             on_scratch: 0,
         }

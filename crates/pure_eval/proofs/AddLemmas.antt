@@ -11,7 +11,7 @@ use Rattle.js_machine_nodes.specs.declared.node.SourceEntry.{SourceEntry}
 use Rattle.js_machine_nodes.specs.declared.table.NodeTable.{NodeTable}
 use Rattle.js_machine_nodes.specs.Codes.{indexed_code}
 use Rattle.js_machine_nodes.specs.Trees.{tree, IsTable, source_tree, source_trees}
-use Rattle.js_machine_compiler.specs.Grown.{Extends, Keeps, Grows, HasTree, Holds}
+use Rattle.js_machine_compiler.specs.Grown.{Extends, KeepsTable, Grows, HasTree, HoldsTerm}
 use Rattle.js_machine_compiler.specs.Index.{IsIndexed}
 use Rattle.js_machine_compiler.specs.Scripts.{with_sources}
 use Rattle.js_machine_compiler.proofs.GrownLemmas.{begins_same, extends_twice, same_nodes, same_places}
@@ -63,7 +63,7 @@ each_source P es fs e s h k i d g = by (last_or es e d i (ap (λ xs. slice_get x
 
 -- what is known of a table whose nodes were added, before their source is
 pub record IsReady (t w : NodeTable) (plain entry : SourceEntry) : Type 0 where
-  pub keeps : Keeps t w
+  pub keeps : KeepsTable t w
   pub closed : AreClosed w (length t.nodes.items)
   pub placed : ArePlaced w (length t.functions.items)
   pub indexed : IsIndexed w plain entry
@@ -140,7 +140,7 @@ pub added : (names more : List (List ℕ)) (t w : NodeTable) (es : Vec SourceEnt
     (root from first : ℕ) (o : Option ℕ) (plain entry : SourceEntry)
     → IsWhole t
     → Grows names t more w
-    → Holds more w x o
+    → HoldsTerm more w x o
     → o ≡ Some root
     → from ≡ length t.nodes.items
     → AreClosed w from
@@ -153,10 +153,10 @@ pub added : (names more : List (List ℕ)) (t w : NodeTable) (es : Vec SourceEnt
     → es.items ≡ w.sources.items ++ entry ∷ []
     → IsAdded names t at x more (with_sources w es) root
 added names more t w es at x root from first o plain entry h g k e a b c d s r i j l =
-    let P : Option ℕ → Type 0 = Holds more w x in
+    let P : Option ℕ → Type 0 = HoldsTerm more w x in
     let Q : ℕ → Type 0 = AreClosed w in
     let R : ℕ → Type 0 = ArePlaced w in
-    let tree : HasTree more w root x = (let t' : Holds more w x (Some root) = subst P e k in t') in
+    let tree : HasTree more w root x = (let t' : HoldsTerm more w x (Some root) = subst P e k in t') in
     let ready : IsReady t w plain entry = record {
       keeps = g.table;
       closed = subst Q a b;

@@ -14,7 +14,7 @@ use Rattle.js_semantics.specs.declared.form.Form.{Form}
 use Rattle.js_semantics.specs.declared.form.Form.TheVariants.{Call as call}
 use Rattle.js_semantics.specs.declared.form.Mark.TheVariants.{Beginning as beginning}
 use Rattle.js_semantics.specs.Terms.{Term, done, part, end as no_terms, dones, is_done, all_done, settled}
-use Rattle.js_semantics.specs.State.{State, Told, Move, goes, travels, has_effect, is_full, went, raised, printed_values}
+use Rattle.js_semantics.specs.State.{State, StepTold, Move, goes, travels, has_effect, is_full, went, raised, printed_values}
 use Rattle.js_semantics.specs.Functions.{Program}
 use Rattle.js_semantics.specs.Next.{next, scope_in}
 use Rattle.js_semantics.specs.Run.{Finish as AnyFinish, Run, over, by_effect, by_full, run_after, run_of, steps_in}
@@ -136,7 +136,7 @@ call_next : (p : Program) (root : Addr) (receiver : Value) (t : Term) (args : Li
     → next p root (call_with_values receiver t args) s ≡ under root receiver args (next p root t s)
 call_next p root receiver t args s h = next-within p root (call_gap receiver args ∷ []) t s h
 
-goes_on : (root : Addr) (receiver : Value) (args : List Value) (m : Move Term) (t : Term) (s : State) (told : Told)
+goes_on : (root : Addr) (receiver : Value) (args : List Value) (m : Move Term) (t : Term) (s : State) (told : StepTold)
     → m ≡ goes t s told
     → run_after (under root receiver args m) ≡ run_of (call_with_values receiver t args) s
 goes_on root receiver args m t s told e =

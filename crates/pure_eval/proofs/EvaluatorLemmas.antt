@@ -18,7 +18,7 @@ use Rattle.js_semantics.specs.Terms.{Term, Terms, settle}
 use Rattle.js_semantics.specs.Functions.{Program, SourceTree, same_source}
 use Rattle.js_tree.specs.declared.script.FunctionCode.{FunctionCode}
 use Rattle.js_tree.specs.declared.tree.Expr.{Expr}
-use Rattle.js_semantics.specs.Makers.{Made}
+use Rattle.js_semantics.specs.Makers.{MadeExpression}
 use Rattle.js_semantics.specs.Sources.{expression_source}
 use Rattle.js_semantics.specs.Literals.{source_literals}
 use Rattle.js_semantics.specs.Laws.{AnswerKeeps}
@@ -43,7 +43,7 @@ use Rattle.pure_eval.specs.Cutting.{IsMarkOf, IsBack}
 use Rattle.pure_eval.specs.declared.evaluated.Evaluated.{Evaluated}
 use Rattle.pure_eval.specs.declared.evaluated.Evaluated.TheVariants as ends
 use Rattle.pure_eval.specs.declared.evaluator.Evaluator.{Evaluator}
-use Rattle.pure_eval.specs.declared.prepared.Prepared.{Prepared}
+use Rattle.pure_eval.specs.declared.prepared.PreparedSource.{PreparedSource}
 use Rattle.pure_eval.specs.declared.work.Work.{Work}
 use Rattle.pure_eval.specs.declared.work.Work.TheVariants as works
 use Rattle.pure_eval.specs.Arguments.{arguments_of}
@@ -177,7 +177,7 @@ tried_same : (b : Bool) (a : Addr) (v : World) (what : Counted) (k : Addr → Wo
 tried_same true a v what k = refl
 tried_same false a v what k = refl
 
-prepared_same : (w : World) (x : ScratchSpace) (us : List ℕ) (order : List (List ℕ)) (e : Made)
+prepared_same : (w : World) (x : ScratchSpace) (us : List ℕ) (order : List (List ℕ)) (e : MadeExpression)
     → prepared w x us order e ≡ ready_in_order w x us order (literals (kept_term (next_kept x) e))
     (kept_tree (next_kept x) e)
 prepared_same w x us order e =
@@ -192,7 +192,7 @@ prepared_same w x us order e =
     tried_same (nat_le (length us) c.room.units) (Scratch (length c.scratch)) v counted.Units
     (λ at z. after_try (place_literals z order (literals (kept_term at e))) (λ o y. fine (kept_tree at e) y))
 
-ready_same : (w : World) (x : ScratchSpace) (us : List ℕ) (order ls : List (List ℕ)) (u : Term) (e : Made)
+ready_same : (w : World) (x : ScratchSpace) (us : List ℕ) (order ls : List (List ℕ)) (u : Term) (e : MadeExpression)
     → u ≡ kept_tree (next_kept x) e
     → ls ≡ literals (kept_term (next_kept x) e)
     → ready_in_order w x us order ls u ≡ prepared w x us order e
@@ -201,7 +201,7 @@ ready_same w x us order ls u e f g =
     ∙ ap (λ l. ready_in_order w x us order l (kept_tree (next_kept x) e)) g
     ∙ sym (prepared_same w x us order e)
 
-evaluate_by : (w : World) (x z : ScratchSpace) (us : List ℕ) (order ls : List (List ℕ)) (u : Term) (e : Made)
+evaluate_by : (w : World) (x z : ScratchSpace) (us : List ℕ) (order ls : List (List ℕ)) (u : Term) (e : MadeExpression)
     (r : Evaluated) (j k : World → Term → Answer)
     → ((v : World) (t : Term) → j v t ≡ k v t)
     → u ≡ kept_tree (next_kept x) e
@@ -228,7 +228,7 @@ behind-is at h from n e b = let P : Addr → Type 0 = λ a. IsBehind a from n in
 
 -- the source that was added is the one that the definition has in front
 pub stands-with : (ts us : List (List ℕ)) (t u : NodeTable) (n next root : ℕ) (x : Term) (p : Program) (h : Heap)
-    (at : Addr) (e : Made) (order ls : List (List ℕ))
+    (at : Addr) (e : MadeExpression) (order ls : List (List ℕ))
     → HoldsProgram ts t n p
     → at ≡ next_of h
     → IsBehind at n next
@@ -262,7 +262,7 @@ worked_same p q (works.Expression scope receiver) w t h = evaluated_same p q sco
 worked_same p q (works.Call receiver arguments) w t h = called_same p q receiver (arguments_of arguments.now) w t h
 
 evaluator_answers : (ts us : List (List ℕ)) (t u : NodeTable) (n root : ℕ) (x : Term) (p : Program) (w : World)
-    (y z : ScratchSpace) (at : Addr) (work : Work) (e : Made) (source : List ℕ) (order ls : List (List ℕ))
+    (y z : ScratchSpace) (at : Addr) (work : Work) (e : MadeExpression) (source : List ℕ) (order ls : List (List ℕ))
     (r : Evaluated)
     → IsAdded ts t at x us u root
     → HoldsProgram us u n (with_source p y e)
@@ -282,7 +282,7 @@ evaluator_answers ts us t u n root x p w y z at work e source order ls r a s m h
     (h m.outcome)
 
 pub evaluator-leaves : (ts us ns : List (List ℕ)) (t u : NodeTable) (n next root : ℕ) (x : Term) (p : Program)
-    (w : World) (h k : Heap) (at : Addr) (work : Work) (e : Made) (source : List ℕ) (order ls : List (List ℕ))
+    (w : World) (h k : Heap) (at : Addr) (work : Work) (e : MadeExpression) (source : List ℕ) (order ls : List (List ℕ))
     (r : Evaluated)
     → HoldsProgram ts t n p
     → at ≡ next_of h
@@ -399,7 +399,7 @@ pub made-of : (at : Addr) (e : Expr)
 made-of at e =
     record { term_is = refl; literals_are = refl; stays = kept-settled at e; outcome = λ w. literals-agree w at e }
 
-pub ready-made : (at : Addr) (units : List ℕ) (e : Expr) (p : Prepared) (order ls : List (List ℕ))
+pub ready-made : (at : Addr) (units : List ℕ) (e : Expr) (p : PreparedSource) (order ls : List (List ℕ))
     → order ≡ p.order.items
     → ls ≡ p.literals.items
     → IsReady at units e p
@@ -415,7 +415,7 @@ ready-made at units e p order ls f g i =
     }
 
 pub ready-leaves : (q : Program) (w : World) (x y : ScratchSpace) (work : Work) (at : Addr) (units : List ℕ) (e : Expr)
-    (p : Prepared) (order : List (List ℕ)) (r : Evaluated)
+    (p : PreparedSource) (order : List (List ℕ)) (r : Evaluated)
     → order ≡ p.order.items
     → IsReady at units e p
     → Leaves (work_of q w x p.source order (expression_source e) work) r x y
@@ -443,7 +443,7 @@ call-is p w x f receiver as_given =
     calls (prepared w x f.source (source_literals f.tree) (expression_source f.tree))
     (with_source p x (expression_source f.tree)) receiver as_given
 
-pub work-keeps : (p : Program) (w : World) (x : ScratchSpace) (source : List ℕ) (order : List (List ℕ)) (e : Made)
+pub work-keeps : (p : Program) (w : World) (x : ScratchSpace) (source : List ℕ) (order : List (List ℕ)) (e : MadeExpression)
     (work : Work)
     → AnswerKeeps w x (work_of p w x source order e work)
 work-keeps p w x source order e (works.Expression scope receiver) = evaluate-keeps p w x scope receiver source order e

@@ -7,7 +7,7 @@ use Rattle.js_heap.specs.declared.cell.Cell.{Cell}
 use Rattle.js_heap.specs.World.{World}
 use Rattle.js_heap.specs.ScratchSpaces.{ScratchSpace}
 use Rattle.js_semantics.specs.Functions.{Program}
-use Rattle.js_semantics.specs.Makers.{Made}
+use Rattle.js_semantics.specs.Makers.{MadeExpression}
 use Rattle.js_semantics.specs.Laws.{Undisturbed, AnswerKeeps}
 use Rattle.js_semantics.specs.Evaluation.{Answer, evaluate}
 use Rattle.js_semantics.proofs.EvaluationLemmas.{evaluate-keeps}
@@ -55,7 +55,7 @@ comes_back ts h w y a ends.Spent k l = cut_same ts h y l.1
 comes_back ts h w y a ends.Memory k l = tt
 
 pub evaluation-forgotten : (p : Program) (w : World) (names : List (List ℕ)) (scratch : Heap) (after : ScratchSpace)
-    (scope : Addr) (receiver : Value) (source : List ℕ) (order : List (List ℕ)) (e : Made) (end : Evaluated)
+    (scope : Addr) (receiver : Value) (source : List ℕ) (order : List (List ℕ)) (e : MadeExpression) (end : Evaluated)
     → Leaves (evaluate p w (space_of names scratch) scope receiver source order e) end (space_of names scratch) after
     → ComesBack end after (mark_of scratch) (space_of names scratch)
 evaluation-forgotten p w names scratch after scope receiver source order e end l =

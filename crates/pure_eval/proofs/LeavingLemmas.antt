@@ -11,7 +11,7 @@ use Rattle.js_semantics.specs.Functions.{Program}
 use Rattle.js_semantics.specs.Run.{run_of, state_of, steps_in}
 use Rattle.js_semantics.specs.Evaluation.{Answer}
 use Rattle.js_semantics.proofs.FollowLemmas.{run_of-state, steps-follows}
-use Rattle.js_heap_memory.specs.Overlays.{Marked, space_after, space_at}
+use Rattle.js_heap_memory.specs.Overlays.{OverlayMark, space_after, space_at}
 use Rattle.pure_eval.specs.declared.evaluated.Evaluated.{Evaluated}
 use Rattle.pure_eval.specs.declared.evaluated.Evaluated.TheVariants as ends
 use Rattle.pure_eval.specs.Answering.{Answers}
@@ -28,7 +28,7 @@ world_keeps n p a t s v e =
     let Q : State → Type 0 = λ u. Keeps u.world (state_of (steps_in n p a (run_of t s))).world in
     subst P e (subst Q (run_of-state t s) k)
 
-earlier_cells : (w v : World) (x : ScratchSpace) (m : Marked)
+earlier_cells : (w v : World) (x : ScratchSpace) (m : OverlayMark)
     → GoesOnFrom w x m
     → Keeps w v
     → take (length x.cells) v.scratch ≡ x.cells
@@ -46,7 +46,7 @@ space_same : (cs ds : List Cell) (c d u v : ℕ)
     a ≡ b
 space_same cs ds c d u v e f g = rw (e, f, g) refl
 
-pub cut-space : (w v : World) (x : ScratchSpace) (m : Marked)
+pub cut-space : (w v : World) (x : ScratchSpace) (m : OverlayMark)
     → GoesOnFrom w x m
     → Keeps w v
     → space_at (space_after v) m ≡ x
@@ -54,7 +54,7 @@ cut-space w v x m g k =
     space_same (take m.count v.scratch) x.cells m.cells_left x.room.cells m.units_left x.room.units
     (ap (λ n. take n v.scratch) g.count ∙ earlier_cells w v x m g k) g.cells_left g.units_left
 
-pub leaves : (a : Answer) (w v : World) (x y : ScratchSpace) (m : Marked) (e : Evaluated)
+pub leaves : (a : Answer) (w v : World) (x y : ScratchSpace) (m : OverlayMark) (e : Evaluated)
     → GoesOnFrom w x m
     → Answers a e v
     → KeepsTo e w v

@@ -7,7 +7,7 @@ use Rattle.js_heap.specs.declared.cell.Cell.{Cell}
 use Rattle.js_heap.specs.World.{World}
 use Rattle.js_heap.specs.ScratchSpaces.{ScratchSpace, copied_world}
 use Rattle.js_semantics.specs.Functions.{Program, SourceTree}
-use Rattle.js_semantics.specs.Makers.{Made}
+use Rattle.js_semantics.specs.Makers.{MadeExpression}
 use Rattle.js_semantics.specs.Terms.{Term}
 use Rattle.js_semantics.specs.Laws.{AnswerKeeps}
 use Rattle.js_semantics.specs.Evaluation.{Answer, kept_tree, next_kept}
@@ -16,13 +16,13 @@ use Rattle.js_semantics.specs.Sources.{expression_source}
 use Rattle.js_machine_terms.specs.Views.{term_view}
 use Rattle.js_tree.specs.declared.tree.Expr.{Expr}
 use Rattle.js_heap_memory.specs.Heaps.{Heap, heap_world}
-use Rattle.js_heap_memory.specs.Overlays.{Marked, Over, over_world, space_of, space_after, space_at, next_of}
+use Rattle.js_heap_memory.specs.Overlays.{OverlayMark, Over, over_world, space_of, space_after, space_at, next_of}
 use Rattle.js_machine_nodes.specs.Trees.{program_of}
 use Rattle.pure_eval.specs.declared.evaluated.Evaluated.{Evaluated}
 use Rattle.pure_eval.specs.declared.evaluated.Evaluated.TheVariants as ends
 use Rattle.pure_eval.specs.declared.evaluator.Evaluator.{Evaluator}
 use Rattle.pure_eval.specs.declared.evaluator.EvaluatorMark.{EvaluatorMark}
-use Rattle.pure_eval.specs.declared.prepared.Prepared.{Prepared}
+use Rattle.pure_eval.specs.declared.prepared.PreparedSource.{PreparedSource}
 use Rattle.pure_eval.specs.declared.work.Work.{Work}
 use Rattle.pure_eval.specs.Adding.{kept_tree_at}
 use Rattle.pure_eval.specs.Calling.{work_of}
@@ -32,7 +32,7 @@ use Rattle.pure_eval.specs.Preparing.{IsReady}
 use Rattle.pure_eval.specs.Returning.{WentOn, WentOnAfter, IsCode, CodeAfter}
 use Rattle.pure_eval.specs.Answering.{is_memory}
 use Rattle.pure_eval.specs.Working.{IsWorking, IsOpen}
-use Rattle.pure_eval.specs.Workspaces.{Opened, opened_of, source_kept, EvaluatesTo}
+use Rattle.pure_eval.specs.Workspaces.{OpenWorkspace, opened_of, source_kept, EvaluatesTo}
 use Rattle.pure_eval.proofs.EvaluatorLemmas.{next-same, source_same, world-further, work-keeps}
 use Rattle.pure_eval.proofs.ReturnLemmas.{went-through}
 use Rattle.pure_eval.proofs.WorkspaceLemmas.{space_over, made_open, program-first}
@@ -73,7 +73,7 @@ working_on old new n m w g c = record {
 }
 
 pub open-on : (end : Evaluated) (old new : Evaluator) (n : ℕ) (start m : EvaluatorMark) (base h : Heap) (o q : Over)
-    (k : Marked) (count : ℕ) (next later : Addr) (p : Program) (s : SourceTree)
+    (k : OverlayMark) (count : ℕ) (next later : Addr) (p : Program) (s : SourceTree)
     → is_memory end ≡ false
     → IsOpen old n start m base o k count next
     → WentOnAfter end old new
@@ -106,7 +106,7 @@ take_first (suc k) zero ys h = absurd (omega (arith, h))
 take_first (suc k) (suc l) [] h = refl
 take_first (suc k) (suc l) (y ∷ ys) h = ap (λ zs. y ∷ zs) (take_first k l ys (omega (arith, h)))
 
-cells_stay : (x y : ScratchSpace) (k : Marked)
+cells_stay : (x y : ScratchSpace) (k : OverlayMark)
     → k.count ≤ length x.cells
     → take (length x.cells) y.cells ≡ x.cells
     → space_at y k ≡ space_at x k
@@ -132,7 +132,7 @@ open_same w v p r a b x y z u n e f g h i =
     ∙ ap (λ s. made_open v r y b s n) i
 
 -- behind an evaluation over an opened workspace, which did not give up the evaluator
-record Behind (old new : Evaluator) (n : ℕ) (start m : EvaluatorMark) (base h : Heap) (o q : Over) (k : Marked)
+record Behind (old new : Evaluator) (n : ℕ) (start m : EvaluatorMark) (base h : Heap) (o q : Over) (k : OverlayMark)
     (count : ℕ) (next : Addr) : Type 0 where
   pub open_old : IsOpen old n start m base o k count next
   pub went : WentOn old new
@@ -142,7 +142,7 @@ record Behind (old new : Evaluator) (n : ℕ) (start m : EvaluatorMark) (base h 
   pub there : k.count ≤ length (space_after (over_world old.names o)).cells
   pub over : (ts : List (List ℕ)) → over_world ts q ≡ copied_world (heap_world ts base) (space_of ts h)
 
-open_behind : (old new : Evaluator) (n : ℕ) (start m : EvaluatorMark) (base h : Heap) (o q : Over) (k : Marked)
+open_behind : (old new : Evaluator) (n : ℕ) (start m : EvaluatorMark) (base h : Heap) (o q : Over) (k : OverlayMark)
     (count : ℕ) (next : Addr) (p : Program) (y : ScratchSpace)
     → Behind old new n start m base h o q k count next
     → program_of new.names new.table ≡ p
@@ -167,7 +167,7 @@ open_behind old new n start m base h o q k count next p y b program space cells 
     (world-further old.names new.names base b.went.names b.further b.known) first
     (ap (λ z. space_at z k) there ∙ cells_stay x y k b.there cells) program there
 
-source_is : (ts : List (List ℕ)) (g : Heap) (x : ScratchSpace) (t : Term) (e : Made)
+source_is : (ts : List (List ℕ)) (g : Heap) (x : ScratchSpace) (t : Term) (e : MadeExpression)
     → space_of ts g ≡ x
     → t ≡ kept_tree (next_kept x) e
     → kept_tree_at (next_of g) t ≡ source_kept x e
@@ -180,8 +180,8 @@ same_cells x y e = ap (λ (z : ScratchSpace). take (length x.cells) z.cells) e �
 with_more : (p q : Program) (s t : SourceTree) → q ≡ p ++ s ∷ [] → s ≡ t → q ≡ p ++ t ∷ []
 with_more p q s t e f = e ∙ ap (λ u. p ++ u ∷ []) f
 
-comes_to : (end : Evaluated) (a : Answer) (e : Made) (w : World) (s : SourceTree) (old new : Evaluator) (n : ℕ)
-    (start m : EvaluatorMark) (base h : Heap) (o q : Over) (k : Marked) (count : ℕ) (next : Addr)
+comes_to : (end : Evaluated) (a : Answer) (e : MadeExpression) (w : World) (s : SourceTree) (old new : Evaluator) (n : ℕ)
+    (start m : EvaluatorMark) (base h : Heap) (o q : Over) (k : OverlayMark) (count : ℕ) (next : Addr)
     → Behind old new n start m base h o q k count next
     → CodeAfter end new (program_of old.names old.table) s
     → s ≡ source_kept (space_after (over_world old.names o)) e
@@ -233,7 +233,7 @@ comes_to ends.Spent a e w s old new n start m base h o q k count next b c f kept
 comes_to ends.Memory a e w s old new n start m base h o q k count next b c f kept l = tt
 
 -- what becomes of a source over an opened workspace
-abbrev pub Evaluates : Evaluated → Work → Prepared → Opened → Opened → Type 0
+abbrev pub Evaluates : Evaluated → Work → PreparedSource → OpenWorkspace → OpenWorkspace → Type 0
 Evaluates end work x old new =
     (source : List ℕ) (e : Expr)
     → IsReady (next_kept old.behind.scratch) source e x
@@ -241,8 +241,8 @@ Evaluates end work x old new =
     (work_of old.behind.program old.world old.behind.scratch source (source_literals e) (expression_source e) work)
     (expression_source e) end old new
 
-pub evaluates-open : (end : Evaluated) (x : Prepared) (work : Work) (old new : Evaluator) (n : ℕ)
-    (start m : EvaluatorMark) (base g h : Heap) (o q : Over) (k : Marked) (count from : ℕ) (next : Addr)
+pub evaluates-open : (end : Evaluated) (x : PreparedSource) (work : Work) (old new : Evaluator) (n : ℕ)
+    (start m : EvaluatorMark) (base g h : Heap) (o q : Over) (k : OverlayMark) (count from : ℕ) (next : Addr)
     → is_memory end ≡ false
     → IsOpen old n start m base o k count next
     → WentOnAfter end old new

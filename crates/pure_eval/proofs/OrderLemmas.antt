@@ -13,7 +13,7 @@ use Rattle.js_heap_memory.specs.declared.world.Refused.{Refused}
 use Rattle.js_heap_memory.specs.declared.world.Refused.TheVariants.{Effect, Full, Memory}
 use Rattle.js_heap_memory.specs.Calls.{Tries}
 use Rattle.js_heap_memory.specs.Heaps.{Heap}
-use Rattle.js_heap_memory.specs.Overlays.{Marked, mark_of, space_of, space_after, space_at}
+use Rattle.js_heap_memory.specs.Overlays.{OverlayMark, mark_of, space_of, space_after, space_at}
 use Rattle.pure_eval.specs.declared.evaluated.Evaluated.{Evaluated}
 use Rattle.pure_eval.specs.declared.evaluated.Evaluated.TheVariants as ends
 use Rattle.pure_eval.specs.Leaving.{Leaves, placed, made_ready}
@@ -154,7 +154,7 @@ order-ends w o v ts h us ks xs r e q l i k f =
     let Q : Evaluated → Type 0 = λ z. EndsAs (placed (copied_world w (space_of ts h)) us xs) e z in
     subst Q (sym f) (tried_end (placed (copied_world w (space_of ts h)) us xs) r v e (subst R l (subst P i k)))
 
-pub order-space : (w o v : World) (ts : List (List ℕ)) (h : Heap) (m : Marked) (y : ScratchSpace)
+pub order-space : (w o v : World) (ts : List (List ℕ)) (h : Heap) (m : OverlayMark) (y : ScratchSpace)
     → o ≡ copied_world w (space_of ts h)
     → m ≡ mark_of h
     → Keeps o v

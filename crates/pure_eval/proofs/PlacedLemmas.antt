@@ -12,7 +12,7 @@ use Rattle.js_heap_memory.specs.declared.world.Refused.{Refused}
 use Rattle.js_heap_memory.specs.declared.world.Refused.TheVariants.{Effect, Full, Memory}
 use Rattle.js_heap_memory.specs.Calls.{Tries}
 use Rattle.js_heap_memory.specs.Heaps.{Heap}
-use Rattle.js_heap_memory.specs.Overlays.{Marked, mark_of, space_of}
+use Rattle.js_heap_memory.specs.Overlays.{OverlayMark, mark_of, space_of}
 use Rattle.js_heap_memory.proofs.HeapLemmas.{cells-length}
 use Rattle.pure_eval.specs.declared.evaluated.Evaluated.{Evaluated}
 use Rattle.pure_eval.specs.Leaving.{space_behind, GoesOnFrom, Leaves, placed, made_ready, refused_end}
@@ -29,7 +29,7 @@ kept-keeps w v u us a e h =
 
 -- ---- the world before the first step
 
-pub goes-from : (w v : World) (ts : List (List ℕ)) (h : Heap) (m : Marked)
+pub goes-from : (w v : World) (ts : List (List ℕ)) (h : Heap) (m : OverlayMark)
     → m ≡ mark_of h
     → Keeps (copied_world w (space_of ts h)) v
     → GoesOnFrom v (space_of ts h) m
@@ -57,7 +57,7 @@ ready-leaves says w v x y us xs t e f h =
     let P : Tried (Unit {0}) → Type 0 = λ z. Leaves (answered (after_try z (λ u s. fine t s)) says) e x y in
     subst P (sym f) h
 
-pub refused-leaves : (says : World → Term → Answer) (w v : World) (x y : ScratchSpace) (m : Marked) (us : List ℕ)
+pub refused-leaves : (says : World → Term → Answer) (w v : World) (x y : ScratchSpace) (m : OverlayMark) (us : List ℕ)
     (xs : List (List ℕ)) (t : Term) (r : Refused)
     → (let s : Result (Unit {0}) Refused = Err r in Tries (placed (copied_world w x) us xs) s v)
     → Keeps (copied_world w x) v
@@ -72,7 +72,7 @@ refused-leaves says w v x y m us xs t Memory h k g s = tt
 
 -- ---- as the code has it
 
-pub all-ready : (says : World → Term → Answer) (w o v : World) (ts : List (List ℕ)) (h : Heap) (m : Marked)
+pub all-ready : (says : World → Term → Answer) (w o v : World) (ts : List (List ℕ)) (h : Heap) (m : OverlayMark)
     (y : ScratchSpace) (us : List ℕ) (xs : List (List ℕ)) (t : Term) (e : Evaluated)
     → o ≡ copied_world w (space_of ts h)
     → m ≡ mark_of h
@@ -86,7 +86,7 @@ all-ready says w o v ts h m y us xs t e i j f g k =
     ready-leaves says w v (space_of ts h) y us xs t e (subst P i f)
     (k (space_of ts h) (goes-from w v ts h m j (subst Q i g)))
 
-pub all-refused : (says : World → Term → Answer) (w o v : World) (ts : List (List ℕ)) (h : Heap) (m : Marked)
+pub all-refused : (says : World → Term → Answer) (w o v : World) (ts : List (List ℕ)) (h : Heap) (m : OverlayMark)
     (y : ScratchSpace) (us : List ℕ) (xs : List (List ℕ)) (t : Term) (r : Refused) (e : Evaluated)
     → o ≡ copied_world w (space_of ts h)
     → m ≡ mark_of h

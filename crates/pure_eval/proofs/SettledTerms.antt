@@ -14,7 +14,7 @@ use Rattle.js_semantics.specs.declared.form.Form.{Form}
 use Rattle.js_semantics.specs.declared.form.Form.TheVariants.{Scripts as scripts, Sequence as sequence, Scoped as scoped, Loop as loop, BodyOf as body_of, Catching as catching, Finishing as finishing, Ending as ending, Read as read, Literal as literal}
 use Rattle.js_semantics.specs.declared.form.Reference.TheVariants.{Name as to_name}
 use Rattle.js_semantics.specs.Terms.{Term, done, standing, part, Terms, end, more, all_done, finished, settle}
-use Rattle.js_semantics.specs.Makers.{Context, Made, Items, unnamed, assigned_to, compounded, updated, deleted, type_of, assignment, unary_term, binary_term, comma_term, call_term, function_term, plains}
+use Rattle.js_semantics.specs.Makers.{LoweringContext, MadeExpression, MadeStatements, unnamed, assigned_to, compounded, updated, deleted, type_of, assignment, unary_term, binary_term, comma_term, call_term, function_term, plains}
 use Rattle.js_semantics.specs.Sources.{expression_source}
 use Rattle.js_semantics.specs.Evaluation.{kept_term, literals_placed, kept_tree}
 use Rattle.js_semantics.specs.Run.{with_literals}
@@ -67,8 +67,8 @@ placed_settled at n (part f now later) h = h
 
 -- ---- makers
 
-abbrev MadeSettled : Made → Type 0
-MadeSettled e = (c : Context) → IsSettled (e.term c)
+abbrev MadeSettled : MadeExpression → Type 0
+MadeSettled e = (c : LoweringContext) → IsSettled (e.term c)
 
 assigned_settled : (t e : Term) → IsSettled t → IsSettled (assigned_to t e)
 assigned_settled (done v) e h = h
@@ -124,7 +124,7 @@ call_settled m node (standing v place) args = refl
 call_settled m node (part (read r) now later) args = refl
 call_settled m node (part f now later) args = refl
 
-function_settled : (node : ℕ) (n : Option (List ℕ)) (ps : List (List ℕ)) (b : Items) (c : Context)
+function_settled : (node : ℕ) (n : Option (List ℕ)) (ps : List (List ℕ)) (b : MadeStatements) (c : LoweringContext)
     → IsSettled (function_term node n ps b c)
 function_settled node (Some n) ps b c = refl
 function_settled node None ps b c = refl
@@ -220,6 +220,6 @@ kept_settled (Base n) t h = h
 pub kept-settled : (at : Addr) (e : Expr)
     → settle (kept_tree at (expression_source e)) ≡ kept_tree at (expression_source e)
 kept-settled at e =
-    let c : Context = record { source = kept_source at; statement = 0; name = [] } in
+    let c : LoweringContext = record { source = kept_source at; statement = 0; name = [] } in
     let h : MadeSettled (expression_source e) = expression-related settling keeps_settled e in
     settle_same (kept_tree at (expression_source e)) (kept_settled at (kept_term at (expression_source e)) (h c))

@@ -12,7 +12,7 @@ use Rattle.js_semantics.specs.Evaluation.{next_kept}
 use Rattle.std.specs.Prelude.{slice_get, unwrap_or}
 use Rattle.js_heap_memory.specs.Names.{GoesOn, name_of, spare}
 use Rattle.js_heap_memory.specs.Heaps.{Heap, heap_world}
-use Rattle.js_heap_memory.specs.Overlays.{Marked, Over, over_world, space_of, space_after, space_at, first_space, next_of, mark_of}
+use Rattle.js_heap_memory.specs.Overlays.{OverlayMark, Over, over_world, space_of, space_after, space_at, first_space, next_of, mark_of}
 use Rattle.js_heap_memory.proofs.HeapLemmas.{cells-length}
 use Rattle.js_heap_memory.proofs.TableLemmas.{same-only}
 use Rattle.js_machine_nodes.specs.declared.node.SourceEntry.{SourceEntry}
@@ -23,7 +23,7 @@ use Rattle.pure_eval.specs.declared.evaluator.EvaluatorMark.{EvaluatorMark}
 use Rattle.pure_eval.specs.Whole.{IsWhole}
 use Rattle.pure_eval.specs.Returning.{WentOn, IsMarked, IsAgain, IsCode, IsCodeOf}
 use Rattle.pure_eval.specs.Working.{IsWorking, IsOpen, IsKnown}
-use Rattle.pure_eval.specs.Workspaces.{Workspace, workspace_of, begun, emptied_workspace, Opened, opened_of, opened}
+use Rattle.pure_eval.specs.Workspaces.{Workspace, workspace_of, begun, emptied_workspace, OpenWorkspace, opened_of, opened}
 use Rattle.pure_eval.proofs.EvaluatorLemmas.{next-same, world-further}
 use Rattle.pure_eval.proofs.ReturnLemmas.{went-same, went-through, code-again}
 use Rattle.pure_eval.proofs.StayLemmas.{sources-stay}
@@ -79,10 +79,10 @@ space_mark ts h =
     → ScratchSpace = λ cs. record { cells = cs; room = record { cells = h.cells_left; units = h.units_left } } in
     ap f (ap (λ n. take n (space_of ts h).cells) (sym (cells-length ts h.cells)) ∙ take-length (space_of ts h).cells)
 
-abbrev pub made_open : World → Program → ScratchSpace → Program → ScratchSpace → ℕ → Opened
+abbrev pub made_open : World → Program → ScratchSpace → Program → ScratchSpace → ℕ → OpenWorkspace
 made_open w p x q y n = record { world = w; before = made p n x; behind = made q n y }
 
-pub opened-is : (e : Evaluator) (n : ℕ) (m : EvaluatorMark) (base h : Heap) (o : Over) (k : Marked)
+pub opened-is : (e : Evaluator) (n : ℕ) (m : EvaluatorMark) (base h : Heap) (o : Over) (k : OverlayMark)
     (names : List (List ℕ))
     → IsMarked e m
     → IsKnown base names e.names
@@ -106,7 +106,7 @@ opened-is e n m base h o k names marked known further over is =
     ∙ ap (λ y. made_open (heap_world names base) p y p (space_after (over_world e.names o)) n) first
     ∙ ap (λ y. made_open (heap_world names base) p x p y n) there
 
-pub open-is : (e : Evaluator) (n : ℕ) (start m : EvaluatorMark) (base h : Heap) (o : Over) (k : Marked) (count : ℕ)
+pub open-is : (e : Evaluator) (n : ℕ) (start m : EvaluatorMark) (base h : Heap) (o : Over) (k : OverlayMark) (count : ℕ)
     (next : Addr)
     → IsWorking e n start
     → IsMarked e m
@@ -128,7 +128,7 @@ open-is e n start m base h o k count next working marked over based is next_is n
       goes_on = went-same e working.code.runs.whole;
       base_is = based;
       ready = λ ts. over ts ∙ ap (copied_world (heap_world ts base)) (sym (there ts));
-      marked_cells = ap (λ (x : Marked). x.count) is ∙ sym at;
+      marked_cells = ap (λ (x : OverlayMark). x.count) is ∙ sym at;
       next_is = next_is ∙ sym (next-same e.names h) ∙ ap next_kept (sym (there e.names));
     }
 
@@ -192,7 +192,7 @@ emptied-working old new n m w cut =
     let a : IsAgain w.first new = cut w.first w.first_code.runs.whole w.marked w.goes_on in
     working-again w.first new n m (working-first w.first n m w.first_code w.marked (sym w.count)) a
 
-pub forgotten-working : (e new : Evaluator) (n : ℕ) (start m : EvaluatorMark) (base : Heap) (o : Over) (k : Marked)
+pub forgotten-working : (e new : Evaluator) (n : ℕ) (start m : EvaluatorMark) (base : Heap) (o : Over) (k : OverlayMark)
     (count : ℕ) (next : Addr)
     → IsOpen e n start m base o k count next
     → ((b : Evaluator) → IsWhole b.table → IsMarked b m → WentOn b e → IsAgain b new)
@@ -201,7 +201,7 @@ forgotten-working e new n start m base o k count next i cut =
     working-again i.before new n start i.before_working
     (cut i.before i.before_working.code.runs.whole i.marked i.goes_on)
 
-pub forgotten-is : (e new : Evaluator) (n : ℕ) (start m : EvaluatorMark) (base h g : Heap) (o : Over) (k : Marked)
+pub forgotten-is : (e new : Evaluator) (n : ℕ) (start m : EvaluatorMark) (base h g : Heap) (o : Over) (k : OverlayMark)
     (count : ℕ) (next : Addr)
     → IsOpen e n start m base o k count next
     → ((b : Evaluator) → IsWhole b.table → IsMarked b m → WentOn b e → IsAgain b new)

@@ -9,7 +9,7 @@ use Rattle.js_heap.specs.World.{World, fine}
 use Rattle.js_heap.specs.Worlds.{Keeps}
 use Rattle.js_semantics.specs.Evaluation.{Answer, Argument, answer_of, answered, call_with_values, evaluated, prepared, with_arguments, with_source}
 use Rattle.js_semantics.specs.Functions.{Program}
-use Rattle.js_semantics.specs.Makers.{Made}
+use Rattle.js_semantics.specs.Makers.{MadeExpression}
 use Rattle.js_semantics.specs.Run.{Run, run_of, steps_in}
 use Rattle.js_semantics.specs.State.{State}
 use Rattle.js_semantics.specs.Terms.{Term, done}
@@ -44,7 +44,7 @@ worked p (works.Expression scope receiver) = evaluated p scope receiver
 worked p (works.Call receiver arguments) = called p receiver (arguments_of arguments.now)
 
 -- the answer for a source
-abbrev pub work_of : Program → World → ScratchSpace → List ℕ → List (List ℕ) → Made → Work → Answer
+abbrev pub work_of : Program → World → ScratchSpace → List ℕ → List (List ℕ) → MadeExpression → Work → Answer
 work_of p w x source order e work = answered (prepared w x source order e) (worked (with_source p x e) work)
 
 -- in an evaluation, what isn't its own stays; want of memory says nothing

@@ -6,7 +6,7 @@ use Rattle.js_semantics.specs.declared.form.Source.{Source}
 use Rattle.js_semantics.specs.declared.form.Source.TheVariants.{Script as script_source, Kept as kept_source}
 use Rattle.js_semantics.specs.Terms.{Term, settle}
 use Rattle.js_semantics.specs.Functions.{Program}
-use Rattle.js_semantics.specs.Makers.{Made}
+use Rattle.js_semantics.specs.Makers.{MadeExpression}
 use Rattle.js_semantics.specs.Run.{literals}
 use Rattle.js_semantics.specs.Evaluation.{kept_term, kept_tree}
 use Rattle.js_heap_memory.specs.Names.{GoesOn}
@@ -41,7 +41,7 @@ abbrev pub Runs : Evaluator → Program → Type 0
 Runs e p = HoldsProgram e.names e.table e.next p
 
 -- a term that is made of a source that is kept at an address, its literals in the source's order and in its own
-pub record IsMadeOf (at : Addr) (e : Made) (order of_term : List (List ℕ)) (t : Term) : Type 0 where
+pub record IsMadeOf (at : Addr) (e : MadeExpression) (order of_term : List (List ℕ)) (t : Term) : Type 0 where
   pub term_is : t ≡ kept_tree at e
   pub literals_are : of_term ≡ literals (kept_term at e)
   pub stays : settle t ≡ t

@@ -6,18 +6,18 @@ use Rattle.js_semantics.specs.Terms.{Term}
 use Rattle.js_semantics.specs.Evaluation.{after_try, copied_world, keep_source, make_literals, Answer, a_result, a_throw, an_effect, is_full_of, spent}
 use Rattle.js_heap_memory.specs.declared.world.Refused.{Refused}
 use Rattle.js_heap_memory.specs.declared.world.Refused.TheVariants as refusals
-use Rattle.js_heap_memory.specs.Overlays.{Marked, space_after, space_at}
+use Rattle.js_heap_memory.specs.Overlays.{OverlayMark, space_after, space_at}
 use Rattle.pure_eval.specs.declared.evaluated.Evaluated.{Evaluated}
 use Rattle.pure_eval.specs.declared.evaluated.Evaluated.TheVariants as ends
 
 -- behind a value and a throw the cells that it made stay, else they are cut again
-abbrev pub space_behind : Evaluated → World → Marked → ScratchSpace
+abbrev pub space_behind : Evaluated → World → OverlayMark → ScratchSpace
 space_behind (ends.Value v) w m = space_after w
 space_behind (ends.Thrown v) w m = space_after w
 space_behind e w m = space_at (space_after w) m
 
 -- the world of an evaluation behind a session's cells, which were marked before it
-pub record GoesOnFrom (w : World) (x : ScratchSpace) (m : Marked) : Type 0 where
+pub record GoesOnFrom (w : World) (x : ScratchSpace) (m : OverlayMark) : Type 0 where
   pub start : w.start ≡ Some (length x.cells)
   pub long : length x.cells ≤ length w.scratch
   pub earlier : take (length x.cells) w.scratch ≡ x.cells
@@ -54,6 +54,6 @@ refused_end refusals.Memory = ends.Memory
 -- ---- evaluations that are forgotten
 
 -- cut to a mark, a session's cells are those of before; want of memory says nothing
-abbrev pub ComesBack : Evaluated → ScratchSpace → Marked → ScratchSpace → Type 0
+abbrev pub ComesBack : Evaluated → ScratchSpace → OverlayMark → ScratchSpace → Type 0
 ComesBack ends.Memory after m before = Unit {0}
 ComesBack end after m before = space_at after m ≡ before

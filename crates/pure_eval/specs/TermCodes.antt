@@ -5,13 +5,13 @@ use Rattle.std.specs.Coded.{Coded, code_by, coded_list, codes}
 use Rattle.js_heap.specs.declared.value.Value.{Value}
 use Rattle.js_heap.specs.declared.value.Value.TheVariants as values
 use Rattle.js_semantics.specs.declared.form.Form.{Form}
-use Rattle.js_semantics.specs.declared.form.Spot.{Spot}
+use Rattle.js_semantics.specs.declared.form.SourceMark.{SourceMark}
 use Rattle.js_semantics.specs.Terms.{Term, Terms, done, standing, part, end, more}
 
 -- a word: what stands at a node of a term, or between the parts of a list
 pub data Word : Type 0 where
   a_value : Value → Word
-  a_throw : Value → Spot → Word
+  a_throw : Value → SourceMark → Word
   a_form : Form → Word
   no_parts : Word
   a_part : Word

@@ -5,7 +5,7 @@ use Rattle.js_heap.specs.ScratchSpaces.{copied_world}
 use Rattle.js_semantics.specs.Evaluation.{next_kept}
 use Rattle.js_heap_memory.specs.Heaps.{Heap, heap_world}
 use Rattle.js_heap_memory.specs.Names.{GoesOn}
-use Rattle.js_heap_memory.specs.Overlays.{Over, Marked, over_world, space_after}
+use Rattle.js_heap_memory.specs.Overlays.{Over, OverlayMark, over_world, space_after}
 use Rattle.pure_eval.specs.declared.evaluator.Evaluator.{Evaluator}
 use Rattle.pure_eval.specs.declared.evaluator.EvaluatorMark.{EvaluatorMark}
 use Rattle.pure_eval.specs.Returning.{WentOn, IsMarked, IsCode}
@@ -22,7 +22,7 @@ pub record IsWorking (e : Evaluator) (scripts : ℕ) (m : EvaluatorMark) : Type 
 -- an evaluator over a program's cells, with those of a session, which went on from one that was marked when it was
 -- opened
 pub record IsOpen (e : Evaluator) (scripts : ℕ) (start mark : EvaluatorMark) (base : Heap) (world : Over)
-    (cells : Marked) (count : ℕ) (next : Addr) : Type 0 where
+    (cells : OverlayMark) (count : ℕ) (next : Addr) : Type 0 where
   pub working : IsWorking e scripts start
   pub before : Evaluator
   pub before_working : IsWorking before scripts start

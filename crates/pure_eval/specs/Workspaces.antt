@@ -4,10 +4,10 @@ use Rattle.js_heap.specs.ScratchSpaces.{ScratchSpace}
 use Rattle.js_heap.specs.World.{World}
 use Rattle.js_semantics.specs.Evaluation.{Answer, a_result, a_throw, an_effect, is_full_of, spent, kept_tree, next_kept}
 use Rattle.js_semantics.specs.Functions.{Program, SourceTree}
-use Rattle.js_semantics.specs.Makers.{Made}
+use Rattle.js_semantics.specs.Makers.{MadeExpression}
 use Rattle.js_semantics.specs.declared.form.Source.TheVariants.{Kept as kept_source}
 use Rattle.js_heap_memory.specs.Heaps.{Heap, heap_world}
-use Rattle.js_heap_memory.specs.Overlays.{Marked, Over, first_space, space_of, space_after, space_at, over_world}
+use Rattle.js_heap_memory.specs.Overlays.{OverlayMark, Over, first_space, space_of, space_after, space_at, over_world}
 use Rattle.js_machine_nodes.specs.Trees.{program_of}
 use Rattle.pure_eval.specs.declared.evaluated.Evaluated.{Evaluated}
 use Rattle.pure_eval.specs.declared.evaluated.Evaluated.TheVariants as ends
@@ -29,11 +29,11 @@ abbrev pub begun : Program → Workspace
 begun p = record { program = p; scripts = length p; scratch = first_space }
 
 -- a source of which this was made, kept behind the cells of evaluations
-abbrev pub source_kept : ScratchSpace → Made → SourceTree
+abbrev pub source_kept : ScratchSpace → MadeExpression → SourceTree
 source_kept x e = record { source = kept_source (next_kept x); tree = kept_tree (next_kept x) e }
 
 -- behind an evaluation that ended in a world: its source is kept, and so are the cells of that world
-abbrev pub with_evaluated : Made → World → Workspace → Workspace
+abbrev pub with_evaluated : MadeExpression → World → Workspace → Workspace
 with_evaluated e w x = record x { program = x.program ++ source_kept x.scratch e ∷ []; scratch = space_after w }
 
 -- a workspace without all that evaluations made and kept
@@ -44,17 +44,17 @@ emptied_workspace x = record x { program = take x.scripts x.program; scratch = f
 
 -- a workspace that was opened over the cells of a program: those, and what evaluations would go on from when it was
 -- opened and behind those that were made since
-pub record Opened : Type 0 where
+pub record OpenWorkspace : Type 0 where
   pub world : World
   pub before : Workspace
   pub behind : Workspace
 
 -- a workspace that was just opened over the cells of a program
-abbrev pub opened : World → Workspace → Opened
+abbrev pub opened : World → Workspace → OpenWorkspace
 opened w x = record { world = w; before = x; behind = x }
 
 -- by an evaluator and the cells over those of the program, with marks of when it was opened
-abbrev pub opened_of : Evaluator → ℕ → EvaluatorMark → Heap → Over → Marked → Opened
+abbrev pub opened_of : Evaluator → ℕ → EvaluatorMark → Heap → Over → OverlayMark → OpenWorkspace
 opened_of e n m base world cells = record {
   world = heap_world e.names base;
   before =
@@ -70,7 +70,7 @@ opened_of e n m base world cells = record {
 
 -- how an evaluation of what is made of a source ends, and what it leaves, by the definition's answer; want of memory
 -- says nothing
-abbrev pub EvaluatesTo : Answer → Made → Evaluated → Opened → Opened → Type 0
+abbrev pub EvaluatesTo : Answer → MadeExpression → Evaluated → OpenWorkspace → OpenWorkspace → Type 0
 EvaluatesTo a e (ends.Value v) old new =
     (w : World) × (a ≡ a_result v w) × (new ≡ record old { behind = with_evaluated e w old.behind })
 EvaluatesTo a e (ends.Thrown v) old new =

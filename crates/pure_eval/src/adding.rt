@@ -7,7 +7,7 @@ ghost use Rattle.pure_eval.specs.Adding.{IsAdded};
 
 use crate::closed::{are_closed, are_placed, is_within};
 use js_heap::value::Addr;
-use js_heap_memory::names::Names;
+use js_heap_memory::names::NameTable;
 use js_machine_compiler::functions::indexed_source;
 use js_machine_compiler::terms::add_term;
 use js_machine_nodes::node::SourceEntry;
@@ -23,7 +23,7 @@ use std::alloc::{AllocError, Global};
 /// There is no memory for it, or something in it comes up in a run alone. The table is then given up.
 pub fn add_source(
     alloc: Global,
-    names: &mut Names,
+    names: &mut NameTable,
     table: &mut NodeTable,
     at: Addr,
     term: &Term,

@@ -25,7 +25,7 @@ use crate::reducing::run_on;
 use crate::session::refused_end;
 use js_heap::built_in::script_scope;
 use js_heap::value::{Addr, Value};
-use js_heap_memory::names::{NameId, Names};
+use js_heap_memory::names::{NameId, NameTable};
 use js_heap_memory::world::World;
 use js_machine_actions::context::Context;
 use js_machine_engine::rows::Rows;
@@ -106,7 +106,7 @@ fn end_with(stepped: &Stepped) -> Option<Evaluated>
 fn reduce_callee<T: Rows, W: World>(
     alloc: Global,
     table: &NodeTable,
-    names: &Names,
+    names: &NameTable,
     root: Addr,
     context: &mut Context,
     world: &mut W,
@@ -170,7 +170,7 @@ fn begin_call(
 fn run_call<T: Rows, W: World>(
     alloc: Global,
     table: &NodeTable,
-    names: &Names,
+    names: &NameTable,
     root: Addr,
     context: &mut Context,
     world: &mut W,
@@ -201,7 +201,7 @@ fn run_call<T: Rows, W: World>(
 fn call_node<T: Rows, W: World>(
     alloc: Global,
     table: &NodeTable,
-    names: &Names,
+    names: &NameTable,
     world: &mut W,
     call: u32,
     receiver: Value,
@@ -255,7 +255,7 @@ fn call_node<T: Rows, W: World>(
 pub fn call_with<T: Rows, W: World>(
     alloc: Global,
     table: &NodeTable,
-    names: &Names,
+    names: &NameTable,
     world: &mut W,
     call: u32,
     receiver: Value,

@@ -5,7 +5,7 @@ ghost use Rattle.js_tree.specs.declared.tree.Expr.{Expr};
 ghost use Rattle.js_semantics.specs.Evaluation.{answered, next_kept, with_source};
 ghost use Rattle.js_semantics.specs.Functions.{Program};
 ghost use Rattle.js_semantics.specs.Literals.{source_literals};
-ghost use Rattle.js_semantics.specs.Makers.{Made};
+ghost use Rattle.js_semantics.specs.Makers.{MadeExpression};
 ghost use Rattle.js_semantics.specs.Run.{program_from};
 ghost use Rattle.js_semantics.specs.Sources.{expression_source};
 ghost use Rattle.js_semantics.specs.Terms.{settle};
@@ -33,13 +33,13 @@ use crate::closed::is_whole;
 use crate::cutting::{TableMark, cut, mark};
 use crate::evaluated::Evaluated;
 use crate::orders::evaluate_in_order;
-use crate::prepared::Prepared;
+use crate::prepared::PreparedSource;
 use crate::session::Outcome;
 use crate::work::Work;
 use cdp_text::units::Units;
 use js_heap::value::Addr;
 use js_heap_memory::heap::BaseHeap;
-use js_heap_memory::names::Names;
+use js_heap_memory::names::NameTable;
 use js_heap_memory::overlay::Scratch;
 use js_heap_memory::world::World;
 use js_machine_compiler::scripts::{ScriptCode, code_of_scripts};
@@ -52,7 +52,7 @@ use std::alloc::{AllocError, Global};
 #[derive(Drop)]
 pub struct Evaluator {
     /// The names.
-    pub names: Names,
+    pub names: NameTable,
     /// The code.
     pub table: NodeTable,
     /// The sources that are kept stand at addresses below this number.
@@ -82,7 +82,7 @@ pub struct Added {
 }
 
 /// Whether a table of names has all that a program's cells and a session's need.
-fn are_known(names: &Names, base: &BaseHeap, scratch: &Scratch) -> bool
+fn are_known(names: &NameTable, base: &BaseHeap, scratch: &Scratch) -> bool
     ensures base { result ≡ true → base.now.ends ≤ length names.now }
     ensures scratch { result ≡ true → scratch.now.ends ≤ length names.now }
 {
@@ -129,7 +129,7 @@ fn is_kept(end: Evaluated) -> bool
 fn evaluate_known<T: Rows>(
     alloc: Global,
     table: &NodeTable,
-    names: &Names,
+    names: &NameTable,
     base: &BaseHeap,
     scratch: Scratch,
     call: u32,
@@ -160,7 +160,7 @@ impl Evaluator {
     /// # Errors
     ///
     /// There is no memory for it, or something in the scripts comes up in a run alone.
-    pub fn start(alloc: Global, names: &Names, scripts: &Terms) -> Result<Evaluator, AllocError>
+    pub fn start(alloc: Global, names: &NameTable, scripts: &Terms) -> Result<Evaluator, AllocError>
         ensures program { IfOk result (λ e. Runs e (program_from 1 (terms_view scripts.now))) }
         ensures names { IfOk result (λ e. GoesOn names.now e.names) }
         ensures code { IfOk result (λ e. IsCodeOf e (program_from 1 (terms_view scripts.now))) }
@@ -262,8 +262,8 @@ impl Evaluator {
         term: &Term,
     ) -> Outcome
         requires { IsWhole self.old.table }
-        ensures answer { (p : Program) (e : Made) → Runs self.old p → IsMadeOf (next_kept (space_of self.old.names scratch)) e order.now literals.now (term_view term.now) → Leaves (work_of p (heap_world self.old.names base.now) (space_of self.old.names scratch) source.now order.now e work.entry) result.end (space_of self.old.names scratch) (space_of self.new.names result.scratch) }
-        ensures program { (p : Program) (e : Made) → Runs self.old p → IsMadeOf (next_kept (space_of self.old.names scratch)) e order.now literals.now (term_view term.now) → RunsAfter result.end self.new p (with_source p (space_of self.old.names scratch) e) }
+        ensures answer { (p : Program) (e : MadeExpression) → Runs self.old p → IsMadeOf (next_kept (space_of self.old.names scratch)) e order.now literals.now (term_view term.now) → Leaves (work_of p (heap_world self.old.names base.now) (space_of self.old.names scratch) source.now order.now e work.entry) result.end (space_of self.old.names scratch) (space_of self.new.names result.scratch) }
+        ensures program { (p : Program) (e : MadeExpression) → Runs self.old p → IsMadeOf (next_kept (space_of self.old.names scratch)) e order.now literals.now (term_view term.now) → RunsAfter result.end self.new p (with_source p (space_of self.old.names scratch) e) }
         ensures goes_on { WentOnAfter result.end self.old self.new }
         ensures came { (m : EvaluatorMark) (p : Program) → CameFrom m p self.old → CameAfter result.end m p self.new }
         ensures code { IsCode self.old → CodeAfter result.end self.new (program_of self.old.names self.old.table) (kept_tree_at (next_of scratch) (term_view term.now)) }
@@ -307,7 +307,7 @@ impl Evaluator {
         base: &BaseHeap,
         scratch: Scratch,
         work: Work<'_>,
-        prepared: &Prepared,
+        prepared: &PreparedSource,
     ) -> Outcome
         requires { IsWhole self.old.table }
         ensures answer { (p : Program) (source : List ℕ) (tree : Expr) → Runs self.old p → IsReady (next_kept (space_of self.old.names scratch)) source tree prepared.now → Leaves (work_of p (heap_world self.old.names base.now) (space_of self.old.names scratch) source (source_literals tree) (expression_source tree) work.entry) result.end (space_of self.old.names scratch) (space_of self.new.names result.scratch) }

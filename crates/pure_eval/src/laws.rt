@@ -7,7 +7,7 @@ ghost use Rattle.js_heap.specs.ScratchSpaces.{ScratchSpace};
 ghost use Rattle.js_heap.specs.World.{World};
 ghost use Rattle.js_semantics.specs.Evaluation.{evaluate, kept_term, kept_tree};
 ghost use Rattle.js_semantics.specs.Functions.{Program, SourceTree};
-ghost use Rattle.js_semantics.specs.Makers.{Made};
+ghost use Rattle.js_semantics.specs.Makers.{MadeExpression};
 ghost use Rattle.js_semantics.specs.Literals.{source_literals};
 ghost use Rattle.js_semantics.specs.Run.{Run, literals, steps_in};
 ghost use Rattle.js_semantics.specs.Sources.{expression_source};
@@ -44,5 +44,5 @@ pub fn terms_of_expressions_are_made_of_their_sources()
 
 /// A session's cells after an evaluation, cut to a mark of before it, are those of before it.
 pub fn what_an_evaluation_made_is_cut_again()
-    ensures { (p : Program) (w : World) (names : List (List ℕ)) (scratch : Heap) (after : ScratchSpace) (scope : Addr) (receiver : Value) (source : List ℕ) (order : List (List ℕ)) (e : Made) (end : Evaluated) → Leaves (evaluate p w (space_of names scratch) scope receiver source order e) end (space_of names scratch) after → ComesBack end after (mark_of scratch) (space_of names scratch) }
+    ensures { (p : Program) (w : World) (names : List (List ℕ)) (scratch : Heap) (after : ScratchSpace) (scope : Addr) (receiver : Value) (source : List ℕ) (order : List (List ℕ)) (e : MadeExpression) (end : Evaluated) → Leaves (evaluate p w (space_of names scratch) scope receiver source order e) end (space_of names scratch) after → ComesBack end after (mark_of scratch) (space_of names scratch) }
 {}

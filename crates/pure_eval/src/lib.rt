@@ -31,5 +31,5 @@ mod workspace;
 
 pub use arguments::Argument;
 pub use evaluated::{Evaluated, is_memory};
-pub use prepared::Prepared;
-pub use workspace::{Opened, Seen, Workspace};
+pub use prepared::PreparedSource;
+pub use workspace::{OpenWorkspace, OverlaidCells, Workspace};

@@ -17,7 +17,7 @@ use crate::session::{Outcome, evaluate_source, prepare, refused_end, scratch_aft
 use crate::work::Work;
 use cdp_text::units::Units;
 use js_heap_memory::heap::BaseHeap;
-use js_heap_memory::names::Names;
+use js_heap_memory::names::NameTable;
 use js_heap_memory::overlay::{Overlay, Scratch};
 use js_heap_memory::world::Refused;
 use js_machine_engine::rows::Rows;
@@ -75,7 +75,7 @@ fn end_in_order(
 pub fn evaluate_in_order<T: Rows>(
     alloc: Global,
     table: &NodeTable,
-    names: &Names,
+    names: &NameTable,
     base: &BaseHeap,
     scratch: Scratch,
     call: u32,

@@ -6,7 +6,7 @@ use js_machine_terms::term::Term;
 /// A source, its string literals in its own order and in that of its term, and its term in which each literal has its
 /// address.
 #[derive(Drop)]
-pub struct Prepared {
+pub struct PreparedSource {
     /// The source.
     pub source: Units,
     /// Its string literals, in its own order.

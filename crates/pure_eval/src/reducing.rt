@@ -13,11 +13,11 @@ ghost use Rattle.pure_eval.specs.Answering.{Answers, EndsIn};
 
 use crate::evaluated::{Evaluated, end_at, end_of};
 use js_heap::value::{Addr, Value};
-use js_heap_memory::names::Names;
+use js_heap_memory::names::NameTable;
 use js_heap_memory::world::World;
 use js_machine_actions::context::Context;
 use js_machine_engine::rows::Rows;
-use js_machine_engine::run::{Asks, run};
+use js_machine_engine::run::{StopTest, run};
 use js_machine_engine::settling::uncover;
 use js_machine_engine::stack::Stack;
 use js_machine_engine::task::Point;
@@ -29,7 +29,7 @@ use std::alloc::Global;
 #[derive(Clone, Copy)]
 struct Nobody;
 
-impl Asks for Nobody {
+impl StopTest for Nobody {
     ghost use Rattle.std.specs.Prelude.{false};
 
     ghost stops = { λ nobody term frames. false };
@@ -47,7 +47,7 @@ impl Asks for Nobody {
 pub fn run_on<T: Rows, W: World>(
     alloc: Global,
     table: &NodeTable,
-    names: &Names,
+    names: &NameTable,
     root: Addr,
     context: &mut Context,
     world: &mut W,
@@ -78,7 +78,7 @@ pub fn run_on<T: Rows, W: World>(
 pub fn evaluate_node<T: Rows, W: World>(
     alloc: Global,
     table: &NodeTable,
-    names: &Names,
+    names: &NameTable,
     scope: Addr,
     receiver: Value,
     world: &mut W,

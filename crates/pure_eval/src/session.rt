@@ -21,8 +21,8 @@ use crate::reducing::evaluate_node;
 use crate::work::Work;
 use cdp_text::units::Units;
 use js_heap_memory::heap::BaseHeap;
-use js_heap_memory::names::Names;
-use js_heap_memory::overlay::{Mark, Overlay, Scratch};
+use js_heap_memory::names::NameTable;
+use js_heap_memory::overlay::{Overlay, OverlayMark, Scratch};
 use js_heap_memory::world::{Refused, World};
 use js_machine_engine::rows::Rows;
 use js_machine_nodes::table::NodeTable;
@@ -38,7 +38,7 @@ pub struct Outcome {
 }
 
 /// The session's cells after an evaluation: with those that it made where it came to a value or a throw, else as marked.
-pub fn scratch_after(overlay: Overlay<'_>, mark: Mark, end: Evaluated) -> Scratch
+pub fn scratch_after(overlay: Overlay<'_>, mark: OverlayMark, end: Evaluated) -> Scratch
     ensures { (names : List (List ℕ)) → space_of names result ≡ space_behind end (over_world names overlay.entry) mark }
 {
     let mut scratch = overlay.into_scratch();
@@ -54,7 +54,7 @@ pub fn scratch_after(overlay: Overlay<'_>, mark: Mark, end: Evaluated) -> Scratc
 fn end_of_work<T: Rows, W: World>(
     alloc: Global,
     table: &NodeTable,
-    names: &Names,
+    names: &NameTable,
     world: &mut W,
     call: u32,
     work: Work<'_>,
@@ -82,9 +82,9 @@ fn end_of_work<T: Rows, W: World>(
 pub fn evaluate_prepared<T: Rows>(
     alloc: Global,
     table: &NodeTable,
-    names: &Names,
+    names: &NameTable,
     overlay: Overlay<'_>,
-    mark: Mark,
+    mark: OverlayMark,
     call: u32,
     work: Work<'_>,
     node: u32,
@@ -129,7 +129,7 @@ pub fn prepare(
 pub fn evaluate_source<T: Rows>(
     alloc: Global,
     table: &NodeTable,
-    names: &Names,
+    names: &NameTable,
     base: &BaseHeap,
     scratch: Scratch,
     call: u32,

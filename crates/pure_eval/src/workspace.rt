@@ -24,14 +24,14 @@ ghost use Rattle.pure_eval.specs.Workspaces.{begun, emptied_workspace, opened, E
 use crate::arguments::Argument;
 use crate::evaluated::{Evaluated, is_memory};
 use crate::evaluator::{Evaluator, EvaluatorMark};
-use crate::prepared::Prepared;
+use crate::prepared::PreparedSource;
 use crate::session::Outcome;
 use crate::work::Work;
 use js_heap::keys::same_units;
 use js_heap::value::{Addr, Value};
 use js_heap_memory::heap::BaseHeap;
-use js_heap_memory::names::{NameId, Names};
-use js_heap_memory::overlay::{Mark, Overlay, Scratch};
+use js_heap_memory::names::{NameId, NameTable};
+use js_heap_memory::overlay::{Overlay, OverlayMark, Scratch};
 use js_heap_memory::world::World;
 use js_machine_engine::rows::Rows;
 use js_machine_nodes::table::NodeTable;
@@ -66,16 +66,16 @@ impl Model for Workspace {
 
 /// The cells of a program with those of a session, and the names of both.
 #[derive(Clone, Copy)]
-pub struct Seen<'o, 'b> {
+pub struct OverlaidCells<'o, 'b> {
     /// The cells.
     pub world: &'o Overlay<'b>,
     /// The names.
-    pub names: &'o Names,
+    pub names: &'o NameTable,
 }
 
 /// A workspace that is open over the cells of a program.
 #[derive(Drop)]
-pub struct Opened<'b> {
+pub struct OpenWorkspace<'b> {
     evaluator: Evaluator,
     base: &'b BaseHeap,
     world: Overlay<'b>,
@@ -83,19 +83,19 @@ pub struct Opened<'b> {
     start: EvaluatorMark,
     // where the code, and how many cells there were, when it was opened
     mark: EvaluatorMark,
-    cells: Mark,
+    cells: OverlayMark,
     count: u32,
     // where the next cell will stand
     next: Addr,
 }
 
-impl<'b> Model for Opened<'b> {
+impl<'b> Model for OpenWorkspace<'b> {
     ghost use Rattle.std.specs.Coded.{codes};
     ghost use Rattle.pure_eval.specs.TermCodes.{term_coded};
     ghost use Rattle.pure_eval.specs.Workspaces as workspaces;
     ghost use Rattle.pure_eval.specs.Working.{IsOpen};
 
-    ghost Value = { workspaces.Opened };
+    ghost Value = { workspaces.OpenWorkspace };
 
     ghost coded = { Prim.hlevel (codes, term_coded) };
 
@@ -105,7 +105,7 @@ impl<'b> Model for Opened<'b> {
 }
 
 /// Whether two tables have the same text at a number.
-fn is_same_name(names: &Names, own: &Names, name: NameId) -> bool
+fn is_same_name(names: &NameTable, own: &NameTable, name: NameId) -> bool
     ensures { result ≡ true → name_of names.now name.number ≡ name_of own.now name.number }
 {
     let Ok(text) = names.text(name) else {
@@ -118,7 +118,7 @@ fn is_same_name(names: &Names, own: &Names, name: NameId) -> bool
 }
 
 /// Whether a table of names goes on behind another.
-fn goes_on(names: &Names, own: &Names) -> bool
+fn goes_on(names: &NameTable, own: &NameTable) -> bool
     ensures { result ≡ true → GoesOn names.now own.now }
 {
     let Ok(count) = u32::try_from(names.len()) else {
@@ -136,7 +136,7 @@ fn goes_on(names: &Names, own: &Names) -> bool
 }
 
 /// Whether a table of names goes on behind another, which has all that a program's cells need.
-fn is_known(base: &BaseHeap, names: &Names, own: &Names) -> bool
+fn is_known(base: &BaseHeap, names: &NameTable, own: &NameTable) -> bool
     ensures { result ≡ true → IsKnown base.now names.now own.now }
 {
     if base.known() > names.len() {
@@ -161,7 +161,7 @@ fn no_sources(alloc: Global) -> Evaluator
     ensures { IsCodeOf result [] }
 {
     Evaluator {
-        names: Names::new(alloc),
+        names: NameTable::new(alloc),
         table: NodeTable::new(alloc),
         next: 0,
         call: 0,
@@ -169,7 +169,7 @@ fn no_sources(alloc: Global) -> Evaluator
 }
 
 /// No sources and no cells, open over the cells of a program. It takes no memory.
-fn given_up<'b>(alloc: Global, base: &'b BaseHeap) -> Opened<'b> {
+fn given_up<'b>(alloc: Global, base: &'b BaseHeap) -> OpenWorkspace<'b> {
     let evaluator = no_sources(alloc);
     let scratch = Scratch::new(alloc);
     let start = evaluator.mark();
@@ -178,7 +178,7 @@ fn given_up<'b>(alloc: Global, base: &'b BaseHeap) -> Opened<'b> {
     let next = scratch.next_address();
     let count = number_of(next);
     let world = Overlay::over(base, scratch);
-    Opened {
+    OpenWorkspace {
         evaluator,
         base,
         world,
@@ -198,7 +198,7 @@ impl Workspace {
     /// # Errors
     ///
     /// There is no memory for it, or something in the scripts comes up in a run alone.
-    pub fn start(alloc: Global, names: &Names, scripts: &Terms) -> Result<Workspace, AllocError>
+    pub fn start(alloc: Global, names: &NameTable, scripts: &Terms) -> Result<Workspace, AllocError>
         ensures { IfOk result (λ w. w ≡ begun (program_from 1 (terms_view scripts.now))) }
     {
         let evaluator = Evaluator::start(alloc, names, scripts)?;
@@ -224,7 +224,7 @@ impl Workspace {
     }
 
     /// Opens it over the cells of a program. None where the names of the program aren't those with which it began.
-    pub fn open<'b>(self, base: &'b BaseHeap, names: &Names) -> Option<Opened<'b>>
+    pub fn open<'b>(self, base: &'b BaseHeap, names: &NameTable) -> Option<OpenWorkspace<'b>>
         ensures { IfSome result (λ o. o ≡ opened (heap_world names.now base.now) self) }
     {
         if !is_known(base, names, &self.evaluator.names) {
@@ -242,7 +242,7 @@ impl Workspace {
         let next = scratch.next_address();
         let count = number_of(next);
         let world = Overlay::over(base, scratch);
-        Some(Opened {
+        Some(OpenWorkspace {
             evaluator,
             base,
             world,
@@ -256,7 +256,7 @@ impl Workspace {
     }
 }
 
-impl<'b> Opened<'b> {
+impl<'b> OpenWorkspace<'b> {
     /// The address at which the source of the next evaluation is kept.
     pub fn next_address(&self) -> Addr
         ensures { result ≡ next_kept self.now.behind.scratch }
@@ -269,7 +269,7 @@ impl<'b> Opened<'b> {
         &mut self,
         alloc: Global,
         work: Work<'_>,
-        prepared: &Prepared,
+        prepared: &PreparedSource,
     ) -> Evaluated
         ensures { (source : List ℕ) (tree : Expr) → IsReady (next_kept self.old.behind.scratch) source tree prepared.now → EvaluatesTo (work_of self.old.behind.program self.old.world self.old.behind.scratch source (source_literals tree) (expression_source tree) work.entry) (expression_source tree) result self.old self.new }
     {
@@ -307,7 +307,7 @@ impl<'b> Opened<'b> {
         alloc: Global,
         scope: Addr,
         receiver: Value,
-        prepared: &Prepared,
+        prepared: &PreparedSource,
     ) -> Evaluated
         ensures { (e : Expression) → IsPrepared (next_kept self.old.behind.scratch) e prepared.now → EvaluatesTo (evaluate_expression self.old.behind.program self.old.world self.old.behind.scratch scope receiver e) (expression_source e.tree) result self.old self.new }
     {
@@ -323,7 +323,7 @@ impl<'b> Opened<'b> {
         alloc: Global,
         receiver: Value,
         arguments: &[Argument],
-        prepared: &Prepared,
+        prepared: &PreparedSource,
     ) -> Evaluated
         ensures { (f : FunctionCode) → IsPreparedFunction (next_kept self.old.behind.scratch) f prepared.now → EvaluatesTo (evaluate_function self.old.behind.program self.old.world self.old.behind.scratch f receiver (arguments_of arguments.now)) (expression_source f.tree) result self.old self.new }
     {
@@ -338,10 +338,10 @@ impl<'b> Opened<'b> {
     }
 
     /// The cells of the program with those of the session.
-    pub fn seen(&self) -> Seen<'_, 'b>
+    pub fn seen(&self) -> OverlaidCells<'_, 'b>
         ensures { over_world result.names.now result.world.now ≡ copied_world self.now.world self.now.behind.scratch }
     {
-        Seen {
+        OverlaidCells {
             world: &self.world,
             names: &self.evaluator.names,
         }
@@ -351,7 +351,7 @@ impl<'b> Opened<'b> {
     pub fn keep(self) -> Workspace
         ensures { result ≡ self.entry.behind }
     {
-        let Opened {
+        let OpenWorkspace {
             evaluator,
             base,
             world,
@@ -379,7 +379,7 @@ impl<'b> Opened<'b> {
     pub fn forget(self) -> Workspace
         ensures { result ≡ self.entry.before }
     {
-        let Opened {
+        let OpenWorkspace {
             evaluator,
             base,
             world,

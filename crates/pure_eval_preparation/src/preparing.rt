@@ -10,7 +10,7 @@ use js_machine_lowering::kept::kept_term;
 use js_machine_lowering_parts::literals::{literals_in, literals_placed};
 use js_tree::script::{Expression, FunctionCode};
 use js_tree::tree::Expr;
-use pure_eval::Prepared;
+use pure_eval::PreparedSource;
 use std::alloc::{AllocError, Global};
 
 /// A source of a tree that is kept at an address of a session, ready to be evaluated. AllocError also where
@@ -20,7 +20,7 @@ fn prepare_source(
     at: Addr,
     source: &Units,
     tree: &Expr,
-) -> Result<Prepared, AllocError>
+) -> Result<PreparedSource, AllocError>
     ensures { IfOk result (λ p. IsReady at source.now tree.now p) }
 {
     let source = source.clone()?;
@@ -28,7 +28,7 @@ fn prepare_source(
     let kept = kept_term(alloc, at, tree)?;
     let literals = literals_in(alloc, &kept)?;
     let term = literals_placed(alloc, at, &kept)?;
-    Ok(Prepared {
+    Ok(PreparedSource {
         source,
         order,
         literals,
@@ -38,7 +38,7 @@ fn prepare_source(
 
 /// An expression whose source is kept at an address of a session, ready to be evaluated. AllocError also where
 /// `literals_placed` gives it.
-pub fn prepare(alloc: Global, at: Addr, e: &Expression) -> Result<Prepared, AllocError>
+pub fn prepare(alloc: Global, at: Addr, e: &Expression) -> Result<PreparedSource, AllocError>
     ensures { IfOk result (λ p. IsPrepared at e.now p) }
 {
     prepare_source(alloc, at, &e.source, &e.tree)
@@ -50,7 +50,7 @@ pub fn prepare_function(
     alloc: Global,
     at: Addr,
     function: &FunctionCode,
-) -> Result<Prepared, AllocError>
+) -> Result<PreparedSource, AllocError>
     ensures { IfOk result (λ p. IsPreparedFunction at function.now p) }
 {
     prepare_source(alloc, at, &function.source, &function.tree)

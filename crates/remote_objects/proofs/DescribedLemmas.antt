@@ -2,14 +2,14 @@
 use Rattle.std.proofs.Common.{◌≡◌, ℕ, List, [], ◌∷◌, Option, refl, ap}
 use Rattle.std.specs.Prelude.{map}
 use Rattle.js_heap.specs.declared.cell.Property.{Property}
-use Rattle.object_groups.specs.Handles.{State}
+use Rattle.object_groups.specs.Handles.{HeldHandles}
 use Rattle.remote_objects.specs.declared.detail.Detail.{Detail}
 use Rattle.remote_objects.specs.Sights.{Sight}
 use Rattle.remote_objects.specs.Making.{made_all}
-use Rattle.remote_objects.specs.Descriptors.{Slot, slots_of, content_made, descriptor, property_slot}
+use Rattle.remote_objects.specs.Descriptors.{FlaggedProperty, slots_of, content_made, descriptor, property_slot}
 use Rattle.remote_objects.specs.Laws.{AreDescriptors, DescribesEach, slot_name, key_of}
 
-described-each : (s : Sight) (detail : Detail) (group : Option (List ℕ)) (ps : List Slot) (h : State)
+described-each : (s : Sight) (detail : Detail) (group : Option (List ℕ)) (ps : List FlaggedProperty) (h : HeldHandles)
     → AreDescriptors ps (made_all (descriptor s detail group) ps h).made
 described-each s detail group [] h = tt
 described-each s detail group (p ∷ ps) h = (

@@ -8,13 +8,13 @@ use Rattle.js_heap.specs.declared.cell.Property.{Property}
 use Rattle.js_heap.specs.declared.value.Value.{Value}
 use Rattle.js_heap.specs.World.{World}
 use Rattle.js_semantics.specs.BuiltIns.{keys_of_cell, enumerable_keys, indices_from}
-use Rattle.remote_objects.specs.Previews.{Entry, entry, enumerable, indexed, entries, property_preview, most_listed}
+use Rattle.remote_objects.specs.Previews.{PreviewedProperty, entry, enumerable, indexed, entries, property_preview, most_listed}
 use Rattle.remote_objects.specs.Laws.{ArePreviews, ListsFirstKeys, SaysWhetherMore}
 
-abbrev pub entry_name : Entry → List ℕ
+abbrev pub entry_name : PreviewedProperty → List ℕ
 entry_name e = e.name
 
-named-if : (b : Bool) (p : Property) (es : List Entry) (ks : List (List ℕ)) → map entry_name es ≡ ks
+named-if : (b : Bool) (p : Property) (es : List PreviewedProperty) (ks : List (List ℕ)) → map entry_name es ≡ ks
     → map entry_name ((if b then entry p.key p.value ∷ [] else []) ++ es) ≡ (if b then p.key ∷ ks else ks)
 named-if true p es ks e = ap (λ names. p.key ∷ names) e
 named-if false p es ks e = e
@@ -36,7 +36,7 @@ named-entries (Some (cells.Function code n l s t)) = refl
 named-entries (Some (cells.Bindings k n b o)) = refl
 named-entries None = refl
 
-are-previews : (w : World) (n : ℕ) (es : List Entry)
+are-previews : (w : World) (n : ℕ) (es : List PreviewedProperty)
     → ArePreviews w (take n (map entry_name es)) (take n (map (property_preview w) es))
 are-previews w zero [] = tt
 are-previews w zero (e ∷ es) = tt

@@ -3,7 +3,7 @@ use Rattle.std.proofs.Common.{◌≡◌, ℕ, suc, ◌+◌, List, [], ◌∷◌,
 use Rattle.std.specs.Prelude.{map, slice_get, Some, zero}
 use Rattle.std.proofs.lemmas.List.{map-append}
 use Rattle.std.proofs.lemmas.Option.{same_Some}
-use Rattle.object_groups.specs.Handles.{State}
+use Rattle.object_groups.specs.Handles.{HeldHandles}
 use Rattle.js_heap.specs.declared.cell.Property.{Property}
 use Rattle.cdp_json.specs.Json as json
 use Rattle.cdp_json.specs.declared.value.Json.{Json}
@@ -27,8 +27,8 @@ one_more done all j v left a b =
     ∙ ap (λ w. map json_view done ++ w ∷ left) b))
 
 -- one of a list more
-pub goes-on : {Y : Type 0} (f : Y → State → Made json.Json) (ys : List Y) (y : Y) (rest : List Y) (done all : List Json)
-    (j : Json) (h g : State) (whole : Made (List json.Json))
+pub goes-on : {Y : Type 0} (f : Y → HeldHandles → Made json.Json) (ys : List Y) (y : Y) (rest : List Y) (done all : List Json)
+    (j : Json) (h g : HeldHandles) (whole : Made (List json.Json))
     → ys ≡ y ∷ rest → all ≡ done ++ j ∷ [] → json_view j ≡ (f y h).made → g ≡ (f y h).handles
     → Goes (map json_view done) (made_all f ys h) whole → Goes (map json_view all) (made_all f rest g) whole
 goes-on {Y} f ys y rest done all j h g whole e a b d inv =

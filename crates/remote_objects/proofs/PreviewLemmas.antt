@@ -7,7 +7,7 @@ use Rattle.js_heap.specs.declared.cell.Property.{Property}
 use Rattle.js_heap.specs.declared.value.Value.{Value}
 use Rattle.cdp_json.specs.Json as json
 use Rattle.cdp_json.specs.declared.value.Json.{Json}
-use Rattle.remote_objects.specs.Previews.{Entry, entry, entry_if, enumerable, indexed, Listed, first_of}
+use Rattle.remote_objects.specs.Previews.{PreviewedProperty, entry, entry_if, enumerable, indexed, PreviewList, first_of}
 use Rattle.remote_objects.proofs.MakingLemmas.{got-here}
 
 -- those listed so far, five at most, and those that are left are all
@@ -15,19 +15,19 @@ pub record Lists (done left all : List json.Json) : Type 0 where
   pub whole : done ++ left ≡ all
   pub few : length done ≤ 5
 
-abbrev pub listed_as : List json.Json → Bool → Listed
+abbrev pub listed_as : List json.Json → Bool → PreviewList
 listed_as js more = record { first = js; more = more }
 
 -- ---- properties
 
-enumerable-here : (f : Entry → json.Json) (ps : List Property) (i : ℕ) (p : Property) → Some p ≡ slice_get ps i
+enumerable-here : (f : PreviewedProperty → json.Json) (ps : List Property) (i : ℕ) (p : Property) → Some p ≡ slice_get ps i
     → map f (enumerable (drop i ps)) ≡ map f (entry_if p) ++ map f (enumerable (drop (i + 1) ps))
 enumerable-here f ps i p e =
     rw add-one
     (ap (λ xs. map f (enumerable xs)) (got-here ps i p e)
     ∙ map-append f (entry_if p) (enumerable (drop (suc i) ps)))
 
-few-more : (b : Bool) (f : Entry → json.Json) (p : Property) (done : List json.Json)
+few-more : (b : Bool) (f : PreviewedProperty → json.Json) (p : Property) (done : List json.Json)
     → p.enumerable ≡ b
     → (p.enumerable && nat_eq (length done) 5) ≡ false
     → length done ≤ 5
@@ -49,7 +49,7 @@ few-more false f p done is test few =
     omega (arith, few, size)
 
 -- one property more, listed where it is enumerable
-pub lists-more : (f : Entry → json.Json) (ps : List Property) (i : ℕ) (p : Property) (done new all : List json.Json)
+pub lists-more : (f : PreviewedProperty → json.Json) (ps : List Property) (i : ℕ) (p : Property) (done new all : List json.Json)
     → Some p ≡ slice_get ps i → (p.enumerable && nat_eq (length done) 5) ≡ false → new ≡ done ++ map f (entry_if p)
     → Lists done (map f (enumerable (drop i ps))) all → Lists new (map f (enumerable (drop (i + 1) ps))) all
 lists-more f ps i p done new all e test put inv = record {
@@ -60,7 +60,7 @@ lists-more f ps i p done new all e test put inv = record {
 }
 
 -- five are listed, and another one is there
-pub lists-full : (f : Entry → json.Json) (ps : List Property) (i : ℕ) (p : Property) (done all : List json.Json)
+pub lists-full : (f : PreviewedProperty → json.Json) (ps : List Property) (i : ℕ) (p : Property) (done all : List json.Json)
     → Some p ≡ slice_get ps i → (p.enumerable && nat_eq (length done) 5) ≡ true
     → Lists done (map f (enumerable (drop i ps))) all → listed_as done true ≡ first_of 5 all
 lists-full f ps i p done all e test inv =
@@ -98,7 +98,7 @@ length-indexed i [] = refl
 length-indexed i (v ∷ vs) = ap suc (length-indexed (i + 1) vs)
 
 -- the first of an array's elements are made of its first values
-pub first-values : (n : ℕ) (f : Entry → json.Json) (vs short : List Value) (done : List json.Json)
+pub first-values : (n : ℕ) (f : PreviewedProperty → json.Json) (vs short : List Value) (done : List json.Json)
     → short ≡ take n vs
     → done ≡ map f (indexed 0 short)
     → listed_as done (nat_lt n (length vs)) ≡ first_of n (map f (indexed 0 vs))

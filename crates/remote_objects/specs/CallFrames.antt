@@ -40,7 +40,7 @@ scope_of s described =
     object_of (name_pairs s.name ++ (codes "object", described) ∷ (codes "type", text (kind_text s.kind)) ∷ [])
 
 -- a scope with a handle on its names
-abbrev pub scope_made : Sight → ShownScope → handles.State → Made Json
+abbrev pub scope_made : Sight → ShownScope → handles.HeldHandles → Made Json
 scope_made s scope h =
     record {
       made = scope_of scope
@@ -50,7 +50,7 @@ scope_made s scope h =
     }
 
 -- scopes, in order
-abbrev pub scopes_made : Sight → List ShownScope → handles.State → Made (List Json)
+abbrev pub scopes_made : Sight → List ShownScope → handles.HeldHandles → Made (List Json)
 scopes_made s scopes h = made_all (scope_made s) scopes h
 
 -- ---- frames
@@ -77,18 +77,18 @@ frame_object s stop depth f scopes receiver = object_of (
     ∷ (codes "url", text (url_of (script_numbered s.scripts f.place.script))) ∷ [])
 
 -- its scopes from the innermost one outward, then its `this`
-abbrev pub receiver_made : Sight → ShownFrame → handles.State → Made Json
+abbrev pub receiver_made : Sight → ShownFrame → handles.HeldHandles → Made Json
 receiver_made s f h = remote s (Some backtrace) f.receiver (scopes_made s f.scopes h).handles
 
 -- a frame so far from the top one
-abbrev pub frame_made : Sight → ℕ → ℕ → ShownFrame → handles.State → Made Json
+abbrev pub frame_made : Sight → ℕ → ℕ → ShownFrame → handles.HeldHandles → Made Json
 frame_made s stop depth f h = record {
   made = frame_object s stop depth f (scopes_made s f.scopes h).made (receiver_made s f h).made;
   handles = (receiver_made s f h).handles;
 }
 
 -- frames outward, the first of them so far from the top one
-abbrev pub frames_from : Sight → ℕ → ℕ → List ShownFrame → handles.State → Made (List Json)
+abbrev pub frames_from : Sight → ℕ → ℕ → List ShownFrame → handles.HeldHandles → Made (List Json)
 frames_from s stop depth [] h = record { made = []; handles = h }
 frames_from s stop depth (f ∷ fs) h = record {
   made =
@@ -98,5 +98,5 @@ frames_from s stop depth (f ∷ fs) h = record {
 }
 
 -- the frames of the stop of this number, from the top one outward
-abbrev pub frames_made : Sight → ℕ → List ShownFrame → handles.State → Made (List Json)
+abbrev pub frames_made : Sight → ℕ → List ShownFrame → handles.HeldHandles → Made (List Json)
 frames_made s stop frames h = frames_from s stop 0 frames h

@@ -7,16 +7,16 @@ use Rattle.js_heap.specs.declared.value.Value.{Value}
 use Rattle.js_heap.specs.World.{World}
 use Rattle.js_semantics.specs.BuiltIns.{keys_of_cell}
 use Rattle.object_groups.specs.declared.handle.Target.{Target}
-use Rattle.object_groups.specs.Handles.{State}
+use Rattle.object_groups.specs.Handles.{HeldHandles}
 use Rattle.cdp_json.specs.Json.{Json}
 use Rattle.remote_objects.specs.declared.detail.Detail.{Detail}
 use Rattle.remote_objects.specs.Previews.{entry, property_preview, listed, most_listed}
 use Rattle.remote_objects.specs.Sights.{Sight}
 use Rattle.remote_objects.specs.ByValue.{value_given, if_within, by_value, most_deep, most_met}
-use Rattle.remote_objects.specs.Descriptors.{Slot, object_slots, slots_of, descriptor_of, descriptors_with}
+use Rattle.remote_objects.specs.Descriptors.{FlaggedProperty, object_slots, slots_of, descriptor_of, descriptors_with}
 
 -- the name of a property as it is described
-abbrev pub slot_name : Slot → List ℕ
+abbrev pub slot_name : FlaggedProperty → List ℕ
 slot_name p = p.name
 
 -- the key of a property as an object has it
@@ -24,7 +24,7 @@ abbrev pub key_of : Property → List ℕ
 key_of p = p.key
 
 -- these are descriptors of the properties, one of each in order, whatever their values are described as
-abbrev pub AreDescriptors : List Slot → List Json → Type 0
+abbrev pub AreDescriptors : List FlaggedProperty → List Json → Type 0
 AreDescriptors [] [] = Unit {0}
 AreDescriptors [] (j ∷ js) = ⊥
 AreDescriptors (p ∷ ps) [] = ⊥
@@ -33,7 +33,7 @@ AreDescriptors (p ∷ ps) (j ∷ js) = ((value : Json) × (j ≡ descriptor_of p
 -- each property of a target is described once, in order
 abbrev pub DescribesEach : Type 0
 DescribesEach =
-    (s : Sight) (detail : Detail) (group : Option (List ℕ)) (target : Target) (h : State)
+    (s : Sight) (detail : Detail) (group : Option (List ℕ)) (target : Target) (h : HeldHandles)
     → AreDescriptors (slots_of s.world target) (descriptors_with s detail group target h).made
 
 -- those of an object have its own keys, in order

@@ -11,20 +11,20 @@ use Rattle.remote_objects.specs.Ids.{object_id}
 -- what something is described as, and the handles behind it
 pub record Made (A : Type 0) : Type 0 where
   pub made : A
-  pub handles : handles.State
+  pub handles : handles.HeldHandles
 
 -- the number of a new handle, where one can be made
-abbrev pub number_by : Option HandleFault → handles.State → Option ℕ
+abbrev pub number_by : Option HandleFault → handles.HeldHandles → Option ℕ
 number_by None h = Some (next_number h)
 number_by (Some fault) h = None
 
 -- the handles behind that
-abbrev pub handles_by : Option HandleFault → Target → Option (List ℕ) → handles.State → handles.State
+abbrev pub handles_by : Option HandleFault → Target → Option (List ℕ) → handles.HeldHandles → handles.HeldHandles
 handles_by None target group h = with_handle target group h
 handles_by (Some fault) target group h = h
 
 -- a handle on a target in a group, or in none, where one can be made
-abbrev pub handle_on : Target → Option (List ℕ) → handles.State → Made (Option ℕ)
+abbrev pub handle_on : Target → Option (List ℕ) → handles.HeldHandles → Made (Option ℕ)
 handle_on target group h = record { made = number_by (fault_of h) h; handles = handles_by (fault_of h) target group h }
 
 -- the member that names it
@@ -33,7 +33,7 @@ id_pairs session None = []
 id_pairs session (Some n) = (codes "objectId", text (object_id session n)) ∷ []
 
 -- what is made of each of a list, in turn, with the handles after all of it
-abbrev pub made_all : {A B : Type 0} → (A → handles.State → Made B) → List A → handles.State → Made (List B)
+abbrev pub made_all : {A B : Type 0} → (A → handles.HeldHandles → Made B) → List A → handles.HeldHandles → Made (List B)
 made_all f [] h = record { made = []; handles = h }
 made_all f (x ∷ xs) h =
     record {

@@ -52,37 +52,37 @@ subtype_pairs (u ∷ us) = subtyped (u ∷ us)
 -- ---- properties
 
 -- an enumerable own property: its name and its value
-pub record Entry : Type 0 where
+pub record PreviewedProperty : Type 0 where
   pub name : List ℕ
   pub value : Value
 
 -- the entry of this name and value
-abbrev pub entry : List ℕ → Value → Entry
+abbrev pub entry : List ℕ → Value → PreviewedProperty
 entry name value = record { name = name; value = value }
 
 -- a property, if it is enumerable
-abbrev pub entry_if : Property → List Entry
+abbrev pub entry_if : Property → List PreviewedProperty
 entry_if p = if p.enumerable then entry p.key p.value ∷ [] else []
 
 -- the enumerable ones of these properties
-abbrev pub enumerable : List Property → List Entry
+abbrev pub enumerable : List Property → List PreviewedProperty
 enumerable [] = []
 enumerable (p ∷ ps) = entry_if p ++ enumerable ps
 
 -- the elements of an array from an index on
-abbrev pub indexed : ℕ → List Value → List Entry
+abbrev pub indexed : ℕ → List Value → List PreviewedProperty
 indexed i [] = []
 indexed i (v ∷ vs) = entry (decimal i) v ∷ indexed (i + 1) vs
 
 -- the entries of a cell, in order (ECMA-262, 10.1.11)
-abbrev pub entries : Option Cell → List Entry
+abbrev pub entries : Option Cell → List PreviewedProperty
 entries (Some (cells.Object ps)) = enumerable ps
 entries (Some (cells.Error class ps)) = enumerable ps
 entries (Some (cells.Array vs)) = indexed 0 vs
 entries cell = []
 
 -- an entry in short
-abbrev pub property_preview : World → Entry → Json
+abbrev pub property_preview : World → PreviewedProperty → Json
 property_preview w e = object_of (
     (codes "name", text (shortened e.name))
     ∷ (codes "type", text (type_text w e.value))
@@ -92,12 +92,12 @@ property_preview w e = object_of (
 -- ---- objects
 
 -- the first of a list, and whether there are more
-pub record Listed : Type 0 where
+pub record PreviewList : Type 0 where
   pub first : List Json
   pub more : Bool
 
 -- the first so many
-abbrev pub first_of : ℕ → List Json → Listed
+abbrev pub first_of : ℕ → List Json → PreviewList
 first_of n js = record { first = take n js; more = nat_lt n (length js) }
 
 -- so many are listed of an array's elements, and of another object's properties
@@ -106,11 +106,11 @@ most_listed (Some (cells.Array vs)) = 100
 most_listed cell = 5
 
 -- the first properties of a cell in short
-abbrev pub listed : World → Option Cell → Listed
+abbrev pub listed : World → Option Cell → PreviewList
 listed w cell = first_of (most_listed cell) (map (property_preview w) (entries cell))
 
 -- a preview of this description, with these properties and a subtype, where there is one
-abbrev pub preview_of : List ℕ → Listed → List ℕ → Json
+abbrev pub preview_of : List ℕ → PreviewList → List ℕ → Json
 preview_of description l subtype = object_of (
     (codes "description", text (shortened description))
     ∷ (codes "overflow", boolean l.more)

@@ -18,7 +18,7 @@ use Rattle.remote_objects.specs.declared.detail.Detail.TheVariants as details
 use Rattle.remote_objects.specs.Making.{Made, handle_on, id_pairs}
 
 -- these members with the id of a handle on a target
-abbrev pub with_handle_on : ℕ → Option (List ℕ) → Target → List Pair → handles.State → Made Json
+abbrev pub with_handle_on : ℕ → Option (List ℕ) → Target → List Pair → handles.HeldHandles → Made Json
 with_handle_on session group target pairs h =
     record {
       made = object_of
@@ -27,19 +27,19 @@ with_handle_on session group target pairs h =
     }
 
 -- a value; its handle, if it is an object, is in this group or in none
-abbrev pub remote : Sight → Option (List ℕ) → Value → handles.State → Made Json
+abbrev pub remote : Sight → Option (List ℕ) → Value → handles.HeldHandles → Made Json
 remote s group (values.Object a) h =
     with_handle_on s.session group (targets.Object a) (value_pairs s (values.Object a)) h
 remote s group v h = record { made = object_of (value_pairs s v); handles = h }
 
 -- a scope, as an object of its names
-abbrev pub remote_scope : ℕ → Option (List ℕ) → Addr → handles.State → Made Json
+abbrev pub remote_scope : ℕ → Option (List ℕ) → Addr → handles.HeldHandles → Made Json
 remote_scope session group a h = with_handle_on session group (targets.Scope a) plain_pairs h
 
 -- ---- with previews
 
 -- an object with its handle and its preview, which makes none
-abbrev pub previewed_object : Sight → Option (List ℕ) → Addr → handles.State → Made Json
+abbrev pub previewed_object : Sight → Option (List ℕ) → Addr → handles.HeldHandles → Made Json
 previewed_object s group a h = record {
   made =
       object_of
@@ -49,11 +49,11 @@ previewed_object s group a h = record {
 }
 
 -- a value with a preview, if it is an object
-abbrev pub previewed : Sight → Option (List ℕ) → Value → handles.State → Made Json
+abbrev pub previewed : Sight → Option (List ℕ) → Value → handles.HeldHandles → Made Json
 previewed s group (values.Object a) h = previewed_object s group a h
 previewed s group v h = remote s group v h
 
 -- a value with or without a preview, as is asked for
-abbrev pub remote_with : Sight → Detail → Option (List ℕ) → Value → handles.State → Made Json
+abbrev pub remote_with : Sight → Detail → Option (List ℕ) → Value → handles.HeldHandles → Made Json
 remote_with s details.Plain group v h = remote s group v h
 remote_with s details.Previewed group v h = previewed s group v h

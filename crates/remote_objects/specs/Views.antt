@@ -8,7 +8,7 @@ use Rattle.cdp_json.specs.Parts.{Pair, list_of, location}
 use Rattle.cdp_json.specs.Views.{json_view}
 use Rattle.remote_objects.specs.Ids.{frame_id}
 use Rattle.remote_objects.specs.Previews as previews
-use Rattle.remote_objects.specs.declared.previews.Listed.{Listed}
+use Rattle.remote_objects.specs.declared.previews.PreviewList.{PreviewList}
 use Rattle.remote_objects.specs.Sights.{Sight}
 use Rattle.remote_objects.specs.CallFrames.{function_pairs}
 
@@ -28,5 +28,5 @@ frame_back scopes receiver url =
     (codes "scopeChain", list_of scopes) ∷ (codes "this", receiver) ∷ (codes "url", text url) ∷ []
 
 -- what a preview lists
-abbrev pub listed_view : Listed → previews.Listed
+abbrev pub listed_view : PreviewList → previews.PreviewList
 listed_view l = record { first = map json_view l.first.items; more = l.more }

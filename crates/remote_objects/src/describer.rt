@@ -1,7 +1,7 @@
 //! What values are described by.
 
 use crate::function_sources::FunctionSources;
-use js_heap_memory::names::Names;
+use js_heap_memory::names::NameTable;
 use js_heap_memory::world::World;
 use js_tree::script::Script;
 use std::alloc::Global;
@@ -15,7 +15,7 @@ pub struct Describer<'w, W: World, S: FunctionSources> {
     /// The world.
     pub world: &'w W,
     /// Its table of names.
-    pub names: &'w Names,
+    pub names: &'w NameTable,
     /// The scripts, by their numbers from 1.
     pub scripts: &'w [Script],
     /// What finds the sources of functions that evaluations made.

@@ -20,7 +20,7 @@ use js_heap_memory::properties::PropertyMap;
 use js_heap_memory::stored::Stored;
 use js_heap_memory::world::World;
 use js_heap_operators::values::type_text;
-use js_machine_actions::seen::Seen;
+use js_machine_actions::seen::NamedWorld;
 use js_machine_actions::shown::shown;
 use std::alloc::{AllocError, Global};
 
@@ -100,7 +100,7 @@ fn has_preview(cell: Option<&Stored>) -> bool
 
 /// The first of what a preview lists, and whether there are more.
 #[derive(Drop)]
-pub(crate) struct Listed {
+pub(crate) struct PreviewList {
     pub first: Vec<Json>,
     pub more: bool,
 }
@@ -131,12 +131,12 @@ fn first_values(values: &[Value]) -> &[Value]
 fn preview_of(
     alloc: Global,
     description: &[u16],
-    listed: Listed,
+    listed: PreviewList,
     subtype: &[u8],
 ) -> Result<Json, AllocError>
     ensures { IfOk result (λ j. json_view j ≡ previews.preview_of description.now (listed_view listed) subtype.now) }
 {
-    let Listed { first, more } = listed;
+    let PreviewList { first, more } = listed;
     let mut members = Vec::new(alloc);
     put_short_text(alloc, &mut members, b"description", description)?;
     put_value(alloc, &mut members, b"overflow", boolean(more))?;
@@ -190,7 +190,7 @@ impl<'w, W: World, S: FunctionSources> Describer<'w, W, S> {
     fn property_preview(&self, name: &[u16], value: Value) -> Result<Json, AllocError>
         ensures { IfOk result (λ j. json_view j ≡ previews.property_preview (W.world self.now.names.now self.now.world.now) (previews.entry name.now value)) }
     {
-        let seen = Seen {
+        let seen = NamedWorld {
             names: self.names,
             world: self.world,
         };
@@ -215,7 +215,7 @@ impl<'w, W: World, S: FunctionSources> Describer<'w, W, S> {
     }
 
     /// The first enumerable properties of an object.
-    fn first_properties(&self, properties: &PropertyMap) -> Result<Listed, AllocError>
+    fn first_properties(&self, properties: &PropertyMap) -> Result<PreviewList, AllocError>
         ensures { IfOk result (λ l. listed_view l ≡ previews.first_of 5 (map (previews.property_preview (W.world self.now.names.now self.now.world.now)) (previews.enumerable properties.now))) }
     {
         let mut first = Vec::new(self.alloc);
@@ -224,11 +224,11 @@ impl<'w, W: World, S: FunctionSources> Describer<'w, W, S> {
                 return Err(AllocError);
             };
             if is_one_more(property, &first) {
-                return Ok(Listed { first, more: true });
+                return Ok(PreviewList { first, more: true });
             }
             self.put_enumerable(property, &mut first)?;
         }
-        Ok(Listed { first, more: false })
+        Ok(PreviewList { first, more: false })
     }
 
     /// An element of an array in short.
@@ -251,25 +251,25 @@ impl<'w, W: World, S: FunctionSources> Describer<'w, W, S> {
     }
 
     /// The first elements of an array.
-    fn first_elements(&self, values: &[Value]) -> Result<Listed, AllocError>
+    fn first_elements(&self, values: &[Value]) -> Result<PreviewList, AllocError>
         ensures { IfOk result (λ l. listed_view l ≡ previews.first_of 100 (map (previews.property_preview (W.world self.now.names.now self.now.world.now)) (previews.indexed 0 values.now))) }
     {
         let first = self.element_previews(first_values(values))?;
         let more = MOST_ELEMENTS < values.len();
-        Ok(Listed { first, more })
+        Ok(PreviewList { first, more })
     }
 
     // ---- objects
 
     /// The first properties of an object with this cell.
-    fn listed(&self, cell: Option<&Stored>) -> Result<Listed, AllocError>
+    fn listed(&self, cell: Option<&Stored>) -> Result<PreviewList, AllocError>
         ensures { IfOk result (λ l. listed_view l ≡ previews.listed (W.world self.now.names.now self.now.world.now) (cell_at self.now.names.now (option_copied cell.entry))) }
     {
         match cell {
             Some(Stored::Object { properties }) => self.first_properties(properties),
             Some(Stored::Error { properties, .. }) => self.first_properties(properties),
             Some(Stored::Array { elements }) => self.first_elements(elements.slice()),
-            _ => Ok(Listed {
+            _ => Ok(PreviewList {
                 first: Vec::new(self.alloc),
                 more: false,
             }),

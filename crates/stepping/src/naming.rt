@@ -36,7 +36,7 @@ fn ends_at(step: StepRequest, depth: usize) -> bool
 /// there; without an arrival it counts for nothing.
 ///
 /// A session that doesn't name a step may be stopped by it all the same, where another one does.
-pub fn names(rules: &Rules, arrival: &Arrival, hit: bool) -> Option<Cause>
+pub fn first_cause(rules: &Rules, arrival: &Arrival, hit: bool) -> Option<Cause>
     ensures cause { result ≡ first_cause rules.now arrival.now hit }
     ensures first { IfSome result (IsFirst rules.now arrival.now hit) }
     ensures none { IfNone result (NoneHolds rules.now arrival.now hit) }

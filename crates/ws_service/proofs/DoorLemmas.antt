@@ -1,7 +1,7 @@
 -- A door is served, question after question.
 use Rattle.std.proofs.Common.{◌≡◌, ◌≢◌, ◌⊎◌, inl, inr, ℕ, zero, suc, ◌<◌, ◌≤◌, List, [], ◌∷◌, ◌++◌, Bool, true, false, Option, Some, None, refl, ap, sym, subst, ◌∙◌, append-nil, arith}
 use Rattle.cdp_host_isolation.specs.Histories.{Entry, Shut, Take}
-use Rattle.cdp_edge.specs.Outside.{Rose, Told, one_more}
+use Rattle.cdp_edge.specs.Outside.{Rose, IfTold, one_more}
 use Rattle.history_lock.specs.Passes.{PassState}
 use Rattle.cdp_edge_server.specs.Contents.{IsUnused, Spoken, Tended, adds}
 use Rattle.cdp_edge_server.specs.Doors.{out_after}
@@ -28,16 +28,16 @@ use Rattle.ws_service.proofs.VisitLemmas.{links-append, tends-last, tends-look, 
 
 -- ---- what a link tells
 
-closed-then : (end : Served) (old new : Option (Option ℕ)) → Told old (λ code. code ≡ None) → IsClosedBy end old new
-    → Told new (λ code. (code ≡ None) ⊎ (code ≡ code_of end))
+closed-then : (end : Served) (old new : Option (Option ℕ)) → IfTold old (λ code. code ≡ None) → IsClosedBy end old new
+    → IfTold new (λ code. (code ≡ None) ⊎ (code ≡ code_of end))
 closed-then end None new none (inl same) =
-    subst (λ o. Told o (λ code. (code ≡ None) ⊎ (code ≡ code_of end))) (sym same) tt
+    subst (λ o. IfTold o (λ code. (code ≡ None) ⊎ (code ≡ code_of end))) (sym same) tt
 closed-then end (Some was) new none (inl same) =
-    subst (λ o. Told o (λ code. (code ≡ None) ⊎ (code ≡ code_of end))) (sym same) (inl none)
+    subst (λ o. IfTold o (λ code. (code ≡ None) ⊎ (code ≡ code_of end))) (sym same) (inl none)
 closed-then end None new none (inr (code, has, is)) =
-    subst (λ o. Told o (λ code. (code ≡ None) ⊎ (code ≡ code_of end))) (sym is) tt
+    subst (λ o. IfTold o (λ code. (code ≡ None) ⊎ (code ≡ code_of end))) (sym is) tt
 closed-then end (Some was) new none (inr (code, has, is)) =
-    subst (λ o. Told o (λ code. (code ≡ None) ⊎ (code ≡ code_of end))) (sym is) (inr (sym has))
+    subst (λ o. IfTold o (λ code. (code ≡ None) ⊎ (code ≡ code_of end))) (sym is) (inr (sym has))
 
 failed-then : (old new : ℕ) → old ≡ 0 → Rose old new → 0 < new
 failed-then old new none (inl rose) = omega arith
@@ -48,8 +48,8 @@ pub speaks : (old new : Spoken) (answers : List Heard) (texts : List (List ℕ))
     → new.answers ≡ adds old.answers answers → new.sent ≡ adds old.sent texts → IsClosedBy end old.closed new.closed
     → (end ≡ served.Fault → Rose old.faults new.faults) → Speaks new answers texts end
 speaks old new answers texts end unused answered sent closed fault = record {
-  answers = subst (λ o. Told o (λ told. told ≡ answers)) (sym answered) (adds-told old.answers answers unused.1);
-  sent = subst (λ o. Told o (λ told. told ≡ texts)) (sym sent) (adds-told old.sent texts unused.2);
+  answers = subst (λ o. IfTold o (λ told. told ≡ answers)) (sym answered) (adds-told old.answers answers unused.1);
+  sent = subst (λ o. IfTold o (λ told. told ≡ texts)) (sym sent) (adds-told old.sent texts unused.2);
   closed = closed-then end old.closed new.closed unused.3 closed;
   failed = λ is. failed-then old.faults new.faults unused.0 (fault is);
 }
@@ -148,7 +148,7 @@ once-on (ends.Spent ticket) xs ys once = omega arith
 -- after what was done for a link, if one came, a look
 pub tends-once : (d : Debugging) (p m q : PassState Entry) (acts : List DoorAct) (old new : Tended)
     (result : Option DoorEnd) → looks_of acts ≡ 0 → Tends d p m acts [] → Looks d m q result
-    → new.served ≡ adds old.served (links_of acts) → Told new.is_out (λ out. out ≡ false)
+    → new.served ≡ adds old.served (links_of acts) → IfTold new.is_out (λ out. out ≡ false)
     → new.asked ≡ one_more old.asked → new.faults ≡ old.faults → TendsOnce d p q old new result
 tends-once d p m q acts old new None none a look links home asks quiet =
     let looked : looks_of (acts ++ Looked ∷ []) ≡ 1 = looks-look acts ∙ ap suc none in
@@ -199,18 +199,18 @@ no-fault answer (inr is) failed = cc
 -- no link came
 pub tends-quiet : {L : Type 0} (d : Debugging) (p q : PassState Entry) (old new : Tended) (answer : DoorAnswer L)
     (result : Option DoorEnd) → p.in_turn ≡ false → (answer ≡ answers.Quiet) ⊎ (answer ≡ answers.Memory)
-    → Looks d p q result → new.served ≡ old.served → Told old.is_out (λ out. out ≡ false)
+    → Looks d p q result → new.served ≡ old.served → IfTold old.is_out (λ out. out ≡ false)
     → new.is_out ≡ out_after answer old.is_out → new.asked ≡ one_more old.asked
     → (answer ≢ answers.Failed → new.faults ≡ old.faults) → TendsOnce d p q old new result
 tends-quiet d p q old new answer result free is look links home out asks quiet =
     let same : new.is_out ≡ old.is_out = none-came answer old.is_out new.is_out is out in
     tends-once d p p q [] old new result refl (tends-none d p free) look (links ∙ sym (adds-nil old.served))
-    (subst (λ o. Told o (λ out. out ≡ false)) (sym same) home) asks (quiet (no-fault answer is))
+    (subst (λ o. IfTold o (λ out. out ≡ false)) (sym same) home) asks (quiet (no-fault answer is))
 
 -- a link came
 pub tends-link : (d : Debugging) (p m q : PassState Entry) (old mid new : Tended) (result : Option DoorEnd)
     → IsReceived d p m mid.served new.served → Looks d m q result → mid.served ≡ old.served
-    → Told new.is_out (λ out. out ≡ false) → mid.asked ≡ one_more old.asked → new.asked ≡ mid.asked
+    → IfTold new.is_out (λ out. out ≡ false) → mid.asked ≡ one_more old.asked → new.asked ≡ mid.asked
     → mid.faults ≡ old.faults → new.faults ≡ mid.faults → TendsOnce d p q old new result
 tends-link d p m q old mid new result a look links home asks then_asked quiet then_quiet =
     tends-once d p m q (a.0 ∷ []) old new result a.1 a.2 look
@@ -219,14 +219,14 @@ tends-link d p m q old mid new result a look links home asks then_asked quiet th
 -- the door failed
 pub tends-fault : (d : Debugging) (p q : PassState Entry) (old new : Tended) (unshut : Option NotShut)
     → Shuts d p q unshut → new.served ≡ old.served
-    → Told old.is_out (λ out. out ≡ false) → new.is_out ≡ old.is_out → new.asked ≡ one_more old.asked
+    → IfTold old.is_out (λ out. out ≡ false) → new.is_out ≡ old.is_out → new.asked ≡ one_more old.asked
     → Rose old.faults new.faults → IsTended d p q old new (ends.Fault unshut)
 tends-fault d p q old new unshut a links home out asks rose = record {
   acts = [];
   last = shut_entries unshut;
   tends = a.0;
   links = links ∙ sym (adds-nil old.served);
-  home = subst (λ o. Told o (λ out. out ≡ false)) (sym out) home;
+  home = subst (λ o. IfTold o (λ out. out ≡ false)) (sym out) home;
   asks = asks;
   once = omega arith;
   ends = (refl, a.1, rose);
@@ -235,7 +235,7 @@ tends-fault d p q old new unshut a links home out asks rose = record {
 -- ---- question after question
 
 pub tended-none : (d : Debugging) (p : PassState Entry) (door : Tended) → p.in_turn ≡ false
-    → Told door.is_out (λ out. out ≡ false) → IsTendedOn d p p door door
+    → IfTold door.is_out (λ out. out ≡ false) → IsTendedOn d p p door door
 tended-none d p door free home = record {
   acts = [];
   tends = tends-none d p free;

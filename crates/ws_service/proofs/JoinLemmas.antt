@@ -6,7 +6,7 @@ use mathlib.Core.Logic.{dite}
 use native.Mathlib.Decide.{ℕ_discrete}
 use Rattle.cdp_host_isolation.specs.Histories.{Entry}
 use Rattle.cdp_host_isolation.specs.Makers.{IsNoTake, TakesNone, by}
-use Rattle.cdp_edge.specs.Outside.{Told}
+use Rattle.cdp_edge.specs.Outside.{IfTold}
 use Rattle.history_lock.specs.Histories.{Begins, has, longer}
 use Rattle.history_lock.specs.Passes.{KeepsWhole, PassState, joined_pass}
 use Rattle.history_lock.proofs.Facts.{begins_same, by_behind, has_behind, has_front}
@@ -21,11 +21,11 @@ use Rattle.ws_service.proofs.VisitLemmas.{acts-stay}
 
 -- ---- one door
 
-told-added : {A : Type 0} (old new : Opt (List A)) (more : List A) → Told old (λ told. told ≡ []) → new ≡ adds old more
-    → Told new (λ told. told ≡ more)
-told-added None new more none is = subst (λ o. Told o (λ told. told ≡ more)) (sym is) tt
+told-added : {A : Type 0} (old new : Opt (List A)) (more : List A) → IfTold old (λ told. told ≡ []) → new ≡ adds old more
+    → IfTold new (λ told. told ≡ more)
+told-added None new more none is = subst (λ o. IfTold o (λ told. told ≡ more)) (sym is) tt
 told-added (Some old) new more none is =
-    subst (λ o. Told o (λ told. told ≡ more)) (sym is) (ap (λ l. l ++ more) none)
+    subst (λ o. IfTold o (λ told. told ≡ more)) (sym is) (ap (λ l. l ++ more) none)
 
 -- a pass that has seen nothing goes on to a history
 pub history-of : (d : Debugging) (q : PassState Entry) (door : Tended) (ended : Opt DoorEnd) → HasServed d q door ended

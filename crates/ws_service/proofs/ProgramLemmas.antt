@@ -10,7 +10,7 @@ use Rattle.cdp_host_isolation.proofs.LongerLemmas.{call-program, whole-more}
 use Rattle.cdp_host_isolation.proofs.MakerLemmas.{by-append, by-own}
 use Rattle.history_lock.specs.Histories.{Begins, limit}
 use Rattle.history_lock.specs.Passes.{PassState}
-use Rattle.cdp_edge.specs.Outside.{GainsPrefix, Told, gains}
+use Rattle.cdp_edge.specs.Outside.{GainsPrefix, IfTold, gains}
 use Rattle.cdp_edge.proofs.Gains.{GainsPrefix-behind, gains-nil, gains-next}
 use Rattle.cdp_edge.specs.declared.sink.SinkFault.{SinkFault}
 use Rattle.cdp_edge.specs.declared.sink.SinkFault.TheVariants as sink
@@ -439,7 +439,7 @@ idle-run d moment p q out state end is found some =
 
 -- a turn for which there was no memory
 pub broken-run : (d : Debugging) (moment : Option ℕ) (at : ℕ) (p q : PassState Entry) (out : Output) (lost : List ℕ)
-    → Told moment (λ ms. at ≡ ms) → Acts d p q (Ran 0 at lost) → HasRun d moment p q out out (Some ends.Broken)
+    → IfTold moment (λ ms. at ≡ ms) → Acts d p q (Ran 0 at lost) → HasRun d moment p q out out (Some ends.Broken)
 broken-run d moment at p q out lost told act =
     let h = p.seen ++ act.between in
     turn-run d moment p q out out (Ran 0 at lost) [] (Some ends.Broken) act
@@ -461,7 +461,7 @@ reason-left d states.Ready h is = tt
 
 -- whose texts were written
 whole-run : (d : Debugging) (moment : Option ℕ) (at : ℕ) (p q : PassState Entry) (old new : Output)
-    (texts : List (List ℕ)) (state : State) → Told moment (λ ms. at ≡ ms) → Steps d 256 at p q texts
+    (texts : List (List ℕ)) (state : State) → IfTold moment (λ ms. at ≡ ms) → Steps d 256 at p q texts
     → HasState d state q.seen → new.content ≡ gains old.content (printed_lines texts) → new.faults ≡ old.faults
     → HasRun d moment p q old new (end_in state)
 whole-run d moment at p q old new texts state told made is gained quiet =
@@ -495,7 +495,7 @@ gains-fault fault unshut before after texts gained =
 -- and no ticket was left for a shut
 unshut-run : (d : Debugging) (moment : Option ℕ) (at : ℕ) (p q : PassState Entry) (old new : Output)
     (texts : List (List ℕ)) (fault : SinkFault) (unshut : NotShut) → unshut.ticket ≡ limit
-    → Told moment (λ ms. at ≡ ms) → Steps d 256 at p q texts → GainsPrefix old.content new.content (printed_lines texts)
+    → IfTold moment (λ ms. at ≡ ms) → Steps d 256 at p q texts → GainsPrefix old.content new.content (printed_lines texts)
     → Counts (Some (end_at fault (Some unshut))) old.faults new.faults
     → HasRun d moment p q old new (Some (end_at fault (Some unshut)))
 unshut-run d moment at p q old new texts fault unshut spent told made gained counts =
@@ -508,7 +508,7 @@ unshut-run d moment at p q old new texts fault unshut spent told made gained cou
 
 -- or the program was shut
 shut-run : (d : Debugging) (moment : Option ℕ) (at : ℕ) (p m q : PassState Entry) (old new : Output)
-    (texts : List (List ℕ)) (fault : SinkFault) → Told moment (λ ms. at ≡ ms) → Steps d 256 at p m texts
+    (texts : List (List ℕ)) (fault : SinkFault) → IfTold moment (λ ms. at ≡ ms) → Steps d 256 at p m texts
     → Acts d m q Shut → GainsPrefix old.content new.content (printed_lines texts)
     → Counts (Some (end_at fault None)) old.faults new.faults → HasRun d moment p q old new (Some (end_at fault None))
 shut-run d moment at p m q old new texts fault told made act gained counts =
@@ -532,7 +532,7 @@ shut-run d moment at p m q old new texts fault told made act gained counts =
     }
 
 cut-run : (d : Debugging) (moment : Option ℕ) (at : ℕ) (p m q : PassState Entry) (old new : Output)
-    (texts : List (List ℕ)) (fault : SinkFault) (unshut : Option NotShut) → Told moment (λ ms. at ≡ ms)
+    (texts : List (List ℕ)) (fault : SinkFault) (unshut : Option NotShut) → IfTold moment (λ ms. at ≡ ms)
     → Steps d 256 at p m texts → ShutsDown d m q unshut → GainsPrefix old.content new.content (printed_lines texts)
     → Counts (Some (end_at fault unshut)) old.faults new.faults
     → HasRun d moment p q old new (Some (end_at fault unshut))
@@ -544,7 +544,7 @@ cut-run d moment at p m q old new texts fault None told made act gained counts =
 
 -- a turn with steps, after which a state says whether the run ends
 pub finish-run : (d : Debugging) (moment : Option ℕ) (at : ℕ) (p m q : PassState Entry) (old new : Output)
-    (texts : List (List ℕ)) (state : State) (end : Option RunEnd) → Told moment (λ ms. at ≡ ms)
+    (texts : List (List ℕ)) (state : State) (end : Option RunEnd) → IfTold moment (λ ms. at ≡ ms)
     → Steps d 256 at p m texts → HasState d state m.seen → Finishes d m q old new texts state end
     → HasRun d moment p q old new end
 finish-run d moment at p m q old new texts state end told made is (inl all) =

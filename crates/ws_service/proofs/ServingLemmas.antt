@@ -13,7 +13,7 @@ use Rattle.cdp_host_isolation.proofs.MakerLemmas.{by-append}
 use Rattle.history_lock.specs.Histories.{Begins, has}
 use Rattle.history_lock.specs.Passes.{HasInitialOnly, IsSamePass, LockId, PassState, initial_pass, initial_passes}
 use Rattle.history_lock.proofs.Facts.{by_behind, has_behind, has_front}
-use Rattle.cdp_edge.specs.Outside.{Rose, Told}
+use Rattle.cdp_edge.specs.Outside.{Rose, IfTold}
 use Rattle.cdp_edge_server.specs.Contents.{Tended, any_fault, lowered, raised}
 use Rattle.cdp_host_turns.specs.Debuggings.{Debugging, IsHistory, meaning}
 use Rattle.ws_service.specs.Doors.{EndsDoor}
@@ -504,7 +504,7 @@ last-named lock n p m is same =
 
 -- ---- doors that are out
 
-pub told-raised : (out : Opt ℕ) (n : ℕ) → Told (raised out n) (λ (k : ℕ). n ≤ k)
+pub told-raised : (out : Opt ℕ) (n : ℕ) → IfTold (raised out n) (λ (k : ℕ). n ≤ k)
 told-raised None n = tt
 told-raised (Some out) n = omega arith
 

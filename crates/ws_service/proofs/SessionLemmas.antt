@@ -16,7 +16,7 @@ use Rattle.cdp_host_turns.specs.States.{IsOver, IsShut}
 use Rattle.cdp_host_turns.specs.Turns.{Acts, Finds, IsOverIf, Leaves, Takes}
 use Rattle.cdp_host_turns.specs.declared.answers.Gone.{Gone}
 use Rattle.cdp_host_turns.specs.declared.answers.Gone.TheVariants as gone
-use Rattle.cdp_host_turns.specs.declared.answers.Taken.{Taken}
+use Rattle.cdp_host_turns.specs.declared.answers.HandedOut.{HandedOut}
 use Rattle.ws_service.specs.Connections.{AllGoOn, Ends, SentOf, end_at, end_of, turns, turns_at}
 use Rattle.ws_service.specs.Passing.{Serves}
 use Rattle.ws_service.specs.Sessions.{Answers, EndsTaking, HandsOut, HasCause, Hears, IsEnded, IsServed, Talk, Waits, WasOverIf, talks}
@@ -92,7 +92,7 @@ over-was d s p q true f = found-was d (IsOver d) p q (Take s) f
 over-was d s p q false f = tt
 
 -- all were sent
-pub hands-all : (d : Debugging) (s : ℕ) (p q : PassState Entry) (old new : Talk) (taken : Taken) → Takes d s p q (Ok taken)
+pub hands-all : (d : Debugging) (s : ℕ) (p q : PassState Entry) (old new : Talk) (taken : HandedOut) → Takes d s p q (Ok taken)
     → Owns p.number s p.seen → new.answers ≡ old.answers → new.sent ≡ adds old.sent (map string_bytes taken.texts.items)
     → HandsOut d s p q old new (Ok taken.is_over)
 hands-all d s p q old new taken t owns answers sent = (
@@ -103,7 +103,7 @@ hands-all d s p q old new taken t owns answers sent = (
 )
 
 -- a send failed after some, and the session was detached, or no ticket was left for that
-pub hands-some : (d : Debugging) (s : ℕ) (p m q : PassState Entry) (old new : Talk) (taken : Taken) (part : List (List ℕ))
+pub hands-some : (d : Debugging) (s : ℕ) (p m q : PassState Entry) (old new : Talk) (taken : HandedOut) (part : List (List ℕ))
     (fault : LinkFault) (end : Served) → Takes d s p m (Ok taken) → Owns p.number s p.seen → new.answers ≡ old.answers
     → Begins part (map string_bytes taken.texts.items) → new.sent ≡ adds old.sent part
     → IsEnded d s m q (end_at fault) end → HandsOut d s p q old new (Err end)
@@ -157,7 +157,7 @@ hands-some d s p m q old new taken part fault end t owns answers begins sent (in
     )
 
 -- the pass owns the session still
-pub owns-taken : (d : Debugging) (s : ℕ) (p q : PassState Entry) (taken : Taken) → Takes d s p q (Ok taken)
+pub owns-taken : (d : Debugging) (s : ℕ) (p q : PassState Entry) (taken : HandedOut) → Takes d s p q (Ok taken)
     → Owns p.number s p.seen → Owns q.number s q.seen
 owns-taken d s p q taken t owns =
     let texts = map string_bytes taken.texts.items in

@@ -1,7 +1,7 @@
 -- How a door was served.
 use Rattle.std.specs.Prelude.{◌≡◌, ◌≤◌, ◌⊎◌, ℕ, zero, suc, List, [], ◌∷◌, ◌++◌, Bool, true, false, Option, Some, None}
 use Rattle.cdp_host_isolation.specs.Histories.{Entry, Take}
-use Rattle.cdp_edge.specs.Outside.{Rose, Told, one_more}
+use Rattle.cdp_edge.specs.Outside.{Rose, IfTold, one_more}
 use Rattle.history_lock.specs.Histories.{limit}
 use Rattle.history_lock.specs.Passes.{PassState}
 use Rattle.cdp_edge_server.specs.Contents.{Spoken, Tended, adds}
@@ -55,7 +55,7 @@ pub record IsTended (d : Debugging) (p q : PassState Entry) (old new : Tended) (
   pub last : List Entry
   pub tends : Tends d p q acts last
   pub links : new.served ≡ adds old.served (links_of acts)
-  pub home : Told new.is_out (λ out. out ≡ false)
+  pub home : IfTold new.is_out (λ out. out ≡ false)
   pub asks : new.asked ≡ asked_more (questions end acts) old.asked
   pub once : 1 ≤ questions end acts
   pub ends : EndsDoor d p.number q.seen end last old.faults new.faults
@@ -86,7 +86,7 @@ pub record IsTendedOn (d : Debugging) (p q : PassState Entry) (old new : Tended)
   pub tends : Tends d p q acts []
   pub history : (acts ≡ []) ⊎ IsHistory d q.seen
   pub links : new.served ≡ adds old.served (links_of acts)
-  pub home : Told new.is_out (λ out. out ≡ false)
+  pub home : IfTold new.is_out (λ out. out ≡ false)
   pub asks : new.asked ≡ asked_more (looks_of acts) old.asked
   pub quiet : new.faults ≡ old.faults
 

@@ -1,7 +1,7 @@
 -- What doors leave in the one history of all passes.
 use Rattle.std.specs.Prelude.{◌≡◌, ◌⊎◌, ◌+◌, ◌<◌, ◌≤◌, ℕ, List, [], ◌∷◌, ◌++◌, true, false, Option, Some}
 use Rattle.cdp_host_isolation.specs.Histories.{Entry}
-use Rattle.cdp_edge.specs.Outside.{Told}
+use Rattle.cdp_edge.specs.Outside.{IfTold}
 use Rattle.history_lock.specs.Histories.{by, has}
 use Rattle.history_lock.specs.Passes.{LockId, PassState, joined_pass}
 use Rattle.cdp_edge_server.specs.Contents.{IsNew, Tended}
@@ -46,8 +46,8 @@ pub record IsServedDoor (d : Debugging) (k : ℕ) (h : List (ℕ × Entry)) (doo
   pub own : by k h ≡ entries_of acts ++ last
   pub are : AreActs d k h acts
   pub apart : AreNew [] (sessions_of acts)
-  pub links : Told door.served (λ links. links ≡ links_of acts)
-  pub home : Told door.is_out (λ out. out ≡ false)
+  pub links : IfTold door.served (λ links. links ≡ links_of acts)
+  pub home : IfTold door.is_out (λ out. out ≡ false)
   pub asks : door.asked ≡ asked_more (questions end acts) 0
   pub once : 1 ≤ questions end acts
   pub ends : Was (λ seen. EndsDoor d k seen end last 0 door.faults) h

@@ -5,7 +5,7 @@ use Rattle.cdp_host_isolation.specs.Makers.{by, entries_of}
 use Rattle.cdp_host_isolation.specs.Meanings.{is_paused, waits}
 use Rattle.history_lock.specs.Histories.{Begins, limit}
 use Rattle.history_lock.specs.Passes.{PassState}
-use Rattle.cdp_edge.specs.Outside.{GainsPrefix, Rose, Told, gains}
+use Rattle.cdp_edge.specs.Outside.{GainsPrefix, Rose, IfTold, gains}
 use Rattle.cdp_edge.specs.declared.sink.SinkFault.{SinkFault}
 use Rattle.cdp_edge.specs.declared.sink.SinkFault.TheVariants as sink
 use Rattle.cdp_edge_printing.specs.Printing.{printed_lines}
@@ -79,7 +79,7 @@ IsTurn moment Attach = ⊥
 IsTurn moment (Tell s text) = ⊥
 IsTurn moment (Take s) = s ≡ 0
 IsTurn moment (Detach s) = ⊥
-IsTurn moment (Ran steps at lost) = Told moment (λ ms. at ≡ ms)
+IsTurn moment (Ran steps at lost) = IfTold moment (λ ms. at ≡ ms)
 IsTurn moment Shut = ⊥
 
 -- these are turns of the program

@@ -2,7 +2,7 @@
 use Rattle.std.specs.Prelude.{◌≡◌, ◌≢◌, ◌<◌, ◌⊎◌, ℕ, suc, List, [], ◌∷◌, ◌++◌, All, Bool, None}
 use Rattle.cdp_host_isolation.specs.Histories.{Entry, Attach, Take}
 use Rattle.cdp_host_isolation.specs.Makers.{Owns, TakesNone}
-use Rattle.cdp_edge.specs.Outside.{Told}
+use Rattle.cdp_edge.specs.Outside.{IfTold}
 use Rattle.history_lock.specs.Histories.{limit}
 use Rattle.history_lock.specs.Passes.{PassState}
 use Rattle.cdp_edge_server.specs.Contents.{Spoken}
@@ -29,7 +29,7 @@ pub record Visit : Type 0 where
   pub link : Spoken
 
 -- a link for which no session was attached: the entries of that, how it ended, and the link as it was given back
-pub record Refusal : Type 0 where
+pub record RefusedLink : Type 0 where
   pub entries : List Entry
   pub end : Served
   pub link : Spoken
@@ -39,7 +39,7 @@ pub data DoorAct : Type 0 where
   -- a session served a link
   Visited : Visit → DoorAct
   -- no session was attached for a link
-  Refused : Refusal → DoorAct
+  Refused : RefusedLink → DoorAct
   -- one turn looked whether the program is over
   Looked : DoorAct
 
@@ -84,9 +84,9 @@ looks_of (Looked ∷ acts) = suc (looks_of acts)
 -- A link tells these answers, these texts and no others, and the code of this end, if that has one and its close was
 -- sent. It failed where that is the end.
 pub record Speaks (link : Spoken) (heard : List Heard) (texts : List (List ℕ)) (end : Served) : Type 0 where
-  pub answers : Told link.answers (λ told. told ≡ heard)
-  pub sent : Told link.sent (λ told. told ≡ texts)
-  pub closed : Told link.closed (λ code. (code ≡ None) ⊎ (code ≡ code_of end))
+  pub answers : IfTold link.answers (λ told. told ≡ heard)
+  pub sent : IfTold link.sent (λ told. told ≡ texts)
+  pub closed : IfTold link.closed (λ code. (code ≡ None) ⊎ (code ≡ code_of end))
   pub failed : end ≡ served.Fault → 0 < link.faults
 
 -- A visit over a history: the session is this maker's, its entries and its link's answers are a connection's, and its
@@ -112,7 +112,7 @@ IsUnattached d h served.Over entries = ⊥
 IsUnattached d h served.Fault entries = ⊥
 
 -- a refusal over a history: its link gave no answer and was sent nothing
-pub record IsRefusal (d : Debugging) (h : List (ℕ × Entry)) (refusal : Refusal) : Type 0 where
+pub record IsRefusal (d : Debugging) (h : List (ℕ × Entry)) (refusal : RefusedLink) : Type 0 where
   pub unattached : IsUnattached d h refusal.end refusal.entries
   pub speaks : Speaks refusal.link [] [] refusal.end
 

@@ -63,11 +63,11 @@ where
     O::Link: Send,
 {
     ghost use Rattle.std.specs.Prelude.{◌≡◌, Some, false};
-    ghost use Rattle.cdp_edge.specs.Outside.{Told};
+    ghost use Rattle.cdp_edge.specs.Outside.{IfTold};
     ghost use Rattle.ws_service.specs.Doors.{IsTended};
     ghost use Rattle.ws_service.specs.declared.door.DoorEnd.{DoorEnd};
 
-    ghost can = { λ d. (d.pass.lock ≡ d.lock.now) × (d.pass.in_turn ≡ false) × Told (O.is_out d.door) (λ out. out ≡ false) };
+    ghost can = { λ d. (d.pass.lock ≡ d.lock.now) × (d.pass.in_turn ≡ false) × IfTold (O.is_out d.door) (λ out. out ≡ false) };
 
     ghost does = { λ d e. (end : DoorEnd) × (e.end ≡ Some end) × IsTended H.debugs d.pass e.pass (record {
       faults = O.faults d.door;

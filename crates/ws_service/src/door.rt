@@ -1,7 +1,7 @@
 //! Serves a door: the links that arrive there, one after another, until the program is over.
 
 ghost use Rattle.std.specs.Prelude.{◌≡◌, true, false};
-ghost use Rattle.cdp_edge.specs.Outside.{Told};
+ghost use Rattle.cdp_edge.specs.Outside.{IfTold};
 ghost use Rattle.cdp_edge_server.specs.Contents.{IsUnused};
 ghost use Rattle.ws_service.specs.Doors.{IsReceived, IsTended, Looks, Shuts, TendsOnce, is_final};
 
@@ -80,7 +80,7 @@ fn receive<H: Hosted<B>, B, D: Bell, O: Door, R: Wait>(
 )
     requires lock { p.old.lock ≡ lock.now }
     requires free { p.old.in_turn ≡ false }
-    requires out { Told (O.is_out door.old) (λ out. out ≡ true) }
+    requires out { IfTold (O.is_out door.old) (λ out. out ≡ true) }
     requires unused { IsUnused (record {
       faults = O.Link.faults link;
       answers = O.Link.answers link;
@@ -88,7 +88,7 @@ fn receive<H: Hosted<B>, B, D: Bell, O: Door, R: Wait>(
       closed = O.Link.closed link;
     }) }
     ensures receives { IsReceived H.debugs p.old p.new (O.served door.old) (O.served door.new) }
-    ensures home { Told (O.is_out door.new) (λ out. out ≡ false) }
+    ensures home { IfTold (O.is_out door.new) (λ out. out ≡ false) }
     ensures asked { O.asked door.new ≡ O.asked door.old }
     ensures quiet { O.faults door.new ≡ O.faults door.old }
 {
@@ -108,7 +108,7 @@ fn tend<H: Hosted<B>, B, D: Bell, O: Door, R: Wait>(
 ) -> Option<DoorEnd>
     requires lock { p.old.lock ≡ lock.now }
     requires free { p.old.in_turn ≡ false }
-    requires none_out { Told (O.is_out door.old) (λ out. out ≡ false) }
+    requires none_out { IfTold (O.is_out door.old) (λ out. out ≡ false) }
     ensures { TendsOnce H.debugs p.old p.new (record {
       faults = O.faults door.old;
       asked = O.asked door.old;
@@ -145,7 +145,7 @@ pub fn serve_door<H: Hosted<B>, B, D: Bell, O: Door, R: Wait>(
 ) -> DoorEnd
     requires lock { p.old.lock ≡ lock.now }
     requires free { p.old.in_turn ≡ false }
-    requires none_out { Told (O.is_out door.old) (λ out. out ≡ false) }
+    requires none_out { IfTold (O.is_out door.old) (λ out. out ≡ false) }
     // What the pass did at the door, over all that it has seen now, and which links the door took back for that.
     ensures { IsTended H.debugs p.old p.new (record {
       faults = O.faults door.old;

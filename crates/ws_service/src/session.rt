@@ -15,7 +15,7 @@ use crate::served::Served;
 use cdp_edge_server::{Bell, Link, LinkFault, Recv};
 use cdp_host_isolation::Loss;
 use cdp_host_turns::{
-    Answered, Attached, Gone, Hosted, Lock, Taken, Worker, attach, detach, take, tell_and_take,
+    Answered, Attached, Gone, HandedOut, Hosted, Lock, Worker, attach, detach, take, tell_and_take,
 };
 use history_lock::Spent;
 use std::sync::Wait;
@@ -107,7 +107,7 @@ fn send_taken<H: Hosted<B>, B, D: Bell, L: Link, R: Wait>(
     p: &mut Worker<H, B>,
     link: &mut L,
     session: u64,
-    taken: Taken,
+    taken: HandedOut,
 ) -> Result<bool, Served>
     requires lock { p.old.lock ≡ lock.now }
     requires free { p.old.in_turn ≡ false }
@@ -117,7 +117,7 @@ fn send_taken<H: Hosted<B>, B, D: Bell, L: Link, R: Wait>(
     ensures count { L.faults link.old ≤ L.faults link.new }
     ensures fault { IfErr result (λ end. end ≡ Served.Fault → Rose (L.faults link.old) (L.faults link.new)) }
 {
-    let Taken { texts, is_over } = taken;
+    let HandedOut { texts, is_over } = taken;
     match send_all(link, texts.as_slice()) {
         Ok(()) => Ok(is_over),
         Err(fault) => Err(leave(rt, lock, bell, p, session, end_at(fault))),

@@ -6,7 +6,7 @@ ghost use Rattle.js_heap.specs.Places.{key_place};
 ghost use Rattle.js_heap_memory.specs.PropertyOrder.{with_value_at, AreInOrder};
 
 use super::elements::{Elements, leading_indices};
-use super::named::{Named, names_of};
+use super::named::{NamedProperties, names_of};
 use js_heap::cell::Property;
 use js_heap::keys::index_of_key;
 use js_heap::value::Value;
@@ -18,7 +18,7 @@ use std::mem;
 #[derive(Drop)]
 pub struct ManyProperties {
     elements: Elements,
-    named: Named,
+    named: NamedProperties,
 }
 
 impl Model for ManyProperties {
@@ -42,7 +42,7 @@ impl ManyProperties {
     {
         ManyProperties {
             elements: Elements::new(alloc),
-            named: Named::new(alloc),
+            named: NamedProperties::new(alloc),
         }
     }
 
@@ -63,7 +63,7 @@ impl ManyProperties {
         let elements = mem::replace(items, Vec::new(alloc));
         *many = ManyProperties {
             elements: Elements::from_parts(elements, indices),
-            named: Named::from_parts(named, keys),
+            named: NamedProperties::from_parts(named, keys),
         };
         Ok(many)
     }

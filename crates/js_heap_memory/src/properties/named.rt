@@ -14,12 +14,12 @@ use std::marker::Model;
 
 /// Properties and, apart from them, their keys with their places. Contracts see the list of the properties.
 #[derive(Drop)]
-pub struct Named {
+pub struct NamedProperties {
     items: Vec<Property>,
     keys: IndexSet<Vec<u16>>,
 }
 
-impl Model for Named {
+impl Model for NamedProperties {
     ghost use Rattle.std.specs.Prelude.{List};
     ghost use Rattle.js_heap.specs.declared.cell.Property.{Property};
     ghost use Rattle.js_heap.specs.contracts.cell.Property as property;
@@ -33,20 +33,20 @@ impl Model for Named {
     ghost invariant = { λ named. AreKeysOf named.keys.keys named.items.items };
 }
 
-impl Named {
+impl NamedProperties {
     /// Properties and their keys.
-    pub fn from_parts(items: Vec<Property>, keys: IndexSet<Vec<u16>>) -> Named
+    pub fn from_parts(items: Vec<Property>, keys: IndexSet<Vec<u16>>) -> NamedProperties
         requires { AreKeysOf keys.keys items.items }
         ensures { result ≡ items.items }
     {
-        Named { items, keys }
+        NamedProperties { items, keys }
     }
 
     /// No property.
-    pub fn new(alloc: Global) -> Named
+    pub fn new(alloc: Global) -> NamedProperties
         ensures { result ≡ [] }
     {
-        Named {
+        NamedProperties {
             items: Vec::new(alloc),
             keys: IndexSet::new(alloc),
         }

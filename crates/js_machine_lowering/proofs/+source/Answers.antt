@@ -8,7 +8,7 @@ use Rattle.js_heap.specs.Cells.{declared}
 use Rattle.js_heap.specs.declared.value.Value.TheVariants as values
 use Rattle.js_semantics.specs.Terms as semantics
 use Rattle.js_semantics.specs.Makers as makers
-use Rattle.js_semantics.specs.Makers.{parameter_names, Context}
+use Rattle.js_semantics.specs.Makers.{parameter_names, LoweringContext}
 use Rattle.js_semantics.specs.Sources.{expression_source, statements_source, statement_source, block_source, catch_source, declarators_source}
 use Rattle.js_semantics.specs.declared.form.Form.TheVariants as forms
 use Rattle.js_semantics.specs.declared.form.Mark.{Mark}
@@ -141,7 +141,7 @@ statements::statement_term-returns-in_ok-names-in-Lexical t c = item_tail c.args
     (of_part (λ (t : semantics.Term). semantics.part (forms.Enter c.in-Lexical.node.0) semantics.end
     (semantics.one (t)))
     _ _ (c.in_ok-names-in-Lexical.ensures
-    ∙ ap (λ (y : Context). makers.declarators_term (declarators_source c.in-Lexical.declarators) y)
+    ∙ ap (λ (y : LoweringContext). makers.declarators_term (declarators_source c.in-Lexical.declarators) y)
     c.within.ensures)
     _ c.entered.ensures)
 
@@ -152,7 +152,7 @@ statements::statement_term-returns-in_ok-term-in-Expression t c = item_tail c.ar
     (of_part (λ (t : semantics.Term). semantics.part (forms.Enter c.in-Expression.node.0) semantics.end
     (semantics.one (t)))
     _ _ (c.in_ok-term-in-Expression.ensures
-    ∙ ap (λ (y : Context). makers.plain (expression_source c.in-Expression.expression) y)
+    ∙ ap (λ (y : LoweringContext). makers.plain (expression_source c.in-Expression.expression) y)
     c.within-in-Expression.ensures)
     _ c.entered-in-Expression.ensures)
 
@@ -164,10 +164,10 @@ statements::statement_term-returns-in_ok-alternate-in-If t c = item_tail c.args.
     (λ (t u v : semantics.Term). semantics.part (forms.Enter c.in-If.node.0) semantics.end
     (semantics.one (semantics.part forms.Choose (semantics.one t) (semantics.more u (semantics.one v)))))
     _ _ (c.in_ok-test-in-If.ensures
-    ∙ ap (λ (y : Context). makers.plain (expression_source c.in-If.test) y) c.within-inner.ensures)
+    ∙ ap (λ (y : LoweringContext). makers.plain (expression_source c.in-If.test) y) c.within-inner.ensures)
     _ _ (body_so _ _ c.deref.ensures _ _ c.within-inner.ensures _ c.in_ok-consequent-in-If.ensures) _ _
     (c.in_ok-alternate-in-If.ensures
-    ∙ ap (λ (y : Context). makers.alternate_term
+    ∙ ap (λ (y : LoweringContext). makers.alternate_term
     (option_map (λ (b : Box Stmt). statement_source b.value) c.in-If.alternate) y)
     c.within-inner.ensures)
     _ c.if_term.ensures)
@@ -180,7 +180,7 @@ statements::statement_term-returns-in_ok-body-in-DoWhile t c = item_tail c.args.
     (semantics.one
     (semantics.part (forms.Loop stages.Doing None) semantics.end (makers.loop_parts t makers.nothing b))))
     _ _ (c.in_ok-test-in-DoWhile.ensures
-    ∙ ap (λ (y : Context). makers.plain (expression_source c.in-DoWhile.test) y)
+    ∙ ap (λ (y : LoweringContext). makers.plain (expression_source c.in-DoWhile.test) y)
     c.within-inner-in-DoWhile.ensures)
     _ _ (body_so _ _ c.deref-in-DoWhile.ensures _ _ c.within-inner-in-DoWhile.ensures _ c.in_ok-body-in-DoWhile.ensures)
     _ c.simple_loop.ensures)
@@ -192,7 +192,7 @@ statements::statement_term-returns-in_ok-body-in-While t c = item_tail c.args.s.
     (semantics.one
     (semantics.part (forms.Loop stages.First None) semantics.end (makers.loop_parts t makers.nothing b))))
     _ _ (c.in_ok-test-in-While.ensures
-    ∙ ap (λ (y : Context). makers.plain (expression_source c.in-While.test) y) c.within-inner-in-While.ensures)
+    ∙ ap (λ (y : LoweringContext). makers.plain (expression_source c.in-While.test) y) c.within-inner-in-While.ensures)
     _ _ (body_so _ _ c.deref-in-While.ensures _ _ c.within-inner-in-While.ensures _ c.in_ok-body-in-While.ensures)
     _ c.simple_loop-in-While.ensures)
 
@@ -203,14 +203,14 @@ statements::statement_term-returns-in_ok-body-in-For t c = item_tail c.args.s.no
     (of_four (λ (f : semantics.Terms) (t u b : semantics.Term). semantics.part (forms.Enter c.in-For.node.0)
     semantics.end (semantics.one (semantics.part (forms.Loop stages.First None) f (makers.loop_parts t u b))))
     _ _ (c.in_ok-first-in-For.ensures
-    ∙ ap (λ (y : Context). makers.optional_terms (option_map expression_source c.in-For.initializer) y)
+    ∙ ap (λ (y : LoweringContext). makers.optional_terms (option_map expression_source c.in-For.initializer) y)
     c.within-inner-in-For.ensures)
     _ _ (c.in_ok-test-in-For.ensures
-    ∙ ap (λ (y : Context). makers.optional_term (option_map expression_source c.in-For.test) y
+    ∙ ap (λ (y : LoweringContext). makers.optional_term (option_map expression_source c.in-For.test) y
     (semantics.done (values.Bool true)))
     c.within-inner-in-For.ensures)
     _ _ (c.in_ok-update-in-For.ensures
-    ∙ ap (λ (y : Context). makers.optional_term (option_map expression_source c.in-For.update) y
+    ∙ ap (λ (y : LoweringContext). makers.optional_term (option_map expression_source c.in-For.update) y
     (makers.nothing))
     c.within-inner-in-For.ensures)
     _ _ (body_so _ _ c.deref-in-For.ensures _ _ c.within-inner-in-For.ensures _ c.in_ok-body-in-For.ensures)
@@ -227,16 +227,16 @@ statements::statement_term-returns-in_ok-parts-in-ForLexical t c = item_tail c.a
     (makers.declarators_names c.in-ForLexical.constant (declarators_source c.in-ForLexical.declarators)))
     semantics.end (semantics.more f p))
     _ _ (c.in_ok-first-in-ForLexical.ensures
-    ∙ ap (λ (y : Context). makers.declarators_term (declarators_source c.in-ForLexical.declarators) y)
+    ∙ ap (λ (y : LoweringContext). makers.declarators_term (declarators_source c.in-ForLexical.declarators) y)
     c.within-inner-in-ForLexical.ensures)
     _ _ (c.in_ok-parts-in-ForLexical.ensures
     ∙ loop_so _ _
     (c.in_ok-test-in-ForLexical.ensures
-    ∙ ap (λ (y : Context). makers.optional_term (option_map expression_source c.in-ForLexical.test) y
+    ∙ ap (λ (y : LoweringContext). makers.optional_term (option_map expression_source c.in-ForLexical.test) y
     (semantics.done (values.Bool true)))
     c.within-inner-in-ForLexical.ensures)
     _ _ (c.in_ok-update-in-ForLexical.ensures
-    ∙ ap (λ (y : Context). makers.optional_term (option_map expression_source c.in-ForLexical.update) y
+    ∙ ap (λ (y : LoweringContext). makers.optional_term (option_map expression_source c.in-ForLexical.update) y
     (makers.nothing))
     c.within-inner-in-ForLexical.ensures)
     _ _ (body_so _ _ c.deref-in-ForLexical.ensures _ _ c.within-inner-in-ForLexical.ensures _
@@ -251,7 +251,7 @@ statements::statement_term-returns-in_ok-body-in-ForOf t c = item_tail c.args.s.
     (forms.EnterForOf c.in-ForOf.node.0 (declared c.in-ForOf.name c.in-ForOf.constant)) semantics.end
     (semantics.more l (semantics.one b)))
     _ _ (c.in_ok-list-in-ForOf.ensures
-    ∙ ap (λ (y : Context). makers.plain (expression_source c.in-ForOf.list) y) c.within-inner-in-ForOf.ensures)
+    ∙ ap (λ (y : LoweringContext). makers.plain (expression_source c.in-ForOf.list) y) c.within-inner-in-ForOf.ensures)
     _ _ (body_so _ _ c.deref-in-ForOf.ensures _ _ c.within-inner-in-ForOf.ensures _ c.in_ok-body-in-ForOf.ensures)
     _ c.for_of_term.ensures)
 
@@ -270,7 +270,7 @@ statements::statement_term-returns-in_ok-value-in-Return t c = item_tail c.args.
     (of_part (λ (v : semantics.Terms). semantics.part (forms.Enter c.in-Return.node.0) semantics.end
     (semantics.one (semantics.part forms.Return v semantics.end)))
     _ _ (c.in_ok-value-in-Return.ensures
-    ∙ ap (λ (y : Context). makers.optional_terms (option_map expression_source c.in-Return.value) y)
+    ∙ ap (λ (y : LoweringContext). makers.optional_terms (option_map expression_source c.in-Return.value) y)
     c.within-in-Return.ensures)
     _ c.return_term.ensures)
 
@@ -281,7 +281,7 @@ statements::statement_term-returns-in_ok-value-in-Throw t c = item_tail c.args.s
     (of_part (λ (t : semantics.Term). semantics.part (forms.Enter c.in-Throw.node.0) semantics.end
     (semantics.one (semantics.part (forms.Throw c.in-Throw.node.0) (semantics.one t) semantics.end)))
     _ _ (c.in_ok-value-in-Throw.ensures
-    ∙ ap (λ (y : Context). makers.plain (expression_source c.in-Throw.value) y) c.within-in-Throw.ensures)
+    ∙ ap (λ (y : LoweringContext). makers.plain (expression_source c.in-Throw.value) y) c.within-in-Throw.ensures)
     _ c.throw_term.ensures)
 
 pub statements::statement_term-returns-in_ok-term-in-Try : goal.statements::statement_term-returns-in_ok-term-in-Try

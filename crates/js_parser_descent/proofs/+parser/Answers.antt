@@ -3,7 +3,7 @@ use Rattle.std.proofs.lemmas.Result.{err_from_is_err_and}
 use Rattle.js_lexer.specs.declared.token.TokenKind.TheVariants as kinds
 use Rattle.js_parser_language.specs.Tokens.{Token, fixed, head_of}
 use Rattle.js_tree.specs.Trees.{Identifier}
-use Rattle.js_parser_language.specs.Well.{Context}
+use Rattle.js_parser_language.specs.Well.{StatementContext}
 use Rattle.js_tree.specs.Views.{declarator_view, expression_view, parameters_view, statement_view}
 use Rattle.js_parser_readers.specs.Reading.{no_state, after, goes_on, ends}
 use Rattle.js_parser_readers.specs.Productions.{braces, one_of}
@@ -32,7 +32,7 @@ use Rattle.js_parser_language.specs.Places.{declarator_places, expression_places
 -- a block with room for it is read with one level less
 block_read : (n : ℕ)
     → 1 ≤ n
-    → (context : Context) (names : List Identifier) (ts : List Token)
+    → (context : StatementContext) (names : List Identifier) (ts : List Token)
     → (below n).block context names ts ≡ braces (below (n - 1)) context names ts
 unfolding below
 block_read zero l context names ts = absurd (omega (arith, l))

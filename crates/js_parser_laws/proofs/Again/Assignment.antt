@@ -7,7 +7,7 @@ use Rattle.js_lexer.specs.declared.token.TokenKind.TheVariants as kinds
 use Rattle.js_tree_operators.specs.declared.operator.AssignmentOperator.{AssignmentOperator}
 use Rattle.js_tree.specs.Trees as trees
 use Rattle.js_tree.specs.Trees.{Identifier, Parameters, Expression, Expressions, Statements}
-use Rattle.js_parser_language.specs.Tokens.{Token, fixed, identifier, Edge, plain, braces, update, Mark, token, beside, head_of, tail_of, IsNext, Matches}
+use Rattle.js_parser_language.specs.Tokens.{Token, fixed, identifier, ExpressionEnd, plain, braces, update, FlatToken, token, beside, head_of, tail_of, IsNext, Matches}
 use Rattle.js_parser_language.specs.Flat as flats
 use Rattle.js_parser_language.specs.Flat.{edge, flat, more_expressions, flat_parameters, flat_arrow_parameters, flat_statements, assign_kind}
 use Rattle.js_parser_language.specs.Well.{function_body, level, begins_with_brace, AreFresh, DifferIn, declared_names, names_of_parameters, is_function, Well, WellStatements}
@@ -33,7 +33,7 @@ use Rattle.js_parser_laws.proofs.Again.ArrowHead.{no_head, level_low, list_head,
 -- ---- arrow functions
 
 -- the arrow and the body with these marks are read again
-abbrev RestAgain : Below → Parameters → Expression → List Mark → Type 0
+abbrev RestAgain : Below → Parameters → Expression → List FlatToken → Type 0
 RestAgain b ps x ms =
     (ts r : List Token)
     → Matches (beside (fixed kinds.Arrow) ∷ ms) ts r
@@ -76,7 +76,7 @@ block_rest q n b h ps body d w l ts r m s =
     )
     refl
 
-one_again : (b : Below) (a : Identifier) (x : Expression) (ms : List Mark)
+one_again : (b : Below) (a : Identifier) (x : Expression) (ms : List FlatToken)
     → RestAgain b (trees.one_name a) x ms
     → (ts r : List Token)
     → Matches (token (identifier a) ∷ beside (fixed kinds.Arrow) ∷ ms) ts r
@@ -89,7 +89,7 @@ fresh_test : (taken names : List Identifier) → AreFresh taken names → are_fr
 fresh_test taken [] f = refl
 fresh_test taken (a ∷ names) f = rw f.0 (fresh_test (a ∷ taken) names f.1)
 
-list_again : (b : Below) (ns : List Identifier) (x : Expression) (ms : List Mark)
+list_again : (b : Below) (ns : List Identifier) (x : Expression) (ms : List FlatToken)
     → AreFresh [] ns
     → RestAgain b (trees.name_list ns) x ms
     → (only : Bool) (ts r : List Token)
@@ -106,7 +106,7 @@ list_again b ns x ms f rest only ts r m s =
     )
     (rest p.0 r p.2 s)
 
-arrow_again : (n : ℕ) (b : Below) (ps : Parameters) (x : Expression) (ms : List Mark)
+arrow_again : (n : ℕ) (b : Below) (ps : Parameters) (x : Expression) (ms : List FlatToken)
     → AreFresh [] (names_of_parameters ps)
     → RestAgain b ps x ms
     → (ts r : List Token)
@@ -123,12 +123,12 @@ arrow_again n b (trees.name_list ns) x ms f rest ts r m s =
 
 -- ---- conditional expressions and assignments
 
-stops_arrow : (d : Edge) (r : List Token) → Stops d r → d ≡ plain → is_arrow (head_of r) ≡ false
+stops_arrow : (d : ExpressionEnd) (r : List Token) → Stops d r → d ≡ plain → is_arrow (head_of r) ≡ false
 stops_arrow plain r s e = s.4
 stops_arrow update r s e = absurd cc
 stops_arrow braces r s e = absurd cc
 
-stops_joint : (d : Edge) (r : List Token) → (d ≡ braces → ⊥) → Stops d r → joint (head_of r) ≡ no_joint
+stops_joint : (d : ExpressionEnd) (r : List Token) → (d ≡ braces → ⊥) → Stops d r → joint (head_of r) ≡ no_joint
 stops_joint plain r n s = s.3
 stops_joint update r n s = s.1
 stops_joint braces r n s = absurd (n refl)
@@ -158,7 +158,7 @@ other_stops : (k : TokenKind)
     → link_by k ≡ no_link
     → update_by k ≡ None
     → operator_by k ≡ None
-    → (m : ℕ) (d : Edge) (r : List Token)
+    → (m : ℕ) (d : ExpressionEnd) (r : List Token)
     → IsNext (fixed k) (head_of r)
     → StopsOperation m d r
 other_stops k l u o m plain r next = (
@@ -362,12 +362,12 @@ expression_is_read q n b h os e w l ts r m s c = one_expression q n b h os e w (
 -- ---- the code of a function
 
 -- nothing goes on with an expression at the end of the source
-pub stops_at_end : (d : Edge) → Stops d []
+pub stops_at_end : (d : ExpressionEnd) → Stops d []
 stops_at_end plain = (refl, refl, refl, refl, refl)
 stops_at_end update = (refl, refl)
 stops_at_end braces = tt
 
-arrow_code : (b : Below) (ps : Parameters) (x : Expression) (ms : List Mark)
+arrow_code : (b : Below) (ps : Parameters) (x : Expression) (ms : List FlatToken)
     → AreFresh [] (names_of_parameters ps)
     → RestAgain b ps x ms
     → (ts : List Token)

@@ -9,9 +9,9 @@ use Rattle.js_tree_operators.specs.declared.operator.UpdateOperator.{UpdateOpera
 use Rattle.js_tree_operators.specs.declared.operator.UpdateOperator.TheVariants as updates
 use Rattle.js_tree.specs.Trees as trees
 use Rattle.js_tree.specs.Trees.{Expression, Statement}
-use Rattle.js_parser_language.specs.Tokens.{Token, Symbol, fixed, identifier, identifier_name, numeric_literal, string_literal, IsNext, Edge, plain, braces, update, End, after_expression, after_word, continues, absent, absent_before, Mark, token, semicolon, head_of, tail_of, is_on_line, Matches}
+use Rattle.js_parser_language.specs.Tokens.{Token, Symbol, fixed, identifier, identifier_name, numeric_literal, string_literal, IsNext, ExpressionEnd, plain, braces, update, StatementEnd, after_expression, after_word, continues, absent, absent_before, FlatToken, token, semicolon, head_of, tail_of, is_on_line, Matches}
 use Rattle.js_parser_language.specs.Flat.{edge, flat, flat_statement, unary_kind, update_kind}
-use Rattle.js_parser_language.specs.Well.{Context, Well, WellStatement, begins_with_brace, begins_with_function}
+use Rattle.js_parser_language.specs.Well.{StatementContext, Well, WellStatement, begins_with_brace, begins_with_function}
 use Rattle.js_parser_language.specs.Kinds.{is_kind, is_same_kind}
 use Rattle.js_parser_readers.specs.Reading.{ends_list}
 use Rattle.js_parser_readers.specs.Classes.{link_by, no_link, update_by, operator_by, joint_by, no_joint, an_expression, first, first_by, ends_return}
@@ -66,24 +66,24 @@ update_opens updates.Increment = refl
 update_opens updates.Decrement = refl
 
 -- these marks begin with a token that begins an expression
-pub record Front (ms : List Mark) : Type 0 where
+pub record Front (ms : List FlatToken) : Type 0 where
   pub symbol : Symbol
-  pub left : List Mark
+  pub left : List FlatToken
   pub begins : opens_symbol symbol ≡ true
   pub marks : ms ≡ token symbol ∷ left
 
 -- so do these with others behind them
-pub front_of_more : (ms ns : List Mark) → Front ms → Front (ms ++ ns)
+pub front_of_more : (ms ns : List FlatToken) → Front ms → Front (ms ++ ns)
 front_of_more ms ns f =
     record {
       symbol = f.symbol;
       left = f.left ++ ns;
       begins = f.begins;
-      marks = ap (λ (l : List Mark). l ++ ns)
+      marks = ap (λ (l : List FlatToken). l ++ ns)
           f.marks;
     }
 
-front_is : (s : Symbol) (ms : List Mark) → opens_symbol s ≡ true → Front (token s ∷ ms)
+front_is : (s : Symbol) (ms : List FlatToken) → opens_symbol s ≡ true → Front (token s ∷ ms)
 front_is s ms b = record { symbol = s; left = ms; begins = b; marks = refl }
 
 pub expression_front : (e : Expression) → Well e → Front (flat e)
@@ -128,16 +128,16 @@ symbol_opens (numeric_literal n) (Some t) b m = ap opens m.0
 symbol_opens (string_literal n) (Some t) b m = ap opens m.0
 
 -- the first token of marks that begin so
-pub front_next : (ms : List Mark)
+pub front_next : (ms : List FlatToken)
     → (f : Front ms)
     → (ts r : List Token)
     → Matches ms ts r
     → IsNext f.symbol (head_of ts)
 front_next ms f ts r m =
-    let n : Matches (token f.symbol ∷ f.left) ts r = subst (λ (l : List Mark). Matches l ts r) f.marks m in
+    let n : Matches (token f.symbol ∷ f.left) ts r = subst (λ (l : List FlatToken). Matches l ts r) f.marks m in
     n.0
 
-pub front_opens : (ms : List Mark) → Front ms → (ts r : List Token) → Matches ms ts r → opens_next (head_of ts) ≡ true
+pub front_opens : (ms : List FlatToken) → Front ms → (ts r : List Token) → Matches ms ts r → opens_next (head_of ts) ≡ true
 front_opens ms f ts r m = symbol_opens f.symbol (head_of ts) f.begins (front_next ms f ts r m)
 
 pub expression_opens : (e : Expression)
@@ -218,7 +218,7 @@ symbol_of_kind k (numeric_literal n) (Some t) b x y z m e =
 symbol_of_kind k (string_literal n) (Some t) b x y z m e =
     let same : is_same_kind t.kind k ≡ false = ap (λ (i : TokenKind). is_same_kind i k) m.0 ∙ z in absurd cc
 
-pub front_no_brace : (ms : List Mark)
+pub front_no_brace : (ms : List FlatToken)
     → Front ms
     → begins_with_brace ms ≡ false
     → (ts r : List Token)
@@ -235,7 +235,7 @@ front_no_brace ms f n ts r m = by_test (is_kind kinds.LeftBrace (head_of ts)) re
         absurd cc
     by_test false e = refl
 
-pub front_no_function : (ms : List Mark)
+pub front_no_function : (ms : List FlatToken)
     → Front ms
     → begins_with_function ms ≡ false
     → (ts r : List Token)
@@ -269,7 +269,7 @@ opens_no_return (Some t) b l = by_kind t.kind t.newline_before b l
 -- ---- where an expression ends
 
 -- nothing goes on with an expression, however it ends
-pub stops_all : (r : List Token) → Stops plain r → (g : Edge) → Stops g r
+pub stops_all : (r : List Token) → Stops plain r → (g : ExpressionEnd) → Stops g r
 stops_all r s plain = s
 stops_all r s braces = tt
 stops_all r s update = (s.2, s.3)
@@ -316,7 +316,7 @@ pub next_stops : (k : TokenKind)
     → stops_by k ≡ true
     → (r : List Token)
     → is_kind k (head_of r) ≡ true
-    → (g : Edge)
+    → (g : ExpressionEnd)
     → Stops g r
 next_stops k s [] e g = absurd cc
 next_stops k s (t ∷ r) e g = stops_all (t ∷ r) (token_stops t r (ap stops_by (kind_is k t e) ∙ s)) g
@@ -334,7 +334,7 @@ pub closes_stops : (k : TokenKind)
     → closes k ≡ true
     → (r : List Token)
     → is_kind k (head_of r) ≡ true
-    → (g : Edge)
+    → (g : ExpressionEnd)
     → Stops g r × NoComma r
 closes_stops k c r e g =
     let s = closes_stops_by k c in
@@ -349,7 +349,7 @@ comma_closes kinds.Colon c = refl
 comma_closes _ c = absurd cc
 
 -- an expression ends before a comma
-pub comma_stops : (r : List Token) → is_kind kinds.Comma (head_of r) ≡ true → (g : Edge) → Stops g r
+pub comma_stops : (r : List Token) → is_kind kinds.Comma (head_of r) ≡ true → (g : ExpressionEnd) → Stops g r
 comma_stops r e g = next_stops kinds.Comma refl r e g
 
 -- ---- where an expression ends with its statement
@@ -360,7 +360,7 @@ not_and true true e = absurd cc
 not_and true false e = (refl, refl)
 not_and false b e = absurd cc
 
-goes_on_by : (g : Edge) (k : TokenKind) (line : Bool)
+goes_on_by : (g : ExpressionEnd) (k : TokenKind) (line : Bool)
     → follows_by k ≡ true
     → absent_before (after_expression g) k line ≡ true
     → (k ≡ kinds.RightBrace) ⊎ ((line ≡ true) × (continues g k ≡ false))
@@ -452,7 +452,7 @@ follows_no_assign [] f = refl
 follows_no_assign (t ∷ r) f = no_assign_by t.kind f
 
 -- where its semicolon is absent, and what follows may follow a statement, an expression ends
-pub absent_stops : (g : Edge) (r : List Token)
+pub absent_stops : (g : ExpressionEnd) (r : List Token)
     → follows_statement (head_of r) ≡ true
     → absent (after_expression g) (head_of r) ≡ true
     → Stops g r
@@ -464,7 +464,7 @@ absent_stops g (t ∷ r) f a = elim (goes_on_by g t.kind t.newline_before f a) [
   | inr p ↦ by_edge g p.0 p.1
 ]
   where
-    by_edge : (g : Edge) → t.newline_before ≡ true → continues g t.kind ≡ false → Stops g (t ∷ r)
+    by_edge : (g : ExpressionEnd) → t.newline_before ≡ true → continues g t.kind ≡ false → Stops g (t ∷ r)
     by_edge plain l c = (
       no_link_by t.kind f c,
       rw l refl,
@@ -476,7 +476,7 @@ absent_stops g (t ∷ r) f a = elim (goes_on_by g t.kind t.newline_before f a) [
     by_edge update l c = (no_operator_by t.kind f c, no_joint_by t.kind f)
 
 -- an expression ends before the semicolon of its statement, also where that is absent
-pub semicolon_stops : (g : Edge) (ts r : List Token)
+pub semicolon_stops : (g : ExpressionEnd) (ts r : List Token)
     → follows_statement (head_of r) ≡ true
     → Matches (semicolon (after_expression g) ∷ []) ts r
     → Stops g ts × NoComma ts
@@ -487,7 +487,7 @@ semicolon_stops g ts r f (inr m) =
     (absent_stops g ts here m.0, follows_no_comma ts here)
 
 -- a declared name ends before the semicolon of its statement, also where that is absent
-pub word_stops : (end : End) (ts r : List Token)
+pub word_stops : (end : StatementEnd) (ts r : List Token)
     → follows_statement (head_of r) ≡ true
     → Matches (semicolon end ∷ []) ts r
     → (is_kind kinds.Assign (head_of ts) ≡ false) × NoComma ts
@@ -619,16 +619,16 @@ ends_follows None e = (refl, refl)
 ends_follows (Some t) e = ends_follows_by t.kind e
 
 -- these marks begin with a token that begins a statement
-pub record StatementFront (ms : List Mark) : Type 0 where
+pub record StatementFront (ms : List FlatToken) : Type 0 where
   pub symbol : Symbol
-  pub left : List Mark
+  pub left : List FlatToken
   pub begins : (o : Option Token) → IsNext symbol o → starts_next o ≡ true
   pub marks : ms ≡ token symbol ∷ left
 
-starts_with : (k : TokenKind) (ms : List Mark) → starts k ≡ true → StatementFront (token (fixed k) ∷ ms)
+starts_with : (k : TokenKind) (ms : List FlatToken) → starts k ≡ true → StatementFront (token (fixed k) ∷ ms)
 starts_with k ms s = record { symbol = fixed k; left = ms; begins = λ o n. kind_starts k o s n; marks = refl }
 
-starts_so : (ms : List Mark) → Front ms → StatementFront ms
+starts_so : (ms : List FlatToken) → Front ms → StatementFront ms
 starts_so ms f =
     record {
       symbol = f.symbol;
@@ -638,7 +638,7 @@ starts_so ms f =
       marks = f.marks;
     }
 
-statement_front : (c : Context) (s : Statement) → WellStatement c s → StatementFront (flat_statement s)
+statement_front : (c : StatementContext) (s : Statement) → WellStatement c s → StatementFront (flat_statement s)
 statement_front c (trees.block ss) w = starts_with kinds.LeftBrace _ refl
 statement_front c (trees.lexical true ds) w = starts_with kinds.Const _ refl
 statement_front c (trees.lexical false ds) w = starts_with kinds.Let _ refl
@@ -663,14 +663,14 @@ statement_front c trees.debugger w = starts_with kinds.Debugger _ refl
 statement_front c (trees.declared_function n ps body) w = starts_with kinds.Function _ refl
 
 -- a statement begins so, and takes a token
-pub statement_starts : (c : Context) (s : Statement)
+pub statement_starts : (c : StatementContext) (s : Statement)
     → WellStatement c s
     → (ts r : List Token)
     → Matches (flat_statement s) ts r
     → (starts_next (head_of ts) ≡ true) × (length r < length ts)
 statement_starts c s w ts r m =
     let f = statement_front c s w in
-    let n : Matches (token f.symbol ∷ f.left) ts r = subst (λ (l : List Mark). Matches l ts r) f.marks m in
+    let n : Matches (token f.symbol ∷ f.left) ts r = subst (λ (l : List FlatToken). Matches l ts r) f.marks m in
     (f.begins (head_of ts) n.0, omega (arith, next_shorter f.symbol ts n.0, matches_shorter f.left (tail_of ts) r n.1))
 
 -- the class of a fixed first token

@@ -12,12 +12,12 @@ use Rattle.js_tree_operators.specs.declared.operator.AssignmentOperator.TheVaria
 use Rattle.js_parser_language.specs.Tokens.{Token, fixed, identifier, numeric_literal, string_literal, IsNext, is_on_line}
 use Rattle.js_parser_language.specs.Flat.{update_kind, binary_kind, assign_kind}
 use Rattle.js_parser_language.specs.Kinds.{is_kind, is_same_kind}
-use Rattle.js_parser_readers.specs.Classes.{Start, start_by, start, a_name, a_number, a_string, link_by, link, no_link, update_by, update_near, prefix_by, prefix, an_update, operator_by, operator, joint_by, joint, assigns_by, is_arrow}
+use Rattle.js_parser_readers.specs.Classes.{PrimaryStart, start_by, start, a_name, a_number, a_string, link_by, link, no_link, update_by, update_near, prefix_by, prefix, an_update, operator_by, operator, joint_by, joint, assigns_by, is_arrow}
 use Rattle.js_parser_language.proofs.KindLemmas.{next_again, kind_not}
 
 -- ---- a token of a kind
 
-pub start_fixed : (k : TokenKind) (c : Start) (o : Option Token)
+pub start_fixed : (k : TokenKind) (c : PrimaryStart) (o : Option Token)
     → IsNext (fixed k) o
     → ((s : List ℕ) (v : ℕ) → start_by k s v ≡ c)
     → start o ≡ c

@@ -5,7 +5,7 @@ use Rattle.std.proofs.lemmas.Bool.{leb-false, lt-leb}
 use Rattle.js_tree_operators.specs.declared.operator.BinaryOperator.{BinaryOperator}
 use Rattle.js_tree_operators.specs.declared.operator.BinaryOperator.TheVariants as binaries
 use Rattle.js_tree.specs.Trees.{Expression, this, name, number, string, boolean, null, array, object, function, arrow, arrow_block, parenthesized, member, index, call, postfix, prefix, unary, binary, conditional, assign, comma}
-use Rattle.js_parser_language.specs.Tokens.{Token, Edge, plain, braces, update, head_of}
+use Rattle.js_parser_language.specs.Tokens.{Token, ExpressionEnd, plain, braces, update, head_of}
 use Rattle.js_parser_language.specs.Flat.{edge}
 use Rattle.js_parser_language.specs.Well.{strength, level, is_property, Well}
 use Rattle.js_tree.specs.Targets.{is_target}
@@ -142,18 +142,18 @@ pub from_more : (m k : ℕ) (o : Option BinaryOperator) → m ≤ k → operator
 from_more m k None l e = refl
 from_more m k (Some o) l e = rw (lt-leb k (strength o) (omega (arith, from_none m o e))) refl
 
-pub operation_more : (m k : ℕ) (d : Edge) (r : List Token) → m ≤ k → StopsOperation m d r → StopsOperation k d r
+pub operation_more : (m k : ℕ) (d : ExpressionEnd) (r : List Token) → m ≤ k → StopsOperation m d r → StopsOperation k d r
 operation_more m k plain r l s = (s.0, s.1, from_more m k (operator (head_of r)) l s.2)
 operation_more m k update r l s = from_more m k (operator (head_of r)) l s
 operation_more m k braces r l s = tt
 
-pub operation_unary : (m : ℕ) (d : Edge) (r : List Token) → StopsOperation m d r → StopsUnary d r
+pub operation_unary : (m : ℕ) (d : ExpressionEnd) (r : List Token) → StopsOperation m d r → StopsUnary d r
 operation_unary m plain r s = (s.0, s.1)
 operation_unary m update r s = tt
 operation_unary m braces r s = tt
 
 -- an operation ends before what doesn't go on with it
-pub operation_stops : (m : ℕ) (d : Edge) (r : List Token)
+pub operation_stops : (m : ℕ) (d : ExpressionEnd) (r : List Token)
     → (d ≡ braces → ⊥)
     → StopsOperation m d r
     → operator_from m (operator (head_of r)) ≡ None
@@ -162,7 +162,7 @@ operation_stops m update r n s = s
 operation_stops m braces r n s = absurd (n refl)
 
 -- what stops an assignment stops an operation
-pub assignment_stops : (m : ℕ) (d : Edge) (r : List Token) → Stops d r → StopsOperation m d r
+pub assignment_stops : (m : ℕ) (d : ExpressionEnd) (r : List Token) → Stops d r → StopsOperation m d r
 assignment_stops m plain r s = (s.0, s.1, rw s.2 refl)
 assignment_stops m update r s = rw s.0 refl
 assignment_stops m braces r s = tt

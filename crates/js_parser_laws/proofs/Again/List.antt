@@ -2,7 +2,7 @@
 use Rattle.std.proofs.Common.{◌≡◌, ℕ, zero, suc, ◌<◌, ◌≤◌, Bool, true, false, List, [], ◌∷◌, ◌++◌, length, Option, Ok, refl, sym, ap, subst, ◌⊎◌, inl, inr, append_assoc, arith}
 use Rattle.js_lexer.specs.declared.token.TokenKind.{TokenKind}
 use Rattle.js_lexer.specs.declared.token.TokenKind.TheVariants as kinds
-use Rattle.js_parser_language.specs.Tokens.{Token, fixed, Mark, token, beside, semicolon, trailing_comma, head_of, tail_of, Matches}
+use Rattle.js_parser_language.specs.Tokens.{Token, fixed, FlatToken, token, beside, semicolon, trailing_comma, head_of, tail_of, Matches}
 use Rattle.js_parser_language.specs.Kinds.{is_kind, is_same_kind}
 use Rattle.js_parser_readers.specs.Reading.{Reader, elements, others, items, ends_list}
 use Rattle.js_parser_language.proofs.KindLemmas.{next_again, kind_not}
@@ -16,7 +16,7 @@ use Rattle.js_parser_readers.proofs.PlacedTokenLemmas.{next_shorter}
 -- a good element is read again before what ends it
 abbrev pub ReadAgain : {S A : Type 0}
     → (S → Reader A)
-    → (A → List Mark)
+    → (A → List FlatToken)
     → (S → A → Type 0)
     → (A → List Token → Type 0)
     → Type 0
@@ -24,14 +24,14 @@ ReadAgain {S} {A} one f Good Ends =
     (s : S) (x : A) → Good s x → (ts r : List Token) → Matches (f x) ts r → Ends x r → one s ts ≡ Ok (x, r)
 
 -- a good element doesn't begin with what a test finds
-abbrev pub BeginsWithout : {S A : Type 0} → (A → List Mark) → (S → A → Type 0) → (Option Token → Bool) → Type 0
+abbrev pub BeginsWithout : {S A : Type 0} → (A → List FlatToken) → (S → A → Type 0) → (Option Token → Bool) → Type 0
 BeginsWithout {S} {A} f Good test =
     (s : S) (x : A) → Good s x → (ts r : List Token) → Matches (f x) ts r → test (head_of ts) ≡ false
 
 -- ---- how many tokens
 
 -- marks take tokens from the front
-pub matches_shorter : (ms : List Mark) (ts r : List Token) → Matches ms ts r → length r ≤ length ts
+pub matches_shorter : (ms : List FlatToken) (ts r : List Token) → Matches ms ts r → length r ≤ length ts
 matches_shorter [] ts r m = rw m (omega arith)
 matches_shorter (token s ∷ ms) ts r m = omega (arith, matches_shorter ms (tail_of ts) r m.1, tail_shorter ts)
 matches_shorter (beside s ∷ ms) ts r m = omega (arith, matches_shorter ms (tail_of ts) r m.2, tail_shorter ts)
@@ -47,7 +47,7 @@ matches_shorter (trailing_comma ∷ ms) ts r (inr m) = matches_shorter ms ts r m
 abbrev pub EndsElement : TokenKind → List Token → Type 0
 EndsElement closer r = (is_kind closer (head_of r) ≡ true) ⊎ (is_kind kinds.Comma (head_of r) ≡ true)
 
-pub elements_again : {S A : Type 0} (one : S → Reader A) (next : S → A → S) (f : A → List Mark) (Good : S → A → Type 0)
+pub elements_again : {S A : Type 0} (one : S → Reader A) (next : S → A → S) (f : A → List FlatToken) (Good : S → A → Type 0)
     (closer : TokenKind)
     → is_same_kind kinds.Comma closer ≡ false
     → BeginsWithout f Good (λ o. is_kind closer o)
@@ -80,8 +80,8 @@ elements_again one next f Good closer apart begins again (x ∷ []) (suc k) s ts
           rw (begins s x g.0 ts p.0 x_marks, read, close) (ap (λ (l : List Token). Ok (x ∷ [], l)) c.1)
     ]
 elements_again one next f Good closer apart begins again (x ∷ y ∷ ys) (suc k) s ts r g low m =
-    let behind : List Mark = with_commas f (y ∷ ys) ++ (trailing_comma ∷ token (fixed closer) ∷ []) in
-    let n : Matches (f x ++ (token (fixed kinds.Comma) ∷ behind)) ts r = subst (λ (l : List Mark). Matches l ts r)
+    let behind : List FlatToken = with_commas f (y ∷ ys) ++ (trailing_comma ∷ token (fixed closer) ∷ []) in
+    let n : Matches (f x ++ (token (fixed kinds.Comma) ∷ behind)) ts r = subst (λ (l : List FlatToken). Matches l ts r)
     (append_assoc (f x) (behind_commas f (y ∷ ys)) (trailing_comma ∷ token (fixed closer) ∷ [])) m in
     let p = parts (f x) (token (fixed kinds.Comma) ∷ behind) ts r n in
     let shorter = matches_shorter (f x) ts p.0 p.1 in
@@ -105,7 +105,7 @@ LastEnds Ends (x ∷ y ∷ ys) r = LastEnds Ends (y ∷ ys) r
 abbrev pub EndsBeforeComma : {A : Type 0} → (A → List Token → Type 0) → Type 0
 EndsBeforeComma {A} Ends = (x : A) (r : List Token) → is_kind kinds.Comma (head_of r) ≡ true → Ends x r
 
-pub others_again : {S A : Type 0} (one : S → Reader A) (next : S → A → S) (f : A → List Mark) (Good : S → A → Type 0)
+pub others_again : {S A : Type 0} (one : S → Reader A) (next : S → A → S) (f : A → List FlatToken) (Good : S → A → Type 0)
     (Ends : A → List Token → Type 0)
     → EndsBeforeComma Ends
     → ReadAgain one f Good Ends
@@ -141,7 +141,7 @@ others_again one next f Good Ends before again (x ∷ y ∷ ys) (suc k) s ts r g
 -- ---- items
 
 -- a good item begins with what ends no list, and takes a token
-abbrev pub Begins : {S A : Type 0} → (A → List Mark) → (S → A → Type 0) → Type 0
+abbrev pub Begins : {S A : Type 0} → (A → List FlatToken) → (S → A → Type 0) → Type 0
 Begins {S} {A} f Good =
     (s : S) (x : A)
     → Good s x
@@ -155,11 +155,11 @@ abbrev pub EndsAtEnd : {A : Type 0} → (A → List Token → Type 0) → Type 0
 EndsAtEnd {A} Ends = (x : A) (r : List Token) → ends_list (head_of r) ≡ true → Ends x r
 
 -- each item ends before another
-abbrev pub EndsBeforeItem : {S A : Type 0} → (A → List Mark) → (S → A → Type 0) → (A → List Token → Type 0) → Type 0
+abbrev pub EndsBeforeItem : {S A : Type 0} → (A → List FlatToken) → (S → A → Type 0) → (A → List Token → Type 0) → Type 0
 EndsBeforeItem {S} {A} f Good Ends =
     (x : A) (s : S) (y : A) → Good s y → (ts r : List Token) → Matches (f y) ts r → Ends x ts
 
-pub items_again : {S A : Type 0} (one : S → Reader A) (next : S → A → S) (f : A → List Mark) (Good : S → A → Type 0)
+pub items_again : {S A : Type 0} (one : S → Reader A) (next : S → A → S) (f : A → List FlatToken) (Good : S → A → Type 0)
     (Ends : A → List Token → Type 0)
     → Begins f Good
     → EndsAtEnd Ends

@@ -5,7 +5,7 @@ use Rattle.std.proofs.lemmas.Bool.{le-leb, lt-leb}
 use Rattle.js_tree_operators.specs.declared.operator.BinaryOperator.{BinaryOperator}
 use Rattle.js_tree.specs.Trees as trees
 use Rattle.js_tree.specs.Trees.{Expression}
-use Rattle.js_parser_language.specs.Tokens.{Token, fixed, Edge, plain, braces, update, Mark, token, head_of, tail_of, IsNext, Matches}
+use Rattle.js_parser_language.specs.Tokens.{Token, fixed, ExpressionEnd, plain, braces, update, FlatToken, token, head_of, tail_of, IsNext, Matches}
 use Rattle.js_parser_language.specs.Flat.{edge, flat, binary_kind}
 use Rattle.js_parser_language.specs.Well.{strength, level, Well}
 use Rattle.js_tree.specs.Height.{height}
@@ -46,7 +46,7 @@ unary_chain q n b h os e v z w m k low l s ts r ms stops =
     (ap (λ (k : ℕ). chain b n m k e r) same)
 
 -- what an operator ends
-operator_stops : (o : BinaryOperator) (m : ℕ) (d : Edge) (r : List Token)
+operator_stops : (o : BinaryOperator) (m : ℕ) (d : ExpressionEnd) (r : List Token)
     → strength o < m
     → IsNext (fixed (binary_kind o)) (head_of r)
     → StopsOperation m d r
@@ -58,7 +58,7 @@ operator_stops o m d r l next =
     by_edge d (link_fixed (binary_kind o) (head_of r) next ∙ is.link)
     (no_update_fixed (binary_kind o) (head_of r) next is.update) none
   where
-    by_edge : (d : Edge)
+    by_edge : (d : ExpressionEnd)
         → link (head_of r) ≡ no_link
         → update_near (head_of r) ≡ None
         → operator_from m (operator (head_of r)) ≡ None
@@ -75,7 +75,7 @@ binary_chain : (n : ℕ) (b : Below)
     → ChainAgain n b (trees.binary o x y)
 unfolding chain
 binary_chain n b h o x y w left m k low l s ts r ms stops =
-    let inner : List Mark = token (fixed (binary_kind o)) ∷ (flat y ++ []) in
+    let inner : List FlatToken = token (fixed (binary_kind o)) ∷ (flat y ++ []) in
     let p = parts (flat x) inner ts r ms in
     let is : IsOperator (binary_kind o) o = operator_again o in
     let high : 3 ≤ strength o = strength_high o in

@@ -7,15 +7,15 @@ use Rattle.js_lexer.specs.declared.token.TokenKind.{TokenKind}
 use Rattle.js_lexer.specs.declared.token.TokenKind.TheVariants as kinds
 use Rattle.js_tree.specs.Trees as trees
 use Rattle.js_tree.specs.Trees.{Identifier, Expression, Expressions, OptionalExpression, Declarator, Declarators, Statement, Statements}
-use Rattle.js_parser_language.specs.Tokens.{Token, fixed, identifier, IsNext, after_expression, after_word, Mark, token, semicolon, trailing_comma, head_of, tail_of, Matches}
+use Rattle.js_parser_language.specs.Tokens.{Token, fixed, identifier, IsNext, after_expression, after_word, FlatToken, token, semicolon, trailing_comma, head_of, tail_of, Matches}
 use Rattle.js_parser_language.specs.Flat as flats
 use Rattle.js_parser_language.specs.Flat.{edge, edge_of_last, end_of_declarators, an_identifier, more_names, flat_names, flat_parameters, flat, flat_expressions, more_expressions, trailing, flat_optional, flat_declarator, flat_declarators, more_declarators, flat_statement, flat_statements}
-use Rattle.js_parser_language.specs.Well.{Context, function_body, Well, WellOptional, AreAssignments, WellDeclarator, WellDeclarators, has_initializer, IsInitialized, is_some_declarator, WellStatement, WellStatements, is_among, AreFresh, DifferIn, declared_by, declared_names, names_of_declarators}
+use Rattle.js_parser_language.specs.Well.{StatementContext, function_body, Well, WellOptional, AreAssignments, WellDeclarator, WellDeclarators, has_initializer, IsInitialized, is_some_declarator, WellStatement, WellStatements, is_among, AreFresh, DifferIn, declared_by, declared_names, names_of_declarators}
 use Rattle.js_tree.specs.Height.{height, height_of_optional, height_of_expressions, height_of_declarator, height_of_declarators, height_of_statement, height_of_statements}
 use Rattle.js_tree.specs.Views.{expressions, statements, declarators}
 use Rattle.js_parser_language.specs.Kinds.{is_kind}
 use Rattle.js_parser_readers.specs.Reading.{expect, name_at, fresh_name, elements, others, items, ends_list, no_state, with_name, with_names}
-use Rattle.js_parser_readers.specs.Productions.{Code, Below, one_of, arguments_before, more_assignments, names_before, parameters_at, with_declared, items_at, braces, code_at, declarator_at, name_of, with_declarator, declarators_at, optional_before, ended_expression}
+use Rattle.js_parser_readers.specs.Productions.{ParametersAndBody, Below, one_of, arguments_before, more_assignments, names_before, parameters_at, with_declared, items_at, braces, code_at, declarator_at, name_of, with_declarator, declarators_at, optional_before, ended_expression}
 use Rattle.js_parser_language.proofs.KindLemmas.{next_again, kind_not}
 use Rattle.js_parser_laws.proofs.Claims.{Stops, NoComma, follows_statement, Follows, closes, AgainBelow}
 use Rattle.js_parser_laws.proofs.MarkLemmas.{parts}
@@ -40,11 +40,11 @@ list_is (trees.an_expression e es) = ap (λ (l : Expressions). trees.an_expressi
 more_marks : (es : Expressions) → more_expressions es ≡ behind_commas flat (list_of es)
 more_marks trees.no_expressions = refl
 more_marks (trees.an_expression e es) =
-    ap (λ (l : List Mark). token (fixed kinds.Comma) ∷ (flat e ++ l)) (append-nil (more_expressions es) ∙ more_marks es)
+    ap (λ (l : List FlatToken). token (fixed kinds.Comma) ∷ (flat e ++ l)) (append-nil (more_expressions es) ∙ more_marks es)
 
 list_marks : (es : Expressions) → flat_expressions es ≡ with_commas flat (list_of es)
 list_marks trees.no_expressions = refl
-list_marks (trees.an_expression e es) = ap (λ (l : List Mark). flat e ++ l) (more_marks es)
+list_marks (trees.an_expression e es) = ap (λ (l : List FlatToken). flat e ++ l) (more_marks es)
 
 trailing_marks : (es : Expressions) → trailing es ≡ behind_last (list_of es)
 trailing_marks trees.no_expressions = refl
@@ -78,7 +78,7 @@ arguments_again n b a k c es w h ts r m =
     (λ s e g us v q x. a.assignment e g.0 g.1 g.2 us v q
     (elim x [ inl y ↦ (closes_stops k c v y (edge e)).0 | inr y ↦ comma_stops v y (edge e) ]))
     (list_of es) (suc (length ts)) tt ts r (good_assignments n es w h) (omega arith)
-    (subst (λ (l : List Mark). Matches l ts r) n_marks m) in
+    (subst (λ (l : List FlatToken). Matches l ts r) n_marks m) in
     rw (read, list_is es) refl
 
 -- the last of these ends here
@@ -106,7 +106,7 @@ more_again n b a e es w h ts r m s no_comma =
     (λ e u c. comma_stops u c (edge e))
     (λ s e g us v q x. a.assignment e g.0 g.1 g.2 us v q x)
     (list_of es) (suc (length ts)) tt ts r (good_assignments n es w h) (omega arith) (last_stops e es r s) no_comma
-    (subst (λ (l : List Mark). Matches l ts r) (more_marks es) m) in
+    (subst (λ (l : List FlatToken). Matches l ts r) (more_marks es) m) in
     rw (read, list_is es) refl
 
 -- ---- names
@@ -117,9 +117,9 @@ names_marks : (ns : List Identifier)
     (behind_last ns ++ (token (fixed kinds.RightParenthesis) ∷ []))
 names_marks [] = refl
 names_marks (n ∷ ns) =
-    ap (λ (l : List Mark). token (identifier n) ∷ l)
+    ap (λ (l : List FlatToken). token (identifier n) ∷ l)
     (append_assoc (more_names ns) (trailing_comma ∷ []) (token (fixed kinds.RightParenthesis) ∷ [])
-    ∙ ap (λ (l : List Mark). l ++ (trailing_comma ∷ token (fixed kinds.RightParenthesis) ∷ []))
+    ∙ ap (λ (l : List FlatToken). l ++ (trailing_comma ∷ token (fixed kinds.RightParenthesis) ∷ []))
     (more_names_is ns))
 
 name_no_closer : (n : Identifier) (o : Option Token)
@@ -143,7 +143,7 @@ names_again ns ts r m =
     (λ s x g us v q. name_no_closer x (head_of us) q.0)
     (λ s x g us v q y. name_again x us v q)
     ns (suc (length ts)) tt ts r (any_names ns) (omega arith)
-    (subst (λ (l : List Mark). Matches l ts r) (names_marks ns) m)
+    (subst (λ (l : List FlatToken). Matches l ts r) (names_marks ns) m)
 
 good_names : (taken ns : List Identifier) → AreFresh taken ns → AllGood with_name Differs taken ns
 good_names taken [] f = tt
@@ -164,7 +164,7 @@ parameters_again ns f ts r m =
     (λ s x g us v q. name_no_closer x (head_of us) q.0)
     (λ s x g us v q y. fresh_again s x us v q g)
     ns (suc (length (tail_of ts))) [] (tail_of ts) r (good_names [] ns f) (omega arith)
-    (subst (λ (l : List Mark). Matches l (tail_of ts) r) (names_marks ns) m.1) in
+    (subst (λ (l : List FlatToken). Matches l (tail_of ts) r) (names_marks ns) m.1) in
     rw start read
 
 -- ---- names that differ
@@ -215,13 +215,13 @@ statements_are (trees.a_statement s ss) = ap (λ (l : Statements). trees.a_state
 
 statements_marks : (ss : Statements) → flat_statements ss ≡ in_a_row flat_statement (statements_of ss)
 statements_marks trees.no_statements = refl
-statements_marks (trees.a_statement s ss) = ap (λ (l : List Mark). flat_statement s ++ l) (statements_marks ss)
+statements_marks (trees.a_statement s ss) = ap (λ (l : List FlatToken). flat_statement s ++ l) (statements_marks ss)
 
 -- a statement or declaration of other names than those taken, at most n high
-abbrev pub GoodItem : ℕ → Context → List Identifier → Statement → Type 0
+abbrev pub GoodItem : ℕ → StatementContext → List Identifier → Statement → Type 0
 GoodItem n context taken s = WellStatement context s × AreFresh taken (declared_by s) × (height_of_statement s ≤ n)
 
-good_items : (n : ℕ) (context : Context) (taken : List Identifier) (ss : Statements)
+good_items : (n : ℕ) (context : StatementContext) (taken : List Identifier) (ss : Statements)
     → WellStatements context ss
     → AreFresh taken (declared_names ss)
     → height_of_statements ss ≤ n
@@ -233,7 +233,7 @@ good_items n context taken (trees.a_statement s ss) w f h =
 
 pub statements_again : (n : ℕ) (b : Below)
     → AgainBelow n b
-    → (context : Context) (taken : List Identifier) (ss : Statements)
+    → (context : StatementContext) (taken : List Identifier) (ss : Statements)
     → WellStatements context ss
     → AreFresh taken (declared_names ss)
     → height_of_statements ss ≤ n
@@ -253,7 +253,7 @@ statements_again n b a context taken ss w f h ts r m e =
     (p.0, λ i. p.2))
     (λ names s g us v q x. a.item context names s g.0 g.1 g.2 us v q x)
     (statements_of ss) (suc (length ts)) taken ts r (good_items n context taken ss w f h) (omega arith) e
-    (subst (λ (l : List Mark). Matches l ts r) (statements_marks ss) m) in
+    (subst (λ (l : List FlatToken). Matches l ts r) (statements_marks ss) m) in
     rw (read, statements_are ss) refl
 
 brace_ends : (o : Option Token) → is_kind kinds.RightBrace o ≡ true → ends_list o ≡ true
@@ -262,7 +262,7 @@ brace_ends (Some t) e = e
 
 pub braces_again : (n : ℕ) (b : Below)
     → AgainBelow n b
-    → (context : Context) (taken : List Identifier) (ss : Statements)
+    → (context : StatementContext) (taken : List Identifier) (ss : Statements)
     → WellStatements context ss
     → AreFresh taken (declared_names ss)
     → height_of_statements ss ≤ n
@@ -283,7 +283,7 @@ braces_again n b a context taken ss w f h ts r m =
 
 pub code_again : (n : ℕ) (b : Below)
     → AgainBelow n b
-    → (f : Code)
+    → (f : ParametersAndBody)
     → DifferIn f.parameters f.body
     → WellStatements function_body f.body
     → height_of_statements f.body ≤ n
@@ -350,7 +350,7 @@ declarators_are (trees.a_declarator d ds) = ap (λ (l : Declarators). trees.a_de
 more_declarators_marks : (ds : Declarators) → more_declarators ds ≡ behind_commas flat_declarator (declarators_of ds)
 more_declarators_marks trees.no_declarators = refl
 more_declarators_marks (trees.a_declarator d ds) =
-    ap (λ (l : List Mark). token (fixed kinds.Comma) ∷ (flat_declarator d ++ l))
+    ap (λ (l : List FlatToken). token (fixed kinds.Comma) ∷ (flat_declarator d ++ l))
     (append-nil (more_declarators ds) ∙ more_declarators_marks ds)
 
 first_initialized : (constant : Bool) (d : Declarator) (ds : Declarators)
@@ -404,7 +404,7 @@ declarators_again n b a constant taken (trees.a_declarator d ds) some w i f h ts
     declarator_comma
     (λ s x y us v q z. declarator_again n b a constant s x y us v q z)
     (declarators_of ds) (suc (length p.0)) (with_declarator taken d) p.0 r g.1 (omega arith) (rest_end ds e.0) e.1
-    (subst (λ (l : List Mark). Matches l p.0 r) (more_declarators_marks ds) p.2) in
+    (subst (λ (l : List FlatToken). Matches l p.0 r) (more_declarators_marks ds) p.2) in
     rw (first, rest, declarators_are ds) refl
   where
     first_ends : (ds : Declarators) (us : List Token)

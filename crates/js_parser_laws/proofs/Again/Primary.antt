@@ -4,7 +4,7 @@ use Rattle.std.proofs.lemmas.List.{append-nil}
 use Rattle.js_lexer.specs.declared.token.TokenKind.TheVariants as kinds
 use Rattle.js_tree.specs.Trees as trees
 use Rattle.js_tree.specs.Trees.{Expression}
-use Rattle.js_parser_language.specs.Tokens.{Token, fixed, Mark, token, head_of, tail_of, Matches}
+use Rattle.js_parser_language.specs.Tokens.{Token, fixed, FlatToken, token, head_of, tail_of, Matches}
 use Rattle.js_parser_language.specs.Flat.{flat, flat_expressions, trailing, flat_parameters, flat_statements}
 use Rattle.js_parser_language.specs.Flat as flats
 use Rattle.js_parser_language.specs.Well.{Well}
@@ -17,16 +17,16 @@ use Rattle.js_parser_laws.proofs.TokenLemmas.{text_is}
 use Rattle.js_parser_laws.proofs.Again.Head.{start_fixed, start_name, start_number, start_string, other_kind}
 
 -- marks before nothing
-pub before_nothing : (ms : List Mark) (ts r : List Token) → Matches ms ts r → Matches (ms ++ []) ts r
-before_nothing ms ts r m = subst (λ (l : List Mark). Matches l ts r) (sym (append-nil ms)) m
+pub before_nothing : (ms : List FlatToken) (ts r : List Token) → Matches ms ts r → Matches (ms ++ []) ts r
+before_nothing ms ts r m = subst (λ (l : List FlatToken). Matches l ts r) (sym (append-nil ms)) m
 
-pub and_nothing : (ms : List Mark) (ts r : List Token) → Matches (ms ++ []) ts r → Matches ms ts r
-and_nothing ms ts r m = subst (λ (l : List Mark). Matches l ts r) (append-nil ms) m
+pub and_nothing : (ms : List FlatToken) (ts r : List Token) → Matches (ms ++ []) ts r → Matches ms ts r
+and_nothing ms ts r m = subst (λ (l : List FlatToken). Matches l ts r) (append-nil ms) m
 
 -- an object literal is read again behind its brace
 abbrev pub ObjectsAgain : ℕ → Below → Type 0
 ObjectsAgain n b =
-    (ps : trees.Properties)
+    (ps : trees.PropertyDefinitions)
     → Well (trees.object ps)
     → height (trees.object ps) ≤ suc n
     → (ts r : List Token)
@@ -85,7 +85,7 @@ function_again q n b h None ps body w l ts r m =
     (flat_parameters ps ++ flats.in_braces (flat_statements body)) ++ [] = sym
     (append_assoc (flat_parameters ps) (flats.in_braces (flat_statements body)) []) in
     let inner : Matches ((flat_parameters ps ++ flats.in_braces (flat_statements body)) ++ []) (tail_of ts) r = subst
-    (λ (l : List Mark). Matches l (tail_of ts) r) is m.1 in
+    (λ (l : List FlatToken). Matches l (tail_of ts) r) is m.1 in
     rw (
       other_kind kinds.LeftParenthesis kinds.Name (head_of (tail_of ts)) m.1.0 refl,
       q n b h (code ∷ []) (record { parameters = ps; body = body }, tt) (tail_of ts) r ((w.0, w.1), tt) (omega arith)
@@ -97,7 +97,7 @@ function_again q n b h (Some a) ps body w l ts r m =
     (flat_parameters ps ++ flats.in_braces (flat_statements body)) ++ [] = sym
     (append_assoc (flat_parameters ps) (flats.in_braces (flat_statements body)) []) in
     let inner : Matches ((flat_parameters ps ++ flats.in_braces (flat_statements body)) ++ []) (tail_of (tail_of ts))
-    r = subst (λ (l : List Mark). Matches l (tail_of (tail_of ts)) r) is m.1.1 in
+    r = subst (λ (l : List FlatToken). Matches l (tail_of (tail_of ts)) r) is m.1.1 in
     rw (
       (text_is a (head_of (tail_of ts)) m.1.0).0,
       q n b h (a_name ∷ code ∷ []) (a, (record { parameters = ps; body = body }, tt)) (tail_of ts) r
@@ -120,7 +120,7 @@ function_primary q n b h o ps body w l ts r m =
 
 object_primary : (n : ℕ) (b : Below)
     → ObjectsAgain n b
-    → (ps : trees.Properties)
+    → (ps : trees.PropertyDefinitions)
     → Well (trees.object ps)
     → height (trees.object ps) ≤ suc n
     → (ts r : List Token)

@@ -8,7 +8,7 @@ use Rattle.js_parser_language.specs.Tokens.{Token, fixed, identifier, token, IsN
 use Rattle.js_parser_language.specs.Flat.{edge}
 use Rattle.js_parser_language.specs.Kinds.{is_kind}
 use Rattle.js_parser_readers.specs.Classes.{is_name}
-use Rattle.js_parser_readers.specs.Productions.{Below, Item, tok, near, a_name, the_name, an_assignment, an_expression, optional, arguments, ended, an_end, declared, a_statement, a_block, in_braces, code, Value, Values, expect_name, item, seq, made}
+use Rattle.js_parser_readers.specs.Productions.{Below, Piece, tok, near, a_name, the_name, an_assignment, an_expression, optional, arguments, ended, an_end, declared, a_statement, a_block, in_braces, code, PieceValue, PieceValues, expect_name, item, seq, made}
 use Rattle.js_parser_language.proofs.KindLemmas.{next_again, kind_not}
 use Rattle.js_parser_laws.proofs.Claims.{Stops, NoComma, follows_statement, Follows, AgainBelow, marks_of, marks, Sane, AllSane, height_at, height_all, EndsLast, fits, all_fit, SeqAgain}
 use Rattle.js_parser_laws.proofs.MarkLemmas.{parts}
@@ -41,7 +41,7 @@ while_follows [] m = absurd m
 while_follows (t ∷ r) m = (rw m refl, kind_not kinds.While kinds.Else (Some t) (next_again kinds.While (Some t) m) refl)
 
 -- what a production's item is read before
-abbrev ReadBefore : ℕ → Below → (i : Item) → Value i → (is : List Item) → Values is → Type 0
+abbrev ReadBefore : ℕ → Below → (i : Piece) → PieceValue i → (is : List Piece) → PieceValues is → Type 0
 ReadBefore n b i v is vs =
     (ts mid r : List Token)
     → Sane i v
@@ -54,7 +54,7 @@ ReadBefore n b i v is vs =
 
 assignment_before : (n : ℕ) (b : Below)
     → AgainBelow n b
-    → (v : Value an_assignment) (is : List Item) (vs : Values is)
+    → (v : PieceValue an_assignment) (is : List Piece) (vs : PieceValues is)
     → ReadBefore n b an_assignment v is vs
 assignment_before n b a v [] vs ts mid r s h f e m q =
     a.assignment v s.0 s.1 h ts mid m (subst (λ (l : List Token). Stops (edge v) l) (sym q) e)
@@ -64,7 +64,7 @@ assignment_before n b a v (_ ∷ is) vs ts mid r s h f e m q = absurd cc
 
 expression_before : (n : ℕ) (b : Below)
     → AgainBelow n b
-    → (v : Value an_expression) (is : List Item) (vs : Values is)
+    → (v : PieceValue an_expression) (is : List Piece) (vs : PieceValues is)
     → ReadBefore n b an_expression v is vs
 expression_before n b a v [] vs ts mid r s h f e m q =
     let here : Stops (edge v) mid × NoComma mid = subst (λ (l : List Token). Stops (edge v) l × NoComma l) (sym q) e in
@@ -76,7 +76,7 @@ expression_before n b a v (_ ∷ is) vs ts mid r s h f e m q = absurd cc
 
 ended_before : (n : ℕ) (b : Below)
     → AgainBelow n b
-    → (v : Value ended) (is : List Item) (vs : Values is)
+    → (v : PieceValue ended) (is : List Piece) (vs : PieceValues is)
     → ReadBefore n b ended v is vs
 ended_before n b a v [] vs ts mid r s h f e m q =
     ended_again n b a v s h ts mid m (subst (λ (l : List Token). follows_statement (head_of l) ≡ true) (sym q) e)
@@ -84,7 +84,7 @@ ended_before n b a v (_ ∷ is) vs ts mid r s h f e m q = absurd cc
 
 statement_before : (n : ℕ) (b : Below)
     → AgainBelow n b
-    → (context : _) (v : Value (a_statement context)) (is : List Item) (vs : Values is)
+    → (context : _) (v : PieceValue (a_statement context)) (is : List Piece) (vs : PieceValues is)
     → ReadBefore n b (a_statement context) v is vs
 statement_before n b a context v [] vs ts mid r s h f e m q =
     a.statement context v s.0 s.1 h ts mid m (subst (λ (l : List Token). Follows v l) (sym q) e)
@@ -94,7 +94,7 @@ statement_before n b a context v (_ ∷ is) vs ts mid r s h f e m q = absurd cc
 
 declared_before : (n : ℕ) (b : Below)
     → AgainBelow n b
-    → (constant : Bool) (taken : _) (v : Value (declared constant taken)) (is : List Item) (vs : Values is)
+    → (constant : Bool) (taken : _) (v : PieceValue (declared constant taken)) (is : List Piece) (vs : PieceValues is)
     → ReadBefore n b (declared constant taken) v is vs
 declared_before n b a constant taken v (tok kinds.Semicolon ∷ is) vs ts mid r s h f e m q =
     declarators_again n b a constant taken v s.0 s.1 s.2 s.3 h ts mid m
@@ -104,7 +104,7 @@ declared_before n b a constant taken v (_ ∷ is) vs ts mid r s h f e m q = absu
 
 item_again : (n : ℕ) (b : Below)
     → AgainBelow n b
-    → (i : Item) (v : Value i) (is : List Item) (vs : Values is)
+    → (i : Piece) (v : PieceValue i) (is : List Piece) (vs : PieceValues is)
     → ReadBefore n b i v is vs
 item_again n b a (tok k) v is vs ts mid r s h f e m q = expect_again k ts mid m
 item_again n b a (near k) v is vs ts mid r s h f e m q = expect_near_again k ts mid m
@@ -127,7 +127,7 @@ item_again n b a code v is vs ts mid r s h f e m q = code_again n b a v s.0 s.1 
 
 -- ---- productions
 
-last_ends : (i : Item) (is : List Item) (v : Value i) (vs : Values is) (r : List Token)
+last_ends : (i : Piece) (is : List Piece) (v : PieceValue i) (vs : PieceValues is) (r : List Token)
     → EndsLast (i ∷ is) (v, vs) r
     → EndsLast is vs r
 last_ends i [] v vs r e = tt
@@ -147,7 +147,7 @@ seq_again n b a (i ∷ is) vs ts r s h f e m =
 -- a form made of a production is read again
 pub made_again : {A : Type 0} (n : ℕ) (b : Below)
     → AgainBelow n b
-    → (is : List Item) (make : Values is → A) (vs : Values is) (ts r : List Token)
+    → (is : List Piece) (make : PieceValues is → A) (vs : PieceValues is) (ts r : List Token)
     → AllSane is vs
     → height_all is vs ≤ n
     → all_fit is ≡ true

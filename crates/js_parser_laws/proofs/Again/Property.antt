@@ -6,8 +6,8 @@ use Rattle.std.proofs.lemmas.List.{append-nil}
 use Rattle.js_lexer.specs.declared.token.TokenKind.{TokenKind}
 use Rattle.js_lexer.specs.declared.token.TokenKind.TheVariants as kinds
 use Rattle.js_tree.specs.Trees as trees
-use Rattle.js_tree.specs.Trees.{Identifier, Expression, Key, Property, Properties, Statements}
-use Rattle.js_parser_language.specs.Tokens.{Token, fixed, identifier_name, string_literal, numeric_literal, Edge, Mark, token, head_of, tail_of, IsNext, is_word, Matches}
+use Rattle.js_tree.specs.Trees.{Identifier, Expression, Key, PropertyDefinition, PropertyDefinitions, Statements}
+use Rattle.js_parser_language.specs.Tokens.{Token, fixed, identifier_name, string_literal, numeric_literal, ExpressionEnd, FlatToken, token, head_of, tail_of, IsNext, is_word, Matches}
 use Rattle.js_parser_language.specs.Flat as flats
 use Rattle.js_parser_language.specs.Flat.{edge, flat, flat_key, flat_property, flat_properties, more_properties, trailing_property, flat_parameters, flat_statements}
 use Rattle.js_parser_language.specs.Well.{WellKey, WellProperty, WellProperties}
@@ -127,7 +127,7 @@ after_no_member k (Some t) e i = rw (kind_is k t i) e
 abbrev EndsMember : List Token → Type 0
 EndsMember r = EndsElement kinds.RightBrace r
 
-member_stops : (d : Edge) (r : List Token) → EndsMember r → Stops d r
+member_stops : (d : ExpressionEnd) (r : List Token) → EndsMember r → Stops d r
 member_stops d r (inl close) = (closes_stops kinds.RightBrace refl r close d).0
 member_stops d r (inr comma) = comma_stops r comma d
 
@@ -181,7 +181,7 @@ method_again q n b h k ps body w l ts r m =
     p.2.0 in
     let low : nat_le (suc (height_of_key k)) n ≡ true = le-leb (suc (height_of_key k)) n (omega arith) in
     let inner : Matches (flat_parameters ps ++ flats.in_braces (flat_statements body)) p.0 r = subst
-    (λ (l : List Mark). Matches (flat_parameters ps ++ l) p.0 r)
+    (λ (l : List FlatToken). Matches (flat_parameters ps ++ l) p.0 r)
     (append-nil (flats.in_braces (flat_statements body))) p.2 in
     rw (
       long_key k classes.parameters parameters_long ts p.0 p.1 parameters,
@@ -194,7 +194,7 @@ method_again q n b h k ps body w l ts r m =
 
 property_again : (q : SeqAgain) (n : ℕ) (b : Below)
     → AgainBelow n b
-    → (x : Property)
+    → (x : PropertyDefinition)
     → WellProperty x
     → height_of_property x ≤ n
     → (ts r : List Token)
@@ -215,7 +215,7 @@ name_no_brace : (a : List ℕ) (o : Option Token) → IsNext (identifier_name a)
 name_no_brace a None m = refl
 name_no_brace a (Some t) m = word_no_brace t.kind m.0
 
-key_no_brace : (k : Key) (ms : List Mark) (ts r : List Token)
+key_no_brace : (k : Key) (ms : List FlatToken) (ts r : List Token)
     → Matches (flat_key k ++ ms) ts r
     → is_kind kinds.RightBrace (head_of ts) ≡ false
 key_no_brace (trees.word_key a) ms ts r m = name_no_brace a (head_of ts) m.0
@@ -225,7 +225,7 @@ key_no_brace (trees.number_key v) ms ts r m =
     other_kind kinds.Number kinds.RightBrace (head_of ts) (kind_of_number v (head_of ts) m.0) refl
 key_no_brace (trees.computed_key e) ms ts r m = other_kind kinds.LeftBracket kinds.RightBrace (head_of ts) m.0 refl
 
-property_no_brace : (x : Property) (ts r : List Token)
+property_no_brace : (x : PropertyDefinition) (ts r : List Token)
     → Matches (flat_property x) ts r
     → is_kind kinds.RightBrace (head_of ts) ≡ false
 property_no_brace (trees.shorthand a) ts r m =
@@ -236,29 +236,29 @@ property_no_brace (trees.method k ps body) ts r m =
 
 -- ---- lists of members
 
-abbrev members_of : Properties → List Property
+abbrev members_of : PropertyDefinitions → List PropertyDefinition
 members_of trees.no_properties = []
 members_of (trees.a_property x xs) = x ∷ members_of xs
 
-members_are : (xs : Properties) → properties (members_of xs) ≡ xs
+members_are : (xs : PropertyDefinitions) → properties (members_of xs) ≡ xs
 members_are trees.no_properties = refl
-members_are (trees.a_property x xs) = ap (λ (l : Properties). trees.a_property x l) (members_are xs)
+members_are (trees.a_property x xs) = ap (λ (l : PropertyDefinitions). trees.a_property x l) (members_are xs)
 
-more_marks : (xs : Properties) → more_properties xs ≡ behind_commas flat_property (members_of xs)
+more_marks : (xs : PropertyDefinitions) → more_properties xs ≡ behind_commas flat_property (members_of xs)
 more_marks trees.no_properties = refl
 more_marks (trees.a_property x xs) =
-    ap (λ (l : List Mark). token (fixed kinds.Comma) ∷ (flat_property x ++ l))
+    ap (λ (l : List FlatToken). token (fixed kinds.Comma) ∷ (flat_property x ++ l))
     (append-nil (more_properties xs) ∙ more_marks xs)
 
-members_marks : (xs : Properties) → flat_properties xs ≡ with_commas flat_property (members_of xs)
+members_marks : (xs : PropertyDefinitions) → flat_properties xs ≡ with_commas flat_property (members_of xs)
 members_marks trees.no_properties = refl
-members_marks (trees.a_property x xs) = ap (λ (l : List Mark). flat_property x ++ l) (more_marks xs)
+members_marks (trees.a_property x xs) = ap (λ (l : List FlatToken). flat_property x ++ l) (more_marks xs)
 
-trailing_marks : (xs : Properties) → trailing_property xs ≡ behind_last (members_of xs)
+trailing_marks : (xs : PropertyDefinitions) → trailing_property xs ≡ behind_last (members_of xs)
 trailing_marks trees.no_properties = refl
 trailing_marks (trees.a_property x xs) = refl
 
-good_members : (n : ℕ) (xs : Properties)
+good_members : (n : ℕ) (xs : PropertyDefinitions)
     → WellProperties xs
     → height_of_properties xs ≤ n
     → AllGood no_state (GoodProperty n) tt (members_of xs)
@@ -268,7 +268,7 @@ good_members n (trees.a_property x xs) w h = ((w.0, omega (arith, h)), good_memb
 pub objects_again : (q : SeqAgain) (n : ℕ) (b : Below) → AgainBelow n b → ObjectsAgain n b
 unfolding properties_at
 objects_again q n b h xs w l ts r m =
-    let behind : List Mark = token (fixed kinds.RightBrace) ∷ [] in
+    let behind : List FlatToken = token (fixed kinds.RightBrace) ∷ [] in
     let same : flat_properties xs ++ (trailing_property xs ++ behind) ≡ with_commas flat_property (members_of xs) ++
     (behind_last (members_of xs) ++ behind) = rw (members_marks xs, trailing_marks xs) refl in
     let read : elements (one_of (λ r. property_at b n r)) no_state kinds.RightBrace (suc (length (tail_of ts))) tt
@@ -277,5 +277,5 @@ objects_again q n b h xs w l ts r m =
     (λ s x g us v p. property_no_brace x us v p)
     (λ s x g us v p e. property_again q n b h x g.0 g.1 us v p e)
     (members_of xs) (suc (length (tail_of ts))) tt (tail_of ts) r (good_members n xs w (omega arith)) (omega arith)
-    (subst (λ (l : List Mark). Matches l (tail_of ts) r) same m.1) in
+    (subst (λ (l : List FlatToken). Matches l (tail_of ts) r) same m.1) in
     rw (read, members_are xs) refl

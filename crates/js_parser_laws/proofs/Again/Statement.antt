@@ -6,16 +6,16 @@ use Rattle.js_lexer.specs.declared.token.TokenKind.{TokenKind}
 use Rattle.js_lexer.specs.declared.token.TokenKind.TheVariants as kinds
 use Rattle.js_tree.specs.Trees as trees
 use Rattle.js_tree.specs.Trees.{Identifier, Expression, OptionalExpression, Declarators, Statement, Statements, Handler, Finalizer}
-use Rattle.js_parser_language.specs.Tokens.{Token, fixed, IsNext, after_expression, after_word, absent, Mark, token, semicolon, head_of, tail_of, is_on_line, Matches}
+use Rattle.js_parser_language.specs.Tokens.{Token, fixed, IsNext, after_expression, after_word, absent, FlatToken, token, semicolon, head_of, tail_of, is_on_line, Matches}
 use Rattle.js_parser_language.specs.Flat as flats
 use Rattle.js_parser_language.specs.Flat.{edge, end_of_declarators, on_line, flat, flat_declarators, flat_parameters, flat_statement, flat_statements, flat_handler, flat_finalizer}
-use Rattle.js_parser_language.specs.Well.{Context, Well, WellStatement, WellHandler, WellFinalizer, is_statement, is_handled, AreFresh, declared_by}
+use Rattle.js_parser_language.specs.Well.{StatementContext, Well, WellStatement, WellHandler, WellFinalizer, is_statement, is_handled, AreFresh, declared_by}
 use Rattle.js_tree.specs.Height.{height_of_statement, height_of_handler, height_of_finalizer}
 use Rattle.js_parser_language.specs.Kinds.{is_kind}
 use Rattle.js_parser_readers.specs.Reading.{◌>>=◌, fresh_name}
 use Rattle.js_parser_readers.specs.Classes as classes
-use Rattle.js_parser_readers.specs.Classes.{First, first, ends_return}
-use Rattle.js_parser_readers.specs.Productions.{Code, Below, declarators_at, code_at, tok, a_name, ended, an_end, a_statement, a_block, in_braces, Values, seq}
+use Rattle.js_parser_readers.specs.Classes.{StatementStart, first, ends_return}
+use Rattle.js_parser_readers.specs.Productions.{ParametersAndBody, Below, declarators_at, code_at, tok, a_name, ended, an_end, a_statement, a_block, in_braces, PieceValues, seq}
 use Rattle.js_parser_readers.specs.Parsing.{if_items, if_at, do_items, while_items, return_by, throw_by, let_kind, handler_at, finalizer_by, finalizer_at, try_at, statement_by, statement, lexical_at, declaration_at, item_by, item}
 use Rattle.js_parser_language.proofs.KindLemmas.{next_again, kind_not}
 use Rattle.js_parser_laws.proofs.Claims.{follows_statement, NoElse, Follows, AgainBelow}
@@ -28,10 +28,10 @@ use Rattle.js_parser_laws.proofs.Again.For.{let_marks, let_first, for_statement,
 use Rattle.js_parser_laws.proofs.Again.Primary.{and_nothing}
 
 -- a statement read by its form is read, where its first token is of that class
-abbrev Read : Below → Context → Statement → First → List Token → List Token → Type 0
+abbrev Read : Below → StatementContext → Statement → StatementStart → List Token → List Token → Type 0
 Read b context s f ts r = statement_by b context f ts ≡ Ok (s, r)
 
-by_first : (b : Below) (context : Context) (s : Statement) (f : First) (ts r : List Token)
+by_first : (b : Below) (context : StatementContext) (s : Statement) (f : StatementStart) (ts r : List Token)
     → first (head_of ts) ≡ f
     → Read b context s f ts r
     → statement b context ts ≡ Ok (s, r)
@@ -45,7 +45,7 @@ block_marks ss = sym (append-nil (flats.in_braces (flat_statements ss)))
 
 block_statement : (n : ℕ) (b : Below)
     → AgainBelow n b
-    → (context : Context) (ss : Statements)
+    → (context : StatementContext) (ss : Statements)
     → WellStatement context (trees.block ss)
     → height_of_statement (trees.block ss) ≤ suc n
     → (ts r : List Token)
@@ -53,13 +53,13 @@ block_statement : (n : ℕ) (b : Below)
     → Read b context (trees.block ss) classes.a_block ts r
 block_statement n b a context ss w h ts r m =
     made_again n b a (in_braces context [] ∷ []) (λ v. trees.block v.0) (ss, tt) ts r (w, tt) (omega (arith, h)) refl tt
-    (subst (λ (l : List Mark). Matches l ts r) (block_marks ss) m)
+    (subst (λ (l : List FlatToken). Matches l ts r) (block_marks ss) m)
 
 -- ---- if, do and while
 
 if_then_statement : (n : ℕ) (b : Below)
     → AgainBelow n b
-    → (context : Context) (e : Expression) (s : Statement)
+    → (context : StatementContext) (e : Expression) (s : Statement)
     → WellStatement context (trees.if_then e s)
     → height_of_statement (trees.if_then e s) ≤ suc n
     → (ts r : List Token)
@@ -68,7 +68,7 @@ if_then_statement : (n : ℕ) (b : Below)
     → Read b context (trees.if_then e s) classes.an_if ts r
 unfolding if_at
 if_then_statement n b a context e s w h ts r m f =
-    let vs : Values (if_items context) = (tt, (tt, (e, (tt, (s, tt))))) in
+    let vs : PieceValues (if_items context) = (tt, (tt, (e, (tt, (s, tt))))) in
     let read : seq b (if_items context) ts ≡ Ok (vs, r) = seq_again n b a (if_items context) vs ts r
     (tt, (tt, (w.0, (tt, ((w.1, w.2), tt))))) (omega (arith, h)) refl (f.0, λ i. f.1 refl) m in
     rw (read, f.1 refl) refl
@@ -77,10 +77,10 @@ if_else_marks : (e : Expression) (s t : Statement)
     → flat_statement (trees.if_else e s t) ≡ flat_statement (trees.if_then e s) ++
     (token (fixed kinds.Else) ∷ (flat_statement t ++ []))
 if_else_marks e s t =
-    let behind : List Mark = token (fixed kinds.Else) ∷ (flat_statement t ++ []) in
-    ap (λ (l : List Mark). token (fixed kinds.If) ∷ token (fixed kinds.LeftParenthesis) ∷ l)
+    let behind : List FlatToken = token (fixed kinds.Else) ∷ (flat_statement t ++ []) in
+    ap (λ (l : List FlatToken). token (fixed kinds.If) ∷ token (fixed kinds.LeftParenthesis) ∷ l)
     (sym (append_assoc (flat e) (token (fixed kinds.RightParenthesis) ∷ (flat_statement s ++ [])) behind
-    ∙ ap (λ (l : List Mark). flat e ++ (token (fixed kinds.RightParenthesis) ∷ l))
+    ∙ ap (λ (l : List FlatToken). flat e ++ (token (fixed kinds.RightParenthesis) ∷ l))
     (append_assoc (flat_statement s) [] behind)))
 
 else_follows : (r : List Token) → IsNext (fixed kinds.Else) (head_of r) → follows_statement (head_of r) ≡ true
@@ -89,7 +89,7 @@ else_follows (t ∷ r) m = rw m refl
 
 if_else_statement : (n : ℕ) (b : Below)
     → AgainBelow n b
-    → (context : Context) (e : Expression) (s t : Statement)
+    → (context : StatementContext) (e : Expression) (s t : Statement)
     → WellStatement context (trees.if_else e s t)
     → height_of_statement (trees.if_else e s t) ≤ suc n
     → (ts r : List Token)
@@ -99,19 +99,19 @@ if_else_statement : (n : ℕ) (b : Below)
 unfolding if_at
 if_else_statement n b a context e s t w h ts r m f =
     let p = parts (flat_statement (trees.if_then e s)) (token (fixed kinds.Else) ∷ (flat_statement t ++ [])) ts r
-    (subst (λ (l : List Mark). Matches l ts r) (if_else_marks e s t) m) in
-    let vs : Values (if_items context) = (tt, (tt, (e, (tt, (s, tt))))) in
+    (subst (λ (l : List FlatToken). Matches l ts r) (if_else_marks e s t) m) in
+    let vs : PieceValues (if_items context) = (tt, (tt, (e, (tt, (s, tt))))) in
     let no_if : NoElse s p.0 = λ i. absurd cc in
     let read : seq b (if_items context) ts ≡ Ok (vs, p.0) = seq_again n b a (if_items context) vs ts p.0
     (tt, (tt, (w.0, (tt, ((w.1, w.2), tt))))) (omega (arith, h)) refl (else_follows p.0 p.2.0, no_if) p.1 in
-    let us : Values (tok kinds.Else ∷ a_statement context ∷ []) = (tt, (t, tt)) in
+    let us : PieceValues (tok kinds.Else ∷ a_statement context ∷ []) = (tt, (t, tt)) in
     let rest : seq b (tok kinds.Else ∷ a_statement context ∷ []) p.0 ≡ Ok (us, r) = seq_again n b a
     (tok kinds.Else ∷ a_statement context ∷ []) us p.0 r (tt, ((w.4, w.5), tt)) (omega (arith, h)) refl f p.2 in
     rw (read, next_again kinds.Else (head_of p.0) p.2.0, rest) refl
 
 do_statement : (n : ℕ) (b : Below)
     → AgainBelow n b
-    → (context : Context) (s : Statement) (e : Expression)
+    → (context : StatementContext) (s : Statement) (e : Expression)
     → WellStatement context (trees.do_while s e)
     → height_of_statement (trees.do_while s e) ≤ suc n
     → (ts r : List Token)
@@ -124,7 +124,7 @@ do_statement n b a context s e w h ts r m =
 
 while_statement : (n : ℕ) (b : Below)
     → AgainBelow n b
-    → (context : Context) (e : Expression) (s : Statement)
+    → (context : StatementContext) (e : Expression) (s : Statement)
     → WellStatement context (trees.while e s)
     → height_of_statement (trees.while e s) ≤ suc n
     → (ts r : List Token)
@@ -142,7 +142,7 @@ ended_alone e = sym (append-nil (flat_statement (trees.expression e)))
 
 expression_statement : (n : ℕ) (b : Below)
     → AgainBelow n b
-    → (context : Context) (e : Expression)
+    → (context : StatementContext) (e : Expression)
     → WellStatement context (trees.expression e)
     → height_of_statement (trees.expression e) ≤ suc n
     → (ts r : List Token)
@@ -151,10 +151,10 @@ expression_statement : (n : ℕ) (b : Below)
     → Read b context (trees.expression e) classes.an_expression ts r
 expression_statement n b a context e w h ts r m f =
     made_again n b a (ended ∷ []) (λ v. trees.expression v.0) (e, tt) ts r (w.0, tt) (omega (arith, h)) refl f
-    (subst (λ (l : List Mark). Matches l ts r) (ended_alone e) m)
+    (subst (λ (l : List FlatToken). Matches l ts r) (ended_alone e) m)
 
 -- the class of its first token
-expression_first : (context : Context) (e : Expression)
+expression_first : (context : StatementContext) (e : Expression)
     → WellStatement context (trees.expression e)
     → (ts r : List Token)
     → Matches (flat_statement (trees.expression e)) ts r
@@ -166,16 +166,16 @@ expression_first context e w ts r m =
     (front_no_function (flat e) front w.2 ts p.0 p.1)
 
 -- marks on the line of the token before them
-on_line_front : (ms ns : List Mark)
+on_line_front : (ms ns : List FlatToken)
     → Front ms
     → (ts r : List Token)
     → Matches (on_line ms ++ ns) ts r
     → (is_on_line (head_of ts) ≡ true) × Matches (ms ++ ns) ts r
 on_line_front ms ns f ts r m =
     let n : Matches (on_line (token f.symbol ∷ f.left) ++ ns) ts r = subst
-    (λ (l : List Mark). Matches (on_line l ++ ns) ts r) f.marks m in
+    (λ (l : List FlatToken). Matches (on_line l ++ ns) ts r) f.marks m in
     let same : Matches (token f.symbol ∷ (f.left ++ ns)) ts r = (n.0, n.2) in
-    (n.1, subst (λ (l : List Mark). Matches (l ++ ns) ts r) (sym f.marks) same)
+    (n.1, subst (λ (l : List FlatToken). Matches (l ++ ns) ts r) (sym f.marks) same)
 
 -- a value with its semicolon, on the line of the word before it
 value_near : (e : Expression)
@@ -191,12 +191,12 @@ value_near e w ts r m =
     let q = parts (flat e) (semicolon (after_expression (edge e)) ∷ []) ts r p.1 in (
       p.0,
       opens_no_return (head_of ts) (expression_opens e w ts q.0 q.1) p.0,
-      subst (λ (l : List Mark). Matches l ts r) (ended_alone e) p.1,
+      subst (λ (l : List FlatToken). Matches l ts r) (ended_alone e) p.1,
     )
 
 throw_statement : (n : ℕ) (b : Below)
     → AgainBelow n b
-    → (context : Context) (e : Expression)
+    → (context : StatementContext) (e : Expression)
     → WellStatement context (trees.throw e)
     → height_of_statement (trees.throw e) ≤ suc n
     → (ts r : List Token)
@@ -220,7 +220,7 @@ word_ends ts r (inr m) = or_right (is_kind kinds.Semicolon (head_of ts)) (absent
 
 return_statement : (n : ℕ) (b : Below)
     → AgainBelow n b
-    → (context : Context) (e : OptionalExpression)
+    → (context : StatementContext) (e : OptionalExpression)
     → WellStatement context (trees.return e)
     → height_of_statement (trees.return e) ≤ suc n
     → (ts r : List Token)
@@ -250,7 +250,7 @@ word_statement n b a k s ts r m =
 
 continue_statement : (n : ℕ) (b : Below)
     → AgainBelow n b
-    → (context : Context)
+    → (context : StatementContext)
     → WellStatement context trees.continue
     → (ts r : List Token)
     → Matches (flat_statement trees.continue) ts r
@@ -259,7 +259,7 @@ continue_statement n b a context w ts r m = rw w (word_statement n b a kinds.Con
 
 break_statement : (n : ℕ) (b : Below)
     → AgainBelow n b
-    → (context : Context)
+    → (context : StatementContext)
     → WellStatement context trees.break
     → (ts r : List Token)
     → Matches (flat_statement trees.break) ts r
@@ -268,7 +268,7 @@ break_statement n b a context w ts r m = rw w (word_statement n b a kinds.Break 
 
 debugger_statement : (n : ℕ) (b : Below)
     → AgainBelow n b
-    → (context : Context)
+    → (context : StatementContext)
     → (ts r : List Token)
     → Matches (flat_statement trees.debugger) ts r
     → Read b context trees.debugger classes.a_debugger ts r
@@ -278,7 +278,7 @@ debugger_statement n b a context ts r m = word_statement n b a kinds.Debugger tr
 
 catch_again : (n : ℕ) (b : Below)
     → AgainBelow n b
-    → (context : Context) (x : Option Identifier) (ss : Statements)
+    → (context : StatementContext) (x : Option Identifier) (ss : Statements)
     → WellHandler context (trees.catch x ss)
     → height_of_handler (trees.catch x ss) ≤ n
     → (ts r : List Token)
@@ -308,7 +308,7 @@ catch_again n b a context (Some x) ss w h ts r m =
     )
     refl
 
-no_catch_again : (b : Below) (context : Context) (ts r : List Token)
+no_catch_again : (b : Below) (context : StatementContext) (ts r : List Token)
     → is_kind kinds.Catch (head_of ts) ≡ false
     → ts ≡ r
     → handler_at b context ts ≡ Ok (trees.no_catch, r)
@@ -317,7 +317,7 @@ no_catch_again b context ts r c m = rw c (ap (λ (l : List Token). Ok (trees.no_
 
 handler_again : (n : ℕ) (b : Below)
     → AgainBelow n b
-    → (context : Context) (h : Handler) (f : Finalizer)
+    → (context : StatementContext) (h : Handler) (f : Finalizer)
     → WellHandler context h
     → is_handled h f ≡ true
     → height_of_handler h ≤ n
@@ -336,7 +336,7 @@ handler_again n b a context (trees.catch x ss) f w handled low ts us r m q =
 
 finalizer_again : (n : ℕ) (b : Below)
     → AgainBelow n b
-    → (context : Context) (h : Handler) (f : Finalizer)
+    → (context : StatementContext) (h : Handler) (f : Finalizer)
     → WellFinalizer context f
     → is_handled h f ≡ true
     → height_of_finalizer f ≤ n
@@ -358,7 +358,7 @@ finalizer_again n b a context h (trees.finally ss) w handled low ts r m follows 
 
 try_statement : (n : ℕ) (b : Below)
     → AgainBelow n b
-    → (context : Context) (ss : Statements) (h : Handler) (f : Finalizer)
+    → (context : StatementContext) (ss : Statements) (h : Handler) (f : Finalizer)
     → WellStatement context (trees.try ss h f)
     → height_of_statement (trees.try ss h f) ≤ suc n
     → (ts r : List Token)
@@ -367,11 +367,11 @@ try_statement : (n : ℕ) (b : Below)
     → Read b context (trees.try ss h f) classes.a_try ts r
 unfolding try_at
 try_statement n b a context ss h f w low ts r m follows =
-    let body : List Mark = flats.in_braces (flat_statements ss) in
+    let body : List FlatToken = flats.in_braces (flat_statements ss) in
     let p = parts body (flat_handler h ++ (flat_finalizer f ++ [])) (tail_of ts) r m.1 in
     let q = parts (flat_handler h) (flat_finalizer f ++ []) p.0 r p.2 in
     let last : Matches (flat_finalizer f) q.0 r = and_nothing (flat_finalizer f) q.0 r q.2 in
-    let pieces : Matches (body ++ []) (tail_of ts) p.0 = subst (λ (l : List Mark). Matches l (tail_of ts) p.0)
+    let pieces : Matches (body ++ []) (tail_of ts) p.0 = subst (λ (l : List FlatToken). Matches l (tail_of ts) p.0)
     (sym (append-nil body)) p.1 in
     let read : seq b (tok kinds.Try ∷ a_block context [] ∷ []) ts ≡ Ok ((tt, (ss, tt)), p.0) =
     seq_again n b a (tok kinds.Try ∷ a_block context [] ∷ []) (tt, (ss, tt)) ts p.0 (tt, ((w.0, w.1), tt))
@@ -386,7 +386,7 @@ try_statement n b a context ss h f w low ts r m follows =
 
 lexical_statement : (n : ℕ) (b : Below)
     → AgainBelow n b
-    → (context : Context) (constant : Bool) (taken : List Identifier) (ds : Declarators)
+    → (context : StatementContext) (constant : Bool) (taken : List Identifier) (ds : Declarators)
     → WellStatement context (trees.lexical constant ds)
     → AreFresh taken (declared_by (trees.lexical constant ds))
     → height_of_statement (trees.lexical constant ds) ≤ suc n
@@ -397,9 +397,9 @@ lexical_statement : (n : ℕ) (b : Below)
     × (lexical_at b constant taken ts ≡ Ok (trees.lexical constant ds, r))
 unfolding lexical_at
 lexical_statement n b a context constant taken ds w f h ts r m follows =
-    let end : List Mark = semicolon (end_of_declarators ds) ∷ [] in
+    let end : List FlatToken = semicolon (end_of_declarators ds) ∷ [] in
     let pieces : Matches (token (fixed (let_kind constant)) ∷ (flat_declarators ds ++ end)) ts r = subst
-    (λ (l : List Mark). Matches (l ++ (flat_declarators ds ++ end)) ts r) (let_marks constant) m in
+    (λ (l : List FlatToken). Matches (l ++ (flat_declarators ds ++ end)) ts r) (let_marks constant) m in
     let p = parts (flat_declarators ds) end (tail_of ts) r pieces.1 in
     let names : declarators_at b constant taken (tail_of ts) ≡ Ok (ds, p.0)
     = declarators_again n b a constant taken ds w.0 w.1 w.2 f (omega (arith, h)) (tail_of ts) p.0 p.1
@@ -408,7 +408,7 @@ lexical_statement n b a context constant taken ds w f h ts r m follows =
 
 function_statement : (n : ℕ) (b : Below)
     → AgainBelow n b
-    → (context : Context) (taken : List Identifier) (x : Identifier) (ps : List Identifier) (body : Statements)
+    → (context : StatementContext) (taken : List Identifier) (x : Identifier) (ps : List Identifier) (body : Statements)
     → WellStatement context (trees.declared_function x ps body)
     → AreFresh taken (x ∷ [])
     → height_of_statement (trees.declared_function x ps body) ≤ suc n
@@ -418,10 +418,10 @@ function_statement : (n : ℕ) (b : Below)
 unfolding declaration_at
 function_statement n b a context taken x ps body w f h ts r m =
     let us : List Token = tail_of (tail_of ts) in
-    let code : Code = record { parameters = ps; body = body } in
+    let code : ParametersAndBody = record { parameters = ps; body = body } in
     let name : fresh_name taken (tail_of ts) ≡ Ok (x, us) = fresh_again taken x (tail_of ts) us (m.1.0, refl) f.0 in
     let pieces : Matches (flat_parameters ps ++ flats.in_braces (flat_statements body)) us r = subst
-    (λ (l : List Mark). Matches (flat_parameters ps ++ l) us r)
+    (λ (l : List FlatToken). Matches (flat_parameters ps ++ l) us r)
     (append-nil (flats.in_braces (flat_statements body))) m.1.1 in
     let read : code_at b us ≡ Ok (code, r) = code_again n b a code w.0 w.1 (omega (arith, h)) us r pieces in
     rw (name, read) refl
@@ -430,7 +430,7 @@ function_statement n b a context taken x ps body w f h ts r m =
 
 pub statement_again : (n : ℕ) (b : Below)
     → AgainBelow n b
-    → (context : Context) (s : Statement)
+    → (context : StatementContext) (s : Statement)
     → WellStatement context s
     → is_statement s ≡ true
     → height_of_statement s ≤ suc n
@@ -492,13 +492,13 @@ statement_again n b a context (trees.declared_function x ps body) w i h ts r m f
 -- ---- statements and declarations
 
 -- let, const or function
-abbrev is_declaration : First → Bool
+abbrev is_declaration : StatementStart → Bool
 is_declaration (classes.a_lexical constant) = true
 is_declaration classes.a_function = true
 is_declaration _ = false
 
 -- no statement begins so
-statement_first : (context : Context) (s : Statement)
+statement_first : (context : StatementContext) (s : Statement)
     → WellStatement context s
     → is_statement s ≡ true
     → (ts r : List Token)
@@ -528,7 +528,7 @@ statement_first context (trees.try ss c d) w i ts r m = ap is_declaration (first
 statement_first context trees.debugger w i ts r m = ap is_declaration (first_is kinds.Debugger (head_of ts) m.0)
 statement_first context (trees.declared_function x ps body) w i ts r m = absurd cc
 
-item_is_statement : (b : Below) (context : Context) (taken : List Identifier) (f : First) (ts : List Token)
+item_is_statement : (b : Below) (context : StatementContext) (taken : List Identifier) (f : StatementStart) (ts : List Token)
     → is_declaration f ≡ false
     → item_by b context taken f ts ≡ statement b context ts
 item_is_statement b context taken (classes.a_lexical constant) ts d = absurd cc
@@ -538,7 +538,7 @@ item_is_statement b context taken _ ts d = refl
 -- a form that is no declaration
 plain_item : (n : ℕ) (b : Below)
     → AgainBelow n b
-    → (context : Context) (taken : List Identifier) (s : Statement)
+    → (context : StatementContext) (taken : List Identifier) (s : Statement)
     → WellStatement context s
     → is_statement s ≡ true
     → height_of_statement s ≤ suc n
@@ -550,7 +550,7 @@ plain_item n b a context taken s w i h ts r m f =
 
 lexical_item : (n : ℕ) (b : Below)
     → AgainBelow n b
-    → (context : Context) (taken : List Identifier) (constant : Bool) (ds : Declarators)
+    → (context : StatementContext) (taken : List Identifier) (constant : Bool) (ds : Declarators)
     → WellStatement context (trees.lexical constant ds)
     → AreFresh taken (declared_by (trees.lexical constant ds))
     → height_of_statement (trees.lexical constant ds) ≤ suc n
@@ -565,7 +565,7 @@ lexical_item n b a context taken constant ds w d h ts r m f =
 
 function_item : (n : ℕ) (b : Below)
     → AgainBelow n b
-    → (context : Context) (taken : List Identifier) (x : Identifier) (ps : List Identifier) (body : Statements)
+    → (context : StatementContext) (taken : List Identifier) (x : Identifier) (ps : List Identifier) (body : Statements)
     → WellStatement context (trees.declared_function x ps body)
     → AreFresh taken (x ∷ [])
     → height_of_statement (trees.declared_function x ps body) ≤ suc n
@@ -578,7 +578,7 @@ function_item n b a context taken x ps body w d h ts r m =
 
 pub item_again : (n : ℕ) (b : Below)
     → AgainBelow n b
-    → (context : Context) (taken : List Identifier) (s : Statement)
+    → (context : StatementContext) (taken : List Identifier) (s : Statement)
     → WellStatement context s
     → AreFresh taken (declared_by s)
     → height_of_statement s ≤ suc n

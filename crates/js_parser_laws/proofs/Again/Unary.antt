@@ -8,7 +8,7 @@ use Rattle.js_tree_operators.specs.declared.operator.UnaryOperator.TheVariants a
 use Rattle.js_tree_operators.specs.declared.operator.UpdateOperator.{UpdateOperator}
 use Rattle.js_tree.specs.Trees as trees
 use Rattle.js_tree.specs.Trees.{Expression}
-use Rattle.js_parser_language.specs.Tokens.{Token, fixed, identifier_name, Edge, plain, Mark, token, beside, head_of, tail_of, Matches}
+use Rattle.js_parser_language.specs.Tokens.{Token, fixed, identifier_name, ExpressionEnd, plain, FlatToken, token, beside, head_of, tail_of, Matches}
 use Rattle.js_parser_language.specs.Flat.{edge, flat, flat_expressions, trailing, unary_kind, update_kind}
 use Rattle.js_parser_language.specs.Well.{level, Well}
 use Rattle.js_tree.specs.Height.{height}
@@ -71,7 +71,7 @@ call_links : (q : SeqAgain) (n : ℕ) (b : Below)
     → LinksAgain n b (trees.call f es)
 unfolding links
 call_links q n b h f es w x k l s ts r m =
-    let inside : List Mark = flat_expressions es ++ (trailing es ++ (token (fixed kinds.RightParenthesis) ∷ [])) in
+    let inside : List FlatToken = flat_expressions es ++ (trailing es ++ (token (fixed kinds.RightParenthesis) ∷ [])) in
     let p = parts (flat f) (token (fixed kinds.LeftParenthesis) ∷ inside) ts r m in
     let low : nat_le (height f) n ≡ true = le-leb (height f) n (omega arith) in
     x (suc k) (omega arith) (omega arith) ts p.0 p.1
@@ -163,7 +163,7 @@ call_postfix : (q : SeqAgain) (n : ℕ) (b : Below)
     → PostfixAgain n b e
 unfolding postfix
 call_postfix q n b h os e v w l ts r m s =
-    let stops : StopsUnary plain r = subst (λ (d : Edge). StopsUnary d r) (call_edge e v) s in
+    let stops : StopsUnary plain r = subst (λ (d : ExpressionEnd). StopsUnary d r) (call_edge e v) s in
     rw (call_again q n b h os e w v l ts r m stops.0, stops.1) refl
 
 update_postfix : (q : SeqAgain) (n : ℕ) (b : Below)
@@ -310,7 +310,7 @@ delete_unary : (n : ℕ) (b : Below)
 unfolding unary
 delete_unary n b h e w l ts r m s =
     let high : level e ≡ 15 = property_level e w.2 in
-    let stops : StopsUnary plain r = subst (λ (d : Edge). StopsUnary d r) (call_edge e (omega arith)) s in
+    let stops : StopsUnary plain r = subst (λ (d : ExpressionEnd). StopsUnary d r) (call_edge e (omega arith)) s in
     let inner : Matches (flat e) (tail_of ts) r = and_nothing (flat e) (tail_of ts) r m.1 in
     rw (
       prefix_fixed kinds.Delete (head_of ts) m.0,

@@ -8,7 +8,7 @@ use Rattle.js_lexer.specs.declared.token.TokenKind.TheVariants as kinds
 use Rattle.js_tree_operators.specs.declared.operator.AssignmentOperator.{AssignmentOperator}
 use Rattle.js_tree.specs.Trees as trees
 use Rattle.js_tree.specs.Trees.{Identifier, Parameters, Expression, Expressions}
-use Rattle.js_parser_language.specs.Tokens.{Token, fixed, identifier, numeric_literal, Mark, token, beside, head_of, tail_of, IsNext, Matches}
+use Rattle.js_parser_language.specs.Tokens.{Token, fixed, identifier, numeric_literal, FlatToken, token, beside, head_of, tail_of, IsNext, Matches}
 use Rattle.js_parser_language.specs.Flat as flats
 use Rattle.js_parser_language.specs.Flat.{assign_kind, flat, flat_expressions, more_expressions, flat_parameters, flat_arrow_parameters}
 use Rattle.js_parser_language.specs.Well.{function_body, Well, AreAssignments, AreFresh, names_of_parameters, begins_with_brace, is_two_expressions, declared_names}
@@ -17,7 +17,7 @@ use Rattle.js_tree.specs.Height.{height}
 use Rattle.js_parser_language.specs.Kinds.{is_kind}
 use Rattle.js_parser_readers.specs.Reading.{Fault, stuck, Read, ◌>>=◌, expect, expect_near, name_at, elements, no_state, with_names}
 use Rattle.js_parser_readers.specs.Classes as classes
-use Rattle.js_parser_readers.specs.Classes.{Start, start, Joint, question, assigns_by, no_joint, joint_by, joint, is_arrow, past_names, Head, one_parameter, listed, no_arrow, listed_by, head_by, arrow_head}
+use Rattle.js_parser_readers.specs.Classes.{PrimaryStart, start, Joint, question, assigns_by, no_joint, joint_by, joint, is_arrow, past_names, ArrowStart, one_parameter, listed, no_arrow, listed_by, head_by, arrow_head}
 use Rattle.js_parser_readers.specs.Productions.{Below, one_of, more_assignments, names_before, parameters_at, tok, an_assignment, in_braces, seq, made}
 use Rattle.js_parser_readers.specs.Parsing.{if_low, operation, arrow_body_by, arrow_rest, are_fresh, arrow_of_names, arrow_of_one, arrow_of_list, joined_by, joined, assignment_by, assignment, comma_by, expression, function_code_by}
 use Rattle.js_parser_language.proofs.KindLemmas.{kind_is, next_is}
@@ -48,7 +48,7 @@ other_kind k ts us z f (inl same) = ap (λ (o : Option Token). is_kind k o) same
 other_kind k ts us z f (inr is) = ap (λ (o : Option Token). is_kind k o) is ∙ z
 
 -- what lives behind no brace begins with none
-pub alive_no_brace : {flat_of : Expression → List Mark} {Good : Expression → Type 0} {ts : List Token} {e : Fault}
+pub alive_no_brace : {flat_of : Expression → List FlatToken} {Good : Expression → Type 0} {ts : List Token} {e : Fault}
     (l : Lives IsZero flat_of Good ts e)
     → is_kind kinds.LeftBrace (head_of ts) ≡ false
     → begins_with_brace (flat_of l.tree) ≡ false
@@ -91,7 +91,7 @@ arrow_body_lives n b snd a s ps ts m fresh us next true f e p =
     )
     [] [] (λ r. refl)
     (append_assoc front (beside (fixed kinds.Arrow) ∷ []) ((flat_block l.tree.0 ++ []) ++ [])
-    ∙ ap (λ (ms : List Mark). front ++ (beside (fixed kinds.Arrow) ∷ ms)) (append-nil (flat_block l.tree.0 ++ [])))
+    ∙ ap (λ (ms : List FlatToken). front ++ (beside (fixed kinds.Arrow) ∷ ms)) (append-nil (flat_block l.tree.0 ++ [])))
 arrow_body_lives n b snd a s ps ts m fresh us next false f e p =
     let front = flat_arrow_parameters ps in
     elim (bind_err (seq b (an_assignment ∷ []) us) (λ v. Ok (trees.arrow ps v.0.0, v.1)) e p) [
@@ -110,7 +110,7 @@ arrow_body_lives n b snd a s ps ts m fresh us next false f e p =
     ]
 
 -- => 0 behind the parameters
-abbrev zero_arrow : List Mark
+abbrev zero_arrow : List FlatToken
 zero_arrow = beside (fixed kinds.Arrow) ∷ zero_marks
 
 abbrev zero_arrow_tokens : List Added
@@ -238,7 +238,7 @@ more_shaped true t u us (n ∷ ns) r f c s = (
     (
       c,
       subst
-          (λ (ms : List Mark). Matches (token (identifier n) ∷ ms) (s.0 ++ (as_token (a_token kinds.Number) ∷ x))
+          (λ (ms : List FlatToken). Matches (token (identifier n) ∷ ms) (s.0 ++ (as_token (a_token kinds.Number) ∷ x))
           x)
           (sym (append-nil (more_expressions (with_zero ns)))) (s.3 x),
     ),
@@ -251,7 +251,7 @@ more_shaped false t u us (n ∷ ns) r f c s = (
     (
       c,
       subst
-          (λ (ms : List Mark). Matches (token (identifier n) ∷ (ms ++ (token (fixed kinds.RightParenthesis) ∷ [])))
+          (λ (ms : List FlatToken). Matches (token (identifier n) ∷ (ms ++ (token (fixed kinds.RightParenthesis) ∷ [])))
           us r)
           (sym (append-nil (more_expressions (as_expressions ns)))) s.0,
     ),
@@ -501,14 +501,14 @@ not_listed : (c : Bool) (only : Bool) → (if c then one_parameter else no_arrow
 not_listed true only e = absurd cc
 not_listed false only e = absurd cc
 
-head_listed : (c : Start) (ts : List Token) (only : Bool)
+head_listed : (c : PrimaryStart) (ts : List Token) (only : Bool)
     → head_by c ts ≡ listed only
     → (c ≡ classes.parenthesis) × ((r : List Token) × (past_names true ts ≡ Some (only, r)))
 head_listed (classes.a_name n) ts only e = absurd (not_listed (is_arrow (head_of ts)) only e)
 head_listed classes.parenthesis ts only e = (refl, listed_is (past_names true ts) only e)
 head_listed _ ts only e = absurd cc
 
-head_one : (c : Start) (ts : List Token) → head_by c ts ≡ one_parameter → (w : Identifier) × (c ≡ classes.a_name w)
+head_one : (c : PrimaryStart) (ts : List Token) → head_by c ts ≡ one_parameter → (w : Identifier) × (c ≡ classes.a_name w)
 head_one (classes.a_name n) ts e = (n, refl)
 head_one classes.parenthesis ts e = absurd (no_one (past_names true ts) e)
 head_one _ ts e = absurd cc
@@ -546,7 +546,7 @@ joint_assigns u None e = absurd cc
 joint_assigns u (Some t) e = subst (λ (j : Joint). JointOf j t.kind) e (joint_of t.kind)
 
 -- 0 : 0 behind the question mark of a conditional
-abbrev zero_branches : List Mark
+abbrev zero_branches : List FlatToken
 zero_branches = token (numeric_literal 0) ∷ token (fixed kinds.Colon) ∷ token (numeric_literal 0) ∷ []
 
 joined_by_lives : (n : ℕ) (b : Below)
@@ -606,7 +606,7 @@ joined_lives n b snd a s t ts e l p = joined_by_lives n b snd a s t (joint (head
 assignment_by_lives : (n : ℕ) (b : Below)
     → SoundBelow n b
     → AliveBelow b
-    → (h : Head) (ts : List Token) (e : Fault)
+    → (h : ArrowStart) (ts : List Token) (e : Fault)
     → arrow_head ts ≡ h
     → assignment_by b n h ts ≡ Err e
     → Lives IsZero flat (Fits 1) ts e
@@ -712,7 +712,7 @@ no_function_lives ts e c =
 pub function_code_lives : (n : ℕ) (b : Below)
     → SoundBelow n b
     → AliveBelow b
-    → (c : Start) (ts : List Token) (e : Fault)
+    → (c : PrimaryStart) (ts : List Token) (e : Fault)
     → start (head_of ts) ≡ c
     → function_code_by b c ts ≡ Err e
     → Lives Anything flat (IsFunctionOf 1) ts e

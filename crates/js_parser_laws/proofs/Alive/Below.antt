@@ -1,7 +1,7 @@
 -- Where what reads trees that are at most n high stops, the tokens before begin well-formed trees.
 use Rattle.std.proofs.Common.{ℕ, zero, suc, arith}
 use Rattle.js_tree.specs.Trees.{Expression, Statement, Statements}
-use Rattle.js_parser_readers.specs.Productions.{Code, Below}
+use Rattle.js_parser_readers.specs.Productions.{ParametersAndBody, Below}
 use Rattle.js_parser_readers.specs.Parsing.{below}
 use Rattle.js_parser_laws.proofs.Claims.{SoundBelow}
 use Rattle.js_parser_laws.proofs.Alive.Tools.{deep_counts}
@@ -24,7 +24,7 @@ alive_none = record {
   statement = λ context ts e p. zero_statement context ts e (deep_counts {A = Statement} ts e p);
   item = λ context taken ts e p. zero_item context taken ts e (deep_counts {A = Statement} ts e p);
   block = λ context taken ts e p. empty_block context taken ts e (deep_counts {A = Statements} ts e p);
-  function = λ ts e p. empty_code ts e (deep_counts {A = Code} ts e p);
+  function = λ ts e p. empty_code ts e (deep_counts {A = ParametersAndBody} ts e p);
 }
 
 -- ---- what reads trees that are at most n high

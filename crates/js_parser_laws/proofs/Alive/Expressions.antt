@@ -9,8 +9,8 @@ use Rattle.js_tree_operators.specs.declared.operator.UnaryOperator.TheVariants a
 use Rattle.js_tree_operators.specs.declared.operator.UpdateOperator.{UpdateOperator}
 use Rattle.js_tree_operators.specs.declared.operator.BinaryOperator.{BinaryOperator}
 use Rattle.js_tree.specs.Trees as trees
-use Rattle.js_tree.specs.Trees.{Expression, Key, Property, Properties}
-use Rattle.js_parser_language.specs.Tokens.{Token, fixed, identifier, identifier_name, numeric_literal, Mark, token, beside, head_of, tail_of, IsNext, Matches}
+use Rattle.js_tree.specs.Trees.{Expression, Key, PropertyDefinition, PropertyDefinitions}
+use Rattle.js_parser_language.specs.Tokens.{Token, fixed, identifier, identifier_name, numeric_literal, FlatToken, token, beside, head_of, tail_of, IsNext, Matches}
 use Rattle.js_parser_language.specs.Flat as flats
 use Rattle.js_parser_language.specs.Flat.{unary_kind, update_kind, binary_kind, flat, flat_parameters, flat_statements, flat_key, flat_property, flat_properties, trailing_property}
 use Rattle.js_parser_language.specs.Well.{level, strength, is_property, WellKey, WellProperty, WellProperties, is_function}
@@ -19,8 +19,8 @@ use Rattle.js_tree.specs.Height.{height, height_of_key}
 use Rattle.js_tree.specs.Views.{properties}
 use Rattle.js_parser_readers.specs.Reading.{Fault, stuck, deep, Read, Reader, ◌>>=◌, name_at, text_of, is_word_next, word_at, elements, no_state}
 use Rattle.js_parser_readers.specs.Classes as classes
-use Rattle.js_parser_readers.specs.Classes.{Start, start_by, start, Link, dot, key, no_link, link_by, link, Prefix, deletes, a_unary, an_update, no_prefix, prefix, update_near, operator, KeyStart, key_start, AfterKey, after_key_by, after_key, is_shorthand}
-use Rattle.js_parser_readers.specs.Productions.{Code, Below, one_of, Item, Values, made, seq, tok, a_name, an_assignment, an_expression, arguments, code}
+use Rattle.js_parser_readers.specs.Classes.{PrimaryStart, start_by, start, CallTail, dot, key, no_link, link_by, link, Prefix, deletes, a_unary, an_update, no_prefix, prefix, update_near, operator, KeyStart, key_start, AfterKey, after_key_by, after_key, is_shorthand}
+use Rattle.js_parser_readers.specs.Productions.{ParametersAndBody, Below, one_of, Piece, PieceValues, made, seq, tok, a_name, an_assignment, an_expression, arguments, code}
 use Rattle.js_parser_readers.specs.Parsing.{if_low, key_by, key_at, member_by, property_by, property_at, properties_at, is_name_next, function_by, function_at, primary_by, primary, linked_by, links_by, links, call, updated_by, postfix, unary_by, unary, operator_from, chain_by, chain, operation}
 use Rattle.js_parser_laws.proofs.Claims.{TakesExpression, SoundBelow, marks}
 use Rattle.js_parser_laws.proofs.MarkLemmas.{joins}
@@ -67,7 +67,7 @@ whole_lives low n s f ts e t c =
     (append-nil (flat f))
 
 -- an expression and one token behind it, and what is added
-pub token_lives : {flat_as : Expression → List Mark} {Fine : Expression → Type 0} (low n : ℕ) (s : List Token)
+pub token_lives : {flat_as : Expression → List FlatToken} {Fine : Expression → Type 0} (low n : ℕ) (s : List Token)
     (f : Expression) (ts : List Token) (e : Fault)
     → TakesExpression low n s f ts
     → (k : TokenKind)
@@ -75,7 +75,7 @@ pub token_lives : {flat_as : Expression → List Mark} {Fine : Expression → Ty
     → Counts e (tail_of ts)
     → (tree : Expression)
     → Fine tree
-    → (ns : List Mark) (more : List Added)
+    → (ns : List FlatToken) (more : List Added)
     → ((r : List Token) → Matches ns (added more ++ r) r)
     → flat f ++ (token (fixed k) ∷ ns) ≡ flat_as tree
     → Lives Nothing flat_as Fine s e
@@ -91,7 +91,7 @@ zero_token = a_token kinds.Number ∷ []
 abbrev pub x_name : List ℕ
 x_name = 120 ∷ []
 
-abbrev word_marks : List Mark
+abbrev word_marks : List FlatToken
 word_marks = token (identifier_name x_name) ∷ []
 
 abbrev word_tokens : List Added
@@ -168,14 +168,14 @@ key_lives : (n : ℕ) (b : Below)
 unfolding key_at
 key_lives n b s a ts e p = key_by_lives n b s a (key_start (head_of ts)) ts e p
 
-abbrev zero_value : List Mark
+abbrev zero_value : List FlatToken
 zero_value = token (fixed kinds.Colon) ∷ token (numeric_literal 0) ∷ []
 
 abbrev zero_value_tokens : List Added
 zero_value_tokens = a_token kinds.Colon ∷ a_token kinds.Number ∷ []
 
 -- ) { } behind the parenthesis of a method
-abbrev empty_rest : List Mark
+abbrev empty_rest : List FlatToken
 empty_rest = token (fixed kinds.RightParenthesis) ∷ token (fixed kinds.LeftBrace) ∷ token (fixed kinds.RightBrace) ∷ []
 
 abbrev empty_rest_tokens : List Added
@@ -204,7 +204,7 @@ member_by_lives : (n : ℕ) (b : Below)
     → Lives Nothing flat_property WellProperty s e
 member_by_lives n b snd a s k classes.colon ts e f t p =
     let is = tok kinds.Colon ∷ an_assignment ∷ [] in
-    let l = anything (seq_lives n b snd a is refl ts e (made_err {A = Property} b is (λ v. trees.value k v.1.0) ts e p))
+    let l = anything (seq_lives n b snd a is refl ts e (made_err {A = PropertyDefinition} b is (λ v. trees.value k v.1.0) ts e p))
     in
     behind l (flat_key k) (key_firm k) s t.marks (trees.value k l.tree.1.0) (t.well, l.good.1.0.0, l.good.1.0.1) refl
 member_by_lives n b snd a s k classes.parameters ts e f t p =
@@ -215,14 +215,14 @@ member_by_lives n b snd a s k classes.parameters ts e f t p =
             let l = a.function ts e w in
             behind l (flat_key k) (key_firm k) s t.marks (trees.method k l.tree.parameters l.tree.body)
             (t.well, l.good.0, l.good.1)
-            (ap (λ (ms : List Mark). flat_key k ++ (flat_parameters l.tree.parameters ++ ms))
+            (ap (λ (ms : List FlatToken). flat_key k ++ (flat_parameters l.tree.parameters ++ ms))
             (sym (append-nil (flats.in_braces (flat_statements l.tree.body)))))
         | inr w ↦ absurd cc
       ]
       | inr c ↦ method_lives n s k ts e t (after_parameters (head_of ts) f) c
     ]
 member_by_lives n b snd a s k classes.no_member ts e f t p =
-    stopped (flat_key k) (key_firm k) s ts t.marks e (stuck_counts {A = Property} ts e p)
+    stopped (flat_key k) (key_firm k) s ts t.marks e (stuck_counts {A = PropertyDefinition} ts e p)
     (trees.value k (trees.number 0)) (t.well, tt, omega arith) zero_value zero_value_tokens
     (λ r. (refl, ((refl, refl), refl))) refl
 
@@ -259,15 +259,15 @@ property_lives : (n : ℕ) (b : Below)
 unfolding property_at
 property_lives n b s a ts e p = property_by_lives n b s a (is_shorthand ts) ts e p
 
-abbrev IsProperty : Unit {0} → Property → Type 0
+abbrev IsProperty : Unit {0} → PropertyDefinition → Type 0
 IsProperty u p = WellProperty p
 
-all_properties : (u : Unit {0}) (ps : List Property) → AllGood no_state IsProperty u ps → WellProperties (properties ps)
+all_properties : (u : Unit {0}) (ps : List PropertyDefinition) → AllGood no_state IsProperty u ps → WellProperties (properties ps)
 all_properties u [] g = tt
 all_properties u (p ∷ ps) g = (g.0, all_properties tt ps g.1)
 
 -- members and the brace that ends them
-abbrev flat_members : Properties → List Mark
+abbrev flat_members : PropertyDefinitions → List FlatToken
 flat_members ps = flat_properties ps ++ (trailing_property ps ++ (token (fixed kinds.RightBrace) ∷ []))
 
 properties_lives : (n : ℕ) (b : Below)
@@ -294,11 +294,11 @@ properties_lives n b s a ts e p =
 abbrev pub IsFunctionOf : ℕ → Expression → Type 0
 IsFunctionOf low e = Fits low e × (is_function e ≡ true)
 
-function_marks : (ms : List Mark) (f : Code)
+function_marks : (ms : List FlatToken) (f : ParametersAndBody)
     → ms ++ (flat_code f ++ []) ≡ ms ++
     (flat_parameters f.parameters ++ (flats.in_braces (flat_statements f.body) ++ []))
 function_marks ms f =
-    ap (λ (l : List Mark). ms ++ l)
+    ap (λ (l : List FlatToken). ms ++ l)
     (append_assoc (flat_parameters f.parameters) (flats.in_braces (flat_statements f.body)) [])
 
 function_by_lives : (n : ℕ) (b : Below)
@@ -344,7 +344,7 @@ function_lives n b s a ts e f p = function_by_lives n b s a (is_name_next (head_
 primary_by_lives : (n : ℕ) (b : Below)
     → SoundBelow n b
     → AliveBelow b
-    → (c : Start) (ts : List Token) (e : Fault)
+    → (c : PrimaryStart) (ts : List Token) (e : Fault)
     → start (head_of ts) ≡ c
     → primary_by b n c ts ≡ Err e
     → Lives IsZero flat (Fits 15) ts e
@@ -360,7 +360,7 @@ primary_by_lives n b s a classes.bracket ts e f p =
     (made_err {A = Expression} b (tok kinds.LeftBracket ∷ is) (λ v. trees.array v.1.0) ts e p) in
     from_nothing
     (renamed l (trees.array l.tree.1.0) (l.good.1.0, omega arith)
-    (ap (λ (ms : List Mark). token (fixed kinds.LeftBracket) ∷ ms) (append-nil _)))
+    (ap (λ (ms : List FlatToken). token (fixed kinds.LeftBracket) ∷ ms) (append-nil _)))
 primary_by_lives n b s a classes.brace ts e f p =
     elim (bind_err (properties_at b n (tail_of ts)) (λ ps. Ok (trees.object ps.0, ps.1)) e p) [
       | inl q ↦
@@ -395,7 +395,7 @@ primary_lives n b s a ts e p = primary_by_lives n b s a (start (head_of ts)) ts 
 linked_by_lives : (n : ℕ) (b : Below)
     → SoundBelow n b
     → AliveBelow b
-    → (s : List Token) (f : Expression) (l : Link) (ts : List Token) (e : Fault)
+    → (s : List Token) (f : Expression) (l : CallTail) (ts : List Token) (e : Fault)
     → link (head_of ts) ≡ l
     → TakesExpression 15 (suc n) s f ts
     → linked_by b f l ts ≡ Err e
@@ -419,17 +419,17 @@ linked_by_lives n b snd a s f classes.arguments ts e g t p =
     (seq_lives n b snd a is refl ts e (made_err {A = Expression} b is (λ v. trees.call f v.1.0) ts e p)) in
     behind l (flat f) (expression_firm f t.well) s t.marks (trees.call f l.tree.1.0)
     ((t.well, t.level, l.good.1.0), omega arith)
-    (ap (λ (ms : List Mark). flat f ++ (token (fixed kinds.LeftParenthesis) ∷ ms)) (append-nil _))
+    (ap (λ (ms : List FlatToken). flat f ++ (token (fixed kinds.LeftParenthesis) ∷ ms)) (append-nil _))
 linked_by_lives n b snd a s f no_link ts e g t p =
     whole_lives 15 (suc n) s f ts e t (stuck_counts {A = Expression} ts e p)
 
 -- something goes on with a call or a member
-abbrev is_link : Link → Bool
+abbrev is_link : CallTail → Bool
 is_link no_link = false
 is_link _ = true
 
 -- no room for what the link makes
-deep_link : (n : ℕ) (s : List Token) (f : Expression) (l : Link) (ts : List Token) (e : Fault)
+deep_link : (n : ℕ) (s : List Token) (f : Expression) (l : CallTail) (ts : List Token) (e : Fault)
     → link (head_of ts) ≡ l
     → TakesExpression 15 (suc n) s f ts
     → is_link l ≡ true
@@ -449,8 +449,8 @@ deep_link n s f classes.arguments ts e g t i c =
 deep_link n s f no_link ts e g t i c = absurd cc
 
 -- what a link makes is higher than what it goes on with
-higher : (is : List Item) (b : Below) (f : Expression) (make : Values is → Expression)
-    → ((v : Values is) → suc (height f) ≤ height (make v))
+higher : (is : List Piece) (b : Below) (f : Expression) (make : PieceValues is → Expression)
+    → ((v : PieceValues is) → suc (height f) ≤ height (make v))
     → (ts : List Token) (x : Expression × List Token)
     → made b is make ts ≡ Ok x
     → suc (height f) ≤ height x.0
@@ -458,7 +458,7 @@ higher is b f make h ts x p =
     let q = bind_ok (seq b is ts) (λ x. Ok (make x.0, x.1)) x p in
     subst (λ (x : Expression × List Token). suc (height f) ≤ height x.0) (ok_is (make q.0.0, q.0.1) x q.2) (h q.0.0)
 
-linked_higher : (b : Below) (f : Expression) (l : Link) (ts : List Token) (x : Expression × List Token)
+linked_higher : (b : Below) (f : Expression) (l : CallTail) (ts : List Token) (x : Expression × List Token)
     → linked_by b f l ts ≡ Ok x
     → suc (height f) ≤ height x.0
 linked_higher b f dot ts x p =
@@ -488,7 +488,7 @@ one_link_lives : (n : ℕ) (b : Below)
     → AliveBelow b
     → (s : List Token) (k : ℕ) (go : Expression → Reader Expression)
     → GoesAlive n k s go
-    → (f : Expression) (l : Link) (ts : List Token) (e : Fault)
+    → (f : Expression) (l : CallTail) (ts : List Token) (e : Fault)
     → link (head_of ts) ≡ l
     → TakesExpression 15 (suc n) s f ts
     → is_link l ≡ true
@@ -510,7 +510,7 @@ links_by_lives : (n : ℕ) (b : Below)
     → AliveBelow b
     → (s : List Token) (k : ℕ) (go : Expression → Reader Expression)
     → GoesAlive n k s go
-    → (f : Expression) (l : Link) (ts : List Token) (e : Fault)
+    → (f : Expression) (l : CallTail) (ts : List Token) (e : Fault)
     → link (head_of ts) ≡ l
     → TakesExpression 15 (suc n) s f ts
     → suc (suc n) ≤ height f + suc k
@@ -593,7 +593,7 @@ postfix_lives n b s a ts e p =
 -- ---- unary expressions
 
 -- .x behind an operand
-abbrev x_marks : List Mark
+abbrev x_marks : List FlatToken
 x_marks = token (fixed kinds.Dot) ∷ word_marks
 
 abbrev x_tokens : List Added
@@ -617,7 +617,7 @@ operand_lives b a k make marks fits ts e f p =
     around l (token (fixed k) ∷ []) refl ts (f, refl) (make (trees.member l.tree x_name)) (fits l.tree l.good)
     x_marks x_tokens x_spelled
     (sym (marks (trees.member l.tree x_name)
-    ∙ ap (λ (ms : List Mark). token (fixed k) ∷ ms) (append-nil (flat l.tree ++ x_marks))))
+    ∙ ap (λ (ms : List FlatToken). token (fixed k) ∷ ms) (append-nil (flat l.tree ++ x_marks))))
 
 -- the same where it was read, and is none
 refused_lives : (n : ℕ) (k : TokenKind) (make : Expression → Expression)
@@ -633,7 +633,7 @@ refused_lives n k make marks fits ts e f g r t c =
     stopped (token (fixed k) ∷ flat g) (firm_behind (token (fixed k)) (flat g) (expression_firm g t.well)) ts r
     (f, t.marks) e c (make (trees.member g x_name)) (fits g (t.well, t.level)) x_marks x_tokens x_spelled
     (sym (marks (trees.member g x_name)
-    ∙ ap (λ (ms : List Mark). token (fixed k) ∷ ms) (append-nil (flat g ++ x_marks))))
+    ∙ ap (λ (ms : List FlatToken). token (fixed k) ∷ ms) (append-nil (flat g ++ x_marks))))
 
 unary_by_lives : (n : ℕ) (b : Below)
     → SoundBelow n b

@@ -6,13 +6,13 @@ use Rattle.js_lexer.specs.declared.token.TokenKind.TheVariants as kinds
 use Rattle.js_tree_operators.specs.declared.operator.UnaryOperator.TheVariants as unaries
 use Rattle.js_tree.specs.Trees as trees
 use Rattle.js_tree.specs.Trees.{Identifier, Expression, Statement}
-use Rattle.js_parser_language.specs.Tokens.{Token, fixed, identifier, identifier_name, numeric_literal, Mark, token, beside, semicolon, plain, after_expression, after_word, after_do, head_of, tail_of, IsNext, Matches}
+use Rattle.js_parser_language.specs.Tokens.{Token, fixed, identifier, identifier_name, numeric_literal, FlatToken, token, beside, semicolon, plain, after_expression, after_word, after_do, head_of, tail_of, IsNext, Matches}
 use Rattle.js_parser_language.specs.Flat.{edge, unary_kind, update_kind, flat, flat_statement}
-use Rattle.js_parser_language.specs.Well.{Context}
+use Rattle.js_parser_language.specs.Well.{StatementContext}
 use Rattle.js_parser_language.specs.Kinds.{is_kind}
 use Rattle.js_parser_readers.specs.Reading.{deep}
 use Rattle.js_parser_readers.specs.Classes as classes
-use Rattle.js_parser_readers.specs.Classes.{Start, start, Prefix, deletes, a_unary, an_update, no_prefix, prefix, First}
+use Rattle.js_parser_readers.specs.Classes.{PrimaryStart, start, Prefix, deletes, a_unary, an_update, no_prefix, prefix, StatementStart}
 use Rattle.js_parser_readers.specs.Parsing.{let_kind}
 use Rattle.js_parser_laws.proofs.HeadLemmas.{start_boolean, prefix_unary}
 use Rattle.js_parser_laws.proofs.Sound.Part.{initialized_present}
@@ -27,16 +27,16 @@ use Rattle.js_parser_laws.proofs.Follows.Assignments.{start_paren}
 -- ---- expressions
 
 -- what begins a primary expression
-abbrev pub is_start : Start → Bool
+abbrev pub is_start : PrimaryStart → Bool
 is_start classes.no_start = false
 is_start _ = true
 
 -- one token, and what is added
-pub first_token : {A : Type 0} {flat_as : A → List Mark} {Fine : A → Type 0} (k : TokenKind) (ts : List Token)
+pub first_token : {A : Type 0} {flat_as : A → List FlatToken} {Fine : A → Type 0} (k : TokenKind) (ts : List Token)
     → IsNext (fixed k) (head_of ts)
     → (tree : A)
     → Fine tree
-    → (ns : List Mark) (more : List Added)
+    → (ns : List FlatToken) (more : List Added)
     → ((r : List Token) → Matches ns (added more ++ r) r)
     → token (fixed k) ∷ ns ≡ flat_as tree
     → Lives Nothing flat_as Fine ts (deep (length (tail_of ts)))
@@ -52,7 +52,7 @@ boolean_alone : (c : Bool) → flat (trees.boolean c) ++ [] ≡ flat (trees.bool
 boolean_alone true = refl
 boolean_alone false = refl
 
-pub start_lives : (c : Start) (ts : List Token)
+pub start_lives : (c : PrimaryStart) (ts : List Token)
     → start (head_of ts) ≡ c
     → is_start c ≡ true
     → Lives Nothing flat (Fits 15) ts (deep (length (tail_of ts)))
@@ -99,7 +99,7 @@ is_prefix _ = true
 abbrev x_member : Expression
 x_member = trees.member (trees.name x_name) x_name
 
-abbrev x_member_marks : List Mark
+abbrev x_member_marks : List FlatToken
 x_member_marks = token (identifier x_name) ∷ token (fixed kinds.Dot) ∷ token (identifier_name x_name) ∷ []
 
 abbrev x_member_tokens : List Added
@@ -127,7 +127,7 @@ prefix_lives no_prefix ts f h = absurd cc
 -- ---- statements
 
 -- what begins a statement that may stand here, other than an expression
-abbrev pub may_stand : Context → First → Bool
+abbrev pub may_stand : StatementContext → StatementStart → Bool
 may_stand context (classes.a_lexical constant) = false
 may_stand context classes.a_continue = context.in_loop
 may_stand context classes.a_break = context.in_loop
@@ -137,7 +137,7 @@ may_stand context classes.an_expression = false
 may_stand context _ = true
 
 -- ( 0 ) 0 ; behind a word
-abbrev test_marks : List Mark
+abbrev test_marks : List FlatToken
 test_marks =
     token (fixed kinds.LeftParenthesis) ∷ token (numeric_literal 0) ∷ token (fixed kinds.RightParenthesis) ∷ token
     (numeric_literal 0) ∷ semicolon (after_expression plain) ∷ []
@@ -150,7 +150,7 @@ test_tokens =
 test_spelled : (r : List Token) → Matches test_marks (added test_tokens ++ r) r
 test_spelled r = (refl, ((refl, refl), (refl, ((refl, refl), inl (refl, refl)))))
 
-abbrev zero_do : List Mark
+abbrev zero_do : List FlatToken
 zero_do =
     token (numeric_literal 0) ∷ semicolon (after_expression plain) ∷ token (fixed kinds.While) ∷ token
     (fixed kinds.LeftParenthesis) ∷ token (numeric_literal 0) ∷ token (fixed kinds.RightParenthesis)
@@ -161,7 +161,7 @@ zero_do_tokens =
     a_token kinds.Number ∷ a_token kinds.Semicolon ∷ a_token kinds.While ∷ a_token kinds.LeftParenthesis ∷ a_token
     kinds.Number ∷ a_token kinds.RightParenthesis ∷ a_token kinds.Semicolon ∷ []
 
-abbrev zero_for : List Mark
+abbrev zero_for : List FlatToken
 zero_for =
     token (fixed kinds.LeftParenthesis) ∷ token (fixed kinds.Semicolon) ∷ token (fixed kinds.Semicolon) ∷ token
     (fixed kinds.RightParenthesis) ∷ token (numeric_literal 0) ∷ semicolon (after_expression plain) ∷ []
@@ -175,13 +175,13 @@ abbrev zero_statement_tree : Statement
 zero_statement_tree = trees.expression (trees.number 0)
 
 -- a word and its semicolon
-abbrev word_end : List Mark
+abbrev word_end : List FlatToken
 word_end = semicolon after_word ∷ []
 
 abbrev end_token : List Added
 end_token = a_token kinds.Semicolon ∷ []
 
-pub first_lives : (context : Context) (c : First) (ts : List Token)
+pub first_lives : (context : StatementContext) (c : StatementStart) (ts : List Token)
     → FirstNext c (head_of ts)
     → may_stand context c ≡ true
     → Lives Nothing flat_statement (IsStatement context) ts (deep (length (tail_of ts)))
@@ -227,7 +227,7 @@ first_lives context classes.a_function ts f h = absurd cc
 first_lives context classes.an_expression ts f h = absurd cc
 
 -- an expression that begins with neither { nor function, as a statement
-pub expression_first_lives : (context : Context) (ts : List Token)
+pub expression_first_lives : (context : StatementContext) (ts : List Token)
     → FirstNext classes.an_expression (head_of ts)
     → Lives Nothing flat (Fits 0) ts (deep (length (tail_of ts)))
     → Lives Nothing flat_statement (IsStatement context) ts (deep (length (tail_of ts)))
@@ -254,7 +254,7 @@ expression_first_lives context ts f l =
 
 -- ---- declarations
 
-pub lexical_first_lives : (context : Context) (taken : List Identifier) (constant : Bool) (ts : List Token)
+pub lexical_first_lives : (context : StatementContext) (taken : List Identifier) (constant : Bool) (ts : List Token)
     → IsNext (fixed (let_kind constant)) (head_of ts)
     → Lives Nothing flat_statement (IsItem context taken) ts (deep (length (tail_of ts)))
 lexical_first_lives context taken constant ts f =
@@ -268,7 +268,7 @@ lexical_first_lives context taken constant ts f =
     (fresh_token taken ∷ (zero_initialized ++ end_token))
     (λ r. ((refl, refl), (refl, ((refl, refl), inl (refl, refl))))) (let_marks constant ms)
 
-pub function_first_lives : (context : Context) (taken : List Identifier) (ts : List Token)
+pub function_first_lives : (context : StatementContext) (taken : List Identifier) (ts : List Token)
     → IsNext (fixed kinds.Function) (head_of ts)
     → Lives Nothing flat_statement (IsItem context taken) ts (deep (length (tail_of ts)))
 function_first_lives context taken ts f =

@@ -3,9 +3,9 @@ use Rattle.std.proofs.Common.{◌≡◌, ℕ, zero, suc, Bool, true, false, List
 use Rattle.std.proofs.lemmas.List.{append-nil}
 use Rattle.js_lexer.specs.declared.token.TokenKind.{TokenKind}
 use Rattle.js_lexer.specs.declared.token.TokenKind.TheVariants as kinds
-use Rattle.js_parser_language.specs.Tokens.{Token, fixed, Mark, token, trailing_comma, head_of, tail_of, IsNext, Matches}
+use Rattle.js_parser_language.specs.Tokens.{Token, fixed, FlatToken, token, trailing_comma, head_of, tail_of, IsNext, Matches}
 use Rattle.js_parser_language.specs.Kinds.{is_kind}
-use Rattle.js_parser_readers.specs.Reading.{Fault, Reader, ◌>>=◌, After, goes_on, ends, neither, after, go_after, elements_by, elements, others_by, others, ends_list, items_by, items}
+use Rattle.js_parser_readers.specs.Reading.{Fault, Reader, ◌>>=◌, AfterElement, goes_on, ends, neither, after, go_after, elements_by, elements, others_by, others, ends_list, items_by, items}
 use Rattle.js_parser_language.proofs.KindLemmas.{next_is}
 use Rattle.js_parser_laws.proofs.MarkLemmas.{joins}
 use Rattle.js_parser_laws.proofs.Sound.List.{behind_commas, up_to, in_a_row, AllGood, Reads, after_goes}
@@ -15,26 +15,26 @@ use Rattle.js_parser_laws.proofs.Alive.Tools.{bind_err, Counts, stuck_counts, de
 abbrev pub LivesOne : {S A : Type 0}
     → (Option Token → Type 0)
     → (S → Reader A)
-    → (A → List Mark)
+    → (A → List FlatToken)
     → (S → A → Type 0)
     → Type 0
 LivesOne {S} First one flat_of Good =
     (s : S) (ts : List Token) (e : Fault) → one s ts ≡ Err e → Lives First flat_of (Good s) ts e
 
 -- good elements end in a token
-abbrev pub AreFirm : {S A : Type 0} → (A → List Mark) → (S → A → Type 0) → Type 0
+abbrev pub AreFirm : {S A : Type 0} → (A → List FlatToken) → (S → A → Type 0) → Type 0
 AreFirm {S} {A} flat_of Good = (s : S) (x : A) → Good s x → is_firm (flat_of x) ≡ true
 
 -- ---- elements up to a token
 
 -- the token that ends a list, behind its last element
-closed : {A : Type 0} (flat_of : A → List Mark) (closer : TokenKind) (x : A)
+closed : {A : Type 0} (flat_of : A → List FlatToken) (closer : TokenKind) (x : A)
     → flat_of x ++ (trailing_comma ∷ token (fixed closer) ∷ []) ≡ up_to flat_of closer (x ∷ [])
 closed flat_of closer x =
-    ap (λ (ms : List Mark). ms ++ (trailing_comma ∷ token (fixed closer) ∷ [])) (sym (append-nil (flat_of x)))
+    ap (λ (ms : List FlatToken). ms ++ (trailing_comma ∷ token (fixed closer) ∷ [])) (sym (append-nil (flat_of x)))
 
 -- a comma with what is read behind it
-behind_one : {A : Type 0} (flat_of : A → List Mark) (closer : TokenKind) (xs : List A) (t : Token) (us r : List Token)
+behind_one : {A : Type 0} (flat_of : A → List FlatToken) (closer : TokenKind) (xs : List A) (t : Token) (us r : List Token)
     → t.kind ≡ kinds.Comma
     → Matches (up_to flat_of closer xs) us r
     → Matches (behind_commas flat_of xs ++ (trailing_comma ∷ token (fixed closer) ∷ [])) (t ∷ us) r
@@ -42,7 +42,7 @@ behind_one flat_of closer [] t us r c m = inl (c, m)
 behind_one flat_of closer (x ∷ xs) t us r c m = (c, m)
 
 -- an element, a comma, and what lives behind it
-comma_lives : {A : Type 0} {Good : List A → Type 0} {Fine : List A → Type 0} (flat_of : A → List Mark)
+comma_lives : {A : Type 0} {Good : List A → Type 0} {Fine : List A → Type 0} (flat_of : A → List FlatToken)
     (closer : TokenKind) (x : A)
     → is_firm (flat_of x) ≡ true
     → (ts mid : List Token) (e : Fault)
@@ -59,20 +59,20 @@ comma_lives {A} {Good} {Fine} flat_of closer x firm ts (t ∷ mid) e m c l fine 
     (x ∷ l.tree) fine []
     (λ us r s k. subst (λ (us : List Token). Matches (up_to flat_of closer (x ∷ l.tree)) us r)
     (sym (append_assoc (f.next ∷ f.before) (t ∷ []) us))
-    (subst (λ (ms : List Mark). Matches ms ((f.next ∷ f.before) ++ (t ∷ us)) r)
+    (subst (λ (ms : List FlatToken). Matches ms ((f.next ∷ f.before) ++ (t ∷ us)) r)
     (sym (append_assoc (flat_of x) (behind_commas flat_of l.tree) (trailing_comma ∷ token (fixed closer) ∷ [])))
     (joins (flat_of x) ms ((f.next ∷ f.before) ++ (t ∷ us)) (t ∷ us) r (f.other (t ∷ us))
     (behind_one flat_of closer l.tree t us r c k))))
     (λ us s. inr tt)
 
-go_after_lives : {A : Type 0} {Good : List A → Type 0} {Fine : List A → Type 0} (flat_of : A → List Mark)
+go_after_lives : {A : Type 0} {Good : List A → Type 0} {Fine : List A → Type 0} (flat_of : A → List FlatToken)
     (closer : TokenKind) (x : A)
     → is_firm (flat_of x) ≡ true
     → ((xs : List A) → Good xs → Fine (x ∷ xs))
     → Good []
     → (go : Reader (List A))
     → ((ts : List Token) (e : Fault) → go ts ≡ Err e → Lives Anything (up_to flat_of closer) Good ts e)
-    → (a : After) (ts mid : List Token)
+    → (a : AfterElement) (ts mid : List Token)
     → after closer (head_of mid) ≡ a
     → Matches (flat_of x) ts mid
     → (e : Fault)
@@ -89,7 +89,7 @@ go_after_lives {A} flat_of closer x firm fine none go h neither ts mid f m e p =
     (closed flat_of closer x))
 
 elements_by_lives : {S A : Type 0} (First : Option Token → Type 0) (one : S → Reader A) (next : S → A → S)
-    (flat_of : A → List Mark) (Good : S → A → Type 0)
+    (flat_of : A → List FlatToken) (Good : S → A → Type 0)
     → Reads one flat_of Good
     → AreFirm flat_of Good
     → LivesOne First one flat_of Good
@@ -124,7 +124,7 @@ elements_by_lives {S} {A} First one next flat_of Good reads firm lives closer go
     ]
 
 pub elements_lives : {S A : Type 0} (First : Option Token → Type 0) (one : S → Reader A) (next : S → A → S)
-    (flat_of : A → List Mark) (Good : S → A → Type 0)
+    (flat_of : A → List FlatToken) (Good : S → A → Type 0)
     → Reads one flat_of Good
     → AreFirm flat_of Good
     → LivesOne First one flat_of Good
@@ -142,7 +142,7 @@ elements_lives First one next flat_of Good reads firm lives closer (suc k) s ts 
 -- ---- further elements
 
 others_by_lives : {S A : Type 0} (First : Option Token → Type 0) (one : S → Reader A) (next : S → A → S)
-    (flat_of : A → List Mark) (Good : S → A → Type 0)
+    (flat_of : A → List FlatToken) (Good : S → A → Type 0)
     → Reads one flat_of Good
     → AreFirm flat_of Good
     → LivesOne First one flat_of Good
@@ -172,14 +172,14 @@ others_by_lives {S} {A} First one next flat_of Good reads firm lives go h true s
             (around l (token (fixed kinds.Comma) ∷ flat_of q.0.0)
             (firm_behind (token (fixed kinds.Comma)) (flat_of q.0.0) (firm s q.0.0 t.1)) ts (c, t.0)
             (q.0.0 ∷ l.tree) (t.1, l.good) [] [] (λ r. refl)
-            (ap (λ (ms : List Mark). token (fixed kinds.Comma) ∷ (flat_of q.0.0 ++ ms))
+            (ap (λ (ms : List FlatToken). token (fixed kinds.Comma) ∷ (flat_of q.0.0 ++ ms))
             (append-nil (behind_commas flat_of l.tree))))
         | inr k ↦ absurd cc
       ]
     ]
 
 pub others_lives : {S A : Type 0} (First : Option Token → Type 0) (one : S → Reader A) (next : S → A → S)
-    (flat_of : A → List Mark) (Good : S → A → Type 0)
+    (flat_of : A → List FlatToken) (Good : S → A → Type 0)
     → Reads one flat_of Good
     → AreFirm flat_of Good
     → LivesOne First one flat_of Good
@@ -198,7 +198,7 @@ others_lives First one next flat_of Good reads firm lives (suc k) s ts e p =
 
 items_by_lives : {S A : Type 0} (First : Option Token → Type 0)
     → ((ts us : List Token) → Starts First ts us → Softer ts us)
-    → (one : S → Reader A) (next : S → A → S) (flat_of : A → List Mark) (Good : S → A → Type 0)
+    → (one : S → Reader A) (next : S → A → S) (flat_of : A → List FlatToken) (Good : S → A → Type 0)
     → Reads one flat_of Good
     → LivesOne First one flat_of Good
     → (go : S → Reader (List A))
@@ -219,14 +219,14 @@ items_by_lives {S} {A} First soft one next flat_of Good reads lives go h false s
             let t = reads s ts q.0 q.1 in
             let l = h (next s q.0.0) q.0.1 e k in
             around_softly l (soft q.0.1) (flat_of q.0.0) ts t.0 (q.0.0 ∷ l.tree) (t.1, l.good) [] [] (λ r. refl)
-            (ap (λ (ms : List Mark). flat_of q.0.0 ++ ms) (append-nil (in_a_row flat_of l.tree)))
+            (ap (λ (ms : List FlatToken). flat_of q.0.0 ++ ms) (append-nil (in_a_row flat_of l.tree)))
         | inr k ↦ absurd cc
       ]
     ]
 
 pub items_lives : {S A : Type 0} (First : Option Token → Type 0)
     → ((ts us : List Token) → Starts First ts us → Softer ts us)
-    → (one : S → Reader A) (next : S → A → S) (flat_of : A → List Mark) (Good : S → A → Type 0)
+    → (one : S → Reader A) (next : S → A → S) (flat_of : A → List FlatToken) (Good : S → A → Type 0)
     → Reads one flat_of Good
     → LivesOne First one flat_of Good
     → ((s : S) (ts : List Token) (e : Fault) → Counts e ts → Lives First flat_of (Good s) ts e)

@@ -9,15 +9,15 @@ use Rattle.js_lexer.specs.declared.token.TokenKind.TheVariants as kinds
 use Rattle.js_lexer.specs.Classes.{is_word_part}
 use Rattle.js_tree.specs.Trees as trees
 use Rattle.js_tree.specs.Trees.{Identifier, Expression, Expressions, Declarator, Declarators, Statement, Statements}
-use Rattle.js_parser_language.specs.Tokens.{Token, IsSymbol, fixed, identifier, numeric_literal, Mark, token, semicolon, End, after_expression, absent, head_of, tail_of, is_on_line, IsNext, Matches}
+use Rattle.js_parser_language.specs.Tokens.{Token, IsSymbol, fixed, identifier, numeric_literal, FlatToken, token, semicolon, StatementEnd, after_expression, absent, head_of, tail_of, is_on_line, IsNext, Matches}
 use Rattle.js_parser_language.specs.Flat as flats
 use Rattle.js_parser_language.specs.Flat.{edge, flat, flat_expressions, more_expressions, trailing, an_identifier, flat_parameters, flat_declarator, flat_declarators, flat_statement, flat_statements}
-use Rattle.js_parser_language.specs.Well.{Context, function_body, level, Well, AreAssignments, WellDeclarator, WellDeclarators, IsInitialized, is_some_declarator, WellStatement, WellStatements, is_statement, is_among, AreFresh, DifferIn, declared_by, declared_names, names_of_declarators}
+use Rattle.js_parser_language.specs.Well.{StatementContext, function_body, level, Well, AreAssignments, WellDeclarator, WellDeclarators, IsInitialized, is_some_declarator, WellStatement, WellStatements, is_statement, is_among, AreFresh, DifferIn, declared_by, declared_names, names_of_declarators}
 use Rattle.js_tree.specs.Views.{expressions, statements, declarators}
 use Rattle.js_parser_language.specs.Kinds.{is_same_kind, is_kind}
 use Rattle.js_parser_readers.specs.Classes.{is_name}
 use Rattle.js_parser_readers.specs.Reading.{Fault, stuck, ◌>>=◌, expect, expect_near, name_at, fresh_name, text_of, semicolon_at, elements, others, items, no_state, with_name, with_names}
-use Rattle.js_parser_readers.specs.Productions.{Code, Below, one_of, arguments_before, more_assignments, parameters_at, with_declared, items_at, braces, code_at, initializer_by, declarator_at, name_of, with_declarator, declarators_at, optional_by, optional_before, ended_expression, Item, tok, near, a_name, the_name, an_assignment, an_expression, optional, arguments, ended, an_end, declared, a_statement, a_block, in_braces, code, Value, Values, expect_name, item, seq, made}
+use Rattle.js_parser_readers.specs.Productions.{ParametersAndBody, Below, one_of, arguments_before, more_assignments, parameters_at, with_declared, items_at, braces, code_at, initializer_by, declarator_at, name_of, with_declarator, declarators_at, optional_by, optional_before, ended_expression, Piece, tok, near, a_name, the_name, an_assignment, an_expression, optional, arguments, ended, an_end, declared, a_statement, a_block, in_braces, code, PieceValue, PieceValues, expect_name, item, seq, made}
 use Rattle.js_parser_language.proofs.KindLemmas.{same_kind, next_is}
 use Rattle.js_parser_laws.proofs.Claims.{SoundBelow, marks_of, marks, Sane, AllSane}
 use Rattle.js_parser_laws.proofs.MarkLemmas.{joins}
@@ -36,23 +36,23 @@ use Rattle.std.proofs.lemmas.Bool.{and_parts}
 abbrev pub Fits : ℕ → Expression → Type 0
 Fits low e = Well e × (low ≤ level e)
 
-abbrev pub IsStatement : Context → Statement → Type 0
+abbrev pub IsStatement : StatementContext → Statement → Type 0
 IsStatement context s = WellStatement context s × (is_statement s ≡ true)
 
 -- a statement or a declaration of other names than those taken
-abbrev pub IsItem : Context → List Identifier → Statement → Type 0
+abbrev pub IsItem : StatementContext → List Identifier → Statement → Type 0
 IsItem context taken s = WellStatement context s × AreFresh taken (declared_by s)
 
-abbrev pub IsBlock : Context → List Identifier → Statements → Type 0
+abbrev pub IsBlock : StatementContext → List Identifier → Statements → Type 0
 IsBlock context taken ss = AreFresh taken (declared_names ss) × WellStatements context ss
 
-abbrev pub flat_block : Statements → List Mark
+abbrev pub flat_block : Statements → List FlatToken
 flat_block ss = flats.in_braces (flat_statements ss)
 
-abbrev pub IsCode : Code → Type 0
+abbrev pub IsCode : ParametersAndBody → Type 0
 IsCode f = DifferIn f.parameters f.body × WellStatements function_body f.body
 
-abbrev pub flat_code : Code → List Mark
+abbrev pub flat_code : ParametersAndBody → List FlatToken
 flat_code f = flat_parameters f.parameters ++ flats.in_braces (flat_statements f.body)
 
 -- Where what reads below a node stops, the tokens before begin a well-formed tree.
@@ -66,13 +66,13 @@ pub record AliveBelow (b : Below) : Type 0 where
       → Lives IsZero flat (Fits m) ts e
   pub unary : (ts : List Token) (e : Fault) → b.unary ts ≡ Err e → Lives IsZero flat (Fits 13) ts e
   pub call : (ts : List Token) (e : Fault) → b.call ts ≡ Err e → Lives IsZero flat (Fits 15) ts e
-  pub statement : (context : Context) (ts : List Token) (e : Fault)
+  pub statement : (context : StatementContext) (ts : List Token) (e : Fault)
       → b.statement context ts ≡ Err e
       → Lives IsZero flat_statement (IsStatement context) ts e
-  pub item : (context : Context) (taken : List Identifier) (ts : List Token) (e : Fault)
+  pub item : (context : StatementContext) (taken : List Identifier) (ts : List Token) (e : Fault)
       → b.item context taken ts ≡ Err e
       → Lives IsZero flat_statement (IsItem context taken) ts e
-  pub block : (context : Context) (taken : List Identifier) (ts : List Token) (e : Fault)
+  pub block : (context : StatementContext) (taken : List Identifier) (ts : List Token) (e : Fault)
       → b.block context taken ts ≡ Err e
       → Lives (IsAdded kinds.LeftBrace) flat_block (IsBlock context taken) ts e
   pub function : (ts : List Token) (e : Fault)
@@ -89,7 +89,7 @@ pub zero_expression : (low : ℕ)
 zero_expression low h ts e c =
     fills ts e c (trees.number 0) (tt, h) (a_token kinds.Number ∷ []) (λ r. ((refl, refl), refl)) (λ r. refl)
 
-abbrev pub zero_marks : List Mark
+abbrev pub zero_marks : List FlatToken
 zero_marks = token (numeric_literal 0) ∷ []
 
 -- 0; as a statement
@@ -100,19 +100,19 @@ pub zero_spells : (r : List Token)
     → Matches (flat_statement (trees.expression (trees.number 0))) (added zero_spelled ++ r) r
 zero_spells r = ((refl, refl), inl (refl, refl))
 
-pub zero_statement : (context : Context) (ts : List Token) (e : Fault)
+pub zero_statement : (context : StatementContext) (ts : List Token) (e : Fault)
     → Counts e ts
     → Lives IsZero flat_statement (IsStatement context) ts e
 zero_statement context ts e c =
     fills ts e c (trees.expression (trees.number 0)) ((tt, refl, refl), refl) zero_spelled zero_spells (λ r. refl)
 
-pub zero_item : (context : Context) (taken : List Identifier) (ts : List Token) (e : Fault)
+pub zero_item : (context : StatementContext) (taken : List Identifier) (ts : List Token) (e : Fault)
     → Counts e ts
     → Lives IsZero flat_statement (IsItem context taken) ts e
 zero_item context taken ts e c =
     fills ts e c (trees.expression (trees.number 0)) ((tt, refl, refl), tt) zero_spelled zero_spells (λ r. refl)
 
-pub empty_block : (context : Context) (taken : List Identifier) (ts : List Token) (e : Fault)
+pub empty_block : (context : StatementContext) (taken : List Identifier) (ts : List Token) (e : Fault)
     → Counts e ts
     → Lives (IsAdded kinds.LeftBrace) flat_block (IsBlock context taken) ts e
 empty_block context taken ts e c =
@@ -215,7 +215,7 @@ expect_near_err k ts e p = elim (cond_err (is_on_line (head_of ts)) (expect k ts
   | inr q ↦ stuck_counts {A = Unit {0}} ts e q.1
 ]
 
-pub semicolon_err : (end : End) (ts : List Token) (e : Fault) → semicolon_at end ts ≡ Err e → Counts e ts
+pub semicolon_err : (end : StatementEnd) (ts : List Token) (e : Fault) → semicolon_at end ts ≡ Err e → Counts e ts
 unfolding semicolon_at
 semicolon_err end ts e p = elim (cond_err (is_kind kinds.Semicolon (head_of ts)) (Ok (tt, tail_of ts)) _ e p) [
   | inl q ↦ absurd cc
@@ -246,7 +246,7 @@ all_assignments : (u : Unit {0}) (es : List Expression)
 all_assignments u [] g = tt
 all_assignments u (e ∷ es) g = (g.0.0, g.0.1, all_assignments tt es g.1)
 
-abbrev pub flat_arguments : TokenKind → Expressions → List Mark
+abbrev pub flat_arguments : TokenKind → Expressions → List FlatToken
 flat_arguments closer es = flat_expressions es ++ (trailing es ++ (token (fixed closer) ∷ []))
 
 pub arguments_lives : (n : ℕ) (b : Below)
@@ -302,13 +302,13 @@ parameters_lives ts e p =
           from_nothing
           (around l (token (fixed kinds.LeftParenthesis) ∷ []) refl ts (expect_sound kinds.LeftParenthesis ts q.0 q.1)
           l.tree (all_fresh [] l.tree l.good) [] [] (λ r. refl)
-          (ap (λ (ms : List Mark). token (fixed kinds.LeftParenthesis) ∷ ms)
+          (ap (λ (ms : List FlatToken). token (fixed kinds.LeftParenthesis) ∷ ms)
           (append-nil (up_to an_identifier kinds.RightParenthesis l.tree) ∙ sym (names_marks l.tree))))
     ]
 
 -- ---- statements in braces
 
-all_items : (context : Context) (taken : List Identifier) (ss : List Statement)
+all_items : (context : StatementContext) (taken : List Identifier) (ss : List Statement)
     → AllGood with_declared (IsItem context) taken ss
     → IsBlock context taken (statements ss)
 all_items context taken [] g = (tt, tt)
@@ -319,7 +319,7 @@ all_items context taken (s ∷ ss) g =
 pub items_at_lives : (n : ℕ) (b : Below)
     → SoundBelow n b
     → AliveBelow b
-    → (context : Context) (taken : List Identifier) (ts : List Token) (e : Fault)
+    → (context : StatementContext) (taken : List Identifier) (ts : List Token) (e : Fault)
     → items_at b context taken ts ≡ Err e
     → Lives IsZero flat_statements (IsBlock context taken) ts e
 unfolding items_at
@@ -339,7 +339,7 @@ items_at_lives n b s a context taken ts e p =
     ]
 
 -- statements that were read, and the brace that ends them
-abbrev flat_closed : Statements → List Mark
+abbrev flat_closed : Statements → List FlatToken
 flat_closed ss = flat_statements ss ++ (token (fixed kinds.RightBrace) ∷ [])
 
 closed_lives : (Good : Statements → Type 0) (ss : Statements)
@@ -370,7 +370,7 @@ closed_lives Good ss good ts mid m e c =
 inside_lives : (n : ℕ) (b : Below)
     → SoundBelow n b
     → AliveBelow b
-    → (context : Context) (taken : List Identifier) (ts us : List Token) (e : Fault)
+    → (context : StatementContext) (taken : List Identifier) (ts us : List Token) (e : Fault)
     → Matches (token (fixed kinds.LeftBrace) ∷ []) ts us
     → (items_at b context taken us >>= λ x. expect kinds.RightBrace x.1 >>= λ c. Ok (x.0, c.1)) ≡ Err e
     → Lives Nothing flat_block (IsBlock context taken) ts e
@@ -386,7 +386,7 @@ inside_lives n b s a context taken ts us e m p =
             let l = closed_lives (IsBlock context taken) q.0.0 (t.fresh, t.well) us q.0.1 t.marks e
             (expect_err kinds.RightBrace q.0.1 e k) in
             around l (token (fixed kinds.LeftBrace) ∷ []) refl ts m l.tree l.good [] [] (λ r. refl)
-            (ap (λ (ms : List Mark). token (fixed kinds.LeftBrace) ∷ ms) (append-nil (flat_closed l.tree)))
+            (ap (λ (ms : List FlatToken). token (fixed kinds.LeftBrace) ∷ ms) (append-nil (flat_closed l.tree)))
         | inr k ↦ absurd cc
       ]
     ]
@@ -394,7 +394,7 @@ inside_lives n b s a context taken ts us e m p =
 pub braces_lives : (n : ℕ) (b : Below)
     → SoundBelow n b
     → AliveBelow b
-    → (context : Context) (taken : List Identifier) (ts : List Token) (e : Fault)
+    → (context : StatementContext) (taken : List Identifier) (ts : List Token) (e : Fault)
     → braces b context taken ts ≡ Err e
     → Lives (IsAdded kinds.LeftBrace) flat_block (IsBlock context taken) ts e
 unfolding braces
@@ -410,7 +410,7 @@ braces_lives n b s a context taken ts e p =
 pub opened_lives : (n : ℕ) (b : Below)
     → SoundBelow n b
     → AliveBelow b
-    → (context : Context) (taken : List Identifier) (ts : List Token) (e : Fault)
+    → (context : StatementContext) (taken : List Identifier) (ts : List Token) (e : Fault)
     → IsNext (fixed kinds.LeftBrace) (head_of ts)
     → braces b context taken ts ≡ Err e
     → Lives Nothing flat_block (IsBlock context taken) ts e
@@ -449,7 +449,7 @@ code_lives n b s a ts e p =
                 (around l (flat_parameters q.0.0) (firm_parameters q.0.0) ts t.0
                 (record { parameters = q.0.0; body = l.tree })
                 ((t.1, fresh_behind q.0.0 (declared_names l.tree) l.good.0), l.good.1) [] [] (λ r. refl)
-                (ap (λ (ms : List Mark). flat_parameters q.0.0 ++ ms) (append-nil (flat_block l.tree))))
+                (ap (λ (ms : List FlatToken). flat_parameters q.0.0 ++ ms) (append-nil (flat_block l.tree))))
             | inr k ↦ absurd cc
           ]
     ]
@@ -461,7 +461,7 @@ abbrev pub IsDeclarator : Bool → List Identifier → Declarator → Type 0
 IsDeclarator constant taken d = WellDeclarator d × InitializedOne constant d × (is_among taken (name_of d) ≡ false)
 
 -- = 0 behind a name
-abbrev pub zero_initializer : List Mark
+abbrev pub zero_initializer : List FlatToken
 zero_initializer = token (fixed kinds.Assign) ∷ token (numeric_literal 0) ∷ []
 
 abbrev pub zero_initialized : List Added
@@ -589,7 +589,7 @@ declarators_lives n b s a constant taken ts e p =
                 (around l (flat_declarator q.0.0) (declarator_firm q.0.0 (t.well, tt)) ts t.marks
                 (trees.a_declarator q.0.0 (declarators l.tree))
                 (declared_more constant taken q.0.0 l.tree (t.well, t.initialized, t.fresh) l.good) [] [] (λ r. refl)
-                (ap (λ (ms : List Mark). flat_declarator q.0.0 ++ ms)
+                (ap (λ (ms : List FlatToken). flat_declarator q.0.0 ++ ms)
                 (append-nil (behind_commas flat_declarator l.tree) ∙ sym (more_declarators_is l.tree))))
             | inr k ↦ absurd cc
           ]
@@ -631,7 +631,7 @@ pub optional_lives : (n : ℕ) (b : Below)
 unfolding optional_before
 optional_lives n b s a closer ts e p = optional_by_lives n b s a closer (is_kind closer (head_of ts)) ts e p
 
-abbrev pub flat_ended : Expression → List Mark
+abbrev pub flat_ended : Expression → List FlatToken
 flat_ended e = flat e ++ (semicolon (after_expression (edge e)) ∷ [])
 
 pub ended_lives : (n : ℕ) (b : Below)
@@ -661,7 +661,7 @@ ended_lives n b s a ts e p =
 
 -- ---- a value for each item, and its tokens
 
-abbrev fill : (i : Item) → Value i
+abbrev fill : (i : Piece) → PieceValue i
 fill (tok k) = tt
 fill (near k) = tt
 fill a_name = some_name []
@@ -688,11 +688,11 @@ given_is n true f h = (refl, refl)
 given_is n false f h = absurd cc
 
 -- a name that is given is free
-abbrev is_writable : Item → Bool
+abbrev is_writable : Piece → Bool
 is_writable (the_name n) = is_free n
 is_writable i = true
 
-abbrev spell : Item → List Added
+abbrev spell : Piece → List Added
 spell (tok k) = a_token k ∷ []
 spell (near k) = a_near_token k ∷ []
 spell a_name = fresh_token [] ∷ []
@@ -711,7 +711,7 @@ spell code =
     a_token kinds.LeftParenthesis ∷ a_token kinds.RightParenthesis ∷ a_token kinds.LeftBrace ∷ a_token
     kinds.RightBrace ∷ []
 
-spelled : (i : Item) → is_writable i ≡ true → (r : List Token) → Matches (marks_of i (fill i)) (added (spell i) ++ r) r
+spelled : (i : Piece) → is_writable i ≡ true → (r : List Token) → Matches (marks_of i (fill i)) (added (spell i) ++ r) r
 spelled (tok k) w r = (refl, refl)
 spelled (near k) w r = (refl, refl, refl)
 spelled a_name w r = ((refl, refl), refl)
@@ -728,7 +728,7 @@ spelled (a_block context taken) w r = (refl, (refl, refl))
 spelled (in_braces context taken) w r = (refl, (refl, refl))
 spelled code w r = (refl, (refl, (refl, (refl, refl))))
 
-fill_sane : (i : Item) → Sane i (fill i)
+fill_sane : (i : Piece) → Sane i (fill i)
 fill_sane (tok k) = tt
 fill_sane (near k) = tt
 fill_sane a_name = tt
@@ -747,19 +747,19 @@ fill_sane (a_block context taken) = (tt, tt)
 fill_sane (in_braces context taken) = (tt, tt)
 fill_sane code = ((tt, tt), tt)
 
-abbrev fill_all : (is : List Item) → Values is
+abbrev fill_all : (is : List Piece) → PieceValues is
 fill_all [] = tt
 fill_all (i ∷ is) = (fill i, fill_all is)
 
-abbrev spell_all : List Item → List Added
+abbrev spell_all : List Piece → List Added
 spell_all [] = []
 spell_all (i ∷ is) = spell i ++ spell_all is
 
-abbrev are_writable : List Item → Bool
+abbrev are_writable : List Piece → Bool
 are_writable [] = true
 are_writable (i ∷ is) = is_writable i && are_writable is
 
-all_spelled : (is : List Item)
+all_spelled : (is : List Piece)
     → are_writable is ≡ true
     → (r : List Token)
     → Matches (marks is (fill_all is)) (added (spell_all is) ++ r) r
@@ -772,14 +772,14 @@ all_spelled (i ∷ is) w r =
     (joins (marks_of i (fill i)) (marks is (fill_all is)) (added (spell i) ++ (added (spell_all is) ++ r))
     (added (spell_all is) ++ r) r (spelled i h.0 (added (spell_all is) ++ r)) (all_spelled is h.1 r))
 
-all_sane : (is : List Item) → AllSane is (fill_all is)
+all_sane : (is : List Piece) → AllSane is (fill_all is)
 all_sane [] = tt
 all_sane (i ∷ is) = (fill_sane i, all_sane is)
 
 -- ---- items
 
 -- what the first token of an added item is
-abbrev pub FirstOf : Item → Option Token → Type 0
+abbrev pub FirstOf : Piece → Option Token → Type 0
 FirstOf (tok k) o = IsAdded k o
 FirstOf an_assignment o = IsZero o
 FirstOf an_expression o = IsZero o
@@ -789,7 +789,7 @@ FirstOf i o = Anything o
 item_lives : (n : ℕ) (b : Below)
     → SoundBelow n b
     → AliveBelow b
-    → (i : Item)
+    → (i : Piece)
     → is_writable i ≡ true
     → (ts : List Token) (e : Fault)
     → item b i ts ≡ Err e
@@ -820,13 +820,13 @@ item_lives n b s a code w ts e p = anything (code_lives n b s a ts e p)
 -- ---- productions
 
 -- items that end in a token
-abbrev is_firm_item : Item → Bool
+abbrev is_firm_item : Piece → Bool
 is_firm_item ended = false
 is_firm_item (an_end end) = false
 is_firm_item (a_statement context) = false
 is_firm_item i = true
 
-firm_item : (i : Item) (v : Value i) → is_firm_item i ≡ true → Sane i v → is_firm (marks_of i v) ≡ true
+firm_item : (i : Piece) (v : PieceValue i) → is_firm_item i ≡ true → Sane i v → is_firm (marks_of i v) ≡ true
 firm_item (tok k) v f s = refl
 firm_item (near k) v f s = refl
 firm_item a_name v f s = refl
@@ -847,30 +847,30 @@ firm_item code v f s =
     (firm_braces (flat_statements v.body))
 
 -- an item that may end in an absent semicolon stands last, or before while
-abbrev stands : Item → List Item → Bool
+abbrev stands : Piece → List Piece → Bool
 stands i [] = true
 stands (a_statement context) (tok k ∷ is) = is_same_kind k kinds.While
 stands i (j ∷ is) = is_firm_item i
 
-abbrev pub lively : List Item → Bool
+abbrev pub lively : List Piece → Bool
 lively [] = true
 lively (i ∷ is) = (is_writable i && stands i is) && lively is
 
-lively_writable : (is : List Item) → lively is ≡ true → are_writable is ≡ true
+lively_writable : (is : List Piece) → lively is ≡ true → are_writable is ≡ true
 lively_writable [] y = refl
 lively_writable (i ∷ is) y =
     let h = and_parts (is_writable i && stands i is) (lively is) y in
     let w = and_parts (is_writable i) (stands i is) h.0 in
     rw (w.0, lively_writable is h.1) refl
 
-abbrev pub FirstOfAll : List Item → Option Token → Type 0
+abbrev pub FirstOfAll : List Piece → Option Token → Type 0
 FirstOfAll [] o = Anything o
 FirstOfAll (i ∷ is) o = FirstOf i o
 
 -- what lives behind an item that was read
-behind_item : (i : Item) (is : List Item)
+behind_item : (i : Piece) (is : List Piece)
     → stands i is ≡ true
-    → (v : Value i)
+    → (v : PieceValue i)
     → Sane i v
     → (ts mid : List Token)
     → Matches (marks_of i v) ts mid
@@ -884,13 +884,13 @@ behind_item (a_statement context) (tok k ∷ is) h v s ts mid m e some l =
     (λ us t. while_softer mid us
     (subst (λ (k : TokenKind). Starts (IsAdded k) mid us) (same_kind k kinds.While h) t))
     (flat_statement v) ts m (v, l.tree) (s, l.good) [] [] (λ r. refl)
-    (ap (λ (ms : List Mark). flat_statement v ++ ms) (append-nil (marks (tok k ∷ is) l.tree))))
+    (ap (λ (ms : List FlatToken). flat_statement v ++ ms) (append-nil (marks (tok k ∷ is) l.tree))))
 behind_item i (j ∷ is) h v s ts mid m e some l =
     from_nothing
     (around l (marks_of i v) (firm_item i v h s) ts m (v, l.tree) (s, l.good) [] [] (λ r. refl)
-    (ap (λ (ms : List Mark). marks_of i v ++ ms) (append-nil (marks (j ∷ is) l.tree))))
+    (ap (λ (ms : List FlatToken). marks_of i v ++ ms) (append-nil (marks (j ∷ is) l.tree))))
 
-some_items : (b : Below) (is : List Item) (ts : List Token) (e : Fault) → seq b is ts ≡ Err e → (is ≡ []) → ⊥
+some_items : (b : Below) (is : List Piece) (ts : List Token) (e : Fault) → seq b is ts ≡ Err e → (is ≡ []) → ⊥
 some_items b [] ts e p is = absurd cc
 some_items b (i ∷ is) ts e p none = absurd cc
 
@@ -898,7 +898,7 @@ some_items b (i ∷ is) ts e p none = absurd cc
 pub seq_lives : (n : ℕ) (b : Below)
     → SoundBelow n b
     → AliveBelow b
-    → (is : List Item)
+    → (is : List Piece)
     → lively is ≡ true
     → (ts : List Token) (e : Fault)
     → seq b is ts ≡ Err e
@@ -927,7 +927,7 @@ seq_lives n b s a (i ∷ is) y ts e p =
 pub known_lives : (n : ℕ) (b : Below)
     → SoundBelow n b
     → AliveBelow b
-    → (k : TokenKind) (is : List Item)
+    → (k : TokenKind) (is : List Piece)
     → lively is ≡ true
     → (ts : List Token) (e : Fault)
     → IsNext (fixed k) (head_of ts)
@@ -941,13 +941,13 @@ known_lives n b s a k is y ts e f p =
             let l = seq_lives n b s a is y q.0.1 e j in
             around l (token (fixed k) ∷ []) refl ts (expect_sound k ts q.0 q.1) (tt, l.tree) (tt, l.good) [] []
             (λ r. refl)
-            (ap (λ (ms : List Mark). token (fixed k) ∷ ms) (append-nil (marks is l.tree)))
+            (ap (λ (ms : List FlatToken). token (fixed k) ∷ ms) (append-nil (marks is l.tree)))
         | inr j ↦ absurd cc
       ]
     ]
 
 -- what is made of a production's values stops where the production does
-pub made_err : {A : Type 0} (b : Below) (is : List Item) (make : Values is → A) (ts : List Token) (e : Fault)
+pub made_err : {A : Type 0} (b : Below) (is : List Piece) (make : PieceValues is → A) (ts : List Token) (e : Fault)
     → made b is make ts ≡ Err e
     → seq b is ts ≡ Err e
 made_err b is make ts e p = elim (bind_err (seq b is ts) (λ x. Ok (make x.0, x.1)) e p) [

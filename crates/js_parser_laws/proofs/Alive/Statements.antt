@@ -6,14 +6,14 @@ use Rattle.js_lexer.specs.declared.token.TokenKind.{TokenKind}
 use Rattle.js_lexer.specs.declared.token.TokenKind.TheVariants as kinds
 use Rattle.js_tree.specs.Trees as trees
 use Rattle.js_tree.specs.Trees.{Identifier, Expression, Statement, Statements, Handler, Finalizer}
-use Rattle.js_parser_language.specs.Tokens.{Token, fixed, identifier, numeric_literal, Mark, token, beside, semicolon, plain, after_expression, after_word, head_of, tail_of, IsNext, is_on_line, Matches}
+use Rattle.js_parser_language.specs.Tokens.{Token, fixed, identifier, numeric_literal, FlatToken, token, beside, semicolon, plain, after_expression, after_word, head_of, tail_of, IsNext, is_on_line, Matches}
 use Rattle.js_parser_language.specs.Flat.{edge, end_of_declarators, on_line, let_or_const, flat, flat_optional, flat_parameters, flat_declarators, flat_statement, flat_statements, flat_handler, flat_finalizer}
-use Rattle.js_parser_language.specs.Well.{Context, Well, WellHandler, WellFinalizer, is_handled}
+use Rattle.js_parser_language.specs.Well.{StatementContext, Well, WellHandler, WellFinalizer, is_handled}
 use Rattle.js_parser_language.specs.Kinds.{is_kind}
 use Rattle.js_parser_readers.specs.Classes as classes
-use Rattle.js_parser_readers.specs.Classes.{First, first_by, first, ends_return, ForHead, each, declares, plain_head, for_head}
+use Rattle.js_parser_readers.specs.Classes.{StatementStart, first_by, first, ends_return, ForHead, each, declares, plain_head, for_head}
 use Rattle.js_parser_readers.specs.Reading.{Fault, stuck, Read, ◌>>=◌, expect, fresh_name, semicolon_at}
-use Rattle.js_parser_readers.specs.Productions.{Below, braces, code_at, declarators_at, ended_expression, Item, tok, an_expression, ended, an_end, a_statement, a_block, in_braces, Values, seq, made}
+use Rattle.js_parser_readers.specs.Productions.{Below, braces, code_at, declarators_at, ended_expression, Piece, tok, an_expression, ended, an_end, a_statement, a_block, in_braces, PieceValues, seq, made}
 use Rattle.js_parser_readers.specs.Parsing.{else_by, if_items, if_at, let_kind, do_items, while_items, for_items, for_lexical_items, for_of_items, for_by, for_at, return_by, throw_by, catch_by, handler_by, handler_at, finalizer_by, finalizer_at, try_at, statement_by, statement, lexical_at, declaration_at, item_by, item}
 use Rattle.js_parser_language.proofs.KindLemmas.{next_is}
 use Rattle.js_parser_laws.proofs.Claims.{SoundBelow, marks, AllSane, TakesAll}
@@ -30,7 +30,7 @@ use Rattle.js_parser_laws.proofs.Again.Primary.{and_nothing}
 -- ---- what begins a statement
 
 -- the first token of a class
-abbrev pub FirstNext : First → Option Token → Type 0
+abbrev pub FirstNext : StatementStart → Option Token → Type 0
 FirstNext classes.a_block o = IsNext (fixed kinds.LeftBrace) o
 FirstNext (classes.a_lexical constant) o = IsNext (fixed (let_kind constant)) o
 FirstNext classes.a_semicolon o = IsNext (fixed kinds.Semicolon) o
@@ -72,7 +72,7 @@ first_next (Some t) = by_kind t.kind
 -- ---- statements of one production
 
 -- the items behind the first one
-abbrev behind_first : List Item → List Item
+abbrev behind_first : List Piece → List Piece
 behind_first [] = []
 behind_first (i ∷ is) = is
 
@@ -80,12 +80,12 @@ behind_first (i ∷ is) = is
 made_lives : (n : ℕ) (b : Below)
     → SoundBelow n b
     → AliveBelow b
-    → (context : Context) (k : TokenKind) (is : List Item) (ts : List Token) (e : Fault)
+    → (context : StatementContext) (k : TokenKind) (is : List Piece) (ts : List Token) (e : Fault)
     → lively is ≡ true
     → IsNext (fixed k) (head_of ts)
-    → (make : Values (tok k ∷ is) → Statement)
-    → ((vs : Values (tok k ∷ is)) → AllSane (tok k ∷ is) vs → IsStatement context (make vs))
-    → ((vs : Values (tok k ∷ is)) → marks (tok k ∷ is) vs ≡ flat_statement (make vs))
+    → (make : PieceValues (tok k ∷ is) → Statement)
+    → ((vs : PieceValues (tok k ∷ is)) → AllSane (tok k ∷ is) vs → IsStatement context (make vs))
+    → ((vs : PieceValues (tok k ∷ is)) → marks (tok k ∷ is) vs ≡ flat_statement (make vs))
     → made b (tok k ∷ is) make ts ≡ Err e
     → Lives Nothing flat_statement (IsStatement context) ts e
 made_lives n b s a context k is ts e lively f make sane same p =
@@ -95,7 +95,7 @@ made_lives n b s a context k is ts e lively f make sane same p =
 if_then_lives : (n : ℕ) (b : Below)
     → SoundBelow n b
     → AliveBelow b
-    → (context : Context) (ts : List Token) (e : Fault)
+    → (context : StatementContext) (ts : List Token) (e : Fault)
     → IsNext (fixed kinds.If) (head_of ts)
     → seq b (if_items context) ts ≡ Err e
     → Lives Nothing flat_statement (IsStatement context) ts e
@@ -108,7 +108,7 @@ if_then_lives n b s a context ts e f p =
 else_lives : (n : ℕ) (b : Below)
     → SoundBelow n b
     → AliveBelow b
-    → (context : Context) (ts : List Token) (vs : Values (if_items context)) (r : List Token) (e : Fault)
+    → (context : StatementContext) (ts : List Token) (vs : PieceValues (if_items context)) (r : List Token) (e : Fault)
     → TakesAll n (if_items context) ts vs r
     → (c : Bool)
     → is_kind kinds.Else (head_of r) ≡ c
@@ -131,10 +131,10 @@ else_lives n b s a context ts vs r e t true h p =
       refl,
     )
     [] [] (λ r. refl)
-    (ap (λ (ms : List Mark). token (fixed kinds.If) ∷ token (fixed kinds.LeftParenthesis) ∷ ms)
+    (ap (λ (ms : List FlatToken). token (fixed kinds.If) ∷ token (fixed kinds.LeftParenthesis) ∷ ms)
     (behind_if (flat vs.1.1.0) (flat_statement vs.1.1.1.1.0)
     ((token (fixed kinds.Else) ∷ (flat_statement l.tree.1.0 ++ [])) ++ []) kinds.RightParenthesis
-    ∙ ap (λ (ms : List Mark). flat vs.1.1.0 ++
+    ∙ ap (λ (ms : List FlatToken). flat vs.1.1.0 ++
     (token (fixed kinds.RightParenthesis) ∷ (flat_statement vs.1.1.1.1.0 ++ ms)))
     (append-nil (token (fixed kinds.Else) ∷ (flat_statement l.tree.1.0 ++ [])))))
 else_lives n b s a context ts vs r e t false h p = absurd cc
@@ -142,7 +142,7 @@ else_lives n b s a context ts vs r e t false h p = absurd cc
 if_lives : (n : ℕ) (b : Below)
     → SoundBelow n b
     → AliveBelow b
-    → (context : Context) (ts : List Token) (e : Fault)
+    → (context : StatementContext) (ts : List Token) (e : Fault)
     → IsNext (fixed kinds.If) (head_of ts)
     → if_at b context ts ≡ Err e
     → Lives Nothing flat_statement (IsStatement context) ts e
@@ -158,7 +158,7 @@ if_lives n b s a context ts e f p =
 do_lives : (n : ℕ) (b : Below)
     → SoundBelow n b
     → AliveBelow b
-    → (context : Context) (ts : List Token) (e : Fault)
+    → (context : StatementContext) (ts : List Token) (e : Fault)
     → IsNext (fixed kinds.Do) (head_of ts)
     → made b (do_items context) (λ v. trees.do_while v.1.0 v.1.1.1.1.0) ts ≡ Err e
     → Lives Nothing flat_statement (IsStatement context) ts e
@@ -169,7 +169,7 @@ do_lives n b s a context ts e f p =
 while_lives : (n : ℕ) (b : Below)
     → SoundBelow n b
     → AliveBelow b
-    → (context : Context) (ts : List Token) (e : Fault)
+    → (context : StatementContext) (ts : List Token) (e : Fault)
     → IsNext (fixed kinds.While) (head_of ts)
     → made b (while_items context) (λ v. trees.while v.1.1.0 v.1.1.1.1.0) ts ≡ Err e
     → Lives Nothing flat_statement (IsStatement context) ts e
@@ -180,7 +180,7 @@ while_lives n b s a context ts e f p =
 for_by_lives : (n : ℕ) (b : Below)
     → SoundBelow n b
     → AliveBelow b
-    → (context : Context) (h : ForHead) (ts : List Token) (e : Fault)
+    → (context : StatementContext) (h : ForHead) (ts : List Token) (e : Fault)
     → IsNext (fixed kinds.For) (head_of ts)
     → for_by b context h ts ≡ Err e
     → Lives Nothing flat_statement (IsStatement context) ts e
@@ -191,9 +191,9 @@ for_by_lives n b s a context plain_head ts e f p =
     let body = flat_statement v.1.1.1.1.1.0 ++ [] in
     let after_first = (flat_optional v.1.1.1.0 ++ (token (fixed kinds.Semicolon) ∷ [])) ++
     ((flat_optional v.1.1.1.1.0 ++ (token (fixed kinds.RightParenthesis) ∷ [])) ++ body) in
-    ap (λ (l : List Mark). token (fixed kinds.For) ∷ token (fixed kinds.LeftParenthesis) ∷ l)
+    ap (λ (l : List FlatToken). token (fixed kinds.For) ∷ token (fixed kinds.LeftParenthesis) ∷ l)
     (next_optional (flat_optional v.1.1.0) after_first kinds.Semicolon
-    ∙ ap (λ (l : List Mark). flat_optional v.1.1.0 ++ (token (fixed kinds.Semicolon) ∷ l))
+    ∙ ap (λ (l : List FlatToken). flat_optional v.1.1.0 ++ (token (fixed kinds.Semicolon) ∷ l))
     (tails_are (flat_optional v.1.1.1.0) (flat_optional v.1.1.1.1.0) body))) p
 for_by_lives n b s a context (declares constant) ts e f p =
     made_lives n b s a context kinds.For (behind_first (for_lexical_items context constant)) ts e refl f
@@ -215,10 +215,10 @@ for_by_lives n b s a context (declares constant) ts e f p =
     let body = flat_statement v.1.1.1.1.1.1.1.0 ++ [] in
     let tails = (flat_optional v.1.1.1.1.1.0 ++ (token (fixed kinds.Semicolon) ∷ [])) ++
     ((flat_optional v.1.1.1.1.1.1.0 ++ (token (fixed kinds.RightParenthesis) ∷ [])) ++ body) in
-    ap (λ (l : List Mark). token (fixed kinds.For) ∷ token (fixed kinds.LeftParenthesis) ∷
+    ap (λ (l : List FlatToken). token (fixed kinds.For) ∷ token (fixed kinds.LeftParenthesis) ∷
     (l ++ (flat_declarators v.1.1.1.0 ++ (token (fixed kinds.Semicolon) ∷ tails))))
     (let_is constant)
-    ∙ ap (λ (l : List Mark). token (fixed kinds.For) ∷ token (fixed kinds.LeftParenthesis) ∷
+    ∙ ap (λ (l : List FlatToken). token (fixed kinds.For) ∷ token (fixed kinds.LeftParenthesis) ∷
     (let_or_const constant ++ (flat_declarators v.1.1.1.0 ++ (token (fixed kinds.Semicolon) ∷ l))))
     (tails_are (flat_optional v.1.1.1.1.1.0) (flat_optional v.1.1.1.1.1.1.0) body)) p
 for_by_lives n b s a context (each constant) ts e f p =
@@ -227,13 +227,13 @@ for_by_lives n b s a context (each constant) ts e f p =
     (λ v g. ((g.1.1.1.1.1.0.0, g.1.1.1.1.1.0.1, g.1.1.1.1.1.1.1.0.0, g.1.1.1.1.1.1.1.0.1), refl)) (λ v.
     let rest = token (identifier v.1.1.1.0) ∷ token (identifier (codes "of")) ∷
     (flat v.1.1.1.1.1.0 ++ (token (fixed kinds.RightParenthesis) ∷ (flat_statement v.1.1.1.1.1.1.1.0 ++ []))) in
-    ap (λ (l : List Mark). token (fixed kinds.For) ∷ token (fixed kinds.LeftParenthesis) ∷ (l ++ rest))
+    ap (λ (l : List FlatToken). token (fixed kinds.For) ∷ token (fixed kinds.LeftParenthesis) ∷ (l ++ rest))
     (let_is constant)) p
 
 for_lives : (n : ℕ) (b : Below)
     → SoundBelow n b
     → AliveBelow b
-    → (context : Context) (ts : List Token) (e : Fault)
+    → (context : StatementContext) (ts : List Token) (e : Fault)
     → IsNext (fixed kinds.For) (head_of ts)
     → for_at b context ts ≡ Err e
     → Lives Nothing flat_statement (IsStatement context) ts e
@@ -245,7 +245,7 @@ for_lives n b s a context ts e f p = for_by_lives n b s a context (for_head (tai
 continue_lives : (n : ℕ) (b : Below)
     → SoundBelow n b
     → AliveBelow b
-    → (context : Context)
+    → (context : StatementContext)
     → context.in_loop ≡ true
     → (ts : List Token) (e : Fault)
     → IsNext (fixed kinds.Continue) (head_of ts)
@@ -258,7 +258,7 @@ continue_lives n b s a context loop ts e f p =
 break_lives : (n : ℕ) (b : Below)
     → SoundBelow n b
     → AliveBelow b
-    → (context : Context)
+    → (context : StatementContext)
     → context.in_loop ≡ true
     → (ts : List Token) (e : Fault)
     → IsNext (fixed kinds.Break) (head_of ts)
@@ -271,7 +271,7 @@ break_lives n b s a context loop ts e f p =
 debugger_lives : (n : ℕ) (b : Below)
     → SoundBelow n b
     → AliveBelow b
-    → (context : Context) (ts : List Token) (e : Fault)
+    → (context : StatementContext) (ts : List Token) (e : Fault)
     → IsNext (fixed kinds.Debugger) (head_of ts)
     → made b (tok kinds.Debugger ∷ an_end after_word ∷ []) (λ v. trees.debugger) ts ≡ Err e
     → Lives Nothing flat_statement (IsStatement context) ts e
@@ -301,7 +301,7 @@ line_lives : (k : TokenKind) (make : Expression → Statement)
     → ((f : Expression)
     → flat_statement (make f) ≡ token (fixed k) ∷
     (on_line (flat f) ++ (semicolon (after_expression (edge f)) ∷ [])))
-    → (context : Context)
+    → (context : StatementContext)
     → ((f : Expression) → Well f → IsStatement context (make f))
     → (ts : List Token) (e : Fault)
     → IsNext (fixed k) (head_of ts)
@@ -312,7 +312,7 @@ line_lives k make same context sane [] e f line l = absurd f
 line_lives k make same context sane (t ∷ ts) e f line l =
     let end = semicolon (after_expression (edge l.tree)) ∷ [] in
     grows l (t ∷ ts) (t ∷ []) refl (make l.tree) (sane l.tree l.good) []
-    (λ us r st m. subst (λ (ms : List Mark). Matches ms (t ∷ us) r) (sym (same l.tree))
+    (λ us r st m. subst (λ (ms : List FlatToken). Matches ms (t ∷ us) r) (sym (same l.tree))
     (f, on_line_is (flat l.tree) end us r (still_on_line us st) m))
     (λ us st. inl refl)
   where
@@ -321,7 +321,7 @@ line_lives k make same context sane (t ∷ ts) e f line l =
     still_on_line us (inr none) = absurd none
 
 -- return; where no value was read
-bare_return_lives : (context : Context)
+bare_return_lives : (context : StatementContext)
     → context.in_function ≡ true
     → (ts : List Token) (e : Fault)
     → IsNext (fixed kinds.Return) (head_of ts)
@@ -334,7 +334,7 @@ bare_return_lives context inside ts e f c =
 return_lives : (n : ℕ) (b : Below)
     → SoundBelow n b
     → AliveBelow b
-    → (context : Context)
+    → (context : StatementContext)
     → context.in_function ≡ true
     → (c : Bool) (ts : List Token) (e : Fault)
     → IsNext (fixed kinds.Return) (head_of ts)
@@ -355,7 +355,7 @@ return_lives n b s a context inside false ts e f h p =
     ]
 
 -- throw 0; on one line
-zero_throw_lives : (context : Context) (ts : List Token) (e : Fault)
+zero_throw_lives : (context : StatementContext) (ts : List Token) (e : Fault)
     → IsNext (fixed kinds.Throw) (head_of ts)
     → Counts e (tail_of ts)
     → Lives Nothing flat_statement (IsStatement context) ts e
@@ -367,7 +367,7 @@ zero_throw_lives context ts e f c =
 throw_lives : (n : ℕ) (b : Below)
     → SoundBelow n b
     → AliveBelow b
-    → (context : Context) (c : Bool) (ts : List Token) (e : Fault)
+    → (context : StatementContext) (c : Bool) (ts : List Token) (e : Fault)
     → IsNext (fixed kinds.Throw) (head_of ts)
     → is_on_line (head_of (tail_of ts)) ≡ c
     → throw_by b c ts ≡ Err e
@@ -385,10 +385,10 @@ throw_lives n b s a context false ts e f h p =
 -- ---- try
 
 -- the catch of a try, behind which none is needed
-abbrev IsHandler : Context → Handler → Type 0
+abbrev IsHandler : StatementContext → Handler → Type 0
 IsHandler context h = WellHandler context h × (is_handled h trees.no_finally ≡ true)
 
-abbrev pub empty_braces : List Mark
+abbrev pub empty_braces : List FlatToken
 empty_braces = token (fixed kinds.LeftBrace) ∷ token (fixed kinds.RightBrace) ∷ []
 
 abbrev pub empty_brace_tokens : List Added
@@ -397,7 +397,7 @@ empty_brace_tokens = a_token kinds.LeftBrace ∷ a_token kinds.RightBrace ∷ []
 catch_lives : (n : ℕ) (b : Below)
     → SoundBelow n b
     → AliveBelow b
-    → (context : Context) (c : Bool) (ts : List Token) (e : Fault)
+    → (context : StatementContext) (c : Bool) (ts : List Token) (e : Fault)
     → IsNext (fixed kinds.Catch) (head_of ts)
     → catch_by b context c (tail_of ts) ≡ Err e
     → Lives Nothing flat_handler (IsHandler context) ts e
@@ -418,7 +418,7 @@ catch_lives n b s a context true ts e f p =
                 (identifier q.0.0.1.0)
                 ∷ token (fixed kinds.RightParenthesis) ∷ [] in
                 behind l front refl ts (f, t.marks) (trees.catch (Some q.0.0.1.0) l.tree) (l.good, refl)
-                (ap (λ (ms : List Mark). front ++ ms) (sym (append-nil (flat_block l.tree))))
+                (ap (λ (ms : List FlatToken). front ++ ms) (sym (append-nil (flat_block l.tree))))
             | inr w ↦ absurd cc
           ]
     ]
@@ -427,14 +427,14 @@ catch_lives n b s a context false ts e f p =
       | inl q ↦
           let l = a.block context [] (tail_of ts) e q in
           behind l (token (fixed kinds.Catch) ∷ []) refl ts (f, refl) (trees.catch None l.tree) (l.good, refl)
-          (ap (λ (ms : List Mark). token (fixed kinds.Catch) ∷ ms) (sym (append-nil (flat_block l.tree))))
+          (ap (λ (ms : List FlatToken). token (fixed kinds.Catch) ∷ ms) (sym (append-nil (flat_block l.tree))))
       | inr q ↦ absurd cc
     ]
 
 handler_by_lives : (n : ℕ) (b : Below)
     → SoundBelow n b
     → AliveBelow b
-    → (context : Context) (c : Bool) (ts : List Token) (e : Fault)
+    → (context : StatementContext) (c : Bool) (ts : List Token) (e : Fault)
     → is_kind kinds.Catch (head_of ts) ≡ c
     → handler_by b context c ts ≡ Err e
     → Lives Nothing flat_handler (IsHandler context) ts e
@@ -446,20 +446,20 @@ handler_by_lives n b s a context false ts e h p = absurd cc
 handler_lives : (n : ℕ) (b : Below)
     → SoundBelow n b
     → AliveBelow b
-    → (context : Context) (ts : List Token) (e : Fault)
+    → (context : StatementContext) (ts : List Token) (e : Fault)
     → handler_at b context ts ≡ Err e
     → Lives Nothing flat_handler (IsHandler context) ts e
 unfolding handler_at
 handler_lives n b s a context ts e p = handler_by_lives n b s a context (is_kind kinds.Catch (head_of ts)) ts e refl p
 
 -- the finally of a try behind this catch
-abbrev IsFinalizer : Context → Handler → Finalizer → Type 0
+abbrev IsFinalizer : StatementContext → Handler → Finalizer → Type 0
 IsFinalizer context h f = WellFinalizer context f × (is_handled h f ≡ true)
 
 finalizer_by_lives : (n : ℕ) (b : Below)
     → SoundBelow n b
     → AliveBelow b
-    → (context : Context) (h : Handler) (c : Bool) (ts : List Token) (e : Fault)
+    → (context : StatementContext) (h : Handler) (c : Bool) (ts : List Token) (e : Fault)
     → finalizer_by b context h c ts ≡ Err e
     → Lives Anything flat_finalizer (IsFinalizer context h) ts e
 finalizer_by_lives n b s a context h true ts e p =
@@ -475,7 +475,7 @@ finalizer_by_lives n b s a context (trees.catch m ss) false ts e p = absurd cc
 finalizer_lives : (n : ℕ) (b : Below)
     → SoundBelow n b
     → AliveBelow b
-    → (context : Context) (h : Handler) (ts : List Token) (e : Fault)
+    → (context : StatementContext) (h : Handler) (ts : List Token) (e : Fault)
     → finalizer_at b context h ts ≡ Err e
     → Lives Anything flat_finalizer (IsFinalizer context h) ts e
 unfolding finalizer_at
@@ -483,7 +483,7 @@ finalizer_lives n b s a context h ts e p =
     finalizer_by_lives n b s a context h (is_kind kinds.Finally (head_of ts)) ts e p
 
 -- the block of a try that was read
-abbrev try_front : Statements → List Mark
+abbrev try_front : Statements → List FlatToken
 try_front ss = token (fixed kinds.Try) ∷ flat_block ss
 
 try_front_firm : (ss : Statements) → is_firm (try_front ss) ≡ true
@@ -504,7 +504,7 @@ handler_firm ss (trees.catch (Some m) body) =
 try_block_lives : (n : ℕ) (b : Below)
     → SoundBelow n b
     → AliveBelow b
-    → (context : Context) (ts : List Token) (e : Fault)
+    → (context : StatementContext) (ts : List Token) (e : Fault)
     → IsNext (fixed kinds.Try) (head_of ts)
     → seq b (try_items context) ts ≡ Err e
     → Lives Nothing flat_statement (IsStatement context) ts e
@@ -514,13 +514,13 @@ try_block_lives n b s a context ts e f p =
     ends_in l (trees.try l.tree.1.0 trees.no_catch (trees.finally trees.no_statements))
     ((l.good.1.0.0, l.good.1.0.1, tt, (tt, tt), refl), refl) (token (fixed kinds.Finally) ∷ empty_braces)
     (a_token kinds.Finally ∷ empty_brace_tokens) (λ r. (refl, (refl, (refl, refl))))
-    (ap (λ (ms : List Mark). token (fixed kinds.Try) ∷ (ms ++ (token (fixed kinds.Finally) ∷ empty_braces)))
+    (ap (λ (ms : List FlatToken). token (fixed kinds.Try) ∷ (ms ++ (token (fixed kinds.Finally) ∷ empty_braces)))
     (append-nil (flat_block l.tree.1.0)))
 
 try_lives : (n : ℕ) (b : Below)
     → SoundBelow n b
     → AliveBelow b
-    → (context : Context) (ts : List Token) (e : Fault)
+    → (context : StatementContext) (ts : List Token) (e : Fault)
     → IsNext (fixed kinds.Try) (head_of ts)
     → try_at b context ts ≡ Err e
     → Lives Nothing flat_statement (IsStatement context) ts e
@@ -541,7 +541,7 @@ try_lives n b s a context ts e f p =
                 let l = handler_lives n b s a context q.0.1 e w in
                 behind l (try_front ss) (try_front_firm ss) ts m (trees.try ss l.tree trees.no_finally)
                 ((t.sane.1.0.0, t.sane.1.0.1, l.good.0, tt, l.good.1), refl)
-                (ap (λ (ms : List Mark). try_front ss ++ ms) (sym (append-nil (flat_handler l.tree))))
+                (ap (λ (ms : List FlatToken). try_front ss ++ ms) (sym (append-nil (flat_handler l.tree))))
             | inr w ↦ elim (bind_err (finalizer_at b context w.0.0 w.0.1) (λ f. Ok (trees.try ss w.0.0 f.0, f.1)) e w.2) [
               | inl v ↦
                   let u = handler_sound n b s context q.0.1 w.0 w.1 in
@@ -551,7 +551,7 @@ try_lives n b s a context ts e f p =
                   (joins (try_front ss) (flat_handler h) ts q.0.1 w.0.1 m u.marks) (trees.try ss h l.tree)
                   ((t.sane.1.0.0, t.sane.1.0.1, u.well, l.good.0, l.good.1), refl)
                   (append_assoc (try_front ss) (flat_handler h) (flat_finalizer l.tree)
-                  ∙ ap (λ (ms : List Mark). try_front ss ++ (flat_handler h ++ ms))
+                  ∙ ap (λ (ms : List FlatToken). try_front ss ++ (flat_handler h ++ ms))
                   (sym (append-nil (flat_finalizer l.tree))))
               | inr v ↦ absurd cc
             ]
@@ -563,7 +563,7 @@ try_lives n b s a context ts e f p =
 block_lives : (n : ℕ) (b : Below)
     → SoundBelow n b
     → AliveBelow b
-    → (context : Context) (ts : List Token) (e : Fault)
+    → (context : StatementContext) (ts : List Token) (e : Fault)
     → IsNext (fixed kinds.LeftBrace) (head_of ts)
     → made b (in_braces context [] ∷ []) (λ v. trees.block v.0) ts ≡ Err e
     → Lives Nothing flat_statement (IsStatement context) ts e
@@ -577,7 +577,7 @@ block_lives n b s a context ts e f p =
     ]
 
 -- an expression that is no block and no function
-expression_statement_lives : (context : Context) (ts : List Token) (e : Fault)
+expression_statement_lives : (context : StatementContext) (ts : List Token) (e : Fault)
     → is_kind kinds.LeftBrace (head_of ts) ≡ false
     → is_kind kinds.Function (head_of ts) ≡ false
     → Lives IsZero flat_ended Well ts e
@@ -601,7 +601,7 @@ ended_alone b ts e p =
     ]
 
 -- a word that may not stand here
-refused_word : (context : Context) (ts : List Token) (e : Fault) (c : Bool) (read : Read Statement)
+refused_word : (context : StatementContext) (ts : List Token) (e : Fault) (c : Bool) (read : Read Statement)
     → (c ≡ true → read ≡ Err e → Lives Nothing flat_statement (IsStatement context) ts e)
     → (if c then read else Err (stuck (length ts))) ≡ Err e
     → Lives IsZero flat_statement (IsStatement context) ts e
@@ -613,7 +613,7 @@ refused_word context ts e c read h p = elim (cond_err c read (Err (stuck (length
 statement_by_lives : (n : ℕ) (b : Below)
     → SoundBelow n b
     → AliveBelow b
-    → (context : Context) (c : First) (ts : List Token) (e : Fault)
+    → (context : StatementContext) (c : StatementStart) (ts : List Token) (e : Fault)
     → FirstNext c (head_of ts)
     → statement_by b context c ts ≡ Err e
     → Lives IsZero flat_statement (IsStatement context) ts e
@@ -647,7 +647,7 @@ statement_by_lives n b s a context classes.an_expression ts e f p =
 pub statement_lives : (n : ℕ) (b : Below)
     → SoundBelow n b
     → AliveBelow b
-    → (context : Context) (ts : List Token) (e : Fault)
+    → (context : StatementContext) (ts : List Token) (e : Fault)
     → statement b context ts ≡ Err e
     → Lives IsZero flat_statement (IsStatement context) ts e
 unfolding statement
@@ -656,14 +656,14 @@ statement_lives n b s a context ts e p =
 
 -- ---- declarations
 
-pub let_marks : (constant : Bool) (ms : List Mark)
+pub let_marks : (constant : Bool) (ms : List FlatToken)
     → token (fixed (let_kind constant)) ∷ ms ≡ let_or_const constant ++ ms
-let_marks constant ms = ap (λ (l : List Mark). l ++ ms) (let_is constant)
+let_marks constant ms = ap (λ (l : List FlatToken). l ++ ms) (let_is constant)
 
 lexical_lives : (n : ℕ) (b : Below)
     → SoundBelow n b
     → AliveBelow b
-    → (context : Context) (constant : Bool) (taken : List Identifier) (ts : List Token) (e : Fault)
+    → (context : StatementContext) (constant : Bool) (taken : List Identifier) (ts : List Token) (e : Fault)
     → IsNext (fixed (let_kind constant)) (head_of ts)
     → lexical_at b constant taken ts ≡ Err e
     → Lives Nothing flat_statement (IsItem context taken) ts e
@@ -698,7 +698,7 @@ lexical_lives n b s a context constant taken ts e f p =
 declaration_lives : (n : ℕ) (b : Below)
     → SoundBelow n b
     → AliveBelow b
-    → (context : Context) (taken : List Identifier) (ts : List Token) (e : Fault)
+    → (context : StatementContext) (taken : List Identifier) (ts : List Token) (e : Fault)
     → IsNext (fixed kinds.Function) (head_of ts)
     → declaration_at b taken ts ≡ Err e
     → Lives Nothing flat_statement (IsItem context taken) ts e
@@ -721,14 +721,14 @@ declaration_lives n b s a context taken ts e f p =
                 let front = token (fixed kinds.Function) ∷ token (identifier q.0.0) ∷ [] in
                 behind l front refl ts (f, t.0) (trees.declared_function q.0.0 l.tree.parameters l.tree.body)
                 (l.good, (t.1, tt))
-                (ap (λ (ms : List Mark). front ++ (flat_parameters l.tree.parameters ++ ms))
+                (ap (λ (ms : List FlatToken). front ++ (flat_parameters l.tree.parameters ++ ms))
                 (sym (append-nil (flat_block l.tree.body))))
             | inr w ↦ absurd cc
           ]
     ]
 
 -- a statement declares no name in its list
-pub as_item : (context : Context) (taken : List Identifier) (ts : List Token) (e : Fault)
+pub as_item : (context : StatementContext) (taken : List Identifier) (ts : List Token) (e : Fault)
     → Lives IsZero flat_statement (IsStatement context) ts e
     → Lives IsZero flat_statement (IsItem context taken) ts e
 as_item context taken ts e l = renamed l l.tree (l.good.0, declares_none taken l.tree l.good.1) refl
@@ -736,7 +736,7 @@ as_item context taken ts e l = renamed l l.tree (l.good.0, declares_none taken l
 item_by_lives : (n : ℕ) (b : Below)
     → SoundBelow n b
     → AliveBelow b
-    → (context : Context) (taken : List Identifier) (c : First) (ts : List Token) (e : Fault)
+    → (context : StatementContext) (taken : List Identifier) (c : StatementStart) (ts : List Token) (e : Fault)
     → FirstNext c (head_of ts)
     → item_by b context taken c ts ≡ Err e
     → Lives IsZero flat_statement (IsItem context taken) ts e
@@ -749,7 +749,7 @@ item_by_lives n b s a context taken _ ts e f p = as_item context taken ts e (sta
 pub list_item_lives : (n : ℕ) (b : Below)
     → SoundBelow n b
     → AliveBelow b
-    → (context : Context) (taken : List Identifier) (ts : List Token) (e : Fault)
+    → (context : StatementContext) (taken : List Identifier) (ts : List Token) (e : Fault)
     → item b context taken ts ≡ Err e
     → Lives IsZero flat_statement (IsItem context taken) ts e
 unfolding item

@@ -4,8 +4,8 @@ use Rattle.std.proofs.Common.{◌≡◌, ℕ, Bool, true, false, cond, List, [],
 use Rattle.std.proofs.lemmas.List.{append-nil}
 use Rattle.js_lexer.specs.declared.token.TokenKind.{TokenKind}
 use Rattle.js_lexer.specs.declared.token.TokenKind.TheVariants as kinds
-use Rattle.js_lexer.specs.Written.{Written}
-use Rattle.js_parser_language.specs.Tokens.{Token, Mark, token, beside, semicolon, trailing_comma, End, after_expression, after_word, after_do, plain, braces, update, absent, head_of, Matches}
+use Rattle.js_lexer.specs.Written.{WrittenToken}
+use Rattle.js_parser_language.specs.Tokens.{Token, FlatToken, token, beside, semicolon, trailing_comma, StatementEnd, after_expression, after_word, after_do, plain, braces, update, absent, head_of, Matches}
 use Rattle.js_parser_readers.specs.Reading.{Fault, stuck, deep, Read, ◌>>=◌}
 use Rattle.js_parser_laws.specs.Exact.{written_view}
 use Rattle.js_parser_laws.proofs.MarkLemmas.{joins}
@@ -53,7 +53,7 @@ pub data Added : Type 0 where
   a_name_token : (n : List ℕ) → is_free n ≡ true → Added
 
 -- as it is written
-abbrev pub as_written : Added → Written
+abbrev pub as_written : Added → WrittenToken
 as_written (a_token k) = record { kind = k; text = text_of_kind k; newline_before = true }
 as_written (a_near_token k) = record { kind = k; text = text_of_kind k; newline_before = false }
 as_written (a_name_token n f) = record { kind = kinds.Name; text = n; newline_before = true }
@@ -90,23 +90,23 @@ Starts First ts us = (head_of us ≡ head_of ts) ⊎ First (head_of us)
 
 -- each semicolon that may be absent before a token may be absent before the other
 abbrev pub Softer : List Token → List Token → Type 0
-Softer ts us = (end : End) → absent end (head_of ts) ≡ true → absent end (head_of us) ≡ true
+Softer ts us = (end : StatementEnd) → absent end (head_of ts) ≡ true → absent end (head_of us) ≡ true
 
-zero_soft : (end : End) → absent end (Some (as_token (a_token kinds.Number))) ≡ true
+zero_soft : (end : StatementEnd) → absent end (Some (as_token (a_token kinds.Number))) ≡ true
 zero_soft (after_expression plain) = refl
 zero_soft (after_expression braces) = refl
 zero_soft (after_expression update) = refl
 zero_soft after_word = refl
 zero_soft after_do = refl
 
-while_soft : (end : End) → absent end (Some (as_token (a_token kinds.While))) ≡ true
+while_soft : (end : StatementEnd) → absent end (Some (as_token (a_token kinds.While))) ≡ true
 while_soft (after_expression plain) = refl
 while_soft (after_expression braces) = refl
 while_soft (after_expression update) = refl
 while_soft after_word = refl
 while_soft after_do = refl
 
-brace_soft : (end : End) → absent end (Some (as_token (a_token kinds.RightBrace))) ≡ true
+brace_soft : (end : StatementEnd) → absent end (Some (as_token (a_token kinds.RightBrace))) ≡ true
 brace_soft (after_expression plain) = refl
 brace_soft (after_expression braces) = refl
 brace_soft (after_expression update) = refl
@@ -114,7 +114,7 @@ brace_soft after_word = refl
 brace_soft after_do = refl
 
 pub softer_by : (First : Option Token → Type 0)
-    → ((o : Option Token) → First o → (end : End) → absent end o ≡ true)
+    → ((o : Option Token) → First o → (end : StatementEnd) → absent end o ≡ true)
     → (ts us : List Token)
     → Starts First ts us
     → Softer ts us
@@ -137,7 +137,7 @@ brace_softer ts us = λ end h. brace_soft end
 -- ---- marks before other tokens
 
 -- what was matched, with the tokens behind it replaced
-pub record Softens (ms : List Mark) (ts left : List Token) : Type 0 where
+pub record Softens (ms : List FlatToken) (ts left : List Token) : Type 0 where
   pub before : List Token
   pub parts : ts ≡ before ++ left
   pub other : (us : List Token) → Softer left us → Matches ms (before ++ us) us
@@ -146,7 +146,7 @@ still : (before left us : List Token) → Softer left us → Softer (before ++ l
 still [] left us s = s
 still (t ∷ before) left us s = λ end h. h
 
-pub softens : (ms : List Mark) (ts left : List Token) → Matches ms ts left → Softens ms ts left
+pub softens : (ms : List FlatToken) (ts left : List Token) → Matches ms ts left → Softens ms ts left
 softens [] ts left m = record { before = []; parts = m; other = λ us s. refl }
 softens (token k ∷ ms) [] left m = absurd m.0
 softens (token k ∷ ms) (t ∷ ts) left m =
@@ -199,7 +199,7 @@ softens (trailing_comma ∷ ms) ts left (inr m) =
     record { before = l.before; parts = l.parts; other = λ us s. inr (l.other us s) }
 
 -- marks that end in a token, whatever comes behind it
-abbrev pub is_firm : List Mark → Bool
+abbrev pub is_firm : List FlatToken → Bool
 is_firm [] = false
 is_firm (token s ∷ []) = true
 is_firm (beside s ∷ []) = true
@@ -207,28 +207,28 @@ is_firm (semicolon end ∷ []) = false
 is_firm (trailing_comma ∷ []) = false
 is_firm (m ∷ n ∷ ms) = is_firm (n ∷ ms)
 
-firm_cons : (m n : Mark) (ms : List Mark) → is_firm (n ∷ ms) ≡ true → is_firm (m ∷ n ∷ ms) ≡ true
+firm_cons : (m n : FlatToken) (ms : List FlatToken) → is_firm (n ∷ ms) ≡ true → is_firm (m ∷ n ∷ ms) ≡ true
 firm_cons (token s) n ms f = f
 firm_cons (beside s) n ms f = f
 firm_cons (semicolon end) n ms f = f
 firm_cons trailing_comma n ms f = f
 
-pub firm_behind : (m : Mark) (ms : List Mark) → is_firm ms ≡ true → is_firm (m ∷ ms) ≡ true
+pub firm_behind : (m : FlatToken) (ms : List FlatToken) → is_firm ms ≡ true → is_firm (m ∷ ms) ≡ true
 firm_behind m [] f = absurd cc
 firm_behind m (n ∷ ms) f = firm_cons m n ms f
 
-pub firm_append : (ms ns : List Mark) → is_firm ns ≡ true → is_firm (ms ++ ns) ≡ true
+pub firm_append : (ms ns : List FlatToken) → is_firm ns ≡ true → is_firm (ms ++ ns) ≡ true
 firm_append [] ns f = f
 firm_append (m ∷ ms) ns f = firm_behind m (ms ++ ns) (firm_append ms ns f)
 
 -- such marks are some tokens, and anything may come behind them
-pub record Firmly (ms : List Mark) (ts left : List Token) : Type 0 where
+pub record Firmly (ms : List FlatToken) (ts left : List Token) : Type 0 where
   pub next : Token
   pub before : List Token
   pub parts : ts ≡ (next ∷ before) ++ left
   pub other : (us : List Token) → Matches ms ((next ∷ before) ++ us) us
 
-ends_firm : (s : Mark)
+ends_firm : (s : FlatToken)
     → is_firm (s ∷ []) ≡ true
     → (ts left : List Token)
     → Matches (s ∷ []) ts left
@@ -242,14 +242,14 @@ ends_firm (beside s) f (t ∷ ts) left m =
 ends_firm (semicolon end) f ts left m = absurd cc
 ends_firm trailing_comma f ts left m = absurd cc
 
-firm_tail : (m n : Mark) (ms : List Mark) → is_firm (m ∷ n ∷ ms) ≡ true → is_firm (n ∷ ms) ≡ true
+firm_tail : (m n : FlatToken) (ms : List FlatToken) → is_firm (m ∷ n ∷ ms) ≡ true → is_firm (n ∷ ms) ≡ true
 firm_tail (token s) n ms f = f
 firm_tail (beside s) n ms f = f
 firm_tail (semicolon end) n ms f = f
 firm_tail trailing_comma n ms f = f
 
 -- one mark before such marks
-more_firm : (m : Mark) (ms : List Mark) (ts left : List Token)
+more_firm : (m : FlatToken) (ms : List FlatToken) (ts left : List Token)
     → ((us : List Token) → Matches ms us left → Firmly ms us left)
     → Matches (m ∷ ms) ts left
     → Firmly (m ∷ ms) ts left
@@ -306,7 +306,7 @@ more_firm trailing_comma ms ts left go (inr m) =
     let l = go ts m in
     record { next = l.next; before = l.before; parts = l.parts; other = λ us. inr (l.other us) }
 
-pub firmly : (ms : List Mark) → is_firm ms ≡ true → (ts left : List Token) → Matches ms ts left → Firmly ms ts left
+pub firmly : (ms : List FlatToken) → is_firm ms ≡ true → (ts left : List Token) → Matches ms ts left → Firmly ms ts left
 firmly [] f ts left m = absurd cc
 firmly (m ∷ []) f ts left h = ends_firm m f ts left h
 firmly (m ∷ n ∷ ms) f ts left h =
@@ -315,7 +315,7 @@ firmly (m ∷ n ∷ ms) f ts left h =
 -- ---- what lives
 
 -- The tokens before the fault, with others, are those of a good tree. Where none were read, the others begin so.
-pub record Lives {A : Type 0} (First : Option Token → Type 0) (flat_of : A → List Mark) (Good : A → Type 0)
+pub record Lives {A : Type 0} (First : Option Token → Type 0) (flat_of : A → List FlatToken) (Good : A → Type 0)
     (ts : List Token) (e : Fault) : Type 0 where
   pub before : List Token
   pub left : List Token
@@ -342,7 +342,7 @@ start_behind First [] ts left us parts s = subst (λ (ts : List Token). Starts F
 start_behind First (t ∷ before) ts left us parts s = same_start First t ts before left us parts
 
 -- nothing was read
-pub fills : {A : Type 0} {First : Option Token → Type 0} {flat_of : A → List Mark} {Good : A → Type 0} (ts : List Token)
+pub fills : {A : Type 0} {First : Option Token → Type 0} {flat_of : A → List FlatToken} {Good : A → Type 0} (ts : List Token)
     (e : Fault)
     → Counts e ts
     → (tree : A)
@@ -368,9 +368,9 @@ fills ts e c tree good rest spelled first =
 -- The tree of a part, in a tree with tokens before the part and tokens behind it.
 pub grows : {A B : Type 0} {First Other : Option Token
     → Type 0} {flat_of : A
-    → List Mark} {Good : A
+    → List FlatToken} {Good : A
     → Type 0} {flat_as : B
-    → List Mark} {Fine : B
+    → List FlatToken} {Fine : B
     → Type 0} {mid : List Token} {e : Fault}
     → (l : Lives First flat_of Good mid e)
     → (ts front : List Token)
@@ -411,7 +411,7 @@ grows {A} {B} {First} {Other} {flat_of} {Good} {flat_as} {Fine} {mid} {e} l ts f
 -- what may come first may also be more
 pub widens : {A : Type 0} {First Other : Option Token
     → Type 0} {flat_of : A
-    → List Mark} {Good : A
+    → List FlatToken} {Good : A
     → Type 0} {ts : List Token} {e : Fault}
     → ((o : Option Token) → First o → Other o)
     → Lives First flat_of Good ts e
@@ -434,7 +434,7 @@ widens {A} {First} {Other} {flat_of} {Good} {ts} {e} more l = record {
 
 pub from_nothing : {A : Type 0} {Other : Option Token
     → Type 0} {flat_of : A
-    → List Mark} {Good : A
+    → List FlatToken} {Good : A
     → Type 0} {ts : List Token} {e : Fault}
     → Lives Nothing flat_of Good ts e
     → Lives Other flat_of Good ts e
@@ -443,44 +443,44 @@ from_nothing l = widens (λ o n. absurd n) l
 -- the tree of a part at the front, with marks behind it
 pub ends_in : {A B : Type 0} {First : Option Token
     → Type 0} {flat_of : A
-    → List Mark} {Good : A
+    → List FlatToken} {Good : A
     → Type 0} {flat_as : B
-    → List Mark} {Fine : B
+    → List FlatToken} {Fine : B
     → Type 0} {ts : List Token} {e : Fault}
     → (l : Lives First flat_of Good ts e)
     → (tree : B)
     → Fine tree
-    → (ns : List Mark) (more : List Added)
+    → (ns : List FlatToken) (more : List Added)
     → ((r : List Token) → Matches ns (added more ++ r) r)
     → flat_of l.tree ++ ns ≡ flat_as tree
     → Lives First flat_as Fine ts e
 ends_in {A} {B} {First} {flat_of} {Good} {flat_as} {Fine} {ts} {e} l tree fine ns more spelled same =
     grows l ts [] refl tree fine more
-    (λ us r s k. subst (λ (ms : List Mark). Matches ms us r) same
+    (λ us r s k. subst (λ (ms : List FlatToken). Matches ms us r) same
     (joins (flat_of l.tree) ns us (added more ++ r) r k (spelled r)))
     (λ us s. s)
 
 -- the tree of a part behind marks that end in a token, with marks behind it
 pub around : {A B : Type 0} {First : Option Token
     → Type 0} {flat_of : A
-    → List Mark} {Good : A
+    → List FlatToken} {Good : A
     → Type 0} {flat_as : B
-    → List Mark} {Fine : B
+    → List FlatToken} {Fine : B
     → Type 0} {mid : List Token} {e : Fault}
     → (l : Lives First flat_of Good mid e)
-    → (ms : List Mark)
+    → (ms : List FlatToken)
     → is_firm ms ≡ true
     → (ts : List Token)
     → Matches ms ts mid
     → (tree : B)
     → Fine tree
-    → (ns : List Mark) (more : List Added)
+    → (ns : List FlatToken) (more : List Added)
     → ((r : List Token) → Matches ns (added more ++ r) r)
     → ms ++ (flat_of l.tree ++ ns) ≡ flat_as tree → Lives Nothing flat_as Fine ts e
 around {A} {B} {First} {flat_of} {Good} {flat_as} {Fine} {mid} {e} l ms firm ts m tree fine ns more spelled same =
     let f = firmly ms firm ts mid m in
     grows l ts (f.next ∷ f.before) f.parts tree fine more
-    (λ us r s k. subst (λ (ms : List Mark). Matches ms ((f.next ∷ f.before) ++ us) r) same
+    (λ us r s k. subst (λ (ms : List FlatToken). Matches ms ((f.next ∷ f.before) ++ us) r) same
     (joins ms (flat_of l.tree ++ ns) ((f.next ∷ f.before) ++ us) us r (f.other us)
     (joins (flat_of l.tree) ns us (added more ++ r) r k (spelled r))))
     (λ us s. same_start Nothing f.next ts f.before mid us f.parts)
@@ -488,31 +488,31 @@ around {A} {B} {First} {flat_of} {Good} {flat_as} {Fine} {mid} {e} l ms firm ts 
 -- the tree of a part behind marks that may end in an absent semicolon, with marks behind it
 pub around_softly : {A B : Type 0} {First : Option Token
     → Type 0} {flat_of : A
-    → List Mark} {Good : A
+    → List FlatToken} {Good : A
     → Type 0} {flat_as : B
-    → List Mark} {Fine : B
+    → List FlatToken} {Fine : B
     → Type 0} {mid : List Token} {e : Fault}
     → (l : Lives First flat_of Good mid e)
     → ((us : List Token) → Starts First mid us → Softer mid us)
-    → (ms : List Mark)
+    → (ms : List FlatToken)
     → (ts : List Token)
     → Matches ms ts mid
     → (tree : B)
     → Fine tree
-    → (ns : List Mark) (more : List Added)
+    → (ns : List FlatToken) (more : List Added)
     → ((r : List Token) → Matches ns (added more ++ r) r)
     → ms ++ (flat_of l.tree ++ ns) ≡ flat_as tree → Lives First flat_as Fine ts e
 around_softly {A} {B} {First} {flat_of} {Good} {flat_as} {Fine} {mid} {e} l soft ms ts m tree fine ns more spelled
     same =
     let f = softens ms ts mid m in
     grows l ts f.before f.parts tree fine more
-    (λ us r s k. subst (λ (ms : List Mark). Matches ms (f.before ++ us) r) same
+    (λ us r s k. subst (λ (ms : List FlatToken). Matches ms (f.before ++ us) r) same
     (joins ms (flat_of l.tree ++ ns) (f.before ++ us) us r (f.other us (soft us s))
     (joins (flat_of l.tree) ns us (added more ++ r) r k (spelled r))))
     (λ us s. start_behind First f.before ts mid us f.parts s)
 
 -- marks that end in a token were read, and the others are added
-pub stopped : {B : Type 0} {flat_as : B → List Mark} {Fine : B → Type 0} (ms : List Mark)
+pub stopped : {B : Type 0} {flat_as : B → List FlatToken} {Fine : B → Type 0} (ms : List FlatToken)
     → is_firm ms ≡ true
     → (ts mid : List Token)
     → Matches ms ts mid
@@ -520,7 +520,7 @@ pub stopped : {B : Type 0} {flat_as : B → List Mark} {Fine : B → Type 0} (ms
     → Counts e mid
     → (tree : B)
     → Fine tree
-    → (ns : List Mark) (more : List Added)
+    → (ns : List FlatToken) (more : List Added)
     → ((r : List Token) → Matches ns (added more ++ r) r)
     → ms ++ ns ≡ flat_as tree → Lives Nothing flat_as Fine ts e
 stopped {B} {flat_as} {Fine} ms firm ts mid m e c tree fine ns more spelled same =
@@ -534,7 +534,7 @@ stopped {B} {flat_as} {Fine} ms firm ts mid m e c tree fine ns more spelled same
       good = fine;
       rest = more;
       spelled =
-          λ r. subst (λ (ms : List Mark). Matches ms ((f.next ∷ f.before) ++ (added more ++ r)) r) same
+          λ r. subst (λ (ms : List FlatToken). Matches ms ((f.next ∷ f.before) ++ (added more ++ r)) r) same
           (joins ms ns ((f.next ∷ f.before) ++ (added more ++ r)) (added more ++ r) r (f.other (added more ++ r))
           (spelled r));
       starts = λ r. same_start Nothing f.next ts f.before mid (added more ++ r) f.parts;
@@ -543,7 +543,7 @@ stopped {B} {flat_as} {Fine} ms firm ts mid m e c tree fine ns more spelled same
 -- what comes first may be anything
 pub anything : {A : Type 0} {First : Option Token
     → Type 0} {flat_of : A
-    → List Mark} {Good : A
+    → List FlatToken} {Good : A
     → Type 0} {ts : List Token} {e : Fault}
     → Lives First flat_of Good ts e
     → Lives Anything flat_of Good ts e
@@ -552,9 +552,9 @@ anything l = widens (λ o n. tt) l
 -- the same tokens as those of another tree
 pub renamed : {A B : Type 0} {First : Option Token
     → Type 0} {flat_of : A
-    → List Mark} {Good : A
+    → List FlatToken} {Good : A
     → Type 0} {flat_as : B
-    → List Mark} {Fine : B
+    → List FlatToken} {Fine : B
     → Type 0} {ts : List Token} {e : Fault}
     → (l : Lives First flat_of Good ts e)
     → (tree : B)
@@ -567,12 +567,12 @@ renamed {A} {B} {First} {flat_of} l tree fine same =
 -- the tree of a part behind marks that end in a token
 pub behind : {A B : Type 0} {First : Option Token
     → Type 0} {flat_of : A
-    → List Mark} {Good : A
+    → List FlatToken} {Good : A
     → Type 0} {flat_as : B
-    → List Mark} {Fine : B
+    → List FlatToken} {Fine : B
     → Type 0} {mid : List Token} {e : Fault}
     → (l : Lives First flat_of Good mid e)
-    → (ms : List Mark)
+    → (ms : List FlatToken)
     → is_firm ms ≡ true
     → (ts : List Token)
     → Matches ms ts mid
@@ -582,12 +582,12 @@ pub behind : {A B : Type 0} {First : Option Token
     → Lives Nothing flat_as Fine ts e
 behind {A} {B} {First} {flat_of} l ms firm ts m tree fine same =
     around l ms firm ts m tree fine [] [] (λ r. refl)
-    (ap (λ (ns : List Mark). ms ++ ns) (append-nil (flat_of l.tree)) ∙ same)
+    (ap (λ (ns : List FlatToken). ms ++ ns) (append-nil (flat_of l.tree)) ∙ same)
 
 -- either nothing was read, or what lives begins as the tokens do
 pub begun : {A : Type 0} {First : Option Token
     → Type 0} {flat_of : A
-    → List Mark} {Good : A
+    → List FlatToken} {Good : A
     → Type 0} {ts : List Token} {e : Fault}
     → Lives First flat_of Good ts e
     → Counts e ts ⊎ Lives Nothing flat_of Good ts e

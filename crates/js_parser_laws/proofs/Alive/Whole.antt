@@ -7,10 +7,10 @@ use Rattle.js_lexer.specs.Tokens.{IsToken}
 use Rattle.js_parser_laws.specs.Exact.{written_view, BeginsWritten}
 use Rattle.js_parser_laws.proofs.SpelledKindLemmas.{kind_token, free_token}
 use Rattle.js_tree.specs.Trees.{Identifier, Expression, Statements}
-use Rattle.js_parser_language.specs.Tokens.{Token, Mark, head_of, Matches}
+use Rattle.js_parser_language.specs.Tokens.{Token, FlatToken, head_of, Matches}
 use Rattle.js_parser_language.specs.Flat.{flat, flat_statements}
 use Rattle.js_parser_language.specs.Well.{top, Well}
-use Rattle.js_parser_language.specs.Language.{IsScript, IsExpression, IsFunction, Begins}
+use Rattle.js_parser_language.specs.Language.{IsScript, IsExpression, IsFunction, BeginsLanguage}
 use Rattle.js_parser_readers.specs.Reading.{Fault, stuck, deep, Read}
 use Rattle.js_parser_readers.specs.Classes.{start}
 use Rattle.js_parser_readers.specs.Productions.{items_at}
@@ -30,7 +30,7 @@ pub record LivesIn {Tree : Type 0} (Is : List Token → Tree → Type 0) (ts : L
   pub left : List Token
   pub parts : ts ≡ before ++ left
   pub counted : Counts e left
-  pub begins : Begins Is before
+  pub begins : BeginsLanguage Is before
   pub written : BeginsWritten Is before
 
 written_as : (rest : List Added) → map written_view (map as_written rest) ≡ added rest
@@ -51,7 +51,7 @@ pub begins_so : {Tree : Type 0} {Is : List Token
     → Tree
     → Type 0} {First : Option Token
     → Type 0} {flat_of : Tree
-    → List Mark} {Good : Tree
+    → List FlatToken} {Good : Tree
     → Type 0} {ts : List Token} {e : Fault}
     → ((us : List Token) (t : Tree) → Good t → Matches (flat_of t) us [] → Is us t)
     → Lives First flat_of Good ts e
@@ -75,7 +75,7 @@ begins_so {Tree} {Is} is l = record {
 }
 
 -- what was read in whole, where further tokens are left
-read_so : {Tree : Type 0} {Is : List Token → Tree → Type 0} (flat_of : Tree → List Mark) (Good : Tree → Type 0)
+read_so : {Tree : Type 0} {Is : List Token → Tree → Type 0} (flat_of : Tree → List FlatToken) (Good : Tree → Type 0)
     (ts : List Token) (e : Fault)
     → ((us : List Token) (t : Tree) → Good t → Matches (flat_of t) us [] → Is us t)
     → (t : Tree) (left : List Token) → Good t → Matches (flat_of t) ts left → Counts e left → LivesIn Is ts e

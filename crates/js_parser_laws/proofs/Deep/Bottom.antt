@@ -9,7 +9,7 @@ use Rattle.js_parser_language.specs.Flat.{flat}
 use Rattle.js_parser_language.specs.Kinds.{is_kind}
 use Rattle.js_parser_readers.specs.Reading.{Fault, deep, Reader, ◌>>=◌}
 use Rattle.js_parser_readers.specs.Classes as classes
-use Rattle.js_parser_readers.specs.Classes.{Start, start, is_arrow, past_names, no_arrow, listed_by}
+use Rattle.js_parser_readers.specs.Classes.{PrimaryStart, start, is_arrow, past_names, no_arrow, listed_by}
 use Rattle.js_parser_readers.specs.Productions.{Below}
 use Rattle.js_parser_readers.specs.Parsing.{assignment, comma_by, expression, below}
 use Rattle.js_parser_language.proofs.KindLemmas.{next_is}
@@ -93,7 +93,7 @@ named_lives : (s : Identifier) (ts : List Token) (e : Fault)
     → Lives IsZero flat (Fits 1) ts e
 named_lives s ts e f a p =
     let is : assignment bare 0 ts ≡ behind bare 0 (trees.name s) (tail_of ts) = assignment_is bare 0 ts
-    ∙ ap (λ (v : Start). assignment_form bare 0 v ts) f
+    ∙ ap (λ (v : PrimaryStart). assignment_form bare 0 v ts) f
     ∙ ap (λ (v : Bool). named_form bare 0 s v (tail_of ts)) a in
     assignment_lives 0 bare (bare_sound 0) bare_alive ts e (is ∙ p)
 
@@ -106,7 +106,7 @@ by_arrow_lives : (s : Identifier) (ts : List Token) (e : Fault)
 by_arrow_lives s ts e f true a p = arrow_lives s ts e f a p
 by_arrow_lives s ts e f false a p = named_lives s ts e f a p
 
-lone_by_lives : (v : Start) (ts : List Token) (e : Fault)
+lone_by_lives : (v : PrimaryStart) (ts : List Token) (e : Fault)
     → start (head_of ts) ≡ v
     → lone_by v ts ≡ Err e
     → Lives IsZero flat (Fits 1) ts e

@@ -5,8 +5,8 @@ use Rattle.js_tree.specs.Trees as trees
 use Rattle.js_tree.specs.Trees.{Expression}
 use Rattle.js_parser_language.specs.Tokens.{Token, head_of}
 use Rattle.js_parser_readers.specs.Reading.{stuck, deep, Read, Reader, ◌>>=◌, expect}
-use Rattle.js_parser_readers.specs.Classes.{update_near, is_arrow, past_names, Head, listed, no_arrow, listed_by}
-use Rattle.js_parser_readers.specs.Productions.{Below, an_expression, Values, seq}
+use Rattle.js_parser_readers.specs.Classes.{update_near, is_arrow, past_names, ArrowStart, listed, no_arrow, listed_by}
+use Rattle.js_parser_readers.specs.Productions.{Below, an_expression, PieceValues, seq}
 use Rattle.js_parser_readers.specs.Parsing.{links, updated_by, chain, joined, arrow_rest, are_fresh, arrow_of_names}
 use Rattle.js_parser_laws.proofs.Again.Level.{height_positive}
 use Rattle.js_parser_laws.proofs.Follows.Tools.{Follows, binds, head_past}
@@ -37,7 +37,7 @@ enclosed_source (Ok y) i q =
 enclosed_source (Err (stuck k)) i q = absurd cc
 enclosed_source (Err (deep k)) i q = ap (λ (j : ℕ). Err (deep j)) (deep_is {A = Expression} k i q)
 
-abbrev two_items : Below → Reader (Values (an_expression ∷ paren_items))
+abbrev two_items : Below → Reader (PieceValues (an_expression ∷ paren_items))
 two_items b ts = seq b (an_expression ∷ paren_items) ts
 
 enclosed_deep : (b : Below) (ts : List Token) (i k : ℕ) → DeepTo b.expression ts i k → DeepTo (enclosed b) ts i k
@@ -105,7 +105,7 @@ open_deep b n ts q i c =
           (d.here ∷ d.left) (d.here ∷ r) near refl
           ∙ ap (λ (l : List Token). listed_by (past_names true l)) (sym d.parts)
           ∙ q in
-          d.never r x (ap (λ (v : Head). paren_form b n v (d.before ++ (d.here ∷ r))) (sym h) ∙ o);
+          d.never r x (ap (λ (v : ArrowStart). paren_form b n v (d.before ++ (d.here ∷ r))) (sym h) ∙ o);
     }
 
 -- ---- parameters
@@ -174,7 +174,7 @@ open_at : (b : Below) (n : ℕ)
     → paren_at b n ts ≡ Err (deep i)
     → DeepAt (paren_at b n) ts i
 open_at b n p s d ts i h q e =
-    open_deep b n ts q i (covered_deep b n p s d ts q i h (sym (ap (λ (v : Head). paren_form b n v ts) q) ∙ e))
+    open_deep b n ts q i (covered_deep b n p s d ts q i h (sym (ap (λ (v : ArrowStart). paren_form b n v ts) q) ∙ e))
 
 paren_by : (b : Below) (n : ℕ)
     → Pair b b

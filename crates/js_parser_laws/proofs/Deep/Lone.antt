@@ -12,7 +12,7 @@ use Rattle.js_tree.specs.Height.{height}
 use Rattle.js_parser_language.specs.Kinds.{is_kind}
 use Rattle.js_parser_readers.specs.Reading.{stuck, deep, Read, Reader, ◌>>=◌}
 use Rattle.js_parser_readers.specs.Classes as classes
-use Rattle.js_parser_readers.specs.Classes.{Start, start, Link, dot, key, no_link, link, update_near, operator, Joint, question, assigns_by, no_joint, joint, is_arrow}
+use Rattle.js_parser_readers.specs.Classes.{PrimaryStart, start, CallTail, dot, key, no_link, link, update_near, operator, Joint, question, assigns_by, no_joint, joint, is_arrow}
 use Rattle.js_parser_readers.specs.Productions.{Below}
 use Rattle.js_parser_readers.specs.Parsing.{links_by, links, updated_by, operator_from, chain_by, chain, joined_by, joined, assignment, below}
 use Rattle.js_parser_language.proofs.KindLemmas.{kind_is}
@@ -65,7 +65,7 @@ bare_alive =
 not_low : (e : Expression) → nat_le (height e) 0 ≡ false
 not_low e = lt-leb (height e) 0 (height_positive e)
 
-links_same_by : (b c : Below) (go go' : Expression → Reader Expression) (e : Expression) (l : Link) (ts : List Token)
+links_same_by : (b c : Below) (go go' : Expression → Reader Expression) (e : Expression) (l : CallTail) (ts : List Token)
     → links_by b 0 go e l ts ≡ links_by c 0 go' e l ts
 links_same_by b c go go' e no_link ts = refl
 links_same_by b c go go' e dot ts = rw (not_low e) refl
@@ -129,7 +129,7 @@ abbrev pub lone_name : Identifier → Bool → Reader Expression
 lone_name s true ts = Err (deep (length (tail_of ts)))
 lone_name s false ts = behind bare 0 (trees.name s) ts
 
-abbrev pub lone_by : Start → Reader Expression
+abbrev pub lone_by : PrimaryStart → Reader Expression
 lone_by (classes.a_name s) ts = lone_name s (is_arrow (head_of (tail_of ts))) (tail_of ts)
 lone_by classes.parenthesis ts = Err (deep (length (tail_of ts)))
 lone_by _ ts = at_class begins_operand ts
@@ -148,7 +148,7 @@ lone_name_own s = peeks is_arrow (λ v ts. lone_name s v ts) (λ v ts. lone_name
   | false ↦ behind_follows bare bare 0 0 (omega arith) bare_own (trees.name s)
 ])
 
-lone_by_own : (v : Start) → Follows (λ ts. lone_by v ts) (λ ts. lone_by v ts)
+lone_by_own : (v : PrimaryStart) → Follows (λ ts. lone_by v ts) (λ ts. lone_by v ts)
 lone_by_own (classes.a_name s) =
     past (λ ts. lone_name s (is_arrow (head_of ts)) ts) (λ ts. lone_name s (is_arrow (head_of ts)) ts) (lone_name_own s)
 lone_by_own classes.parenthesis = lost (λ ts. lone_by classes.parenthesis ts)
@@ -169,7 +169,7 @@ plain_elsewhere : (b : Below) (n : ℕ) (ts : List Token)
     → plain_form b n ts ≡ Err (stuck (length ts))
 plain_elsewhere b n ts h = rw (operation_elsewhere b n 3 ts h) refl
 
-lone_by_follows : (n : ℕ) (v : Start) → Follows (λ ts. lone_by v ts) (λ ts. assignment_form (below n) n v ts)
+lone_by_follows : (n : ℕ) (v : PrimaryStart) → Follows (λ ts. lone_by v ts) (λ ts. assignment_form (below n) n v ts)
 lone_by_follows n (classes.a_name s) =
     past (λ ts. lone_name s (is_arrow (head_of ts)) ts) (λ ts. named_form (below n) n s (is_arrow (head_of ts)) ts)
     (lone_name_follows n s)
@@ -212,7 +212,7 @@ lone_name_deepens n s =
           (behind_deepens bare 0 bare_own bare_deepens n (trees.name s))
     ])
 
-lone_by_deepens : (n : ℕ) (v : Start) → DeepensOn n (λ ts. lone_by v ts)
+lone_by_deepens : (n : ℕ) (v : PrimaryStart) → DeepensOn n (λ ts. lone_by v ts)
 lone_by_deepens n (classes.a_name s) =
     on n (λ ts. lone_by (classes.a_name s) ts)
     (deep_past n (λ ts. lone_name s (is_arrow (head_of ts)) ts) (lone_name_deepens n s))
@@ -229,7 +229,7 @@ pub lone_at_name : (t : Token) (ts : List Token)
     → lone (t ∷ ts) ≡ lone_name t.string_value (is_arrow (head_of ts)) ts
 lone_at_name t ts e =
     let is : start (Some t) ≡ classes.a_name t.string_value = rw (kind_is kinds.Name t e) refl in
-    ap (λ (v : Start). lone_by v (t ∷ ts)) is
+    ap (λ (v : PrimaryStart). lone_by v (t ∷ ts)) is
 
 lone_alone : (t : Token) (ts : List Token)
     → is_kind kinds.Name (Some t) ≡ true

@@ -6,7 +6,7 @@ use Rattle.js_tree.specs.Trees.{Identifier, Expression}
 use Rattle.js_parser_language.specs.Tokens.{head_of}
 use Rattle.js_parser_readers.specs.Reading.{Reader, ◌>>=◌}
 use Rattle.js_parser_readers.specs.Classes as classes
-use Rattle.js_parser_readers.specs.Classes.{Start, start, update_near, is_arrow}
+use Rattle.js_parser_readers.specs.Classes.{PrimaryStart, start, update_near, is_arrow}
 use Rattle.js_parser_readers.specs.Productions.{Below}
 use Rattle.js_parser_readers.specs.Parsing.{links, updated_by, chain, operation, joined, assignment}
 use Rattle.js_parser_laws.proofs.Again.Level.{height_positive}
@@ -66,7 +66,7 @@ form_deepens : (b : Below) (m : ℕ)
     → DeepBelow b
     → (n : ℕ)
     → Deepens n (paren_at b m)
-    → (v : Start)
+    → (v : PrimaryStart)
     → Deepens n (λ ts. assignment_form b m v ts)
 form_deepens b m p d n h (classes.a_name s) =
     deep_past n (λ ts. named_form b m s (is_arrow (head_of ts)) ts) (named_deepens b m p d n s)

@@ -13,8 +13,8 @@ use Rattle.js_tree.specs.Height.{height}
 use Rattle.js_parser_language.specs.Kinds.{is_kind}
 use Rattle.js_parser_readers.specs.Reading.{stuck, deep, Read, Reader, ◌>>=◌, word_at}
 use Rattle.js_parser_readers.specs.Classes as classes
-use Rattle.js_parser_readers.specs.Classes.{Link, dot, key, no_link, link, update_near, deletes, a_unary, an_update, no_prefix, prefix, operator}
-use Rattle.js_parser_readers.specs.Productions.{Below, more_assignments, Item, tok, an_expression, arguments, Values, seq, made}
+use Rattle.js_parser_readers.specs.Classes.{CallTail, dot, key, no_link, link, update_near, deletes, a_unary, an_update, no_prefix, prefix, operator}
+use Rattle.js_parser_readers.specs.Productions.{Below, more_assignments, Piece, tok, an_expression, arguments, PieceValues, seq, made}
 use Rattle.js_parser_readers.specs.Parsing.{primary, linked_by, links_by, links, call, updated_by, postfix, unary_by, unary, operator_from, chain_by, chain, operation, assignment, comma_by, expression}
 use Rattle.js_parser_laws.proofs.Again.Level.{height_positive}
 use Rattle.js_parser_laws.proofs.Follows.Tools.{Follows, past}
@@ -35,8 +35,8 @@ goes_on_by (Err e) make go = refl
 made_on : (b : Below)
     → Pair b b
     → DeepBelow b
-    → (n : ℕ) (is : List Item) (make : Values is → Expression) (go : Expression → Reader Expression)
-    → ((v : Values is) → Deepens n (go (make v)))
+    → (n : ℕ) (is : List Piece) (make : PieceValues is → Expression) (go : Expression → Reader Expression)
+    → ((v : PieceValues is) → Deepens n (go (make v)))
     → Deepens n (λ ts. made b is make ts >>= λ x. go x.0 x.1)
 made_on b p d n is make go h =
     deep_as n (λ ts. seq b is ts >>= λ y. go (make y.0) y.1) (λ ts. made b is make ts >>= λ x. go x.0 x.1)
@@ -47,7 +47,7 @@ made_on b p d n is make go h =
 linked_on : (b : Below)
     → Pair b b
     → DeepBelow b
-    → (n : ℕ) (e : Expression) (l : Link) (go : Expression → Reader Expression)
+    → (n : ℕ) (e : Expression) (l : CallTail) (go : Expression → Reader Expression)
     → ((f : Expression) → suc (height e) ≤ height f → Deepens n (go f))
     → Deepens n (λ ts. linked_by b e l ts >>= λ x. go x.0 x.1)
 linked_on b p d n e dot go h =
@@ -99,7 +99,7 @@ link_turn b m p d n e go h = deep_peeks n link (λ v ts. links_by b m go e v ts)
   | classes.arguments ↦ turn classes.arguments
 ])
   where
-    turn : (l : Link)
+    turn : (l : CallTail)
         → DeepensOn n
         (λ ts. cond (nat_le (height e) m) (linked_by b e l ts >>= λ x. go x.0 x.1)
         (Err (deep (length (tail_of ts)))))

@@ -4,14 +4,14 @@ use Rattle.js_lexer.specs.declared.token.TokenKind.{TokenKind}
 use Rattle.js_lexer.specs.declared.token.TokenKind.TheVariants as kinds
 use Rattle.js_tree.specs.Trees as trees
 use Rattle.js_tree.specs.Trees.{Identifier, Declarator}
-use Rattle.js_parser_language.specs.Tokens.{Token, End, after_expression, absent, head_of, tail_of, is_on_line}
+use Rattle.js_parser_language.specs.Tokens.{Token, StatementEnd, after_expression, absent, head_of, tail_of, is_on_line}
 use Rattle.js_parser_language.specs.Flat.{edge}
-use Rattle.js_parser_language.specs.Well.{Context, function_body, is_among}
+use Rattle.js_parser_language.specs.Well.{StatementContext, function_body, is_among}
 use Rattle.js_tree.specs.Views.{expressions, statements, declarators}
 use Rattle.js_parser_language.specs.Kinds.{is_kind}
 use Rattle.js_parser_readers.specs.Classes.{is_name}
 use Rattle.js_parser_readers.specs.Reading.{stuck, deep, Reader, ◌>>=◌, expect, expect_near, text_of, name_at, fresh_name, is_word_next, word_at, semicolon_at, goes_on, ends, neither, after, go_after, elements_by, elements, others_by, others, ends_list, items_by, items, no_state, with_name, with_names}
-use Rattle.js_parser_readers.specs.Productions.{Below, one_of, arguments_before, more_assignments, parameters_at, with_declared, items_at, braces, code_at, initializer_by, declarator_at, with_declarator, declarators_at, optional_by, optional_before, ended_expression, Item, tok, near, a_name, the_name, an_assignment, an_expression, optional, arguments, ended, an_end, declared, a_statement, a_block, in_braces, code, Values, expect_name, item, seq, made}
+use Rattle.js_parser_readers.specs.Productions.{Below, one_of, arguments_before, more_assignments, parameters_at, with_declared, items_at, braces, code_at, initializer_by, declarator_at, with_declarator, declarators_at, optional_by, optional_before, ended_expression, Piece, tok, near, a_name, the_name, an_assignment, an_expression, optional, arguments, ended, an_end, declared, a_statement, a_block, in_braces, code, PieceValues, expect_name, item, seq, made}
 use Rattle.js_parser_laws.proofs.Follows.Tools.{Follows, Takes, past, shortens}
 use Rattle.js_parser_laws.proofs.Follows.Parts.{Pair, next_by, code_of, expect_follows, fresh_follows, semicolon_follows, elements_body, elements_local, elements_turns, elements_follows, go_after_follows, others_body, others_local, others_turns, others_follows, items_body, items_local, items_turns, items_follows, parameters_follows, items_at_follows, braces_follows, declarator_follows, item_follows, seq_follows}
 use Rattle.js_parser_laws.proofs.Deep.Tools.{Deepens, DeepensOn, on, quiet, deep_gives, deep_sticks, deep_past, deep_past_on, deep_peeks, deep_peeks_all, deep_token, deep_binds, deep_then, deep_makes, deep_loops}
@@ -23,9 +23,9 @@ pub record DeepBelow (b : Below) : Type 0 where
   pub operation : (n m : ℕ) → Deepens n (λ ts. b.operation m ts)
   pub unary : (n : ℕ) → Deepens n b.unary
   pub call : (n : ℕ) → Deepens n b.call
-  pub statement : (n : ℕ) (context : Context) → Deepens n (λ ts. b.statement context ts)
-  pub item : (n : ℕ) (context : Context) (taken : List Identifier) → Deepens n (λ ts. b.item context taken ts)
-  pub block : (n : ℕ) (context : Context) (taken : List Identifier) → Deepens n (λ ts. b.block context taken ts)
+  pub statement : (n : ℕ) (context : StatementContext) → Deepens n (λ ts. b.statement context ts)
+  pub item : (n : ℕ) (context : StatementContext) (taken : List Identifier) → Deepens n (λ ts. b.item context taken ts)
+  pub block : (n : ℕ) (context : StatementContext) (taken : List Identifier) → Deepens n (λ ts. b.block context taken ts)
   pub function : (n : ℕ) → Deepens n b.function
 
 -- ---- single tokens
@@ -82,7 +82,7 @@ semicolon_quiet true w ts j e = absurd cc
 semicolon_quiet false true ts j e = absurd cc
 semicolon_quiet false false ts j e = absurd cc
 
-pub semicolon_deepens : (n : ℕ) (end : End) → Deepens n (λ ts. semicolon_at end ts)
+pub semicolon_deepens : (n : ℕ) (end : StatementEnd) → Deepens n (λ ts. semicolon_at end ts)
 unfolding semicolon_at
 semicolon_deepens n end =
     quiet n (λ ts. semicolon_at end ts)
@@ -222,7 +222,7 @@ parameters_deepens n =
 pub items_at_deepens : (b : Below)
     → Pair b b
     → DeepBelow b
-    → (n : ℕ) (context : Context) (taken : List Identifier)
+    → (n : ℕ) (context : StatementContext) (taken : List Identifier)
     → Deepens n (λ ts. items_at b context taken ts)
 unfolding items_at
 items_at_deepens b p d n context taken =
@@ -235,7 +235,7 @@ items_at_deepens b p d n context taken =
 pub braces_deepens : (b : Below)
     → Pair b b
     → DeepBelow b
-    → (n : ℕ) (context : Context) (taken : List Identifier)
+    → (n : ℕ) (context : StatementContext) (taken : List Identifier)
     → Deepens n (λ ts. braces b context taken ts)
 unfolding braces
 braces_deepens b p d n context taken =
@@ -334,7 +334,7 @@ ended_deepens b p d n =
 
 -- ---- productions
 
-pub item_deepens : (b : Below) → Pair b b → DeepBelow b → (n : ℕ) (i : Item) → Deepens n (λ ts. item b i ts)
+pub item_deepens : (b : Below) → Pair b b → DeepBelow b → (n : ℕ) (i : Piece) → Deepens n (λ ts. item b i ts)
 item_deepens b p d n (tok k) = expect_deepens n k
 item_deepens b p d n (near k) = expect_near_deepens n k
 item_deepens b p d n a_name = name_deepens n
@@ -352,7 +352,7 @@ item_deepens b p d n (in_braces context taken) = braces_deepens b p d n context 
 item_deepens b p d n code = code_deepens b p d n
 
 -- the law of productions
-pub seq_deepens : (b : Below) → Pair b b → DeepBelow b → (n : ℕ) (is : List Item) → Deepens n (λ ts. seq b is ts)
+pub seq_deepens : (b : Below) → Pair b b → DeepBelow b → (n : ℕ) (is : List Piece) → Deepens n (λ ts. seq b is ts)
 seq_deepens b p d n [] = deep_gives n tt
 seq_deepens b p d n (i ∷ is) =
     deep_then n (λ ts. item b i ts) (λ v ts. seq b is ts >>= λ y. Ok ((v, y.0), y.1)) (item_follows b b p i)
@@ -362,6 +362,6 @@ seq_deepens b p d n (i ∷ is) =
 pub made_deepens : {A : Type 0} (b : Below)
     → Pair b b
     → DeepBelow b
-    → (n : ℕ) (is : List Item) (make : Values is → A)
+    → (n : ℕ) (is : List Piece) (make : PieceValues is → A)
     → Deepens n (λ ts. made b is make ts)
 made_deepens b p d n is make = deep_makes n (λ ts. seq b is ts) make (seq_follows b b p is) (seq_deepens b p d n is)

@@ -4,7 +4,7 @@
 use Rattle.std.proofs.Common.{◌≡◌, ℕ, zero, suc, true, List, length, Err, arith}
 use Rattle.js_tree.specs.Trees.{Identifier}
 use Rattle.js_parser_language.specs.Tokens.{Token}
-use Rattle.js_parser_language.specs.Well.{Context}
+use Rattle.js_parser_language.specs.Well.{StatementContext}
 use Rattle.js_parser_readers.specs.Reading.{deep}
 use Rattle.js_parser_readers.specs.Classes.{past_names, no_arrow, listed_by}
 use Rattle.js_parser_readers.specs.Productions.{Below}
@@ -52,7 +52,7 @@ pub record Kept (n : ℕ) : Type 0 where
 
 takes_from : (n : ℕ)
     → FollowsBelow (room n) (below (raised n))
-    → (context : Context) (taken : List Identifier)
+    → (context : StatementContext) (taken : List Identifier)
     → Takes (λ ts. (room n).item context taken ts)
 takes_from n f context taken ts x e =
     item_takes (raised n) context taken ts x

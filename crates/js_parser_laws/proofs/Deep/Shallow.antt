@@ -5,14 +5,14 @@ use Rattle.std.specs.Prelude.{◌||◌}
 use Rattle.js_lexer.specs.declared.token.TokenKind.TheVariants as kinds
 use Rattle.js_tree.specs.Trees as trees
 use Rattle.js_tree.specs.Trees.{Identifier, Expression, Statement, Statements}
-use Rattle.js_parser_language.specs.Tokens.{Token, fixed, Mark, token, head_of, tail_of}
+use Rattle.js_parser_language.specs.Tokens.{Token, fixed, FlatToken, token, head_of, tail_of}
 use Rattle.js_parser_language.specs.Flat.{flat, flat_statement}
-use Rattle.js_parser_language.specs.Well.{Context}
+use Rattle.js_parser_language.specs.Well.{StatementContext}
 use Rattle.js_parser_language.specs.Kinds.{is_kind}
 use Rattle.js_parser_readers.specs.Reading.{Fault, stuck, deep, Reader}
 use Rattle.js_parser_readers.specs.Classes as classes
-use Rattle.js_parser_readers.specs.Classes.{start, prefix, First, first}
-use Rattle.js_parser_readers.specs.Productions.{Code, Below}
+use Rattle.js_parser_readers.specs.Classes.{start, prefix, StatementStart, first}
+use Rattle.js_parser_readers.specs.Productions.{ParametersAndBody, Below}
 use Rattle.js_parser_readers.specs.Parsing.{below}
 use Rattle.js_parser_language.proofs.KindLemmas.{next_is}
 use Rattle.js_parser_laws.proofs.Claims.{TakesExpression, SoundBelow}
@@ -100,21 +100,21 @@ pub class_stuck : {A : Type 0} (test : Option Token → Bool) (ts : List Token)
     → at_class {A = A} test ts ≡ Err (stuck (length ts))
 class_stuck test ts e = rw e refl
 
-pub class_lives : {A : Type 0} {First : Option Token → Type 0} {flat_of : A → List Mark} {Good : A → Type 0}
+pub class_lives : {A : Type 0} {StatementStart : Option Token → Type 0} {flat_of : A → List FlatToken} {Good : A → Type 0}
     (test : Option Token → Bool) (ts : List Token)
-    → (test (head_of ts) ≡ true → Lives First flat_of Good ts (deep (length (tail_of ts))))
-    → ((e : Fault) → Counts e ts → Lives First flat_of Good ts e)
+    → (test (head_of ts) ≡ true → Lives StatementStart flat_of Good ts (deep (length (tail_of ts))))
+    → ((e : Fault) → Counts e ts → Lives StatementStart flat_of Good ts e)
     → (e : Fault)
     → at_class {A = A} test ts ≡ Err e
-    → Lives First flat_of Good ts e
-class_lives {A} {First} {flat_of} {Good} test ts here none e p = by_test (test (head_of ts)) refl p
+    → Lives StatementStart flat_of Good ts e
+class_lives {A} {StatementStart} {flat_of} {Good} test ts here none e p = by_test (test (head_of ts)) refl p
   where
     by_test : (v : Bool)
         → test (head_of ts) ≡ v
         → cond v (Err (deep (length (tail_of ts)))) (Err (stuck (length ts))) ≡ faulty {A = A} e
-        → Lives First flat_of Good ts e
+        → Lives StatementStart flat_of Good ts e
     by_test true h q =
-        subst (λ (e : Fault). Lives First flat_of Good ts e) (fault_is {A = A} (deep (length (tail_of ts))) e q)
+        subst (λ (e : Fault). Lives StatementStart flat_of Good ts e) (fault_is {A = A} (deep (length (tail_of ts))) e q)
         (here h)
     by_test false h q = none e (stuck_counts {A = A} ts e q)
 
@@ -141,13 +141,13 @@ pub record Elsewhere (c : Below) : Type 0 where
       → c.operation low ts ≡ Err (stuck (length ts))
   pub unary : (ts : List Token) → begins_operand (head_of ts) ≡ false → c.unary ts ≡ Err (stuck (length ts))
   pub call : (ts : List Token) → begins_call (head_of ts) ≡ false → c.call ts ≡ Err (stuck (length ts))
-  pub statement : (context : Context) (ts : List Token)
+  pub statement : (context : StatementContext) (ts : List Token)
       → begins_statement context (head_of ts) ≡ false
       → c.statement context ts ≡ Err (stuck (length ts))
-  pub item : (context : Context) (taken : List Identifier) (ts : List Token)
+  pub item : (context : StatementContext) (taken : List Identifier) (ts : List Token)
       → begins_item context (head_of ts) ≡ false
       → c.item context taken ts ≡ Err (stuck (length ts))
-  pub block : (context : Context) (taken : List Identifier) (ts : List Token)
+  pub block : (context : StatementContext) (taken : List Identifier) (ts : List Token)
       → is_kind kinds.LeftBrace (head_of ts) ≡ false
       → c.block context taken ts ≡ Err (stuck (length ts))
   pub function : (ts : List Token)
@@ -200,7 +200,7 @@ shallow_follows a e c s h k = record {
   function = class_follows (λ o. is_kind kinds.LeftParenthesis o) c.function s.function;
 }
 
-pub shallow_takes : (a e : Reader Expression) (context : Context) (taken : List Identifier)
+pub shallow_takes : (a e : Reader Expression) (context : StatementContext) (taken : List Identifier)
     → Takes (λ ts. (shallow a e).item context taken ts)
 shallow_takes a e context taken ts x p = absurd (class_none {A = Statement} (begins_item context) ts x p)
 
@@ -238,7 +238,7 @@ shallow_sound n a e h k = record {
   statement = λ context ts x p. absurd (class_none {A = Statement} (begins_statement context) ts x p);
   item = λ context taken ts x p. absurd (class_none {A = Statement} (begins_item context) ts x p);
   block = λ context taken ts x p. absurd (class_none {A = Statements} (λ o. is_kind kinds.LeftBrace o) ts x p);
-  function = λ ts x p. absurd (class_none {A = Code} (λ o. is_kind kinds.LeftParenthesis o) ts x p);
+  function = λ ts x p. absurd (class_none {A = ParametersAndBody} (λ o. is_kind kinds.LeftParenthesis o) ts x p);
 }
 
 -- ---- a token that begins something lives
@@ -264,7 +264,7 @@ operand_lives low le ts e p =
     class_lives begins_operand ts (λ h. looser 13 low le (from_nothing (first_operand ts h)))
     (λ e c. zero_expression low (omega (arith, le)) ts e c) e p
 
-statement_by_lives : (context : Context) (c : First) (ts : List Token)
+statement_by_lives : (context : StatementContext) (c : StatementStart) (ts : List Token)
     → FirstNext c (head_of ts)
     → begins_by context c (head_of ts) ≡ true
     → Lives Nothing flat_statement (IsStatement context) ts (deep (length (tail_of ts)))
@@ -274,7 +274,7 @@ statement_by_lives context classes.an_expression ts f h =
     expression_first_lives context ts f (looser 13 0 (omega arith) (first_operand ts h))
 statement_by_lives context c ts f h = first_lives context c ts f h
 
-item_by_lives : (context : Context) (taken : List Identifier) (c : First) (ts : List Token)
+item_by_lives : (context : StatementContext) (taken : List Identifier) (c : StatementStart) (ts : List Token)
     → FirstNext c (head_of ts)
     → begins_item_by context c (head_of ts) ≡ true
     → Lives IsZero flat_statement (IsItem context taken) ts (deep (length (tail_of ts)))
@@ -284,7 +284,7 @@ item_by_lives context taken classes.a_function ts f h = from_nothing (function_f
 item_by_lives context taken c ts f h =
     as_item context taken ts (deep (length (tail_of ts))) (from_nothing (statement_by_lives context c ts f h))
 
-brace_lives : (context : Context) (taken : List Identifier) (ts : List Token)
+brace_lives : (context : StatementContext) (taken : List Identifier) (ts : List Token)
     → is_kind kinds.LeftBrace (head_of ts) ≡ true
     → Lives (IsAdded kinds.LeftBrace) flat_block (IsBlock context taken) ts (deep (length (tail_of ts)))
 brace_lives context taken ts h =

@@ -4,11 +4,11 @@ use Rattle.std.specs.Prelude.{◌||◌}
 use Rattle.js_lexer.specs.declared.token.TokenKind.TheVariants as kinds
 use Rattle.js_tree.specs.Trees.{Identifier}
 use Rattle.js_parser_language.specs.Tokens.{Token, head_of}
-use Rattle.js_parser_language.specs.Well.{Context}
+use Rattle.js_parser_language.specs.Well.{StatementContext}
 use Rattle.js_parser_language.specs.Kinds.{is_kind}
 use Rattle.js_parser_readers.specs.Reading.{stuck, expect}
 use Rattle.js_parser_readers.specs.Classes as classes
-use Rattle.js_parser_readers.specs.Classes.{Start, start, Prefix, no_prefix, prefix, First, first}
+use Rattle.js_parser_readers.specs.Classes.{PrimaryStart, start, Prefix, no_prefix, prefix, StatementStart, first}
 use Rattle.js_parser_readers.specs.Productions.{Below, parameters_at, braces, code_at, ended_expression}
 use Rattle.js_parser_readers.specs.Parsing.{primary, call, postfix, unary, operation, assignment, expression, statement_by, statement, item_by, item}
 use Rattle.js_parser_laws.proofs.Alive.First.{is_start, is_prefix}
@@ -25,7 +25,7 @@ abbrev pub begins_operand : Option Token → Bool
 begins_operand o = begins_call o || is_prefix (prefix o)
 
 -- the next token, of this class, begins a statement
-abbrev pub begins_by : Context → First → Option Token → Bool
+abbrev pub begins_by : StatementContext → StatementStart → Option Token → Bool
 begins_by context (classes.a_lexical constant) o = false
 begins_by context classes.a_function o = false
 begins_by context classes.a_continue o = context.in_loop
@@ -34,21 +34,21 @@ begins_by context classes.a_return o = context.in_function
 begins_by context classes.an_expression o = begins_operand o
 begins_by context _ o = true
 
-abbrev pub begins_statement : Context → Option Token → Bool
+abbrev pub begins_statement : StatementContext → Option Token → Bool
 begins_statement context o = begins_by context (first o) o
 
 -- or a declaration
-abbrev pub begins_item_by : Context → First → Option Token → Bool
+abbrev pub begins_item_by : StatementContext → StatementStart → Option Token → Bool
 begins_item_by context (classes.a_lexical constant) o = true
 begins_item_by context classes.a_function o = true
 begins_item_by context v o = begins_by context v o
 
-abbrev pub begins_item : Context → Option Token → Bool
+abbrev pub begins_item : StatementContext → Option Token → Bool
 begins_item context o = begins_item_by context (first o) o
 
 -- ---- primary expressions
 
-no_start_is : (v : Start) → is_start v ≡ false → v ≡ classes.no_start
+no_start_is : (v : PrimaryStart) → is_start v ≡ false → v ≡ classes.no_start
 no_start_is classes.no_start e = refl
 no_start_is _ e = absurd cc
 
@@ -127,9 +127,9 @@ ended_stuck : (b : Below) (ts : List Token)
 unfolding ended_expression
 ended_stuck b ts e = rw e refl
 
-statement_stuck_by : (b : Below) (context : Context) (ts : List Token)
+statement_stuck_by : (b : Below) (context : StatementContext) (ts : List Token)
     → (begins_operand (head_of ts) ≡ false → b.expression ts ≡ Err (stuck (length ts)))
-    → (v : First)
+    → (v : StatementStart)
     → begins_by context v (head_of ts) ≡ false
     → statement_by b context v ts ≡ Err (stuck (length ts))
 statement_stuck_by b context ts h (classes.a_lexical constant) e = refl
@@ -141,16 +141,16 @@ statement_stuck_by b context ts h classes.an_expression e = rw (ended_stuck b ts
 statement_stuck_by b context ts h _ e = absurd cc
 
 -- where what reads below is stuck at what begins no expression
-pub statement_elsewhere : (b : Below) (context : Context) (ts : List Token)
+pub statement_elsewhere : (b : Below) (context : StatementContext) (ts : List Token)
     → (begins_operand (head_of ts) ≡ false → b.expression ts ≡ Err (stuck (length ts)))
     → begins_statement context (head_of ts) ≡ false
     → statement b context ts ≡ Err (stuck (length ts))
 unfolding statement
 statement_elsewhere b context ts h e = statement_stuck_by b context ts h (first (head_of ts)) e
 
-item_stuck_by : (b : Below) (context : Context) (taken : List Identifier) (ts : List Token)
+item_stuck_by : (b : Below) (context : StatementContext) (taken : List Identifier) (ts : List Token)
     → (begins_operand (head_of ts) ≡ false → b.expression ts ≡ Err (stuck (length ts)))
-    → (v : First)
+    → (v : StatementStart)
     → first (head_of ts) ≡ v
     → begins_item_by context v (head_of ts) ≡ false
     → item_by b context taken v ts ≡ Err (stuck (length ts))
@@ -158,7 +158,7 @@ item_stuck_by b context taken ts h (classes.a_lexical constant) f e = absurd cc
 item_stuck_by b context taken ts h classes.a_function f e = absurd cc
 item_stuck_by b context taken ts h _ f e = statement_elsewhere b context ts h (rw f e)
 
-pub item_elsewhere : (b : Below) (context : Context) (taken : List Identifier) (ts : List Token)
+pub item_elsewhere : (b : Below) (context : StatementContext) (taken : List Identifier) (ts : List Token)
     → (begins_operand (head_of ts) ≡ false → b.expression ts ≡ Err (stuck (length ts)))
     → begins_item context (head_of ts) ≡ false
     → item b context taken ts ≡ Err (stuck (length ts))
@@ -167,7 +167,7 @@ item_elsewhere b context taken ts h e = item_stuck_by b context taken ts h (firs
 
 -- ---- blocks and functions
 
-pub block_elsewhere : (b : Below) (context : Context) (taken : List Identifier) (ts : List Token)
+pub block_elsewhere : (b : Below) (context : StatementContext) (taken : List Identifier) (ts : List Token)
     → is_kind kinds.LeftBrace (head_of ts) ≡ false
     → braces b context taken ts ≡ Err (stuck (length ts))
 unfolding braces expect

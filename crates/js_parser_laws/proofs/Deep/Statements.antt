@@ -6,11 +6,11 @@ use Rattle.js_tree.specs.Trees as trees
 use Rattle.js_tree.specs.Trees.{Identifier, Expression, Declarator, Statement, Handler}
 use Rattle.js_parser_language.specs.Tokens.{after_word, head_of, tail_of, is_on_line}
 use Rattle.js_parser_language.specs.Flat.{end_of_declarators}
-use Rattle.js_parser_language.specs.Well.{Context}
+use Rattle.js_parser_language.specs.Well.{StatementContext}
 use Rattle.js_tree.specs.Views.{declarators}
 use Rattle.js_parser_language.specs.Kinds.{is_kind}
 use Rattle.js_parser_readers.specs.Classes as classes
-use Rattle.js_parser_readers.specs.Classes.{First, first, ends_return, is_name, for_head_by, for_head}
+use Rattle.js_parser_readers.specs.Classes.{StatementStart, first, ends_return, is_name, for_head_by, for_head}
 use Rattle.js_parser_readers.specs.Reading.{stuck, Reader, ◌>>=◌, expect, name_at, fresh_name, semicolon_at, others}
 use Rattle.js_parser_readers.specs.Productions.{Below, code_at, initializer_by, declarator_at, with_declarator, declarators_at, tok, a_name, the_name, ended, an_end, a_statement, a_block, in_braces, seq, made}
 use Rattle.js_parser_readers.specs.Parsing.{else_by, if_items, if_at, let_kind, do_items, while_items, for_at, return_by, catch_by, handler_by, handler_at, finalizer_by, finalizer_at, try_at, statement, lexical_at, declaration_at, item_by, item}
@@ -33,13 +33,13 @@ deep_if n false f g h k = k
 else_deepens : (b : Below)
     → Pair b b
     → DeepBelow b
-    → (n : ℕ) (context : Context) (e : Expression) (s : Statement) (v : Bool)
+    → (n : ℕ) (context : StatementContext) (e : Expression) (s : Statement) (v : Bool)
     → Deepens n (λ ts. else_by b context e s v ts)
 else_deepens b p d n context e s true =
     made_deepens b p d n (tok kinds.Else ∷ a_statement context ∷ []) (λ v. trees.if_else e s v.1.0)
 else_deepens b p d n context e s false = deep_gives n (trees.if_then e s)
 
-if_deepens : (b : Below) → Pair b b → DeepBelow b → (n : ℕ) (context : Context) → Deepens n (λ ts. if_at b context ts)
+if_deepens : (b : Below) → Pair b b → DeepBelow b → (n : ℕ) (context : StatementContext) → Deepens n (λ ts. if_at b context ts)
 unfolding if_at
 if_deepens b p d n context =
     deep_then n (λ ts. seq b (if_items context) ts)
@@ -80,7 +80,7 @@ throw_deepens b p d n = deep_peeks_all n is_on_line (λ v ts. throw_rest b v ts)
 catch_deepens : (b : Below)
     → Pair b b
     → DeepBelow b
-    → (n : ℕ) (context : Context) (v : Bool)
+    → (n : ℕ) (context : StatementContext) (v : Bool)
     → Deepens n (λ ts. catch_by b context v ts)
 catch_deepens b p d n context true =
     deep_then n (λ ts. seq b (tok kinds.LeftParenthesis ∷ a_name ∷ tok kinds.RightParenthesis ∷ []) ts)
@@ -96,7 +96,7 @@ catch_deepens b p d n context false =
 handler_deepens : (b : Below)
     → Pair b b
     → DeepBelow b
-    → (n : ℕ) (context : Context)
+    → (n : ℕ) (context : StatementContext)
     → Deepens n (λ ts. handler_at b context ts)
 unfolding handler_at
 handler_deepens b p d n context =
@@ -110,7 +110,7 @@ handler_deepens b p d n context =
 finalizer_by_deepens : (b : Below)
     → Pair b b
     → DeepBelow b
-    → (n : ℕ) (context : Context) (h : Handler) (v : Bool)
+    → (n : ℕ) (context : StatementContext) (h : Handler) (v : Bool)
     → Deepens n (λ ts. finalizer_by b context h v ts)
 finalizer_by_deepens b p d n context h true =
     made_deepens b p d n (tok kinds.Finally ∷ a_block context [] ∷ []) (λ v. trees.finally v.1.0)
@@ -120,14 +120,14 @@ finalizer_by_deepens b p d n context (trees.catch m ss) false = deep_gives n tre
 finalizer_deepens : (b : Below)
     → Pair b b
     → DeepBelow b
-    → (n : ℕ) (context : Context) (h : Handler)
+    → (n : ℕ) (context : StatementContext) (h : Handler)
     → Deepens n (λ ts. finalizer_at b context h ts)
 unfolding finalizer_at
 finalizer_deepens b p d n context h =
     deep_peeks_all n (λ o. is_kind kinds.Finally o) (λ v ts. finalizer_by b context h v ts)
     (finalizer_by_deepens b p d n context h)
 
-try_deepens : (b : Below) → Pair b b → DeepBelow b → (n : ℕ) (context : Context) → Deepens n (λ ts. try_at b context ts)
+try_deepens : (b : Below) → Pair b b → DeepBelow b → (n : ℕ) (context : StatementContext) → Deepens n (λ ts. try_at b context ts)
 unfolding try_at
 try_deepens b p d n context =
     deep_then n (λ ts. seq b (tok kinds.Try ∷ a_block context [] ∷ []) ts)
@@ -195,7 +195,7 @@ more_deepens b p d n k c =
 fourth_deepens : (b : Below)
     → Pair b b
     → DeepBelow b
-    → (n : ℕ) (context : Context) (k : Bool) (s : Identifier) (w : Bool)
+    → (n : ℕ) (context : StatementContext) (k : Bool) (s : Identifier) (w : Bool)
     → Deepens n (λ ts. for_fourth b context k s w ts)
 fourth_deepens b p d n context k s true =
     made_deepens b p d n (the_name (codes "of") ∷ after_of context) (λ v. trees.for_of k s v.1.0 v.1.1.1.0)
@@ -210,7 +210,7 @@ fourth_deepens b p d n context k s false =
 third_deepens : (b : Below)
     → Pair b b
     → DeepBelow b
-    → (n : ℕ) (context : Context) (k : Bool)
+    → (n : ℕ) (context : StatementContext) (k : Bool)
     → Deepens n (λ ts. for_third b context k (named_of ts) ts)
 third_deepens b p d n context k =
     deep_as n (third_form b context k) (λ ts. for_third b context k (named_of ts) ts) (named_is b context k)
@@ -221,7 +221,7 @@ third_deepens b p d n context k =
 let_deepens : (b : Below)
     → Pair b b
     → DeepBelow b
-    → (n : ℕ) (context : Context) (k : Bool)
+    → (n : ℕ) (context : StatementContext) (k : Bool)
     → Deepens n (λ ts. for_rest b context (for_head_by (classes.a_lexical k) (tail_of ts)) ts)
 let_deepens b p d n context k =
     deep_as n (let_form b context k) (λ ts. for_rest b context (for_head_by (classes.a_lexical k) (tail_of ts)) ts)
@@ -232,12 +232,12 @@ let_deepens b p d n context k =
 rest_deepens : (b : Below)
     → Pair b b
     → DeepBelow b
-    → (n : ℕ) (context : Context) (v : First)
+    → (n : ℕ) (context : StatementContext) (v : StatementStart)
     → Deepens n (λ ts. for_rest b context (for_head_by v (tail_of ts)) ts)
 rest_deepens b p d n context (classes.a_lexical k) = let_deepens b p d n context k
 rest_deepens b p d n context _ = made_deepens b p d n (plain_items context) (λ v. trees.for v.0 v.1.0 v.1.1.0 v.1.1.1.0)
 
-for_deepens : (b : Below) → Pair b b → DeepBelow b → (n : ℕ) (context : Context) → Deepens n (λ ts. for_at b context ts)
+for_deepens : (b : Below) → Pair b b → DeepBelow b → (n : ℕ) (context : StatementContext) → Deepens n (λ ts. for_at b context ts)
 for_deepens b p d n context = deep_as n (for_form b context) (λ ts. for_at b context ts) (for_is b context)
     (deep_then n (λ ts. expect kinds.For ts)
     (λ x ts. expect kinds.LeftParenthesis ts >>= λ y. for_rest b context (for_head y.1) y.1)
@@ -252,7 +252,7 @@ for_deepens b p d n context = deep_as n (for_form b context) (λ ts. for_at b co
 form_deepens : (b : Below)
     → Pair b b
     → DeepBelow b
-    → (n : ℕ) (context : Context) (v : First)
+    → (n : ℕ) (context : StatementContext) (v : StatementStart)
     → Deepens n (λ ts. statement_form b context v ts)
 form_deepens b p d n context classes.a_block = made_deepens b p d n (in_braces context [] ∷ []) (λ v. trees.block v.0)
 form_deepens b p d n context (classes.a_lexical constant) = deep_sticks n
@@ -285,7 +285,7 @@ form_deepens b p d n context classes.an_expression = made_deepens b p d n (ended
 pub statement_deepens : (b : Below)
     → Pair b b
     → DeepBelow b
-    → (n : ℕ) (context : Context)
+    → (n : ℕ) (context : StatementContext)
     → Deepens n (λ ts. statement b context ts)
 statement_deepens b p d n context =
     deep_as n (λ ts. statement_form b context (first (head_of ts)) ts) (λ ts. statement b context ts)
@@ -295,7 +295,7 @@ statement_deepens b p d n context =
 item_by_deepens : (b : Below)
     → Pair b b
     → DeepBelow b
-    → (n : ℕ) (context : Context) (taken : List Identifier) (v : First)
+    → (n : ℕ) (context : StatementContext) (taken : List Identifier) (v : StatementStart)
     → Deepens n (λ ts. item_by b context taken v ts)
 item_by_deepens b p d n context taken (classes.a_lexical constant) = lexical_deepens b p d n constant taken
 item_by_deepens b p d n context taken classes.a_function = declaration_deepens b p d n taken
@@ -304,7 +304,7 @@ item_by_deepens b p d n context taken _ = statement_deepens b p d n context
 pub list_item_deepens : (b : Below)
     → Pair b b
     → DeepBelow b
-    → (n : ℕ) (context : Context) (taken : List Identifier)
+    → (n : ℕ) (context : StatementContext) (taken : List Identifier)
     → Deepens n (λ ts. item b context taken ts)
 unfolding item
 list_item_deepens b p d n context taken =

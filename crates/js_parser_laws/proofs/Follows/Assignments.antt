@@ -12,8 +12,8 @@ use Rattle.js_tree.specs.Views.{expressions}
 use Rattle.js_parser_language.specs.Kinds.{is_same_kind, is_kind}
 use Rattle.js_parser_readers.specs.Reading.{stuck, deep, Read, Reader, ◌>>=◌, expect, others, no_state}
 use Rattle.js_parser_readers.specs.Classes as classes
-use Rattle.js_parser_readers.specs.Classes.{Start, start_by, start, link_by, link, no_link, update_by, update_near, no_prefix, prefix, operator_by, operator, joint_by, joint, no_joint, is_arrow, past_names, Head, one_parameter, listed, no_arrow, listed_by, head_by}
-use Rattle.js_parser_readers.specs.Productions.{Below, one_of, names_before, more_assignments, Item, tok, an_expression, Values, seq, made}
+use Rattle.js_parser_readers.specs.Classes.{PrimaryStart, start_by, start, link_by, link, no_link, update_by, update_near, no_prefix, prefix, operator_by, operator, joint_by, joint, no_joint, is_arrow, past_names, ArrowStart, one_parameter, listed, no_arrow, listed_by, head_by}
+use Rattle.js_parser_readers.specs.Productions.{Below, one_of, names_before, more_assignments, Piece, tok, an_expression, PieceValues, seq, made}
 use Rattle.js_parser_readers.specs.Parsing.{primary, links, call, updated_by, postfix, unary, chain, operation, arrow_rest, are_fresh, arrow_of_names, arrow_of_one, arrow_of_list, joined, assignment_by, assignment, comma_by, expression}
 use Rattle.js_parser_language.proofs.KindLemmas.{kind_is}
 use Rattle.js_parser_laws.proofs.TokenLemmas.{expect_again, name_again}
@@ -107,16 +107,16 @@ covered_follows b c n m le p =
     (λ f. chain_follows b c n m le p 3 (suc n) (suc m) (omega arith) f))
     (joined_follows b c n m le p)
 
-abbrev pub paren_items : List Item
+abbrev pub paren_items : List Piece
 paren_items = tok kinds.RightParenthesis ∷ []
 
-abbrev pub paren_value : Read (Unit {0}) → Read (Values paren_items)
+abbrev pub paren_value : Read (Unit {0}) → Read (PieceValues paren_items)
 paren_value z = z >>= λ x. Ok ((x.0, tt), x.1)
 
-abbrev pub with_paren : Expression → Read (Values paren_items) → Read (Values (an_expression ∷ paren_items))
+abbrev pub with_paren : Expression → Read (PieceValues paren_items) → Read (PieceValues (an_expression ∷ paren_items))
 with_paren e z = z >>= λ x. Ok ((e, x.0), x.1)
 
-abbrev pub as_enclosed : Read (Values (an_expression ∷ paren_items)) → Read Expression
+abbrev pub as_enclosed : Read (PieceValues (an_expression ∷ paren_items)) → Read Expression
 as_enclosed v = v >>= λ x. Ok (trees.parenthesized x.0.0, x.1)
 
 paren_within : (e : Expression) (z : Read (Unit {0})) (k : ℕ)
@@ -154,7 +154,7 @@ covered_within b n p s ts e =
     within_then three (λ f r. joined b n f r) (λ f r. joined b n f r) k third (joined_follows b b n n same p)
 
 -- behind a parenthesis: parameters, or an expression
-abbrev pub paren_form : Below → ℕ → Head → Reader Expression
+abbrev pub paren_form : Below → ℕ → ArrowStart → Reader Expression
 paren_form b n one_parameter ts = Err (stuck (length ts))
 paren_form b n (listed only) ts = names_before ts >>= λ ns. arrow_of_names b only ns.0 ns.1
 paren_form b n no_arrow ts = covered b n ts
@@ -186,7 +186,7 @@ open_at b c n m le p own s ts e = λ clear.
           (subst (λ (l : List Token). length seen.left ≤ length (scan_end true l)) seen.parts w) q
           ∙ ap (λ (l : List Token). listed_by (past_names true l)) (sym seen.parts)
           ∙ e in
-          ap (λ (v : Head). paren_form c m v (seen.pre ++ r)) h ∙ seen.again r q;
+          ap (λ (v : ArrowStart). paren_form c m v (seen.pre ++ r)) h ∙ seen.again r q;
     }
 
 -- the parameters are read
@@ -200,7 +200,7 @@ pub listed_is : (b : Below) (n : ℕ) (ts : List Token) (w : Bool) (rest r : Lis
     → listed_by (Some (w, r)) ≡ listed w
     → paren_at b n (c.front ++ (c.last ∷ r)) ≡ arrow_of_names b w c.names r
 listed_is b n ts w rest r c h =
-    ap (λ (v : Head). paren_form b n v (c.front ++ (c.last ∷ r)))
+    ap (λ (v : ArrowStart). paren_form b n v (c.front ++ (c.last ∷ r)))
     (ap (λ (o : Option (Bool × List Token)). listed_by o) (c.looked r) ∙ h)
     ∙ ap (λ (x : Read (List Identifier)). x >>= λ ns. arrow_of_names b w ns.0 ns.1) (names_read ts w rest r c)
 
@@ -316,14 +316,14 @@ paren_by b c n m le p own s ts None e = plain (ap (λ (o : Option (Bool × List 
   where
     plain : listed_by (past_names true ts) ≡ no_arrow → FollowsAt (paren_at b n ts) (paren_at c m) ts
     plain h =
-        subst (λ (x : Read Expression). FollowsAt x (paren_at c m) ts) (ap (λ (v : Head). paren_form b n v ts) (sym h))
+        subst (λ (x : Read Expression). FollowsAt x (paren_at c m) ts) (ap (λ (v : ArrowStart). paren_form b n v ts) (sym h))
         (open_at b c n m le p own s ts h)
 paren_by b c n m le p own s ts (Some (true, rest)) e = listed_at b c n m p ts true rest e refl
 paren_by b c n m le p own s ts (Some (false, rest)) e = by_arrow (is_arrow (head_of rest)) refl
   where
     plain : listed_by (past_names true ts) ≡ no_arrow → FollowsAt (paren_at b n ts) (paren_at c m) ts
     plain h =
-        subst (λ (x : Read Expression). FollowsAt x (paren_at c m) ts) (ap (λ (v : Head). paren_form b n v ts) (sym h))
+        subst (λ (x : Read Expression). FollowsAt x (paren_at c m) ts) (ap (λ (v : ArrowStart). paren_form b n v ts) (sym h))
         (open_at b c n m le p own s ts h)
 
     by_arrow : (v : Bool) → is_arrow (head_of rest) ≡ v → FollowsAt (paren_at b n ts) (paren_at c m) ts
@@ -341,7 +341,7 @@ abbrev pub plain_form : Below → ℕ → Reader Expression
 plain_form b n ts = operation b n 3 ts >>= λ x. joined b n x.0 x.1
 
 -- an assignment with its first token looked at before the others
-abbrev pub assignment_form : Below → ℕ → Start → Reader Expression
+abbrev pub assignment_form : Below → ℕ → PrimaryStart → Reader Expression
 assignment_form b n (classes.a_name s) ts = named_form b n s (is_arrow (head_of (tail_of ts))) (tail_of ts)
 assignment_form b n classes.parenthesis ts = paren_at b n (tail_of ts)
 assignment_form b n _ ts = plain_form b n ts
@@ -381,14 +381,14 @@ prefix_of_paren : (o : Option Token) → IsNext (fixed kinds.LeftParenthesis) o 
 prefix_of_paren None m = absurd m
 prefix_of_paren (Some t) m = rw m refl
 
-abbrev behind_paren : Read (Values (an_expression ∷ paren_items))
-    → Read (Values (tok kinds.LeftParenthesis ∷ an_expression ∷ paren_items))
+abbrev behind_paren : Read (PieceValues (an_expression ∷ paren_items))
+    → Read (PieceValues (tok kinds.LeftParenthesis ∷ an_expression ∷ paren_items))
 behind_paren v = v >>= λ x. Ok ((tt, x.0), x.1)
 
-abbrev whole_paren : Read (Values (an_expression ∷ paren_items)) → Read Expression
+abbrev whole_paren : Read (PieceValues (an_expression ∷ paren_items)) → Read Expression
 whole_paren v = behind_paren v >>= λ x. Ok (trees.parenthesized x.0.1.0, x.1)
 
-whole_is : (v : Read (Values (an_expression ∷ paren_items))) → whole_paren v ≡ as_enclosed v
+whole_is : (v : Read (PieceValues (an_expression ∷ paren_items))) → whole_paren v ≡ as_enclosed v
 whole_is (Ok x) = refl
 whole_is (Err z) = refl
 
@@ -425,14 +425,14 @@ no_one (Some (false, r)) e = by_arrow (is_arrow (head_of r)) e
 
 paren_is : (b : Below) (n : ℕ) (ts : List Token)
     → start (head_of ts) ≡ classes.parenthesis
-    → (v : Head)
+    → (v : ArrowStart)
     → listed_by (past_names true (tail_of ts)) ≡ v
     → assignment_by b n v ts ≡ paren_form b n v (tail_of ts)
 paren_is b n ts e one_parameter h = absurd (no_one (past_names true (tail_of ts)) h)
 paren_is b n ts e (listed only) h = list_of_paren b n only ts e
 paren_is b n ts e no_arrow h = plain_of_paren b n ts e
 
-assignment_is_by : (b : Below) (n : ℕ) (ts : List Token) (v : Start)
+assignment_is_by : (b : Below) (n : ℕ) (ts : List Token) (v : PrimaryStart)
     → start (head_of ts) ≡ v
     → assignment_by b n (head_by v (tail_of ts)) ts ≡ assignment_form b n v ts
 assignment_is_by b n ts (classes.a_name s) e = named_is b n s ts e (is_arrow (head_of (tail_of ts)))
@@ -454,7 +454,7 @@ form_follows : (b c : Below) (n m : ℕ)
     → Pair b c
     → Pair b b
     → Spans b
-    → (v : Start)
+    → (v : PrimaryStart)
     → Follows (λ ts. assignment_form b n v ts) (λ ts. assignment_form c m v ts)
 form_follows b c n m le p own s (classes.a_name x) =
     past (λ ts. named_form b n x (is_arrow (head_of ts)) ts) (λ ts. named_form c m x (is_arrow (head_of ts)) ts)
@@ -567,7 +567,7 @@ pub named_assignment : (b : Below) (n : ℕ) (t : Token) (ts : List Token)
     → assignment b n (t ∷ ts) ≡ named_form b n t.string_value (is_arrow (head_of ts)) ts
 named_assignment b n t ts e =
     let is : start (Some t) ≡ classes.a_name t.string_value = rw (kind_is kinds.Name t e) refl in
-    assignment_is b n (t ∷ ts) ∙ ap (λ (v : Start). assignment_form b n v (t ∷ ts)) is
+    assignment_is b n (t ∷ ts) ∙ ap (λ (v : PrimaryStart). assignment_form b n v (t ∷ ts)) is
 
 pub behind_alone : (b : Below) (n : ℕ) (e : Expression) (t : Token) (ts : List Token)
     → ends_name (Some t) ≡ true

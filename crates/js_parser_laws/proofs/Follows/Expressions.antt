@@ -6,7 +6,7 @@ use Rattle.js_tree_operators.specs.declared.operator.UnaryOperator.TheVariants a
 use Rattle.js_tree_operators.specs.declared.operator.UpdateOperator.{UpdateOperator}
 use Rattle.js_tree_operators.specs.declared.operator.BinaryOperator.{BinaryOperator}
 use Rattle.js_tree.specs.Trees as trees
-use Rattle.js_tree.specs.Trees.{Identifier, Parameters, Expression, Key, Property}
+use Rattle.js_tree.specs.Trees.{Identifier, Parameters, Expression, Key, PropertyDefinition}
 use Rattle.js_parser_language.specs.Tokens.{Token, head_of, tail_of}
 use Rattle.js_parser_language.specs.Flat.{assign_kind}
 use Rattle.js_parser_language.specs.Well.{function_body, strength, is_property}
@@ -16,7 +16,7 @@ use Rattle.js_tree.specs.Views.{properties}
 use Rattle.js_parser_language.specs.Kinds.{is_kind}
 use Rattle.js_parser_readers.specs.Reading.{stuck, deep, Reader, ◌>>=◌, expect_near, text_of, name_at, word_at, elements, no_state, with_names}
 use Rattle.js_parser_readers.specs.Classes as classes
-use Rattle.js_parser_readers.specs.Classes.{start, Link, dot, key, no_link, link, update_near, deletes, a_unary, an_update, no_prefix, prefix, operator, Joint, question, assigns_by, no_joint, joint, key_start, AfterKey, after_key, is_shorthand_by}
+use Rattle.js_parser_readers.specs.Classes.{start, CallTail, dot, key, no_link, link, update_near, deletes, a_unary, an_update, no_prefix, prefix, operator, Joint, question, assigns_by, no_joint, joint, key_start, AfterKey, after_key, is_shorthand_by}
 use Rattle.js_parser_readers.specs.Productions.{Below, one_of, tok, an_assignment, an_expression, arguments, a_name, code, in_braces, made}
 use Rattle.js_parser_readers.specs.Parsing.{key_by, key_at, member_by, property_by, property_at, properties_at, is_name_next, function_by, function_at, primary_by, primary, linked_by, links_by, links, call, updated_by, postfix, unary_by, unary, operator_from, chain_by, chain, operation, arrow_body_by, arrow_rest, joined_by, joined}
 use Rattle.js_parser_language.proofs.KindLemmas.{kind_is}
@@ -61,7 +61,7 @@ member_form b c n m le p k classes.parameters = method_follows b c n m le p k
 member_form b c n m le p k classes.no_member = sticks
 
 -- what stands behind a name: it is a key or a shorthand
-abbrev pub named_member : Below → ℕ → Identifier → AfterKey → Reader Property
+abbrev pub named_member : Below → ℕ → Identifier → AfterKey → Reader PropertyDefinition
 named_member b n s classes.no_member ts = Ok (trees.shorthand s, ts)
 named_member b n s v ts = member_by b n (trees.word_key s) v ts
 
@@ -69,7 +69,7 @@ abbrev pub name_next : Option Token → Option Identifier
 name_next o = cond (is_kind kinds.Name o) (Some (text_of o)) None
 
 -- a property with its first token looked at before the second
-abbrev pub property_form : Below → ℕ → Option Identifier → Reader Property
+abbrev pub property_form : Below → ℕ → Option Identifier → Reader PropertyDefinition
 property_form b n (Some s) ts = named_member b n s (after_key (head_of (tail_of ts))) (tail_of ts)
 property_form b n None ts = key_at b ts >>= λ k. member_by b n k.0 (after_key (head_of k.1)) k.1
 
@@ -181,7 +181,7 @@ primary_follows b c n m le p = peeks start (λ v ts. primary_by b n v ts) (λ v 
 
 pub linked_follows : (b c : Below)
     → Pair b c
-    → (e : Expression) (l : Link)
+    → (e : Expression) (l : CallTail)
     → Follows (λ ts. linked_by b e l ts) (λ ts. linked_by c e l ts)
 linked_follows b c p e dot =
     makes (λ ts. word_at (tail_of ts)) (λ ts. word_at (tail_of ts)) (λ x. trees.member e x)
@@ -197,7 +197,7 @@ link_turn : (b c : Below) (n m : ℕ)
     → Pair b c
     → (go go' : Expression → Reader Expression)
     → ((e : Expression) → Follows (go e) (go' e))
-    → (e : Expression) (l : Link)
+    → (e : Expression) (l : CallTail)
     → Follows
     (λ ts. cond (nat_le (height e) n) (linked_by b e l ts >>= λ x. go x.0 x.1) (Err (deep (length (tail_of ts)))))
     (λ ts. cond (nat_le (height e) m) (linked_by c e l ts >>= λ x. go' x.0 x.1) (Err (deep (length (tail_of ts)))))
@@ -211,7 +211,7 @@ link_by_turn : (b c : Below) (n m : ℕ)
     → Pair b c
     → (go go' : Expression → Reader Expression)
     → ((e : Expression) → Follows (go e) (go' e))
-    → (e : Expression) (l : Link)
+    → (e : Expression) (l : CallTail)
     → Follows (λ ts. links_by b n go e l ts) (λ ts. links_by c m go' e l ts)
 link_by_turn b c n m le p go go' h e no_link = gives e
 link_by_turn b c n m le p go go' h e dot = link_turn b c n m le p go go' h e dot

@@ -4,14 +4,14 @@ use Rattle.js_lexer.specs.declared.token.TokenKind.{TokenKind}
 use Rattle.js_lexer.specs.declared.token.TokenKind.TheVariants as kinds
 use Rattle.js_tree.specs.Trees as trees
 use Rattle.js_tree.specs.Trees.{Identifier, Declarator}
-use Rattle.js_parser_language.specs.Tokens.{Token, End, after_expression, absent, head_of, tail_of, is_on_line}
+use Rattle.js_parser_language.specs.Tokens.{Token, StatementEnd, after_expression, absent, head_of, tail_of, is_on_line}
 use Rattle.js_parser_language.specs.Flat.{edge}
-use Rattle.js_parser_language.specs.Well.{Context, function_body, is_among}
+use Rattle.js_parser_language.specs.Well.{StatementContext, function_body, is_among}
 use Rattle.js_tree.specs.Views.{expressions, statements, declarators}
 use Rattle.js_parser_language.specs.Kinds.{is_kind}
 use Rattle.js_parser_readers.specs.Classes.{is_name}
-use Rattle.js_parser_readers.specs.Reading.{stuck, Read, Reader, ◌>>=◌, expect, expect_near, text_of, name_at, fresh_name, is_word_next, word_at, semicolon_at, After, goes_on, ends, neither, after, go_after, elements_by, elements, others_by, others, ends_list, items_by, items, no_state, with_name, with_names}
-use Rattle.js_parser_readers.specs.Productions.{Code, Below, one_of, arguments_before, more_assignments, parameters_at, with_declared, items_at, braces, code_at, initializer_by, declarator_at, with_declarator, declarators_at, optional_by, optional_before, ended_expression, Item, tok, near, a_name, the_name, an_assignment, an_expression, optional, arguments, ended, an_end, declared, a_statement, a_block, in_braces, code, Values, expect_name, item, seq, made}
+use Rattle.js_parser_readers.specs.Reading.{stuck, Read, Reader, ◌>>=◌, expect, expect_near, text_of, name_at, fresh_name, is_word_next, word_at, semicolon_at, AfterElement, goes_on, ends, neither, after, go_after, elements_by, elements, others_by, others, ends_list, items_by, items, no_state, with_name, with_names}
+use Rattle.js_parser_readers.specs.Productions.{ParametersAndBody, Below, one_of, arguments_before, more_assignments, parameters_at, with_declared, items_at, braces, code_at, initializer_by, declarator_at, with_declarator, declarators_at, optional_by, optional_before, ended_expression, Piece, tok, near, a_name, the_name, an_assignment, an_expression, optional, arguments, ended, an_end, declared, a_statement, a_block, in_braces, code, PieceValues, expect_name, item, seq, made}
 use Rattle.js_parser_laws.proofs.Follows.Tools.{Follows, gives, sticks, past, peeks, binds, makes, Shortens, Takes, shortens, Local, Turns, loop_from, loops}
 
 -- what reads below on two sides, where there may be more room on the right
@@ -21,10 +21,10 @@ pub record FollowsBelow (b c : Below) : Type 0 where
   pub operation : (m : ℕ) → Follows (λ ts. b.operation m ts) (λ ts. c.operation m ts)
   pub unary : Follows b.unary c.unary
   pub call : Follows b.call c.call
-  pub statement : (context : Context) → Follows (λ ts. b.statement context ts) (λ ts. c.statement context ts)
-  pub item : (context : Context) (taken : List Identifier)
+  pub statement : (context : StatementContext) → Follows (λ ts. b.statement context ts) (λ ts. c.statement context ts)
+  pub item : (context : StatementContext) (taken : List Identifier)
       → Follows (λ ts. b.item context taken ts) (λ ts. c.item context taken ts)
-  pub block : (context : Context) (taken : List Identifier)
+  pub block : (context : StatementContext) (taken : List Identifier)
       → Follows (λ ts. b.block context taken ts) (λ ts. c.block context taken ts)
   pub function : Follows b.function c.function
 
@@ -32,7 +32,7 @@ pub record FollowsBelow (b c : Below) : Type 0 where
 pub record Pair (b c : Below) : Type 0 where
   pub both : FollowsBelow b c
   pub right : FollowsBelow c c
-  pub takes : (context : Context) (taken : List Identifier) → Takes (λ ts. c.item context taken ts)
+  pub takes : (context : StatementContext) (taken : List Identifier) → Takes (λ ts. c.item context taken ts)
 
 -- the right side with itself
 pub on_right : (b c : Below) → Pair b c → Pair c c
@@ -104,14 +104,14 @@ if_absent_follows : (v : Bool) → Follows (if_absent v) (if_absent v)
 if_absent_follows true = gives tt
 if_absent_follows false = sticks
 
-abbrev semicolon_by : End → Bool → Reader (Unit {0})
+abbrev semicolon_by : StatementEnd → Bool → Reader (Unit {0})
 semicolon_by end v ts = cond v (Ok (tt, tail_of ts)) (if_absent (absent end (head_of ts)) ts)
 
-semicolon_by_follows : (end : End) (v : Bool) → Follows (semicolon_by end v) (semicolon_by end v)
+semicolon_by_follows : (end : StatementEnd) (v : Bool) → Follows (semicolon_by end v) (semicolon_by end v)
 semicolon_by_follows end true = past (λ ts. Ok (tt, ts)) (λ ts. Ok (tt, ts)) (gives tt)
 semicolon_by_follows end false = peeks (λ o. absent end o) if_absent if_absent if_absent_follows
 
-pub semicolon_follows : (end : End) → Follows (λ ts. semicolon_at end ts) (λ ts. semicolon_at end ts)
+pub semicolon_follows : (end : StatementEnd) → Follows (λ ts. semicolon_at end ts) (λ ts. semicolon_at end ts)
 unfolding semicolon_at
 semicolon_follows end =
     peeks (λ o. is_kind kinds.Semicolon o) (semicolon_by end) (semicolon_by end) (semicolon_by_follows end)
@@ -124,7 +124,7 @@ comma_shorter : (closer : TokenKind) (ts : List Token)
 comma_shorter closer [] e = absurd cc
 comma_shorter closer (t ∷ ts) e = refl
 
-go_after_local : {A : Type 0} (go go' : Reader (List A)) (closer : TokenKind) (n : ℕ) (a : After) (ts : List Token)
+go_after_local : {A : Type 0} (go go' : Reader (List A)) (closer : TokenKind) (n : ℕ) (a : AfterElement) (ts : List Token)
     → after closer (head_of ts) ≡ a
     → length ts ≤ n
     → ((r : List Token) → suc (length r) ≤ n → go r ≡ go' r)
@@ -378,7 +378,7 @@ parameters_follows =
 
 pub items_at_follows : (b c : Below)
     → Pair b c
-    → (context : Context) (taken : List Identifier)
+    → (context : StatementContext) (taken : List Identifier)
     → Follows (λ ts. items_at b context taken ts) (λ ts. items_at c context taken ts)
 unfolding items_at
 items_at_follows b c p context taken =
@@ -389,7 +389,7 @@ items_at_follows b c p context taken =
 
 pub braces_follows : (b c : Below)
     → Pair b c
-    → (context : Context) (taken : List Identifier)
+    → (context : StatementContext) (taken : List Identifier)
     → Follows (λ ts. braces b context taken ts) (λ ts. braces c context taken ts)
 unfolding braces
 braces_follows b c p context taken =
@@ -407,7 +407,7 @@ braces_follows b c p context taken =
     (λ ss. makes (λ ts. expect kinds.RightBrace ts) (λ ts. expect kinds.RightBrace ts) (λ y. ss)
     (expect_follows kinds.RightBrace)))
 
-abbrev pub code_of : List Identifier → trees.Statements → Code
+abbrev pub code_of : List Identifier → trees.Statements → ParametersAndBody
 code_of ps body = record { parameters = ps; body = body }
 
 pub code_follows : (b c : Below) → Pair b c → Follows (λ ts. code_at b ts) (λ ts. code_at c ts)
@@ -499,7 +499,7 @@ ended_follows b c p =
 
 -- ---- productions
 
-pub item_follows : (b c : Below) → Pair b c → (i : Item) → Follows (λ ts. item b i ts) (λ ts. item c i ts)
+pub item_follows : (b c : Below) → Pair b c → (i : Piece) → Follows (λ ts. item b i ts) (λ ts. item c i ts)
 item_follows b c p (tok k) = expect_follows k
 item_follows b c p (near k) = expect_near_follows k
 item_follows b c p a_name = name_follows
@@ -517,7 +517,7 @@ item_follows b c p (in_braces context taken) = braces_follows b c p context take
 item_follows b c p code = code_follows b c p
 
 -- the law of productions
-pub seq_follows : (b c : Below) → Pair b c → (is : List Item) → Follows (λ ts. seq b is ts) (λ ts. seq c is ts)
+pub seq_follows : (b c : Below) → Pair b c → (is : List Piece) → Follows (λ ts. seq b is ts) (λ ts. seq c is ts)
 seq_follows b c p [] = gives tt
 seq_follows b c p (i ∷ is) =
     binds (λ ts. item b i ts) (λ ts. item c i ts) (λ v ts. seq b is ts >>= λ y. Ok ((v, y.0), y.1))
@@ -526,6 +526,6 @@ seq_follows b c p (i ∷ is) =
 
 pub made_follows : {A : Type 0} (b c : Below)
     → Pair b c
-    → (is : List Item) (make : Values is → A)
+    → (is : List Piece) (make : PieceValues is → A)
     → Follows (λ ts. made b is make ts) (λ ts. made c is make ts)
 made_follows b c p is make = makes (λ ts. seq b is ts) (λ ts. seq c is ts) make (seq_follows b c p is)

@@ -7,13 +7,13 @@ use Rattle.js_tree.specs.Trees as trees
 use Rattle.js_tree.specs.Trees.{Identifier, Expression, Declarator, Declarators, Statement, Handler}
 use Rattle.js_parser_language.specs.Tokens.{Token, fixed, after_word, head_of, tail_of, IsNext, is_on_line}
 use Rattle.js_parser_language.specs.Flat.{end_of_declarators}
-use Rattle.js_parser_language.specs.Well.{Context, loop_body}
+use Rattle.js_parser_language.specs.Well.{StatementContext, loop_body}
 use Rattle.js_tree.specs.Views.{declarators}
 use Rattle.js_parser_language.specs.Kinds.{is_kind}
 use Rattle.js_parser_readers.specs.Classes as classes
-use Rattle.js_parser_readers.specs.Classes.{First, first, ends_return, is_name, ForHead, each, declares, plain_head, for_head_by, for_head}
+use Rattle.js_parser_readers.specs.Classes.{StatementStart, first, ends_return, is_name, ForHead, each, declares, plain_head, for_head_by, for_head}
 use Rattle.js_parser_readers.specs.Reading.{stuck, Read, Reader, ◌>>=◌, expect, text_of, name_at, fresh_name, semicolon_at, others}
-use Rattle.js_parser_readers.specs.Productions.{Below, code_at, initializer_by, declarator_at, with_declarator, declarators_at, Item, tok, a_name, the_name, an_assignment, optional, ended, an_end, declared, a_statement, a_block, in_braces, Value, Values, seq, made}
+use Rattle.js_parser_readers.specs.Productions.{Below, code_at, initializer_by, declarator_at, with_declarator, declarators_at, Piece, tok, a_name, the_name, an_assignment, optional, ended, an_end, declared, a_statement, a_block, in_braces, PieceValue, PieceValues, seq, made}
 use Rattle.js_parser_readers.specs.Productions as productions
 use Rattle.js_parser_readers.specs.Parsing.{else_by, if_items, if_at, let_kind, do_items, while_items, for_by, for_at, return_by, throw_by, catch_by, handler_by, handler_at, finalizer_by, finalizer_at, try_at, statement_by, statement, lexical_at, declaration_at, item_by, item}
 use Rattle.js_parser_laws.proofs.TokenLemmas.{expect_again}
@@ -22,25 +22,25 @@ use Rattle.js_parser_laws.proofs.Follows.Parts.{Pair, on_right, expect_follows, 
 
 -- ---- the first item of a production
 
-abbrev with_first : (i : Item) (is : List Item) → Value i → Read (Values is) → Read (Values (i ∷ is))
+abbrev with_first : (i : Piece) (is : List Piece) → PieceValue i → Read (PieceValues is) → Read (PieceValues (i ∷ is))
 with_first i is v y = y >>= λ z. Ok ((v, z.0), z.1)
 
 abbrev pub made_of : {A V : Type 0} → (V → A) → Read V → Read A
 made_of make x = x >>= λ z. Ok (make z.0, z.1)
 
-made_with_first : {A : Type 0} (i : Item) (is : List Item) (make : Values (i ∷ is) → A) (v : Value i)
-    (y : Read (Values is))
+made_with_first : {A : Type 0} (i : Piece) (is : List Piece) (make : PieceValues (i ∷ is) → A) (v : PieceValue i)
+    (y : Read (PieceValues is))
     → made_of make (with_first i is v y) ≡ made_of (λ w. make (v, w)) y
 made_with_first i is make v (Ok z) = refl
 made_with_first i is make v (Err e) = refl
 
-lead_of : {A : Type 0} (b : Below) (i : Item) (is : List Item) (make : Values (i ∷ is) → A) (x : Read (Value i))
+lead_of : {A : Type 0} (b : Below) (i : Piece) (is : List Piece) (make : PieceValues (i ∷ is) → A) (x : Read (PieceValue i))
     → made_of make (x >>= λ y. with_first i is y.0 (seq b is y.1)) ≡ (x >>= λ y. made b is (λ w. make (y.0, w)) y.1)
 lead_of b i is make (Ok y) = made_with_first i is make y.0 (seq b is y.1)
 lead_of b i is make (Err e) = refl
 
 -- a production is read item by item
-lead : {A : Type 0} (b : Below) (i : Item) (is : List Item) (make : Values (i ∷ is) → A) (ts : List Token)
+lead : {A : Type 0} (b : Below) (i : Piece) (is : List Piece) (make : PieceValues (i ∷ is) → A) (ts : List Token)
     → made b (i ∷ is) make ts ≡ (productions.item b i ts >>= λ y. made b is (λ w. make (y.0, w)) y.1)
 lead b i is make ts = lead_of b i is make (productions.item b i ts)
 
@@ -62,7 +62,7 @@ behind_kind k look f ts = behind_by look f ts (is_kind k (head_of ts))
 
 else_follows : (b c : Below)
     → Pair b c
-    → (context : Context) (e : Expression) (s : Statement) (v : Bool)
+    → (context : StatementContext) (e : Expression) (s : Statement) (v : Bool)
     → Follows (λ ts. else_by b context e s v ts) (λ ts. else_by c context e s v ts)
 else_follows b c p context e s true =
     made_follows b c p (tok kinds.Else ∷ a_statement context ∷ []) (λ v. trees.if_else e s v.1.0)
@@ -70,7 +70,7 @@ else_follows b c p context e s false = gives (trees.if_then e s)
 
 if_follows : (b c : Below)
     → Pair b c
-    → (context : Context)
+    → (context : StatementContext)
     → Follows (λ ts. if_at b context ts) (λ ts. if_at c context ts)
 unfolding if_at
 if_follows b c p context =
@@ -152,10 +152,10 @@ throw_follows b c p = peeks is_on_line (λ v ts. throw_rest b v ts) (λ v ts. th
 
 catch_follows : (b c : Below)
     → Pair b c
-    → (context : Context) (v : Bool)
+    → (context : StatementContext) (v : Bool)
     → Follows (λ ts. catch_by b context v ts) (λ ts. catch_by c context v ts)
 catch_follows b c p context true =
-    let items : List Item = tok kinds.LeftParenthesis ∷ a_name ∷ tok kinds.RightParenthesis ∷ [] in
+    let items : List Piece = tok kinds.LeftParenthesis ∷ a_name ∷ tok kinds.RightParenthesis ∷ [] in
     binds (λ ts. seq b (tok kinds.LeftParenthesis ∷ a_name ∷ tok kinds.RightParenthesis ∷ []) ts)
     (λ ts. seq c (tok kinds.LeftParenthesis ∷ a_name ∷ tok kinds.RightParenthesis ∷ []) ts)
     (λ n ts. b.block context (n.1.0 ∷ []) ts >>= λ x. Ok (trees.catch (Some n.1.0) x.0, x.1))
@@ -169,7 +169,7 @@ catch_follows b c p context false =
 
 pub handler_follows : (b c : Below)
     → Pair b c
-    → (context : Context)
+    → (context : StatementContext)
     → Follows (λ ts. handler_at b context ts) (λ ts. handler_at c context ts)
 unfolding handler_at
 handler_follows b c p context =
@@ -184,7 +184,7 @@ handler_follows b c p context =
 
 finalizer_by_follows : (b c : Below)
     → Pair b c
-    → (context : Context) (h : Handler) (v : Bool)
+    → (context : StatementContext) (h : Handler) (v : Bool)
     → Follows (λ ts. finalizer_by b context h v ts) (λ ts. finalizer_by c context h v ts)
 finalizer_by_follows b c p context h true =
     made_follows b c p (tok kinds.Finally ∷ a_block context [] ∷ []) (λ v. trees.finally v.1.0)
@@ -193,7 +193,7 @@ finalizer_by_follows b c p context (trees.catch n ss) false = gives trees.no_fin
 
 pub finalizer_follows : (b c : Below)
     → Pair b c
-    → (context : Context) (h : Handler)
+    → (context : StatementContext) (h : Handler)
     → Follows (λ ts. finalizer_at b context h ts) (λ ts. finalizer_at c context h ts)
 unfolding finalizer_at
 finalizer_follows b c p context h =
@@ -202,7 +202,7 @@ finalizer_follows b c p context h =
 
 try_follows : (b c : Below)
     → Pair b c
-    → (context : Context)
+    → (context : StatementContext)
     → Follows (λ ts. try_at b context ts) (λ ts. try_at c context ts)
 unfolding try_at
 try_follows b c p context =
@@ -249,21 +249,21 @@ declaration_follows b c p taken =
 
 -- ---- for
 
-abbrev pub plain_items : Context → List Item
+abbrev pub plain_items : StatementContext → List Piece
 plain_items context =
     optional kinds.Semicolon ∷ optional kinds.Semicolon ∷ optional kinds.RightParenthesis ∷ a_statement
     (loop_body context) ∷ []
 
-abbrev pub after_declared : Context → List Item
+abbrev pub after_declared : StatementContext → List Piece
 after_declared context =
     tok kinds.Semicolon ∷ optional kinds.Semicolon ∷ optional kinds.RightParenthesis ∷ a_statement (loop_body context)
     ∷ []
 
-abbrev pub after_of : Context → List Item
+abbrev pub after_of : StatementContext → List Piece
 after_of context = an_assignment ∷ tok kinds.RightParenthesis ∷ a_statement (loop_body context) ∷ []
 
 -- behind for and its parenthesis
-abbrev pub for_rest : Below → Context → ForHead → Reader Statement
+abbrev pub for_rest : Below → StatementContext → ForHead → Reader Statement
 for_rest b context (each k) ts =
     made b (tok (let_kind k) ∷ a_name ∷ the_name (codes "of") ∷ after_of context)
     (λ v. trees.for_of k v.1.0 v.1.1.1.0 v.1.1.1.1.1.0) ts
@@ -279,7 +279,7 @@ then_same : {A V : Type 0} (x : Read V) (f g : V → Reader A)
 then_same (Ok y) f g h = h y.0 y.1
 then_same (Err e) f g h = refl
 
-leads_two : {A : Type 0} (b : Below) (j k : TokenKind) (is : List Item) (make : Values (tok j ∷ tok k ∷ is) → A)
+leads_two : {A : Type 0} (b : Below) (j k : TokenKind) (is : List Piece) (make : PieceValues (tok j ∷ tok k ∷ is) → A)
     (ts : List Token)
     → made b (tok j ∷ tok k ∷ is) make ts ≡
     (expect j ts >>= λ x. expect k x.1 >>= λ y. made b is (λ w. make (tt, (tt, w))) y.1)
@@ -289,7 +289,7 @@ leads_two b j k is make ts =
     (λ u r. expect k r >>= λ y. made b is (λ w. make (u, (y.0, w))) y.1)
     (λ u r. lead b (tok k) is (λ w. make (u, w)) r)
 
-for_is_by : (b : Below) (context : Context) (v : ForHead) (ts : List Token)
+for_is_by : (b : Below) (context : StatementContext) (v : ForHead) (ts : List Token)
     → for_by b context v ts ≡
     (expect kinds.For ts >>= λ x. expect kinds.LeftParenthesis x.1 >>= λ y. for_rest b context v y.1)
 for_is_by b context (each k) ts =
@@ -305,11 +305,11 @@ for_is_by b context plain_head ts =
 abbrev for_head_behind : List Token → ForHead
 for_head_behind ts = for_head (tail_of ts)
 
-abbrev pub for_form : Below → Context → Reader Statement
+abbrev pub for_form : Below → StatementContext → Reader Statement
 for_form b context ts =
     expect kinds.For ts >>= λ x. expect kinds.LeftParenthesis x.1 >>= λ y. for_rest b context (for_head y.1) y.1
 
-pub for_is : (b : Below) (context : Context) (ts : List Token) → for_at b context ts ≡ for_form b context ts
+pub for_is : (b : Below) (context : StatementContext) (ts : List Token) → for_at b context ts ≡ for_form b context ts
 unfolding for_at
 for_is b context ts =
     for_is_by b context (for_head (tail_of (tail_of ts))) ts
@@ -323,13 +323,13 @@ for_is b context ts =
 abbrev pub named_of : List Token → Bool
 named_of ts = is_kind kinds.Name (head_of ts) && is_name (codes "of") (head_of (tail_of ts))
 
-abbrev pub for_third : Below → Context → Bool → Bool → Reader Statement
+abbrev pub for_third : Below → StatementContext → Bool → Bool → Reader Statement
 for_third b context k true ts =
     made b (a_name ∷ the_name (codes "of") ∷ after_of context) (λ v. trees.for_of k v.0 v.1.1.0 v.1.1.1.1.0) ts
 for_third b context k false ts =
     made b (declared k [] ∷ after_declared context) (λ v. trees.for_lexical k v.0 v.1.1.0 v.1.1.1.0 v.1.1.1.1.0) ts
 
-let_is_by : (b : Below) (context : Context) (k w : Bool) (ts : List Token)
+let_is_by : (b : Below) (context : StatementContext) (k w : Bool) (ts : List Token)
     → for_rest b context (cond w (each k) (declares k)) ts ≡
     (expect (let_kind k) ts >>= λ x. for_third b context k w x.1)
 let_is_by b context k true ts =
@@ -339,7 +339,7 @@ let_is_by b context k false ts =
     lead b (tok (let_kind k)) (declared k [] ∷ after_declared context)
     (λ v. trees.for_lexical k v.1.0 v.1.1.1.0 v.1.1.1.1.0 v.1.1.1.1.1.0) ts
 
-pub let_is : (b : Below) (context : Context) (k : Bool) (ts : List Token)
+pub let_is : (b : Below) (context : StatementContext) (k : Bool) (ts : List Token)
     → for_rest b context (for_head_by (classes.a_lexical k) (tail_of ts)) ts ≡
     (expect (let_kind k) ts >>= λ x. for_third b context k (named_of x.1) x.1)
 let_is b context k ts =
@@ -355,14 +355,14 @@ abbrev pub all_declarators : Below → Bool → Identifier → Reader Declarator
 all_declarators b k n ts =
     initializer_by b k n (is_kind kinds.Assign (head_of ts)) ts >>= λ d. more_declarators b k d.0 d.1
 
-abbrev pub for_fourth : Below → Context → Bool → Identifier → Bool → Reader Statement
+abbrev pub for_fourth : Below → StatementContext → Bool → Identifier → Bool → Reader Statement
 for_fourth b context k n true ts =
     made b (the_name (codes "of") ∷ after_of context) (λ v. trees.for_of k n v.1.0 v.1.1.1.0) ts
 for_fourth b context k n false ts =
     all_declarators b k n ts >>= λ ds. made b (after_declared context)
     (λ v. trees.for_lexical k ds.0 v.1.0 v.1.1.0 v.1.1.1.0) ds.1
 
-declared_by : (b : Below) (context : Context) (k : Bool) (x : Read Identifier)
+declared_by : (b : Below) (context : StatementContext) (k : Bool) (x : Read Identifier)
     → (((x >>= λ n. initializer_by b k n.0 (is_kind kinds.Assign (head_of n.1)) n.1)
     >>= λ d. more_declarators b k d.0 d.1)
     >>= λ ds. made b (after_declared context) (λ v. trees.for_lexical k ds.0 v.1.0 v.1.1.0 v.1.1.1.0) ds.1)
@@ -370,7 +370,7 @@ declared_by : (b : Below) (context : Context) (k : Bool) (x : Read Identifier)
 declared_by b context k (Ok n) = refl
 declared_by b context k (Err e) = refl
 
-third_is : (b : Below) (context : Context) (k w : Bool) (ts : List Token)
+third_is : (b : Below) (context : StatementContext) (k w : Bool) (ts : List Token)
     → for_third b context k w ts ≡ (name_at ts >>= λ n. for_fourth b context k n.0 w n.1)
 unfolding declarators_at declarator_at fresh_name
 third_is b context k true ts =
@@ -396,10 +396,10 @@ behind_name : {A : Type 0} (look : List Token → Bool) (f : Identifier → Bool
 unfolding name_at
 behind_name look f ts = behind_name_by look f ts (is_kind kinds.Name (head_of ts))
 
-abbrev pub third_form : Below → Context → Bool → Reader Statement
+abbrev pub third_form : Below → StatementContext → Bool → Reader Statement
 third_form b context k ts = name_at ts >>= λ n. for_fourth b context k n.0 (of_next n.1) n.1
 
-pub named_is : (b : Below) (context : Context) (k : Bool) (ts : List Token)
+pub named_is : (b : Below) (context : StatementContext) (k : Bool) (ts : List Token)
     → for_third b context k (named_of ts) ts ≡ third_form b context k ts
 named_is b context k ts = third_is b context k (named_of ts) ts ∙ behind_name of_next (for_fourth b context k) ts
 
@@ -430,7 +430,7 @@ all_follows b c p k n =
 
 fourth_follows : (b c : Below)
     → Pair b c
-    → (context : Context) (k : Bool) (n : Identifier) (w : Bool)
+    → (context : StatementContext) (k : Bool) (n : Identifier) (w : Bool)
     → Follows (λ ts. for_fourth b context k n w ts) (λ ts. for_fourth c context k n w ts)
 fourth_follows b c p context k n true =
     made_follows b c p (the_name (codes "of") ∷ after_of context) (λ v. trees.for_of k n v.1.0 v.1.1.1.0)
@@ -443,7 +443,7 @@ fourth_follows b c p context k n false =
 
 third_follows : (b c : Below)
     → Pair b c
-    → (context : Context) (k : Bool)
+    → (context : StatementContext) (k : Bool)
     → Follows (λ ts. for_third b context k (named_of ts) ts) (λ ts. for_third c context k (named_of ts) ts)
 third_follows b c p context k =
     alike (third_form b context k) (λ ts. for_third b context k (named_of ts) ts) (third_form c context k)
@@ -453,12 +453,12 @@ third_follows b c p context k =
     (λ n. peeks (λ o. is_name (codes "of") o) (λ w ts. for_fourth b context k n w ts)
     (λ w ts. for_fourth c context k n w ts) (fourth_follows b c p context k n)))
 
-abbrev pub let_form : Below → Context → Bool → Reader Statement
+abbrev pub let_form : Below → StatementContext → Bool → Reader Statement
 let_form b context k ts = expect (let_kind k) ts >>= λ x. for_third b context k (named_of x.1) x.1
 
 let_follows : (b c : Below)
     → Pair b c
-    → (context : Context) (k : Bool)
+    → (context : StatementContext) (k : Bool)
     → Follows (λ ts. for_rest b context (for_head_by (classes.a_lexical k) (tail_of ts)) ts)
     (λ ts. for_rest c context (for_head_by (classes.a_lexical k) (tail_of ts)) ts)
 let_follows b c p context k =
@@ -471,7 +471,7 @@ let_follows b c p context k =
 
 rest_follows : (b c : Below)
     → Pair b c
-    → (context : Context) (v : First)
+    → (context : StatementContext) (v : StatementStart)
     → Follows (λ ts. for_rest b context (for_head_by v (tail_of ts)) ts)
     (λ ts. for_rest c context (for_head_by v (tail_of ts)) ts)
 rest_follows b c p context (classes.a_lexical k) = let_follows b c p context k
@@ -479,7 +479,7 @@ rest_follows b c p context _ = made_follows b c p (plain_items context) (λ v. t
 
 for_follows : (b c : Below)
     → Pair b c
-    → (context : Context)
+    → (context : StatementContext)
     → Follows (λ ts. for_at b context ts) (λ ts. for_at c context ts)
 for_follows b c p context =
     alike (for_form b context) (λ ts. for_at b context ts) (for_form c context) (λ ts. for_at c context ts)
@@ -496,24 +496,24 @@ for_follows b c p context =
 
 -- ---- any statement
 
-abbrev pub statement_form : Below → Context → First → Reader Statement
+abbrev pub statement_form : Below → StatementContext → StatementStart → Reader Statement
 statement_form b context classes.a_throw ts = throw_rest b (is_on_line (head_of (tail_of ts))) (tail_of ts)
 statement_form b context v ts = statement_by b context v ts
 
-statement_is_by : (b : Below) (context : Context) (ts : List Token) (v : First)
+statement_is_by : (b : Below) (context : StatementContext) (ts : List Token) (v : StatementStart)
     → first (head_of ts) ≡ v
     → statement_by b context v ts ≡ statement_form b context v ts
 statement_is_by b context ts classes.a_throw e = throw_is b ts e (is_on_line (head_of (tail_of ts)))
 statement_is_by b context ts _ e = refl
 
-pub statement_is : (b : Below) (context : Context) (ts : List Token)
+pub statement_is : (b : Below) (context : StatementContext) (ts : List Token)
     → statement b context ts ≡ statement_form b context (first (head_of ts)) ts
 unfolding statement
 statement_is b context ts = statement_is_by b context ts (first (head_of ts)) refl
 
 form_follows : (b c : Below)
     → Pair b c
-    → (context : Context) (v : First)
+    → (context : StatementContext) (v : StatementStart)
     → Follows (λ ts. statement_form b context v ts) (λ ts. statement_form c context v ts)
 form_follows b c p context classes.a_block = made_follows b c p (in_braces context [] ∷ []) (λ v. trees.block v.0)
 form_follows b c p context (classes.a_lexical constant) = sticks
@@ -550,7 +550,7 @@ form_follows b c p context classes.an_expression = made_follows b c p (ended ∷
 
 pub statement_follows : (b c : Below)
     → Pair b c
-    → (context : Context)
+    → (context : StatementContext)
     → Follows (λ ts. statement b context ts) (λ ts. statement c context ts)
 statement_follows b c p context =
     alike (λ ts. statement_form b context (first (head_of ts)) ts) (λ ts. statement b context ts)
@@ -561,7 +561,7 @@ statement_follows b c p context =
 
 item_by_follows : (b c : Below)
     → Pair b c
-    → (context : Context) (taken : List Identifier) (v : First)
+    → (context : StatementContext) (taken : List Identifier) (v : StatementStart)
     → Follows (λ ts. item_by b context taken v ts) (λ ts. item_by c context taken v ts)
 item_by_follows b c p context taken (classes.a_lexical constant) = lexical_follows b c p constant taken
 item_by_follows b c p context taken classes.a_function = declaration_follows b c p taken
@@ -569,7 +569,7 @@ item_by_follows b c p context taken _ = statement_follows b c p context
 
 pub list_item_follows : (b c : Below)
     → Pair b c
-    → (context : Context) (taken : List Identifier)
+    → (context : StatementContext) (taken : List Identifier)
     → Follows (λ ts. item b context taken ts) (λ ts. item c context taken ts)
 unfolding item
 list_item_follows b c p context taken =

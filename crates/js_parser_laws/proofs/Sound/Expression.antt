@@ -5,7 +5,7 @@ use Rattle.std.proofs.lemmas.List.{append-nil}
 use Rattle.js_lexer.specs.declared.token.TokenKind.TheVariants as kinds
 use Rattle.js_tree.specs.Trees as trees
 use Rattle.js_tree.specs.Trees.{Identifier, Parameters, Expression, Expressions}
-use Rattle.js_parser_language.specs.Tokens.{Token, fixed, Mark, token, beside, head_of, Matches}
+use Rattle.js_parser_language.specs.Tokens.{Token, fixed, FlatToken, token, beside, head_of, Matches}
 use Rattle.js_parser_language.specs.Flat as flats
 use Rattle.js_parser_language.specs.Flat.{assign_kind, flat, more_expressions, flat_names, flat_parameters, flat_arrow_parameters, flat_statements}
 use Rattle.js_parser_language.specs.Well.{function_body, is_among, AreFresh, names_of_parameters, is_two_expressions, is_function}
@@ -14,7 +14,7 @@ use Rattle.js_tree.specs.Height.{height}
 use Rattle.js_parser_language.specs.Kinds.{is_kind}
 use Rattle.js_parser_readers.specs.Reading.{stuck, ◌>>=◌, expect, expect_near, name_at, with_names}
 use Rattle.js_parser_readers.specs.Classes as classes
-use Rattle.js_parser_readers.specs.Classes.{Start, start, Joint, question, assigns_by, no_joint, joint, Head, one_parameter, listed, no_arrow, arrow_head}
+use Rattle.js_parser_readers.specs.Classes.{PrimaryStart, start, Joint, question, assigns_by, no_joint, joint, ArrowStart, one_parameter, listed, no_arrow, arrow_head}
 use Rattle.js_parser_readers.specs.Productions.{Below, more_assignments, names_before, parameters_at, tok, an_assignment, in_braces, made}
 use Rattle.js_parser_readers.specs.Parsing.{if_low, operation, arrow_body_by, arrow_rest, are_fresh, arrow_of_names, arrow_of_one, arrow_of_list, joined_by, joined, assignment_by, assignment, comma_by, expression, function_code_by}
 use Rattle.js_parser_laws.proofs.Claims.{TakesExpression, SoundBelow, SeqSound}
@@ -72,7 +72,7 @@ arrow_body_by_sound q n b snd s ps ts m fresh us a false f x e =
           t.sane.0.0,
           t.sane.0.1,
           no_brace (flat v.0) us r f
-              (subst (λ (ms : List Mark). Matches ms us r) (append-nil (flat v.0)) t.marks),
+              (subst (λ (ms : List FlatToken). Matches ms us r) (append-nil (flat v.0)) t.marks),
         );
         level = omega arith;
         height = omega (arith, t.height);
@@ -192,7 +192,7 @@ joined_sound q n b snd s t ts x l e = joined_by_sound q n b snd s t (joint (head
 
 assignment_by_sound : (q : SeqSound) (n : ℕ) (b : Below)
     → SoundBelow n b
-    → (h : Head) (ts : List Token) (x : Expression × List Token)
+    → (h : ArrowStart) (ts : List Token) (x : Expression × List Token)
     → assignment_by b n h ts ≡ Ok x
     → TakesExpression 1 (suc n) ts x.0 x.1
 assignment_by_sound q n b s one_parameter ts x e = (arrow_of_one_sound q n b s ts x e).0
@@ -259,7 +259,7 @@ expression_sound q n b s ts x e =
 -- a function expression or an arrow function
 pub function_code_sound : (q : SeqSound) (n : ℕ) (b : Below)
     → SoundBelow n b
-    → (c : Start) (ts : List Token) (x : Expression × List Token)
+    → (c : PrimaryStart) (ts : List Token) (x : Expression × List Token)
     → start (head_of ts) ≡ c
     → function_code_by b c ts ≡ Ok x
     → TakesFunction n ts x.0 x.1

@@ -2,9 +2,9 @@
 use Rattle.std.proofs.Common.{◌≡◌, ℕ, zero, suc, Bool, true, false, List, [], ◌∷◌, ◌++◌, Option, Ok, refl, sym, subst, inl, inr, append_assoc}
 use Rattle.js_lexer.specs.declared.token.TokenKind.{TokenKind}
 use Rattle.js_lexer.specs.declared.token.TokenKind.TheVariants as kinds
-use Rattle.js_parser_language.specs.Tokens.{Token, fixed, Mark, token, trailing_comma, head_of, tail_of, IsNext, Matches}
+use Rattle.js_parser_language.specs.Tokens.{Token, fixed, FlatToken, token, trailing_comma, head_of, tail_of, IsNext, Matches}
 use Rattle.js_parser_language.specs.Kinds.{is_kind}
-use Rattle.js_parser_readers.specs.Reading.{Reader, ◌>>=◌, After, goes_on, ends, neither, after_by, after, go_after, elements_by, elements, others_by, others, ends_list, items_by, items}
+use Rattle.js_parser_readers.specs.Reading.{Reader, ◌>>=◌, AfterElement, goes_on, ends, neither, after_by, after, go_after, elements_by, elements, others_by, others, ends_list, items_by, items}
 use Rattle.js_parser_language.proofs.KindLemmas.{next_is}
 use Rattle.js_parser_laws.proofs.MarkLemmas.{joins}
 use Rattle.js_parser_laws.proofs.TokenLemmas.{ok_is}
@@ -13,26 +13,26 @@ use Rattle.js_parser_readers.proofs.ShorterLemmas.{bind_ok}
 -- ---- the marks of lists
 
 -- each element behind a comma
-abbrev pub behind_commas : {A : Type 0} → (A → List Mark) → List A → List Mark
+abbrev pub behind_commas : {A : Type 0} → (A → List FlatToken) → List A → List FlatToken
 behind_commas flat_of [] = []
 behind_commas flat_of (x ∷ xs) = token (fixed kinds.Comma) ∷ (flat_of x ++ behind_commas flat_of xs)
 
 -- elements with commas between
-abbrev pub with_commas : {A : Type 0} → (A → List Mark) → List A → List Mark
+abbrev pub with_commas : {A : Type 0} → (A → List FlatToken) → List A → List FlatToken
 with_commas flat_of [] = []
 with_commas flat_of (x ∷ xs) = flat_of x ++ behind_commas flat_of xs
 
 -- a comma behind the last element, where there is one
-abbrev pub behind_last : {A : Type 0} → List A → List Mark
+abbrev pub behind_last : {A : Type 0} → List A → List FlatToken
 behind_last [] = []
 behind_last (x ∷ xs) = trailing_comma ∷ []
 
 -- elements up to the token that ends them
-abbrev pub up_to : {A : Type 0} → (A → List Mark) → TokenKind → List A → List Mark
+abbrev pub up_to : {A : Type 0} → (A → List FlatToken) → TokenKind → List A → List FlatToken
 up_to flat_of closer xs = with_commas flat_of xs ++ (behind_last xs ++ (token (fixed closer) ∷ []))
 
 -- elements one after the other
-abbrev pub in_a_row : {A : Type 0} → (A → List Mark) → List A → List Mark
+abbrev pub in_a_row : {A : Type 0} → (A → List FlatToken) → List A → List FlatToken
 in_a_row flat_of [] = []
 in_a_row flat_of (x ∷ xs) = flat_of x ++ in_a_row flat_of xs
 
@@ -42,7 +42,7 @@ AllGood next Good s [] = Unit {0}
 AllGood next Good s (x ∷ xs) = Good s x × AllGood next Good (next s x) xs
 
 -- what is read has these marks and is good in its state
-abbrev pub Reads : {S A : Type 0} → (S → Reader A) → (A → List Mark) → (S → A → Type 0) → Type 0
+abbrev pub Reads : {S A : Type 0} → (S → Reader A) → (A → List FlatToken) → (S → A → Type 0) → Type 0
 Reads {S} {A} one flat_of Good =
     (s : S) (ts : List Token) (x : A × List Token) → one s ts ≡ Ok x → Matches (flat_of x.0) ts x.1 × Good s x.0
 
@@ -65,21 +65,21 @@ after_ends closer o e = next_is closer o (closes (is_kind closer o) (is_kind kin
     closes false false e = absurd cc
 
 -- a comma with what is read behind it
-behind_one : {A : Type 0} (flat_of : A → List Mark) (closer : TokenKind) (xs : List A) (ts r : List Token)
+behind_one : {A : Type 0} (flat_of : A → List FlatToken) (closer : TokenKind) (xs : List A) (ts r : List Token)
     → IsNext (fixed kinds.Comma) (head_of ts)
     → Matches (up_to flat_of closer xs) (tail_of ts) r
     → Matches (behind_commas flat_of xs ++ (trailing_comma ∷ token (fixed closer) ∷ [])) ts r
 behind_one flat_of closer [] ts r c m = inl (c, m)
 behind_one flat_of closer (x ∷ xs) ts r c m = (c, m)
 
-go_after_sound : {A : Type 0} (flat_of : A → List Mark) (closer : TokenKind) (Fine : List A → Type 0)
+go_after_sound : {A : Type 0} (flat_of : A → List FlatToken) (closer : TokenKind) (Fine : List A → Type 0)
     → Fine []
     → (go : Reader (List A))
     → ((ts : List Token) (y : List A × List Token)
     → go ts ≡ Ok y
     → Matches (up_to flat_of closer y.0) ts y.1
     × Fine y.0)
-    → (a : After) (ts : List Token)
+    → (a : AfterElement) (ts : List Token)
     → after closer (head_of ts) ≡ a
     → (y : List A × List Token)
     → go_after go a ts ≡ Ok y
@@ -94,7 +94,7 @@ go_after_sound {A} flat_of closer Fine none go h ends ts f y e =
     (ok_is ([], tail_of ts) y e) (inr (after_ends closer (head_of ts) f, refl), none)
 go_after_sound flat_of closer Fine none go h neither ts f y e = absurd cc
 
-elements_by_sound : {S A : Type 0} (one : S → Reader A) (next : S → A → S) (flat_of : A → List Mark)
+elements_by_sound : {S A : Type 0} (one : S → Reader A) (next : S → A → S) (flat_of : A → List FlatToken)
     (Good : S → A → Type 0)
     → Reads one flat_of Good
     → (closer : TokenKind) (go : S → Reader (List A))
@@ -122,14 +122,14 @@ elements_by_sound {S} {A} one next flat_of Good reads closer go h false s ts f y
     ts p.0.1 q.0.1 t.0 u.0 in
     subst (λ (y : List A × List Token). Matches (up_to flat_of closer y.0) ts y.1 × AllGood next Good s y.0)
     {x = (p.0.0 ∷ q.0.0, q.0.1)} (ok_is (p.0.0 ∷ q.0.0, q.0.1) y q.2) (
-      subst (λ (ms : List Mark). Matches ms ts q.0.1)
+      subst (λ (ms : List FlatToken). Matches ms ts q.0.1)
           (sym (append_assoc (flat_of p.0.0) (behind_commas flat_of q.0.0)
           (trailing_comma ∷ token (fixed closer) ∷ [])))
           m,
       (t.1, u.1),
     )
 
-pub elements_sound : {S A : Type 0} (one : S → Reader A) (next : S → A → S) (flat_of : A → List Mark)
+pub elements_sound : {S A : Type 0} (one : S → Reader A) (next : S → A → S) (flat_of : A → List FlatToken)
     (Good : S → A → Type 0)
     → Reads one flat_of Good
     → (closer : TokenKind) (k : ℕ) (s : S) (ts : List Token) (y : List A × List Token)
@@ -144,7 +144,7 @@ elements_sound one next flat_of Good reads closer (suc k) s ts y e =
 
 -- ---- further elements
 
-others_by_sound : {S A : Type 0} (one : S → Reader A) (next : S → A → S) (flat_of : A → List Mark)
+others_by_sound : {S A : Type 0} (one : S → Reader A) (next : S → A → S) (flat_of : A → List FlatToken)
     (Good : S → A → Type 0)
     → Reads one flat_of Good
     → (go : S → Reader (List A))
@@ -181,7 +181,7 @@ others_by_sound {S} {A} one next flat_of Good reads go h true s ts f y e =
     )
 
 -- behind the last of them stands no comma
-pub others_sound : {S A : Type 0} (one : S → Reader A) (next : S → A → S) (flat_of : A → List Mark)
+pub others_sound : {S A : Type 0} (one : S → Reader A) (next : S → A → S) (flat_of : A → List FlatToken)
     (Good : S → A → Type 0)
     → Reads one flat_of Good
     → (k : ℕ) (s : S) (ts : List Token) (y : List A × List Token)
@@ -195,7 +195,7 @@ others_sound one next flat_of Good reads (suc k) s ts y e =
 
 -- ---- elements up to what ends a list of statements
 
-items_by_sound : {S A : Type 0} (one : S → Reader A) (next : S → A → S) (flat_of : A → List Mark)
+items_by_sound : {S A : Type 0} (one : S → Reader A) (next : S → A → S) (flat_of : A → List FlatToken)
     (Good : S → A → Type 0)
     → Reads one flat_of Good
     → (go : S → Reader (List A))
@@ -226,7 +226,7 @@ items_by_sound {S} {A} one next flat_of Good reads go h false s ts f y e =
     (joins (flat_of p.0.0) (in_a_row flat_of q.0.0) ts p.0.1 q.0.1 t.0 u.0, (t.1, u.1), u.2)
 
 -- behind the last of them stands what ends a list
-pub items_sound : {S A : Type 0} (one : S → Reader A) (next : S → A → S) (flat_of : A → List Mark)
+pub items_sound : {S A : Type 0} (one : S → Reader A) (next : S → A → S) (flat_of : A → List FlatToken)
     (Good : S → A → Type 0)
     → Reads one flat_of Good
     → (k : ℕ) (s : S) (ts : List Token) (y : List A × List Token)

@@ -14,7 +14,7 @@ use Rattle.js_tree.specs.Targets.{is_target}
 use Rattle.js_tree.specs.Height.{height}
 use Rattle.js_parser_readers.specs.Reading.{stuck, deep, Read, Reader, ◌>>=◌}
 use Rattle.js_parser_readers.specs.Classes.{update_near, Prefix, deletes, a_unary, an_update, no_prefix, prefix, operator}
-use Rattle.js_parser_readers.specs.Productions.{Below, Item, Values, seq, made}
+use Rattle.js_parser_readers.specs.Productions.{Below, Piece, PieceValues, seq, made}
 use Rattle.js_parser_readers.specs.Parsing.{if_low, call, updated_by, postfix, unary_by, unary, operator_from, chain_by, chain, operation}
 use Rattle.js_parser_laws.proofs.Claims.{TakesExpression, SoundBelow, TakesAll, SeqSound}
 use Rattle.js_parser_laws.proofs.MarkLemmas.{joins}
@@ -29,8 +29,8 @@ use Rattle.js_parser_readers.proofs.ShorterLemmas.{bind_ok, read_is}
 -- what is made of a production's values
 pub made_takes : {A : Type 0} (q : SeqSound) (n : ℕ) (b : Below)
     → SoundBelow n b
-    → (is : List Item) (make : Values is → A) (ts : List Token) (y : A × List Token) (P : A → List Token → Type 0)
-    → ((vs : Values is) (r : List Token) → TakesAll n is ts vs r → P (make vs) r) → made b is make ts ≡ Ok y → P y.0 y.1
+    → (is : List Piece) (make : PieceValues is → A) (ts : List Token) (y : A × List Token) (P : A → List Token → Type 0)
+    → ((vs : PieceValues is) (r : List Token) → TakesAll n is ts vs r → P (make vs) r) → made b is make ts ≡ Ok y → P y.0 y.1
 made_takes {A} q n b s is make ts y P h e =
     let p = bind_ok (seq b is ts) (λ x. Ok (make x.0, x.1)) y e in
     subst (λ (y : A × List Token). P y.0 y.1) (ok_is (make p.0.0, p.0.1) y p.2) (h p.0.0 p.0.1 (q n b s is ts p.0 p.1))

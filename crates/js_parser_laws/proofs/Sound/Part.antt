@@ -7,16 +7,16 @@ use Rattle.js_lexer.specs.declared.token.TokenKind.{TokenKind}
 use Rattle.js_lexer.specs.declared.token.TokenKind.TheVariants as kinds
 use Rattle.js_tree.specs.Trees as trees
 use Rattle.js_tree.specs.Trees.{Identifier, Expression, Expressions, OptionalExpression, Declarator, Declarators, Statement, Statements}
-use Rattle.js_parser_language.specs.Tokens.{Token, fixed, identifier, Mark, token, semicolon, trailing_comma, after_expression, head_of, tail_of, IsNext, Matches}
+use Rattle.js_parser_language.specs.Tokens.{Token, fixed, identifier, FlatToken, token, semicolon, trailing_comma, after_expression, head_of, tail_of, IsNext, Matches}
 use Rattle.js_parser_language.specs.Flat as flats
 use Rattle.js_parser_language.specs.Flat.{edge, flat, flat_optional, flat_expressions, more_expressions, trailing, an_identifier, more_names, flat_names, flat_parameters, flat_declarator, flat_declarators, more_declarators, flat_statement, flat_statements}
-use Rattle.js_parser_language.specs.Well.{Context, function_body, level, Well, WellOptional, AreAssignments, WellDeclarator, WellDeclarators, has_initializer, IsInitialized, is_some_declarator, WellStatement, WellStatements, is_among, AreFresh, declared_by, declared_names, names_of_declarators}
+use Rattle.js_parser_language.specs.Well.{StatementContext, function_body, level, Well, WellOptional, AreAssignments, WellDeclarator, WellDeclarators, has_initializer, IsInitialized, is_some_declarator, WellStatement, WellStatements, is_among, AreFresh, declared_by, declared_names, names_of_declarators}
 use Rattle.js_tree.specs.Height.{height, height_of_optional, height_of_expressions, height_of_declarator, height_of_declarators, height_of_statement, height_of_statements}
 use Rattle.js_tree.specs.Views.{expressions, statements, declarators}
 use Rattle.js_parser_language.specs.Kinds.{is_kind}
 use Rattle.js_parser_readers.specs.Classes.{is_name}
 use Rattle.js_parser_readers.specs.Reading.{stuck, ◌>>=◌, expect, name_at, fresh_name, semicolon_at, elements, others, items, ends_list, no_state, with_name, with_names}
-use Rattle.js_parser_readers.specs.Productions.{Code, Below, one_of, arguments_before, more_assignments, names_before, parameters_at, with_declared, items_at, braces, code_at, initializer_by, declarator_at, name_of, with_declarator, declarators_at, optional_by, optional_before, ended_expression, Item, tok, near, a_name, the_name, an_assignment, an_expression, optional, arguments, ended, an_end, declared, a_statement, a_block, in_braces, code, Value, Values, expect_name, item, seq}
+use Rattle.js_parser_readers.specs.Productions.{ParametersAndBody, Below, one_of, arguments_before, more_assignments, names_before, parameters_at, with_declared, items_at, braces, code_at, initializer_by, declarator_at, name_of, with_declarator, declarators_at, optional_by, optional_before, ended_expression, Piece, tok, near, a_name, the_name, an_assignment, an_expression, optional, arguments, ended, an_end, declared, a_statement, a_block, in_braces, code, PieceValue, PieceValues, expect_name, item, seq}
 use Rattle.js_parser_language.proofs.KindLemmas.{next_is}
 use Rattle.js_parser_laws.proofs.Claims.{NoElse, TakesBlock, TakesCode, SoundBelow, marks_of, marks, Sane, height_at, LastNoElse, TakesAll, SeqSound}
 use Rattle.js_parser_laws.proofs.MarkLemmas.{joins}
@@ -82,7 +82,7 @@ all_assignments n u (e ∷ es) g = let r = all_assignments n tt es g.1 in ((g.0.
 pub more_is : (es : List Expression) → more_expressions (expressions es) ≡ behind_commas flat es
 more_is [] = refl
 more_is (e ∷ es) =
-    ap (λ (ms : List Mark). token (fixed kinds.Comma) ∷ (flat e ++ ms))
+    ap (λ (ms : List FlatToken). token (fixed kinds.Comma) ∷ (flat e ++ ms))
     (append-nil (more_expressions (expressions es)) ∙ more_is es)
 
 pub arguments_marks : (closer : TokenKind) (es : List Expression)
@@ -90,7 +90,7 @@ pub arguments_marks : (closer : TokenKind) (es : List Expression)
     ≡ up_to flat closer es
 arguments_marks closer [] = refl
 arguments_marks closer (e ∷ es) =
-    ap (λ (ms : List Mark). (flat e ++ ms) ++ (trailing_comma ∷ token (fixed closer) ∷ [])) (more_is es)
+    ap (λ (ms : List FlatToken). (flat e ++ ms) ++ (trailing_comma ∷ token (fixed closer) ∷ [])) (more_is es)
 
 pub arguments_sound : (n : ℕ) (b : Below)
     → SoundBelow n b
@@ -111,7 +111,7 @@ arguments_sound n b s closer ts x e =
     × AreAssignments x.0
     × (height_of_expressions x.0 ≤ n))
     (ok_is (expressions p.0.0, p.0.1) x p.2)
-    (subst (λ (ms : List Mark). Matches ms ts p.0.1) (sym (arguments_marks closer p.0.0)) t.0, g.0, g.1)
+    (subst (λ (ms : List FlatToken). Matches ms ts p.0.1) (sym (arguments_marks closer p.0.0)) t.0, g.0, g.1)
 
 -- behind further expressions stands no comma
 pub more_sound : (n : ℕ) (b : Below)
@@ -134,22 +134,22 @@ more_sound n b s ts x e =
     × (height_of_expressions x.0 ≤ n)
     × (is_kind kinds.Comma (head_of x.1) ≡ false))
     (ok_is (expressions p.0.0, p.0.1) x p.2)
-    (subst (λ (ms : List Mark). Matches ms ts p.0.1) (sym (more_is p.0.0)) t.0, g.0, g.1, t.2)
+    (subst (λ (ms : List FlatToken). Matches ms ts p.0.1) (sym (more_is p.0.0)) t.0, g.0, g.1, t.2)
 
 -- ---- parameters
 
 pub more_names_is : (ns : List Identifier) → more_names ns ≡ behind_commas an_identifier ns
 more_names_is [] = refl
 more_names_is (n ∷ ns) =
-    ap (λ (ms : List Mark). token (fixed kinds.Comma) ∷ token (identifier n) ∷ ms) (more_names_is ns)
+    ap (λ (ms : List FlatToken). token (fixed kinds.Comma) ∷ token (identifier n) ∷ ms) (more_names_is ns)
 
 pub names_marks : (ns : List Identifier)
     → flat_names ns ++ (token (fixed kinds.RightParenthesis) ∷ []) ≡ up_to an_identifier kinds.RightParenthesis ns
 names_marks [] = refl
 names_marks (n ∷ ns) =
-    ap (λ (ms : List Mark). token (identifier n) ∷ ms)
+    ap (λ (ms : List FlatToken). token (identifier n) ∷ ms)
     (append_assoc (more_names ns) (trailing_comma ∷ []) (token (fixed kinds.RightParenthesis) ∷ [])
-    ∙ ap (λ (ms : List Mark). ms ++ (trailing_comma ∷ token (fixed kinds.RightParenthesis) ∷ [])) (more_names_is ns))
+    ∙ ap (λ (ms : List FlatToken). ms ++ (trailing_comma ∷ token (fixed kinds.RightParenthesis) ∷ [])) (more_names_is ns))
 
 abbrev AnyName : Unit {0} → Identifier → Type 0
 AnyName u n = Unit {0}
@@ -162,7 +162,7 @@ unfolding names_before
 names_before_sound ts x e =
     let t = elements_sound (one_of name_at) no_state an_identifier AnyName (λ u ts x e. (name_sound ts x e, tt))
     kinds.RightParenthesis (suc (length ts)) tt ts x e in
-    subst (λ (ms : List Mark). Matches ms ts x.1) (sym (names_marks x.0)) t.0
+    subst (λ (ms : List FlatToken). Matches ms ts x.1) (sym (names_marks x.0)) t.0
 
 -- a name that isn't among these
 abbrev pub Differs : List Identifier → Identifier → Type 0
@@ -183,14 +183,14 @@ parameters_sound ts x e =
     let t = elements_sound fresh_name with_name an_identifier Differs fresh_sound kinds.RightParenthesis
     (suc (length o.0.1)) [] o.0.1 x o.2 in (
       joins (token (fixed kinds.LeftParenthesis) ∷ []) (flat_names x.0 ++ (token (fixed kinds.RightParenthesis) ∷ []))
-          ts o.0.1 x.1 p (subst (λ (ms : List Mark). Matches ms o.0.1 x.1) (sym (names_marks x.0)) t.0),
+          ts o.0.1 x.1 p (subst (λ (ms : List FlatToken). Matches ms o.0.1 x.1) (sym (names_marks x.0)) t.0),
       all_fresh [] x.0 t.1,
     )
 
 -- ---- statements in braces
 
 -- statements up to what ends a list, each at most n high
-pub record TakesItems (context : Context) (taken : List Identifier) (n : ℕ) (ts : List Token) (ss : Statements)
+pub record TakesItems (context : StatementContext) (taken : List Identifier) (n : ℕ) (ts : List Token) (ss : Statements)
     (r : List Token) : Type 0 where
   pub marks : Matches (flat_statements ss) ts r
   pub well : WellStatements context ss
@@ -198,10 +198,10 @@ pub record TakesItems (context : Context) (taken : List Identifier) (n : ℕ) (t
   pub height : height_of_statements ss ≤ n
   pub ends : ends_list (head_of r) ≡ true
 
-abbrev IsItem : Context → ℕ → List Identifier → Statement → Type 0
+abbrev IsItem : StatementContext → ℕ → List Identifier → Statement → Type 0
 IsItem context n taken s = WellStatement context s × AreFresh taken (declared_by s) × (height_of_statement s ≤ n)
 
-all_items : (context : Context) (n : ℕ) (taken : List Identifier) (ss : List Statement)
+all_items : (context : StatementContext) (n : ℕ) (taken : List Identifier) (ss : List Statement)
     → AllGood with_declared (IsItem context n) taken ss
     → WellStatements context (statements ss)
     × AreFresh taken (declared_names (statements ss))
@@ -216,11 +216,11 @@ all_items context n taken (s ∷ ss) g =
 
 pub row_is : (ss : List Statement) → flat_statements (statements ss) ≡ in_a_row flat_statement ss
 row_is [] = refl
-row_is (s ∷ ss) = ap (λ (ms : List Mark). flat_statement s ++ ms) (row_is ss)
+row_is (s ∷ ss) = ap (λ (ms : List FlatToken). flat_statement s ++ ms) (row_is ss)
 
 pub items_at_sound : (n : ℕ) (b : Below)
     → SoundBelow n b
-    → (context : Context) (taken : List Identifier) (ts : List Token) (x : Statements × List Token)
+    → (context : StatementContext) (taken : List Identifier) (ts : List Token) (x : Statements × List Token)
     → items_at b context taken ts ≡ Ok x
     → TakesItems context taken n ts x.0 x.1
 unfolding items_at
@@ -235,7 +235,7 @@ items_at_sound n b s context taken ts x e =
     let g = all_items context n taken p.0.0 t.1 in
     subst (λ (x : Statements × List Token). TakesItems context taken n ts x.0 x.1)
     (ok_is (statements p.0.0, p.0.1) x p.2) (record {
-      marks = subst (λ (ms : List Mark). Matches ms ts p.0.1) (sym (row_is p.0.0)) t.0;
+      marks = subst (λ (ms : List FlatToken). Matches ms ts p.0.1) (sym (row_is p.0.0)) t.0;
       well = g.0;
       fresh = g.1;
       height = g.2;
@@ -244,7 +244,7 @@ items_at_sound n b s context taken ts x e =
 
 pub braces_sound : (n : ℕ) (b : Below)
     → SoundBelow n b
-    → (context : Context) (taken : List Identifier) (ts : List Token) (x : Statements × List Token)
+    → (context : StatementContext) (taken : List Identifier) (ts : List Token) (x : Statements × List Token)
     → braces b context taken ts ≡ Ok x
     → TakesBlock context taken n ts x.0 x.1
 unfolding braces
@@ -268,7 +268,7 @@ braces_sound n b s context taken ts x e =
 
 pub code_sound : (n : ℕ) (b : Below)
     → SoundBelow n b
-    → (ts : List Token) (x : Code × List Token)
+    → (ts : List Token) (x : ParametersAndBody × List Token)
     → code_at b ts ≡ Ok x
     → TakesCode n ts x.0 x.1
 unfolding code_at
@@ -281,7 +281,7 @@ code_sound n b s ts x e =
     (λ body. Ok (record { parameters = p.0.0; body = body.0 }, body.1)) x p.2 in
     let t = parameters_sound ts p.0 p.1 in
     let u = braces_sound n b s function_body (with_names [] p.0.0) p.0.1 q.0 q.1 in
-    subst (λ (x : Code × List Token). TakesCode n ts x.0 x.1)
+    subst (λ (x : ParametersAndBody × List Token). TakesCode n ts x.0 x.1)
     (ok_is (record { parameters = p.0.0; body = q.0.0 }, q.0.1) x q.2) (record {
       marks = joins (flat_parameters p.0.0) (flats.in_braces (flat_statements q.0.0)) ts p.0.1 q.0.1 t.0 u.marks;
       differ = (t.1, fresh_behind p.0.0 (declared_names q.0.0) u.fresh);
@@ -403,7 +403,7 @@ all_declarators constant n taken (d ∷ ds) g =
 pub more_declarators_is : (ds : List Declarator) → more_declarators (declarators ds) ≡ behind_commas flat_declarator ds
 more_declarators_is [] = refl
 more_declarators_is (d ∷ ds) =
-    ap (λ (ms : List Mark). token (fixed kinds.Comma) ∷ (flat_declarator d ++ ms))
+    ap (λ (ms : List FlatToken). token (fixed kinds.Comma) ∷ (flat_declarator d ++ ms))
     (append-nil (more_declarators (declarators ds)) ∙ more_declarators_is ds)
 
 pub declarators_sound : (n : ℕ) (b : Below)
@@ -433,7 +433,7 @@ declarators_sound n b s constant taken ts x e =
     (ok_is (trees.a_declarator p.0.0 (declarators q.0.0), q.0.1) x q.2) (record {
       marks =
           joins (flat_declarator p.0.0) (more_declarators (declarators q.0.0)) ts p.0.1 q.0.1 t.marks
-          (subst (λ (ms : List Mark). Matches ms p.0.1 q.0.1) (sym (more_declarators_is q.0.0)) u.0);
+          (subst (λ (ms : List FlatToken). Matches ms p.0.1 q.0.1) (sym (more_declarators_is q.0.0)) u.0);
       some = refl;
       well = (t.well, g.0);
       initialized = initialized_more constant p.0.0 (declarators q.0.0) t.initialized g.1;
@@ -520,11 +520,11 @@ expect_name_sound n ts y e =
 -- ---- items and productions
 
 -- no else behind a statement that ends in an if without one
-abbrev pub ItemNoElse : (i : Item) → Value i → List Token → Type 0
+abbrev pub ItemNoElse : (i : Piece) → PieceValue i → List Token → Type 0
 ItemNoElse (a_statement context) s r = NoElse s r
 ItemNoElse i v r = Unit {0}
 
-pub record TakesOne (n : ℕ) (i : Item) (ts : List Token) (v : Value i) (r : List Token) : Type 0 where
+pub record TakesOne (n : ℕ) (i : Piece) (ts : List Token) (v : PieceValue i) (r : List Token) : Type 0 where
   pub marks : Matches (marks_of i v) ts r
   pub sane : Sane i v
   pub last : ItemNoElse i v r
@@ -532,7 +532,7 @@ pub record TakesOne (n : ℕ) (i : Item) (ts : List Token) (v : Value i) (r : Li
 
 pub item_sound : (n : ℕ) (b : Below)
     → SoundBelow n b
-    → (i : Item) (ts : List Token) (x : Value i × List Token)
+    → (i : Piece) (ts : List Token) (x : PieceValue i × List Token)
     → item b i ts ≡ Ok x
     → TakesOne n i ts x.0 x.1
 item_sound n b s (tok k) ts x e = record { marks = expect_sound k ts x e; sane = tt; last = tt; height = omega arith }
@@ -569,17 +569,17 @@ item_sound n b s code ts x e =
     let t = code_sound n b s ts x e in
     record { marks = t.marks; sane = (t.differ, t.well); last = tt; height = t.height }
 
-last_one : (i : Item) (vs : Values (i ∷ [])) (r : List Token) → ItemNoElse i vs.0 r → LastNoElse (i ∷ []) vs r
+last_one : (i : Piece) (vs : PieceValues (i ∷ [])) (r : List Token) → ItemNoElse i vs.0 r → LastNoElse (i ∷ []) vs r
 last_one (a_statement context) vs r h = h
 last_one _ vs r h = tt
 
-last_more : (i j : Item) (is : List Item) (vs : Values (i ∷ j ∷ is)) (r : List Token)
+last_more : (i j : Piece) (is : List Piece) (vs : PieceValues (i ∷ j ∷ is)) (r : List Token)
     → LastNoElse (j ∷ is) vs.1 r
     → LastNoElse (i ∷ j ∷ is) vs r
 last_more (a_statement context) j is vs r h = h
 last_more _ j is vs r h = h
 
-last_of : (i : Item) (is : List Item) (vs : Values (i ∷ is)) (us r : List Token)
+last_of : (i : Piece) (is : List Piece) (vs : PieceValues (i ∷ is)) (us r : List Token)
     → ItemNoElse i vs.0 us
     → Matches (marks is vs.1) us r
     → LastNoElse is vs.1 r
@@ -596,7 +596,7 @@ seq_sound n b s (i ∷ is) ts x e =
     let q = bind_ok (seq b is p.0.1) (λ y. Ok ((p.0.0, y.0), y.1)) x p.2 in
     let t = item_sound n b s i ts p.0 p.1 in
     let u = seq_sound n b s is p.0.1 q.0 q.1 in
-    subst (λ (x : Values (i ∷ is) × List Token). TakesAll n (i ∷ is) ts x.0 x.1) (ok_is ((p.0.0, q.0.0), q.0.1) x q.2)
+    subst (λ (x : PieceValues (i ∷ is) × List Token). TakesAll n (i ∷ is) ts x.0 x.1) (ok_is ((p.0.0, q.0.0), q.0.1) x q.2)
     (record {
       marks = joins (marks_of i p.0.0) (marks is q.0.0) ts p.0.1 q.0.1 t.marks u.marks;
       sane = (t.sane, u.sane);

@@ -4,8 +4,8 @@ use Rattle.std.proofs.lemmas.List.{append-nil}
 use Rattle.js_lexer.specs.declared.token.TokenKind.{TokenKind}
 use Rattle.js_lexer.specs.declared.token.TokenKind.TheVariants as kinds
 use Rattle.js_tree.specs.Trees as trees
-use Rattle.js_tree.specs.Trees.{Expression, Expressions, Key, Property, Statements}
-use Rattle.js_parser_language.specs.Tokens.{Token, fixed, identifier_name, Mark, token, trailing_comma, head_of, tail_of, IsNext, Matches}
+use Rattle.js_tree.specs.Trees.{Expression, Expressions, Key, PropertyDefinition, Statements}
+use Rattle.js_parser_language.specs.Tokens.{Token, fixed, identifier_name, FlatToken, token, trailing_comma, head_of, tail_of, IsNext, Matches}
 use Rattle.js_parser_language.specs.Flat as flats
 use Rattle.js_parser_language.specs.Flat.{flat, flat_expressions, trailing, flat_parameters, flat_statements, flat_key, flat_property, flat_properties, more_properties, trailing_property}
 use Rattle.js_parser_language.specs.Well.{WellKey, WellProperty, WellProperties, WellStatements, DifferIn, function_body, is_function}
@@ -13,8 +13,8 @@ use Rattle.js_tree.specs.Height.{height, height_of_key, height_of_property, heig
 use Rattle.js_tree.specs.Views.{properties}
 use Rattle.js_parser_readers.specs.Reading.{Reader, ◌>>=◌, name_at, word_at, elements, no_state}
 use Rattle.js_parser_readers.specs.Classes as classes
-use Rattle.js_parser_readers.specs.Classes.{Start, start, Link, dot, key, no_link, link, KeyStart, key_start, AfterKey, after_key, is_shorthand}
-use Rattle.js_parser_readers.specs.Productions.{Code, Below, one_of, tok, a_name, an_assignment, an_expression, arguments, code}
+use Rattle.js_parser_readers.specs.Classes.{PrimaryStart, start, CallTail, dot, key, no_link, link, KeyStart, key_start, AfterKey, after_key, is_shorthand}
+use Rattle.js_parser_readers.specs.Productions.{ParametersAndBody, Below, one_of, tok, a_name, an_assignment, an_expression, arguments, code}
 use Rattle.js_parser_readers.specs.Parsing.{if_low, key_by, key_at, member_by, property_by, property_at, properties_at, function_by, function_at, is_name_next, primary_by, primary, linked_by, links_by, links, call}
 use Rattle.js_parser_laws.proofs.Claims.{TakesExpression, SoundBelow, TakesCode, SeqSound}
 use Rattle.js_parser_laws.proofs.MarkLemmas.{joins}
@@ -69,7 +69,7 @@ key_sound q n b s ts x e = key_by_sound q n b s (key_start (head_of ts)) ts x re
 
 -- ---- members of object literals
 
-pub record TakesProperty (n : ℕ) (ts : List Token) (p : Property) (r : List Token) : Type 0 where
+pub record TakesProperty (n : ℕ) (ts : List Token) (p : PropertyDefinition) (r : List Token) : Type 0 where
   pub marks : Matches (flat_property p) ts r
   pub well : WellProperty p
   pub height : height_of_property p ≤ n
@@ -79,10 +79,10 @@ pub code_marks : (ps : List (List ℕ)) (body : Statements) (ts r : List Token)
     → Matches (flat_parameters ps ++ flats.in_braces (flat_statements body)) ts r
     → Matches (flat_parameters ps ++ (flats.in_braces (flat_statements body) ++ [])) ts r
 code_marks ps body ts r m =
-    subst (λ (ms : List Mark). Matches (flat_parameters ps ++ ms) ts r)
+    subst (λ (ms : List FlatToken). Matches (flat_parameters ps ++ ms) ts r)
     (sym (append-nil (flats.in_braces (flat_statements body)))) m
 
-method_takes : (n : ℕ) (s : List Token) (k : Key) (ts : List Token) (f : Code) (r : List Token)
+method_takes : (n : ℕ) (s : List Token) (k : Key) (ts : List Token) (f : ParametersAndBody) (r : List Token)
     → TakesKey n s k ts
     → suc (height_of_key k) ≤ n
     → TakesCode n ts f r
@@ -98,7 +98,7 @@ method_takes n s k ts f r t low c high = record {
 
 member_by_sound : (q : SeqSound) (n : ℕ) (b : Below)
     → SoundBelow n b
-    → (s : List Token) (k : Key) (a : AfterKey) (ts : List Token) (x : Property × List Token)
+    → (s : List Token) (k : Key) (a : AfterKey) (ts : List Token) (x : PropertyDefinition × List Token)
     → TakesKey n s k ts
     → member_by b n k a ts ≡ Ok x
     → TakesProperty n s x.0 x.1
@@ -114,19 +114,19 @@ member_by_sound q n b snd s k classes.parameters ts x t e =
     (b.function ts >>= λ f. Ok (trees.method k f.0.parameters f.0.body, f.1)) x e in
     let p = bind_ok (b.function ts) (λ f. Ok (trees.method k f.0.parameters f.0.body, f.1)) x l.1 in
     let f = snd.function ts p.0 p.1 in
-    subst (λ (x : Property × List Token). TakesProperty n s x.0 x.1)
+    subst (λ (x : PropertyDefinition × List Token). TakesProperty n s x.0 x.1)
     (ok_is (trees.method k p.0.0.parameters p.0.0.body, p.0.1) x p.2)
     (method_takes n s k ts p.0.0 p.0.1 t l.0 f.0 f.1)
 member_by_sound q n b snd s k classes.no_member ts x t e = absurd cc
 
 property_by_sound : (q : SeqSound) (n : ℕ) (b : Below)
     → SoundBelow n b
-    → (c : Bool) (ts : List Token) (x : Property × List Token)
+    → (c : Bool) (ts : List Token) (x : PropertyDefinition × List Token)
     → property_by b n c ts ≡ Ok x
     → TakesProperty n ts x.0 x.1
 property_by_sound q n b s true ts x e =
     let p = bind_ok (name_at ts) (λ x. Ok (trees.shorthand x.0, x.1)) x e in
-    subst (λ (x : Property × List Token). TakesProperty n ts x.0 x.1) (ok_is (trees.shorthand p.0.0, p.0.1) x p.2)
+    subst (λ (x : PropertyDefinition × List Token). TakesProperty n ts x.0 x.1) (ok_is (trees.shorthand p.0.0, p.0.1) x p.2)
     (record { marks = name_sound ts p.0 p.1; well = tt; height = omega arith })
 property_by_sound q n b s false ts x e =
     let p = bind_ok (key_at b ts) (λ k. member_by b n k.0 (after_key (head_of k.1)) k.1) x e in
@@ -134,45 +134,45 @@ property_by_sound q n b s false ts x e =
 
 pub property_sound : (q : SeqSound) (n : ℕ) (b : Below)
     → SoundBelow n b
-    → (ts : List Token) (x : Property × List Token)
+    → (ts : List Token) (x : PropertyDefinition × List Token)
     → property_at b n ts ≡ Ok x
     → TakesProperty n ts x.0 x.1
 unfolding property_at
 property_sound q n b s ts x e = property_by_sound q n b s (is_shorthand ts) ts x e
 
 -- the marks of a list of members
-pub properties_behind : (ps : List Property) → behind_commas flat_property ps ≡ more_properties (properties ps)
+pub properties_behind : (ps : List PropertyDefinition) → behind_commas flat_property ps ≡ more_properties (properties ps)
 properties_behind [] = refl
 properties_behind (p ∷ ps) =
-    ap (λ (ms : List Mark). token (fixed kinds.Comma) ∷ (flat_property p ++ ms))
+    ap (λ (ms : List FlatToken). token (fixed kinds.Comma) ∷ (flat_property p ++ ms))
     (properties_behind ps ∙ sym (append-nil (more_properties (properties ps))))
 
-pub properties_marks : (ps : List Property)
+pub properties_marks : (ps : List PropertyDefinition)
     → up_to flat_property kinds.RightBrace ps ≡ flat_properties (properties ps) ++
     (trailing_property (properties ps) ++ (token (fixed kinds.RightBrace) ∷ []))
 properties_marks [] = refl
 properties_marks (p ∷ ps) =
-    ap (λ (ms : List Mark). (flat_property p ++ ms) ++ (trailing_comma ∷ token (fixed kinds.RightBrace) ∷ []))
+    ap (λ (ms : List FlatToken). (flat_property p ++ ms) ++ (trailing_comma ∷ token (fixed kinds.RightBrace) ∷ []))
     (properties_behind ps)
 
-abbrev pub GoodProperty : ℕ → Unit {0} → Property → Type 0
+abbrev pub GoodProperty : ℕ → Unit {0} → PropertyDefinition → Type 0
 GoodProperty n s p = WellProperty p × (height_of_property p ≤ n)
 
-properties_good : (n : ℕ) (ps : List Property)
+properties_good : (n : ℕ) (ps : List PropertyDefinition)
     → AllGood no_state (GoodProperty n) tt ps
     → WellProperties (properties ps) × (height_of_properties (properties ps) ≤ n)
 properties_good n [] g = (tt, omega arith)
 properties_good n (p ∷ ps) g = let h = properties_good n ps g.1 in ((g.0.0, h.0), omega (arith, g.0.1, h.1))
 
 -- what an object literal's braces hold
-pub record TakesProperties (n : ℕ) (ts : List Token) (ps : trees.Properties) (r : List Token) : Type 0 where
+pub record TakesProperties (n : ℕ) (ts : List Token) (ps : trees.PropertyDefinitions) (r : List Token) : Type 0 where
   pub marks : Matches (flat_properties ps ++ (trailing_property ps ++ (token (fixed kinds.RightBrace) ∷ []))) ts r
   pub well : WellProperties ps
   pub height : height_of_properties ps ≤ n
 
 pub properties_sound : (q : SeqSound) (n : ℕ) (b : Below)
     → SoundBelow n b
-    → (ts : List Token) (x : trees.Properties × List Token)
+    → (ts : List Token) (x : trees.PropertyDefinitions × List Token)
     → properties_at b n ts ≡ Ok x
     → TakesProperties n ts x.0 x.1
 unfolding properties_at
@@ -184,9 +184,9 @@ properties_sound q n b s ts x e =
     (λ u ts x e. let t = property_sound q n b s ts x e in (t.marks, (t.well, t.height))) kinds.RightBrace
     (suc (length ts)) tt ts p.0 p.1 in
     let g = properties_good n p.0.0 l.1 in
-    subst (λ (x : trees.Properties × List Token). TakesProperties n ts x.0 x.1) (ok_is (properties p.0.0, p.0.1) x p.2)
+    subst (λ (x : trees.PropertyDefinitions × List Token). TakesProperties n ts x.0 x.1) (ok_is (properties p.0.0, p.0.1) x p.2)
     (record {
-      marks = subst (λ (ms : List Mark). Matches ms ts p.0.1) (properties_marks p.0.0) l.0;
+      marks = subst (λ (ms : List FlatToken). Matches ms ts p.0.1) (properties_marks p.0.0) l.0;
       well = g.0;
       height = g.1;
     })
@@ -194,19 +194,19 @@ properties_sound q n b s ts x e =
 -- ---- function expressions
 
 -- what a function needs of its parameters and its body
-abbrev TakesCodeOf : ℕ → Code → Type 0
+abbrev TakesCodeOf : ℕ → ParametersAndBody → Type 0
 TakesCodeOf n f = DifferIn f.parameters f.body × WellStatements function_body f.body × (height_of_statements f.body ≤ n)
 
 -- the marks of a production that ends in a function's parameters and body
-code_last : (f : Code) (ts r : List Token)
+code_last : (f : ParametersAndBody) (ts r : List Token)
     → Matches ((flat_parameters f.parameters ++ flats.in_braces (flat_statements f.body)) ++ []) ts r
     → Matches (flat_parameters f.parameters ++ (flats.in_braces (flat_statements f.body) ++ [])) ts r
 code_last f ts r m =
-    subst (λ (ms : List Mark). Matches ms ts r)
+    subst (λ (ms : List FlatToken). Matches ms ts r)
     (append_assoc (flat_parameters f.parameters) (flats.in_braces (flat_statements f.body)) []) m
 
 -- a function expression, at its keyword
-function_takes : (n : ℕ) (ts : List Token) (name : Option (List ℕ)) (f : Code) (r : List Token)
+function_takes : (n : ℕ) (ts : List Token) (name : Option (List ℕ)) (f : ParametersAndBody) (r : List Token)
     → Matches (flat (trees.function name f.parameters f.body)) ts r
     → TakesCodeOf n f
     → TakesExpression 15 (suc n) ts (trees.function name f.parameters f.body) r
@@ -247,12 +247,12 @@ list_last : (es : Expressions) (k : TokenKind) (ts r : List Token)
     → Matches ((flat_expressions es ++ (trailing es ++ (token (fixed k) ∷ []))) ++ []) ts r
     → Matches (flat_expressions es ++ (trailing es ++ (token (fixed k) ∷ []))) ts r
 list_last es k ts r m =
-    subst (λ (ms : List Mark). Matches ms ts r)
+    subst (λ (ms : List FlatToken). Matches ms ts r)
     (append-nil (flat_expressions es ++ (trailing es ++ (token (fixed k) ∷ [])))) m
 
 primary_by_sound : (q : SeqSound) (n : ℕ) (b : Below)
     → SoundBelow n b
-    → (c : Start) (ts : List Token) (x : Expression × List Token)
+    → (c : PrimaryStart) (ts : List Token) (x : Expression × List Token)
     → start (head_of ts) ≡ c
     → primary_by b n c ts ≡ Ok x
     → TakesExpression 15 (suc n) ts x.0 x.1
@@ -317,7 +317,7 @@ primary_sound q n b s ts x e = primary_by_sound q n b s (start (head_of ts)) ts 
 
 pub linked_by_sound : (q : SeqSound) (n : ℕ) (b : Below)
     → SoundBelow n b
-    → (s : List Token) (f : Expression) (l : Link) (ts : List Token) (x : Expression × List Token)
+    → (s : List Token) (f : Expression) (l : CallTail) (ts : List Token) (x : Expression × List Token)
     → link (head_of ts) ≡ l
     → TakesExpression 15 (suc n) s f ts
     → height f ≤ n
@@ -370,7 +370,7 @@ one_link : (q : SeqSound) (n : ℕ) (b : Below)
     → SoundBelow n b
     → (s : List Token) (go : Expression → Reader Expression)
     → GoesOn n s go
-    → (f : Expression) (l : Link) (ts : List Token) (x : Expression × List Token)
+    → (f : Expression) (l : CallTail) (ts : List Token) (x : Expression × List Token)
     → link (head_of ts) ≡ l
     → TakesExpression 15 (suc n) s f ts
     → if_low (height f) n ts (linked_by b f l ts >>= λ x. go x.0 x.1) ≡ Ok x → TakesExpression 15 (suc n) s x.0 x.1
@@ -383,7 +383,7 @@ links_by_sound : (q : SeqSound) (n : ℕ) (b : Below)
     → SoundBelow n b
     → (s : List Token) (go : Expression → Reader Expression)
     → GoesOn n s go
-    → (f : Expression) (l : Link) (ts : List Token) (x : Expression × List Token)
+    → (f : Expression) (l : CallTail) (ts : List Token) (x : Expression × List Token)
     → link (head_of ts) ≡ l
     → TakesExpression 15 (suc n) s f ts
     → links_by b n go f l ts ≡ Ok x

@@ -6,16 +6,16 @@ use Rattle.js_lexer.specs.declared.token.TokenKind.{TokenKind}
 use Rattle.js_lexer.specs.declared.token.TokenKind.TheVariants as kinds
 use Rattle.js_tree.specs.Trees as trees
 use Rattle.js_tree.specs.Trees.{Identifier, Statement, Statements, Handler, Finalizer}
-use Rattle.js_parser_language.specs.Tokens.{Token, fixed, identifier, Mark, token, beside, semicolon, trailing_comma, after_expression, after_word, absent_before, head_of, tail_of, is_on_line, Matches}
+use Rattle.js_parser_language.specs.Tokens.{Token, fixed, identifier, FlatToken, token, beside, semicolon, trailing_comma, after_expression, after_word, absent_before, head_of, tail_of, is_on_line, Matches}
 use Rattle.js_parser_language.specs.Flat as flats
 use Rattle.js_parser_language.specs.Flat.{edge, end_of_declarators, on_line, let_or_const, flat, flat_optional, flat_parameters, flat_declarators, flat_statement, flat_statements, flat_handler, flat_finalizer}
-use Rattle.js_parser_language.specs.Well.{Context, begins_with_brace, begins_with_function, WellHandler, WellFinalizer, is_statement, ends_in_if, is_handled, AreFresh, declared_by}
+use Rattle.js_parser_language.specs.Well.{StatementContext, begins_with_brace, begins_with_function, WellHandler, WellFinalizer, is_statement, ends_in_if, is_handled, AreFresh, declared_by}
 use Rattle.js_tree.specs.Height.{height_of_statements, height_of_handler, height_of_finalizer}
 use Rattle.js_parser_language.specs.Kinds.{is_kind}
 use Rattle.js_parser_readers.specs.Classes as classes
-use Rattle.js_parser_readers.specs.Classes.{First, first, ends_return, ForHead, each, declares, plain_head, for_head}
+use Rattle.js_parser_readers.specs.Classes.{StatementStart, first, ends_return, ForHead, each, declares, plain_head, for_head}
 use Rattle.js_parser_readers.specs.Reading.{stuck, ◌>>=◌, fresh_name, semicolon_at}
-use Rattle.js_parser_readers.specs.Productions.{Code, Below, braces, code_at, declarators_at, Item, tok, a_name, ended, an_end, a_statement, a_block, in_braces, Values, seq, made}
+use Rattle.js_parser_readers.specs.Productions.{ParametersAndBody, Below, braces, code_at, declarators_at, Piece, tok, a_name, ended, an_end, a_statement, a_block, in_braces, PieceValues, seq, made}
 use Rattle.js_parser_readers.specs.Parsing.{else_by, if_items, if_at, let_kind, do_items, while_items, for_items, for_lexical_items, for_of_items, for_by, for_at, return_by, throw_by, catch_by, handler_by, handler_at, finalizer_by, finalizer_at, try_at, statement_by, statement, lexical_at, declaration_at, item_by, item}
 use Rattle.js_parser_language.proofs.KindLemmas.{next_is, next_again}
 use Rattle.js_parser_laws.proofs.Claims.{NoElse, TakesItem, TakesStatement, TakesBlock, TakesCode, SoundBelow, height_at, height_all, TakesAll}
@@ -29,22 +29,22 @@ use Rattle.js_parser_laws.proofs.Again.Primary.{before_nothing, and_nothing}
 -- ---- productions
 
 -- each value is at most n high
-abbrev pub AllLow : ℕ → (is : List Item) → Values is → Type 0
+abbrev pub AllLow : ℕ → (is : List Piece) → PieceValues is → Type 0
 AllLow n [] vs = Unit {0}
 AllLow n (i ∷ is) vs = (height_at i vs.0 ≤ n) × AllLow n is vs.1
 
 max_low : (a b n : ℕ) → max a b ≤ n → (a ≤ n) × (b ≤ n)
 max_low a b n h = (omega arith, omega arith)
 
-pub all_low : (n : ℕ) (is : List Item) (vs : Values is) → height_all is vs ≤ n → AllLow n is vs
+pub all_low : (n : ℕ) (is : List Piece) (vs : PieceValues is) → height_all is vs ≤ n → AllLow n is vs
 all_low n [] vs h = tt
 all_low n (i ∷ is) vs h = let p = max_low (height_at i vs.0) (height_all is vs.1) n h in (p.0, all_low n is vs.1 p.1)
 
 -- what is made of what a production reads
 pub made_as : {A : Type 0} (n : ℕ) (b : Below)
     → SoundBelow n b
-    → (is : List Item) (make : Values is → A) (ts : List Token) (P : A → List Token → Type 0)
-    → ((vs : Values is) (r : List Token) → TakesAll n is ts vs r → AllLow n is vs → P (make vs) r)
+    → (is : List Piece) (make : PieceValues is → A) (ts : List Token) (P : A → List Token → Type 0)
+    → ((vs : PieceValues is) (r : List Token) → TakesAll n is ts vs r → AllLow n is vs → P (make vs) r)
     → (x : A × List Token)
     → made b is make ts ≡ Ok x
     → P x.0 x.1
@@ -57,7 +57,7 @@ made_as {A} n b s is make ts P f x e =
 -- ---- marks
 
 -- the first token stands on the line of the one before it
-pub on_line_is : (ms ns : List Mark) (ts r : List Token)
+pub on_line_is : (ms ns : List FlatToken) (ts r : List Token)
     → is_on_line (head_of ts) ≡ true
     → Matches (ms ++ ns) ts r
     → Matches (on_line ms ++ ns) ts r
@@ -67,7 +67,7 @@ on_line_is (beside s ∷ ms) ns ts r h m = m
 on_line_is (semicolon end ∷ ms) ns ts r h m = m
 on_line_is (trailing_comma ∷ ms) ns ts r h m = m
 
-pub no_brace : (ms : List Mark) (ts r : List Token)
+pub no_brace : (ms : List FlatToken) (ts r : List Token)
     → is_kind kinds.LeftBrace (head_of ts) ≡ false
     → Matches ms ts r
     → begins_with_brace ms ≡ false
@@ -75,7 +75,7 @@ no_brace (token (fixed kinds.LeftBrace) ∷ ms) ts r h m =
     let q : is_kind kinds.LeftBrace (head_of ts) ≡ true = next_again kinds.LeftBrace (head_of ts) m.0 in absurd cc
 no_brace _ ts r h m = refl
 
-pub no_function : (ms : List Mark) (ts r : List Token)
+pub no_function : (ms : List FlatToken) (ts r : List Token)
     → is_kind kinds.Function (head_of ts) ≡ false
     → Matches ms ts r
     → begins_with_function ms ≡ false
@@ -119,11 +119,11 @@ given_on_line (Some t) e = by_kind t.kind t.newline_before e
 -- ---- if
 
 -- further marks behind those of an if
-pub behind_if : (es ss ms : List Mark) (k : TokenKind)
+pub behind_if : (es ss ms : List FlatToken) (k : TokenKind)
     → (es ++ (token (fixed k) ∷ (ss ++ []))) ++ ms ≡ es ++ (token (fixed k) ∷ (ss ++ ms))
 behind_if es ss ms k =
     append_assoc es (token (fixed k) ∷ (ss ++ [])) ms
-    ∙ ap (λ (l : List Mark). es ++ (token (fixed k) ∷ (l ++ ms))) (append-nil ss)
+    ∙ ap (λ (l : List FlatToken). es ++ (token (fixed k) ∷ (l ++ ms))) (append-nil ss)
 
 pub no_open_if : (s : Statement) (r : List Token)
     → NoElse s r
@@ -137,7 +137,7 @@ no_open_if s r h e = by_end (ends_in_if s) h
 
 else_sound : (n : ℕ) (b : Below)
     → SoundBelow n b
-    → (context : Context) (ts : List Token) (vs : Values (if_items context)) (r : List Token)
+    → (context : StatementContext) (ts : List Token) (vs : PieceValues (if_items context)) (r : List Token)
     → TakesAll n (if_items context) ts vs r
     → (c : Bool)
     → is_kind kinds.Else (head_of r) ≡ c
@@ -149,7 +149,7 @@ else_sound n b s context ts vs r t true h x e =
     made_as n b s (tok kinds.Else ∷ a_statement context ∷ []) (λ v. trees.if_else vs.1.1.0 vs.1.1.1.1.0 v.1.0) r
     (TakesStatement context (suc n) ts) (λ v l u more. record {
       marks =
-          subst (λ (ms : List Mark). Matches (token (fixed kinds.If) ∷ token (fixed kinds.LeftParenthesis) ∷ ms) ts l)
+          subst (λ (ms : List FlatToken). Matches (token (fixed kinds.If) ∷ token (fixed kinds.LeftParenthesis) ∷ ms) ts l)
           (behind_if (flat vs.1.1.0) (flat_statement vs.1.1.1.1.0)
           (token (fixed kinds.Else) ∷ (flat_statement v.1.0 ++ [])) kinds.RightParenthesis)
           (joins (token (fixed kinds.If) ∷ token (fixed kinds.LeftParenthesis) ∷
@@ -180,7 +180,7 @@ else_sound n b s context ts vs r t false h x e =
 
 if_sound : (n : ℕ) (b : Below)
     → SoundBelow n b
-    → (context : Context) (ts : List Token) (x : Statement × List Token)
+    → (context : StatementContext) (ts : List Token) (x : Statement × List Token)
     → if_at b context ts ≡ Ok x
     → TakesStatement context (suc n) ts x.0 x.1
 unfolding if_at
@@ -194,7 +194,7 @@ if_sound n b s context ts x e =
 
 do_sound : (n : ℕ) (b : Below)
     → SoundBelow n b
-    → (context : Context) (ts : List Token) (x : Statement × List Token)
+    → (context : StatementContext) (ts : List Token) (x : Statement × List Token)
     → made b (do_items context) (λ v. trees.do_while v.1.0 v.1.1.1.1.0) ts ≡ Ok x
     → TakesStatement context (suc n) ts x.0 x.1
 do_sound n b s context ts =
@@ -209,7 +209,7 @@ do_sound n b s context ts =
 
 while_sound : (n : ℕ) (b : Below)
     → SoundBelow n b
-    → (context : Context) (ts : List Token) (x : Statement × List Token)
+    → (context : StatementContext) (ts : List Token) (x : Statement × List Token)
     → made b (while_items context) (λ v. trees.while v.1.1.0 v.1.1.1.1.0) ts ≡ Ok x
     → TakesStatement context (suc n) ts x.0 x.1
 while_sound n b s context ts =
@@ -223,7 +223,7 @@ while_sound n b s context ts =
     })
 
 -- the marks of an optional expression and its closer, one after the other
-pub next_optional : (es ms : List Mark) (k : TokenKind)
+pub next_optional : (es ms : List FlatToken) (k : TokenKind)
     → (es ++ (token (fixed k) ∷ [])) ++ ms ≡ es ++ (token (fixed k) ∷ ms)
 next_optional es ms k = append_assoc es (token (fixed k) ∷ []) ms
 
@@ -232,19 +232,19 @@ let_is true = refl
 let_is false = refl
 
 -- the tests and the update of a for with its body
-pub tails_are : (is ts ms : List Mark)
+pub tails_are : (is ts ms : List FlatToken)
     → (is ++ (token (fixed kinds.Semicolon) ∷ [])) ++ ((ts ++ (token (fixed kinds.RightParenthesis) ∷ [])) ++ ms)
     ≡ is ++ (token (fixed kinds.Semicolon) ∷ (ts ++ (token (fixed kinds.RightParenthesis) ∷ ms)))
 tails_are is ts ms =
     next_optional is ((ts ++ (token (fixed kinds.RightParenthesis) ∷ [])) ++ ms) kinds.Semicolon
-    ∙ ap (λ (l : List Mark). is ++ (token (fixed kinds.Semicolon) ∷ l)) (next_optional ts ms kinds.RightParenthesis)
+    ∙ ap (λ (l : List FlatToken). is ++ (token (fixed kinds.Semicolon) ∷ l)) (next_optional ts ms kinds.RightParenthesis)
 
 max4 : (a b c d n : ℕ) → a ≤ n → b ≤ n → c ≤ n → d ≤ n → suc (max a (max b (max c d))) ≤ suc n
 max4 a b c d n p q r s = omega (arith, p, q, r, s)
 
 for_plain_sound : (n : ℕ) (b : Below)
     → SoundBelow n b
-    → (context : Context) (ts : List Token) (x : Statement × List Token)
+    → (context : StatementContext) (ts : List Token) (x : Statement × List Token)
     → for_by b context plain_head ts ≡ Ok x
     → TakesStatement context (suc n) ts x.0 x.1
 for_plain_sound n b s context ts =
@@ -254,11 +254,11 @@ for_plain_sound n b s context ts =
     let after_first = (flat_optional v.1.1.1.0 ++ (token (fixed kinds.Semicolon) ∷ [])) ++
     ((flat_optional v.1.1.1.1.0 ++ (token (fixed kinds.RightParenthesis) ∷ [])) ++ body) in
     let same = next_optional (flat_optional v.1.1.0) after_first kinds.Semicolon
-    ∙ ap (λ (l : List Mark). flat_optional v.1.1.0 ++ (token (fixed kinds.Semicolon) ∷ l))
+    ∙ ap (λ (l : List FlatToken). flat_optional v.1.1.0 ++ (token (fixed kinds.Semicolon) ∷ l))
     (tails_are (flat_optional v.1.1.1.0) (flat_optional v.1.1.1.1.0) body) in
     record {
       marks =
-          subst (λ (ms : List Mark). Matches (token (fixed kinds.For) ∷ token (fixed kinds.LeftParenthesis) ∷ ms) ts r)
+          subst (λ (ms : List FlatToken). Matches (token (fixed kinds.For) ∷ token (fixed kinds.LeftParenthesis) ∷ ms) ts r)
           same t.marks;
       well = (t.sane.1.1.0, t.sane.1.1.1.0, t.sane.1.1.1.1.0, t.sane.1.1.1.1.1.0.0, t.sane.1.1.1.1.1.0.1);
       form = refl;
@@ -268,7 +268,7 @@ for_plain_sound n b s context ts =
 
 for_lexical_sound : (n : ℕ) (b : Below)
     → SoundBelow n b
-    → (context : Context) (constant : Bool) (ts : List Token) (x : Statement × List Token)
+    → (context : StatementContext) (constant : Bool) (ts : List Token) (x : Statement × List Token)
     → for_by b context (declares constant) ts ≡ Ok x
     → TakesStatement context (suc n) ts x.0 x.1
 for_lexical_sound n b s context constant ts =
@@ -278,14 +278,14 @@ for_lexical_sound n b s context constant ts =
     let body = flat_statement v.1.1.1.1.1.1.1.0 ++ [] in
     let tails = (flat_optional v.1.1.1.1.1.0 ++ (token (fixed kinds.Semicolon) ∷ [])) ++
     ((flat_optional v.1.1.1.1.1.1.0 ++ (token (fixed kinds.RightParenthesis) ∷ [])) ++ body) in
-    let same = ap (λ (l : List Mark). l ++ (flat_declarators v.1.1.1.0 ++ (token (fixed kinds.Semicolon) ∷ tails)))
+    let same = ap (λ (l : List FlatToken). l ++ (flat_declarators v.1.1.1.0 ++ (token (fixed kinds.Semicolon) ∷ tails)))
     (let_is constant)
-    ∙ ap (λ (l : List Mark). let_or_const constant ++
+    ∙ ap (λ (l : List FlatToken). let_or_const constant ++
     (flat_declarators v.1.1.1.0 ++ (token (fixed kinds.Semicolon) ∷ l)))
     (tails_are (flat_optional v.1.1.1.1.1.0) (flat_optional v.1.1.1.1.1.1.0) body) in
     record {
       marks =
-          subst (λ (ms : List Mark). Matches (token (fixed kinds.For) ∷ token (fixed kinds.LeftParenthesis) ∷ ms) ts r)
+          subst (λ (ms : List FlatToken). Matches (token (fixed kinds.For) ∷ token (fixed kinds.LeftParenthesis) ∷ ms) ts r)
           same t.marks;
       well = (
         t.sane.1.1.1.0.0,
@@ -304,7 +304,7 @@ for_lexical_sound n b s context constant ts =
 
 for_of_sound : (n : ℕ) (b : Below)
     → SoundBelow n b
-    → (context : Context) (constant : Bool) (ts : List Token) (x : Statement × List Token)
+    → (context : StatementContext) (constant : Bool) (ts : List Token) (x : Statement × List Token)
     → for_by b context (each constant) ts ≡ Ok x
     → TakesStatement context (suc n) ts x.0 x.1
 for_of_sound n b s context constant ts =
@@ -314,7 +314,7 @@ for_of_sound n b s context constant ts =
     (flat v.1.1.1.1.1.0 ++ (token (fixed kinds.RightParenthesis) ∷ (flat_statement v.1.1.1.1.1.1.1.0 ++ []))) in
     record {
       marks =
-          subst (λ (ms : List Mark). Matches
+          subst (λ (ms : List FlatToken). Matches
           (token (fixed kinds.For) ∷ token (fixed kinds.LeftParenthesis) ∷ (ms ++ rest)) ts r)
           (let_is constant) t.marks;
       well = (t.sane.1.1.1.1.1.0.0, t.sane.1.1.1.1.1.0.1, t.sane.1.1.1.1.1.1.1.0.0, t.sane.1.1.1.1.1.1.1.0.1);
@@ -325,7 +325,7 @@ for_of_sound n b s context constant ts =
 
 for_by_sound : (n : ℕ) (b : Below)
     → SoundBelow n b
-    → (context : Context) (h : ForHead) (ts : List Token) (x : Statement × List Token)
+    → (context : StatementContext) (h : ForHead) (ts : List Token) (x : Statement × List Token)
     → for_by b context h ts ≡ Ok x
     → TakesStatement context (suc n) ts x.0 x.1
 for_by_sound n b s context (each constant) ts x e = for_of_sound n b s context constant ts x e
@@ -334,7 +334,7 @@ for_by_sound n b s context plain_head ts x e = for_plain_sound n b s context ts 
 
 for_sound : (n : ℕ) (b : Below)
     → SoundBelow n b
-    → (context : Context) (ts : List Token) (x : Statement × List Token)
+    → (context : StatementContext) (ts : List Token) (x : Statement × List Token)
     → for_at b context ts ≡ Ok x
     → TakesStatement context (suc n) ts x.0 x.1
 unfolding for_at
@@ -344,7 +344,7 @@ for_sound n b s context ts x e = for_by_sound n b s context (for_head (tail_of (
 
 continue_sound : (n : ℕ) (b : Below)
     → SoundBelow n b
-    → (context : Context)
+    → (context : StatementContext)
     → context.in_loop ≡ true
     → (ts : List Token) (x : Statement × List Token)
     → made b (tok kinds.Continue ∷ an_end after_word ∷ []) (λ v. trees.continue) ts ≡ Ok x
@@ -361,7 +361,7 @@ continue_sound n b s context loop ts =
 
 break_sound : (n : ℕ) (b : Below)
     → SoundBelow n b
-    → (context : Context)
+    → (context : StatementContext)
     → context.in_loop ≡ true
     → (ts : List Token) (x : Statement × List Token)
     → made b (tok kinds.Break ∷ an_end after_word ∷ []) (λ v. trees.break) ts ≡ Ok x
@@ -378,7 +378,7 @@ break_sound n b s context loop ts =
 
 debugger_sound : (n : ℕ) (b : Below)
     → SoundBelow n b
-    → (context : Context) (ts : List Token) (x : Statement × List Token)
+    → (context : StatementContext) (ts : List Token) (x : Statement × List Token)
     → made b (tok kinds.Debugger ∷ an_end after_word ∷ []) (λ v. trees.debugger) ts ≡ Ok x
     → TakesStatement context (suc n) ts x.0 x.1
 debugger_sound n b s context ts =
@@ -393,7 +393,7 @@ debugger_sound n b s context ts =
 
 return_sound : (n : ℕ) (b : Below)
     → SoundBelow n b
-    → (context : Context)
+    → (context : StatementContext)
     → context.in_function ≡ true
     → (ts : List Token) (c : Bool)
     → ends_return (head_of (tail_of ts)) ≡ c
@@ -426,7 +426,7 @@ return_sound n b s context inside ts false h =
 
 throw_sound : (n : ℕ) (b : Below)
     → SoundBelow n b
-    → (context : Context) (ts : List Token) (c : Bool)
+    → (context : StatementContext) (ts : List Token) (c : Bool)
     → is_on_line (head_of (tail_of ts)) ≡ c
     → (x : Statement × List Token)
     → throw_by b c ts ≡ Ok x
@@ -449,25 +449,25 @@ throw_sound n b s context ts false h x e = absurd cc
 -- ---- try
 
 -- the catch of a try
-pub record TakesHandler (context : Context) (n : ℕ) (ts : List Token) (h : Handler) (r : List Token) : Type 0 where
+pub record TakesHandler (context : StatementContext) (n : ℕ) (ts : List Token) (h : Handler) (r : List Token) : Type 0 where
   pub marks : Matches (flat_handler h) ts r
   pub well : WellHandler context h
   pub height : height_of_handler h ≤ n
 
 -- the finally of a try behind this catch
-pub record TakesFinalizer (context : Context) (n : ℕ) (h : Handler) (ts : List Token) (f : Finalizer) (r : List Token)
+pub record TakesFinalizer (context : StatementContext) (n : ℕ) (h : Handler) (ts : List Token) (f : Finalizer) (r : List Token)
     : Type 0 where
   pub marks : Matches (flat_finalizer f) ts r
   pub well : WellFinalizer context f
   pub handled : is_handled h f ≡ true
   pub height : height_of_finalizer f ≤ n
 
-abbrev pub catch_items : List Item
+abbrev pub catch_items : List Piece
 catch_items = tok kinds.LeftParenthesis ∷ a_name ∷ tok kinds.RightParenthesis ∷ []
 
 catch_sound : (n : ℕ) (b : Below)
     → SoundBelow n b
-    → (context : Context) (ts : List Token)
+    → (context : StatementContext) (ts : List Token)
     → is_kind kinds.Catch (head_of ts) ≡ true
     → (c : Bool) (x : Handler × List Token)
     → catch_by b context c (tail_of ts) ≡ Ok x
@@ -505,7 +505,7 @@ catch_sound n b s context ts h false x e =
 
 handler_by_sound : (n : ℕ) (b : Below)
     → SoundBelow n b
-    → (context : Context) (ts : List Token) (c : Bool)
+    → (context : StatementContext) (ts : List Token) (c : Bool)
     → is_kind kinds.Catch (head_of ts) ≡ c
     → (x : Handler × List Token)
     → handler_by b context c ts ≡ Ok x
@@ -518,7 +518,7 @@ handler_by_sound n b s context ts false h x e =
 
 pub handler_sound : (n : ℕ) (b : Below)
     → SoundBelow n b
-    → (context : Context) (ts : List Token) (x : Handler × List Token)
+    → (context : StatementContext) (ts : List Token) (x : Handler × List Token)
     → handler_at b context ts ≡ Ok x
     → TakesHandler context n ts x.0 x.1
 unfolding handler_at
@@ -530,7 +530,7 @@ finally_handled (trees.catch n body) ss = refl
 
 finalizer_by_sound : (n : ℕ) (b : Below)
     → SoundBelow n b
-    → (context : Context) (h : Handler) (c : Bool) (ts : List Token) (x : Finalizer × List Token)
+    → (context : StatementContext) (h : Handler) (c : Bool) (ts : List Token) (x : Finalizer × List Token)
     → finalizer_by b context h c ts ≡ Ok x
     → TakesFinalizer context n h ts x.0 x.1
 finalizer_by_sound n b s context h true ts x e =
@@ -548,16 +548,16 @@ finalizer_by_sound n b s context (trees.catch m ss) false ts x e =
 
 pub finalizer_sound : (n : ℕ) (b : Below)
     → SoundBelow n b
-    → (context : Context) (h : Handler) (ts : List Token) (x : Finalizer × List Token)
+    → (context : StatementContext) (h : Handler) (ts : List Token) (x : Finalizer × List Token)
     → finalizer_at b context h ts ≡ Ok x
     → TakesFinalizer context n h ts x.0 x.1
 unfolding finalizer_at
 finalizer_sound n b s context h ts x e = finalizer_by_sound n b s context h (is_kind kinds.Finally (head_of ts)) ts x e
 
-abbrev pub try_items : Context → List Item
+abbrev pub try_items : StatementContext → List Piece
 try_items context = tok kinds.Try ∷ a_block context [] ∷ []
 
-try_takes : (n : ℕ) (context : Context) (ts : List Token) (vs : Values (try_items context)) (us : List Token)
+try_takes : (n : ℕ) (context : StatementContext) (ts : List Token) (vs : PieceValues (try_items context)) (us : List Token)
     → TakesAll n (try_items context) ts vs us
     → (h : Handler) (ws : List Token)
     → TakesHandler context n us h ws
@@ -579,7 +579,7 @@ try_takes n context ts vs us t h ws u f r v = record {
 
 try_sound : (n : ℕ) (b : Below)
     → SoundBelow n b
-    → (context : Context) (ts : List Token) (x : Statement × List Token)
+    → (context : StatementContext) (ts : List Token) (x : Statement × List Token)
     → try_at b context ts ≡ Ok x
     → TakesStatement context (suc n) ts x.0 x.1
 unfolding try_at
@@ -600,7 +600,7 @@ try_sound n b s context ts x e =
 
 block_sound : (n : ℕ) (b : Below)
     → SoundBelow n b
-    → (context : Context) (ts : List Token) (x : Statement × List Token)
+    → (context : StatementContext) (ts : List Token) (x : Statement × List Token)
     → made b (in_braces context [] ∷ []) (λ v. trees.block v.0) ts ≡ Ok x
     → TakesStatement context (suc n) ts x.0 x.1
 block_sound n b s context ts =
@@ -615,7 +615,7 @@ block_sound n b s context ts =
 
 expression_sound : (n : ℕ) (b : Below)
     → SoundBelow n b
-    → (context : Context) (ts : List Token)
+    → (context : StatementContext) (ts : List Token)
     → first (head_of ts) ≡ classes.an_expression
     → (x : Statement × List Token)
     → made b (ended ∷ []) (λ v. trees.expression v.0) ts ≡ Ok x
@@ -635,7 +635,7 @@ expression_sound n b s context ts h =
 
 statement_by_sound : (n : ℕ) (b : Below)
     → SoundBelow n b
-    → (context : Context) (ts : List Token) (f : First)
+    → (context : StatementContext) (ts : List Token) (f : StatementStart)
     → first (head_of ts) ≡ f
     → (x : Statement × List Token)
     → statement_by b context f ts ≡ Ok x
@@ -680,7 +680,7 @@ statement_by_sound n b s context ts classes.an_expression h x e = expression_sou
 -- the field statement of what reads one more below
 pub statement_sound : (n : ℕ) (b : Below)
     → SoundBelow n b
-    → (context : Context) (ts : List Token) (x : Statement × List Token)
+    → (context : StatementContext) (ts : List Token) (x : Statement × List Token)
     → statement b context ts ≡ Ok x
     → TakesStatement context (suc n) ts x.0 x.1
 unfolding statement
@@ -690,7 +690,7 @@ statement_sound n b s context ts x e = statement_by_sound n b s context ts (firs
 
 lexical_sound : (n : ℕ) (b : Below)
     → SoundBelow n b
-    → (context : Context) (constant : Bool) (taken : List Identifier) (ts : List Token)
+    → (context : StatementContext) (constant : Bool) (taken : List Identifier) (ts : List Token)
     → first (head_of ts) ≡ classes.a_lexical constant
     → (x : Statement × List Token)
     → lexical_at b constant taken ts ≡ Ok x
@@ -708,7 +708,7 @@ lexical_sound n b s context constant taken ts h x e =
     subst (λ (x : Statement × List Token). TakesItem context taken (suc n) ts x.0 x.1)
     (ok_is (trees.lexical constant p.0.0, q.0.1) x q.2) (record {
       marks =
-          subst (λ (ms : List Mark). Matches (ms ++ rest) ts q.0.1) (let_is constant)
+          subst (λ (ms : List FlatToken). Matches (ms ++ rest) ts q.0.1) (let_is constant)
           (first_lexical constant (head_of ts) h, m);
       well = (t.some, t.well, t.initialized);
       fresh = t.fresh;
@@ -718,7 +718,7 @@ lexical_sound n b s context constant taken ts h x e =
 
 declaration_sound : (n : ℕ) (b : Below)
     → SoundBelow n b
-    → (context : Context) (taken : List Identifier) (ts : List Token)
+    → (context : StatementContext) (taken : List Identifier) (ts : List Token)
     → first (head_of ts) ≡ classes.a_function
     → (x : Statement × List Token)
     → declaration_at b taken ts ≡ Ok x
@@ -753,7 +753,7 @@ declares_none taken (trees.lexical constant ds) h = absurd cc
 declares_none taken (trees.declared_function n ps body) h = absurd cc
 declares_none taken _ h = tt
 
-as_item : (context : Context) (taken : List Identifier) (n : ℕ) (ts : List Token) (s : Statement) (r : List Token)
+as_item : (context : StatementContext) (taken : List Identifier) (n : ℕ) (ts : List Token) (s : Statement) (r : List Token)
     → TakesStatement context n ts s r
     → TakesItem context taken n ts s r
 as_item context taken n ts s r t = record {
@@ -766,7 +766,7 @@ as_item context taken n ts s r t = record {
 
 item_by_sound : (n : ℕ) (b : Below)
     → SoundBelow n b
-    → (context : Context) (taken : List Identifier) (ts : List Token) (f : First)
+    → (context : StatementContext) (taken : List Identifier) (ts : List Token) (f : StatementStart)
     → first (head_of ts) ≡ f
     → (x : Statement × List Token)
     → item_by b context taken f ts ≡ Ok x
@@ -780,7 +780,7 @@ item_by_sound n b s context taken ts _ h x e =
 -- the field item of what reads one more below
 pub list_item_sound : (n : ℕ) (b : Below)
     → SoundBelow n b
-    → (context : Context) (taken : List Identifier) (ts : List Token) (x : Statement × List Token)
+    → (context : StatementContext) (taken : List Identifier) (ts : List Token) (x : Statement × List Token)
     → item b context taken ts ≡ Ok x
     → TakesItem context taken (suc n) ts x.0 x.1
 unfolding item
@@ -791,7 +791,7 @@ list_item_sound n b s context taken ts x e = item_by_sound n b s context taken t
 -- the field block of what reads one more below
 pub counted_block_sound : (n : ℕ) (b : Below)
     → SoundBelow n b
-    → (context : Context) (taken : List Identifier) (ts : List Token) (x : Statements × List Token)
+    → (context : StatementContext) (taken : List Identifier) (ts : List Token) (x : Statements × List Token)
     → braces b context taken ts ≡ Ok x
     → TakesBlock context taken (suc n) ts x.0 x.1 × (suc (height_of_statements x.0) ≤ suc n)
 counted_block_sound n b s context taken ts x e =
@@ -803,7 +803,7 @@ counted_block_sound n b s context taken ts x e =
 -- the field function of what reads one more below
 pub counted_function_sound : (n : ℕ) (b : Below)
     → SoundBelow n b
-    → (ts : List Token) (x : Code × List Token)
+    → (ts : List Token) (x : ParametersAndBody × List Token)
     → code_at b ts ≡ Ok x
     → TakesCode (suc n) ts x.0 x.1 × (suc (height_of_statements x.0.body) ≤ suc n)
 counted_function_sound n b s ts x e =

@@ -9,7 +9,7 @@ ghost use Rattle.js_parser_readers.specs.Parsing.{are_fresh};
 ghost use Rattle.js_parser_readers.specs.Reading.{with_names};
 ghost use Rattle.js_parser_readers.specs.Views.{tokens_view};
 
-use crate::classes::expressions::{Start, start_of};
+use crate::classes::expressions::{PrimaryStart, start_of};
 use crate::name_set::NameSet;
 use crate::token::{is_next, is_on_line, tail};
 use js_lexer::token::{Token, TokenKind};
@@ -17,7 +17,7 @@ use std::alloc::AllocError;
 
 /// What an arrow function begins with.
 #[derive(Clone, Copy)]
-pub enum Head {
+pub enum ArrowStart {
     /// One name without parentheses.
     Name,
     /// Names in parentheses. `true` where an arrow function alone begins so, since there is no name
@@ -53,14 +53,14 @@ fn past_names<'t, 's>(tokens: &'t [Token<'s>]) -> Option<(bool, &'t [Token<'s>])
 }
 
 /// What arrow function the next tokens begin. `None` where they begin none.
-pub fn arrow_head(tokens: &[Token<'_>]) -> Option<Head>
+pub fn arrow_head(tokens: &[Token<'_>]) -> Option<ArrowStart>
     ensures { head_view result ≡ arrow_head (tokens_view tokens.now) }
 {
     match start_of(tokens) {
-        Start::Name(_) if is_arrow_next(tail(tokens)) => Some(Head::Name),
-        Start::Parenthesis => match past_names(tail(tokens)) {
-            Some((true, _)) => Some(Head::List(true)),
-            Some((false, rest)) if is_arrow_next(rest) => Some(Head::List(false)),
+        PrimaryStart::Name(_) if is_arrow_next(tail(tokens)) => Some(ArrowStart::Name),
+        PrimaryStart::Parenthesis => match past_names(tail(tokens)) {
+            Some((true, _)) => Some(ArrowStart::List(true)),
+            Some((false, rest)) if is_arrow_next(rest) => Some(ArrowStart::List(false)),
             _ => None,
         },
         _ => None,

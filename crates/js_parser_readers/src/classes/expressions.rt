@@ -15,7 +15,7 @@ use js_tree_operators::operator::{
 
 /// What begins a PrimaryExpression (ECMA-262, 13.2).
 #[derive(Clone, Copy)]
-pub enum Start<'s> {
+pub enum PrimaryStart<'s> {
     /// `this`
     This,
     /// A name, with its text.
@@ -42,7 +42,7 @@ pub enum Start<'s> {
 
 /// What goes on with a call or a member (ECMA-262, 13.3).
 #[derive(Clone, Copy)]
-pub enum Link {
+pub enum CallTail {
     /// `.`
     Dot,
     /// `[`
@@ -72,41 +72,41 @@ pub enum Joint {
 }
 
 /// What the next token begins.
-pub fn start_of<'s>(tokens: &[Token<'s>]) -> Start<'s>
+pub fn start_of<'s>(tokens: &[Token<'s>]) -> PrimaryStart<'s>
     ensures { start_view result ≡ start (head_of (tokens_view tokens.now)) }
 {
     let [token, ..] = tokens else {
-        return Start::Other;
+        return PrimaryStart::Other;
     };
     match token.kind {
-        TokenKind::This => Start::This,
-        TokenKind::Name => Start::Name(token.text),
-        TokenKind::Number => Start::Number(SafeInteger {
+        TokenKind::This => PrimaryStart::This,
+        TokenKind::Name => PrimaryStart::Name(token.text),
+        TokenKind::Number => PrimaryStart::Number(SafeInteger {
             value: number_value(token.text),
         }),
-        TokenKind::String => Start::String(token.text),
-        TokenKind::True => Start::Boolean(true),
-        TokenKind::False => Start::Boolean(false),
-        TokenKind::Null => Start::Null,
-        TokenKind::LeftBracket => Start::Bracket,
-        TokenKind::LeftBrace => Start::Brace,
-        TokenKind::LeftParenthesis => Start::Parenthesis,
-        TokenKind::Function => Start::Function,
-        _ => Start::Other,
+        TokenKind::String => PrimaryStart::String(token.text),
+        TokenKind::True => PrimaryStart::Boolean(true),
+        TokenKind::False => PrimaryStart::Boolean(false),
+        TokenKind::Null => PrimaryStart::Null,
+        TokenKind::LeftBracket => PrimaryStart::Bracket,
+        TokenKind::LeftBrace => PrimaryStart::Brace,
+        TokenKind::LeftParenthesis => PrimaryStart::Parenthesis,
+        TokenKind::Function => PrimaryStart::Function,
+        _ => PrimaryStart::Other,
     }
 }
 
 /// How the next token goes on with what stands before it. `None` where it doesn't.
-pub fn link_of(tokens: &[Token<'_>]) -> Option<Link>
+pub fn link_of(tokens: &[Token<'_>]) -> Option<CallTail>
     ensures { link_view result ≡ link (head_of (tokens_view tokens.now)) }
 {
     let [token, ..] = tokens else {
         return None;
     };
     match token.kind {
-        TokenKind::Dot => Some(Link::Dot),
-        TokenKind::LeftBracket => Some(Link::Key),
-        TokenKind::LeftParenthesis => Some(Link::Arguments),
+        TokenKind::Dot => Some(CallTail::Dot),
+        TokenKind::LeftBracket => Some(CallTail::Key),
+        TokenKind::LeftParenthesis => Some(CallTail::Arguments),
         _ => None,
     }
 }

@@ -12,7 +12,7 @@ use js_lexer::token::{Token, TokenKind};
 
 /// What comes after an element of a list.
 #[derive(Clone, Copy)]
-pub enum After {
+pub enum AfterElement {
     /// A comma.
     GoesOn,
     /// The token that ends the list.
@@ -21,13 +21,13 @@ pub enum After {
 
 /// What the next token says of a list that a token of this kind ends. `None` where it is neither
 /// that token nor a comma.
-pub fn after_of(closer: TokenKind, tokens: &[Token<'_>]) -> Option<After>
+pub fn after_of(closer: TokenKind, tokens: &[Token<'_>]) -> Option<AfterElement>
     ensures { after_view result ≡ after closer (head_of (tokens_view tokens.now)) }
 {
     if is_next(closer, tokens) {
-        Some(After::Ends)
+        Some(AfterElement::Ends)
     } else if is_next(TokenKind::Comma, tokens) {
-        Some(After::GoesOn)
+        Some(AfterElement::GoesOn)
     } else {
         None
     }

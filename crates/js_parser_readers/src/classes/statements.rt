@@ -13,7 +13,7 @@ use js_lexer::token::{Token, TokenKind};
 
 /// What begins a statement or a declaration.
 #[derive(Clone, Copy)]
-pub enum First {
+pub enum StatementStart {
     /// `{`
     Block,
     /// `let`, or `const` where `constant` is true.
@@ -57,7 +57,7 @@ pub enum ForHead {
 
 /// What the last token of an expression ends.
 #[derive(Clone, Copy)]
-pub enum Edge {
+pub enum ExpressionEnd {
     /// Any other expression.
     Plain,
     /// An arrow function with a body in braces.
@@ -68,9 +68,9 @@ pub enum Edge {
 
 /// What a statement ends in before its semicolon (ECMA-262, 12.10).
 #[derive(Clone, Copy)]
-pub enum End {
+pub enum StatementEnd {
     /// An expression, whose last token ends this.
-    Expression(Edge),
+    Expression(ExpressionEnd),
     /// A keyword, or a declared name without initializer.
     Word,
     /// The `)` of a `do`.
@@ -81,49 +81,49 @@ pub enum End {
 pub const OF: &[u16] = &[0x6F, 0x66];
 
 /// What the next token begins.
-pub fn first_of(tokens: &[Token<'_>]) -> First
+pub fn first_of(tokens: &[Token<'_>]) -> StatementStart
     ensures { first_view result ≡ first (head_of (tokens_view tokens.now)) }
 {
     let [token, ..] = tokens else {
-        return First::Expression;
+        return StatementStart::Expression;
     };
     match token.kind {
-        TokenKind::LeftBrace => First::Block,
-        TokenKind::Let => First::Lexical { constant: false },
-        TokenKind::Const => First::Lexical { constant: true },
-        TokenKind::Semicolon => First::Semicolon,
-        TokenKind::If => First::If,
-        TokenKind::Do => First::Do,
-        TokenKind::While => First::While,
-        TokenKind::For => First::For,
-        TokenKind::Continue => First::Continue,
-        TokenKind::Break => First::Break,
-        TokenKind::Return => First::Return,
-        TokenKind::Throw => First::Throw,
-        TokenKind::Try => First::Try,
-        TokenKind::Debugger => First::Debugger,
-        TokenKind::Function => First::Function,
-        _ => First::Expression,
+        TokenKind::LeftBrace => StatementStart::Block,
+        TokenKind::Let => StatementStart::Lexical { constant: false },
+        TokenKind::Const => StatementStart::Lexical { constant: true },
+        TokenKind::Semicolon => StatementStart::Semicolon,
+        TokenKind::If => StatementStart::If,
+        TokenKind::Do => StatementStart::Do,
+        TokenKind::While => StatementStart::While,
+        TokenKind::For => StatementStart::For,
+        TokenKind::Continue => StatementStart::Continue,
+        TokenKind::Break => StatementStart::Break,
+        TokenKind::Return => StatementStart::Return,
+        TokenKind::Throw => StatementStart::Throw,
+        TokenKind::Try => StatementStart::Try,
+        TokenKind::Debugger => StatementStart::Debugger,
+        TokenKind::Function => StatementStart::Function,
+        _ => StatementStart::Expression,
     }
 }
 
 /// Whether a token of this kind goes on with an expression which ends so, also on a new line.
-fn continues(edge: Edge, kind: TokenKind) -> bool
+fn continues(edge: ExpressionEnd, kind: TokenKind) -> bool
     ensures { result ≡ spec.continues (edge_view edge) kind }
 {
     match edge {
-        Edge::Plain => matches!(
+        ExpressionEnd::Plain => matches!(
             kind,
             TokenKind::LeftParenthesis | TokenKind::LeftBracket | TokenKind::Plus | TokenKind::Minus
         ),
-        Edge::Update => matches!(kind, TokenKind::Plus | TokenKind::Minus),
-        Edge::Braces => false,
+        ExpressionEnd::Update => matches!(kind, TokenKind::Plus | TokenKind::Minus),
+        ExpressionEnd::Braces => false,
     }
 }
 
 /// Whether the semicolon of a statement that ends so may be absent before the next token or the
 /// end of the source (ECMA-262, 12.10).
-pub(crate) fn is_absent(end: End, tokens: &[Token<'_>]) -> bool
+pub(crate) fn is_absent(end: StatementEnd, tokens: &[Token<'_>]) -> bool
     ensures { result ≡ absent (end_view end) (head_of (tokens_view tokens.now)) }
 {
     let [token, ..] = tokens else {
@@ -131,9 +131,9 @@ pub(crate) fn is_absent(end: End, tokens: &[Token<'_>]) -> bool
     };
     match (token.kind, end) {
         (TokenKind::Semicolon, _) => false,
-        (TokenKind::RightBrace, _) | (_, End::Do) => true,
-        (_, End::Word) => token.newline_before,
-        (kind, End::Expression(edge)) => token.newline_before && !continues(edge, kind),
+        (TokenKind::RightBrace, _) | (_, StatementEnd::Do) => true,
+        (_, StatementEnd::Word) => token.newline_before,
+        (kind, StatementEnd::Expression(edge)) => token.newline_before && !continues(edge, kind),
     }
 }
 
@@ -141,7 +141,7 @@ pub(crate) fn is_absent(end: End, tokens: &[Token<'_>]) -> bool
 pub fn ends_return(tokens: &[Token<'_>]) -> bool
     ensures { result ≡ ends_return (head_of (tokens_view tokens.now)) }
 {
-    is_next(TokenKind::Semicolon, tokens) || is_absent(End::Word, tokens)
+    is_next(TokenKind::Semicolon, tokens) || is_absent(StatementEnd::Word, tokens)
 }
 
 /// Whether the next token is this name.
@@ -158,7 +158,7 @@ pub(crate) fn is_name(name: &[u16], tokens: &[Token<'_>]) -> bool
 pub fn for_head_of(tokens: &[Token<'_>]) -> Option<ForHead>
     ensures { for_head_view result ≡ for_head (tokens_view tokens.now) }
 {
-    let First::Lexical { constant } = first_of(tokens) else {
+    let StatementStart::Lexical { constant } = first_of(tokens) else {
         return None;
     };
     let names = tail(tokens);

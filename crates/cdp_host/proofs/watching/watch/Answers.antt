@@ -53,7 +53,7 @@ returns-in_err-stopped-clause-over g c = λ is.
     c.in_ok-tell_step.ensures.session c.in_ok-named.ensures.named c.if-not-named.false in
     let there = c.in_ok-named.ensures.kept ∙ c.in_ok-tell_step.ensures.session in
     let over : fits
-    (stopped s c.args.number c.args.step.now.arrival c.names.new.session).outbox ≡ false = search rules in
+    (stopped s c.args.number c.args.step.now.arrival c.names_stop.new.session).outbox ≡ false = search rules in
     ap (λ y. fits y.outbox)
     (sym (ap (stopped s c.args.number c.args.step.now.arrival) there
     ∙ behind-named s c.args.number c.args.moment step c.args.session.now named))

@@ -1,6 +1,6 @@
 use Rattle.std.proofs.Common.{sym}
 use Rattle.debug_host_options.specs.Held.{replay_held, run_held, send_held, serve_held}
-use Rattle.debug_host_commands.specs.declared.outcome.Outcome.TheVariants as ends
+use Rattle.debug_host_commands.specs.declared.outcome.CommandEnd.TheVariants as ends
 use Rattle.debug_host_commands.proofs.ReportLemmas as reports
 use Rattle.debug_host_commands.proofs.RunLemmas as runs
 use Rattle.debug_host_commands.proofs.ReplayLemmas as replays

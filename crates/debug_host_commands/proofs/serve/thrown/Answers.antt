@@ -2,7 +2,7 @@ use Rattle.std.proofs.Common.{Some, ◌∷◌, ◌++◌, [], string_bytes, sym, 
 use Rattle.cdp_host_isolation.specs.Histories.{Entry}
 use Rattle.cdp_host_isolation.specs.Makers.{entries_of}
 use Rattle.cdp_host.specs.Debugged.{StandsOwned}
-use Rattle.cdp_host.specs.Hosts.{Stands}
+use Rattle.cdp_host.specs.Hosts.{StandsFor}
 use Rattle.debug_host_commands.proofs.ServeLemmas.{finds-all, host-program}
 use Rattle.debug_host_commands.proofs.serve.thrown.Goals as goal
 
@@ -24,5 +24,5 @@ returns-in-Ok-Some g c =
     let stood = subst (λ x. StandsOwned b.scripts b.input b.wait x m.seen) (sym c.state-host.ensures.state) c.in-Ok.ensures.state in
     let same = finds-all p m c.requires.all c.in-Ok.ensures.seen c.enter.ensures.same c.in-Ok.ensures.only in
     host-program b.scripts b.input b.wait host (entries_of p.seen) (Some (string_bytes c.in-Ok-Some.text))
-    (subst (λ l. Stands b.scripts b.input b.wait host (entries_of l)) same stood.stands) c.in-Ok-Some.ensures.works
+    (subst (λ l. StandsFor b.scripts b.input b.wait host (entries_of l)) same stood.stands) c.in-Ok-Some.ensures.works
     (rw c.in-Ok-Some.field-0-is at c.in-Ok-Some.ensures.text)

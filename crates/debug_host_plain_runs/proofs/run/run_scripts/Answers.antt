@@ -1,7 +1,7 @@
 use Rattle.std.proofs.Common.{ap, Err}
 use Rattle.js_heap_memory.specs.Heaps.{heap_world}
 use Rattle.js_semantics.specs.Sources.{terms_of_scripts}
-use Rattle.debug_host_plain_runs.specs.declared.end.RunEnd.TheVariants as ends
+use Rattle.debug_host_plain_runs.specs.declared.end.PlainRunEnd.TheVariants as ends
 use Rattle.debug_host_plain_runs.proofs.EndLemmas.{comes_over, comes_cut, comes_short, first_part}
 use Rattle.debug_host_plain_runs.proofs.run.run_scripts.Goals as goal
 

@@ -1,5 +1,5 @@
 use Rattle.js_machine_actions.specs.Contexts.{state_of}
-use Rattle.js_machine_engine.specs.declared.answer.Answer.TheVariants as kinds
+use Rattle.js_machine_engine.specs.declared.answer.Demand.TheVariants as kinds
 use Rattle.js_machine_engine.specs.Stacks.{outer_of}
 use Rattle.js_machine_engine.specs.Following.{innermost}
 use Rattle.js_machine_engine.specs.Answers.{reduced_term}

@@ -1,7 +1,7 @@
 use Rattle.std.proofs.Common.{sym, refl, [], None}
 use Rattle.js_machine_actions.specs.Contexts.{state_of}
 use Rattle.js_machine_engine.specs.Rows.{redex}
-use Rattle.js_machine_engine.specs.Stepping.{answer_of}
+use Rattle.js_machine_engine.specs.Stepping.{demand_of}
 use Rattle.js_machine_engine.proofs.ConcludeLemmas.{gives-told, uncovers-told, went-stands, goes-on-weaker}
 use Rattle.js_machine_engine.proofs.TravelLemmas.{went-stood}
 use Rattle.js_machine_engine.proofs.StepLemmas.{node_redex, leaf-told, leaf-scope}
@@ -17,7 +17,7 @@ returns-in-Gives-clause-told g c = λ taken.
     let w = redex (node_redex c.in-Some.node c.scope.result) [] None in
     let s = state_of (g.W.World.world ts c.args.world.now) c.args.context.now taken in
     let u = state_of (g.W.World.world ts c.reduce-reduced.new.world) c.reduce-reduced.new.context taken in
-    leaf-told ts t root old c.give.new.stack c.give.new.point c.args.n c.in-Some.node c.scope.result r (answer_of r)
+    leaf-told ts t root old c.give.new.stack c.give.new.point c.args.n c.in-Some.node c.scope.result r (demand_of r)
     c.went_of.result s u u c.requires.table (sym c.in-Some.ensures)
     c.requires.leaf c.scope.ensures c.requires.scoped refl
     (λ outer. c.reduce-reduced.ensures outer taken)
@@ -40,7 +40,7 @@ returns-in-Uncovers-clause-told g c = λ taken.
     let s = state_of (g.W.World.world ts c.args.world.now) c.args.context.now taken in
     let u = state_of (g.W.World.world ts c.reduce-reduced.new.world) c.reduce-reduced.new.context taken in
     leaf-told ts t root old c.uncover.new.stack c.uncover.new.point c.args.n c.in-Some.node c.scope.result r
-    (answer_of r) c.went_of-in-Uncovers.result s u u c.requires.table (sym c.in-Some.ensures)
+    (demand_of r) c.went_of-in-Uncovers.result s u u c.requires.table (sym c.in-Some.ensures)
     c.requires.leaf c.scope.ensures c.requires.scoped refl
     (λ outer. c.reduce-reduced.ensures outer taken)
     (λ m h. uncovers-told c.uncover.result c.went_of-in-Uncovers.result ts t root old c.uncover.new.stack
@@ -70,7 +70,7 @@ returns-in_default-reduced g c = record {
       let v = state_of (g.W.World.world ts c.leave_leaf.new.world) c.leave_leaf.new.context taken in
       leaf-told ts t c.args.root c.args.stack.now c.leave_leaf.new.stack c.leave_leaf.new.point c.args.n c.in-Some.node
       c.scope.result r
-      (answer_of r) c.leave_leaf.result s u v c.requires.table (sym c.in-Some.ensures)
+      (demand_of r) c.leave_leaf.result s u v c.requires.table (sym c.in-Some.ensures)
       c.requires.leaf c.scope.ensures c.requires.scoped refl
       (λ outer. c.reduce-reduced.ensures outer taken)
       (λ m h. c.leave_leaf.ensures.told taken m h);

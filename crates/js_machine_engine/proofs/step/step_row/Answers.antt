@@ -4,7 +4,7 @@ use Rattle.js_machine_engine.specs.declared.reduced.Reduced.TheVariants as reduc
 use Rattle.js_machine_engine.specs.Answers.{reduced_term}
 use Rattle.js_machine_engine.specs.Stacks.{outer_of}
 use Rattle.js_machine_engine.specs.Following.{innermost}
-use Rattle.js_machine_engine.specs.Stepping.{answer_of}
+use Rattle.js_machine_engine.specs.Stepping.{demand_of}
 use Rattle.js_machine_engine.proofs.ConcludeLemmas.{says-of, went-follows, went-stands, goes-on-weaker}
 use Rattle.js_machine_engine.proofs.StepLemmas.{row-told}
 use Rattle.js_machine_engine.proofs.step.step_row.Goals as goal
@@ -21,7 +21,7 @@ returns-in-Gives-clause-told g c = λ taken.
     let u = state_of (g.W.World.world ts c.reduce-reduced.new.world) c.reduce-reduced.new.context taken in
     row-told ts t root old c.follow_value.new.stack c.follow_value.new.point c.in-Some.task c.values.result.now
     c.extra-extra.result r
-    (answer_of r)
+    (demand_of r)
     c.went_of.result s u u c.in-Some.ensures.some c.requires.row c.requires.scoped c.values.ensures
     c.extra-extra.ensures refl
     (λ outer. c.reduce-reduced.ensures outer taken)
@@ -46,7 +46,7 @@ returns-in_default-reduced g c = record {
       let v = state_of (g.W.World.world ts c.leave_row.new.world) c.leave_row.new.context taken in
       row-told ts c.args.table.now c.args.root c.args.stack.now c.leave_row.new.stack c.leave_row.new.point
       c.in-Some.task c.values.result.now c.extra-extra.result r
-      (answer_of r)
+      (demand_of r)
       c.leave_row.result s u v c.in-Some.ensures.some c.requires.row c.requires.scoped c.values.ensures
       c.extra-extra.ensures refl
       (λ outer. c.reduce-reduced.ensures outer taken)

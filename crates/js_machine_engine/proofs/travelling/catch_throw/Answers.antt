@@ -8,11 +8,11 @@ returns-clause-told g c = λ taken.
     let ts = c.args.names.now in
     let w = g.W.World.world ts c.catch-reduced.new.world in
     catch-told ts c.args.table.now c.args.root c.args.stack.now c.set_at.new.self c.conclude.new.stack
-    c.conclude.new.point c.in-Some.task c.args.completion c.args.thrown c.catch-reduced.result c.answer_of.result
+    c.conclude.new.point c.in-Some.task c.args.completion c.args.thrown c.catch-reduced.result c.demand_of.result
     c.conclude.result
     (state_of (g.W.World.world ts c.args.world.now) c.args.context.now taken) (state_of w c.args.context.now taken)
     c.in-Some.ensures.some c.in-Some.ensures.owned c.requires.takes c.requires.scoped c.set_at.ensures
-    c.answer_of.ensures
+    c.demand_of.ensures
     (λ outer place vs. c.catch-reduced.ensures outer place vs taken)
     (λ m h. c.conclude.ensures.told ts m w taken h)
 

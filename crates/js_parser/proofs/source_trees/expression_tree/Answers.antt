@@ -17,17 +17,17 @@ pub returns-clause-answers : goal.returns-clause-answers
 returns-clause-answers c =
     told_as IsExpression height c.args.source.now (λ x. expression_view x) MOST_ROOM
     (λ ts. parse_expression MOST_ROOM ts) (lexed_view c.in_ok-lexed.lexed) (tokens_view c.as_slice.result.now)
-    (length c.args.source.now) c.expression_of-read.result c.told.result (omega arith)
+    (length c.args.source.now) c.expression_of-read.result c.tree_or_fault.result (omega arith)
     reads_expression c.in_ok-lexed.ensures.tokens
     (ap (λ (ts : List lexer.Token). tokens_view ts) c.as_slice.ensures.value)
     c.in_ok-lexed.ensures.short refl c.expression_of-read.ensures.gives c.expression_of-read.ensures.height
-    c.told.ensures
+    c.tree_or_fault.ensures
 
 pub returns-clause-placed : goal.returns-clause-placed
 returns-clause-placed c =
     told_placed expression_places c.args.source.now _ _ (lexed_view c.in_ok-lexed.lexed)
     (tokens_view c.as_slice.result.now) (length c.args.source.now)
-    c.expression_of-read.result c.told.result c.in_ok-lexed.ensures.tokens
+    c.expression_of-read.result c.tree_or_fault.result c.in_ok-lexed.ensures.tokens
     (ap (λ (ts : List lexer.Token). tokens_view ts) c.as_slice.ensures.value)
     c.expression_of-read.ensures.placed c.expression_of-read.ensures.forward c.expression_of-read.ensures.numbers
-    c.told.ensures
+    c.tree_or_fault.ensures

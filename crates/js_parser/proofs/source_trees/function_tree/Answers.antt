@@ -17,15 +17,15 @@ pub returns-clause-answers : goal.returns-clause-answers
 returns-clause-answers c =
     told_as IsFunction height c.args.source.now (λ x. expression_view x) MOST_ROOM (λ ts. parse_function MOST_ROOM ts)
     (lexed_view c.in_ok-lexed.lexed) (tokens_view c.as_slice.result.now) (length c.args.source.now)
-    c.function_of-read.result c.told.result (omega arith) reads_function c.in_ok-lexed.ensures.tokens
+    c.function_of-read.result c.tree_or_fault.result (omega arith) reads_function c.in_ok-lexed.ensures.tokens
     (ap (λ (ts : List lexer.Token). tokens_view ts) c.as_slice.ensures.value)
-    c.in_ok-lexed.ensures.short refl c.function_of-read.ensures.gives c.function_of-read.ensures.height c.told.ensures
+    c.in_ok-lexed.ensures.short refl c.function_of-read.ensures.gives c.function_of-read.ensures.height c.tree_or_fault.ensures
 
 pub returns-clause-placed : goal.returns-clause-placed
 returns-clause-placed c =
     told_placed expression_places c.args.source.now _ _ (lexed_view c.in_ok-lexed.lexed)
     (tokens_view c.as_slice.result.now) (length c.args.source.now)
-    c.function_of-read.result c.told.result c.in_ok-lexed.ensures.tokens
+    c.function_of-read.result c.tree_or_fault.result c.in_ok-lexed.ensures.tokens
     (ap (λ (ts : List lexer.Token). tokens_view ts) c.as_slice.ensures.value)
     c.function_of-read.ensures.placed c.function_of-read.ensures.forward c.function_of-read.ensures.numbers
-    c.told.ensures
+    c.tree_or_fault.ensures

@@ -23,14 +23,14 @@ returns-clause-answers c =
     c.in_ok-names.ensures.names c.script_of-read.ensures.gives in
     told_as (IsScript earlier) height_of_statements c.args.source.now (λ x. statements_view x) MOST_ROOM
     (λ ts. parse_script MOST_ROOM earlier ts) (lexed_view c.in_ok-lexed.lexed) (tokens_view c.as_slice.result.now)
-    (length c.args.source.now) c.script_of-read.result c.told.result (omega arith) (λ ts. reads_script earlier ts)
+    (length c.args.source.now) c.script_of-read.result c.tree_or_fault.result (omega arith) (λ ts. reads_script earlier ts)
     c.in_ok-lexed.ensures.tokens (ap (λ (ts : List lexer.Token). tokens_view ts) c.as_slice.ensures.value)
-    c.in_ok-lexed.ensures.short refl read c.script_of-read.ensures.height c.told.ensures
+    c.in_ok-lexed.ensures.short refl read c.script_of-read.ensures.height c.tree_or_fault.ensures
 
 pub returns-clause-placed : goal.returns-clause-placed
 returns-clause-placed c =
     told_placed statements_places c.args.source.now _ _ (lexed_view c.in_ok-lexed.lexed)
     (tokens_view c.as_slice.result.now) (length c.args.source.now)
-    c.script_of-read.result c.told.result c.in_ok-lexed.ensures.tokens
+    c.script_of-read.result c.tree_or_fault.result c.in_ok-lexed.ensures.tokens
     (ap (λ (ts : List lexer.Token). tokens_view ts) c.as_slice.ensures.value)
-    c.script_of-read.ensures.placed c.script_of-read.ensures.forward c.script_of-read.ensures.numbers c.told.ensures
+    c.script_of-read.ensures.placed c.script_of-read.ensures.forward c.script_of-read.ensures.numbers c.tree_or_fault.ensures

@@ -1,7 +1,7 @@
 use Rattle.std.proofs.Common.{rules, ◌≡◌, ◌≤◌, ◌+◌, ℕ, All, Bool, List, Option, length, map, sym, ap, subst, ◌∙◌, arith}
 use mathlib.Core.List.{map-map}
 use Rattle.std.proofs.lemmas.List.{length-map}
-use Rattle.cdp_edge.specs.Outside.{Told}
+use Rattle.cdp_edge.specs.Outside.{IfTold}
 use Rattle.cdp_edge_server.specs.Contents.{RisesAt, Tended, adds, any_fault, lowered, raised}
 use Rattle.ws_service.specs.Joins.{IsUnstarted}
 use Rattle.ws_service.specs.Serving.{IsEndOfDoors, IsServing, ServedDoor, numbers_below}
@@ -61,7 +61,7 @@ shut-requires g c =
     c.give_back.ensures.faults ∙ many in
     record {
       out =
-          subst (λ (z : Option ℕ × ℕ). Told z.0 (λ (out : ℕ). z.1 ≤ out))
+          subst (λ (z : Option ℕ × ℕ). IfTold z.0 (λ (out : ℕ). z.1 ≤ out))
           (λ i. (sym c.in_ok-doors.ensures.out i, (count ∙ sym all) i))
           (told-raised (g.P.Harbor.doors_out c.args.harbor.now) c.len-count.result);
     }

@@ -1,7 +1,7 @@
 use Rattle.std.proofs.Common.{◌≡◌, ◌++◌, List, take, drop, length, true, ap, sym, subst, ◌∙◌}
 use Rattle.cdp_host_isolation.specs.Seats.{is_attached, seat_of}
 use Rattle.cdp_host_isolation.specs.declared.seat.Seat.TheVariants.{Attached}
-use Rattle.cdp_session.specs.Replies.{Answer, answer_of}
+use Rattle.cdp_session.specs.Replies.{AnsweredText, answer_of}
 use Rattle.cdp_session.specs.Sessions.{Session}
 use Rattle.cdp_session.specs.Situations.{Situation}
 use Rattle.cdp_host.specs.Hosts.{AreLines, HostState, machine_standing, parts_standing}
@@ -29,7 +29,7 @@ invariant_of-self c =
     (λ o. is_attached (seat_of c.args.s o.meaning.seats) ≡ true) (sym c.self.view_is) c.requires in
     let it = whose (seat_of c.args.s a.seats.items) held in
     let rest = drop (length c.answer.new.seats) a.seats.items in
-    let answer : Answer = answer_of
+    let answer : AnsweredText = answer_of
     (record { scripts = a.scripts.now; paused = a.stop; standing = machine_standing a.scripts.now a.machine a.heap })
     it.0 c.args.text.now in
     let B : Situation → Type 0 = λ seen.
@@ -55,7 +55,7 @@ returns-clause-answers c =
     let rest = drop (length c.answer.new.seats) a.seats.items in
     let news = take a.seats.len (c.answer.new.seats ++ rest) in
     let f : Session
-    → Answer = λ x. answer_of
+    → AnsweredText = λ x. answer_of
     (record { scripts = a.scripts.now; paused = a.stop; standing = machine_standing a.scripts.now a.machine a.heap })
     x c.args.text.now in
     let A : HostState → Type 0 = λ o. (x : Session) → seat_of c.args.s o.meaning.seats ≡ Attached x

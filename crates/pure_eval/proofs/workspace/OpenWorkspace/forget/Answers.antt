@@ -1,0 +1,18 @@
+use Rattle.std.proofs.Common.{ap, ◌∙◌}
+use Rattle.pure_eval.specs.Workspaces.{OpenWorkspace}
+use Rattle.pure_eval.proofs.WorkspaceLemmas.{forgotten-is, forgotten-working}
+use Rattle.pure_eval.proofs.workspace.OpenWorkspace.forget.Goals as goal
+
+pub invariant_of-result : goal.invariant_of-result
+invariant_of-result c =
+    let w = c.self.inside in
+    forgotten-working w.evaluator c.cut.new.self w.scripts w.start w.mark w.base.now w.world w.cells w.count w.next
+    c.self.invariant c.cut.ensures.back
+
+pub returns : goal.returns
+returns c =
+    let w = c.self.inside in
+    forgotten-is w.evaluator c.cut.new.self w.scripts w.start w.mark w.base.now c.into_scratch-scratch.result
+    c.cut-2.new.self w.world w.cells w.count w.next c.self.invariant c.cut.ensures.back c.cut.ensures.names
+    c.into_scratch-scratch.ensures.space c.cut-2.ensures.space
+    ∙ ap (λ (o : OpenWorkspace). o.before) c.self.view_is
