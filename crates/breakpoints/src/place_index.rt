@@ -11,7 +11,7 @@ use std::collections::BTreeSet;
 use std::marker::Model;
 
 /// Places among which one is found in logarithmic time; most that aren't among them are known by one look. Contracts see their
-/// list.
+/// list. There may be more of them than breakpoints: `remove` leaves them until none is left.
 #[derive(Drop)]
 pub(crate) struct PlaceIndex {
     places: BTreeSet<Place>,

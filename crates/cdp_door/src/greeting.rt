@@ -1,4 +1,6 @@
 //! What a door does with a connection in bytes: it reads the head of a request, and nothing past it, and answers.
+//!
+//! The head is read anew with each byte, so that nothing after it is taken.
 
 ghost use Rattle.std.specs.Prelude.{◌≡◌, ◌≢◌};
 ghost use Rattle.cdp_edge.specs.Outside.{Rose};

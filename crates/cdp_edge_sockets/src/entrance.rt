@@ -1,4 +1,6 @@
 //! Where connections arrive, and what becomes of each.
+//!
+//! A stream that becomes a WebSocket takes what its thread waits with along, until `back` returns it.
 
 use crate::line::Connection;
 use crate::streams::prepare;

@@ -1,4 +1,7 @@
 //! How a connection begins and ends.
+//!
+//! It ends by `let_go`: the way out is shut first, and what still comes is read for a while, so that the peer gets all
+//! that it was sent.
 
 use crate::waits::WatchedSockets;
 use mio::net::TcpStream;
@@ -22,8 +25,7 @@ pub fn prepare(stream: net::TcpStream, waits: &WatchedSockets) -> io::Result<Tcp
     Ok(stream)
 }
 
-/// Ends a connection so that the peer reads what it was sent: the way out is shut, and what still comes is passed over
-/// for a while. Else the system would reset the connection, and what was sent last might be lost.
+/// Ends a connection so that the peer reads what it was sent. Else the system would reset the connection, and what was sent last might be lost.
 pub fn let_go(mut stream: TcpStream, waits: &mut WatchedSockets) {
     let _ = stream.shutdown(Shutdown::Write);
     pass_over(&mut stream, waits);

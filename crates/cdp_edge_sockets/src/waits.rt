@@ -1,4 +1,6 @@
 //! What one thread waits with, for its sockets or for a ring of the bell.
+//!
+//! A ring during a wait for the socket alone is kept for the next wait.
 
 use crate::deadline::Deadline;
 use mio::event::Source;

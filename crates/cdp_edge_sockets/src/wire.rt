@@ -1,4 +1,6 @@
 //! A wire over a stream that arrived.
+//!
+//! It reads ahead; what is left is the first that the WebSocket reads.
 
 ghost use Rattle.std.specs.Prelude.{◌≡◌, ◌≤◌, ◌<◌, None, length, IfOk};
 

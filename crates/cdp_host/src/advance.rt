@@ -1,4 +1,6 @@
 //! Steps of a program that a session may stop.
+//!
+//! The first step of a program that waited is a stretch of its own, since the start rule asks about it.
 
 ghost use Rattle.std.specs.Prelude.{◌≡◌, ◌++◌, ◌<◌, ◌≤◌, ◌^◌, ℕ, List, [], length, true, false, is_some, IfOk, IfSome, OnOk, None, Option, Some};
 ghost use Rattle.std.specs.Option.{option_map};

@@ -1,4 +1,7 @@
 //! The host and its calls, each of which is one entry of its history.
+//!
+//! A host has a machine and its heap where a run of the definitions holds all texts that were ever printed;
+//! `meaning_with host taken` is its meaning after the texts that were handed out.
 
 ghost use Rattle.std.specs.Prelude.{◌≡◌, ◌++◌, ◌∷◌, ◌+◌, ◌&&◌, ◌||◌, ◌<◌, ◌^◌, [], not, ℕ, List, Bool, IfOk, OnOk, OnErr, IsErr, map, length, string_bytes, true, false, nat_lt, Option, ◌⊎◌};
 ghost use Rattle.cdp_host_isolation.specs.Histories.{Entry, Attach, Tell, Take, Detach, Ran as RanEntry, Shut, asked, waiting, with_seat};

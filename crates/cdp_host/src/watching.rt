@@ -1,4 +1,7 @@
 //! How sessions watch the steps of a program.
+//!
+//! The first pass over the seats tells each session of the print and the end and asks it for a stop; the second tells all
+//! others of the stop. A session whose texts don't fit is lost where that shows, and names nothing there.
 
 ghost use Rattle.std.specs.Prelude.{◌≡◌, ◌<◌, ◌^◌, length, true, false, IfOk, OnOk, IsErrOf, None};
 ghost use Rattle.cdp_host_isolation.specs.Passes.{Behind, HearsOf, Over, Watches, any_set};

@@ -1,4 +1,6 @@
 //! The program that a session debugs, where it stands still.
+//!
+//! A session asks it through a trait: it stands beside the machine, not on it.
 
 use frames_scopes_types::CallFrame;
 use js_heap::value::{Addr, Value};

@@ -1,4 +1,10 @@
 //! The lock, its passes and turns.
+//!
+//! A thread whose ticket comes next looks a few times before it sleeps; any other sleeps at once on the berth of its
+//! ticket, which it marks first. The end of a turn looks for the mark on the next berth, so it wakes only the pass whose
+//! turn comes (with more than 64 waiting, also those that share the berth), and nobody where there is no mark. `split`
+//! and `join` load the ticket word once more than the lock needs: by it a pass learns that its number is unused, or how
+//! the two lists stand.
 ghost use Rattle.std.specs.Prelude.{◌≡◌, ◌≢◌, ◌≤◌, ◌<◌, ◌+◌, ◌++◌, ℕ, List, [], ◌∷◌, true, false, length, IfOk, IfErr, OnOk, OnErr, OnSome, IfSome, IfNone, Some, None, vec_len};
 ghost use Rattle.std.specs.Borrow.{Lends, sem};
 ghost use Rattle.history_lock.specs.Histories.{limit, has, by, longer, Begins};

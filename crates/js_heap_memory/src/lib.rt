@@ -1,5 +1,7 @@
 //! The memory of a fast machine: names as numbers of a table, under contracts that see their texts.
 //!
+//! A heap takes no cell with a name whose number its table lacks; it answers want of memory, which no run meets.
+//!
 //! Words of its own, which stand in `specs/`:
 //!
 //! - A table of names is a list of texts, and a name is the number of its text (`name_of`). `GoesOn` says that names were

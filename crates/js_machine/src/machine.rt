@@ -1,4 +1,6 @@
 //! The machine of a run.
+//!
+//! It holds neither scripts nor cells, so an evaluation runs over other cells by the same calls.
 
 ghost use Rattle.std.specs.Prelude.{◌≡◌, ◌-◌, ◌≤◌, ℕ, List, [], None, IfOk, IfSome, IfNone};
 ghost use Rattle.js_heap.specs.BuiltIns.{script_scope};

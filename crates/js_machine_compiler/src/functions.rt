@@ -1,4 +1,6 @@
 //! The index of a source's functions, by their nodes in it.
+//!
+//! The walk goes from the last part to the first, so that of functions with one number the first stands.
 
 ghost use Rattle.std.specs.Prelude.{◌≡◌, ◌+◌, ◌<◌, ℕ, OnOk, IfOk, length, nat_eq, if◌then◌else◌};
 ghost use Rattle.js_machine_nodes.specs.Trees.{IsTable};
@@ -70,7 +72,7 @@ fn put_function(table: &NodeTable, index: &mut Vec<u32>, node: Node) -> Result<(
     }
 }
 
-/// Puts the functions in the tree of a node. Of those with one number the first stands, since the last are put first.
+/// Puts the functions in the tree of a node.
 fn index_node(table: &NodeTable, index: &mut Vec<u32>, number: u32) -> Result<(), AllocError>
     requires table { IsTable table.now }
     requires places { HasPlaces table.now }

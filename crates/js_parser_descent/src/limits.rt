@@ -1,4 +1,6 @@
 //! How high trees may be, and how high they are read.
+//!
+//! Trees are read three levels deeper than a source may have, so that one only just too deep is told from a syntax fault.
 
 /// The greatest height that the tree of a source may have.
 pub const MOST_HEIGHT: u32 = 200;

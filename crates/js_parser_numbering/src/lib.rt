@@ -1,5 +1,7 @@
 //! The terms of trees without numbers: laws alone.
 //!
+//! They are needed since a parser's tree isn't a function of its text: boxes and vectors have addresses.
+//!
 //! Its words in contracts:
 //!
 //! - *numbered*: the nodes have the numbers 0, 1, .. in the order in which they end

@@ -1,5 +1,7 @@
 //! What a program means, step by step.
 //!
+//! A row is an action, and one definition performs every action, so what holds of every step is proved once.
+//!
 //! Words of its own, which stand in `specs/`:
 //!
 //! - `Term`: what is left of a program: a value (`done`), a throw that stands (`standing`), or a form with the parts that are reduced from

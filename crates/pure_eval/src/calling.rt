@@ -1,4 +1,6 @@
 //! The steps of a call, in any world.
+//!
+//! A step of a callee is one of the call around it, so the step that makes the function counts.
 
 ghost use Rattle.std.specs.Prelude.{◌≡◌, ℕ, List, true, Some, IfOk, OnOk};
 ghost use Rattle.js_heap.specs.BuiltIns.{script_scope};

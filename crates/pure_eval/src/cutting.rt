@@ -1,4 +1,6 @@
 //! Cutting a table back to where it was.
+//!
+//! Names that an evaluation brought stay, and come in again without a new one.
 
 ghost use Rattle.std.specs.Prelude.{List};
 ghost use Rattle.js_machine_nodes.specs.declared.node.SourceEntry.{SourceEntry};

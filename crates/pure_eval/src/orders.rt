@@ -72,6 +72,9 @@ fn end_in_order(
 
 /// What becomes of a source with its literals in its own order and in that of its term, whose code a table has with the
 /// entry of a call. After want of memory the session is given up.
+///
+/// Literals are made in the order of the source to name the count that a full scratch passes first, and in the order of
+/// the term to place them. They are made once, and the other order is looked at only where a count was passed.
 pub fn evaluate_in_order<T: Rows>(
     alloc: Global,
     table: &NodeTable,
