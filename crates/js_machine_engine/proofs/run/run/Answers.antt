@@ -8,7 +8,7 @@ loop-steps-init g c = record {
   run =
       runs-init c.args.names.now c.args.table.now c.args.root c.args.stack.now c.args.point.now
       (g.W.World.world c.args.names.now c.args.world.now) c.args.context.now c.requires.stands;
-  passed = λ taken. none-passed (g.H.Asks.stops c.args.host.now) _ _ _;
+  passed = λ taken. none-passed (g.H.StopTest.stops c.args.host.now) _ _ _;
   silent = λ taken. none-silent _ _ _;
 }
 
@@ -57,9 +57,9 @@ returns-then-is_stop g c =
           c.why_of.result y c.step-stepped.ensures.stands;
       within = omega (arith, c.loop-steps-test.true);
       counted = stop-counted c.step-stepped.result c.why_of.result c.loop-steps.steps c.args.most y;
-      asked = λ taken. stop-asked (g.H.Asks.stops c.args.host.now) c.step-stepped.result c.why_of.result _ y;
+      asked = λ taken. stop-asked (g.H.StopTest.stops c.args.host.now) c.step-stepped.result c.why_of.result _ y;
       passed =
-          λ taken. stop-passed (g.H.Asks.stops c.args.host.now)
+          λ taken. stop-passed (g.H.StopTest.stops c.args.host.now)
           c.step-stepped.result c.why_of.result c.loop-steps.steps _ _ _ y (i.passed taken);
       values =
           λ taken. stop-prints ts t c.args.root c.args.stack.now c.args.point.now w c.args.context.now
@@ -91,9 +91,9 @@ returns-then-stops_at g c =
       within = omega (arith, c.loop-steps-test.true);
       counted = omega arith;
       asked =
-          λ taken. asked-so (g.H.Asks.stops c.args.host.now) _ _ _ (n.runs taken) (c.stops_at.ensures ts x taken)
+          λ taken. asked-so (g.H.StopTest.stops c.args.host.now) _ _ _ (n.runs taken) (c.stops_at.ensures ts x taken)
           c.if-stops_at.true;
-      passed = λ taken. passed-but-last (g.H.Asks.stops c.args.host.now) c.loop-steps.steps _ _ _ (i.passed taken);
+      passed = λ taken. passed-but-last (g.H.StopTest.stops c.args.host.now) c.loop-steps.steps _ _ _ (i.passed taken);
       values =
           λ taken. next-silent ts t c.args.root c.args.stack.now c.args.point.now w c.args.context.now
           c.loop-steps.steps c.loop-steps.stack c.step-stepped.new.stack c.loop-steps.point c.step-stepped.new.point
@@ -119,8 +119,8 @@ loop-steps-preserved g c =
     record {
       run = n;
       passed =
-          λ taken. more-passed (g.H.Asks.stops c.args.host.now) c.loop-steps.steps _ _ _ (i.passed taken)
-          (asked-so (g.H.Asks.stops c.args.host.now) _ _ _ (n.runs taken) (c.stops_at.ensures ts x taken)
+          λ taken. more-passed (g.H.StopTest.stops c.args.host.now) c.loop-steps.steps _ _ _ (i.passed taken)
+          (asked-so (g.H.StopTest.stops c.args.host.now) _ _ _ (n.runs taken) (c.stops_at.ensures ts x taken)
           c.if-stops_at.false);
       silent =
           λ taken. more-silent c.loop-steps.steps _ _ _ (i.silent taken)

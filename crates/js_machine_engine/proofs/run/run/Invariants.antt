@@ -12,7 +12,7 @@ invariant-loop-steps g l = record {
   run : HasRun l.names l.table l.root l.fn.stack l.fn.point (g.W.World.world l.names l.fn.world)
       l.fn.context l.steps l.stack l.point (g.W.World.world l.names l.world) l.context;
   passed : (taken : List (List ℕ))
-      → HasPassed (g.H.Asks.stops l.host) l.steps (program_of l.names l.table) l.root
+      → HasPassed (g.H.StopTest.stops l.host) l.steps (program_of l.names l.table) l.root
       (run_of (term_at l.names l.table l.fn.stack l.fn.point)
       (state_of (g.W.World.world l.names l.fn.world) l.fn.context taken));
   silent : (taken : List (List ℕ))
