@@ -1,6 +1,6 @@
 -- The headline holds of each journal.
-use Rattle.std.proofs.Common.{◌≡◌, ℕ, zero, suc, ◌+◌, ◌<◌, ◌^◌, codes, decimal, List, [], ◌∷◌, ◌++◌, map, Bool, true, false, ◌==◌, Option, Some, None, refl, ap, sym, ◌∙◌, append_assoc, append-nil, if◌then◌else◌}
-use Rattle.std.specs.List.{fold}
+use Rattle.std.proofs.Common.{◌≡◌, ℕ, zero, suc, ◌+◌, ◌<◌, ◌^◌, codes, decimal, List, [], ◌∷◌, ◌++◌, length, map, Bool, true, false, ◌==◌, Option, Some, None, refl, ap, sym, ◌∙◌, append_assoc, append-nil, arith, if◌then◌else◌}
+use Rattle.std.specs.List.{fold, list_all}
 use Rattle.std.specs.Option.{option_map_or, option_and_then}
 use Rattle.std.proofs.lemmas.Bool.{eqb-true, eqb-false}
 use Rattle.std.proofs.lemmas.List.{map-append}
@@ -9,7 +9,7 @@ use Rattle.cdp_text.specs.Lines.{lines_of}
 use Rattle.cdp_host_isolation.specs.Histories.{Entry, Attach, Tell, Take, Detach, Ran, Shut, FitsAll, FitsEntry, handed_at, handed_of, steps_made, steps_of, waiting}
 use Rattle.cdp_host_isolation.specs.Meanings.{after_run, after_steps, is_named, is_paused, longest, waits}
 use Rattle.cdp_host_isolation.specs.Protocols.{Protocol}
-use Rattle.cdp_host_isolation.specs.Seats.{is_attached, seat_of}
+use Rattle.cdp_host_isolation.specs.Seats.{is_attached, numbers_from, seat_of}
 use Rattle.cdp_host_isolation.specs.Stops.{IsPausedWell}
 use Rattle.cdp_host_isolation.specs.Texts.{Keeps}
 use Rattle.cdp_host_isolation.specs.declared.seat.Seat.{Seat}
@@ -18,7 +18,7 @@ use Rattle.cdp_host_isolation.proofs.AloneLemmas.{alone}
 use Rattle.cdp_host_isolation.proofs.LongerLemmas.{call-program}
 use Rattle.cdp_host_isolation.proofs.MadeLemmas.{longest-exact}
 use Rattle.cdp_host_isolation.proofs.StopLemmas.{entry-program, paused-well, paused-well-from, stops-exactly}
-use Rattle.cdp_host_isolation.proofs.TextLemmas.{in-order}
+use Rattle.cdp_host_isolation.proofs.TextLemmas.{append-length, detach-length, in-order, ran-length, take-length, tell-length}
 use Rattle.js_tree.specs.declared.script.Script.{Script}
 use Rattle.js_semantics.specs.Laws.{IsPrefix}
 use Rattle.js_semantics.specs.Run.{Run as Program}
@@ -37,12 +37,12 @@ use Rattle.cdp_journal.specs.Lines as lines
 use Rattle.cdp_journal.specs.Lines.{IsInForm, line_of}
 use Rattle.debug_host_commands.specs.Journal.{entry_at, entry_of, entries, is_there}
 use Rattle.debug_host_commands.specs.Output.{Output, Attached, To, Out, Overran, RanTo, overrun_at, overruns, printed_at, state_name, output_at, output_of, output_bytes}
-use Rattle.debug_host_commands.specs.Headline.{Headline}
-use Rattle.debug_host_commands.specs.Shown.{to_front, is_stopped, is_waiting, losses_at, losses_of, ran_state, ran_at, ran_texts, texts_to, waiting_to}
+use Rattle.debug_host_commands.specs.Headline.{Headline, is_of_a_kind}
+use Rattle.debug_host_commands.specs.Shown.{attached_at, attached_by, to_front, is_stopped, is_waiting, losses_at, losses_of, ran_state, ran_at, ran_texts, texts_to, waiting_to}
 use Rattle.cdp_journal.proofs.LineLemmas.{choice-some, line-some}
 use Rattle.debug_host_commands.proofs.PausedLemmas.{names-enabled, rest-paused, run-paused, run-phase, run-shut}
 use Rattle.debug_host_commands.proofs.PlainLemmas.{apply-plain, run-prints, steps-plain}
-use Rattle.debug_host_commands.proofs.ShownLemmas.{out_texts, to_of, ran_of, lost_of, shown, lines-one, out-each, ran-each, lost-each, to-each, to-own, to-others, to_of-append, to-printed, ran-append, ran-printed, ran-sent, lost-append, lost-printed, lost-sent, lost-out, lost-ran, lost-to, lost-told}
+use Rattle.debug_host_commands.proofs.ShownLemmas.{attached_of, attached-each, attached-append, attached-printed, attached-sent, lost-attached, of-a-kind, out_texts, to_of, ran_of, lost_of, shown, lines-one, out-each, ran-each, lost-each, to-each, to-own, to-others, to_of-append, to-printed, ran-append, ran-printed, ran-sent, lost-append, lost-printed, lost-sent, lost-out, lost-ran, lost-to, lost-told}
 
 -- ---- what was printed
 
@@ -282,6 +282,61 @@ ran-all (entry ∷ history) scripts input made m is well of =
     (apply-plain scripts input made m entry is)
     (paused-well-from (protocol scripts) m (entry ∷ []) (enabled-kept scripts) well) of.1)
 
+-- ---- which sessions are attached
+
+attached-overrun : (b : Bool) (s : ℕ) → attached_of (if b then Overran s ∷ [] else []) ≡ []
+attached-overrun true s = refl
+attached-overrun false s = refl
+
+-- the seats that there are after an entry, and the numbers that its lines tell
+record Attaches (scripts : List Script) (m : Meaning Program) (entry : Entry) : Type 0 where
+  seats : length (apply scripts m entry).seats ≡ attached_at entry + length m.seats
+  told : attached_of (output_at scripts m entry) ≡ numbers_from (length m.seats + 1) (attached_at entry)
+
+attaches : (scripts : List Script) (m : Meaning Program) (entry : Entry) → Attaches scripts m entry
+attaches scripts m Attach = record { seats = append-length _ m.seats; told = refl }
+attaches scripts m (Tell s text) =
+    record {
+      seats = tell-length (protocol scripts) s text m _;
+      told = attached-overrun (overruns scripts m text (seat_of s m.seats)) s;
+    }
+attaches scripts m (Take s) =
+    record {
+      seats = take-length (protocol scripts) s m _;
+      told = attached-sent s (waiting (protocol scripts) (seat_of s m.seats));
+    }
+attaches scripts m (Detach s) = record { seats = detach-length (protocol scripts) s m _; told = refl }
+attaches scripts m (Ran n moment gone) =
+    let printed : List (List ℕ) = printed_at scripts moment gone n m in
+    let lost : List ℕ = overrun_at scripts moment gone n m in
+    let last : List Output = RanTo n (state_of (apply scripts m (Ran n moment gone))) ∷ [] in
+    record {
+      seats = ran-length (protocol scripts) n moment gone m;
+      told =
+          attached-append (map Out printed) (map Overran lost ++ last)
+          ∙ ap (λ xs. xs ++ attached_of (map Overran lost ++ last)) (attached-printed printed)
+          ∙ lost-attached lost last;
+    }
+attaches scripts m Shut = record { seats = refl; told = refl }
+
+numbers-on : (s k n : ℕ) → numbers_from s k ++ numbers_from (k + s) n ≡ numbers_from s (k + n)
+numbers-on s zero n = refl
+numbers-on s (suc k) n =
+    ap (λ t. s ∷ (numbers_from (s + 1) k ++ numbers_from t n)) (omega arith) ∙ ap (λ rest. s ∷ rest) (numbers-on (s + 1) k n)
+
+attached-all : (history : List Entry) (scripts : List Script) (m : Meaning Program)
+    → attached_of (output_of scripts m history) ≡ numbers_from (length m.seats + 1) (attached_by history)
+attached-all [] scripts m = refl
+attached-all (entry ∷ history) scripts m =
+    let here = attaches scripts m entry in
+    let many = here.seats in
+    attached-append (output_at scripts m entry) (output_of scripts (apply scripts m entry) history)
+    ∙ ap (λ xs. xs ++ attached_of (output_of scripts (apply scripts m entry) history)) here.told
+    ∙ ap (λ xs. numbers_from (length m.seats + 1) (attached_at entry) ++ xs)
+    (attached-all history scripts (apply scripts m entry)
+    ∙ ap (λ s. numbers_from s (attached_by history)) (omega (arith, many)))
+    ∙ numbers-on (length m.seats + 1) (attached_at entry) (attached_by history)
+
 -- ---- which sessions are lost
 
 lost-overrun : (b : Bool) (s : ℕ) → lost_of (if b then Overran s ∷ [] else []) ≡ (if b then s ∷ [] else [])
@@ -466,5 +521,12 @@ headline-of lines scripts input wait =
             ap (behind_each (codes "overrun ")) cut
             ∙ lost-each shows
             ∙ ap (map decimal) (lost-all history scripts first);
+      };
+      rest = record {
+        attached =
+            ap (behind_each (codes "attached ")) cut
+            ∙ attached-each shows
+            ∙ ap (map decimal) (attached-all history scripts first);
+        kinds = ap (list_all is_of_a_kind) cut ∙ of-a-kind shows;
       };
     }

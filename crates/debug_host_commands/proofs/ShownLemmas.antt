@@ -1,5 +1,6 @@
 -- The bytes of the output determine its lines, and a line its kind, its numbers and its text.
 use Rattle.std.proofs.Common.{◌≡◌, ◌≢◌, ℕ, ◌<◌, ◌^◌, List, [], ◌∷◌, ◌++◌, map, true, ◌==◌, Option, Some, None, option_to_list, refl, ap, sym, ◌∙◌, append_assoc, arith, codes, decimal}
+use Rattle.std.specs.List.{list_all}
 use Rattle.std.proofs.lemmas.Bool.{and_parts, not-true}
 use Rattle.std.proofs.lemmas.Fmt.{decimal_injective}
 use Rattle.std.proofs.lemmas.Option.{same_Some}
@@ -11,6 +12,7 @@ use Rattle.cdp_journal.specs.Escapes.{escaped, printed_escaped}
 use Rattle.cdp_journal.specs.Fronts.{behind_each}
 use Rattle.cdp_text.specs.Units.{utf8_of}
 use Rattle.cdp_journal.proofs.OneLineLemmas.{is_other, is_one_line, are_one_line, one-append, decimal-one, escaped-one}
+use Rattle.debug_host_commands.specs.Headline.{is_of_a_kind}
 use Rattle.debug_host_commands.specs.Shown.{to_front}
 use Rattle.debug_host_commands.specs.Output.{Output, Attached, To, Out, Overran, RanTo, state_name, output_text, output_bytes}
 
@@ -136,6 +138,33 @@ lost-each (Out n ∷ lines) = lost-each lines
 lost-each (Overran s ∷ lines) = ap (λ rest. decimal s ∷ rest) (lost-each lines)
 lost-each (RanTo steps state ∷ lines) = lost-each lines
 
+-- the sessions that the lines tell as attached
+abbrev pub attached_of : List Output → List ℕ
+attached_of [] = []
+attached_of (Attached s ∷ lines) = s ∷ attached_of lines
+attached_of (To s text ∷ lines) = attached_of lines
+attached_of (Out n ∷ lines) = attached_of lines
+attached_of (Overran s ∷ lines) = attached_of lines
+attached_of (RanTo steps state ∷ lines) = attached_of lines
+
+pub attached-each : (lines : List Output)
+    → behind_each (codes "attached ") (map output_line lines) ≡ map decimal (attached_of lines)
+attached-each [] = refl
+attached-each (Attached s ∷ lines) = ap (λ rest. decimal s ∷ rest) (attached-each lines)
+attached-each (To s text ∷ lines) = attached-each lines
+attached-each (Out n ∷ lines) = attached-each lines
+attached-each (Overran s ∷ lines) = attached-each lines
+attached-each (RanTo steps state ∷ lines) = attached-each lines
+
+-- each line is of one of the five kinds
+pub of-a-kind : (lines : List Output) → list_all is_of_a_kind (map output_line lines) ≡ true
+of-a-kind [] = refl
+of-a-kind (Attached s ∷ lines) = of-a-kind lines
+of-a-kind (To s text ∷ lines) = of-a-kind lines
+of-a-kind (Out n ∷ lines) = of-a-kind lines
+of-a-kind (Overran s ∷ lines) = of-a-kind lines
+of-a-kind (RanTo steps state ∷ lines) = of-a-kind lines
+
 -- the texts that the lines send to this session
 abbrev pub to_of : ℕ → List Output → List (List ℕ)
 to_of s [] = []
@@ -221,6 +250,22 @@ pub ran-sent : (s : ℕ) (texts : List (List ℕ)) → ran_of (map (To s) texts)
 ran-sent s [] = refl
 ran-sent s (text ∷ texts) = ran-sent s texts
 
+pub attached-append : (xs ys : List Output) → attached_of (xs ++ ys) ≡ attached_of xs ++ attached_of ys
+attached-append [] ys = refl
+attached-append (Attached s ∷ xs) ys = ap (λ rest. s ∷ rest) (attached-append xs ys)
+attached-append (To s text ∷ xs) ys = attached-append xs ys
+attached-append (Out n ∷ xs) ys = attached-append xs ys
+attached-append (Overran s ∷ xs) ys = attached-append xs ys
+attached-append (RanTo steps state ∷ xs) ys = attached-append xs ys
+
+pub attached-printed : (xs : List (List ℕ)) → attached_of (map Out xs) ≡ []
+attached-printed [] = refl
+attached-printed (x ∷ xs) = attached-printed xs
+
+pub attached-sent : (s : ℕ) (texts : List (List ℕ)) → attached_of (map (To s) texts) ≡ []
+attached-sent s [] = refl
+attached-sent s (text ∷ texts) = attached-sent s texts
+
 pub lost-append : (xs ys : List Output) → lost_of (xs ++ ys) ≡ lost_of xs ++ lost_of ys
 lost-append [] ys = refl
 lost-append (Attached s ∷ xs) ys = lost-append xs ys
@@ -249,6 +294,11 @@ lost-ran (s ∷ lost) lines = lost-ran lost lines
 pub lost-to : (s : ℕ) (lost : List ℕ) (lines : List Output) → to_of s (map Overran lost ++ lines) ≡ to_of s lines
 lost-to s [] lines = refl
 lost-to s (n ∷ lost) lines = lost-to s lost lines
+
+pub lost-attached : (lost : List ℕ) (lines : List Output)
+    → attached_of (map Overran lost ++ lines) ≡ attached_of lines
+lost-attached [] lines = refl
+lost-attached (s ∷ lost) lines = lost-attached lost lines
 
 pub lost-told : (lost : List ℕ) (lines : List Output) → lost_of (map Overran lost ++ lines) ≡ lost ++ lost_of lines
 lost-told [] lines = refl

@@ -1,9 +1,12 @@
 -- What debugging leaves of a run: the program prints what it prints without a debugger; it stops at exactly the steps
 -- that the rules of its sessions or the start rule name; and each session is sent exactly what a host with no other
 -- session sends it, given the program's steps, stops and resumes.
-use Rattle.std.specs.Prelude.{◌≡◌, ◌<◌, ◌^◌, ℕ, List, ◌++◌, map, Bool, true, codes, decimal}
+use Rattle.std.specs.Prelude.{◌≡◌, ◌<◌, ◌^◌, ℕ, List, [], ◌∷◌, ◌++◌, map, Bool, true, is_some, codes, decimal}
+use Rattle.std.specs.List.{list_all, list_any}
 use Rattle.cdp_text.specs.Lines.{lines_of}
+use Rattle.cdp_text.specs.Parts.{behind}
 use Rattle.cdp_host_isolation.specs.Histories.{Entry, steps_made}
+use Rattle.cdp_host_isolation.specs.Seats.{numbers_from}
 use Rattle.cdp_host_isolation.specs.Stops.{AllStopExactly}
 use Rattle.js_tree.specs.declared.script.Script.{Script}
 use Rattle.js_semantics.specs.Laws.{IsPrefix}
@@ -14,7 +17,7 @@ use Rattle.cdp_host.specs.Rules.{PrintsAsPlain}
 use Rattle.cdp_journal.specs.Escapes.{escaped, printed_escaped}
 use Rattle.cdp_journal.specs.Fronts.{behind_each}
 use Rattle.debug_host_commands.specs.Journal.{is_there}
-use Rattle.debug_host_commands.specs.Shown.{losses_of, ran_texts, texts_to, to_front, waiting_to}
+use Rattle.debug_host_commands.specs.Shown.{attached_by, losses_of, ran_texts, texts_to, to_front, waiting_to}
 
 -- ---- its output, cut into lines
 
@@ -64,9 +67,23 @@ pub record SendsAsAlone (scripts : List Script) (input : List (List ℕ)) (wait 
   pub losses : behind_each (codes "overrun ") (lines_of output) ≡ map decimal
       (losses_of scripts (begin scripts input wait) history)
 
+-- how a line may begin
+abbrev pub fronts : List (List ℕ)
+fronts = codes "attached " ∷ codes "to " ∷ codes "out " ∷ codes "overrun " ∷ codes "ran " ∷ []
+
+-- a line begins in one of these ways
+abbrev pub is_of_a_kind : List ℕ → Bool
+is_of_a_kind line = list_any (λ front. is_some (behind front line)) fronts
+
+-- it tells nothing else but the numbers of the sessions, which count from 1
+pub record TellsNothingElse (history : List Entry) (output : List ℕ) : Type 0 where
+  pub attached : behind_each (codes "attached ") (lines_of output) ≡ map decimal (numbers_from 1 (attached_by history))
+  pub kinds : list_all is_of_a_kind (lines_of output) ≡ true
+
 -- what holds of the output of a history of these scripts with their input, where they may be to wait
 pub record Headline (scripts : List Script) (input : List (List ℕ)) (wait : Bool) (history : List Entry)
     (output : List ℕ) : Type 0 where
   pub prints : PrintsPlainly scripts input history output
   pub stops : StopsWhereNamed scripts input wait history output
   pub sends : SendsAsAlone scripts input wait history output
+  pub rest : TellsNothingElse history output

@@ -12,6 +12,20 @@ use Rattle.cdp_host.specs.Programs.{plain, is_over, has_thrown, start}
 use Rattle.cdp_host.specs.Protocols.{protocol, texts}
 use Rattle.debug_host_commands.specs.Output.{overrun_at, overruns}
 
+-- how many sessions an entry attaches
+abbrev pub attached_at : Entry → ℕ
+attached_at Attach = 1
+attached_at (Tell s text) = 0
+attached_at (Take s) = 0
+attached_at (Detach s) = 0
+attached_at (Ran n moment gone) = 0
+attached_at Shut = 0
+
+-- how many a history attaches
+abbrev pub attached_by : List Entry → ℕ
+attached_by [] = 0
+attached_by (entry ∷ history) = attached_at entry + attached_by history
+
 -- what begins a line with a text that this session is sent
 abbrev pub to_front : ℕ → List ℕ
 to_front s = codes "to " ++ (decimal s ++ 32 ∷ [])
