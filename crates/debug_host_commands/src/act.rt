@@ -4,6 +4,7 @@ ghost use Rattle.std.specs.Prelude.{◌≡◌, ◌<◌, ◌^◌, ℕ, List, [], 
 ghost use Rattle.std.specs.Option.{option_map};
 ghost use Rattle.cdp_host_isolation.specs.Histories.{Entry};
 ghost use Rattle.cdp_host_isolation.specs.Seats.{is_attached, seat_of};
+ghost use Rattle.cdp_host_isolation.specs.Standing.{fell};
 ghost use Rattle.js_tree.specs.declared.script.Script.{Script};
 ghost use Rattle.cdp_host_seats.specs.Losses.{is_for_memory};
 ghost use Rattle.cdp_host.specs.Histories.{whole};
@@ -43,28 +44,38 @@ pub(crate) fn act(
         Line::Tell(session, text) => tell(alloc, host, session, &text),
         Line::Take(session) => take(alloc, host, session),
         Line::Detach(session) => detach(alloc, host, session),
-        Line::Run(most, moment) => run(alloc, host, most, moment),
+        Line::Run(most, moment) => run_program(alloc, host, most, moment),
         Line::Shut => shut(alloc, host),
     }
 }
 
-/// Whether a session is attached, for the host and for the history for which it stands.
-///
-/// # Errors
-///
-/// The session was lost for want of memory, and no run has told of that.
-fn is_there(host: &Host, session: u64) -> Result<bool, AllocError>
+/// Where the session is that a line names.
+#[derive(Clone, Copy)]
+enum Presence {
+    /// It is attached.
+    Attached,
+    /// It isn't attached: the line is refused.
+    Absent,
+    /// It was lost for want of memory, and no run has told of that: for the history it is still attached.
+    Fallen,
+}
+
+/// Where a session is, for the host and for the history for which it stands.
+fn presence_of(host: &Host, session: u64) -> Presence
     requires { host.now.broken ≡ false }
-    ensures held { IfOk result (λ there. there ≡ is_attached (seat_of session host.now.meaning.seats)) }
-    ensures meant { IfOk result (λ there. (scripts : List Script) (input : List (List ℕ)) (wait : Bool) (history : List Entry) → StandsFor scripts input wait host.now history
-        → there ≡ is_there (whole scripts input wait history) session) }
+    ensures held { result ≡ Presence.Attached → is_attached (seat_of session host.now.meaning.seats) ≡ true }
+    ensures attached { result ≡ Presence.Attached → (scripts : List Script) (input : List (List ℕ)) (wait : Bool) (history : List Entry) → StandsFor scripts input wait host.now history
+        → is_there (whole scripts input wait history) session ≡ true }
+    ensures absent { result ≡ Presence.Absent → (scripts : List Script) (input : List (List ℕ)) (wait : Bool) (history : List Entry) → StandsFor scripts input wait host.now history
+        → is_there (whole scripts input wait history) session ≡ false }
+    ensures fallen { result ≡ Presence.Fallen → fell (seat_of session host.now.meaning.seats) ≡ true }
 {
     if host.attached(session) {
-        Ok(true)
+        Presence::Attached
     } else if host.fell(session) {
-        Err(AllocError)
+        Presence::Fallen
     } else {
-        Ok(false)
+        Presence::Absent
     }
 }
 
@@ -92,16 +103,17 @@ fn tell(
     ensures acts { IfOk result (λ lines. (scripts : List Script) (input : List (List ℕ)) (wait : Bool) (history : List Entry) → StandsFor scripts input wait host.old history
         → Acts scripts input wait history (entry_at scripts (whole scripts input wait history) (Tell session text.now)) (option_map (λ all. map string_bytes all.items) lines) host.new) }
 {
-    if !is_there(host, session)? {
-        return Ok(None);
-    }
-    match host.tell(session, text) {
-        Told::Kept => Ok(Some(Vec::new(alloc))),
-        Told::Overrun => {
-            let line = overrun_line(alloc, session)?;
-            Ok(Some(vec![in alloc; line]?))
-        }
-        Told::Memory => Err(AllocError),
+    match presence_of(host, session) {
+        Presence::Attached => match host.tell(session, text) {
+            Told::Kept => Ok(Some(Vec::new(alloc))),
+            Told::Overrun => {
+                let line = overrun_line(alloc, session)?;
+                Ok(Some(vec![in alloc; line]?))
+            }
+            Told::Memory => Err(AllocError),
+        },
+        Presence::Absent => Ok(None),
+        Presence::Fallen => Err(AllocError),
     }
 }
 
@@ -112,11 +124,14 @@ fn take(alloc: Global, host: &mut Host, session: u64) -> Result<Option<Vec<Strin
     ensures acts { IfOk result (λ lines. (scripts : List Script) (input : List (List ℕ)) (wait : Bool) (history : List Entry) → StandsFor scripts input wait host.old history
         → Acts scripts input wait history (entry_at scripts (whole scripts input wait history) (Take session)) (option_map (λ all. map string_bytes all.items) lines) host.new) }
 {
-    if !is_there(host, session)? {
-        return Ok(None);
+    match presence_of(host, session) {
+        Presence::Attached => {
+            let texts = host.take(session);
+            Ok(Some(sent_lines(alloc, session, &texts)?))
+        }
+        Presence::Absent => Ok(None),
+        Presence::Fallen => Err(AllocError),
     }
-    let texts = host.take(session);
-    Ok(Some(sent_lines(alloc, session, &texts)?))
 }
 
 /// Detaches a session.
@@ -126,11 +141,14 @@ fn detach(alloc: Global, host: &mut Host, session: u64) -> Result<Option<Vec<Str
     ensures acts { IfOk result (λ lines. (scripts : List Script) (input : List (List ℕ)) (wait : Bool) (history : List Entry) → StandsFor scripts input wait host.old history
         → Acts scripts input wait history (entry_at scripts (whole scripts input wait history) (Detach session)) (option_map (λ all. map string_bytes all.items) lines) host.new) }
 {
-    if !is_there(host, session)? {
-        return Ok(None);
+    match presence_of(host, session) {
+        Presence::Attached => {
+            host.detach(session);
+            Ok(Some(Vec::new(alloc)))
+        }
+        Presence::Absent => Ok(None),
+        Presence::Fallen => Err(AllocError),
     }
-    host.detach(session);
-    Ok(Some(Vec::new(alloc)))
 }
 
 /// Whether one of these sessions was lost for want of memory.
@@ -156,7 +174,7 @@ fn is_for_memory(loss: Loss) -> bool
 }
 
 /// Runs the program at a moment.
-fn run(
+fn run_program(
     alloc: Global,
     host: &mut Host,
     most: u64,

@@ -10,4 +10,4 @@ pub returns-in-Detach-clause-acts : goal.returns-in-Detach-clause-acts
 returns-in-Detach-clause-acts c = rw c.in-Detach.is c.detach.ensures.acts
 
 pub returns-in-Run-clause-acts : goal.returns-in-Run-clause-acts
-returns-in-Run-clause-acts c = rw c.in-Run.is c.run.ensures.acts
+returns-in-Run-clause-acts c = rw c.in-Run.is c.run_program.ensures.acts

@@ -3,7 +3,7 @@ use Rattle.std.proofs.lemmas.List.{map-append}
 use Rattle.cdp_host_turns.specs.Entries.{lost_for_memory}
 use Rattle.debug_host_commands.specs.Output.{Out, Overran, output_text, overrun_in}
 use Rattle.debug_host_commands.proofs.ActLemmas.{run-done, run-texts}
-use Rattle.debug_host_commands.proofs.act.run.Goals as goal
+use Rattle.debug_host_commands.proofs.act.run_program.Goals as goal
 
 pub returns-clause-acts : goal.returns-clause-acts
 returns-clause-acts c =
