@@ -288,41 +288,56 @@ attached-overrun : (b : Bool) (s : ℕ) → attached_of (if b then Overran s ∷
 attached-overrun true s = refl
 attached-overrun false s = refl
 
+none-more : {a b : ℕ} → a ≡ b → a ≡ b + 0
+none-more is = omega (arith, is)
+
+one-more : {a b : ℕ} → a ≡ suc b → a ≡ b + 1
+one-more is = omega (arith, is)
+
 -- the seats that there are after an entry, and the numbers that its lines tell
 record Attaches (scripts : List Script) (m : Meaning Program) (entry : Entry) : Type 0 where
-  seats : length (apply scripts m entry).seats ≡ attached_at entry + length m.seats
+  seats : length (apply scripts m entry).seats ≡ length m.seats + attached_at entry
   told : attached_of (output_at scripts m entry) ≡ numbers_from (length m.seats + 1) (attached_at entry)
 
 attaches : (scripts : List Script) (m : Meaning Program) (entry : Entry) → Attaches scripts m entry
-attaches scripts m Attach = record { seats = append-length _ m.seats; told = refl }
+attaches scripts m Attach = record { seats = one-more (append-length _ m.seats); told = refl }
 attaches scripts m (Tell s text) =
     record {
-      seats = tell-length (protocol scripts) s text m _;
+      seats = none-more (tell-length (protocol scripts) s text m _);
       told = attached-overrun (overruns scripts m text (seat_of s m.seats)) s;
     }
 attaches scripts m (Take s) =
     record {
-      seats = take-length (protocol scripts) s m _;
+      seats = none-more (take-length (protocol scripts) s m _);
       told = attached-sent s (waiting (protocol scripts) (seat_of s m.seats));
     }
-attaches scripts m (Detach s) = record { seats = detach-length (protocol scripts) s m _; told = refl }
+attaches scripts m (Detach s) = record { seats = none-more (detach-length (protocol scripts) s m _); told = refl }
 attaches scripts m (Ran n moment gone) =
     let printed : List (List ℕ) = printed_at scripts moment gone n m in
     let lost : List ℕ = overrun_at scripts moment gone n m in
     let last : List Output = RanTo n (state_of (apply scripts m (Ran n moment gone))) ∷ [] in
     record {
-      seats = ran-length (protocol scripts) n moment gone m;
+      seats = none-more (ran-length (protocol scripts) n moment gone m);
       told =
           attached-append (map Out printed) (map Overran lost ++ last)
           ∙ ap (λ xs. xs ++ attached_of (map Overran lost ++ last)) (attached-printed printed)
           ∙ lost-attached lost last;
     }
-attaches scripts m Shut = record { seats = refl; told = refl }
+attaches scripts m Shut = record { seats = none-more refl; told = refl }
 
-numbers-on : (s k n : ℕ) → numbers_from s k ++ numbers_from (k + s) n ≡ numbers_from s (k + n)
-numbers-on s zero n = refl
+numbers-on : (s k n : ℕ) → numbers_from s k ++ numbers_from (s + k) n ≡ numbers_from s (n + k)
+numbers-on s zero n =
+    let low : s + 0 ≡ s = omega arith in
+    let many : n ≡ n + 0 = omega arith in ap (λ t. numbers_from t n) low ∙ ap (numbers_from s) many
 numbers-on s (suc k) n =
-    ap (λ t. s ∷ (numbers_from (s + 1) k ++ numbers_from t n)) (omega arith) ∙ ap (λ rest. s ∷ rest) (numbers-on (s + 1) k n)
+    let next : s + suc k ≡ s + 1 + k = omega arith in
+    let many : suc (n + k) ≡ n + suc k = omega arith in
+    ap (λ t. s ∷ (numbers_from (s + 1) k ++ numbers_from t n)) next
+    ∙ ap (λ rest. s ∷ rest) (numbers-on (s + 1) k n)
+    ∙ ap (numbers_from s) many
+
+turned : (a b : ℕ) → a + b ≡ b + a
+turned a b = omega arith
 
 attached-all : (history : List Entry) (scripts : List Script) (m : Meaning Program)
     → attached_of (output_of scripts m history) ≡ numbers_from (length m.seats + 1) (attached_by history)
@@ -330,12 +345,14 @@ attached-all [] scripts m = refl
 attached-all (entry ∷ history) scripts m =
     let here = attaches scripts m entry in
     let many = here.seats in
+    let next : length (apply scripts m entry).seats + 1 ≡ length m.seats + 1 + attached_at entry = omega (arith, many) in
     attached-append (output_at scripts m entry) (output_of scripts (apply scripts m entry) history)
     ∙ ap (λ xs. xs ++ attached_of (output_of scripts (apply scripts m entry) history)) here.told
     ∙ ap (λ xs. numbers_from (length m.seats + 1) (attached_at entry) ++ xs)
     (attached-all history scripts (apply scripts m entry)
-    ∙ ap (λ s. numbers_from s (attached_by history)) (omega (arith, many)))
+    ∙ ap (λ s. numbers_from s (attached_by history)) next)
     ∙ numbers-on (length m.seats + 1) (attached_at entry) (attached_by history)
+    ∙ ap (numbers_from (length m.seats + 1)) (turned (attached_by history) (attached_at entry))
 
 -- ---- which sessions are lost
 
