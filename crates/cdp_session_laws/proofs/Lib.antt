@@ -1,0 +1,14 @@
+pub mod GrowLemmas
+pub mod DescriptionLemmas
+pub mod EvaluatingLemmas
+pub mod RowLemmas
+pub mod EventLemmas
+pub mod IdLemmas
+pub mod LifeLemmas
+pub mod ListingLemmas
+pub mod TruthLemmas
+pub mod ReceiverLemmas
+pub mod CellLemmas
+pub mod GroupLemmas
+pub mod NamingLemmas
+pub mod ResultLemmas

@@ -1,0 +1,10 @@
+pub mod Events
+pub mod Handles
+pub mod Unknown
+pub mod Cells
+pub mod Effects
+pub mod Members
+pub mod Listing
+pub mod Truth
+pub mod Replying
+pub mod Naming
