@@ -1,0 +1,13 @@
+pub mod Entries
+pub mod StopsMade
+pub mod Identity
+pub mod Events
+pub mod Exceptions
+pub mod Commands
+pub mod Naming
+pub mod Quiet
+pub mod Stopping
+pub mod Words
+pub mod Starting
+pub mod Leaving
+pub mod Tops
