@@ -1,3 +1,5 @@
+mod HeldLemmas
+mod LifeLaws
 mod SeenLemmas
 mod StopNumberLemmas
 mod GrowthLemmas

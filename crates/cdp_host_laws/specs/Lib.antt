@@ -11,3 +11,4 @@ pub mod Words
 pub mod Starting
 pub mod Leaving
 pub mod Tops
+pub mod Lives

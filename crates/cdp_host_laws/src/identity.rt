@@ -8,6 +8,7 @@ ghost use Rattle.cdp_host_isolation.specs.declared.seat.Seat.TheVariants.{Attach
 ghost use Rattle.js_tree.specs.declared.script.Script.{Script};
 ghost use Rattle.cdp_session.specs.Sessions.{Session};
 ghost use Rattle.cdp_host.specs.Histories.{IsHistory, whole};
+ghost use Rattle.cdp_host_laws.specs.Lives.{HasLived};
 ghost use Rattle.cdp_host_laws.specs.Identity.{number_of_stop, stops_of};
 ghost use Rattle.cdp_host_laws.specs.StopsMade.{IsLast};
 
@@ -16,6 +17,14 @@ pub fn a_session_has_the_number_of_its_seat()
     ensures { (scripts : List Script) (input : List (List ℕ)) (wait : Bool) (s : ℕ) (history : List Entry)
         (x : Session) → IsHistory scripts input wait history
         → seat_of s (whole scripts input wait history).seats ≡ Attached x → x.number ≡ s }
+{}
+
+/// An attached session became what it is by the events of one session alone, from the text that it told first to the
+/// last taking of its texts: so what the laws of `cdp_session_laws` say holds of it.
+pub fn a_session_of_a_history_has_lived()
+    ensures { (scripts : List Script) (input : List (List ℕ)) (wait : Bool) (s : ℕ) (history : List Entry)
+        (x : Session) → IsHistory scripts input wait history
+        → seat_of s (whole scripts input wait history).seats ≡ Attached x → HasLived scripts s x }
 {}
 
 /// The stops of a history have the numbers 1, 2, 3 and so on, as many as there are, up to 2^62 of them: so no two have

@@ -11,6 +11,7 @@
 //! - *stops*: the pauses at which a history stopped its program, in order
 //! - *event of a method*: a text that begins with `{"method":"METHOD"`; `events_of` are those among texts
 //! - `StaysOver`: a history goes on by an entry, over which a session stays attached
+//! - `HasLived`: a session became what it is by the events of one session, of which `cdp_session_laws` speaks
 //! - `StandsAtTop`: the frames of a program are listed from where it arrived down to the script
 //! - `RunSends`, `ReplySends`: what a run, and a text of the session itself, adds to the texts that wait for a session
 #![tactic(auto)]
