@@ -4,6 +4,7 @@ pub mod Journals
 pub mod Scripts
 pub mod Print
 pub mod Breakpoint
+pub mod TwoHits
 pub mod StepOver
 pub mod Caught
 pub mod CaughtPassed

@@ -8,6 +8,7 @@ ghost use Rattle.cdp_host_worked_runs.specs.Scripts.{nothing, printing, returnin
 ghost use Rattle.cdp_host_worked_runs.specs.Scripts.{nesting, adding, falling, smiling};
 ghost use Rattle.cdp_host_worked_runs.specs.Print.{print, print_outcome};
 ghost use Rattle.cdp_host_worked_runs.specs.Breakpoint.{breakpoint, breakpoint_outcome};
+ghost use Rattle.cdp_host_worked_runs.specs.TwoHits.{two_hits, two_hits_outcome};
 ghost use Rattle.cdp_host_worked_runs.specs.StepOver.{step_over, step_over_outcome};
 ghost use Rattle.cdp_host_worked_runs.specs.Caught.{caught, caught_outcome};
 ghost use Rattle.cdp_host_worked_runs.specs.CaughtPassed.{caught_passed, caught_passed_outcome};
@@ -33,6 +34,11 @@ pub fn a_print_is_one_step_of_five()
 /// A breakpoint by URL, without a column, stops the program at the first statement of its line, before it prints.
 pub fn a_breakpoint_stops_before_its_statement()
     ensures { ComesTo printing false 1 breakpoint breakpoint_outcome }
+{}
+
+/// Two breakpoints at one place stop the program there once, and are told in the order in which they were set.
+pub fn two_breakpoints_at_one_place_are_told_in_order()
+    ensures { ComesTo returning false 1 two_hits two_hits_outcome }
 {}
 
 /// A step over a call ends at a breakpoint in the function, and the step is forgotten then: a resume runs to the end.
