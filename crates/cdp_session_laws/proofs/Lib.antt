@@ -12,3 +12,4 @@ pub mod CellLemmas
 pub mod GroupLemmas
 pub mod NamingLemmas
 pub mod ResultLemmas
+pub mod AskingLemmas

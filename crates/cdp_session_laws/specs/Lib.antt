@@ -8,3 +8,4 @@ pub mod Listing
 pub mod Truth
 pub mod Replying
 pub mod Naming
+pub mod Asking

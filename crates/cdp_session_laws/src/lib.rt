@@ -9,9 +9,11 @@
 //! - `lived`: a session that was attached, and to which a list of events happened since
 //! - *ends*: an event releases a handle
 //! - *lists*, *tells*: a JSON value describes a frame, and a text is the event of a stop with all frames
+//! - `HasOthersThan`, `AsksNothing`: a session has its breakpoints but for those of an id, and has nothing set
 //! - `reply_is_true`: a reply to an evaluation is a value that counts as true
 #![tactic(auto)]
 
+pub mod asking;
 pub mod evaluations;
 pub mod identity;
 pub mod stops;
