@@ -32,13 +32,13 @@ line-one Shut = refl
 other-byte : (byte : ℕ) → is_other byte ≡ true → byte ≢ 10
 other-byte byte other = eqb-false byte 10 (not-true (byte == 10) other)
 
-is-one : (text : List ℕ) → is_one_line text ≡ true → IsOneLine text
+pub is-one : (text : List ℕ) → is_one_line text ≡ true → IsOneLine text
 is-one [] one = All-nil (λ byte. byte ≢ 10)
 is-one (byte ∷ text) one =
     let parts = and_parts (is_other byte) (is_one_line text) one in
     All-cons (λ b. b ≢ 10) byte text (other-byte byte parts.0) (is-one text parts.1)
 
-are-one : (lines : List Line) → All IsOneLine (map line_text lines)
+pub are-one : (lines : List Line) → All IsOneLine (map line_text lines)
 are-one [] = All-nil IsOneLine
 are-one (line ∷ lines) =
     All-cons IsOneLine (line_text line) (map line_text lines) (is-one (line_text line) (line-one line)) (are-one lines)
@@ -52,7 +52,7 @@ written-cut lines = lines_of-ended (map line_text lines) (are-one lines)
 abbrev pub IsWritten : Line → Type 0
 IsWritten line = IsLine (line_text line) line
 
-read-each : (lines : List Line) → All IsWritten lines
+pub read-each : (lines : List Line) → All IsWritten lines
     → map line_of (map line_text lines) ≡ map (λ line. Some line) lines
 read-each [] are = refl
 read-each (line ∷ lines) are =
@@ -88,7 +88,7 @@ escaped-ascii (byte ∷ text) ascii =
     IsAscii-append (byte_escaped byte) (escaped text)
     (byte-ascii (byte == 37) (byte == 10) (byte == 13) byte (ascii 0)) (escaped-ascii text (λ i. ascii (suc i)))
 
-utf8-of : (text : List ℕ) → IsAscii text → is_utf8 text ≡ true
+pub utf8-of : (text : List ℕ) → IsAscii text → is_utf8 text ≡ true
 utf8-of text ascii = is_utf8-from_IsUtf8 text (IsUtf8-from_ascii text ascii)
 
 pub written-attach : IsWritten Attach

@@ -5,7 +5,7 @@ ghost use Rattle.cdp_text.specs.Lines.{ended};
 ghost use Rattle.cdp_journal.specs.Lines.{Tell, line_text};
 ghost use Rattle.cdp_journal.specs.Drills.{command_told, drill_journal, drill_opening, drill_source, drill_turn, evens};
 
-use crate::escapes::escape;
+use crate::writing::push_tell;
 use std::alloc::{AllocError, Global};
 
 /// The greatest number of steps of a run.
@@ -93,18 +93,4 @@ fn command(alloc: Global, id: u64, method: &str) -> Result<String, AllocError>
     ensures { IfOk result (λ text. string_bytes text ≡ command_told id method.now) }
 {
     format!(in alloc; r#"{{"id":{id},"method":"{method}"}}"#)
-}
-
-/// Puts the line that tells a session a text behind others.
-fn push_tell(
-    alloc: Global,
-    journal: &mut String,
-    session: u64,
-    text: &str,
-) -> Result<(), AllocError>
-    ensures { OnOk result
-        (string_bytes journal.new ≡ string_bytes journal.old ++ ended (line_text (Tell session text.now) ∷ [])) }
-{
-    let written = escape(alloc, text)?;
-    write!(journal, "tell {session} {written}\n")
 }

@@ -16,8 +16,10 @@ pub mod laws;
 mod line;
 mod parts;
 mod summaries;
+mod writing;
 
 pub use drill::{drill_journal, drill_source};
 pub use escapes::{escape, unescape};
 pub use line::{Line, read_line};
 pub use summaries::summary;
+pub use writing::{attach_line, detach_line, run_line, shut_line, take_line, tell_line};

@@ -1,0 +1,81 @@
+-- Some records, by computation, of a program of six steps whose sessions stop it after the second, and for each of whom
+-- two texts may wait.
+use Rattle.std.proofs.Common.{◌≡◌, ℕ, suc, List, [], ◌∷◌, ◌++◌, length, Bool, true, false, ◌==◌, nat_lt, bytes_eq, Option, refl, codes}
+use Rattle.std.specs.Fmt.{digits}
+use Rattle.cdp_host_isolation.specs.Histories.{Entry, Attach, Tell, Take, Detach, Ran, Shut}
+use Rattle.cdp_host_isolation.specs.Meanings.{begin}
+use Rattle.cdp_host_isolation.specs.Protocols.{Protocol}
+use Rattle.cdp_host_record.specs.Records.{recorded_from}
+
+abbrev of_two : Protocol ℕ ℕ ℕ (List (List ℕ))
+of_two = record {
+  next = λ c. suc c;
+  is_over = λ c. c == 6;
+  tells = λ first c. c;
+  pause = λ number c. number;
+  fresh = λ s. [];
+  is_enabled = λ x. true;
+  outbox = λ x. x;
+  fits = λ x. nat_lt (length x) 3;
+  emptied = λ x. [];
+  reply = λ q c text x. x ++ text ∷ [];
+  resumes = λ q c text x. bytes_eq text (codes "go");
+  wakes = λ q c text x. false;
+  resumed = λ x. x ++ codes "on" ∷ [];
+  told = λ moment t x. x;
+  names = λ t x. t == 1;
+  stopped = λ number t x. x ++ codes "stop" ∷ [];
+}
+
+abbrev recorded_of : List Entry → List ℕ
+recorded_of history = recorded_from of_two (begin 0 false) history
+
+-- nothing happened
+nothing : recorded_of [] ≡ codes ""
+nothing = refl
+
+-- the second taking hands out nothing, the second detach finds nobody, and nobody takes
+once : recorded_of (Attach ∷ Tell 1 (codes "hi") ∷ Take 1 ∷ Take 1 ∷ Take 0 ∷ Detach 1 ∷ Detach 1 ∷ [])
+    ≡ codes "attach\ntell 1 hi\ntake 1\ndetach 1\n"
+unfolding digits
+once = refl
+
+-- a text of several lines
+escapes : recorded_of (Attach ∷ Tell 1 (codes "5%\n\r6") ∷ []) ≡ codes "attach\ntell 1 5%25%0A%0D6\n"
+unfolding digits
+escapes = refl
+
+-- nobody is attached
+strangers : recorded_of (Tell 1 (codes "hi") ∷ Take 1 ∷ Detach 1 ∷ []) ≡ codes ""
+strangers = refl
+
+-- a run is told by the steps that it made, and one that makes none isn't told
+stops : recorded_of (Attach ∷ Ran 2 7 [] ∷ Ran 0 8 [] ∷ Take 1 ∷ []) ≡ codes "attach\nrun 2 7\ntake 1\n"
+unfolding digits
+stops = refl
+
+-- too many texts wait after a command: its session is detached by it
+overruns : recorded_of
+    (Attach ∷ Tell 1 (codes "a") ∷ Tell 1 (codes "b") ∷ Tell 1 (codes "c") ∷ Take 1 ∷ Detach 1 ∷ [])
+    ≡ codes "attach\ntell 1 a\ntell 1 b\ntell 1 c\n"
+unfolding digits
+overruns = refl
+
+-- a resume loses the first session: the next run makes no step and tells of it, and the one after that isn't told
+reports : recorded_of (Attach ∷ Attach ∷ Ran 2 7 [] ∷ Tell 1 (codes "go") ∷ Ran 0 8 [] ∷ Ran 0 9 [] ∷ Take 2 ∷ [])
+    ≡ codes "attach\nattach\nrun 2 7\ntell 1 go\nrun 0 8\ntake 2\n"
+unfolding digits
+reports = refl
+
+-- want of memory for a command detaches its session
+forgets : recorded_of (Attach ∷ Attach ∷ Detach 2 ∷ Take 2 ∷ []) ≡ codes "attach\nattach\ndetach 2\n"
+unfolding digits
+forgets = refl
+
+-- a run that loses a session for want of memory is the last thing that is told
+ends : recorded_of (Attach ∷ Ran 1 7 (1 ∷ []) ∷ Attach ∷ Shut ∷ []) ≡ codes "attach\nmemory\n"
+ends = refl
+
+shuts : recorded_of (Ran 3 4 [] ∷ Shut ∷ Ran 0 5 [] ∷ []) ≡ codes "run 3 4\nshut\n"
+unfolding digits
+shuts = refl

@@ -1,0 +1,3 @@
+pub mod Records
+pub mod Recordings
+pub mod Replays

@@ -1,0 +1,69 @@
+-- What the journal that a record is does to a host, and that it does what the history did.
+use Rattle.std.specs.Prelude.{◌≡◌, ◌<◌, ◌≤◌, ◌^◌, ℕ, List, [], ◌∷◌, length, All, Bool, true, false, fold, if◌then◌else◌, Option, Some, None}
+use Rattle.std.specs.Option.{option_and_then, option_map_or}
+use Rattle.std.specs.Str.{is_utf8}
+use Rattle.cdp_journal.specs.Lines as journal
+use Rattle.cdp_journal.specs.Lines.{Line, line_of, most_told}
+use Rattle.cdp_host_isolation.specs.Histories.{Entry, Attach, Tell, Take, Detach, Ran, Shut, apply, handed_of}
+use Rattle.cdp_host_isolation.specs.Meanings.{Meaning, longest, with_seats}
+use Rattle.cdp_host_isolation.specs.Protocols.{Protocol}
+use Rattle.cdp_host_isolation.specs.Seats.{each, is_attached, seat_of}
+use Rattle.cdp_host_isolation.specs.declared.seat.Seat.{Seat}
+use Rattle.cdp_host_isolation.specs.declared.seat.Seat.TheVariants.{Attached, Lost, Left}
+
+-- ---- a journal that is played
+
+-- an entry of a session, if that is attached
+abbrev pub if_attached : {C Q X : Type 0} → Meaning C Q X → ℕ → Entry → Option Entry
+if_attached m s entry = if is_attached (seat_of s m.seats) then Some entry else None
+
+-- the entry of a line; None where it names a session that isn't attached. A run is the longest of at most so many
+-- steps, and loses nobody for want of memory.
+abbrev pub entry_at : {C T Q X : Type 0} → Protocol C T Q X → Meaning C Q X → Line → Option Entry
+entry_at P m journal.Attach = Some Attach
+entry_at P m (journal.Tell s text) = if_attached m s (Tell s text)
+entry_at P m (journal.Take s) = if_attached m s (Take s)
+entry_at P m (journal.Detach s) = if_attached m s (Detach s)
+entry_at P m (journal.Run most moment) = Some (Ran (longest P moment most m) moment [])
+entry_at P m journal.Shut = Some Shut
+
+-- the history of a journal's lines, up to the first that is refused
+abbrev pub played : {C T Q X : Type 0} → Protocol C T Q X → Meaning C Q X → List (List ℕ) → List Entry
+played P m [] = []
+played P m (line ∷ lines) =
+    option_map_or (λ entry. entry ∷ played P (apply P m entry) lines) (option_and_then (entry_at P m) (line_of line)) []
+
+-- ---- what it comes to
+
+-- a seat, whether or not the session's owner was told of its loss
+abbrev pub untold : {X : Type 0} → Seat X → Seat X
+untold (Attached x) = Attached x
+untold (Lost loss is_reported is_told) = Lost loss is_reported false
+untold Left = Left
+
+-- what is meant but for which owners were told of losses
+abbrev pub but_told : {C Q X : Type 0} → Meaning C Q X → Meaning C Q X
+but_told m = with_seats (each untold m.seats) m
+
+-- Lines that are played do what a history does: none of them is refused, they mean what it means, but for which owners
+-- were told of losses, and each session is handed the same texts, in order.
+pub record PlaysAs {C T Q X : Type 0} (P : Protocol C T Q X) (m : Meaning C Q X) (lines : List (List ℕ))
+    (history : List Entry) : Type 0 where
+  pub all : length (played P m lines) ≡ length lines
+  pub means : but_told (fold (apply P) m (played P m lines)) ≡ but_told (fold (apply P) m history)
+  pub handed : (s : ℕ) → handed_of P s m (played P m lines) ≡ handed_of P s m history
+
+-- ---- what a journal can tell
+
+-- taking no texts leaves a session as it was
+abbrev pub KeepsUntouched : {C T Q X : Type 0} → Protocol C T Q X → Type 0
+KeepsUntouched {C} {T} {Q} {X} P = (x : X) → P.outbox x ≡ [] → P.emptied x ≡ x
+
+-- a journal's line holds the numbers of an entry and its text, which is UTF-8
+abbrev pub IsTellable : Entry → Type 0
+IsTellable Attach = Unit {0}
+IsTellable (Tell s text) = (s < 2 ^ 64) × (length text ≤ most_told) × (is_utf8 text ≡ true)
+IsTellable (Take s) = s < 2 ^ 64
+IsTellable (Detach s) = s < 2 ^ 64
+IsTellable (Ran n moment gone) = (n < 2 ^ 32) × (moment < 2 ^ 53)
+IsTellable Shut = Unit {0}

@@ -1,0 +1,56 @@
+//! The laws of records. Each function does nothing: its contract is the law, for every protocol and every history.
+//! Programs, pauses, sessions and what steps tell are numbers here; the lemmas below `proofs/` say the same of any types.
+
+ghost use Rattle.std.specs.Prelude.{◌≡◌, ℕ, List, [], ◌∷◌, ◌++◌, map, All, Bool, true, false, codes, Some};
+ghost use Rattle.cdp_text.specs.Lines.{lines_of};
+ghost use Rattle.cdp_journal.specs.Lines.{line_of, line_text};
+ghost use Rattle.cdp_host_isolation.specs.Histories.{Entry, FitsAll, whole};
+ghost use Rattle.cdp_host_isolation.specs.Meanings.{begin};
+ghost use Rattle.cdp_host_isolation.specs.Protocols.{Protocol};
+ghost use Rattle.cdp_host_isolation.specs.Stops.{KeepsEnabled};
+ghost use Rattle.cdp_host_record.specs.Records.{bytes_of, lines_at, lines_from, lists, memory_line, recorded_from, some_list};
+ghost use Rattle.cdp_host_record.specs.Replays.{IsTellable, KeepsUntouched, PlaysAs};
+
+/// The record of a history that goes on by one entry has that entry's lines more. It ends with a run that lists a session
+/// which was lost for want of memory: nothing that follows is told.
+pub fn records_grow_by_lines()
+    ensures more { (P : Protocol ℕ ℕ ℕ ℕ) (c : ℕ) (wait : Bool) (history : List Entry) (entry : Entry)
+        → some_list history ≡ false
+        → lists entry ≡ false
+        → recorded_from P (begin c wait) (history ++ entry ∷ [])
+        ≡ recorded_from P (begin c wait) history ++ bytes_of (lines_at P (whole P c wait history) entry) }
+    ensures last { (P : Protocol ℕ ℕ ℕ ℕ) (c : ℕ) (wait : Bool) (history more : List Entry) (entry : Entry)
+        → some_list history ≡ false
+        → lists entry ≡ true
+        → recorded_from P (begin c wait) (history ++ entry ∷ more)
+        ≡ recorded_from P (begin c wait) history ++ memory_line }
+{}
+
+/// A record is cut into the lines of its entries, and its last line is `memory` where a run lists somebody. Each of the
+/// others is read as the line that was written.
+pub fn records_are_journals()
+    ensures cut { (P : Protocol ℕ ℕ ℕ ℕ) (c : ℕ) (wait : Bool) (history : List Entry)
+        → some_list history ≡ false
+        → lines_of (recorded_from P (begin c wait) history)
+        ≡ map line_text (lines_from P (begin c wait) history) }
+    ensures last { (P : Protocol ℕ ℕ ℕ ℕ) (c : ℕ) (wait : Bool) (history : List Entry)
+        → some_list history ≡ true
+        → lines_of (recorded_from P (begin c wait) history)
+        ≡ map line_text (lines_from P (begin c wait) history) ++ codes "memory" ∷ [] }
+    ensures read { (P : Protocol ℕ ℕ ℕ ℕ) (c : ℕ) (wait : Bool) (history : List Entry)
+        → All IsTellable history
+        → map line_of (map line_text (lines_from P (begin c wait) history))
+        ≡ map (λ line. Some line) (lines_from P (begin c wait) history) }
+{}
+
+/// A record of a history that lists nobody, when it is played, does what the history did: no line is refused, the
+/// program and its sessions come to the same, and each session is handed the same texts, in order.
+pub fn records_play_again()
+    ensures { (P : Protocol ℕ ℕ ℕ ℕ) (c : ℕ) (wait : Bool) (history : List Entry)
+        → KeepsEnabled P
+        → KeepsUntouched P
+        → FitsAll P (begin c wait) history
+        → All IsTellable history
+        → some_list history ≡ false
+        → PlaysAs P (begin c wait) (lines_of (recorded_from P (begin c wait) history)) history }
+{}
