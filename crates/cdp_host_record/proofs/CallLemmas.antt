@@ -1,14 +1,12 @@
 -- What each call of a host adds to its record.
-use Rattle.std.proofs.Common.{◌≡◌, ℕ, ◌+◌, zero, suc, List, [], ◌∷◌, ◌++◌, map, Bool, true, false, ◌==◌, ◌||◌, not, if◌then◌else◌, Option, String, Global, string_bytes, refl, ap, sym, ◌∙◌, subst}
+use Rattle.std.proofs.Common.{◌≡◌, ℕ, ◌+◌, List, [], ◌∷◌, ◌++◌, map, Bool, true, false, ◌==◌, ◌||◌, not, if◌then◌else◌, Option, String, Global, string_bytes, refl, ap, sym, ◌∙◌, subst}
 use Rattle.std.specs.List.{list_any}
 use Rattle.cdp_journal.specs.Lines as journal
 use Rattle.cdp_journal.specs.Lines.{Line}
-use Rattle.cdp_host_isolation.specs.Histories.{Entry, Attach, Tell, Take, Detach, Ran, Shut, waiting}
+use Rattle.cdp_host_isolation.specs.Histories.{Entry, Take, Detach, Ran, waiting}
 use Rattle.cdp_host_isolation.specs.Meanings.{Meaning}
 use Rattle.cdp_host_isolation.specs.Protocols.{Protocol}
 use Rattle.cdp_host_isolation.specs.Seats.{is_attached, seat_of, some, waits_for_report}
-use Rattle.cdp_host_isolation.specs.declared.seat.Loss.{Loss}
-use Rattle.cdp_host_isolation.specs.declared.seat.Loss.TheVariants as loss
 use Rattle.cdp_host_seats.specs.Losses.{is_for_memory}
 use Rattle.cdp_host_seats.specs.declared.losses.SessionLost.{SessionLost}
 use Rattle.cdp_host_turns.specs.Debuggings.{Debugging, meaning}
@@ -16,7 +14,7 @@ use Rattle.cdp_host_turns.specs.Entries.{lost_for_memory, told_entry}
 use Rattle.cdp_host_turns.specs.declared.answers.Told.{Told}
 use Rattle.cdp_host_turns.specs.declared.answers.Told.TheVariants.{Kept, Overrun, Memory}
 use Rattle.cdp_host_record.specs.Records.{is_some_there, line_if, lines_at, lists}
-use Rattle.cdp_host_record.specs.Recordings.{AddsLines, AddsRun, Held, RecordsIf, told_lines}
+use Rattle.cdp_host_record.specs.Recordings.{AddsLines, AddsRun, Held, RecordsIf, closed_if, told_lines}
 use Rattle.cdp_host_record.proofs.GrowthLemmas.{adds-lines, adds-run}
 
 -- ---- who was lost
@@ -94,12 +92,36 @@ detaches d h k s is_there old new is records added =
 
 -- ---- a run
 
-pub runs : (d : Debugging) (h : List (ℕ × Entry)) (k n moment : ℕ) (gone : List ℕ) (is_owed : Bool)
+-- one of those that were lost was for want of memory
+pub adds-last : (losses : List SessionLost) (b : Bool) (lines : List Line) (old new : Option Held)
+    → b ≡ list_any (λ (one : SessionLost). is_for_memory one.loss) losses
+    → b ≡ true
+    → new ≡ closed_if old
+    → AddsRun (is_some_there (lost_for_memory losses)) lines old new
+adds-last losses b lines old new is some last =
+    subst (λ (b : Bool). AddsRun b lines old new) (sym some ∙ is ∙ listed losses) last
+
+-- none of them was
+pub adds-none : (losses : List SessionLost) (b is_told told : Bool) (line : Line) (old new : Option Held)
+    → b ≡ list_any (λ (one : SessionLost). is_for_memory one.loss) losses
+    → b ≡ false
+    → is_told ≡ told
+    → AddsLines (line_if is_told line) old new
+    → AddsRun (is_some_there (lost_for_memory losses)) (line_if told line) old new
+adds-none losses b is_told told line old new is none same added =
+    subst (λ (b : Bool). AddsRun b (line_if told line) old new) (sym none ∙ is ∙ listed losses)
+    (subst (λ (b : Bool). AddsLines (line_if b line) old new) same added)
+
+pub runs : (d : Debugging) (h : List (ℕ × Entry)) (k n moment : ℕ) (seen lost : List SessionLost) (is_owed : Bool)
     (old new : Option Held)
     → is_owed ≡ some waits_for_report (meaning d h).seats
+    → seen ≡ lost
     → RecordsIf d h old
-    → AddsRun (is_some_there gone) (line_if (not (n == 0) || is_owed) (journal.Run n moment)) old new
-    → RecordsIf d (h ++ (k, Ran n moment gone) ∷ []) new
-runs d h k n moment gone is_owed old new is records added =
-    adds-run d h k (Ran n moment gone) (is_some_there gone) (line_if (not (n == 0) || is_owed) (journal.Run n moment))
-    old new refl (ap (λ b. line_if (not (n == 0) || b) (journal.Run n moment)) (sym is)) records added
+    → AddsRun (is_some_there (lost_for_memory seen)) (line_if (not (n == 0) || is_owed) (journal.Run n moment)) old new
+    → RecordsIf d (h ++ (k, Ran n moment (lost_for_memory lost)) ∷ []) new
+runs d h k n moment seen lost is_owed old new is same records added =
+    let gone = lost_for_memory lost in
+    let lines = line_if (not (n == 0) || is_owed) (journal.Run n moment) in
+    adds-run d h k (Ran n moment gone) (is_some_there gone) lines old new refl
+    (ap (λ b. line_if (not (n == 0) || b) (journal.Run n moment)) (sym is)) records
+    (subst (λ losses. AddsRun (is_some_there (lost_for_memory losses)) lines old new) same added)

@@ -1,6 +1,6 @@
 -- Some records, by computation, of a program of six steps whose sessions stop it after the second, and for each of whom
 -- two texts may wait.
-use Rattle.std.proofs.Common.{◌≡◌, ℕ, suc, List, [], ◌∷◌, ◌++◌, length, Bool, true, false, ◌==◌, nat_lt, bytes_eq, Option, refl, codes}
+use Rattle.std.proofs.Common.{◌≡◌, ℕ, suc, List, [], ◌∷◌, ◌++◌, length, true, false, ◌==◌, nat_lt, bytes_eq, refl, codes}
 use Rattle.std.specs.Fmt.{digits}
 use Rattle.cdp_host_isolation.specs.Histories.{Entry, Attach, Tell, Take, Detach, Ran, Shut}
 use Rattle.cdp_host_isolation.specs.Meanings.{begin}

@@ -1,5 +1,5 @@
 -- A record grows with its history.
-use Rattle.std.proofs.Common.{◌≡◌, ◌⊎◌, inl, inr, ℕ, List, [], ◌∷◌, ◌++◌, map, Bool, true, false, ◌||◌, fold, if◌then◌else◌, Option, Some, None, refl, ap, sym, subst, ◌∙◌, append_assoc, append-nil}
+use Rattle.std.proofs.Common.{◌≡◌, inl, inr, ℕ, List, [], ◌∷◌, ◌++◌, map, Bool, true, false, ◌||◌, fold, if◌then◌else◌, Option, Some, None, refl, ap, sym, subst, ◌∙◌, append_assoc, append-nil}
 use Rattle.std.proofs.lemmas.Bool.{or_from, or_parts, or_right}
 use Rattle.std.proofs.lemmas.List.{map-append}
 use Rattle.cdp_journal.specs.Lines.{Line, line_text}
@@ -11,7 +11,7 @@ use Rattle.cdp_host_isolation.specs.Protocols.{Protocol}
 use Rattle.cdp_host_turns.specs.Debuggings.{Debugging, meaning}
 use Rattle.cdp_text.specs.Lines.{ended}
 use Rattle.cdp_host_record.specs.Records.{bytes_of, is_some_there, lines_at, lines_from, lists, memory_line, recorded_from, some_list}
-use Rattle.cdp_host_record.specs.Recordings.{Adds, AddsIf, AddsLines, AddsRun, Held, Holds, HoldsIf, IsCutShort, RecordsIf, closed, closed_if, is_due, longer}
+use Rattle.cdp_host_record.specs.Recordings.{Adds, AddsLines, AddsRun, Held, Holds, HoldsIf, IsCutShort, RecordsIf, closed, closed_if, is_due, longer}
 
 -- ---- the lines of a longer history
 

@@ -1,7 +1,7 @@
 -- What a record holds after a line.
-use Rattle.std.proofs.Common.{◌≡◌, inl, inr, ℕ, List, ◌++◌, Bool, true, false, if◌then◌else◌, refl, ap, sym, ◌∙◌}
+use Rattle.std.proofs.Common.{◌≡◌, ℕ, List, ◌++◌, Bool, true, false, if◌then◌else◌, ap, ◌∙◌}
 use Rattle.cdp_host_record.specs.Records.{memory_line}
-use Rattle.cdp_host_record.specs.Recordings.{Adds, Held, closed, longer}
+use Rattle.cdp_host_record.specs.Recordings.{Held, closed, longer}
 
 pub longer-lost : (bytes : List ℕ) (held : Held) → held.is_lost ≡ true → longer bytes held ≡ held
 longer-lost bytes held lost =

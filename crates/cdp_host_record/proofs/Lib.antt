@@ -4,4 +4,6 @@ pub mod CallLemmas
 pub mod ReadLemmas
 pub mod ToldLemmas
 pub mod ReplayLemmas
+pub mod PartLemmas
+pub mod MeetLemmas
 pub mod Cases

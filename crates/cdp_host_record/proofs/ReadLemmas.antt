@@ -1,5 +1,5 @@
 -- A record is a journal: it is cut into the lines of its entries, and each is read as what was written.
-use Rattle.std.proofs.Common.{◌≡◌, ℕ, ◌<◌, ◌≤◌, ◌^◌, List, [], ◌∷◌, ◌++◌, length, map, All, Bool, true, false, ◌||◌, ◌==◌, fold, if◌then◌else◌, Some, refl, ap, sym, subst, ◌∙◌, arith, codes, decimal, append_assoc, append-nil}
+use Rattle.std.proofs.Common.{◌≡◌, ℕ, ◌<◌, ◌≤◌, ◌^◌, List, [], ◌∷◌, ◌++◌, length, map, All, Bool, true, false, ◌==◌, if◌then◌else◌, Some, refl, ap, sym, subst, ◌∙◌, arith, codes, decimal, append-nil}
 use Rattle.std.specs.Prelude.{encode_utf8, encode_utf8_all}
 use Rattle.std.specs.Str.{IsUtf8, is_utf8}
 use Rattle.std.proofs.Math.Utf8.{scalar, scalars}
@@ -7,7 +7,7 @@ use Rattle.std.proofs.lemmas.Bool.{and_parts, eqb-false, eqb-true}
 use Rattle.std.proofs.lemmas.Fmt.{IsAscii-decimal}
 use Rattle.std.proofs.lemmas.List.Elements.{All-append, All-cons, All-head, All-nil, All-tail}
 use Rattle.std.proofs.lemmas.Str.{IsAscii-append, IsUtf8-append, IsUtf8-from_ascii, IsUtf8-from_is_utf8, IsUtf8-nil, encode_ascii, is_utf8-from_IsUtf8}
-use Rattle.cdp_text.specs.Lines.{IsOneLine, ended, lines_of}
+use Rattle.cdp_text.specs.Lines.{IsOneLine, lines_of}
 use Rattle.cdp_text.proofs.LinesLemmas.{lines_of-ended}
 use Rattle.cdp_journal.specs.Escapes.{escaped}
 use Rattle.cdp_journal.specs.Lines as journal
@@ -128,17 +128,23 @@ pub cut : {C T Q X : Type 0} → (P : Protocol C T Q X) (m : Meaning C Q X) (his
     → lines_of (recorded_from P m history) ≡ map line_text (lines_from P m history)
 cut P m history none = ap lines_of (recorded-plain P m history none) ∙ written-cut (lines_from P m history)
 
+-- with the last line of a record that tells no more
+pub cut-memory : (lines : List Line)
+    → lines_of (bytes_of lines ++ memory_line) ≡ map line_text lines ++ codes "memory" ∷ []
+cut-memory lines =
+    let texts = map line_text lines in
+    let last = codes "memory" ∷ [] in
+    ap lines_of (sym (ended-append texts last))
+    ∙ lines_of-ended (texts ++ last)
+    (All-append IsOneLine texts last (are-one lines)
+    (All-cons IsOneLine (codes "memory") [] (is-one (codes "memory") refl) (All-nil IsOneLine)))
+
 pub cut-last : {C T Q X : Type 0} → (P : Protocol C T Q X) (m : Meaning C Q X) (history : List Entry)
     → some_list history ≡ true
     → lines_of (recorded_from P m history) ≡ map line_text (lines_from P m history) ++ codes "memory" ∷ []
 cut-last P m history some =
-    let lines = map line_text (lines_from P m history) in
-    let last = codes "memory" ∷ [] in
     ap (λ (b : Bool). lines_of (bytes_of (lines_from P m history) ++ (if b then memory_line else []))) some
-    ∙ ap lines_of (sym (ended-append lines last))
-    ∙ lines_of-ended (lines ++ last)
-    (All-append IsOneLine lines last (are-one (lines_from P m history))
-    (All-cons IsOneLine (codes "memory") [] (is-one (codes "memory") refl) (All-nil IsOneLine)))
+    ∙ cut-memory (lines_from P m history)
 
 pub read : {C T Q X : Type 0} → (P : Protocol C T Q X) (m : Meaning C Q X) (history : List Entry)
     → All IsTellable history

@@ -5,13 +5,13 @@ use Rattle.std.proofs.lemmas.Bool.{eqb-true, false≢true, or_parts}
 use Rattle.std.proofs.lemmas.List.Elements.{All-head, All-tail}
 use Rattle.cdp_text.specs.Lines.{lines_of}
 use Rattle.cdp_journal.specs.Lines as journal
-use Rattle.cdp_journal.specs.Lines.{Line, line_of, line_text}
+use Rattle.cdp_journal.specs.Lines.{Line, line_text}
 use Rattle.cdp_journal.proofs.LineLemmas.{line-read}
 use Rattle.cdp_journal.proofs.WrittenLemmas.{IsWritten}
 use Rattle.cdp_host_isolation.specs.Histories.{Entry, Attach, Tell, Take, Detach, Ran, Shut, FitsAll, FitsEntry, apply, detach, handed_at, handed_of, take, tell, waiting, with_seat}
-use Rattle.cdp_host_isolation.specs.Meanings.{Meaning, after_steps, begin, is_enabled_seat, is_paused, is_ready, longest, resume, resumed_seat, settle, step, with_seats}
+use Rattle.cdp_host_isolation.specs.Meanings.{Meaning, after_steps, begin, is_enabled_seat, is_paused, is_ready, longest, resumed_seat, settle, step, with_seats}
 use Rattle.cdp_host_isolation.specs.Protocols.{Protocol}
-use Rattle.cdp_host_isolation.specs.Seats.{each, is_attached, put, put_in, reported, seat_in, seat_of, some, waits_for_report, without}
+use Rattle.cdp_host_isolation.specs.Seats.{each, is_attached, put, put_in, reported, seat_in, seat_of, some, waits_for_report}
 use Rattle.cdp_host_isolation.specs.Stops.{IsPausedWell, KeepsEnabled}
 use Rattle.cdp_host_isolation.specs.declared.seat.Seat.{Seat}
 use Rattle.cdp_host_isolation.specs.declared.seat.Seat.TheVariants.{Attached, Lost, Left}
@@ -318,7 +318,7 @@ follows-on P keeps idle k m (entry ∷ history) well fits none same =
 
 -- ---- lines as they are written
 
-same-or : {A : Type 0} → (f g : A → List A) (o : Option A) → ((a : A) → f a ≡ g a)
+pub same-or : {A : Type 0} → (f g : A → List A) (o : Option A) → ((a : A) → f a ≡ g a)
     → option_map_or f o [] ≡ option_map_or g o []
 same-or f g None same = refl
 same-or f g (Some a) same = same a

@@ -1,5 +1,5 @@
 -- Which owners were told of losses changes nothing else.
-use Rattle.std.proofs.Common.{◌≡◌, ℕ, zero, suc, ◌+◌, List, [], ◌∷◌, ◌++◌, length, Bool, true, false, ◌&&◌, ◌||◌, ◌==◌, not, if◌then◌else◌, Option, None, refl, ap, sym, ◌∙◌}
+use Rattle.std.proofs.Common.{◌≡◌, ℕ, zero, suc, ◌+◌, List, [], ◌∷◌, ◌++◌, length, Bool, true, false, ◌&&◌, ◌||◌, ◌==◌, not, if◌then◌else◌, None, refl, ap, sym, ◌∙◌}
 use Rattle.cdp_host_isolation.specs.Histories.{Entry, Attach, Tell, Take, Detach, Ran, Shut, apply, asked, detach, handed_at, take, tell, told, waiting, with_seat}
 use Rattle.cdp_host_isolation.specs.Meanings.{Meaning, after_run, after_steps, behind, is_enabled_seat, is_named, is_paused, is_ready, longest, next_number, resume, resumed_seat, seat_behind, settle, step, stops_for, told_at, waits, with_seats, woken}
 use Rattle.cdp_host_isolation.specs.Protocols.{Protocol}

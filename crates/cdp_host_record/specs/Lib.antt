@@ -1,3 +1,4 @@
 pub mod Records
 pub mod Recordings
 pub mod Replays
+pub mod Standing

@@ -1,7 +1,8 @@
 -- What the journal that a record is does to a host, and that it does what the history did.
-use Rattle.std.specs.Prelude.{◌≡◌, ◌<◌, ◌≤◌, ◌^◌, ℕ, List, [], ◌∷◌, length, All, Bool, true, false, fold, if◌then◌else◌, Option, Some, None}
+use Rattle.std.specs.Prelude.{◌≡◌, ◌<◌, ◌≤◌, ◌^◌, ℕ, List, [], ◌∷◌, ◌++◌, length, Bool, true, false, fold, if◌then◌else◌, Option, Some, None}
 use Rattle.std.specs.Option.{option_and_then, option_map_or}
 use Rattle.std.specs.Str.{is_utf8}
+use Rattle.cdp_text.specs.Lines.{lines_of}
 use Rattle.cdp_journal.specs.Lines as journal
 use Rattle.cdp_journal.specs.Lines.{Line, line_of, most_told}
 use Rattle.cdp_host_isolation.specs.Histories.{Entry, Attach, Tell, Take, Detach, Ran, Shut, apply, handed_of}
@@ -52,6 +53,17 @@ pub record PlaysAs {C T Q X : Type 0} (P : Protocol C T Q X) (m : Meaning C Q X)
   pub all : length (played P m lines) ≡ length lines
   pub means : but_told (fold (apply P) m (played P m lines)) ≡ but_told (fold (apply P) m history)
   pub handed : (s : ℕ) → handed_of P s m (played P m lines) ≡ handed_of P s m history
+
+-- A record that is held, when it is played up to a line that is refused, does what a first part of a history did; unless
+-- the record is lost, what all of it did.
+pub record PlaysFirst {C T Q X : Type 0} (P : Protocol C T Q X) (m : Meaning C Q X) (history : List Entry) (lost : Bool)
+    (bytes : List ℕ) : Type 0 where
+  pub first : List Entry
+  pub rest : List Entry
+  pub whole : history ≡ first ++ rest
+  pub kept : lost ≡ false → rest ≡ []
+  pub means : but_told (fold (apply P) m (played P m (lines_of bytes))) ≡ but_told (fold (apply P) m first)
+  pub handed : (s : ℕ) → handed_of P s m (played P m (lines_of bytes)) ≡ handed_of P s m first
 
 -- ---- what a journal can tell
 

@@ -22,7 +22,7 @@ pub struct Record {
 }
 
 impl Model for Record {
-    ghost use Rattle.std.specs.Prelude.{◌≤◌, ◌+◌, false, string_len, string_capacity};
+    ghost use Rattle.std.specs.Prelude.{◌≡◌, ◌≤◌, ◌+◌, false, string_bytes, string_len, string_capacity};
     ghost use Rattle.cdp_host_record.specs.Recordings.{Held};
 
     ghost Value = { Held };

@@ -96,6 +96,13 @@ fn add_detach(journal: &mut Option<Record>, session: u64, is_attached: bool)
     }
 }
 
+/// Whether a run of so many steps has a line, where a report was owed before it, or wasn't.
+fn is_told(steps: u64, is_owed: bool) -> bool
+    ensures { result ≡ (not (steps == 0) || is_owed) }
+{
+    steps != 0 || is_owed
+}
+
 /// So many steps were made at a moment, and these sessions were lost; a report was owed before, or wasn't.
 fn add_ran(
     journal: &mut Option<Record>,
@@ -110,7 +117,7 @@ fn add_ran(
     if some_for_memory(lost) {
         add_memory(journal);
     } else {
-        add_run(journal, steps, moment, steps != 0 || is_owed);
+        add_run(journal, steps, moment, is_told(steps, is_owed));
     }
 }
 
