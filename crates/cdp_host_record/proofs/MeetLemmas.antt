@@ -1,13 +1,13 @@
 -- A host that stands for a history knows what its record asks.
-use Rattle.std.proofs.Common.{◌≡◌, ℕ, ◌+◌, List, [], ◌∷◌, Bool, true, false, ◌||◌, if◌then◌else◌, refl, ap, sym, ◌∙◌}
-use Rattle.std.proofs.lemmas.Bool.{false≢true, or_parts}
+use Rattle.std.proofs.Common.{◌≡◌, ℕ, ◌+◌, List, [], ◌∷◌, Bool, true, false, ◌&&◌, ◌||◌, not, if◌then◌else◌, refl, ap, sym, ◌∙◌}
+use Rattle.std.proofs.lemmas.Bool.{false≢true, or_from, or_parts}
 use Rattle.cdp_host_isolation.specs.Meanings.{Meaning}
 use Rattle.cdp_host_isolation.specs.Seats.{fallen, is_attached, is_listed, seat_of, some, waits_for_report, without_from}
-use Rattle.cdp_host_isolation.specs.Standing.{StandsAs, fallen_in, fell}
+use Rattle.cdp_host_isolation.specs.Standing.{BrokenAs, StandsAs, fallen_in, fell}
 use Rattle.cdp_host_isolation.specs.declared.seat.Loss.TheVariants.{Overrun, Memory}
 use Rattle.cdp_host_isolation.specs.declared.seat.Seat.{Seat}
 use Rattle.cdp_host_isolation.specs.declared.seat.Seat.TheVariants.{Attached, Lost, Left}
-use Rattle.cdp_host_isolation.proofs.FallenLemmas.{fell-at}
+use Rattle.cdp_host_isolation.proofs.FallenLemmas.{fell-at, none-fallen, waits-fallen}
 use Rattle.cdp_host_isolation.proofs.SeatLemmas.{without-at}
 use Rattle.cdp_host_record.specs.Standing.{still_waits}
 
@@ -59,3 +59,31 @@ pub owed-told : {C Q X : Type 0} → (host m : Meaning C Q X) → StandsAs host 
     → some waits_for_report m.seats ≡ some still_waits host.seats
 owed-told host m stands none =
     waits-all (fallen_in host.seats) 1 m.seats none ∙ ap (λ k. some still_waits k.seats) (sym stands.is)
+
+-- ---- behind want of memory in a run
+
+or-no : (a : Bool) → (a || false) ≡ a
+or-no true = refl
+or-no false = refl
+
+pub broken-attached : {X : Type 0} → (seats means : List (Seat X)) (s : ℕ) → BrokenAs seats means
+    → is_attached (seat_of s means) ≡ (is_attached (seat_of s seats) || fell (seat_of s seats))
+broken-attached seats means s broken =
+    let none = fell-at s seats (none-fallen seats (waits-fallen seats broken.all_told)) in
+    ap (λ all. is_attached (seat_of s all)) (sym broken.same)
+    ∙ sym (ap (λ b. is_attached (seat_of s seats) || b) none ∙ or-no (is_attached (seat_of s seats)))
+
+still-none : {X : Type 0} → (seats : List (Seat X)) → some waits_for_report seats ≡ false
+    → some still_waits seats ≡ false
+still-none [] none = refl
+still-none (seat ∷ seats) none =
+    let parts = or_parts (waits_for_report seat) (some waits_for_report seats) none in
+    or_from (still_waits seat) (some still_waits seats) (ap (λ b. b && not (fell seat)) parts.0)
+    (still-none seats parts.1)
+
+pub broken-owed : {X : Type 0} → (seats means : List (Seat X)) → BrokenAs seats means
+    → some waits_for_report means ≡ some still_waits seats
+broken-owed seats means broken =
+    ap (λ all. some waits_for_report all) (sym broken.same)
+    ∙ broken.all_told
+    ∙ sym (still-none seats broken.all_told)

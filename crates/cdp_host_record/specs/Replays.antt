@@ -54,8 +54,8 @@ pub record PlaysAs {C T Q X : Type 0} (P : Protocol C T Q X) (m : Meaning C Q X)
   pub means : but_told (fold (apply P) m (played P m lines)) ≡ but_told (fold (apply P) m history)
   pub handed : (s : ℕ) → handed_of P s m (played P m lines) ≡ handed_of P s m history
 
--- A record that is held, when it is played up to a line that is refused, does what a first part of a history did; unless
--- the record is lost, what all of it did.
+-- A record that is held, when it is played up to a line that is refused, does what a first part of a history did;
+-- unless the record is lost, what all of it did.
 pub record PlaysFirst {C T Q X : Type 0} (P : Protocol C T Q X) (m : Meaning C Q X) (history : List Entry) (lost : Bool)
     (bytes : List ℕ) : Type 0 where
   pub first : List Entry

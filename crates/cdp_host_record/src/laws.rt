@@ -1,5 +1,5 @@
 //! The laws of records. Each function does nothing: its contract is the law, for every protocol and every history.
-//! Programs, pauses, sessions and what steps tell are numbers here; the lemmas below `proofs/` say the same of any types.
+//! Programs, pauses, sessions and what steps tell are numbers here; the lemmas of `proofs/` say the same of any types.
 
 ghost use Rattle.std.specs.Prelude.{◌≡◌, ℕ, List, [], ◌∷◌, ◌++◌, map, All, Bool, true, false, ◌||◌, codes, Some};
 ghost use Rattle.cdp_text.specs.Lines.{lines_of};
@@ -8,15 +8,16 @@ ghost use Rattle.cdp_host_isolation.specs.Histories.{Entry, FitsAll, whole};
 ghost use Rattle.cdp_host_isolation.specs.Meanings.{Meaning, begin};
 ghost use Rattle.cdp_host_isolation.specs.Protocols.{Protocol};
 ghost use Rattle.cdp_host_isolation.specs.Seats.{is_attached, seat_of, some, waits_for_report};
-ghost use Rattle.cdp_host_isolation.specs.Standing.{StandsAs, fell};
+ghost use Rattle.cdp_host_isolation.specs.Standing.{BrokenAs, StandsAs, fell};
+ghost use Rattle.cdp_host_isolation.specs.declared.seat.Seat.{Seat};
 ghost use Rattle.cdp_host_isolation.specs.Stops.{KeepsEnabled};
 ghost use Rattle.cdp_host_record.specs.Records.{bytes_of, lines_at, lines_from, lists, memory_line, recorded_from, some_list};
 ghost use Rattle.cdp_host_record.specs.Recordings.{Holds};
 ghost use Rattle.cdp_host_record.specs.Replays.{IsTellable, KeepsUntouched, PlaysAs, PlaysFirst};
 ghost use Rattle.cdp_host_record.specs.Standing.{still_waits};
 
-/// The record of a history that goes on by one entry has that entry's lines more. It ends with a run that lists a session
-/// which was lost for want of memory: nothing that follows is told.
+/// The record of a history that goes on by one entry has that entry's lines more. It ends with a run that lists a
+/// session which was lost for want of memory: nothing that follows is told.
 pub fn records_grow_by_lines()
     ensures more { (P : Protocol ℕ ℕ ℕ ℕ) (c : ℕ) (wait : Bool) (history : List Entry) (entry : Entry)
         → some_list history ≡ false
@@ -59,8 +60,8 @@ pub fn records_play_again()
         → PlaysAs P (begin c wait) (lines_of (recorded_from P (begin c wait) history)) history }
 {}
 
-/// What a host holds as the record of a history does, when it is played, what a first part of the history did: all of it,
-/// unless the record is lost.
+/// What a host holds as the record of a history does, when it is played, what a first part of the history did: all of
+/// it, unless the record is lost.
 pub fn held_records_play_again()
     ensures { (P : Protocol ℕ ℕ ℕ ℕ) (c : ℕ) (wait : Bool) (history : List Entry) (lost : Bool) (bytes : List ℕ)
         → KeepsEnabled P
@@ -71,11 +72,17 @@ pub fn held_records_play_again()
         → PlaysFirst P (begin c wait) history lost bytes }
 {}
 
-/// A host that stands for a history can tell what its record asks: who is attached there is attached to the host, or fell;
-/// and a run has to report somebody there where one of the host's losses waits for it which isn't for want of memory.
+/// A host that stands for a history can tell what its record asks. A session is attached there where it is attached to
+/// the host, or fell; and a run has to report somebody there where one of the host's losses waits for that which isn't
+/// for want of memory.
 pub fn standing_hosts_can_tell()
     ensures attached { (host m : Meaning ℕ ℕ ℕ) (s : ℕ) → StandsAs host m → some fell m.seats ≡ false
         → is_attached (seat_of s m.seats) ≡ (is_attached (seat_of s host.seats) || fell (seat_of s host.seats)) }
     ensures owed { (host m : Meaning ℕ ℕ ℕ) → StandsAs host m → some fell m.seats ≡ false
         → some waits_for_report m.seats ≡ some still_waits host.seats }
+    // and behind want of memory in a run
+    ensures broken_attached { (seats means : List (Seat ℕ)) (s : ℕ) → BrokenAs seats means
+        → is_attached (seat_of s means) ≡ (is_attached (seat_of s seats) || fell (seat_of s seats)) }
+    ensures broken_owed { (seats means : List (Seat ℕ)) → BrokenAs seats means
+        → some waits_for_report means ≡ some still_waits seats }
 {}

@@ -9,8 +9,8 @@ use cdp_host_turns::Hosted;
 
 /// A host whose history can be recorded. It tells before a call whether the call's entry has a line.
 pub trait Recordable<B>: Hosted<B> {
-    /// Whether its history means that this session is attached. A session that a resume lost for want of memory is, until
-    /// a run tells of that or its owner detaches it, though it is no longer attached to the host.
+    /// Whether its history means that this session is attached. A session that a resume lost for want of memory is,
+    /// until a run tells of that or its owner detaches it, though it is no longer attached to the host.
     fn means_attached(&self, session: u64) -> bool
         ensures { (h : List (ℕ × AnyEntry)) → Self.stands self.now h
             → result ≡ is_attached (seat_of session (meaning Self.debugs h).seats) };
