@@ -14,4 +14,4 @@ mod recorded;
 
 pub use record::Record;
 pub use recordable::Recordable;
-pub use recorded::Recorded;
+pub use recorded::{Recorded, journal_of};

@@ -1,12 +1,14 @@
 //! A host and the record of its history.
 
-ghost use Rattle.std.specs.Prelude.{◌≡◌, ◌∷◌, [], ◌||◌, not, ◌==◌};
+ghost use Rattle.std.specs.Prelude.{◌≡◌, ◌∷◌, [], ◌||◌, not, ◌==◌, ℕ, List, false, IfSome};
 ghost use Rattle.std.specs.List.{list_any};
+ghost use Rattle.std.specs.Option.{option_map};
 ghost use Rattle.cdp_journal.specs.Lines.{Attach, Tell, Take, Detach, Run, Shut};
+ghost use Rattle.cdp_host_isolation.specs.Histories.{Entry as AnyEntry};
 ghost use Rattle.cdp_host_seats.specs.Losses.{is_for_memory};
 ghost use Rattle.cdp_host_turns.specs.Entries.{lost_for_memory};
-ghost use Rattle.cdp_host_record.specs.Records.{is_some_there, line_if};
-ghost use Rattle.cdp_host_record.specs.Recordings.{AddsLines, AddsRun, closed_if, told_lines};
+ghost use Rattle.cdp_host_record.specs.Records.{is_some_there, line_if, recorded};
+ghost use Rattle.cdp_host_record.specs.Recordings.{AddsLines, AddsRun, RecordsIf, closed_if, told_lines};
 
 use crate::record::Record;
 use crate::recordable::Recordable;
@@ -40,6 +42,16 @@ impl<H> Recorded<H> {
         let Recorded { host, journal } = self;
         (host, journal)
     }
+}
+
+/// The record, if one is kept. While it isn't lost, it is that of the history for which the host stands.
+pub fn journal_of<H: Recordable<B>, B>(host: &Recorded<H>) -> Option<&Record>
+    ensures kept { option_map (λ kept. kept.now) result ≡ host.now.journal }
+    ensures whole { IfSome result (λ kept. (h : List (ℕ × AnyEntry)) → RecordsIf H.debugs h host.now.journal
+        → kept.now.is_lost ≡ false
+        → kept.now.bytes ≡ recorded H.debugs h) }
+{
+    host.journal.as_ref()
 }
 
 // ---- one entry
