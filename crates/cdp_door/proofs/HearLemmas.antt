@@ -3,7 +3,7 @@ use Rattle.std.proofs.Common.{◌≡◌, ◌≢◌, ℕ, ◌+◌, ◌≤◌, inl
 use Rattle.std.proofs.lemmas.List.{length-append, nil_from_length}
 use Rattle.std.proofs.lemmas.List.Elements.{All-nil, All-push}
 use Rattle.httparse.specs.Grammar.{print_request}
-use Rattle.cdp_edge.specs.Outside.{gains, GainsLess}
+use Rattle.cdp_edge_wire.specs.Written.{gains, GainsLess}
 use Rattle.cdp_edge_wire.specs.Arrived.{Arrived, Byte, Quiet, End, adds}
 use Rattle.cdp_door.specs.Greetings.{Traffic, Gave, Took, Came, Comes, Hears, Looks, Owes, IsAnswerTo, IsUnfinished, IsReadInTime, Stops, Greets, Writes, WritesLess, bytes_of}
 use Rattle.cdp_door.specs.Texts.{text_of}

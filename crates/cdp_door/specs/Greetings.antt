@@ -1,7 +1,7 @@
 -- What a door does with the bytes of a wire: it reads a head, and nothing past it, and answers.
 use Rattle.std.specs.Prelude.{◌≡◌, ◌≢◌, ◌<◌, ◌≤◌, ◌⊎◌, ◌==◌, if◌then◌else◌, ℕ, List, [], ◌∷◌, ◌++◌, length, All, Option, Some, None}
 use Rattle.httparse.specs.Grammar.{RequestHead, ReadsRequest, HasNoRequest, NeverHasRequest, MayBecomeRequest}
-use Rattle.cdp_edge.specs.Outside.{gains, GainsLess}
+use Rattle.cdp_edge_wire.specs.Written.{gains, GainsLess}
 use Rattle.cdp_edge_wire.specs.Arrived.{Arrived, Byte, Quiet, End, adds}
 use Rattle.cdp_door.specs.declared.answer.Response.{Response}
 use Rattle.cdp_door.specs.declared.answer.Response.TheVariants.{Refusal}

@@ -5,6 +5,8 @@ use Rattle.std.specs.Prelude.{◌<◌, ◌≡◌, ◌⊎◌, ◌==◌, ◌+◌, 
 pub data Call : Type 0 where
   -- a read of the file of this name
   Read : List ℕ → Call
+  -- a store under this name
+  Store : List ℕ → Call
 
 -- how often calls have failed, and those calls, in order
 pub record Faults : Type 0 where

@@ -1,6 +1,6 @@
 //! A sink in memory, for tests.
 
-ghost use Rattle.std.specs.Prelude.{◌≡◌, ◌↔◌, Some, [], length, Contains, IfOk, IsErrOf};
+ghost use Rattle.std.specs.Prelude.{◌≡◌, ◌↔◌, [], length, Contains, IfOk, IsErrOf};
 ghost use Rattle.cdp_edge.specs.MemSink.{after_write};
 ghost use Rattle.cdp_edge.specs.Outside.{one_more};
 
@@ -54,7 +54,7 @@ impl MemSink {
 impl Sink for MemSink {
     ghost faults = { λ sink. sink.faults };
 
-    ghost content = { λ sink. Some sink.taken };
+    ghost content = { λ sink. sink.taken };
 
     fn write(&mut self, piece: &[u8]) -> Result<usize, SinkFault>
         ensures whole { IfOk result (λ n. n ≡ length piece.now) }

@@ -1,8 +1,9 @@
-//! A shelf has files. It counts its faults, tells the calls that failed and may tell its files.
+//! A shelf has files. It counts its faults and tells the calls that failed. It keeps a log of what it handed in and of
+//! what it stored, and it may tell its files.
 
-ghost use Rattle.std.specs.Prelude.{◌≡◌, List, Option};
-ghost use Rattle.cdp_edge.specs.Blame.{Faults, Read};
-ghost use Rattle.cdp_edge.specs.Outside.{IfTold, NamedFile, Tells, Accounts};
+ghost use Rattle.std.specs.Prelude.{◌≡◌, List, Option, IsErrOf};
+ghost use Rattle.cdp_edge.specs.Blame.{Faults, Read, Store};
+ghost use Rattle.cdp_edge.specs.Outside.{IfTold, NamedFile, Tells, Accounts, StoresTold, handed_after, stored_after};
 
 use std::alloc::Global;
 use thiserror::Error;
@@ -26,8 +27,15 @@ pub trait Shelf {
     /// How often a call failed or named a file that isn't there, and those calls, in order.
     ghost faults: { Self → Faults };
 
-    /// The files, where they are told.
+    /// The files, where they are told: those of the system can change at any time, and nothing is told of them.
     ghost files: { Self → Option (List NamedFile) };
+
+    /// What it handed in so far: of each read that succeeded the name that was asked for and the bytes that were the
+    /// answer, in order.
+    ghost handed: { Self → List NamedFile };
+
+    /// What it stored so far: of each store that succeeded the name and the bytes, in order.
+    ghost stored: { Self → List NamedFile };
 
     /// Reads the content of the file of this name.
     ///
@@ -36,7 +44,22 @@ pub trait Shelf {
     /// `NotThere` where no file has the name, and `Failed`: the call is then blamed. `Memory` at
     /// want of memory.
     fn read(&mut self, alloc: Global, name: &str) -> Result<Vec<u8>, ShelfFault>
+        ensures handed { handed self.new ≡ handed_after result name.now (handed self.old) }
+        ensures stored { stored self.new ≡ stored self.old }
         ensures content { IfTold (files self.old) (λ all. Tells result name.now all) }
         ensures files { files self.new ≡ files self.old }
         ensures faults { Accounts result (Read name.now) (faults self.old) (faults self.new) };
+
+    /// Stores these bytes as all of the file of this name, which need not be there.
+    ///
+    /// # Errors
+    ///
+    /// `Failed`, and the call is blamed: nothing is known of the file then. `Memory` at want of memory: the file is as
+    /// it was.
+    fn store(&mut self, name: &str, bytes: &[u8]) -> Result<(), ShelfFault>
+        ensures stored { stored self.new ≡ stored_after result name.now bytes.now (stored self.old) }
+        ensures handed { handed self.new ≡ handed self.old }
+        ensures files { StoresTold result name.now bytes.now (files self.old) (files self.new) }
+        ensures there { IsErrOf result ShelfFault.NotThere → ⊥ }
+        ensures faults { Accounts result (Store name.now) (faults self.old) (faults self.new) };
 }

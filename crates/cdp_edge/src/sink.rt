@@ -1,6 +1,6 @@
-//! A sink takes bytes, counts its faults and may tell what it took.
+//! A sink takes bytes, counts its faults and keeps a log of what it took.
 
-ghost use Rattle.std.specs.Prelude.{◌≡◌, ◌≤◌, ◌<◌, List, ℕ, Option, length, take, IfOk, OnOk, OnErr, IsErrOf};
+ghost use Rattle.std.specs.Prelude.{◌≡◌, ◌≤◌, ◌<◌, List, ℕ, length, take, IfOk, OnOk, OnErr, IsErrOf};
 ghost use Rattle.cdp_edge.specs.Outside.{Rose, gains, GainsLess};
 
 use thiserror::Error;
@@ -21,8 +21,8 @@ pub trait Sink: Send + Drop {
     /// How often a call has failed; it stays at the greatest `u64`.
     ghost faults: { Self → ℕ };
 
-    /// The bytes taken so far, where they are told.
-    ghost content: { Self → Option (List ℕ) };
+    /// The bytes taken so far.
+    ghost content: { Self → List ℕ };
 
     /// Takes some first bytes of the piece, at least one where there is one, and answers how many.
     ///

@@ -1,1 +1,2 @@
 mod GivenLemmas
+pub mod WrittenLemmas

@@ -5,7 +5,7 @@
 //!
 //! - *answers*: what a wire has answered so far but its failures, in order (`Arrived`), where that is told (an option: a
 //!   socket tells nothing); `adds` says how they grow
-//! - *content*: the bytes that it took, where they are told, as a sink's (`gains`)
+//! - *content*: the bytes that it took, where they are told (`gains`)
 //! - *faults*: how often a call has failed; `Rose` says that the count rose, or stands at the greatest `u64`
 //!
 //! `MemWire` is a wire in memory, for tests.

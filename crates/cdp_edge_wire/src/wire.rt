@@ -1,8 +1,9 @@
 //! What a wire is, and how a piece is written to it whole.
 
 ghost use Rattle.std.specs.Prelude.{◌≡◌, ◌≢◌, ◌≤◌, ◌<◌, List, ℕ, Option, length, take, IfOk, OnOk, OnErr, IsErrOf};
-ghost use Rattle.cdp_edge.specs.Outside.{Rose, gains, GainsLess};
+ghost use Rattle.cdp_edge.specs.Outside.{Rose};
 ghost use Rattle.cdp_edge_wire.specs.Arrived.{Arrived, arrived_of, adds};
+ghost use Rattle.cdp_edge_wire.specs.Written.{gains, GainsLess};
 
 use cdp_edge::SinkFault;
 
@@ -64,7 +65,7 @@ pub trait Wire: Drop {
 ///
 /// Those of [`Wire::write`]. Some first bytes of the piece were then taken, but not all. A write that failed isn't tried
 /// again.
-#[tactic(auto, using(cdp_edge::proofs::Gains::slices))]
+#[tactic(auto, using(crate::proofs::WrittenLemmas::slices))]
 pub fn put_all<W: Wire>(wire: &mut W, piece: &[u8]) -> Result<(), SinkFault>
     ensures ok { OnOk result (W.content wire.new ≡ gains (W.content wire.old) piece.now) }
     ensures err { OnErr result (GainsLess (W.content wire.old) (W.content wire.new) piece.now) }

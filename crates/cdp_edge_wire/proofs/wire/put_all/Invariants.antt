@@ -1,5 +1,5 @@
 use Rattle.std.proofs.Common.{length, ◌-◌, ◌≡◌, ◌≤◌, take}
-use Rattle.cdp_edge.specs.Outside.{gains}
+use Rattle.cdp_edge_wire.specs.Written.{gains}
 use Rattle.cdp_edge_wire.proofs.wire.put_all.Given as goal
 
 -- the first bytes are taken, and no write failed
