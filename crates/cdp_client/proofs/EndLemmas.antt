@@ -40,7 +40,7 @@ cut-written first old course now come =
     (sym (sends-written come.talk (next_command come.talk.course)) ∙ ap (λ t. t.written) come.whole)
 
 -- all of some bytes are a first part of them
-all-prefix : (old new : Option (List ℕ)) (bytes : List ℕ) → new ≡ gains old bytes → GainsPrefix old new bytes
+all-prefix : (old new : List ℕ) (bytes : List ℕ) → new ≡ gains old bytes → GainsPrefix old new bytes
 all-prefix old new bytes is = (bytes, [], sym (append-nil bytes), is)
 
 -- the end where the link failed at a send or a close, or there was no memory

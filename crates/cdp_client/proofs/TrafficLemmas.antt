@@ -1,5 +1,5 @@
 -- Traffic, and then more of it.
-use Rattle.std.proofs.Common.{◌≡◌, ℕ, List, [], ◌∷◌, ◌++◌, Option, refl, ap, sym, ◌∙◌, append_assoc}
+use Rattle.std.proofs.Common.{◌≡◌, ℕ, List, [], ◌∷◌, ◌++◌, refl, ap, sym, ◌∙◌, append_assoc}
 use Rattle.cdp_edge.specs.Outside.{gains}
 use Rattle.cdp_edge.proofs.Gains.{gains-append, gains-nil}
 use Rattle.cdp_text.specs.Lines.{ended}
@@ -13,7 +13,7 @@ ended-append [] ys = refl
 ended-append (x ∷ xs) ys =
     ap (λ rest. x ++ 10 ∷ rest) (ended-append xs ys) ∙ sym (append_assoc x (10 ∷ ended xs) (ended ys))
 
-gains-on : (old : Option (List ℕ)) (xs ys : List (List ℕ))
+gains-on : (old : List ℕ) (xs ys : List (List ℕ))
     → gains (gains old (ended xs)) (ended ys) ≡ gains old (ended (xs ++ ys))
 gains-on old xs ys = gains-append old (ended xs) (ended ys) ∙ ap (λ b. gains old b) (sym (ended-append xs ys))
 

@@ -133,7 +133,7 @@ passes-one old new answer answers sent written = λ i. record {
 }
 
 -- the link's count is as it was where a text was written or not
-pub link-text : (course left : Course) (text : List ℕ) (old new : Option (List ℕ)) (result : Option Conversed)
+pub link-text : (course left : Course) (text : List ℕ) (old new : List ℕ) (result : Option Conversed)
     (before after : ℕ) → Writes course (heard.Text text) left old new result → after ≡ before
     → CountsLink result before after
 link-text course left text old new None before after writes same = same

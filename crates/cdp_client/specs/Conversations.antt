@@ -17,7 +17,7 @@ use Rattle.cdp_client.specs.declared.conversed.Conversed.TheVariants as ends
 pub record Traffic : Type 0 where
   pub answers : Option (List Heard)
   pub sent : Option (List (List ℕ))
-  pub written : Option (List ℕ)
+  pub written : List ℕ
 
 -- these answers, texts and lines more
 abbrev pub passes : Traffic → List Heard → List (List ℕ) → List (List ℕ) → Traffic
@@ -177,7 +177,7 @@ Closes ends.WriteFault = ⊥
 Closes ends.Memory = Unit {0}
 
 -- the lines of an answer were written and the course went on, or a first part of them was written
-abbrev pub Writes : Course → Heard → Course → Option (List ℕ) → Option (List ℕ) → Option Conversed → Type 0
+abbrev pub Writes : Course → Heard → Course → List ℕ → List ℕ → Option Conversed → Type 0
 Writes course answer left old new None =
     (left ≡ course_heard course answer) × (new ≡ gains old (ended (lines_heard course answer)))
 Writes course answer left old new (Some ends.Done) = ⊥
@@ -188,7 +188,7 @@ Writes course answer left old new (Some ends.WriteFault) = GainsLess old new (en
 Writes course answer left old new (Some ends.Memory) = GainsPrefix old new (ended (lines_heard course answer))
 
 -- an answer after which a conversation goes on was heard, and these bytes written of it
-abbrev pub IsHeardWith : (Option (List ℕ) → Option (List ℕ) → List ℕ → Type 0) → Course → Traffic → Traffic → Type 0
+abbrev pub IsHeardWith : (List ℕ → List ℕ → List ℕ → Type 0) → Course → Traffic → Traffic → Type 0
 IsHeardWith Gains course old new =
     (answer : Heard) × GoesOn answer × (new.answers ≡ adds old.answers (answer ∷ [])) × (new.sent ≡ old.sent)
     × Gains old.written new.written (ended (lines_heard course answer))

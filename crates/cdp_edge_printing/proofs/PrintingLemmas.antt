@@ -1,5 +1,5 @@
 -- The lines of texts, one after another.
-use Rattle.std.proofs.Common.{◌≡◌, ℕ, ◌+◌, ◌<◌, List, [], ◌∷◌, ◌++◌, length, take, drop, get_or, Option, refl, ap, sym, ◌∙◌, append_assoc, append-nil}
+use Rattle.std.proofs.Common.{◌≡◌, ℕ, ◌+◌, ◌<◌, List, [], ◌∷◌, ◌++◌, length, take, drop, get_or, refl, ap, sym, ◌∙◌, append_assoc, append-nil}
 use Rattle.std.proofs.lemmas.List.{take_more, drop_more, take-append-drop}
 use Rattle.cdp_edge.specs.Outside.{gains, GainsPrefix, GainsLess}
 use Rattle.cdp_edge_printing.specs.Printing.{printed_line, printed_lines}
@@ -34,11 +34,11 @@ lines-at xs i x within is =
     ∙ sym (append_assoc (printed_lines (take i xs)) (printed_line x) (printed_lines (drop (i + 1) xs)))
 
 -- not all of them is some of them
-pub less-part : (old new : Option (List ℕ)) (bytes : List ℕ) → GainsLess old new bytes → GainsPrefix old new bytes
+pub less-part : (old new : List ℕ) (bytes : List ℕ) → GainsLess old new bytes → GainsPrefix old new bytes
 less-part old new bytes (part, rest, some, e, g) = (part, rest, e, g)
 
 -- a first part of some bytes is one of more
-pub part-longer : (old new : Option (List ℕ)) (bytes more all : List ℕ)
+pub part-longer : (old new : List ℕ) (bytes more all : List ℕ)
     → all ≡ bytes ++ more
     → GainsPrefix old new bytes
     → GainsPrefix old new all
@@ -46,5 +46,5 @@ part-longer old new bytes more all is (part, rest, e, g) =
     (part, rest ++ more, is ∙ ap (λ b. b ++ more) e ∙ append_assoc part rest more, g)
 
 -- all of them are a first part
-pub whole-part : (old new : Option (List ℕ)) (bytes : List ℕ) → new ≡ gains old bytes → GainsPrefix old new bytes
+pub whole-part : (old new : List ℕ) (bytes : List ℕ) → new ≡ gains old bytes → GainsPrefix old new bytes
 whole-part old new bytes g = (bytes, [], sym (append-nil bytes), g)

@@ -1,5 +1,5 @@
 -- From the start of the scripts to the end of their run.
-use Rattle.std.proofs.Common.{◌≡◌, ℕ, ◌+◌, List, [], ◌++◌, Option, sym, ap, subst, ◌∙◌, append-nil}
+use Rattle.std.proofs.Common.{◌≡◌, ℕ, ◌+◌, List, [], ◌++◌, sym, ap, subst, ◌∙◌, append-nil}
 use Rattle.cdp_edge.specs.Outside.{gains, GainsPrefix, GainsLess}
 use Rattle.js_heap.specs.BuiltIns.{script_scope}
 use Rattle.js_heap.specs.World.{World}
@@ -14,7 +14,7 @@ use Rattle.js_machine_engine.specs.declared.stepped.Finish.{Finish}
 use Rattle.js_machine_engine.specs.declared.stepped.Finish.TheVariants as finishes
 use Rattle.js_machine_engine.specs.Stepping.{finish_of}
 use Rattle.js_machine.specs.declared.machine.Started.{Started}
-use Rattle.js_machine.specs.Machines.{Machine, program_of, run_at, state_of}
+use Rattle.js_machine.specs.Machines.{Machine, run_at, state_of}
 use Rattle.js_machine.specs.Starts.{IsStarted}
 use Rattle.debug_host_plain_runs.specs.declared.end.PlainRunEnd.{PlainRunEnd}
 use Rattle.debug_host_plain_runs.specs.declared.end.PlainRunEnd.TheVariants as ends
@@ -36,7 +36,7 @@ from_start ts input s k h =
 
 -- where a machine is that is over, the run is over
 pub run_over : (ts : Terms) (input : List (List ℕ)) (s : Started) (n : Machine) (w : World)
-    (before now : Option (List ℕ)) (f : Finish)
+    (before now : List ℕ) (f : Finish)
     → IsStarted ts input s
     → (h : HasCome s.machine (heap_world s.machine.names s.heap) n w before now)
     → IsOverBy f n w
@@ -45,7 +45,7 @@ run_over ts input s n w before now f i h o =
     sym (from_start ts input s h.turned.steps i) ∙ sym (h.turned.run []) ∙ o h.texts
 
 -- and all that it printed is written
-pub all_written : (m n : Machine) (v w : World) (before now : Option (List ℕ))
+pub all_written : (m n : Machine) (v w : World) (before now : List ℕ)
     → (h : HasCome m v n w before now)
     → now ≡ gains before (printed_lines (h.texts ++ n.context.printed))
 all_written m n v w before now h =
@@ -53,7 +53,7 @@ all_written m n v w before now h =
     ∙ ap (λ (ts : List (List ℕ)). gains before (printed_lines ts))
     (sym (ap (λ (ps : List (List ℕ)). h.texts ++ ps) h.turned.rest ∙ append-nil h.texts))
 
-cut_at : (ts : Terms) (input : List (List ℕ)) (k : ℕ) (r : runs.Finish) (st : State) (before now : Option (List ℕ))
+cut_at : (ts : Terms) (input : List (List ℕ)) (k : ℕ) (r : runs.Finish) (st : State) (before now : List ℕ)
     → plain k ts input ≡ over r st
     → now ≡ gains before (printed_lines st.printed)
     → IsCut ts input before now
@@ -65,7 +65,7 @@ cut_at ts input k r st before now is g = record {
 }
 
 pub comes_over : (e : PlainRunEnd) (ts : Terms) (input : List (List ℕ)) (s : Started) (n : Machine) (w : World)
-    (before now : Option (List ℕ)) (f : Finish)
+    (before now : List ℕ) (f : Finish)
     → IsStarted ts input s
     → HasCome s.machine (heap_world s.machine.names s.heap) n w before now
     → IsOverBy f n w
@@ -101,7 +101,7 @@ prints_out : (ts : Terms) (input : List (List ℕ)) (s : Started) (k : ℕ) (tex
     → printed_lines texts ≡ output_after k ts input
 prints_out ts input s k texts i e = ap printed_lines (sym e ∙ ap printed_of (from_start ts input s k i))
 
-pub comes_cut : (ts : Terms) (input : List (List ℕ)) (s : Started) (before now : Option (List ℕ))
+pub comes_cut : (ts : Terms) (input : List (List ℕ)) (s : Started) (before now : List ℕ)
     → IsStarted ts input s
     → IsCutFrom s.machine (heap_world s.machine.names s.heap) before now
     → IsCut ts input before now
@@ -112,7 +112,7 @@ comes_cut ts input s before now i h = record {
       (prints_out ts input s h.prints.steps h.texts i (h.prints.are [])) h.part;
 }
 
-pub comes_short : (ts : Terms) (input : List (List ℕ)) (s : Started) (before now : Option (List ℕ))
+pub comes_short : (ts : Terms) (input : List (List ℕ)) (s : Started) (before now : List ℕ)
     → IsStarted ts input s
     → IsLessFrom s.machine (heap_world s.machine.names s.heap) before now
     → IsCutShort ts input before now
@@ -125,7 +125,7 @@ comes_short ts input s before now i h = record {
 
 -- ---- a first part of the output
 
-cut_of : (e : PlainRunEnd) (ts : Terms) (input : List (List ℕ)) (before now : Option (List ℕ))
+cut_of : (e : PlainRunEnd) (ts : Terms) (input : List (List ℕ)) (before now : List ℕ)
     → ComesTo e ts input before now
     → IsCut ts input before now
 cut_of ends.Ended ts input before now h = cut_at ts input h.steps (runs.ended h.value) h.state before now h.is h.whole
@@ -147,7 +147,7 @@ output_goes_on ts input k more =
           ∙ ap printed_lines grown.1 ∙ lines-append (printed_of r) grown.0,
     )
 
-pub first_part : (e : PlainRunEnd) (ts : Terms) (input : List (List ℕ)) (before now : Option (List ℕ))
+pub first_part : (e : PlainRunEnd) (ts : Terms) (input : List (List ℕ)) (before now : List ℕ)
     → ComesTo e ts input before now
     → IsFirstPart ts input before now
 first_part e ts input before now h =

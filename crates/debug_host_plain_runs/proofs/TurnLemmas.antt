@@ -1,12 +1,11 @@
 -- Turns one after another.
-use Rattle.std.proofs.Common.{◌≡◌, ℕ, ◌+◌, List, [], ◌++◌, Option, Result, Ok, Err, refl, sym, ap, subst, ◌∙◌, append_assoc, append-nil}
+use Rattle.std.proofs.Common.{◌≡◌, ℕ, ◌+◌, List, [], ◌++◌, Result, Ok, Err, refl, sym, ap, subst, ◌∙◌, append_assoc, append-nil}
 use Rattle.std.specs.Prelude.{IsErrOf}
 use Rattle.cdp_edge.specs.Outside.{gains}
 use Rattle.cdp_edge.proofs.Gains.{gains-append, gains-nil, GainsPrefix-behind, GainsLess-behind}
 use Rattle.js_heap.specs.BuiltIns.{script_scope}
 use Rattle.js_heap.specs.World.{World}
 use Rattle.js_semantics.specs.Functions.{Program}
-use Rattle.js_semantics.specs.Terms.{part}
 use Rattle.js_semantics.specs.Run.{printed_of, steps_in}
 use Rattle.js_semantics.proofs.FollowLemmas.{steps-more}
 use Rattle.js_heap_memory.specs.Heaps.{Heap, heap_world}
@@ -67,7 +66,7 @@ has_turned m n o v h k why texts code end kept run e is =
 
 -- ---- one turn behind another
 
-pub come_nowhere : (m : Machine) (v : World) (before : Option (List ℕ))
+pub come_nowhere : (m : Machine) (v : World) (before : List ℕ)
     → m.context.printed ≡ []
     → HasCome m v m v before before
 come_nowhere m v before none = record {
@@ -85,7 +84,7 @@ steps_behind m n v w texts h taken k =
     ∙ ap (steps_in k (program_of m) script_scope) (h.run taken)
     ∙ sym (steps-more h.steps k (program_of m) script_scope (run_at m v taken))
 
-pub come_on : (m n o : Machine) (v w x : World) (before now after : Option (List ℕ))
+pub come_on : (m n o : Machine) (v w x : World) (before now after : List ℕ)
     → HasCome m v n w before now
     → HasCome n w o x now after
     → HasCome m v o x before after
@@ -124,7 +123,7 @@ parts_behind : (texts more : List (List ℕ))
     → printed_lines (texts ++ more) ≡ printed_lines texts ++ printed_lines more ++ []
 parts_behind texts more = lines-append texts more ∙ sym (append-nil (printed_lines texts ++ printed_lines more))
 
-pub cut_on : (m n : Machine) (v w : World) (before now after : Option (List ℕ))
+pub cut_on : (m n : Machine) (v w : World) (before now after : List ℕ)
     → HasCome m v n w before now
     → IsCutFrom n w now after
     → IsCutFrom m v before after
@@ -136,7 +135,7 @@ cut_on m n v w before now after h i = record {
       (printed_lines (h.texts ++ i.texts)) h.written (parts_behind h.texts i.texts) i.part;
 }
 
-pub less_on : (m n : Machine) (v w : World) (before now after : Option (List ℕ))
+pub less_on : (m n : Machine) (v w : World) (before now after : List ℕ)
     → HasCome m v n w before now
     → IsLessFrom n w now after
     → IsLessFrom m v before after

@@ -1,5 +1,5 @@
 -- What a run of scripts comes to, and what of its output was written.
-use Rattle.std.specs.Prelude.{◌≡◌, ◌+◌, ℕ, List, Option, string_bytes}
+use Rattle.std.specs.Prelude.{◌≡◌, ◌+◌, ℕ, List, string_bytes}
 use Rattle.cdp_edge.specs.Outside.{gains, GainsPrefix, GainsLess}
 use Rattle.cdp_text.specs.Units.{utf8_of}
 use Rattle.js_heap.specs.declared.value.Value.{Value}
@@ -20,7 +20,7 @@ abbrev pub output_after : ℕ → Terms → List (List ℕ) → List ℕ
 output_after k ts input = printed_lines (out k ts input)
 
 -- after some steps the run has ended by its last script, and all that it printed was written
-pub record HasEnded (ts : Terms) (input : List (List ℕ)) (before now : Option (List ℕ)) : Type 0 where
+pub record HasEnded (ts : Terms) (input : List (List ℕ)) (before now : List ℕ) : Type 0 where
   pub steps : ℕ
   pub value : Value
   pub state : State
@@ -28,7 +28,7 @@ pub record HasEnded (ts : Terms) (input : List (List ℕ)) (before now : Option 
   pub whole : now ≡ gains before (printed_lines state.printed)
 
 -- after some steps it has ended by a throw of a value that is shown so, and all that it printed was written
-pub record HasThrown (ts : Terms) (input : List (List ℕ)) (text : List ℕ) (before now : Option (List ℕ)) : Type 0 where
+pub record HasThrown (ts : Terms) (input : List (List ℕ)) (text : List ℕ) (before now : List ℕ) : Type 0 where
   pub steps : ℕ
   pub value : Value
   pub place : SourceMark
@@ -38,24 +38,24 @@ pub record HasThrown (ts : Terms) (input : List (List ℕ)) (text : List ℕ) (b
   pub whole : now ≡ gains before (printed_lines state.printed)
 
 -- a first part of what some steps print was written
-pub record IsCut (ts : Terms) (input : List (List ℕ)) (before now : Option (List ℕ)) : Type 0 where
+pub record IsCut (ts : Terms) (input : List (List ℕ)) (before now : List ℕ) : Type 0 where
   pub steps : ℕ
   pub part : GainsPrefix before now (output_after steps ts input)
 
 -- a first part of what some steps print was written, and not all of it
-pub record IsCutShort (ts : Terms) (input : List (List ℕ)) (before now : Option (List ℕ)) : Type 0 where
+pub record IsCutShort (ts : Terms) (input : List (List ℕ)) (before now : List ℕ) : Type 0 where
   pub steps : ℕ
   pub less : GainsLess before now (output_after steps ts input)
 
 -- what each end says of the run and of what was written
-abbrev pub ComesTo : PlainRunEnd → Terms → List (List ℕ) → Option (List ℕ) → Option (List ℕ) → Type 0
+abbrev pub ComesTo : PlainRunEnd → Terms → List (List ℕ) → List ℕ → List ℕ → Type 0
 ComesTo ends.Ended ts input before now = HasEnded ts input before now
 ComesTo (ends.Threw text) ts input before now = HasThrown ts input (string_bytes text) before now
 ComesTo ends.CannotWrite ts input before now = IsCutShort ts input before now
 ComesTo ends.Memory ts input before now = IsCut ts input before now
 
 -- what was written is a first part of the output, however many more steps are made
-pub record IsFirstPart (ts : Terms) (input : List (List ℕ)) (before now : Option (List ℕ)) : Type 0 where
+pub record IsFirstPart (ts : Terms) (input : List (List ℕ)) (before now : List ℕ) : Type 0 where
   pub steps : ℕ
   pub part : (more : ℕ) → GainsPrefix before now (output_after (steps + more) ts input)
 

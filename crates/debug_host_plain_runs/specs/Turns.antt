@@ -1,5 +1,5 @@
 -- What many steps of a machine come to, whose texts are taken and written.
-use Rattle.std.specs.Prelude.{◌≡◌, ℕ, List, [], ◌++◌, Option}
+use Rattle.std.specs.Prelude.{◌≡◌, ℕ, List, [], ◌++◌}
 use Rattle.cdp_edge.specs.Outside.{gains, GainsPrefix, GainsLess}
 use Rattle.js_heap.specs.BuiltIns.{script_scope}
 use Rattle.js_heap.specs.World.{World}
@@ -21,7 +21,7 @@ pub record HasTurned (m : Machine) (v : World) (n : Machine) (w : World) (texts 
   pub run : (taken : List (List ℕ)) → run_at n w (taken ++ texts) ≡ run_from m v taken steps
 
 -- some steps lead from one machine with its cells to the other, and what they print was written
-pub record HasCome (m : Machine) (v : World) (n : Machine) (w : World) (before now : Option (List ℕ)) : Type 0 where
+pub record HasCome (m : Machine) (v : World) (n : Machine) (w : World) (before now : List ℕ) : Type 0 where
   pub texts : List (List ℕ)
   pub turned : HasTurned m v n w texts
   pub written : now ≡ gains before (printed_lines texts)
@@ -32,13 +32,13 @@ pub record Prints (m : Machine) (v : World) (texts : List (List ℕ)) : Type 0 w
   pub are : (taken : List (List ℕ)) → printed_of (run_from m v taken steps) ≡ taken ++ texts
 
 -- a first part of the lines that some steps print was written
-pub record IsCutFrom (m : Machine) (v : World) (before now : Option (List ℕ)) : Type 0 where
+pub record IsCutFrom (m : Machine) (v : World) (before now : List ℕ) : Type 0 where
   pub texts : List (List ℕ)
   pub prints : Prints m v texts
   pub part : GainsPrefix before now (printed_lines texts)
 
 -- a first part of the lines that some steps print was written, and not all of them
-pub record IsLessFrom (m : Machine) (v : World) (before now : Option (List ℕ)) : Type 0 where
+pub record IsLessFrom (m : Machine) (v : World) (before now : List ℕ) : Type 0 where
   pub texts : List (List ℕ)
   pub prints : Prints m v texts
   pub less : GainsLess before now (printed_lines texts)

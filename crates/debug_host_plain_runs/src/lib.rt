@@ -1,6 +1,6 @@
 //! Runs of scripts that nobody watches, whose printed texts go to a sink.
 //!
-//! Words of its own, which stand in `specs/`; what was written is what the sink's content gained, where its content is told:
+//! Words of its own, which stand in `specs/`; what was written is what the sink took:
 //!
 //! - `ComesTo`: what each end says of the run of the definitions and of what was written.
 //! - `EndsBy`: a run that is over so is told so; want of memory may hide it.

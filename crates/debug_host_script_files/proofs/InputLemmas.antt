@@ -1,5 +1,5 @@
 -- The lines of a text, one after another.
-use Rattle.std.proofs.Common.{◌≡◌, ◌≢◌, ℕ, ◌<◌, ◌==◌, Bool, true, false, List, [], ◌∷◌, ◌++◌, length, get_or, map, Option, None, Some, Ok, refl, sym, ap, ◌∙◌, append_assoc, append-nil, arith}
+use Rattle.std.proofs.Common.{◌≡◌, ◌≢◌, ℕ, ◌<◌, ◌==◌, Bool, true, false, List, [], ◌∷◌, ◌++◌, length, get_or, map, Option, Ok, refl, sym, ap, ◌∙◌, append_assoc, append-nil, arith}
 use Rattle.std.specs.Prelude.{IsUtf8}
 use Rattle.std.specs.Str.{is_utf8}
 use Rattle.std.specs.declared.vec.Vec.{Vec}
@@ -7,7 +7,8 @@ use Rattle.std.specs.declared.alloc.Global.{Global}
 use Rattle.std.proofs.lemmas.Bool.{eqb-true}
 use Rattle.std.proofs.lemmas.Str.{IsUtf8-from_is_utf8, is_utf8-from_IsUtf8}
 use Rattle.std.proofs.lemmas.List.Elements.{All-from_get_or}
-use Rattle.cdp_edge.specs.Outside.{NamedFile, IfTold, Tells}
+use Rattle.cdp_edge.specs.Outside.{NamedFile, IfTold, Tells, HandsIn, Given, one_file, with_file}
+use Rattle.cdp_edge.proofs.HandedLemmas.{hands_one}
 use Rattle.cdp_text.specs.Lines.{IsOneLine}
 use Rattle.cdp_text.specs.Units.{utf16_of}
 use Rattle.cdp_text.proofs.LinesLemmas.{lines_of-line, lines_of-last}
@@ -79,29 +80,36 @@ test_utf8 bs false e h = refl
 pub no_utf8 : (bs : List ℕ) → ¬ (IsUtf8 bs) → is_utf8 bs ≡ false
 no_utf8 bs h = test_utf8 bs (is_utf8 bs) refl h
 
-pub told_no_text : (told : Option (List NamedFile)) (bytes : Vec ℕ Global) (name text : List ℕ)
+pub given_no_text : (told : Option (List NamedFile)) (old new : List NamedFile) (bytes : Vec ℕ Global) (name text : List ℕ)
     → IfTold told (λ all. Tells (Ok bytes) name all)
+    → new ≡ with_file old name bytes.items
     → text ≡ bytes.items
     → ¬ (IsUtf8 text)
-    → IfTold told (λ files. HoldsNoText files name refusals.NotUtf8)
-told_no_text None bytes name text h e isnt = tt
-told_no_text (Some files) bytes name text h e isnt =
-    record { bytes = bytes.items; there = h; utf8 = ap is_utf8 (sym e) ∙ no_utf8 text isnt; told = refl }
+    → Given (HandsIn told old new) (λ given. HoldsNoText given name refusals.NotUtf8)
+given_no_text told old new bytes name text h log e isnt = (
+  one_file name bytes.items,
+  hands_one told old new name bytes h log,
+  record { bytes = bytes.items; there = refl; utf8 = ap is_utf8 (sym e) ∙ no_utf8 text isnt; told = refl },
+)
 
-pub told_input : (told : Option (List NamedFile)) (bytes : Vec ℕ Global) (name text given : List ℕ) (lines : List (List ℕ))
+pub given_input : (told : Option (List NamedFile)) (old new : List NamedFile) (bytes : Vec ℕ Global)
+    (name text taken : List ℕ) (lines : List (List ℕ))
     → IfTold told (λ all. Tells (Ok bytes) name all)
+    → new ≡ with_file old name bytes.items
     → text ≡ bytes.items
-    → given ≡ text
+    → taken ≡ text
     → IsUtf8 text
-    → lines ≡ input_of given
-    → IfTold told (λ files. HoldsInput files name lines)
-told_input None bytes name text given lines h e f u is = tt
-told_input (Some files) bytes name text given lines h e f u is =
-    record {
-      bytes = bytes.items;
-      there = h;
-      utf8 = ap is_utf8 (sym e)
-          ∙ is_utf8-from_IsUtf8 text u;
-      are = is
-          ∙ ap input_of (f ∙ e);
-    }
+    → lines ≡ input_of taken
+    → Given (HandsIn told old new) (λ given. HoldsInput given name lines)
+given_input told old new bytes name text taken lines h log e f u is = (
+  one_file name bytes.items,
+  hands_one told old new name bytes h log,
+  record {
+    bytes = bytes.items;
+    there = refl;
+    utf8 = ap is_utf8 (sym e)
+        ∙ is_utf8-from_IsUtf8 text u;
+    are = is
+        ∙ ap input_of (f ∙ e);
+  },
+)

@@ -1,3 +1,4 @@
 pub mod TopNameLemmas
 pub mod InputLemmas
 pub mod ScriptLemmas
+pub mod ToldLemmas

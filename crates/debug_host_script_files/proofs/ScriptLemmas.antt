@@ -8,8 +8,9 @@ use Rattle.std.specs.Borrow.{Bor}
 use Rattle.std.specs.declared.alloc.Global.{Global}
 use Rattle.std.proofs.lemmas.List.{take_more, drop_more, take-append-drop, map-append}
 use Rattle.std.proofs.lemmas.Str.{is_utf8-from_IsUtf8}
-use Rattle.cdp_edge.specs.Blame.{Faults}
-use Rattle.cdp_edge.specs.Outside.{NamedFile, IfTold, Tells, content_of}
+use Rattle.cdp_edge.specs.Blame.{Faults, Blames, Read}
+use Rattle.cdp_edge.specs.Outside.{NamedFile, IfTold, Tells, HandsIn, Given, one_file, with_file}
+use Rattle.cdp_edge.proofs.HandedLemmas.{hands_nothing, hands_one, given_nothing, given_more}
 use Rattle.cdp_text.specs.Units.{utf16_of}
 use Rattle.js_tree.specs.declared.script.Script.{Script}
 use Rattle.js_tree.specs.Height.{height_of_statements}
@@ -132,19 +133,25 @@ declared_more (x ∷ ss) s =
     ap (λ ns. declared_by_script x ++ ns) (declared_more ss s)
     ∙ sym (append_assoc (declared_by_script x) (declared_in ss) (declared_by_script s))
 
-are_more : (files : List NamedFile) (earlier : List Script) (names : List (List ℕ)) (ss : List Script) (name : List ℕ)
-    (s : Script)
-    → AreScriptsBehind files earlier names ss
-    → HoldsScript files (earlier ++ ss) name s
-    → AreScriptsBehind files earlier (names ++ name ∷ []) (ss ++ s ∷ [])
-are_more files earlier [] [] name s h n =
-    (subst (λ (e : List Script). HoldsScript files e name s) (append-nil earlier) n, tt)
-are_more files earlier [] (x ∷ ss) name s h n = absurd h
-are_more files earlier (m ∷ names) [] name s h n = absurd h
-are_more files earlier (m ∷ names) (x ∷ ss) name s h n = (
+are_more : (given : List NamedFile) (earlier : List Script) (names : List (List ℕ)) (ss : List Script)
+    (name bytes : List ℕ) (s : Script)
+    → AreScriptsBehind given earlier names ss
+    → IsScriptOf (declared_in (earlier ++ ss)) (length (earlier ++ ss)) name bytes s
+    → AreScriptsBehind (given ++ one_file name bytes) earlier (names ++ name ∷ []) (ss ++ s ∷ [])
+are_more [] earlier [] [] name bytes s h n = (
+  refl,
+  subst (λ (e : List Script). IsScriptOf (declared_in e) (length e) name bytes s) (append-nil earlier) n,
+  tt,
+)
+are_more [] earlier [] (x ∷ ss) name bytes s h n = absurd h
+are_more [] earlier (m ∷ names) ss name bytes s h n = absurd h
+are_more (file ∷ given) earlier [] ss name bytes s h n = absurd h
+are_more (file ∷ given) earlier (m ∷ names) [] name bytes s h n = absurd h
+are_more (file ∷ given) earlier (m ∷ names) (x ∷ ss) name bytes s h n = (
   h.0,
-  are_more files (earlier ++ x ∷ []) names ss name s h.1
-      (subst (λ (e : List Script). HoldsScript files e name s) (sym (append_assoc earlier (x ∷ []) ss)) n),
+  h.1,
+  are_more given (earlier ++ x ∷ []) names ss name bytes s h.2
+      (subst (λ (e : List Script). IsScriptOf (declared_in e) (length e) name bytes s) (sym (append_assoc earlier (x ∷ []) ss)) n),
 )
 
 -- ---- none is refused
@@ -205,131 +212,172 @@ declared_after a b s t p q =
     ∙ ap (λ v. declared_in b ++ declared_names v) q
     ∙ sym (declared_more b t)
 
-pub some_same : (o : Option (List ℕ)) (x y : List ℕ) → o ≡ Some x → o ≡ Some y → x ≡ y
-some_same o x y p q = cc
-
-excluded : (files : List NamedFile) (a b : List Script) (before : List (List ℕ)) (name : List ℕ) (behind : List (List ℕ))
-    (ss us : List Script) (r : TextFault)
+excluded : (given : List NamedFile) (bytes : List ℕ) (a b : List Script) (before : List (List ℕ)) (name : List ℕ)
+    (behind : List (List ℕ)) (ss us : List Script) (r : TextFault)
     → declared_in a ≡ declared_in b
-    → AreScriptsBehind files a (before ++ name ∷ behind) ss
-    → AreScriptsBehind files b before us
-    → IsRefusedNext files (b ++ us) name r
+    → AreScriptsBehind (given ++ one_file name bytes) a (before ++ name ∷ behind) ss
+    → AreScriptsBehind given b before us
+    → IsRefused (declared_in (b ++ us)) bytes r
     → ⊥
-excluded files a b [] name behind [] us r p h j next = absurd h
-excluded files a b [] name behind (s ∷ ss) (u ∷ us) r p h j next = absurd j
-excluded files a b [] name behind (s ∷ ss) [] r p h j next =
-    let same : h.0.bytes ≡ next.bytes = some_same (content_of name files) h.0.bytes next.bytes h.0.there next.there in
-    let here : IsRefused (declared_in (b ++ [])) h.0.bytes r = subst
-    (λ (bs : List ℕ). IsRefused (declared_in (b ++ [])) bs r) (sym same) next.refused in
-    let now : IsRefused (declared_in a) h.0.bytes r = subst (λ (ns : List (List ℕ)). IsRefused ns h.0.bytes r)
-    (ap declared_in (append-nil b) ∙ sym p) here in
-    script_stands (declared_in a) (length a) name h.0.bytes s r h.0.script now
-excluded files a b (n ∷ before) name behind [] us r p h j next = absurd h
-excluded files a b (n ∷ before) name behind (s ∷ ss) [] r p h j next = absurd j
-excluded files a b (n ∷ before) name behind (s ∷ ss) (u ∷ us) r p h j next =
-    let same : h.0.bytes ≡ j.0.bytes = some_same (content_of n files) h.0.bytes j.0.bytes h.0.there j.0.there in
-    let tree = same_tree (declared_in a) (declared_in b) (length a) (length b)
-    n h.0.bytes j.0.bytes s u p same h.0.script j.0.script in
-    excluded files (a ++ s ∷ []) (b ++ u ∷ []) before name behind ss us r (declared_after a b s u p tree) h.1 j.1
-    (subst (λ (e : List Script). IsRefusedNext files e name r) (sym (append_assoc b (u ∷ []) us)) next)
+excluded [] bytes a b [] name behind [] [] r p h j refused = absurd h
+excluded [] bytes a b [] name behind (s ∷ ss) [] r p h j refused =
+    let now : IsRefused (declared_in a) bytes r = subst (λ (ns : List (List ℕ)). IsRefused ns bytes r)
+    (ap declared_in (append-nil b) ∙ sym p) refused in
+    script_stands (declared_in a) (length a) name bytes s r h.1 now
+excluded [] bytes a b [] name behind ss (u ∷ us) r p h j refused = absurd j
+excluded [] bytes a b (n ∷ before) name behind ss us r p h j refused = absurd j
+excluded (file ∷ given) bytes a b [] name behind ss us r p h j refused = absurd j
+excluded (file ∷ given) bytes a b (n ∷ before) name behind ss [] r p h j refused = absurd j
+excluded (file ∷ given) bytes a b (n ∷ before) name behind [] (u ∷ us) r p h j refused = absurd h
+excluded (file ∷ given) bytes a b (n ∷ before) name behind (s ∷ ss) (u ∷ us) r p h j refused =
+    let tree = same_tree (declared_in a) (declared_in b) (length a) (length b) n file.bytes file.bytes s u p refl h.1 j.1 in
+    excluded given bytes (a ++ s ∷ []) (b ++ u ∷ []) before name behind ss us r (declared_after a b s u p tree) h.2 j.2
+    (subst (λ (e : List Script). IsRefused (declared_in e) bytes r) (sym (append_assoc b (u ∷ []) us)) refused)
 
 -- where all files hold scripts, none is refused
-pub none_refused : (files : List NamedFile) (names : List (List ℕ)) (ss : List Script) (name : List ℕ) (r : TextFault)
-    → AreScripts files names ss
-    → IsRefusedAt files names name r
+pub none_refused : (given : List NamedFile) (names : List (List ℕ)) (ss : List Script) (name : List ℕ) (r : TextFault)
+    → AreScripts given names ss
+    → IsRefusedAt given names name r
     → ⊥
-none_refused files names ss name r h i =
-    excluded files [] [] i.reached.before name i.reached.stands.behind ss i.reached.scripts r refl
-    (subst (λ (ns : List (List ℕ)). AreScripts files ns ss) i.reached.stands.parts h) i.reached.are i.next
+none_refused given names ss name r h i =
+    let parts : given ≡ i.earlier ++ one_file name i.next.bytes = i.parts ∙ ap (λ l. i.earlier ++ l) i.next.there in
+    excluded i.earlier i.next.bytes [] [] i.reached.before name i.reached.stands.behind ss i.reached.scripts r refl
+    (subst (λ (ns : List (List ℕ)). AreScripts (i.earlier ++ one_file name i.next.bytes) ns ss) i.reached.stands.parts
+    (subst (λ (fs : List NamedFile). AreScripts fs names ss) parts h)) i.reached.are i.next.refused
 
--- ---- what a shelf tells
+-- ---- what a shelf handed in
 
-pub told_script : (told : Option (List NamedFile)) (bytes : Vec ℕ Global) (name text : List ℕ) (declared : List (List ℕ))
-    (earlier : List Script) (s : Script)
+abbrev Files : Type 1
+Files = List NamedFile → Type 0
+
+given_script : (told : Option (List NamedFile)) (old new : List NamedFile) (bytes : Vec ℕ Global) (name text : List ℕ)
+    (declared : List (List ℕ)) (earlier : List Script) (s : Script)
     → IfTold told (λ all. Tells (Ok bytes) name all)
+    → new ≡ with_file old name bytes.items
     → text ≡ bytes.items
     → declared ≡ declared_in earlier
     → IsScriptOf declared (length earlier) name text s
-    → IfTold told (λ files. HoldsScript files earlier name s)
-told_script None bytes name text declared earlier s h e d i = tt
-told_script (Some files) bytes name text declared earlier s h e d i = record {
-  bytes = bytes.items;
-  there = h;
-  script =
-      let here : IsScriptOf declared (length earlier) name bytes.items s = subst
-      (λ (bs : List ℕ). IsScriptOf declared (length earlier) name bs s) e i in
-      subst (λ (ns : List (List ℕ)). IsScriptOf ns (length earlier) name bytes.items s) d here;
-}
+    → Given (HandsIn told old new) (λ given. HoldsScript given earlier name s)
+given_script told old new bytes name text declared earlier s h log e d i = (
+  one_file name bytes.items,
+  hands_one told old new name bytes h log,
+  record {
+    bytes = bytes.items;
+    there = refl;
+    script =
+        let here : IsScriptOf declared (length earlier) name bytes.items s = subst
+        (λ (bs : List ℕ). IsScriptOf declared (length earlier) name bs s) e i in
+        subst (λ (ns : List (List ℕ)). IsScriptOf ns (length earlier) name bytes.items s) d here;
+  },
+)
 
-told_refused : (told : Option (List NamedFile)) (bytes : Vec ℕ Global) (name text : List ℕ) (declared : List (List ℕ))
-    (earlier : List Script) (r : TextFault)
+given_refused : (told : Option (List NamedFile)) (old new : List NamedFile) (bytes : Vec ℕ Global) (name text : List ℕ)
+    (declared : List (List ℕ)) (earlier : List Script) (r : TextFault)
     → IfTold told (λ all. Tells (Ok bytes) name all)
+    → new ≡ with_file old name bytes.items
     → text ≡ bytes.items
     → declared ≡ declared_in earlier
     → IsRefused declared text r
-    → IfTold told (λ files. IsRefusedNext files earlier name r)
-told_refused None bytes name text declared earlier r h e d i = tt
-told_refused (Some files) bytes name text declared earlier r h e d i = record {
-  bytes = bytes.items;
-  there = h;
-  refused =
-      let here : IsRefused declared bytes.items r = subst (λ (bs : List ℕ). IsRefused declared bs r) e i in
-      subst (λ (ns : List (List ℕ)). IsRefused ns bytes.items r) d here;
-}
+    → Given (HandsIn told old new) (λ given. IsRefusedNext given earlier name r)
+given_refused told old new bytes name text declared earlier r h log e d i = (
+  one_file name bytes.items,
+  hands_one told old new name bytes h log,
+  record {
+    bytes = bytes.items;
+    there = refl;
+    refused =
+        let here : IsRefused declared bytes.items r = subst (λ (bs : List ℕ). IsRefused declared bs r) e i in
+        subst (λ (ns : List (List ℕ)). IsRefused ns bytes.items r) d here;
+  },
+)
 
-pub fails_next : (fault : FileFault) (told : Option (List NamedFile)) (bytes : Vec ℕ Global) (name text : List ℕ)
-    (declared : List (List ℕ)) (earlier : List Script) (before after : Faults)
+-- something was handed in
+pub given_some : (told : Option (List NamedFile)) (old new : List NamedFile) (bytes : Vec ℕ Global) (name : List ℕ)
     → IfTold told (λ all. Tells (Ok bytes) name all)
+    → new ≡ with_file old name bytes.items
+    → Given (HandsIn told old new) (λ given. Unit {0})
+given_some told old new bytes name h log = (one_file name bytes.items, hands_one told old new name bytes h log, tt)
+
+fails_next : (fault : FileFault) (told : Option (List NamedFile)) (old new : List NamedFile) (bytes : Vec ℕ Global)
+    (name text : List ℕ) (declared : List (List ℕ)) (earlier : List Script) (before after : Faults)
+    → IfTold told (λ all. Tells (Ok bytes) name all)
+    → new ≡ with_file old name bytes.items
     → text ≡ bytes.items
     → declared ≡ declared_in earlier
     → after ≡ before
     → FailsAs fault declared text
-    → FailsNext fault told earlier name before after
-fails_next (faults.Refused r) told bytes name text declared earlier before after h e d same i =
-    (same, told_refused told bytes name text declared earlier r h e d i)
-fails_next faults.CannotRead told bytes name text declared earlier before after h e d same i = absurd i
-fails_next faults.Memory told bytes name text declared earlier before after h e d same i = same
+    → FailsNext fault (HandsIn told old new) earlier name before after
+fails_next (faults.Refused r) told old new bytes name text declared earlier before after h log e d same i =
+    (same, given_refused told old new bytes name text declared earlier r h log e d i)
+fails_next faults.CannotRead told old new bytes name text declared earlier before after h log e d same i = absurd i
+fails_next faults.Memory told old new bytes name text declared earlier before after h log e d same i =
+    (same, given_some told old new bytes name h log)
 
-pub read_ok : (r : Result Script FileFault) (told : Option (List NamedFile)) (bytes : Vec ℕ Global) (name text : List ℕ)
-    (declared : List (List ℕ)) (earlier : List Script) (n : ℕ)
+pub read_ok : (r : Result Script FileFault) (told : Option (List NamedFile)) (old new : List NamedFile)
+    (bytes : Vec ℕ Global) (name text : List ℕ) (declared : List (List ℕ)) (earlier : List Script) (n : ℕ)
     → n ≡ length earlier
     → IfTold told (λ all. Tells (Ok bytes) name all)
+    → new ≡ with_file old name bytes.items
     → text ≡ bytes.items
     → declared ≡ declared_in earlier
     → IfOk r (λ s. IsScriptOf declared n name text s)
-    → IfOk r (λ s. IfTold told (λ files. HoldsScript files earlier name s))
-read_ok (Ok s) told bytes name text declared earlier n l h e d i =
-    told_script told bytes name text declared earlier s h e d (subst (λ (m : ℕ). IsScriptOf declared m name text s) l i)
-read_ok (Err f) told bytes name text declared earlier n l h e d i = tt
+    → IfOk r (λ s. Given (HandsIn told old new) (λ given. HoldsScript given earlier name s))
+read_ok (Ok s) told old new bytes name text declared earlier n l h log e d i =
+    given_script told old new bytes name text declared earlier s h log e d
+    (subst (λ (m : ℕ). IsScriptOf declared m name text s) l i)
+read_ok (Err f) told old new bytes name text declared earlier n l h log e d i = tt
 
-pub read_fault : (r : Result Script FileFault) (told : Option (List NamedFile)) (bytes : Vec ℕ Global) (name text : List ℕ)
-    (declared : List (List ℕ)) (earlier : List Script) (before after : Faults)
+pub read_fault : (r : Result Script FileFault) (told : Option (List NamedFile)) (old new : List NamedFile)
+    (bytes : Vec ℕ Global) (name text : List ℕ) (declared : List (List ℕ)) (earlier : List Script) (before after : Faults)
     → IfTold told (λ all. Tells (Ok bytes) name all)
+    → new ≡ with_file old name bytes.items
     → text ≡ bytes.items
     → declared ≡ declared_in earlier
     → after ≡ before
     → IfErr r (λ f. FailsAs f declared text)
-    → IfErr r (λ f. FailsNext f told earlier name before after)
-read_fault (Ok s) told bytes name text declared earlier before after h e d same i = tt
-read_fault (Err f) told bytes name text declared earlier before after h e d same i =
-    fails_next f told bytes name text declared earlier before after h e d same i
+    → IfErr r (λ f. FailsNext f (HandsIn told old new) earlier name before after)
+read_fault (Ok s) told old new bytes name text declared earlier before after h log e d same i = tt
+read_fault (Err f) told old new bytes name text declared earlier before after h log e d same i =
+    fails_next f told old new bytes name text declared earlier before after h log e d same i
 
-pub told_one_more : (told : Option (List NamedFile)) (lent old new : List Script) (s : Script) (name : List ℕ)
+-- a read that gave nothing for want of memory
+pub memory_next : (told : Option (List NamedFile)) (old new : List NamedFile) (before after : Faults)
+    → new ≡ old
+    → after ≡ before
+    → (after ≡ before) × Given (HandsIn told old new) (λ given. Unit {0})
+memory_next told old new before after log same = (same, given_nothing told old new (λ given. Unit {0}) log tt)
+
+-- a read that failed
+pub unread_next : (told : Option (List NamedFile)) (old new : List NamedFile) (name : List ℕ) (before after : Faults)
+    → new ≡ old
+    → Blames (Read name) before after
+    → Blames (Read name) before after × HandsIn told old new []
+unread_next told old new name before after log blames = (blames, hands_nothing told old new log)
+
+-- for reads that gave nothing
+pub ruleset unread = (memory_next, unread_next)
+
+pub given_one_more : (Hands : Files) (lent old new : List Script) (s : Script) (name : List ℕ)
     → lent ≡ old
-    → IfTold told (λ files. HoldsScript files lent name s)
+    → Given Hands (λ given. HoldsScript given lent name s)
     → new ≡ old ++ s ∷ []
-    → IfTold told (λ files. IsOneMore files old new name)
-told_one_more None lent old new s name l h e = tt
-told_one_more (Some files) lent old new s name l h e =
-    record { script = s; added = e; holds = subst (λ (ss : List Script). HoldsScript files ss name s) l h }
+    → Given Hands (λ given. IsOneMore given old new name)
+given_one_more Hands lent old new s name l (given, hands, h) e = (
+  given,
+  hands,
+  record { script = s; added = e; holds = subst (λ (ss : List Script). HoldsScript given ss name s) l h },
+)
 
-pub fails_lent : (fault : FileFault) (told : Option (List NamedFile)) (lent old : List Script) (name : List ℕ)
-    (before after : Faults)
+-- what was handed in, of which something more is known
+pub given_any : (Hands : Files) (P : Files) → Given Hands P → Given Hands (λ given. Unit {0})
+given_any Hands P (given, hands, h) = (given, hands, tt)
+
+pub fails_lent : (fault : FileFault) (Hands : Files) (lent old : List Script) (name : List ℕ) (before after : Faults)
     → lent ≡ old
-    → FailsNext fault told lent name before after
-    → FailsNext fault told old name before after
-fails_lent fault told lent old name before after l h =
-    subst (λ (ss : List Script). FailsNext fault told ss name before after) l h
+    → FailsNext fault Hands lent name before after
+    → FailsNext fault Hands old name before after
+fails_lent fault Hands lent old name before after l h =
+    subst (λ (ss : List Script). FailsNext fault Hands ss name before after) l h
 
 pub kept_names : (old new : List (List ℕ)) (ss us : List Script) (s : Script)
     → old ≡ declared_in ss
@@ -347,32 +395,34 @@ one_name_more : (names : List (Bor (List ℕ))) (i : ℕ) (other : Bor (List ℕ
 one_name_more names i other h =
     ap names_held (take_more names i other h) ∙ map-append name_held (take i names) (get_or names i other ∷ [])
 
-told_one_name : (told : Option (List NamedFile)) (names : List (Bor (List ℕ))) (i : ℕ) (other : Bor (List ℕ))
-    (ss new : List Script)
+one_script_more : (names : List (Bor (List ℕ))) (i : ℕ) (other : Bor (List ℕ)) (ss new : List Script)
+    (xs ys : List NamedFile)
     → i < length names
-    → IfTold told (λ files. AreScripts files (names_held (take i names)) ss)
-    → IfTold told (λ files. IsOneMore files ss new (name_held (get_or names i other)))
-    → IfTold told (λ files. AreScripts files (names_held (take (i + 1) names)) new)
-told_one_name None names i other ss new lt h more = tt
-told_one_name (Some files) names i other ss new lt h more =
+    → AreScripts xs (names_held (take i names)) ss
+    → IsOneMore ys ss new (name_held (get_or names i other))
+    → AreScripts (xs ++ ys) (names_held (take (i + 1) names)) new
+one_script_more names i other ss new xs ys lt h more =
     let front = names_held (take i names) in
     let name = name_held (get_or names i other) in
-    let there : AreScripts files (front ++ name ∷ []) (ss ++ more.script ∷ [])
-    = are_more files [] front ss name more.script h more.holds in
-    let now : AreScripts files (names_held (take (i + 1) names)) (ss ++ more.script ∷ []) = subst
-    (λ (ns : List (List ℕ)). AreScripts files ns (ss ++ more.script ∷ [])) (sym (one_name_more names i other lt)) there in
-    subst (λ (us : List Script). AreScripts files (names_held (take (i + 1) names)) us) (sym more.added) now
+    let there : AreScripts (xs ++ one_file name more.holds.bytes) (front ++ name ∷ []) (ss ++ more.script ∷ [])
+    = are_more xs [] front ss name more.holds.bytes more.script h more.holds.script in
+    let here : AreScripts (xs ++ ys) (front ++ name ∷ []) (ss ++ more.script ∷ [])
+    = subst (λ (fs : List NamedFile). AreScripts (xs ++ fs) (front ++ name ∷ []) (ss ++ more.script ∷ []))
+    (sym more.holds.there) there in
+    let now : AreScripts (xs ++ ys) (names_held (take (i + 1) names)) (ss ++ more.script ∷ []) = subst
+    (λ (ns : List (List ℕ)). AreScripts (xs ++ ys) ns (ss ++ more.script ∷ [])) (sym (one_name_more names i other lt)) here in
+    subst (λ (us : List Script). AreScripts (xs ++ ys) (names_held (take (i + 1) names)) us) (sym more.added) now
 
-pub told_are_more : (told later : Option (List NamedFile)) (names : List (Bor (List ℕ))) (i : ℕ) (other : Bor (List ℕ))
-    (ss new : List Script)
+pub given_are_more : (told later : Option (List NamedFile)) (old mid last : List NamedFile) (names : List (Bor (List ℕ)))
+    (i : ℕ) (other : Bor (List ℕ)) (ss new : List Script)
     → later ≡ told
     → i < length names
-    → IfTold told (λ files. AreScripts files (names_held (take i names)) ss)
-    → IfTold later (λ files. IsOneMore files ss new (name_held (get_or names i other)))
-    → IfTold told (λ files. AreScripts files (names_held (take (i + 1) names)) new)
-told_are_more told later names i other ss new same lt h more =
-    told_one_name told names i other ss new lt h
-    (subst (λ (o : Option (List NamedFile)). IfTold o (λ files. IsOneMore files ss new (name_held (get_or names i other)))) same more)
+    → Given (HandsIn told old mid) (λ given. AreScripts given (names_held (take i names)) ss)
+    → Given (HandsIn later mid last) (λ given. IsOneMore given ss new (name_held (get_or names i other)))
+    → Given (HandsIn told old last) (λ given. AreScripts given (names_held (take (i + 1) names)) new)
+given_are_more told later old mid last names i other ss new same lt h more =
+    given_more told later old mid last _ _ _ same
+    (λ xs ys. one_script_more names i other ss new xs ys lt) h more
 
 pub stands_behind : (names : List (Bor (List ℕ))) (i : ℕ) (other : Bor (List ℕ))
     → i < length names
@@ -385,49 +435,56 @@ stands_behind names i other lt = record {
       ∙ ap (λ ns. names_held (take i names) ++ names_held ns) (drop_more names i other lt);
 }
 
-abbrev reached : (files : List NamedFile) (names front : List (List ℕ)) (name : List ℕ) (ss : List Script)
+abbrev reached : (given : List NamedFile) (names front : List (List ℕ)) (name : List ℕ) (ss : List Script)
     → StandsBehind names front name
-    → AreScripts files front ss
-    → IsReachedAt files names name
-reached files names front name ss s h = record { before = front; stands = s; scripts = ss; are = h }
+    → AreScripts given front ss
+    → IsReachedAt given names name
+reached given names front name ss s h = record { before = front; stands = s; scripts = ss; are = h }
 
-told_reached : (told : Option (List NamedFile)) (names front : List (List ℕ)) (name : List ℕ) (ss : List Script)
+refused_behind : (names front : List (List ℕ)) (name : List ℕ) (ss : List Script) (r : TextFault)
     → StandsBehind names front name
-    → IfTold told (λ files. AreScripts files front ss)
-    → IfTold told (λ files. IsReachedAt files names name)
-told_reached None names front name ss s h = tt
-told_reached (Some files) names front name ss s h = reached files names front name ss s h
+    → (xs ys : List NamedFile)
+    → AreScripts xs front ss
+    → IsRefusedNext ys ss name r
+    → IsRefusedAt (xs ++ ys) names name r
+refused_behind names front name ss r s xs ys h n =
+    record { earlier = xs; last = ys; parts = refl; reached = reached xs names front name ss s h; next = n }
 
-told_at : (told : Option (List NamedFile)) (names front : List (List ℕ)) (name : List ℕ) (ss : List Script) (r : TextFault)
+reached_behind : (names front : List (List ℕ)) (name : List ℕ) (ss : List Script)
     → StandsBehind names front name
-    → IfTold told (λ files. AreScripts files front ss)
-    → IfTold told (λ files. IsRefusedNext files ss name r)
-    → IfTold told (λ files. IsRefusedAt files names name r)
-told_at None names front name ss r s h n = tt
-told_at (Some files) names front name ss r s h n = record { reached = reached files names front name ss s h; next = n }
-
-fails_here : (fault : FileFault) (told : Option (List NamedFile)) (names front : List (List ℕ)) (name : List ℕ)
-    (ss : List Script) (before after : Faults)
-    → StandsBehind names front name
-    → IfTold told (λ files. AreScripts files front ss)
-    → FailsNext fault told ss name before after → Fails fault told names name before after
-fails_here (faults.Refused r) told names front name ss before after s h n =
-    (n.0, told_at told names front name ss r s h n.1)
-fails_here faults.CannotRead told names front name ss before after s h n =
-    (n, (front, s), told_reached told names front name ss s h)
-fails_here faults.Memory told names front name ss before after s h n = n
+    → (xs ys : List NamedFile)
+    → AreScripts xs front ss
+    → ys ≡ []
+    → IsReachedAt (xs ++ ys) names name
+reached_behind names front name ss s xs ys h none =
+    subst (λ (fs : List NamedFile). IsReachedAt fs names name) (sym (ap (λ l. xs ++ l) none ∙ append-nil xs))
+    (reached xs names front name ss s h)
 
 -- the fault of the shelf as it is now is one of the shelf as it was, where nothing failed so far
-pub fails_at : (fault : FileFault) (told later : Option (List NamedFile)) (names front : List (List ℕ)) (name : List ℕ)
-    (ss : List Script) (before now after : Faults)
+pub fails_at : (fault : FileFault) (told later : Option (List NamedFile)) (old mid last : List NamedFile)
+    (names front : List (List ℕ)) (name : List ℕ) (ss : List Script) (before now after : Faults)
     → later ≡ told
     → now ≡ before
     → StandsBehind names front name
-    → IfTold told (λ files. AreScripts files front ss)
-    → FailsNext fault later ss name now after
-    → Fails fault told names name before after
-fails_at fault told later names front name ss before now after t b s h n =
-    let here : FailsNext fault told ss name now after = subst
-    (λ (o : Option (List NamedFile)). FailsNext fault o ss name now after) t n in
-    fails_here fault told names front name ss before after s h
-    (subst (λ (x : Faults). FailsNext fault told ss name x after) b here)
+    → Given (HandsIn told old mid) (λ given. AreScripts given front ss)
+    → FailsNext fault (HandsIn later mid last) ss name now after
+    → Fails fault (HandsIn told old last) names name before after
+fails_at (faults.Refused r) told later old mid last names front name ss before now after t b s h n = (
+  n.0 ∙ b,
+  given_more told later old mid last _ _ _ t (refused_behind names front name ss r s) h n.1,
+)
+fails_at faults.CannotRead told later old mid last names front name ss before now after t b s h n = (
+  subst (λ (x : Faults). Blames (Read name) x after) b n.0,
+  (front, s),
+  given_more told later old mid last _ (λ ys. ys ≡ []) _ t (reached_behind names front name ss s) h ([], n.1, refl),
+)
+fails_at faults.Memory told later old mid last names front name ss before now after t b s h n = (
+  n.0 ∙ b,
+  given_more told later old mid last _ (λ ys. Unit {0}) _ t (λ xs ys p q. tt) h n.1,
+)
+
+-- no file so far
+pub given_no_scripts : (told : Option (List NamedFile)) (old new : List NamedFile)
+    → new ≡ old
+    → Given (HandsIn told old new) (λ given. AreScripts given [] [])
+given_no_scripts told old new same = given_nothing told old new (λ given. AreScripts given [] []) same tt

@@ -6,7 +6,6 @@ use Rattle.js_tree.specs.declared.node.NodeId.{NodeId}
 use Rattle.js_tree.specs.declared.tree.Expr.{Expr}
 use Rattle.js_tree.specs.declared.tree.Stmt.{Stmt}
 use Rattle.js_tree.specs.declared.tree.Declarator.{Declarator}
-use Rattle.js_tree.specs.declared.tree.Declarators.{Declarators}
 use Rattle.js_tree.specs.declared.tree.Expr.TheViews as views
 use Rattle.js_tree.specs.Trees as trees
 use Rattle.js_tree.specs.Trees.{Statement}

@@ -2,3 +2,4 @@ pub mod TopNames
 pub mod Refusals
 pub mod Scripts
 pub mod Input
+pub mod Told

@@ -1,7 +1,7 @@
 //! The lines of input that a file holds.
 
 ghost use Rattle.std.specs.Prelude.{◌≡◌, IfOk, IfErr};
-ghost use Rattle.cdp_edge.specs.Outside.{IfTold};
+ghost use Rattle.cdp_edge.specs.Outside.{Given, HandsIn};
 ghost use Rattle.debug_host_script_files.specs.Input.{input_of, HoldsInput, FailsInput};
 
 use crate::evidence::{Evidence, FileEvidence};
@@ -33,15 +33,16 @@ fn lines_of(alloc: Global, text: &str) -> Result<VecDeque<Units>, AllocError>
 /// # Errors
 ///
 /// `CannotRead` where the shelf doesn't give the file, `Refused` where it isn't UTF-8, and `Memory`.
+#[tactic(auto, using(crate::proofs::ScriptLemmas::unread))]
 pub fn read_input<F: Shelf>(
     alloc: Global,
     shelf: &mut F,
     name: &str,
     evidence: &mut Evidence,
 ) -> Result<VecDeque<Units>, FileFault>
-    ensures lines { IfOk result (λ lines. IfTold (F.files shelf.old) (λ files. HoldsInput files name.now lines.items)) }
+    ensures lines { IfOk result (λ lines. Given (HandsIn (F.files shelf.old) (F.handed shelf.old) (F.handed shelf.new)) (λ given. HoldsInput given name.now lines.items)) }
     ensures quiet { IfOk result (λ lines. F.faults shelf.new ≡ F.faults shelf.old) }
-    ensures fault { IfErr result (λ fault. FailsInput fault (F.files shelf.old) name.now (F.faults shelf.old) (F.faults shelf.new)) }
+    ensures fault { IfErr result (λ fault. FailsInput fault (HandsIn (F.files shelf.old) (F.handed shelf.old) (F.handed shelf.new)) name.now (F.faults shelf.old) (F.faults shelf.new)) }
     ensures files { F.files shelf.new ≡ F.files shelf.old }
 {
     let bytes = match shelf.read(alloc, name) {

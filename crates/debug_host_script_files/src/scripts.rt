@@ -1,7 +1,7 @@
 //! The scripts that files hold.
 
 ghost use Rattle.std.specs.Prelude.{◌≡◌, ◌∷◌, ◌++◌, [], List, ℕ, IfOk, IfErr, OnOk};
-ghost use Rattle.cdp_edge.specs.Outside.{NamedFile, IfTold};
+ghost use Rattle.cdp_edge.specs.Outside.{NamedFile, Given, HandsIn};
 ghost use Rattle.js_tree.specs.declared.script.Script.{Script as AnyScript};
 ghost use Rattle.debug_host_script_files.specs.TopNames.{declared_in};
 ghost use Rattle.debug_host_script_files.specs.Scripts.{AreScripts, HoldsScript, IsOneMore, IsRefusedAt, Fails, FailsNext, names_held};
@@ -26,6 +26,7 @@ pub struct ScriptFault<'n> {
 }
 
 /// Reads the file of this name as the script behind these, which declare these names.
+#[tactic(auto, using(crate::proofs::ScriptLemmas::unread))]
 fn read_script<F: Shelf>(
     alloc: Global,
     shelf: &mut F,
@@ -35,9 +36,9 @@ fn read_script<F: Shelf>(
     evidence: &mut Evidence,
 ) -> Result<Script, FileFault>
     requires { declared.now ≡ declared_in earlier.now }
-    ensures script { IfOk result (λ s. IfTold (F.files shelf.old) (λ files. HoldsScript files earlier.now name.now s)) }
+    ensures script { IfOk result (λ s. Given (HandsIn (F.files shelf.old) (F.handed shelf.old) (F.handed shelf.new)) (λ given. HoldsScript given earlier.now name.now s)) }
     ensures quiet { IfOk result (λ s. F.faults shelf.new ≡ F.faults shelf.old) }
-    ensures fault { IfErr result (λ fault. FailsNext fault (F.files shelf.old) earlier.now name.now (F.faults shelf.old) (F.faults shelf.new)) }
+    ensures fault { IfErr result (λ fault. FailsNext fault (HandsIn (F.files shelf.old) (F.handed shelf.old) (F.handed shelf.new)) earlier.now name.now (F.faults shelf.old) (F.faults shelf.new)) }
     ensures files { F.files shelf.new ≡ F.files shelf.old }
 {
     let bytes = match shelf.read(alloc, name) {
@@ -86,10 +87,10 @@ fn add_script<F: Shelf>(
     evidence: &mut Evidence,
 ) -> Result<(), FileFault>
     requires { declared.old.items ≡ declared_in scripts.old.items }
-    ensures script { OnOk result (IfTold (F.files shelf.old) (λ files. IsOneMore files scripts.old.items scripts.new.items name.now)) }
+    ensures script { OnOk result (Given (HandsIn (F.files shelf.old) (F.handed shelf.old) (F.handed shelf.new)) (λ given. IsOneMore given scripts.old.items scripts.new.items name.now)) }
     ensures declared { OnOk result (declared.new.items ≡ declared_in scripts.new.items) }
     ensures quiet { OnOk result (F.faults shelf.new ≡ F.faults shelf.old) }
-    ensures fault { IfErr result (λ fault. FailsNext fault (F.files shelf.old) scripts.old.items name.now (F.faults shelf.old) (F.faults shelf.new)) }
+    ensures fault { IfErr result (λ fault. FailsNext fault (HandsIn (F.files shelf.old) (F.handed shelf.old) (F.handed shelf.new)) scripts.old.items name.now (F.faults shelf.old) (F.faults shelf.new)) }
     ensures files { F.files shelf.new ≡ F.files shelf.old }
 {
     let script = match read_script(alloc, shelf, name, scripts, declared, evidence) {
@@ -115,12 +116,12 @@ pub fn read_scripts<'n, F: Shelf>(
     names: &[&'n str],
     evidence: &mut Evidence,
 ) -> Result<Vec<Script>, ScriptFault<'n>>
-    ensures scripts { IfOk result (λ ss. IfTold (F.files shelf.old) (λ files. AreScripts files (names_held names.now) ss.items)) }
+    ensures scripts { IfOk result (λ ss. Given (HandsIn (F.files shelf.old) (F.handed shelf.old) (F.handed shelf.new)) (λ given. AreScripts given (names_held names.now) ss.items)) }
     ensures quiet { IfOk result (λ ss. F.faults shelf.new ≡ F.faults shelf.old) }
-    ensures fault { IfErr result (λ e. Fails e.fault (F.files shelf.old) (names_held names.now) e.name.now (F.faults shelf.old) (F.faults shelf.new)) }
+    ensures fault { IfErr result (λ e. Fails e.fault (HandsIn (F.files shelf.old) (F.handed shelf.old) (F.handed shelf.new)) (names_held names.now) e.name.now (F.faults shelf.old) (F.faults shelf.new)) }
     ensures files { F.files shelf.new ≡ F.files shelf.old }
     // Where all files hold scripts, none is refused.
-    ensures one { (files : List NamedFile) (ss : List AnyScript) (name : List ℕ) (r : AnyRefusal) → AreScripts files (names_held names.now) ss → IsRefusedAt files (names_held names.now) name r → ⊥ }
+    ensures one { (given : List NamedFile) (ss : List AnyScript) (name : List ℕ) (r : AnyRefusal) → AreScripts given (names_held names.now) ss → IsRefusedAt given (names_held names.now) name r → ⊥ }
 {
     let mut scripts = Vec::new(alloc);
     let mut declared = Vec::new(alloc);
