@@ -388,7 +388,7 @@ refuses text line old new is acts s i w h stood =
     ∙ acts-none s i w h (entry_at s (whole s i w h) line) new (acts s i w h stood)
 
 acts-play : (scripts : List Script) (input : List (List ℕ)) (wait : Bool) (history : List Entry) (o : Option Entry)
-    (texts : List (List ℕ)) (new : HostState) (before now : Option (List ℕ))
+    (texts : List (List ℕ)) (new : HostState) (before now : List ℕ)
     → Acts scripts input wait history o (Some texts) new
     → now ≡ gains before (joined texts)
     → Plays scripts input wait history o new before now
@@ -403,7 +403,7 @@ acts-play scripts input wait history (Some entry) texts new before now acts writ
 
 -- a line that was applied, and whose lines of output were written
 pub plays : (text : List ℕ) (line : lines.Line) (texts : List (List ℕ)) (old new : HostState)
-    (before now : Option (List ℕ))
+    (before now : List ℕ)
     → Some line ≡ line_of text
     → ((s : List Script) (i : List (List ℕ)) (w : Bool) (h : List Entry)
     → StandsFor s i w old h
@@ -417,13 +417,13 @@ plays text line texts old new before now is acts written s i w h stood =
     subst P (entry-read s (whole s i w h) text line is)
     (acts-play s i w h (entry_at s (whole s i w h) line) texts new before now (acts s i w h stood) written)
 
-pub less-as : (before now : Option (List ℕ)) (bytes all : List ℕ)
+pub less-as : (before now : List ℕ) (bytes all : List ℕ)
     → all ≡ bytes
     → GainsLess before now bytes
     → GainsLess before now all
 less-as before now bytes all is less = (less.0, less.1, less.2, is ∙ less.3, less.4)
 
-pub part-as : (before now : Option (List ℕ)) (bytes all : List ℕ)
+pub part-as : (before now : List ℕ) (bytes all : List ℕ)
     → all ≡ bytes
     → GainsLess before now bytes
     → GainsPrefix before now all

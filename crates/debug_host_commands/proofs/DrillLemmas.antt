@@ -38,7 +38,7 @@ drilled n script scripts input journal before now line one none is began written
 -- ---- causes
 
 -- why it ended so whose journal wasn't replayed to its end
-pub unplayed : (end : CommandEnd) (n was : ℕ) (old : Option (List ℕ)) (script : Script)
+pub unplayed : (end : CommandEnd) (n was : ℕ) (old : List ℕ) (script : Script)
     → IsDrillScript n script
     → BecauseJournalOf end n script
     → BecauseDrill end n was was old old
@@ -58,7 +58,7 @@ unplayed (ends.LineRefused line) n was old script is (output, replay) =
 
 -- ---- what is written of the summary
 
-pub wrote-all : (n : ℕ) (script : Script) (output text : List ℕ) (old new : Option (List ℕ))
+pub wrote-all : (n : ℕ) (script : Script) (output text : List ℕ) (old new : List ℕ)
     → IsDrillScript n script
     → IsDrilled n script None output
     → text ≡ summary output → new ≡ gains old text → DrillsWhole n old new
@@ -70,7 +70,7 @@ wrote-all n script output text old new is replay sum whole = record {
   whole = subst (λ (t : List ℕ). new ≡ gains old t) sum whole;
 }
 
-pub wrote-less : (n : ℕ) (script : Script) (output text : List ℕ) (old new : Option (List ℕ))
+pub wrote-less : (n : ℕ) (script : Script) (output text : List ℕ) (old new : List ℕ)
     → IsDrillScript n script
     → IsDrilled n script None output
     → text ≡ summary output → GainsLess old new text → DrillsShort n old new
@@ -82,7 +82,7 @@ wrote-less n script output text old new is replay sum less = record {
   less = subst (λ (t : List ℕ). GainsLess old new t) sum less;
 }
 
-pub wrote-part : (n : ℕ) (script : Script) (output text : List ℕ) (old new : Option (List ℕ))
+pub wrote-part : (n : ℕ) (script : Script) (output text : List ℕ) (old new : List ℕ)
     → IsDrillScript n script
     → IsDrilled n script None output
     → text ≡ summary output → GainsLess old new text → DrillsInPart n old new
@@ -95,7 +95,7 @@ wrote-part n script output text old new is replay sum less = record {
 }
 
 -- what is written whole is written in part
-pub whole-part : (n : ℕ) (old new : Option (List ℕ)) → DrillsWhole n old new → DrillsInPart n old new
+pub whole-part : (n : ℕ) (old new : List ℕ) → DrillsWhole n old new → DrillsInPart n old new
 whole-part n old new w = record {
   script = w.script;
   is = w.is;
@@ -111,7 +111,7 @@ abbrev IsToldLine : Option (List ℕ) → Option (List ℕ) → Bool → Option 
 IsToldLine old new explains before after n =
     (number : ℕ) × DrillRefuses n number × (new ≡ old) × Says explains before after (line_said number)
 
-line-told : (end : CommandEnd) (n was now : ℕ) (old new : Option (List ℕ)) (explains : Bool) (before after : Option (List ℕ)) → status_of end ≡ 6
+line-told : (end : CommandEnd) (n was now : ℕ) (old new : List ℕ) (explains : Bool) (before after : List ℕ) → status_of end ≡ 6
     → BecauseDrill end n was now old new → Says explains before after (said end) → IsToldLine old new explains before after n
 line-told (ends.LineRefused line) n was now old new explains before after is h says = (line, h.2, h.1, says)
 line-told ends.Done n was now old new explains before after is h says = absurd cc
@@ -126,7 +126,7 @@ line-told ends.NetworkFault n was now old new explains before after is h says = 
 line-told ends.TicketsSpent n was now old new explains before after is h says = absurd h
 line-told (ends.PeerClosed replies) n was now old new explains before after is h says = absurd h
 
-pub line_given : (o : Option Request) (n : ℕ) (end : CommandEnd) (was now : ℕ) (old new : Option (List ℕ)) (explains : Bool) (before after : Option (List ℕ))
+pub line_given : (o : Option Request) (n : ℕ) (end : CommandEnd) (was now : ℕ) (old new : List ℕ) (explains : Bool) (before after : List ℕ)
     (status : ℕ) → o ≡ Some (Drill n) → status ≡ status_of end → BecauseDrill end n was now old new
     → Says explains before after (said end) → status ≡ 6 → ForDrill o (IsToldLine old new explains before after)
 line_given o n end was now old new explains before after status is ends_so h says six =
@@ -138,7 +138,7 @@ abbrev IsToldRefusal : Bool → Option (List ℕ) → Option (List ℕ) → ℕ 
 IsToldRefusal explains before after n =
     (refusal : TextFault) × IsRefused [] (drill_source n) refusal × Says explains before after (refusal_said script_name refusal)
 
-done-told : (end : CommandEnd) (n was now : ℕ) (old new : Option (List ℕ)) → status_of end ≡ 0
+done-told : (end : CommandEnd) (n was now : ℕ) (old new : List ℕ) → status_of end ≡ 0
     → BecauseDrill end n was now old new → DrillsWhole n old new
 done-told ends.Done n was now old new is h = h.1
 done-told (ends.Threw text) n was now old new is h = absurd h
@@ -153,7 +153,7 @@ done-told ends.NetworkFault n was now old new is h = absurd h
 done-told ends.TicketsSpent n was now old new is h = absurd h
 done-told (ends.PeerClosed replies) n was now old new is h = absurd h
 
-short-told : (end : CommandEnd) (n was now : ℕ) (old new : Option (List ℕ)) → status_of end ≡ 5
+short-told : (end : CommandEnd) (n was now : ℕ) (old new : List ℕ) → status_of end ≡ 5
     → BecauseDrill end n was now old new → DrillsShort n old new
 short-told ends.Done n was now old new is h = absurd cc
 short-told (ends.Threw text) n was now old new is h = absurd h
@@ -168,7 +168,7 @@ short-told ends.NetworkFault n was now old new is h = absurd h
 short-told ends.TicketsSpent n was now old new is h = absurd h
 short-told (ends.PeerClosed replies) n was now old new is h = absurd h
 
-refusal-told : (end : CommandEnd) (n was now : ℕ) (old new : Option (List ℕ)) (explains : Bool) (before after : Option (List ℕ)) → status_of end ≡ 3
+refusal-told : (end : CommandEnd) (n was now : ℕ) (old new : List ℕ) (explains : Bool) (before after : List ℕ) → status_of end ≡ 3
     → BecauseDrill end n was now old new → Says explains before after (said end) → IsToldRefusal explains before after n
 refusal-told ends.Done n was now old new explains before after is h says = absurd cc
 refusal-told (ends.Threw text) n was now old new explains before after is h says = absurd h
@@ -183,7 +183,7 @@ refusal-told ends.NetworkFault n was now old new explains before after is h says
 refusal-told ends.TicketsSpent n was now old new explains before after is h says = absurd h
 refusal-told (ends.PeerClosed replies) n was now old new explains before after is h says = absurd h
 
-module _ (o : Option Request) (n : ℕ) (end : CommandEnd) (was now : ℕ) (old new : Option (List ℕ)) (status : ℕ)
+module _ (o : Option Request) (n : ℕ) (end : CommandEnd) (was now : ℕ) (old new : List ℕ) (status : ℕ)
     (is : o ≡ Some (Drill n)) (ends_so : status ≡ status_of end) (h : BecauseDrill end n was now old new) where
   pub done_given : status ≡ 0 → ForDrill o (λ m. DrillsWhole m old new)
   done_given zero =
@@ -193,7 +193,7 @@ module _ (o : Option Request) (n : ℕ) (end : CommandEnd) (was now : ℕ) (old 
   short_given five =
       let it : DrillsShort n old new = short-told end n was now old new (sym ends_so ∙ five) h in rw is it
 
-  pub refusal_given : (explains : Bool) (before after : Option (List ℕ)) → Says explains before after (said end) → status ≡ 3
+  pub refusal_given : (explains : Bool) (before after : List ℕ) → Says explains before after (said end) → status ≡ 3
       → ForDrill o (IsToldRefusal explains before after)
   refusal_given explains before after says three =
       let it : IsToldRefusal explains before after n =

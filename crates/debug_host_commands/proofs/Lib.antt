@@ -8,6 +8,8 @@ pub mod ActLemmas
 pub mod PlayLemmas
 pub mod ReplayedLemmas
 pub mod ReportLemmas
+pub mod SourceLemmas
+pub mod UnaskedLemmas
 pub mod RunLemmas
 pub mod ReplayLemmas
 pub mod ServeLemmas

@@ -36,12 +36,12 @@ joined-at f xs i x within is =
 -- ---- a line and those behind it
 
 -- what is written so far, and what is left to write
-pub record Written (old now : Option (List ℕ)) (all left : List ℕ) : Type 0 where
+pub record Written (old now : List ℕ) (all left : List ℕ) : Type 0 where
   pub done : List ℕ
   pub is : now ≡ gains old done
   pub parts : all ≡ done ++ left
 
-pub Written-next : (old now new : Option (List ℕ)) (all left bytes rest : List ℕ) → Written old now all left
+pub Written-next : (old now new : List ℕ) (all left bytes rest : List ℕ) → Written old now all left
     → left ≡ bytes ++ rest → new ≡ gains now bytes → Written old new all rest
 Written-next old now new all left bytes rest before next gained = record {
   done = before.done ++ bytes;
@@ -49,19 +49,19 @@ Written-next old now new all left bytes rest before next gained = record {
   parts = before.parts ∙ ap (λ l. before.done ++ l) next ∙ sym (append_assoc before.done bytes rest);
 }
 
-pub Written-part : (old now new : Option (List ℕ)) (all left bytes rest : List ℕ) → Written old now all left
+pub Written-part : (old now new : List ℕ) (all left bytes rest : List ℕ) → Written old now all left
     → left ≡ bytes ++ rest → GainsPrefix now new bytes → GainsPrefix old new all
 Written-part old now new all left bytes rest before next part =
     GainsPrefix-behind old now new before.done bytes rest all before.is
     (before.parts ∙ ap (λ l. before.done ++ l) next ∙ sym (append_assoc before.done bytes rest)) part
 
-pub Written-less : (old now new : Option (List ℕ)) (all left bytes rest : List ℕ) → Written old now all left
+pub Written-less : (old now new : List ℕ) (all left bytes rest : List ℕ) → Written old now all left
     → left ≡ bytes ++ rest → GainsLess now new bytes → GainsLess old new all
 Written-less old now new all left bytes rest before next less =
     GainsLess-behind old now new before.done bytes rest all before.is
     (before.parts ∙ ap (λ l. before.done ++ l) next ∙ sym (append_assoc before.done bytes rest)) less
 
-pub Written-all : (old now : Option (List ℕ)) (all left : List ℕ)
+pub Written-all : (old now : List ℕ) (all left : List ℕ)
     → Written old now all left
     → left ≡ []
     → now ≡ gains old all
@@ -95,7 +95,7 @@ left-output scripts m rest line lines is =
 -- A host stands for the history of the lines so far; what was written and what the lines that are left write make up
 -- all, and the first line that is refused is one of those that are left.
 pub record IsBehind (scripts : List Script) (input : List (List ℕ)) (wait : Bool) (all rest : List (List ℕ))
-    (number : ℕ) (host : HostState) (before now : Option (List ℕ)) : Type 0 where
+    (number : ℕ) (host : HostState) (before now : List ℕ) : Type 0 where
   pub history : List Entry
   pub stands : StandsFor scripts input wait host history
   pub works : host.broken ≡ false
@@ -105,7 +105,7 @@ pub record IsBehind (scripts : List Script) (input : List (List ℕ)) (wait : Bo
       (journal_output scripts (whole scripts input wait history) rest)
 
 pub behind-start : (scripts : List Script) (input : List (List ℕ)) (wait : Bool) (all : List (List ℕ))
-    (host : HostState) (before : Option (List ℕ))
+    (host : HostState) (before : List ℕ)
     → StandsFor scripts input wait host [] → host.broken ≡ false → IsBehind scripts input wait all all 1 host before before
 behind-start scripts input wait all host before stands works = record {
   history = [];
@@ -116,7 +116,7 @@ behind-start scripts input wait all host before stands works = record {
 }
 
 behind-by : (scripts : List Script) (input : List (List ℕ)) (wait : Bool) (all rest : List (List ℕ)) (number : ℕ)
-    (host new : HostState) (before now next : Option (List ℕ)) (line : List ℕ) (lines : List (List ℕ))
+    (host new : HostState) (before now next : List ℕ) (line : List ℕ) (lines : List (List ℕ))
     → rest ≡ line ∷ lines
     → (b : IsBehind scripts input wait all rest number host before now)
     → (o : Option Entry)
@@ -146,7 +146,7 @@ behind-by scripts input wait all rest number host new before now next line lines
 
 -- a line was played
 pub behind-next : (scripts : List Script) (input : List (List ℕ)) (wait : Bool) (all rest : List (List ℕ)) (number : ℕ)
-    (host new : HostState) (before now next : Option (List ℕ)) (line : List ℕ) (lines : List (List ℕ))
+    (host new : HostState) (before now next : List ℕ) (line : List ℕ) (lines : List (List ℕ))
     → rest ≡ line ∷ lines → IsBehind scripts input wait all rest number host before now
     → ((s : List Script) (i : List (List ℕ)) (w : Bool) (h : List Entry)
     → StandsFor s i w host h
@@ -158,7 +158,7 @@ behind-next scripts input wait all rest number host new before now next line lin
 
 -- a first part of what the line writes was written
 pub behind-part : (scripts : List Script) (input : List (List ℕ)) (wait : Bool) (all rest : List (List ℕ)) (number : ℕ)
-    (host : HostState) (before now next : Option (List ℕ)) (line : List ℕ) (lines : List (List ℕ))
+    (host : HostState) (before now next : List ℕ) (line : List ℕ) (lines : List (List ℕ))
     → rest ≡ line ∷ lines → IsBehind scripts input wait all rest number host before now
     → ((s : List Script) (i : List (List ℕ)) (w : Bool) (h : List Entry)
     → StandsFor s i w host h
@@ -170,7 +170,7 @@ behind-part scripts input wait all rest number host before now next line lines i
     (part scripts input wait b.history b.stands)
 
 pub behind-less : (scripts : List Script) (input : List (List ℕ)) (wait : Bool) (all rest : List (List ℕ)) (number : ℕ)
-    (host : HostState) (before now next : Option (List ℕ)) (line : List ℕ) (lines : List (List ℕ))
+    (host : HostState) (before now next : List ℕ) (line : List ℕ) (lines : List (List ℕ))
     → rest ≡ line ∷ lines → IsBehind scripts input wait all rest number host before now
     → ((s : List Script) (i : List (List ℕ)) (w : Bool) (h : List Entry)
     → StandsFor s i w host h
@@ -183,7 +183,7 @@ behind-less scripts input wait all rest number host before now next line lines i
 
 -- the line is refused
 pub behind-refused : (scripts : List Script) (input : List (List ℕ)) (wait : Bool) (all rest : List (List ℕ))
-    (number : ℕ) (host : HostState) (before now : Option (List ℕ)) (line : List ℕ) (lines : List (List ℕ))
+    (number : ℕ) (host : HostState) (before now : List ℕ) (line : List ℕ) (lines : List (List ℕ))
     → rest ≡ line ∷ lines → IsBehind scripts input wait all rest number host before now
     → ((s : List Script) (i : List (List ℕ)) (w : Bool) (h : List Entry)
     → StandsFor s i w host h
@@ -197,7 +197,7 @@ behind-refused scripts input wait all rest number host before now line lines is 
 
 -- and then all is written
 pub behind-refused-whole : (scripts : List Script) (input : List (List ℕ)) (wait : Bool) (all rest : List (List ℕ))
-    (number : ℕ) (host : HostState) (before now : Option (List ℕ)) (line : List ℕ) (lines : List (List ℕ))
+    (number : ℕ) (host : HostState) (before now : List ℕ) (line : List ℕ) (lines : List (List ℕ))
     → rest ≡ line ∷ lines → IsBehind scripts input wait all rest number host before now
     → ((s : List Script) (i : List (List ℕ)) (w : Bool) (h : List Entry)
     → StandsFor s i w host h
@@ -213,7 +213,7 @@ behind-refused-whole scripts input wait all rest number host before now line lin
 
 -- no line is left
 pub behind-done : (scripts : List Script) (input : List (List ℕ)) (wait : Bool) (all rest : List (List ℕ)) (number : ℕ)
-    (host : HostState) (before now : Option (List ℕ))
+    (host : HostState) (before now : List ℕ)
     → rest ≡ []
     → IsBehind scripts input wait all rest number host before now
     → refused scripts 1 (begin scripts input wait) all ≡ None
@@ -221,7 +221,7 @@ behind-done scripts input wait all rest number host before now is b =
     sym b.refused ∙ ap (λ xs. refused scripts number (whole scripts input wait b.history) xs) is
 
 pub behind-done-whole : (scripts : List Script) (input : List (List ℕ)) (wait : Bool) (all rest : List (List ℕ))
-    (number : ℕ) (host : HostState) (before now : Option (List ℕ))
+    (number : ℕ) (host : HostState) (before now : List ℕ)
     → rest ≡ []
     → IsBehind scripts input wait all rest number host before now
     → now ≡ gains before (journal_output scripts (begin scripts input wait) all)
@@ -230,7 +230,7 @@ behind-done-whole scripts input wait all rest number host before now is b =
 
 -- what was written is a first part of all
 pub behind-first : (scripts : List Script) (input : List (List ℕ)) (wait : Bool) (all rest : List (List ℕ)) (number : ℕ)
-    (host : HostState) (before now : Option (List ℕ))
+    (host : HostState) (before now : List ℕ)
     → IsBehind scripts input wait all rest number host before now
     → GainsPrefix before now (journal_output scripts (begin scripts input wait) all)
 behind-first scripts input wait all rest number host before now b =

@@ -33,7 +33,7 @@ replays scripts input wait journal line is = record {
 -- ---- what is written of it
 
 writes-whole : (scripts : List Script) (input : List (List ℕ)) (wait : Bool) (journal : List ℕ) (line : Option ℕ)
-    (old new : Option (List ℕ))
+    (old new : List ℕ)
     → refused scripts 1 (begin scripts input wait) (lines_of journal) ≡ line
     → new ≡ gains old (journal_output scripts (begin scripts input wait) (lines_of journal))
     → WritesReplay scripts input wait journal line old new
@@ -44,7 +44,7 @@ writes-whole scripts input wait journal line old new is whole = record {
 }
 
 pub writes-part : (scripts : List Script) (input : List (List ℕ)) (wait : Bool) (journal : List ℕ)
-    (old new : Option (List ℕ))
+    (old new : List ℕ)
     → GainsPrefix old new (journal_output scripts (begin scripts input wait) (lines_of journal))
     → WritesPart scripts input wait journal old new
 writes-part scripts input wait journal old new part = record {
@@ -55,7 +55,7 @@ writes-part scripts input wait journal old new part = record {
 }
 
 pub writes-less : (scripts : List Script) (input : List (List ℕ)) (wait : Bool) (journal : List ℕ)
-    (old new : Option (List ℕ))
+    (old new : List ℕ)
     → GainsLess old new (journal_output scripts (begin scripts input wait) (lines_of journal))
     → WritesLess scripts input wait journal old new
 writes-less scripts input wait journal old new less = record {
@@ -71,7 +71,7 @@ ended_by : (e : ReplayEnd) (o : Option ℕ) → ¬ (IsCut e) → IsCut e ⊎ (e 
 ended_by e o uncut (inl cut) = absurd (uncut cut)
 ended_by e o uncut (inr is) = is
 
-wrote_by : (e : ReplayEnd) (old new : Option (List ℕ)) (bytes : List ℕ)
+wrote_by : (e : ReplayEnd) (old new : List ℕ) (bytes : List ℕ)
     → ¬ (IsCut e)
     → IsCut e ⊎ (new ≡ gains old bytes)
     → new ≡ gains old bytes
@@ -104,7 +104,7 @@ HasOutput e scripts input wait journal old new =
     IsCut e ⊎ (new ≡ gains old (journal_output scripts (begin scripts input wait) (lines_of journal)))
 
 writes-done : (scripts : List Script) (input : List (List ℕ)) (wait : Bool) (journal : List ℕ)
-    (old new : Option (List ℕ))
+    (old new : List ℕ)
     → HasEnd ends.Done scripts input wait journal → HasOutput ends.Done scripts input wait journal old new
     → WritesReplay scripts input wait journal None old new
 writes-done scripts input wait journal old new end output =
@@ -113,7 +113,7 @@ writes-done scripts input wait journal old new end output =
     (wrote_by ends.Done old new _ uncut-done output)
 
 writes-refused : (scripts : List Script) (input : List (List ℕ)) (wait : Bool) (journal : List ℕ) (line : ℕ)
-    (old new : Option (List ℕ))
+    (old new : List ℕ)
     → HasEnd (ends.Refused line) scripts input wait journal
     → HasOutput (ends.Refused line) scripts input wait journal old new
     → WritesReplay scripts input wait journal (Some line) old new
@@ -124,7 +124,7 @@ writes-refused scripts input wait journal line old new end output =
     (wrote_by (ends.Refused line) old new _ (uncut-refused line) output)
 
 pub done-writes : (e : ReplayEnd) (scripts : List Script) (input : List (List ℕ)) (wait : Bool) (journal : List ℕ)
-    (old new : Option (List ℕ))
+    (old new : List ℕ)
     → HasEnd e scripts input wait journal → HasOutput e scripts input wait journal old new
     → e ≡ ends.Done → WritesReplay scripts input wait journal None old new
 done-writes ends.Done scripts input wait journal old new end output is =
@@ -137,7 +137,7 @@ same-line : (n line : ℕ) → ends.Refused n ≡ ends.Refused line → n ≡ li
 same-line n line is = cc
 
 pub refused-writes : (e : ReplayEnd) (scripts : List Script) (input : List (List ℕ)) (wait : Bool) (journal : List ℕ)
-    (old new : Option (List ℕ))
+    (old new : List ℕ)
     → HasEnd e scripts input wait journal → HasOutput e scripts input wait journal old new
     → (line : ℕ) → e ≡ ends.Refused line → WritesReplay scripts input wait journal (Some line) old new
 refused-writes ends.Done scripts input wait journal old new end output line is = cc

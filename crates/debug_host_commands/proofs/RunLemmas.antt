@@ -1,12 +1,14 @@
 -- What each end says of a run's files, and of what was written.
-use Rattle.std.proofs.Common.{◌≡◌, ◌⊎◌, ℕ, List, Option, Some, None, refl, sym, ap, subst, ◌∙◌, inl, inr, true, false, string_bytes, Bool}
+use Rattle.std.proofs.Common.{◌≡◌, ◌⊎◌, ℕ, List, [], ◌∷◌, ◌++◌, append-nil, Option, Some, None, refl, sym, ap, subst, ◌∙◌, inl, inr, true, false, string_bytes, Bool}
 use Rattle.std.specs.Str.{is_utf8}
-use Rattle.cdp_edge.specs.Outside.{NamedFile, IfTold, content_of}
+use Rattle.cdp_edge.specs.Outside.{NamedFile, Given, one_file}
 use Rattle.cdp_edge.specs.Blame.{Blames, Faults, Read}
+use Rattle.cdp_edge.proofs.HandedLemmas.{given_as}
 use Rattle.js_tree.specs.declared.script.Script.{Script}
 use Rattle.debug_host_script_files.specs.declared.fault.TextFault.{TextFault}
 use Rattle.debug_host_script_files.specs.Input.{HoldsInput, HoldsNoText}
-use Rattle.debug_host_script_files.proofs.ScriptLemmas.{none_refused, some_same}
+use Rattle.debug_host_script_files.specs.Scripts.{AreScripts}
+use Rattle.debug_host_script_files.proofs.ScriptLemmas.{none_refused}
 use Rattle.debug_host_commands.specs.Files.{HoldsLines, HoldsSources, IsNamed, IsReachedIn, IsRefusedIn}
 use Rattle.debug_host_commands.specs.RunCauses.{RunsToEnd, RunsToThrow, RunsShort, RunsInPart, BecauseSources, BecauseRun}
 use Rattle.debug_host_commands.specs.Status.{ForRun, GivenRun, said, status_of, unread_said, Says, uncaught_said}
@@ -14,40 +16,62 @@ use Rattle.debug_host_options.specs.Requests.{Request, Run, RunWords, Sources}
 use Rattle.debug_host_commands.specs.declared.outcome.CommandEnd.{CommandEnd}
 use Rattle.debug_host_commands.specs.declared.outcome.CommandEnd.TheVariants as ends
 
--- ---- what is told
+-- ---- which files were handed in
 
-pub told_always : (told : Option (List NamedFile)) (P : List NamedFile → Type 0)
-    → ((files : List NamedFile) → P files)
-    → IfTold told P
-told_always None P all = tt
-told_always (Some files) P all = all files
+first_bytes : List NamedFile → List ℕ
+first_bytes [] = []
+first_bytes (file ∷ files) = file.bytes
 
-pub told_map : (told : Option (List NamedFile)) (P Q : List NamedFile → Type 0)
-    → ((files : List NamedFile) → P files → Q files)
-    → IfTold told P
-    → IfTold told Q
-told_map None P Q f p = tt
-told_map (Some files) P Q f p = f files p
+files_behind : List NamedFile → List NamedFile
+files_behind [] = []
+files_behind (file ∷ files) = files
+
+-- what comes after one file is one list
+pub one_rest : (name a b : List ℕ) (xs ys files : List NamedFile)
+    → files ≡ one_file name a ++ xs
+    → files ≡ one_file name b ++ ys
+    → xs ≡ ys
+one_rest name a b xs ys files p q = ap files_behind (sym p ∙ q)
+
+-- and so are its bytes
+pub one_content : (name a b : List ℕ) (xs ys files : List NamedFile)
+    → files ≡ one_file name a ++ xs
+    → files ≡ one_file name b ++ ys
+    → a ≡ b
+one_content name a b xs ys files p q = ap first_bytes (sym p ∙ q)
+
+-- what comes after the input is one list
+lines_rest : (o : Option (List ℕ)) (a b xs ys files : List NamedFile) (input other : List (List ℕ))
+    → HoldsLines a o input
+    → HoldsLines b o other
+    → files ≡ a ++ xs
+    → files ≡ b ++ ys
+    → xs ≡ ys
+lines_rest None a b xs ys files input other h i p q =
+    sym (ap (λ l. l ++ xs) h.0) ∙ sym p ∙ q ∙ ap (λ l. l ++ ys) i.0
+lines_rest (Some name) a b xs ys files input other h i p q =
+    one_rest name h.bytes i.bytes xs ys files (p ∙ ap (λ l. l ++ xs) h.there) (q ∙ ap (λ l. l ++ ys) i.there)
 
 -- files that are taken aren't refused
 
-text_stands : (files : List NamedFile) (name : List ℕ) (lines : List (List ℕ)) (r : TextFault)
-    → HoldsInput files name lines
-    → HoldsNoText files name r
-    → ⊥
-text_stands files name lines r h n =
-    let same : h.bytes ≡ n.bytes = some_same (content_of name files) h.bytes n.bytes h.there n.there in
-    let text : is_utf8 n.bytes ≡ true = ap is_utf8 (sym same) ∙ h.utf8 in
-    let isnt : is_utf8 n.bytes ≡ false = n.utf8 in
+text_stands : (a b : List ℕ) → a ≡ b → is_utf8 a ≡ true → is_utf8 b ≡ false → ⊥
+text_stands a b same text isnt =
+    let now : is_utf8 b ≡ true = ap is_utf8 (sym same) ∙ text in
     absurd cc
 
-input_stands : (files : List NamedFile) (o : Option (List ℕ)) (name : List ℕ) (lines : List (List ℕ)) (r : TextFault)
+input_stands : (files first rest : List NamedFile) (o : Option (List ℕ)) (name : List ℕ) (lines : List (List ℕ))
+    (r : TextFault)
     → o ≡ Some name
-    → HoldsLines files o lines
+    → files ≡ first ++ rest
+    → HoldsLines first o lines
     → HoldsNoText files name r
     → ⊥
-input_stands files o name lines r is h n =
-    text_stands files name lines r (subst (λ (x : Option (List ℕ)). HoldsLines files x lines) is h) n
+input_stands files first rest o name lines r is parts h n =
+    let i : HoldsInput first name lines = subst (λ (x : Option (List ℕ)). HoldsLines first x lines) is h in
+    text_stands i.bytes n.bytes
+    (one_content name i.bytes n.bytes rest [] files (parts ∙ ap (λ l. l ++ rest) i.there)
+    (n.there ∙ sym (append-nil (one_file name n.bytes))))
+    i.utf8 n.utf8
 
 pub run_stands : (files : List NamedFile) (sources : Sources) (scripts : List Script) (input : List (List ℕ))
     (name : List ℕ) (r : TextFault)
@@ -55,9 +79,12 @@ pub run_stands : (files : List NamedFile) (sources : Sources) (scripts : List Sc
     → IsRefusedIn files sources name r
     → ⊥
 run_stands files sources scripts input name r h (inl i) =
-    input_stands files sources.input name input r i.named h.lines i.refused
+    input_stands files h.first h.rest sources.input name input r i.named h.parts h.lines i.refused
 run_stands files sources scripts input name r h (inr i) =
-    none_refused files sources.scripts scripts name r h.are i.refused
+    let same : h.rest ≡ i.rest = lines_rest sources.input h.first i.first h.rest i.rest files input i.input h.lines i.lines
+    h.parts i.parts in
+    none_refused i.rest sources.scripts scripts name r
+    (subst (λ (fs : List NamedFile). AreScripts fs sources.scripts scripts) same h.are) i.refused
 
 -- ---- the status that the files decide
 
@@ -68,178 +95,203 @@ IsTaken n sources files =
     → HoldsSources files sources scripts input
     → (n ≡ 0) ⊎ (n ≡ 8) ⊎ (n ≡ 1) ⊎ (n ≡ 4) ⊎ (n ≡ 5)
 
-taken_of : (end : CommandEnd) (sources : Sources) (told : Option (List NamedFile)) (before after : Faults) (was now : ℕ)
-    (old new : Option (List ℕ))
-    → BecauseRun end sources told before after was now old new
-    → IfTold told (IsTaken (status_of end) sources)
-taken_of ends.Done sources told before after was now old new h =
-    told_always told (IsTaken 0 sources) (λ files scripts input holds. inl refl)
-taken_of (ends.Threw text) sources told before after was now old new h =
-    told_always told (IsTaken 8 sources) (λ files scripts input holds. inr (inl refl))
-taken_of ends.OutOfMemory sources told before after was now old new h =
-    told_always told (IsTaken 1 sources) (λ files scripts input holds. inr (inr (inl refl)))
-taken_of (ends.Refused name r) sources told before after was now old new h =
-    told_map told (λ files. IsRefusedIn files sources name.now r) (IsTaken 3 sources)
+taken_of : (end : CommandEnd) (sources : Sources) (Hands : List NamedFile → Type 0) (before after : Faults) (was now : ℕ)
+    (old new : List ℕ)
+    → BecauseRun end sources Hands before after was now old new
+    → Given Hands (IsTaken (status_of end) sources)
+taken_of ends.Done sources Hands before after was now old new h =
+    given_as Hands _ (IsTaken 0 sources) (λ files it scripts input holds. inl refl) h.2
+taken_of (ends.Threw text) sources Hands before after was now old new h =
+    given_as Hands _ (IsTaken 8 sources) (λ files it scripts input holds. inr (inl refl)) h.2
+taken_of ends.OutOfMemory sources Hands before after was now old new h =
+    given_as Hands _ (IsTaken 1 sources) (λ files it scripts input holds. inr (inr (inl refl))) h.2
+taken_of (ends.Refused name r) sources Hands before after was now old new h =
+    given_as Hands (λ files. IsRefusedIn files sources name.now r) (IsTaken 3 sources)
     (λ files i. λ scripts input holds. absurd (run_stands files sources scripts input name.now r holds i)) h.2
-taken_of (ends.CannotRead name) sources told before after was now old new h =
-    told_always told (IsTaken 4 sources) (λ files scripts input holds. inr (inr (inr (inl refl))))
-taken_of ends.CannotWrite sources told before after was now old new h =
-    told_always told (IsTaken 5 sources) (λ files scripts input holds. inr (inr (inr (inr refl))))
-taken_of ends.Usage sources told before after was now old new h = absurd h
-taken_of ends.NetworkFault sources told before after was now old new h = absurd h
-taken_of ends.ThrewUnshown sources told before after was now old new h = absurd h
-taken_of ends.TicketsSpent sources told before after was now old new h = absurd h
-taken_of (ends.PeerClosed replies) sources told before after was now old new h = absurd h
-taken_of (ends.LineRefused n) sources told before after was now old new h = absurd h
+taken_of (ends.CannotRead name) sources Hands before after was now old new h =
+    given_as Hands _ (IsTaken 4 sources) (λ files it scripts input holds. inr (inr (inr (inl refl)))) h.3
+taken_of ends.CannotWrite sources Hands before after was now old new h =
+    given_as Hands _ (IsTaken 5 sources) (λ files it scripts input holds. inr (inr (inr (inr refl)))) h.2
+taken_of ends.Usage sources Hands before after was now old new h = absurd h
+taken_of ends.NetworkFault sources Hands before after was now old new h = absurd h
+taken_of ends.ThrewUnshown sources Hands before after was now old new h = absurd h
+taken_of ends.TicketsSpent sources Hands before after was now old new h = absurd h
+taken_of (ends.PeerClosed replies) sources Hands before after was now old new h = absurd h
+taken_of (ends.LineRefused n) sources Hands before after was now old new h = absurd h
 
 -- one of these, where a file is refused
 abbrev IsLeft : ℕ → Sources → List NamedFile → Type 0
 IsLeft n sources files =
     (name : List ℕ) (refusal : TextFault) → IsRefusedIn files sources name refusal → (n ≡ 3) ⊎ (n ≡ 1) ⊎ (n ≡ 4)
 
-left_of : (end : CommandEnd) (sources : Sources) (told : Option (List NamedFile)) (before after : Faults) (was now : ℕ)
-    (old new : Option (List ℕ))
-    → BecauseRun end sources told before after was now old new
-    → IfTold told (IsLeft (status_of end) sources)
-left_of ends.Done sources told before after was now old new h =
-    told_map told (λ files. RunsToEnd files sources old new) (IsLeft 0 sources)
+left_of : (end : CommandEnd) (sources : Sources) (Hands : List NamedFile → Type 0) (before after : Faults) (was now : ℕ)
+    (old new : List ℕ)
+    → BecauseRun end sources Hands before after was now old new
+    → Given Hands (IsLeft (status_of end) sources)
+left_of ends.Done sources Hands before after was now old new h =
+    given_as Hands (λ files. RunsToEnd files sources old new) (IsLeft 0 sources)
     (λ files i. λ name r refused. absurd (run_stands files sources i.scripts i.input name r i.holds refused)) h.2
-left_of (ends.Threw text) sources told before after was now old new h =
-    told_map told (λ files. RunsToThrow files sources (string_bytes text) old new) (IsLeft 8 sources)
+left_of (ends.Threw text) sources Hands before after was now old new h =
+    given_as Hands (λ files. RunsToThrow files sources (string_bytes text) old new) (IsLeft 8 sources)
     (λ files i. λ name r refused. absurd (run_stands files sources i.scripts i.input name r i.holds refused)) h.2
-left_of ends.OutOfMemory sources told before after was now old new h =
-    told_always told (IsLeft 1 sources) (λ files name r refused. inr (inl refl))
-left_of (ends.Refused name r) sources told before after was now old new h =
-    told_always told (IsLeft 3 sources) (λ files name q refused. inl refl)
-left_of (ends.CannotRead name) sources told before after was now old new h =
-    told_always told (IsLeft 4 sources) (λ files name r refused. inr (inr refl))
-left_of ends.CannotWrite sources told before after was now old new h =
-    told_map told (λ files. RunsShort files sources old new) (IsLeft 5 sources)
+left_of ends.OutOfMemory sources Hands before after was now old new h =
+    given_as Hands _ (IsLeft 1 sources) (λ files it name r refused. inr (inl refl)) h.2
+left_of (ends.Refused name r) sources Hands before after was now old new h =
+    given_as Hands _ (IsLeft 3 sources) (λ files it name q refused. inl refl) h.2
+left_of (ends.CannotRead name) sources Hands before after was now old new h =
+    given_as Hands _ (IsLeft 4 sources) (λ files it name r refused. inr (inr refl)) h.3
+left_of ends.CannotWrite sources Hands before after was now old new h =
+    given_as Hands (λ files. RunsShort files sources old new) (IsLeft 5 sources)
     (λ files i. λ name r refused. absurd (run_stands files sources i.scripts i.input name r i.holds refused)) h.2
-left_of ends.Usage sources told before after was now old new h = absurd h
-left_of ends.NetworkFault sources told before after was now old new h = absurd h
-left_of ends.ThrewUnshown sources told before after was now old new h = absurd h
-left_of ends.TicketsSpent sources told before after was now old new h = absurd h
-left_of (ends.PeerClosed replies) sources told before after was now old new h = absurd h
-left_of (ends.LineRefused n) sources told before after was now old new h = absurd h
+left_of ends.Usage sources Hands before after was now old new h = absurd h
+left_of ends.NetworkFault sources Hands before after was now old new h = absurd h
+left_of ends.ThrewUnshown sources Hands before after was now old new h = absurd h
+left_of ends.TicketsSpent sources Hands before after was now old new h = absurd h
+left_of (ends.PeerClosed replies) sources Hands before after was now old new h = absurd h
+left_of (ends.LineRefused n) sources Hands before after was now old new h = absurd h
 
 -- of the words that ask for the run
-given_run : (o : Option Request) (request : RunWords) (told : Option (List NamedFile)) (P : Sources → List NamedFile → Type 0)
+given_run : (o : Option Request) (request : RunWords) (Hands : List NamedFile → Type 0) (P : Sources → List NamedFile → Type 0)
     → o ≡ Some (Run request)
-    → IfTold told (P request.sources)
-    → GivenRun o told P
-given_run o request told P is h = rw is h
+    → Given Hands (P request.sources)
+    → GivenRun o Hands P
+given_run o request Hands P is h = rw is h
 
-pub taken_given : (o : Option Request) (request : RunWords) (told : Option (List NamedFile)) (end : CommandEnd)
-    (before after : Faults) (was now : ℕ) (old new : Option (List ℕ)) (status : ℕ)
+pub taken_given : (o : Option Request) (request : RunWords) (Hands : List NamedFile → Type 0) (end : CommandEnd)
+    (before after : Faults) (was now : ℕ) (old new : List ℕ) (status : ℕ)
     → o ≡ Some (Run request)
     → status ≡ status_of end
-    → BecauseRun end request.sources told before after was now old new
-    → GivenRun o told (IsTaken status)
-taken_given o request told end before after was now old new status is e h =
-    given_run o request told (IsTaken status) is
-    (subst (λ (n : ℕ). IfTold told (IsTaken n request.sources)) (sym e)
-    (taken_of end request.sources told before after was now old new h))
+    → BecauseRun end request.sources Hands before after was now old new
+    → GivenRun o Hands (IsTaken status)
+taken_given o request Hands end before after was now old new status is e h =
+    given_run o request Hands (IsTaken status) is
+    (subst (λ (n : ℕ). Given Hands (IsTaken n request.sources)) (sym e)
+    (taken_of end request.sources Hands before after was now old new h))
 
-pub left_given : (o : Option Request) (request : RunWords) (told : Option (List NamedFile)) (end : CommandEnd)
-    (before after : Faults) (was now : ℕ) (old new : Option (List ℕ)) (status : ℕ)
+pub left_given : (o : Option Request) (request : RunWords) (Hands : List NamedFile → Type 0) (end : CommandEnd)
+    (before after : Faults) (was now : ℕ) (old new : List ℕ) (status : ℕ)
     → o ≡ Some (Run request)
     → status ≡ status_of end
-    → BecauseRun end request.sources told before after was now old new
-    → GivenRun o told (IsLeft status)
-left_given o request told end before after was now old new status is e h =
-    given_run o request told (IsLeft status) is
-    (subst (λ (n : ℕ). IfTold told (IsLeft n request.sources)) (sym e)
-    (left_of end request.sources told before after was now old new h))
+    → BecauseRun end request.sources Hands before after was now old new
+    → GivenRun o Hands (IsLeft status)
+left_given o request Hands end before after was now old new status is e h =
+    given_run o request Hands (IsLeft status) is
+    (subst (λ (n : ℕ). Given Hands (IsLeft n request.sources)) (sym e)
+    (left_of end request.sources Hands before after was now old new h))
 
 -- how a throw that ended its program is told
-abbrev IsToldThrow : Option (List ℕ) → Option (List ℕ) → Bool → Option (List ℕ) → Option (List ℕ) → Sources
+abbrev IsToldThrow : List ℕ → List ℕ → Bool → List ℕ → List ℕ → Sources
     → List NamedFile → Type 0
 IsToldThrow old new explains said_before said_after sources files =
     (text : List ℕ) × RunsToThrow files sources text old new × Says explains said_before said_after (uncaught_said text)
 
-threw-told : (end : CommandEnd) (sources : Sources) (told : Option (List NamedFile)) (before after : Faults) (was now : ℕ)
-    (old new : Option (List ℕ)) (explains : Bool) (said_before said_after : Option (List ℕ)) → status_of end ≡ 8
-    → BecauseRun end sources told before after was now old new → Says explains said_before said_after (said end)
-    → IfTold told (IsToldThrow old new explains said_before said_after sources)
-threw-told (ends.Threw text) sources told before after was now old new explains said_before said_after is h says =
-    told_map told (λ files. RunsToThrow files sources (string_bytes text) old new)
+threw-told : (end : CommandEnd) (sources : Sources) (Hands : List NamedFile → Type 0) (before after : Faults) (was now : ℕ)
+    (old new : List ℕ) (explains : Bool) (said_before said_after : List ℕ) → status_of end ≡ 8
+    → BecauseRun end sources Hands before after was now old new → Says explains said_before said_after (said end)
+    → Given Hands (IsToldThrow old new explains said_before said_after sources)
+threw-told (ends.Threw text) sources Hands before after was now old new explains said_before said_after is h says =
+    given_as Hands (λ files. RunsToThrow files sources (string_bytes text) old new)
     (IsToldThrow old new explains said_before said_after sources) (λ files thrown. (string_bytes text, thrown, says)) h.2
-threw-told ends.Done sources told before after was now old new explains said_before said_after is h says = absurd cc
-threw-told ends.OutOfMemory sources told before after was now old new explains said_before said_after is h says = absurd cc
-threw-told (ends.Refused name r) sources told before after was now old new explains said_before said_after is h says = absurd cc
-threw-told (ends.CannotRead name) sources told before after was now old new explains said_before said_after is h says = absurd cc
-threw-told ends.CannotWrite sources told before after was now old new explains said_before said_after is h says = absurd cc
-threw-told ends.ThrewUnshown sources told before after was now old new explains said_before said_after is h says = absurd h
-threw-told ends.Usage sources told before after was now old new explains said_before said_after is h says = absurd h
-threw-told (ends.LineRefused n) sources told before after was now old new explains said_before said_after is h says = absurd h
-threw-told ends.NetworkFault sources told before after was now old new explains said_before said_after is h says = absurd h
-threw-told ends.TicketsSpent sources told before after was now old new explains said_before said_after is h says = absurd h
-threw-told (ends.PeerClosed replies) sources told before after was now old new explains said_before said_after is h says = absurd h
+threw-told ends.Done sources Hands before after was now old new explains said_before said_after is h says = absurd cc
+threw-told ends.OutOfMemory sources Hands before after was now old new explains said_before said_after is h says = absurd cc
+threw-told (ends.Refused name r) sources Hands before after was now old new explains said_before said_after is h says = absurd cc
+threw-told (ends.CannotRead name) sources Hands before after was now old new explains said_before said_after is h says = absurd cc
+threw-told ends.CannotWrite sources Hands before after was now old new explains said_before said_after is h says = absurd cc
+threw-told ends.ThrewUnshown sources Hands before after was now old new explains said_before said_after is h says = absurd h
+threw-told ends.Usage sources Hands before after was now old new explains said_before said_after is h says = absurd h
+threw-told (ends.LineRefused n) sources Hands before after was now old new explains said_before said_after is h says = absurd h
+threw-told ends.NetworkFault sources Hands before after was now old new explains said_before said_after is h says = absurd h
+threw-told ends.TicketsSpent sources Hands before after was now old new explains said_before said_after is h says = absurd h
+threw-told (ends.PeerClosed replies) sources Hands before after was now old new explains said_before said_after is h says = absurd h
 
-pub threw_given : (o : Option Request) (request : RunWords) (told : Option (List NamedFile)) (end : CommandEnd)
-    (before after : Faults) (was now : ℕ) (old new : Option (List ℕ)) (explains : Bool)
-    (said_before said_after : Option (List ℕ)) (status : ℕ)
-    → o ≡ Some (Run request) → status ≡ status_of end → BecauseRun end request.sources told before after was now old new
+pub threw_given : (o : Option Request) (request : RunWords) (Hands : List NamedFile → Type 0) (end : CommandEnd)
+    (before after : Faults) (was now : ℕ) (old new : List ℕ) (explains : Bool)
+    (said_before said_after : List ℕ) (status : ℕ)
+    → o ≡ Some (Run request) → status ≡ status_of end → BecauseRun end request.sources Hands before after was now old new
     → Says explains said_before said_after (said end) → status ≡ 8
-    → GivenRun o told (IsToldThrow old new explains said_before said_after)
-threw_given o request told end before after was now old new explains said_before said_after status is ends_so h says eight =
-    given_run o request told (IsToldThrow old new explains said_before said_after) is
-    (threw-told end request.sources told before after was now old new explains said_before said_after (sym ends_so ∙ eight) h says)
+    → GivenRun o Hands (IsToldThrow old new explains said_before said_after)
+threw_given o request Hands end before after was now old new explains said_before said_after status is ends_so h says eight =
+    given_run o request Hands (IsToldThrow old new explains said_before said_after) is
+    (threw-told end request.sources Hands before after was now old new explains said_before said_after (sym ends_so ∙ eight) h says)
 
 -- how a file that can't be read is told
-abbrev IsToldRead : Faults → Faults → Option (List NamedFile) → Bool → Option (List ℕ) → Option (List ℕ) → Sources → Type 0
-IsToldRead before after told explains said_before said_after sources =
+abbrev IsToldRead : Faults → Faults → (List NamedFile → Type 0) → Bool → List ℕ → List ℕ → Sources → Type 0
+IsToldRead before after Hands explains said_before said_after sources =
     (name : List ℕ)
     × IsNamed sources name
     × Blames (Read name) before after
-    × IfTold told (λ files. IsReachedIn files sources name)
+    × Given Hands (λ files. IsReachedIn files sources name)
     × Says explains said_before said_after (unread_said name)
 
-read-told : (end : CommandEnd) (sources : Sources) (told : Option (List NamedFile)) (before after : Faults) (was now : ℕ)
-    (old new : Option (List ℕ)) (explains : Bool) (said_before said_after : Option (List ℕ)) → status_of end ≡ 4
-    → BecauseRun end sources told before after was now old new → Says explains said_before said_after (said end)
-    → IsToldRead before after told explains said_before said_after sources
-read-told (ends.CannotRead name) sources told before after was now old new explains said_before said_after is h says =
+read-told : (end : CommandEnd) (sources : Sources) (Hands : List NamedFile → Type 0) (before after : Faults) (was now : ℕ)
+    (old new : List ℕ) (explains : Bool) (said_before said_after : List ℕ) → status_of end ≡ 4
+    → BecauseRun end sources Hands before after was now old new → Says explains said_before said_after (said end)
+    → IsToldRead before after Hands explains said_before said_after sources
+read-told (ends.CannotRead name) sources Hands before after was now old new explains said_before said_after is h says =
     (name.now, h.2, h.0, h.3, says)
-read-told ends.Done sources told before after was now old new explains said_before said_after is h says = absurd cc
-read-told (ends.Threw text) sources told before after was now old new explains said_before said_after is h says = absurd cc
-read-told ends.OutOfMemory sources told before after was now old new explains said_before said_after is h says = absurd cc
-read-told (ends.Refused name r) sources told before after was now old new explains said_before said_after is h says = absurd cc
-read-told ends.CannotWrite sources told before after was now old new explains said_before said_after is h says = absurd cc
-read-told ends.ThrewUnshown sources told before after was now old new explains said_before said_after is h says = absurd h
-read-told ends.Usage sources told before after was now old new explains said_before said_after is h says = absurd h
-read-told (ends.LineRefused n) sources told before after was now old new explains said_before said_after is h says = absurd h
-read-told ends.NetworkFault sources told before after was now old new explains said_before said_after is h says = absurd h
-read-told ends.TicketsSpent sources told before after was now old new explains said_before said_after is h says = absurd h
-read-told (ends.PeerClosed replies) sources told before after was now old new explains said_before said_after is h says = absurd h
+read-told ends.Done sources Hands before after was now old new explains said_before said_after is h says = absurd cc
+read-told (ends.Threw text) sources Hands before after was now old new explains said_before said_after is h says = absurd cc
+read-told ends.OutOfMemory sources Hands before after was now old new explains said_before said_after is h says = absurd cc
+read-told (ends.Refused name r) sources Hands before after was now old new explains said_before said_after is h says = absurd cc
+read-told ends.CannotWrite sources Hands before after was now old new explains said_before said_after is h says = absurd cc
+read-told ends.ThrewUnshown sources Hands before after was now old new explains said_before said_after is h says = absurd h
+read-told ends.Usage sources Hands before after was now old new explains said_before said_after is h says = absurd h
+read-told (ends.LineRefused n) sources Hands before after was now old new explains said_before said_after is h says = absurd h
+read-told ends.NetworkFault sources Hands before after was now old new explains said_before said_after is h says = absurd h
+read-told ends.TicketsSpent sources Hands before after was now old new explains said_before said_after is h says = absurd h
+read-told (ends.PeerClosed replies) sources Hands before after was now old new explains said_before said_after is h says = absurd h
 
-pub read_given : (o : Option Request) (request : RunWords) (told : Option (List NamedFile)) (end : CommandEnd)
-    (before after : Faults) (was now : ℕ) (old new : Option (List ℕ)) (explains : Bool) (said_before said_after : Option (List ℕ)) (status : ℕ)
-    → o ≡ Some (Run request) → status ≡ status_of end → BecauseRun end request.sources told before after was now old new
+pub read_given : (o : Option Request) (request : RunWords) (Hands : List NamedFile → Type 0) (end : CommandEnd)
+    (before after : Faults) (was now : ℕ) (old new : List ℕ) (explains : Bool) (said_before said_after : List ℕ) (status : ℕ)
+    → o ≡ Some (Run request) → status ≡ status_of end → BecauseRun end request.sources Hands before after was now old new
     → Says explains said_before said_after (said end) → status ≡ 4
-    → ForRun o (IsToldRead before after told explains said_before said_after)
-read_given o request told end before after was now old new explains said_before said_after status is ends_so h says four =
-    let it : IsToldRead before after told explains said_before said_after request.sources =
-    read-told end request.sources told before after was now old new explains said_before said_after (sym ends_so ∙ four) h says in rw is it
+    → ForRun o (IsToldRead before after Hands explains said_before said_after)
+read_given o request Hands end before after was now old new explains said_before said_after status is ends_so h says four =
+    let it : IsToldRead before after Hands explains said_before said_after request.sources =
+    read-told end request.sources Hands before after was now old new explains said_before said_after (sym ends_so ∙ four) h says in rw is it
 
 -- ---- before a step is made
 
+-- of sources that weren't all taken some files may have been handed in
+pub some_handed : (end : CommandEnd) (sources : Sources) (Hands : List NamedFile → Type 0) (before after : Faults)
+    → BecauseSources end sources Hands before after
+    → Given Hands (λ files. Unit {0})
+some_handed ends.Done sources Hands before after h = absurd h
+some_handed (ends.Threw text) sources Hands before after h = absurd h
+some_handed ends.OutOfMemory sources Hands before after h = h.1
+some_handed ends.Usage sources Hands before after h = absurd h
+some_handed ends.NetworkFault sources Hands before after h = absurd h
+some_handed ends.ThrewUnshown sources Hands before after h = absurd h
+some_handed ends.TicketsSpent sources Hands before after h = absurd h
+some_handed (ends.PeerClosed replies) sources Hands before after h = absurd h
+some_handed (ends.Refused name r) sources Hands before after h = given_as Hands _ (λ files. Unit {0}) (λ files it. tt) h.1
+some_handed (ends.CannotRead name) sources Hands before after h = given_as Hands _ (λ files. Unit {0}) (λ files it. tt) h.2
+some_handed ends.CannotWrite sources Hands before after h = absurd h
+some_handed (ends.LineRefused n) sources Hands before after h = absurd h
+
+pub unread_part : (end : CommandEnd) (sources : Sources) (Hands : List NamedFile → Type 0) (before after : Faults)
+    (old : List ℕ)
+    → BecauseSources end sources Hands before after
+    → Given Hands (λ files. (old ≡ old) ⊎ RunsInPart files sources old old)
+unread_part end sources Hands before after old h =
+    given_as Hands (λ files. Unit {0}) (λ files. (old ≡ old) ⊎ RunsInPart files sources old old) (λ files it. inl refl)
+    (some_handed end sources Hands before after h)
+
 -- why a run ended so whose files weren't all taken
-pub unread : (end : CommandEnd) (sources : Sources) (told : Option (List NamedFile)) (before after : Faults) (was : ℕ)
-    (old : Option (List ℕ))
-    → BecauseSources end sources told before after
-    → BecauseRun end sources told before after was was old old
-unread ends.Done sources told before after was old h = absurd h
-unread (ends.Threw text) sources told before after was old h = absurd h
-unread ends.OutOfMemory sources told before after was old h =
-    (h, refl, told_always told (λ files. (old ≡ old) ⊎ RunsInPart files sources old old) (λ files. inl refl))
-unread ends.Usage sources told before after was old h = absurd h
-unread ends.NetworkFault sources told before after was old h = absurd h
-unread ends.ThrewUnshown sources told before after was old h = absurd h
-unread ends.TicketsSpent sources told before after was old h = absurd h
-unread (ends.PeerClosed replies) sources told before after was old h = absurd h
-unread (ends.Refused name r) sources told before after was old h = (h.0, refl, h.1)
-unread (ends.CannotRead name) sources told before after was old h = (h.0, refl, h.1, h.2)
-unread ends.CannotWrite sources told before after was old h = absurd h
-unread (ends.LineRefused n) sources told before after was old h = absurd h
+pub unread : (end : CommandEnd) (sources : Sources) (Hands : List NamedFile → Type 0) (before after : Faults) (was : ℕ)
+    (old : List ℕ)
+    → BecauseSources end sources Hands before after
+    → BecauseRun end sources Hands before after was was old old
+unread ends.Done sources Hands before after was old h = absurd h
+unread (ends.Threw text) sources Hands before after was old h = absurd h
+unread ends.OutOfMemory sources Hands before after was old h =
+    (h.0, refl, given_as Hands _ (λ files. (old ≡ old) ⊎ RunsInPart files sources old old) (λ files it. inl refl) h.1)
+unread ends.Usage sources Hands before after was old h = absurd h
+unread ends.NetworkFault sources Hands before after was old h = absurd h
+unread ends.ThrewUnshown sources Hands before after was old h = absurd h
+unread ends.TicketsSpent sources Hands before after was old h = absurd h
+unread (ends.PeerClosed replies) sources Hands before after was old h = absurd h
+unread (ends.Refused name r) sources Hands before after was old h = (h.0, refl, h.1)
+unread (ends.CannotRead name) sources Hands before after was old h = (h.0, refl, h.1, h.2)
+unread ends.CannotWrite sources Hands before after was old h = absurd h
+unread (ends.LineRefused n) sources Hands before after was old h = absurd h

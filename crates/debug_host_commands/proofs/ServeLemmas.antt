@@ -16,7 +16,7 @@ use Rattle.cdp_host_isolation.proofs.AloneLemmas.{alone}
 use Rattle.cdp_host_isolation.proofs.MakerLemmas.{by-append, by-own}
 use Rattle.cdp_host_isolation.proofs.StopLemmas.{stops-exactly}
 use Rattle.cdp_edge.specs.Blame.{Blames, Faults, Read}
-use Rattle.cdp_edge.specs.Outside.{GainsPrefix, NamedFile, Rose, IfTold, gains}
+use Rattle.cdp_edge.specs.Outside.{GainsPrefix, NamedFile, Rose, Given, gains}
 use Rattle.history_lock.specs.Histories.{has}
 use Rattle.history_lock.specs.Passes.{Follows, HasInitialOnly, IsSamePass, LockId, PassState, initial_pass, initial_passes}
 use Rattle.js_tree.specs.declared.script.Script.{Script}
@@ -53,7 +53,8 @@ use Rattle.debug_host_commands.specs.declared.outcome.CommandEnd.{CommandEnd}
 use Rattle.debug_host_commands.specs.declared.outcome.CommandEnd.TheVariants as ends
 use Rattle.debug_host_commands.proofs.PausedLemmas.{run-shut}
 use Rattle.debug_host_commands.proofs.PlainLemmas.{plain-as}
-use Rattle.debug_host_commands.proofs.RunLemmas.{told_always, told_map}
+use Rattle.debug_host_commands.proofs.RunLemmas.{some_handed}
+use Rattle.cdp_edge.proofs.HandedLemmas.{given_as}
 use Rattle.ws_service.proofs.ProgramLemmas.{same-tail}
 
 -- ---- shuts
@@ -149,12 +150,12 @@ texts-plain scripts input wait h texts prints =
     ∙ prints
     ∙ ap (λ l. l ++ texts) (start-prints scripts input))
 
-gains-first : (cut : Bool) (before after : Opt (List ℕ)) (texts : List (List ℕ)) → GainsLines cut before after texts
+gains-first : (cut : Bool) (before after : List ℕ) (texts : List (List ℕ)) → GainsLines cut before after texts
     → GainsPrefix before after (printed_lines texts)
 gains-first false before after texts is = (printed_lines texts, [], sym (append-nil (printed_lines texts)), is)
 gains-first true before after texts is = is
 
-prefix-more : (before after : Opt (List ℕ)) (xs ys zs : List ℕ) → zs ≡ xs ++ ys → GainsPrefix before after xs
+prefix-more : (before after : List ℕ) (xs ys zs : List ℕ) → zs ≡ xs ++ ys → GainsPrefix before after xs
     → GainsPrefix before after zs
 prefix-more before after xs ys zs is g = (
   g.0,
@@ -164,7 +165,7 @@ prefix-more before after xs ys zs is g = (
 )
 
 -- a first part of what some steps print is one of what any further steps print
-first-part : (k : ℕ) (scripts : List Script) (input : List (List ℕ)) (before after : Opt (List ℕ))
+first-part : (k : ℕ) (scripts : List Script) (input : List (List ℕ)) (before after : List ℕ)
     → GainsPrefix before after (printed_lines (printed_of (plain k scripts input)))
     → IsFirstPart (terms_of_scripts scripts) input before after
 unfolding plain
@@ -178,7 +179,7 @@ first-part k scripts input before after g = record {
 }
 
 -- a plain run that a throw ended has its value, which is shown so
-thrown-so : (k : ℕ) (scripts : List Script) (input : List (List ℕ)) (text : List ℕ) (before after : Opt (List ℕ))
+thrown-so : (k : ℕ) (scripts : List Script) (input : List (List ℕ)) (text : List ℕ) (before after : List ℕ)
     (r : Run) → plain k scripts input ≡ r → uncaught_text r ≡ Some text
     → after ≡ gains before (printed_lines (printed_of r)) → HasThrown (terms_of_scripts scripts) input text before after
 unfolding plain
@@ -188,7 +189,7 @@ thrown-so k scripts input text before after (over (finishes.threw v place) s) at
   place = place;
   state = s;
   is = at;
-  told = sym (same_Some _ _ shown);
+  Hands = sym (same_Some _ _ shown);
   whole = written;
 }
 thrown-so k scripts input text before after (running t s) at shown written = absurd cc
@@ -453,96 +454,106 @@ pub host-program : (scripts : List Script) (input : List (List ℕ)) (wait : Boo
     (history : List Entry) (text : Opt (List ℕ)) → StandsFor scripts input wait host history → host.broken ≡ false
     → ((taken : List (List ℕ)) → text ≡ uncaught_text (meaning_with host taken).program)
     → uncaught_text (whole scripts input wait history).program ≡ text
-host-program scripts input wait host history text stands works told =
+host-program scripts input wait host history text stands works Hands =
     let printed = printed_of (whole scripts input wait history).program in
-    sym (told printed ∙ ap (λ m. uncaught_text m.program) (stands.means works).is)
+    sym (Hands printed ∙ ap (λ m. uncaught_text m.program) (stands.means works).is)
 
 -- ---- before a port is opened
 
 -- why a server ended so whose files weren't all taken
-pub unread : (end : CommandEnd) (request : ServeWords) (told : Opt (List NamedFile)) (before after : Faults) (out : Output)
-    (harbor : Harbored) → BecauseSources end request.sources told before after
-    → BecauseServe end request told before after out out harbor harbor
-unread ends.Done request told before after out harbor h = absurd h
-unread (ends.Threw text) request told before after out harbor h = absurd h
-unread ends.ThrewUnshown request told before after out harbor h = absurd h
-unread ends.OutOfMemory request told before after out harbor h = (h, refl)
-unread ends.Usage request told before after out harbor h = absurd h
-unread (ends.Refused name r) request told before after out harbor h = (h.0, refl, h.1)
-unread (ends.CannotRead name) request told before after out harbor h = (h.0, refl, h.1, h.2)
-unread ends.CannotWrite request told before after out harbor h = absurd h
-unread (ends.LineRefused n) request told before after out harbor h = absurd h
-unread ends.NetworkFault request told before after out harbor h = absurd h
-unread ends.TicketsSpent request told before after out harbor h = absurd h
-unread (ends.PeerClosed replies) request told before after out harbor h = absurd h
+pub unread : (end : CommandEnd) (request : ServeWords) (Hands : List NamedFile → Type 0) (before after : Faults) (out : Output)
+    (harbor : Harbored) → BecauseSources end request.sources Hands before after
+    → BecauseServe end request Hands before after out out harbor harbor
+unread ends.Done request Hands before after out harbor h = absurd h
+unread (ends.Threw text) request Hands before after out harbor h = absurd h
+unread ends.ThrewUnshown request Hands before after out harbor h = absurd h
+unread ends.OutOfMemory request Hands before after out harbor h = (h.0, refl)
+unread ends.Usage request Hands before after out harbor h = absurd h
+unread (ends.Refused name r) request Hands before after out harbor h = (h.0, refl, h.1)
+unread (ends.CannotRead name) request Hands before after out harbor h = (h.0, refl, h.1, h.2)
+unread ends.CannotWrite request Hands before after out harbor h = absurd h
+unread (ends.LineRefused n) request Hands before after out harbor h = absurd h
+unread ends.NetworkFault request Hands before after out harbor h = absurd h
+unread ends.TicketsSpent request Hands before after out harbor h = absurd h
+unread (ends.PeerClosed replies) request Hands before after out harbor h = absurd h
 
 -- why one ended so whose program was served
-pub read : (end : CommandEnd) (request : ServeWords) (told : Opt (List NamedFile)) (faults : Faults) (old new : Output)
+pub read : (end : CommandEnd) (request : ServeWords) (Hands : List NamedFile → Type 0) (faults : Faults) (old new : Output)
     (before after : Harbored) (scripts : List Script) (input : List (List ℕ))
-    → IfTold told (λ files. HoldsSources files request.sources scripts input)
+    → Given Hands (λ files. HoldsSources files request.sources scripts input)
     → BecauseServed end scripts input request.port request.sessions old new before after
-    → BecauseServe end request told faults faults old new before after
-read ends.Done request told faults old new before after scripts input holds h = (
+    → BecauseServe end request Hands faults faults old new before after
+read ends.Done request Hands faults old new before after scripts input holds h = (
   refl,
   h.0,
   h.1,
-  told_map told (λ files. HoldsSources files request.sources scripts input) _
+  given_as Hands (λ files. HoldsSources files request.sources scripts input) _
       (λ files at. record { scripts = scripts; input = input; holds = at; finished = h.2 }) holds,
 )
-read (ends.Threw text) request told faults old new before after scripts input holds h = (
+read (ends.Threw text) request Hands faults old new before after scripts input holds h = (
   refl,
   h.0,
   h.1,
-  told_map told (λ files. HoldsSources files request.sources scripts input) _
+  given_as Hands (λ files. HoldsSources files request.sources scripts input) _
       (λ files at. record { scripts = scripts; input = input; holds = at; thrown = h.2 }) holds,
 )
-read ends.ThrewUnshown request told faults old new before after scripts input holds h = (
+read ends.ThrewUnshown request Hands faults old new before after scripts input holds h = (
   refl,
   h.0,
   h.1,
   (
     h.2.0,
-    told_map told (λ files. HoldsSources files request.sources scripts input) _
+    given_as Hands (λ files. HoldsSources files request.sources scripts input) _
         (λ files at. record { scripts = scripts; input = input; holds = at; thrown = h.2.1 }) holds,
   ),
 )
-read ends.OutOfMemory request told faults old new before after scripts input holds h = (refl, h)
-read ends.CannotWrite request told faults old new before after scripts input holds h = (refl, h.0, h.1)
-read ends.NetworkFault request told faults old new before after scripts input holds h = (refl, h.0, h.1)
-read ends.TicketsSpent request told faults old new before after scripts input holds h = (refl, h.0, h.1)
-read ends.Usage request told faults old new before after scripts input holds h = absurd h
-read (ends.Refused name r) request told faults old new before after scripts input holds h = absurd h
-read (ends.CannotRead name) request told faults old new before after scripts input holds h = absurd h
-read (ends.LineRefused n) request told faults old new before after scripts input holds h = absurd h
-read (ends.PeerClosed replies) request told faults old new before after scripts input holds h = absurd h
+read ends.OutOfMemory request Hands faults old new before after scripts input holds h = (refl, h)
+read ends.CannotWrite request Hands faults old new before after scripts input holds h = (refl, h.0, h.1)
+read ends.NetworkFault request Hands faults old new before after scripts input holds h = (refl, h.0, h.1)
+read ends.TicketsSpent request Hands faults old new before after scripts input holds h = (refl, h.0, h.1)
+read ends.Usage request Hands faults old new before after scripts input holds h = absurd h
+read (ends.Refused name r) request Hands faults old new before after scripts input holds h = absurd h
+read (ends.CannotRead name) request Hands faults old new before after scripts input holds h = absurd h
+read (ends.LineRefused n) request Hands faults old new before after scripts input holds h = absurd h
+read (ends.PeerClosed replies) request Hands faults old new before after scripts input holds h = absurd h
 
 -- no port was served where a file wasn't taken
-pub unserved : (end : CommandEnd) (request : ServeWords) (told : Opt (List NamedFile)) (before after : Faults)
-    → BecauseSources end request.sources told before after → IsUnserved end
-unserved ends.Done request told before after h = absurd h
-unserved (ends.Threw text) request told before after h = absurd h
-unserved ends.ThrewUnshown request told before after h = absurd h
-unserved ends.OutOfMemory request told before after h = tt
-unserved ends.Usage request told before after h = absurd h
-unserved (ends.Refused name r) request told before after h = tt
-unserved (ends.CannotRead name) request told before after h = tt
-unserved ends.CannotWrite request told before after h = absurd h
-unserved (ends.LineRefused n) request told before after h = absurd h
-unserved ends.NetworkFault request told before after h = absurd h
-unserved ends.TicketsSpent request told before after h = absurd h
-unserved (ends.PeerClosed replies) request told before after h = absurd h
+pub unserved : (end : CommandEnd) (request : ServeWords) (Hands : List NamedFile → Type 0) (before after : Faults)
+    → BecauseSources end request.sources Hands before after → IsUnserved end
+unserved ends.Done request Hands before after h = absurd h
+unserved (ends.Threw text) request Hands before after h = absurd h
+unserved ends.ThrewUnshown request Hands before after h = absurd h
+unserved ends.OutOfMemory request Hands before after h = tt
+unserved ends.Usage request Hands before after h = absurd h
+unserved (ends.Refused name r) request Hands before after h = tt
+unserved (ends.CannotRead name) request Hands before after h = tt
+unserved ends.CannotWrite request Hands before after h = absurd h
+unserved (ends.LineRefused n) request Hands before after h = absurd h
+unserved ends.NetworkFault request Hands before after h = absurd h
+unserved ends.TicketsSpent request Hands before after h = absurd h
+unserved (ends.PeerClosed replies) request Hands before after h = absurd h
+
+-- where a file wasn't taken, no port was served, whatever was handed in
+pub unserved_part : (end : CommandEnd) (request : ServeWords) (Hands : List NamedFile → Type 0) (faults now_faults : Faults)
+    (moment : Opt ℕ) (out : Output) (kept : Opt (List Tended))
+    → BecauseSources end request.sources Hands faults now_faults
+    → Given Hands (λ files. MayServe files request moment out out kept kept end)
+unserved_part end request Hands faults now_faults moment out kept h =
+    given_as Hands (λ files. Unit {0}) (λ files. MayServe files request moment out out kept kept end)
+    (λ files it. inl (unserved end request Hands faults now_faults h, refl))
+    (some_handed end request.sources Hands faults now_faults h)
 
 -- a port that was served for the scripts that the files hold, or wasn't
-pub serves : (request : ServeWords) (told : Opt (List NamedFile)) (moment : Opt ℕ) (old new : Output)
+pub serves : (request : ServeWords) (Hands : List NamedFile → Type 0) (moment : Opt ℕ) (old new : Output)
     (before after : Opt (List Tended)) (end : CommandEnd) (scripts : List Script) (input : List (List ℕ))
-    → IfTold told (λ files. HoldsSources files request.sources scripts input)
+    → Given Hands (λ files. HoldsSources files request.sources scripts input)
     → (IsUnserved end × (new.content ≡ old.content))
     ⊎ ServesPort scripts input request.wait request.sessions (clients_of request.devtools) moment old new before after end
-    → IfTold told (λ files. MayServe files request moment old new before after end)
-serves request told moment old new before after end scripts input holds (inl unserved) =
-    told_map told (λ files. HoldsSources files request.sources scripts input) _ (λ files at. inl unserved) holds
-serves request told moment old new before after end scripts input holds (inr port) =
-    told_map told (λ files. HoldsSources files request.sources scripts input) _
+    → Given Hands (λ files. MayServe files request moment old new before after end)
+serves request Hands moment old new before after end scripts input holds (inl unserved) =
+    given_as Hands (λ files. HoldsSources files request.sources scripts input) _ (λ files at. inl unserved) holds
+serves request Hands moment old new before after end scripts input holds (inr port) =
+    given_as Hands (λ files. HoldsSources files request.sources scripts input) _
     (λ files at. inr (record { scripts = scripts; input = input; holds = at; port = port })) holds
 
 -- its output is a first part of the plain one
@@ -561,35 +572,35 @@ in-part request files moment old new before after end (inr s) = inr (record {
 
 -- ---- of the words that ask for a server
 
-given_serve : (o : Opt Request) (request : ServeWords) (told : Opt (List NamedFile))
-    (P : ServeWords → List NamedFile → Type 0) → o ≡ Some (Serve request) → IfTold told (P request) → GivenServe o told P
-given_serve o request told P is h = rw is h
+given_serve : (o : Opt Request) (request : ServeWords) (Hands : List NamedFile → Type 0)
+    (P : ServeWords → List NamedFile → Type 0) → o ≡ Some (Serve request) → Given Hands (P request) → GivenServe o Hands P
+given_serve o request Hands P is h = rw is h
 
 -- its output is a first part of the plain one
-pub part_given : (o : Opt Request) (request : ServeWords) (told : Opt (List NamedFile)) (moment : Opt ℕ)
+pub part_given : (o : Opt Request) (request : ServeWords) (Hands : List NamedFile → Type 0) (moment : Opt ℕ)
     (old new : Output) (before after : Opt (List Tended)) (end : CommandEnd) → o ≡ Some (Serve request)
-    → IfTold told (λ files. MayServe files request moment old new before after end)
-    → GivenServe o told
+    → Given Hands (λ files. MayServe files request moment old new before after end)
+    → GivenServe o Hands
     (λ r files. (new.content ≡ old.content) ⊎ RunsInPart files r.sources old.content new.content)
-part_given o request told moment old new before after end is h =
-    given_serve o request told
+part_given o request Hands moment old new before after end is h =
+    given_serve o request Hands
     (λ r files. (new.content ≡ old.content) ⊎ RunsInPart files r.sources old.content new.content) is
-    (told_map told (λ files. MayServe files request moment old new before after end) _
+    (given_as Hands (λ files. MayServe files request moment old new before after end) _
     (λ files at. in-part request files moment old new before after end at) h)
 
 -- its end is that of the port that it served, if it served one
-pub served_given : (o : Opt Request) (request : ServeWords) (told : Opt (List NamedFile)) (moment : Opt ℕ)
+pub served_given : (o : Opt Request) (request : ServeWords) (Hands : List NamedFile → Type 0) (moment : Opt ℕ)
     (old new : Output) (before after : Opt (List Tended)) (end : CommandEnd) (status : ℕ) → o ≡ Some (Serve request)
-    → status ≡ status_of end → IfTold told (λ files. MayServe files request moment old new before after end)
-    → GivenServe o told
+    → status ≡ status_of end → Given Hands (λ files. MayServe files request moment old new before after end)
+    → GivenServe o Hands
     (λ r files. (it : CommandEnd) × (status ≡ status_of it) × MayServe files r moment old new before after it)
-served_given o request told moment old new before after end status is ends_so h =
-    given_serve o request told
+served_given o request Hands moment old new before after end status is ends_so h =
+    given_serve o request Hands
     (λ r files. (it : CommandEnd) × (status ≡ status_of it) × MayServe files r moment old new before after it) is
-    (told_map told (λ files. MayServe files request moment old new before after end) _ (λ files at. (end, ends_so, at)) h)
+    (given_as Hands (λ files. MayServe files request moment old new before after end) _ (λ files at. (end, ends_so, at)) h)
 
 -- where no line is said, nothing was said of any line
-says-unshown : (explains : Bool) (before after : Opt (List ℕ)) (line : List ℕ) → Says explains before after []
+says-unshown : (explains : Bool) (before after : List ℕ) (line : List ℕ) → Says explains before after []
     → Says explains before after line
 says-unshown explains before after line says = (
   [],
@@ -600,42 +611,42 @@ says-unshown explains before after line says = (
 )
 
 -- how a throw that ended its program is told
-abbrev IsToldThrow : Output → Output → Bool → Opt (List ℕ) → Opt (List ℕ) → ServeWords → List NamedFile → Type 0
+abbrev IsToldThrow : Output → Output → Bool → List ℕ → List ℕ → ServeWords → List NamedFile → Type 0
 IsToldThrow old new explains before after request files =
     (text : List ℕ)
     × RunsToThrow files request.sources text old.content new.content
     × Says explains before after (uncaught_said text)
 
-threw-told : (end : CommandEnd) (request : ServeWords) (told : Opt (List NamedFile)) (faults now_faults : Faults)
-    (old new : Output) (was now : Harbored) (explains : Bool) (before after : Opt (List ℕ)) → status_of end ≡ 8
-    → BecauseServe end request told faults now_faults old new was now → Says explains before after (said end)
-    → IfTold told (IsToldThrow old new explains before after request)
-threw-told (ends.Threw text) request told faults now_faults old new was now explains before after is h says =
-    told_map told (λ files. RunsToThrow files request.sources (string_bytes text) old.content new.content)
+threw-told : (end : CommandEnd) (request : ServeWords) (Hands : List NamedFile → Type 0) (faults now_faults : Faults)
+    (old new : Output) (was now : Harbored) (explains : Bool) (before after : List ℕ) → status_of end ≡ 8
+    → BecauseServe end request Hands faults now_faults old new was now → Says explains before after (said end)
+    → Given Hands (IsToldThrow old new explains before after request)
+threw-told (ends.Threw text) request Hands faults now_faults old new was now explains before after is h says =
+    given_as Hands (λ files. RunsToThrow files request.sources (string_bytes text) old.content new.content)
     (IsToldThrow old new explains before after request) (λ files thrown. (string_bytes text, thrown, says)) h.3
-threw-told ends.ThrewUnshown request told faults now_faults old new was now explains before after is h says =
-    told_map told (λ files. RunsToThrow files request.sources h.3.0 old.content new.content)
+threw-told ends.ThrewUnshown request Hands faults now_faults old new was now explains before after is h says =
+    given_as Hands (λ files. RunsToThrow files request.sources h.3.0 old.content new.content)
     (IsToldThrow old new explains before after request)
     (λ files thrown. (h.3.0, thrown, says-unshown explains before after (uncaught_said h.3.0) says)) h.3.1
-threw-told ends.Done request told faults now_faults old new was now explains before after is h says = absurd cc
-threw-told ends.OutOfMemory request told faults now_faults old new was now explains before after is h says = absurd cc
-threw-told ends.Usage request told faults now_faults old new was now explains before after is h says = absurd h
-threw-told (ends.Refused name r) request told faults now_faults old new was now explains before after is h says = absurd cc
-threw-told (ends.CannotRead name) request told faults now_faults old new was now explains before after is h says = absurd cc
-threw-told ends.CannotWrite request told faults now_faults old new was now explains before after is h says = absurd cc
-threw-told (ends.LineRefused n) request told faults now_faults old new was now explains before after is h says = absurd h
-threw-told ends.NetworkFault request told faults now_faults old new was now explains before after is h says = absurd cc
-threw-told ends.TicketsSpent request told faults now_faults old new was now explains before after is h says = absurd cc
-threw-told (ends.PeerClosed replies) request told faults now_faults old new was now explains before after is h says = absurd h
+threw-told ends.Done request Hands faults now_faults old new was now explains before after is h says = absurd cc
+threw-told ends.OutOfMemory request Hands faults now_faults old new was now explains before after is h says = absurd cc
+threw-told ends.Usage request Hands faults now_faults old new was now explains before after is h says = absurd h
+threw-told (ends.Refused name r) request Hands faults now_faults old new was now explains before after is h says = absurd cc
+threw-told (ends.CannotRead name) request Hands faults now_faults old new was now explains before after is h says = absurd cc
+threw-told ends.CannotWrite request Hands faults now_faults old new was now explains before after is h says = absurd cc
+threw-told (ends.LineRefused n) request Hands faults now_faults old new was now explains before after is h says = absurd h
+threw-told ends.NetworkFault request Hands faults now_faults old new was now explains before after is h says = absurd cc
+threw-told ends.TicketsSpent request Hands faults now_faults old new was now explains before after is h says = absurd cc
+threw-told (ends.PeerClosed replies) request Hands faults now_faults old new was now explains before after is h says = absurd h
 
-pub threw_given : (o : Opt Request) (end : CommandEnd) (request : ServeWords) (told : Opt (List NamedFile))
-    (faults now_faults : Faults) (old new : Output) (was now : Harbored) (explains : Bool) (before after : Opt (List ℕ)) (status : ℕ)
+pub threw_given : (o : Opt Request) (end : CommandEnd) (request : ServeWords) (Hands : List NamedFile → Type 0)
+    (faults now_faults : Faults) (old new : Output) (was now : Harbored) (explains : Bool) (before after : List ℕ) (status : ℕ)
     → o ≡ Some (Serve request) → status ≡ status_of end
-    → BecauseServe end request told faults now_faults old new was now → Says explains before after (said end)
-    → status ≡ 8 → GivenServe o told (IsToldThrow old new explains before after)
-threw_given o end request told faults now_faults old new was now explains before after status is ends_so h says eight =
-    given_serve o request told (IsToldThrow old new explains before after) is
-    (threw-told end request told faults now_faults old new was now explains before after (sym ends_so ∙ eight) h says)
+    → BecauseServe end request Hands faults now_faults old new was now → Says explains before after (said end)
+    → status ≡ 8 → GivenServe o Hands (IsToldThrow old new explains before after)
+threw_given o end request Hands faults now_faults old new was now explains before after status is ends_so h says eight =
+    given_serve o request Hands (IsToldThrow old new explains before after) is
+    (threw-told end request Hands faults now_faults old new was now explains before after (sym ends_so ∙ eight) h says)
 
 -- the statuses at which the doors were opened
 abbrev IsPast : ℕ → Type 0
@@ -667,7 +678,7 @@ not-past-7 P (inr (inr (inl is))) = absurd cc
 not-past-7 P (inr (inr (inr is))) = absurd cc
 
 -- how a file that is refused is told
-abbrev IsToldRefusal : Bool → Opt (List ℕ) → Opt (List ℕ) → ServeWords → List NamedFile → Type 0
+abbrev IsToldRefusal : Bool → List ℕ → List ℕ → ServeWords → List NamedFile → Type 0
 IsToldRefusal explains before after request files =
     (name : List ℕ)
     × (refusal : TextFault)
@@ -675,21 +686,21 @@ IsToldRefusal explains before after request files =
     × Says explains before after (refusal_said name refusal)
 
 -- how a file that can't be read is told
-abbrev IsToldRead : Faults → Faults → Opt (List NamedFile) → Bool → Opt (List ℕ) → Opt (List ℕ) → ServeWords → Type 0
-IsToldRead faults now_faults told explains before after request =
+abbrev IsToldRead : Faults → Faults → (List NamedFile → Type 0) → Bool → List ℕ → List ℕ → ServeWords → Type 0
+IsToldRead faults now_faults Hands explains before after request =
     (name : List ℕ)
     × IsNamed request.sources name
     × Blames (Read name) faults now_faults
-    × IfTold told (λ files. IsReachedIn files request.sources name)
+    × Given Hands (λ files. IsReachedIn files request.sources name)
     × Says explains before after (unread_said name)
 
-module _ (request : ServeWords) (told : Opt (List NamedFile)) (faults now_faults : Faults) (old new : Output)
+module _ (request : ServeWords) (Hands : List NamedFile → Type 0) (faults now_faults : Faults) (old new : Output)
     (was now : Harbored) where
   abbrev Ended : CommandEnd → Type 0
-  Ended end = BecauseServe end request told faults now_faults old new was now
+  Ended end = BecauseServe end request Hands faults now_faults old new was now
 
-  read-told : (end : CommandEnd) (explains : Bool) (before after : Opt (List ℕ)) → status_of end ≡ 4 → Ended end
-      → Says explains before after (said end) → IsToldRead faults now_faults told explains before after request
+  read-told : (end : CommandEnd) (explains : Bool) (before after : List ℕ) → status_of end ≡ 4 → Ended end
+      → Says explains before after (said end) → IsToldRead faults now_faults Hands explains before after request
   read-told (ends.CannotRead name) explains before after is h says = (name.now, h.2, h.0, h.3, says)
   read-told ends.Done explains before after is h says = absurd cc
   read-told (ends.Threw text) explains before after is h says = absurd cc
@@ -703,10 +714,10 @@ module _ (request : ServeWords) (told : Opt (List NamedFile)) (faults now_faults
   read-told (ends.LineRefused n) explains before after is h says = absurd h
   read-told (ends.PeerClosed replies) explains before after is h says = absurd h
 
-  refusal-told : (end : CommandEnd) (explains : Bool) (before after : Opt (List ℕ)) → status_of end ≡ 3 → Ended end
-      → Says explains before after (said end) → IfTold told (IsToldRefusal explains before after request)
+  refusal-told : (end : CommandEnd) (explains : Bool) (before after : List ℕ) → status_of end ≡ 3 → Ended end
+      → Says explains before after (said end) → Given Hands (IsToldRefusal explains before after request)
   refusal-told (ends.Refused name r) explains before after is h says =
-      told_map told (λ files. IsRefusedIn files request.sources name.now r) (IsToldRefusal explains before after request)
+      given_as Hands (λ files. IsRefusedIn files request.sources name.now r) (IsToldRefusal explains before after request)
       (λ files refused. (name.now, r, refused, says)) h.2
   refusal-told ends.Done explains before after is h says = absurd cc
   refusal-told (ends.Threw text) explains before after is h says = absurd cc
@@ -736,16 +747,16 @@ module _ (request : ServeWords) (told : Opt (List NamedFile)) (faults now_faults
 
   module _ (o : Opt Request) (end : CommandEnd) (status : ℕ) (is : o ≡ Some (Serve request))
       (ends_so : status ≡ status_of end) (h : Ended end) where
-    pub read_given : (explains : Bool) (before after : Opt (List ℕ)) → Says explains before after (said end) → status ≡ 4
-        → ForServe o (IsToldRead faults now_faults told explains before after)
+    pub read_given : (explains : Bool) (before after : List ℕ) → Says explains before after (said end) → status ≡ 4
+        → ForServe o (IsToldRead faults now_faults Hands explains before after)
     read_given explains before after says four =
-        let it : IsToldRead faults now_faults told explains before after request =
+        let it : IsToldRead faults now_faults Hands explains before after request =
         read-told end explains before after (sym ends_so ∙ four) h says in rw is it
 
-    pub refusal_given : (explains : Bool) (before after : Opt (List ℕ)) → Says explains before after (said end) → status ≡ 3
-        → GivenServe o told (IsToldRefusal explains before after)
+    pub refusal_given : (explains : Bool) (before after : List ℕ) → Says explains before after (said end) → status ≡ 3
+        → GivenServe o Hands (IsToldRefusal explains before after)
     refusal_given explains before after says three =
-        given_serve o request told (IsToldRefusal explains before after) is
+        given_serve o request Hands (IsToldRefusal explains before after) is
         (refusal-told end explains before after (sym ends_so ∙ three) h says)
 
     pub opened_given : IsPast status → ForServe o (λ r. now.opens ≡ called (r.port, r.sessions) was.opens)
@@ -753,32 +764,29 @@ module _ (request : ServeWords) (told : Opt (List NamedFile)) (faults now_faults
         let it : now.opens ≡ called (request.port, request.sessions) was.opens =
         opened-told end (subst IsPast ends_so past) h in rw is it
 
--- where no memory was left for the words nothing was served, whatever they ask for
-pub unasked : (o : Opt Request) (told : Opt (List NamedFile)) (moment : Opt ℕ) (old : Output) (kept : Opt (List Tended))
-    (status : ℕ) → status ≡ 1
-    → GivenServe o told
+-- where no memory was left for the words nothing was handed in or served, whatever they ask for
+pub unasked : (o : Opt Request) (Hands : List NamedFile → Type 0) (moment : Opt ℕ) (old : Output) (kept : Opt (List Tended))
+    (status : ℕ) → Hands [] → status ≡ 1
+    → GivenServe o Hands
     (λ r files. (it : CommandEnd) × (status ≡ status_of it) × MayServe files r moment old old kept kept it)
-unasked (Some (Serve request)) told moment old kept status one =
-    told_always told
-    (λ files. (it : CommandEnd) × (status ≡ status_of it) × MayServe files request moment old old kept kept it)
-    (λ files. (ends.OutOfMemory, one, inl (tt, refl)))
-unasked None told moment old kept status one = tt
-unasked (Some (words.Run sources)) told moment old kept status one = tt
-unasked (Some (words.Replay request)) told moment old kept status one = tt
-unasked (Some (words.Send request)) told moment old kept status one = tt
-unasked (Some (words.Drill n)) told moment old kept status one = tt
-unasked (Some (words.Help topic)) told moment old kept status one = tt
-unasked (Some words.Version) told moment old kept status one = tt
+unasked (Some (Serve request)) Hands moment old kept status none one =
+    ([], none, (ends.OutOfMemory, one, inl (tt, refl)))
+unasked None Hands moment old kept status none one = tt
+unasked (Some (words.Run sources)) Hands moment old kept status none one = tt
+unasked (Some (words.Replay request)) Hands moment old kept status none one = tt
+unasked (Some (words.Send request)) Hands moment old kept status none one = tt
+unasked (Some (words.Drill n)) Hands moment old kept status none one = tt
+unasked (Some (words.Help topic)) Hands moment old kept status none one = tt
+unasked (Some words.Version) Hands moment old kept status none one = tt
 
 -- and nothing was written
-pub unwritten : (o : Opt Request) (told : Opt (List NamedFile)) (content : Opt (List ℕ))
-    → GivenServe o told (λ r files. (content ≡ content) ⊎ RunsInPart files r.sources content content)
-unwritten (Some (Serve request)) told content =
-    told_always told (λ files. (content ≡ content) ⊎ RunsInPart files request.sources content content) (λ files. inl refl)
-unwritten None told content = tt
-unwritten (Some (words.Run request)) told content = tt
-unwritten (Some (words.Replay request)) told content = tt
-unwritten (Some (words.Send request)) told content = tt
-unwritten (Some (words.Drill n)) told content = tt
-unwritten (Some (words.Help topic)) told content = tt
-unwritten (Some words.Version) told content = tt
+pub unwritten : (o : Opt Request) (Hands : List NamedFile → Type 0) (content : List ℕ) → Hands []
+    → GivenServe o Hands (λ r files. (content ≡ content) ⊎ RunsInPart files r.sources content content)
+unwritten (Some (Serve request)) Hands content none = ([], none, inl refl)
+unwritten None Hands content none = tt
+unwritten (Some (words.Run request)) Hands content none = tt
+unwritten (Some (words.Replay request)) Hands content none = tt
+unwritten (Some (words.Send request)) Hands content none = tt
+unwritten (Some (words.Drill n)) Hands content none = tt
+unwritten (Some (words.Help topic)) Hands content none = tt
+unwritten (Some words.Version) Hands content none = tt

@@ -25,7 +25,7 @@ IsDrilled n script line output = IsReplay (script ∷ []) [] false (drill_journa
 -- ---- of a sink that had this content before and after
 
 -- a summary of that output is written
-pub record DrillsWhole (n : ℕ) (before now : Option (List ℕ)) : Type 0 where
+pub record DrillsWhole (n : ℕ) (before now : List ℕ) : Type 0 where
   pub script : Script
   pub is : IsDrillScript n script
   pub output : List ℕ
@@ -33,7 +33,7 @@ pub record DrillsWhole (n : ℕ) (before now : Option (List ℕ)) : Type 0 where
   pub whole : now ≡ gains before (summary output)
 
 -- a first part of the summary of a drill is written
-pub record DrillsInPart (n : ℕ) (before now : Option (List ℕ)) : Type 0 where
+pub record DrillsInPart (n : ℕ) (before now : List ℕ) : Type 0 where
   pub script : Script
   pub is : IsDrillScript n script
   pub output : List ℕ
@@ -41,7 +41,7 @@ pub record DrillsInPart (n : ℕ) (before now : Option (List ℕ)) : Type 0 wher
   pub part : GainsPrefix before now (summary output)
 
 -- a first part of the summary of a drill is written, and not all of it
-pub record DrillsShort (n : ℕ) (before now : Option (List ℕ)) : Type 0 where
+pub record DrillsShort (n : ℕ) (before now : List ℕ) : Type 0 where
   pub script : Script
   pub is : IsDrillScript n script
   pub output : List ℕ
@@ -71,7 +71,7 @@ BecauseJournalOf end n script = ⊥
 
 -- why a drill ended so: its script or its journal is refused, the count of faults of the output rose, or memory was
 -- wanting
-abbrev pub BecauseDrill : CommandEnd → ℕ → ℕ → ℕ → Option (List ℕ) → Option (List ℕ) → Type 0
+abbrev pub BecauseDrill : CommandEnd → ℕ → ℕ → ℕ → List ℕ → List ℕ → Type 0
 BecauseDrill ends.Done n was now old new = (now ≡ was) × DrillsWhole n old new
 BecauseDrill ends.OutOfMemory n was now old new = (now ≡ was) × ((new ≡ old) ⊎ DrillsInPart n old new)
 BecauseDrill ends.CannotWrite n was now old new = Rose was now × DrillsShort n old new

@@ -1,6 +1,7 @@
--- What files hold under the names of a command, and which of them is the first that isn't taken.
-use Rattle.std.specs.Prelude.{◌≡◌, ◌⊎◌, ℕ, List, [], Option, Some, None}
-use Rattle.cdp_edge.specs.Outside.{NamedFile, content_of}
+-- What the files that were handed in hold under the names of a command, and which of them is the first that isn't
+-- taken.
+use Rattle.std.specs.Prelude.{◌≡◌, ◌⊎◌, ℕ, List, [], ◌++◌, Option, Some, None}
+use Rattle.cdp_edge.specs.Outside.{NamedFile, one_file}
 use Rattle.js_tree.specs.declared.script.Script.{Script}
 use Rattle.debug_host_script_files.specs.declared.fault.TextFault.{TextFault}
 use Rattle.debug_host_script_files.specs.Input.{HoldsInput, HoldsNoText}
@@ -9,70 +10,83 @@ use Rattle.debug_host_options.specs.Requests.{ReplayWords, Sources}
 
 -- ---- a program: its input comes before its scripts
 
--- the lines of input that the files hold under this name; without a name there is none
+-- the file of this name was handed in, with these lines of input; without a name there is none
 abbrev pub HoldsLines : List NamedFile → Option (List ℕ) → List (List ℕ) → Type 0
-HoldsLines files None lines = lines ≡ []
-HoldsLines files (Some name) lines = HoldsInput files name lines
+HoldsLines given None lines = (given ≡ []) × (lines ≡ [])
+HoldsLines given (Some name) lines = HoldsInput given name lines
 
--- the files hold these scripts and these lines of input
-pub record HoldsSources (files : List NamedFile) (sources : Sources) (scripts : List Script) (input : List (List ℕ))
+-- The files that were handed in are a program's, in order: that of its input, if it has a name, holds these lines, and
+-- those of its scripts hold these scripts. None is left out, and there is no other.
+pub record HoldsSources (given : List NamedFile) (sources : Sources) (scripts : List Script) (input : List (List ℕ))
     : Type 0 where
-  pub lines : HoldsLines files sources.input input
-  pub are : AreScripts files sources.scripts scripts
+  pub first : List NamedFile
+  pub rest : List NamedFile
+  pub parts : given ≡ first ++ rest
+  pub lines : HoldsLines first sources.input input
+  pub are : AreScripts rest sources.scripts scripts
 
--- the input isn't taken
-pub record IsRefusedInput (files : List NamedFile) (sources : Sources) (name : List ℕ) (r : TextFault) : Type 0 where
+-- the input was handed in, and isn't taken
+pub record IsRefusedInput (given : List NamedFile) (sources : Sources) (name : List ℕ) (r : TextFault) : Type 0 where
   pub named : sources.input ≡ Some name
-  pub refused : HoldsNoText files name r
+  pub refused : HoldsNoText given name r
 
--- the input is taken, and of the scripts that of this name is the first that isn't
-pub record IsRefusedScript (files : List NamedFile) (sources : Sources) (name : List ℕ) (r : TextFault) : Type 0 where
+-- the input is taken, and of the scripts that of this name is the first that isn't, and the last that was handed in
+pub record IsRefusedScript (given : List NamedFile) (sources : Sources) (name : List ℕ) (r : TextFault) : Type 0 where
+  pub first : List NamedFile
+  pub rest : List NamedFile
+  pub parts : given ≡ first ++ rest
   pub input : List (List ℕ)
-  pub lines : HoldsLines files sources.input input
-  pub refused : IsRefusedAt files sources.scripts name r
+  pub lines : HoldsLines first sources.input input
+  pub refused : IsRefusedAt rest sources.scripts name r
 
 -- the first of a program's files that isn't taken has this name
 abbrev pub IsRefusedIn : List NamedFile → Sources → List ℕ → TextFault → Type 0
-IsRefusedIn files sources name r = IsRefusedInput files sources name r ⊎ IsRefusedScript files sources name r
+IsRefusedIn given sources name r = IsRefusedInput given sources name r ⊎ IsRefusedScript given sources name r
 
 -- one of a program's files has this name
 abbrev pub IsNamed : Sources → List ℕ → Type 0
 IsNamed sources name = (sources.input ≡ Some name) ⊎ IsAmong sources.scripts name
 
--- the input and the scripts before that of this name are taken
-pub record IsReachedScript (files : List NamedFile) (sources : Sources) (name : List ℕ) : Type 0 where
+-- the input and the scripts before that of this name were handed in, and are taken
+pub record IsReachedScript (given : List NamedFile) (sources : Sources) (name : List ℕ) : Type 0 where
+  pub first : List NamedFile
+  pub rest : List NamedFile
+  pub parts : given ≡ first ++ rest
   pub input : List (List ℕ)
-  pub lines : HoldsLines files sources.input input
-  pub reached : IsReachedAt files sources.scripts name
+  pub lines : HoldsLines first sources.input input
+  pub reached : IsReachedAt rest sources.scripts name
 
--- a program's files before that of this name are taken
+-- a program's files before that of this name were handed in, and are taken
 abbrev pub IsReachedIn : List NamedFile → Sources → List ℕ → Type 0
-IsReachedIn files sources name = (sources.input ≡ Some name) ⊎ IsReachedScript files sources name
+IsReachedIn given sources name = ((sources.input ≡ Some name) × (given ≡ [])) ⊎ IsReachedScript given sources name
 
 -- ---- a replay: its journal comes before its program
 
--- the files hold this journal, and these scripts and lines of input
-pub record HoldsReplay (files : List NamedFile) (request : ReplayWords) (journal : List ℕ) (scripts : List Script)
+-- the files that were handed in are a replay's: first this journal, and then those of these scripts and lines of input
+pub record HoldsReplay (given : List NamedFile) (request : ReplayWords) (journal : List ℕ) (scripts : List Script)
     (input : List (List ℕ)) : Type 0 where
-  pub there : content_of request.journal files ≡ Some journal
-  pub sources : HoldsSources files request.sources scripts input
+  pub rest : List NamedFile
+  pub parts : given ≡ one_file request.journal journal ++ rest
+  pub sources : HoldsSources rest request.sources scripts input
 
--- the journal is there, and the first of the program's files that isn't taken has this name
-pub record IsRefusedBehind (files : List NamedFile) (request : ReplayWords) (name : List ℕ) (r : TextFault) : Type 0 where
+-- the journal was handed in, and the first of the program's files that isn't taken has this name
+pub record IsRefusedBehind (given : List NamedFile) (request : ReplayWords) (name : List ℕ) (r : TextFault) : Type 0 where
   pub journal : List ℕ
-  pub there : content_of request.journal files ≡ Some journal
-  pub refused : IsRefusedIn files request.sources name r
+  pub rest : List NamedFile
+  pub parts : given ≡ one_file request.journal journal ++ rest
+  pub refused : IsRefusedIn rest request.sources name r
 
 -- the journal or one of the program's files has this name
 abbrev pub IsNamedBy : ReplayWords → List ℕ → Type 0
 IsNamedBy request name = (request.journal ≡ name) ⊎ IsNamed request.sources name
 
--- the journal is there, and the program's files before that of this name are taken
-pub record IsReachedBehind (files : List NamedFile) (request : ReplayWords) (name : List ℕ) : Type 0 where
+-- the journal was handed in, and the program's files before that of this name were, and are taken
+pub record IsReachedBehind (given : List NamedFile) (request : ReplayWords) (name : List ℕ) : Type 0 where
   pub journal : List ℕ
-  pub there : content_of request.journal files ≡ Some journal
-  pub reached : IsReachedIn files request.sources name
+  pub rest : List NamedFile
+  pub parts : given ≡ one_file request.journal journal ++ rest
+  pub reached : IsReachedIn rest request.sources name
 
--- the files before that of this name are taken
+-- the files before that of this name were handed in, and are taken
 abbrev pub IsReachedBy : List NamedFile → ReplayWords → List ℕ → Type 0
-IsReachedBy files request name = (request.journal ≡ name) ⊎ IsReachedBehind files request name
+IsReachedBy given request name = ((request.journal ≡ name) × (given ≡ [])) ⊎ IsReachedBehind given request name

@@ -45,8 +45,8 @@ abbrev pub Plays : List Script
     → List Entry
     → Option Entry
     → HostState
-    → Option (List ℕ)
-    → Option (List ℕ)
+    → List ℕ
+    → List ℕ
     → Type 0
 Plays scripts input wait history None new before now = ⊥
 Plays scripts input wait history (Some entry) new before now =

@@ -28,14 +28,14 @@ pub record IsReplay (scripts : List Script) (input : List (List ℕ)) (wait : Bo
 
 -- all output of a replay is written
 pub record WritesReplay (scripts : List Script) (input : List (List ℕ)) (wait : Bool) (journal : List ℕ)
-    (line : Option ℕ) (before now : Option (List ℕ)) : Type 0 where
+    (line : Option ℕ) (before now : List ℕ) : Type 0 where
   pub output : List ℕ
   pub replay : IsReplay scripts input wait journal line output
   pub whole : now ≡ gains before output
 
 -- a first part of a replay's output is written
 pub record WritesPart (scripts : List Script) (input : List (List ℕ)) (wait : Bool) (journal : List ℕ)
-    (before now : Option (List ℕ)) : Type 0 where
+    (before now : List ℕ) : Type 0 where
   pub line : Option ℕ
   pub output : List ℕ
   pub replay : IsReplay scripts input wait journal line output
@@ -43,7 +43,7 @@ pub record WritesPart (scripts : List Script) (input : List (List ℕ)) (wait : 
 
 -- a first part of a replay's output is written, and not all of it
 pub record WritesLess (scripts : List Script) (input : List (List ℕ)) (wait : Bool) (journal : List ℕ)
-    (before now : Option (List ℕ)) : Type 0 where
+    (before now : List ℕ) : Type 0 where
   pub line : Option ℕ
   pub output : List ℕ
   pub replay : IsReplay scripts input wait journal line output

@@ -1,7 +1,7 @@
 -- How a run ends, and why.
-use Rattle.std.specs.Prelude.{◌≡◌, ◌⊎◌, ℕ, List, Option, Some, string_bytes}
+use Rattle.std.specs.Prelude.{◌≡◌, ◌⊎◌, ℕ, List, [], Option, Some, string_bytes}
 use Rattle.std.specs.Borrow.{Bor}
-use Rattle.cdp_edge.specs.Outside.{Rose, NamedFile, IfTold}
+use Rattle.cdp_edge.specs.Outside.{Rose, NamedFile, Given}
 use Rattle.cdp_edge.specs.Blame.{Faults, Blames, Read}
 use Rattle.js_tree.specs.declared.script.Script.{Script}
 use Rattle.js_semantics.specs.Sources.{terms_of_scripts}
@@ -18,33 +18,34 @@ use Rattle.debug_host_commands.specs.declared.outcome.CommandEnd.TheVariants as 
 
 -- ---- the run, of a sink that had this content before and after
 
--- the run of the scripts and the input that the files hold has ended by its last script, and its output is written
-pub record RunsToEnd (files : List NamedFile) (sources : Sources) (before now : Option (List ℕ)) : Type 0 where
+-- the run of the scripts and the input in the files that were handed in has ended by its last script, and its output is
+-- written
+pub record RunsToEnd (given : List NamedFile) (sources : Sources) (before now : List ℕ) : Type 0 where
   pub scripts : List Script
   pub input : List (List ℕ)
-  pub holds : HoldsSources files sources scripts input
+  pub holds : HoldsSources given sources scripts input
   pub ended : HasEnded (terms_of_scripts scripts) input before now
 
 -- it has ended by a throw of a value that is shown so
-pub record RunsToThrow (files : List NamedFile) (sources : Sources) (text : List ℕ) (before now : Option (List ℕ))
+pub record RunsToThrow (given : List NamedFile) (sources : Sources) (text : List ℕ) (before now : List ℕ)
     : Type 0 where
   pub scripts : List Script
   pub input : List (List ℕ)
-  pub holds : HoldsSources files sources scripts input
+  pub holds : HoldsSources given sources scripts input
   pub thrown : HasThrown (terms_of_scripts scripts) input text before now
 
 -- not all of its output is written
-pub record RunsShort (files : List NamedFile) (sources : Sources) (before now : Option (List ℕ)) : Type 0 where
+pub record RunsShort (given : List NamedFile) (sources : Sources) (before now : List ℕ) : Type 0 where
   pub scripts : List Script
   pub input : List (List ℕ)
-  pub holds : HoldsSources files sources scripts input
+  pub holds : HoldsSources given sources scripts input
   pub short : IsCutShort (terms_of_scripts scripts) input before now
 
 -- a first part of its output is written, however many more steps are made
-pub record RunsInPart (files : List NamedFile) (sources : Sources) (before now : Option (List ℕ)) : Type 0 where
+pub record RunsInPart (given : List NamedFile) (sources : Sources) (before now : List ℕ) : Type 0 where
   pub scripts : List Script
   pub input : List (List ℕ)
-  pub holds : HoldsSources files sources scripts input
+  pub holds : HoldsSources given sources scripts input
   pub part : IsFirstPart (terms_of_scripts scripts) input before now
 
 -- ---- causes
@@ -62,59 +63,60 @@ outcome_of_run (runs.Threw text) = ends.Threw text
 outcome_of_run runs.CannotWrite = ends.CannotWrite
 outcome_of_run runs.Memory = ends.OutOfMemory
 
--- why a command ended so while its input was read; the counts are those of the shelf
-abbrev pub BecauseInput : CommandEnd → Option (List ℕ) → Option (List NamedFile) → Faults → Faults → Type 0
-BecauseInput (ends.Refused name r) input told before after =
-    (after ≡ before) × (input ≡ Some name.now) × IfTold told (λ files. HoldsNoText files name.now r)
-BecauseInput (ends.CannotRead name) input told before after =
-    Blames (Read name.now) before after × (input ≡ Some name.now)
-BecauseInput ends.OutOfMemory input told before after = after ≡ before
-BecauseInput end input told before after = ⊥
+-- why a command ended so while its input was read; the counts are those of the shelf, and `Hands` says what it handed
+-- in
+abbrev pub BecauseInput : CommandEnd → Option (List ℕ) → (List NamedFile → Type 0) → Faults → Faults → Type 0
+BecauseInput (ends.Refused name r) input Hands before after =
+    (after ≡ before) × (input ≡ Some name.now) × Given Hands (λ given. HoldsNoText given name.now r)
+BecauseInput (ends.CannotRead name) input Hands before after =
+    Blames (Read name.now) before after × (input ≡ Some name.now) × Hands []
+BecauseInput ends.OutOfMemory input Hands before after = (after ≡ before) × Given Hands (λ given. Unit {0})
+BecauseInput end input Hands before after = ⊥
 
 -- why it ended so while its input and its scripts were read
-abbrev pub BecauseSources : CommandEnd → Sources → Option (List NamedFile) → Faults → Faults → Type 0
-BecauseSources (ends.Refused name r) sources told before after =
-    (after ≡ before) × IfTold told (λ files. IsRefusedIn files sources name.now r)
-BecauseSources (ends.CannotRead name) sources told before after =
+abbrev pub BecauseSources : CommandEnd → Sources → (List NamedFile → Type 0) → Faults → Faults → Type 0
+BecauseSources (ends.Refused name r) sources Hands before after =
+    (after ≡ before) × Given Hands (λ given. IsRefusedIn given sources name.now r)
+BecauseSources (ends.CannotRead name) sources Hands before after =
     Blames (Read name.now) before after
     × IsNamed sources name.now
-    × IfTold told (λ files. IsReachedIn files sources name.now)
-BecauseSources ends.OutOfMemory sources told before after = after ≡ before
-BecauseSources end sources told before after = ⊥
+    × Given Hands (λ given. IsReachedIn given sources name.now)
+BecauseSources ends.OutOfMemory sources Hands before after = (after ≡ before) × Given Hands (λ given. Unit {0})
+BecauseSources end sources Hands before after = ⊥
 
--- why a run ended so: the files say so, a count of faults rose, or memory was wanting. The counts are those of the
--- shelf and of the output, the contents those of the output
+-- why a run ended so: the files that were handed in say so, a count of faults rose, or memory was wanting. The counts
+-- are those of the shelf and of the output, the contents those of the output
 abbrev pub BecauseRun : CommandEnd
     → Sources
-    → Option (List NamedFile)
+    → (List NamedFile → Type 0)
     → Faults
     → Faults
     → ℕ
     → ℕ
-    → Option (List ℕ)
-    → Option (List ℕ)
+    → List ℕ
+    → List ℕ
     → Type 0
-BecauseRun ends.Done sources told before after was now old new =
-    (after ≡ before) × (now ≡ was) × IfTold told (λ files. RunsToEnd files sources old new)
-BecauseRun (ends.Threw text) sources told before after was now old new =
-    (after ≡ before) × (now ≡ was) × IfTold told (λ files. RunsToThrow files sources (string_bytes text) old new)
-BecauseRun ends.OutOfMemory sources told before after was now old new =
-    (after ≡ before) × (now ≡ was) × IfTold told (λ files. (new ≡ old) ⊎ RunsInPart files sources old new)
-BecauseRun (ends.Refused name r) sources told before after was now old new =
-    (after ≡ before) × (now ≡ was) × IfTold told (λ files. IsRefusedIn files sources name.now r)
-BecauseRun (ends.CannotRead name) sources told before after was now old new =
+BecauseRun ends.Done sources Hands before after was now old new =
+    (after ≡ before) × (now ≡ was) × Given Hands (λ given. RunsToEnd given sources old new)
+BecauseRun (ends.Threw text) sources Hands before after was now old new =
+    (after ≡ before) × (now ≡ was) × Given Hands (λ given. RunsToThrow given sources (string_bytes text) old new)
+BecauseRun ends.OutOfMemory sources Hands before after was now old new =
+    (after ≡ before) × (now ≡ was) × Given Hands (λ given. (new ≡ old) ⊎ RunsInPart given sources old new)
+BecauseRun (ends.Refused name r) sources Hands before after was now old new =
+    (after ≡ before) × (now ≡ was) × Given Hands (λ given. IsRefusedIn given sources name.now r)
+BecauseRun (ends.CannotRead name) sources Hands before after was now old new =
     Blames (Read name.now) before after
     × (now ≡ was)
     × IsNamed sources name.now
-    × IfTold told (λ files. IsReachedIn files sources name.now)
-BecauseRun ends.CannotWrite sources told before after was now old new =
-    (after ≡ before) × Rose was now × IfTold told (λ files. RunsShort files sources old new)
-BecauseRun ends.Usage sources told before after was now old new = ⊥
-BecauseRun ends.NetworkFault sources told before after was now old new = ⊥
-BecauseRun ends.ThrewUnshown sources told before after was now old new = ⊥
-BecauseRun ends.TicketsSpent sources told before after was now old new = ⊥
-BecauseRun (ends.PeerClosed replies) sources told before after was now old new = ⊥
-BecauseRun (ends.LineRefused n) sources told before after was now old new = ⊥
+    × Given Hands (λ given. IsReachedIn given sources name.now)
+BecauseRun ends.CannotWrite sources Hands before after was now old new =
+    (after ≡ before) × Rose was now × Given Hands (λ given. RunsShort given sources old new)
+BecauseRun ends.Usage sources Hands before after was now old new = ⊥
+BecauseRun ends.NetworkFault sources Hands before after was now old new = ⊥
+BecauseRun ends.ThrewUnshown sources Hands before after was now old new = ⊥
+BecauseRun ends.TicketsSpent sources Hands before after was now old new = ⊥
+BecauseRun (ends.PeerClosed replies) sources Hands before after was now old new = ⊥
+BecauseRun (ends.LineRefused n) sources Hands before after was now old new = ⊥
 
 -- the ends that come before a step is made
 abbrev pub IsUnbegun : CommandEnd → Type 0

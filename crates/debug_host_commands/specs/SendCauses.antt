@@ -1,7 +1,7 @@
 -- How sending commands to a host ends, and why.
 use Rattle.std.specs.Prelude.{◌≡◌, ◌⊎◌, ℕ, List, [], ◌∷◌, Option, Some, Ok, Err}
 use Rattle.cdp_edge.specs.Blame.{Blames, Faults, Read}
-use Rattle.cdp_edge.specs.Outside.{NamedFile, Rose, IfTold, content_of}
+use Rattle.cdp_edge.specs.Outside.{NamedFile, Rose, Given, one_file}
 use Rattle.cdp_edge_server.specs.Contents.{Calls, IsUnused, Spoken, adds, called}
 use Rattle.ws_service.specs.Programs.{Output}
 use Rattle.cdp_client.specs.Conversations.{Converses, CountsLink, CountsSink, IsClosedBy}
@@ -40,16 +40,16 @@ IsUnsent end = ⊥
 
 -- ---- the file of commands
 
--- the file of this name is there, and these are its lines
-pub record HoldsCommands (files : List NamedFile) (name : List ℕ) (lines : List Line) : Type 0 where
+-- one file of this name was handed in, and these are its lines
+pub record HoldsCommands (given : List NamedFile) (name : List ℕ) (lines : List Line) : Type 0 where
   pub commands : List ℕ
-  pub there : content_of name files ≡ Some commands
+  pub there : given ≡ one_file name commands
   pub read : file_read commands ≡ Ok lines
 
--- it is there, and its line of this number is the first that isn't of its form
-pub record RefusesLine (files : List NamedFile) (name : List ℕ) (line : ℕ) : Type 0 where
+-- it was handed in, and its line of this number is the first that isn't of its form
+pub record RefusesLine (given : List NamedFile) (name : List ℕ) (line : ℕ) : Type 0 where
   pub commands : List ℕ
-  pub there : content_of name files ≡ Some commands
+  pub there : given ≡ one_file name commands
   pub refused : file_read commands ≡ Err line
 
 -- ---- a conversation
@@ -79,69 +79,76 @@ pub record Speaks (file : List ℕ) (end : Conversed) (old new : Output) (was no
   pub writes : CountsSink (Some end) old.faults new.faults
   pub faults : CountsLink (Some end) was.faults now.faults
 
--- the file of commands is there, and a conversation by it came to this end
-pub record Sends (files : List NamedFile) (request : SendWords) (end : Conversed) (old new : Output) (was now : Dialled)
+-- the file of commands was handed in, and nothing else, and a conversation by it came to this end
+pub record Sends (given : List NamedFile) (request : SendWords) (end : Conversed) (old new : Output) (was now : Dialled)
     : Type 0 where
   pub commands : List ℕ
-  pub there : content_of request.commands files ≡ Some commands
+  pub there : given ≡ one_file request.commands commands
   pub speaks : Speaks commands end old new was now
 
 -- no conversation was held, and nothing was written; or one was, and came to this end
 abbrev pub MaySend : List NamedFile → SendWords → Output → Output → Dialled → Dialled → CommandEnd → Type 0
-MaySend files request old new was now end =
+MaySend given request old new was now end =
     (IsUnsent end × (new ≡ old) × (now.hung_up ≡ was.hung_up))
-    ⊎ ((talk : Conversed) × (end ≡ outcome_of_talk talk) × Sends files request talk old new was now)
+    ⊎ ((talk : Conversed) × (end ≡ outcome_of_talk talk) × Sends given request talk old new was now)
 
 -- ---- causes
 
 -- why sending ended so before the port was dialled; the counts are those of the shelf
-abbrev pub BecauseCommands : CommandEnd → List ℕ → Option (List NamedFile) → Faults → Faults → Type 0
-BecauseCommands (ends.CannotRead name) commands told before after =
-    Blames (Read name.now) before after × (commands ≡ name.now)
-BecauseCommands (ends.LineRefused line) commands told before after =
-    (after ≡ before) × IfTold told (λ files. RefusesLine files commands line)
-BecauseCommands ends.OutOfMemory commands told before after = after ≡ before
-BecauseCommands end commands told before after = ⊥
+abbrev pub BecauseCommands : CommandEnd → List ℕ → (List NamedFile → Type 0) → Faults → Faults → Type 0
+BecauseCommands (ends.CannotRead name) commands Hands before after =
+    Blames (Read name.now) before after × (commands ≡ name.now) × Hands []
+BecauseCommands (ends.LineRefused line) commands Hands before after =
+    (after ≡ before) × Given Hands (λ given. RefusesLine given commands line)
+BecauseCommands ends.OutOfMemory commands Hands before after = (after ≡ before) × Given Hands (λ given. Unit {0})
+BecauseCommands end commands Hands before after = ⊥
 
 -- why sending ended so: the file says so, the peer closed, a count of faults rose, or memory was wanting. The counts are
 -- those of the shelf
-abbrev pub BecauseSend : CommandEnd → SendWords → Option (List NamedFile) → Faults → Faults → Output → Output → Dialled
+abbrev pub BecauseSend : CommandEnd → SendWords → (List NamedFile → Type 0) → Faults → Faults → Output → Output → Dialled
     → Dialled → Type 0
-BecauseSend ends.Done request told before after old new was now =
+BecauseSend ends.Done request Hands before after old new was now =
     (after ≡ before)
     × (new.faults ≡ old.faults)
     × (now.faults ≡ was.faults)
     × IsDialled request.port was now
-    × IfTold told (λ files. Sends files request talks.Done old new was now)
-BecauseSend (ends.PeerClosed replies) request told before after old new was now =
+    × Given Hands (λ given. Sends given request talks.Done old new was now)
+BecauseSend (ends.PeerClosed replies) request Hands before after old new was now =
     (after ≡ before)
     × (new.faults ≡ old.faults)
     × (now.faults ≡ was.faults)
     × IsDialled request.port was now
-    × IfTold told (λ files. Sends files request (talks.PeerClosed replies) old new was now)
-BecauseSend ends.CannotWrite request told before after old new was now =
+    × Given Hands (λ given. Sends given request (talks.PeerClosed replies) old new was now)
+BecauseSend ends.CannotWrite request Hands before after old new was now =
     (after ≡ before)
     × Rose old.faults new.faults
     × (now.faults ≡ was.faults)
     × IsDialled request.port was now
-    × IfTold told (λ files. Sends files request talks.WriteFault old new was now)
-BecauseSend ends.NetworkFault request told before after old new was now =
+    × Given Hands (λ given. Sends given request talks.WriteFault old new was now)
+BecauseSend ends.NetworkFault request Hands before after old new was now =
     (after ≡ before)
     × (new.faults ≡ old.faults)
     × Rose was.faults now.faults
     × IsDialled request.port was now
-    × IfTold told (λ files. (lines : List Line) × HoldsCommands files request.commands lines)
-BecauseSend ends.OutOfMemory request told before after old new was now =
-    (after ≡ before) × (new.faults ≡ old.faults) × (now.faults ≡ was.faults)
-BecauseSend (ends.LineRefused line) request told before after old new was now =
+    × Given Hands (λ given. (lines : List Line) × HoldsCommands given request.commands lines)
+BecauseSend ends.OutOfMemory request Hands before after old new was now =
+    (after ≡ before)
+    × (new.faults ≡ old.faults)
+    × (now.faults ≡ was.faults)
+    × Given Hands (λ given. Unit {0})
+BecauseSend (ends.LineRefused line) request Hands before after old new was now =
     (after ≡ before)
     × (new ≡ old)
     × (now ≡ was)
-    × IfTold told (λ files. RefusesLine files request.commands line)
-BecauseSend (ends.CannotRead name) request told before after old new was now =
-    Blames (Read name.now) before after × (new ≡ old) × (now ≡ was) × (request.commands ≡ name.now)
-BecauseSend ends.Usage request told before after old new was now = ⊥
-BecauseSend ends.ThrewUnshown request told before after old new was now = ⊥
-BecauseSend ends.TicketsSpent request told before after old new was now = ⊥
-BecauseSend (ends.Refused name r) request told before after old new was now = ⊥
-BecauseSend (ends.Threw text) request told before after old new was now = ⊥
+    × Given Hands (λ given. RefusesLine given request.commands line)
+BecauseSend (ends.CannotRead name) request Hands before after old new was now =
+    Blames (Read name.now) before after
+    × (new ≡ old)
+    × (now ≡ was)
+    × (request.commands ≡ name.now)
+    × Hands []
+BecauseSend ends.Usage request Hands before after old new was now = ⊥
+BecauseSend ends.ThrewUnshown request Hands before after old new was now = ⊥
+BecauseSend ends.TicketsSpent request Hands before after old new was now = ⊥
+BecauseSend (ends.Refused name r) request Hands before after old new was now = ⊥
+BecauseSend (ends.Threw text) request Hands before after old new was now = ⊥

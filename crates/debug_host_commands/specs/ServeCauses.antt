@@ -4,7 +4,7 @@ use Rattle.cdp_host_isolation.specs.Histories.{Entry}
 use Rattle.cdp_host_isolation.specs.Makers.{entries_of}
 use Rattle.cdp_host_isolation.specs.Stops.{AllStopExactly}
 use Rattle.cdp_edge.specs.Blame.{Blames, Faults, Read}
-use Rattle.cdp_edge.specs.Outside.{NamedFile, Rose, IfTold, gains}
+use Rattle.cdp_edge.specs.Outside.{NamedFile, Rose, Given, gains}
 use Rattle.js_tree.specs.declared.script.Script.{Script}
 use Rattle.js_semantics.specs.Run.{Run}
 use Rattle.js_semantics.specs.Sources.{terms_of_scripts}
@@ -86,17 +86,17 @@ IsUnserved end = ⊥
 -- ---- output
 
 -- after some steps the program is over, by no throw, and all that it has printed was written
-pub record HasFinished (scripts : List Script) (input : List (List ℕ)) (before now : Option (List ℕ)) : Type 0 where
+pub record HasFinished (scripts : List Script) (input : List (List ℕ)) (before now : List ℕ) : Type 0 where
   pub steps : ℕ
   pub is : is_over (plain steps scripts input) ≡ true
   pub unthrown : has_thrown (plain steps scripts input) ≡ false
   pub whole : now ≡ gains before (printed_lines (printed_of (plain steps scripts input)))
 
 -- the program of the scripts and the input that the files hold has
-pub record ServesToEnd (files : List NamedFile) (request : ServeWords) (before now : Option (List ℕ)) : Type 0 where
+pub record ServesToEnd (given : List NamedFile) (request : ServeWords) (before now : List ℕ) : Type 0 where
   pub scripts : List Script
   pub input : List (List ℕ)
-  pub holds : HoldsSources files request.sources scripts input
+  pub holds : HoldsSources given request.sources scripts input
   pub finished : HasFinished scripts input before now
 
 -- ---- a port that was served
@@ -129,19 +129,19 @@ pub record ServesPort (scripts : List Script) (input : List (List ℕ)) (wait : 
       ≡ sent_alone scripts input wait s (view scripts input wait s (entries_of history))
 
 -- a port was served for the scripts and the input that the files hold, and that ended so
-pub record Serves (files : List NamedFile) (request : ServeWords) (moment : Option ℕ) (old new : Output)
+pub record Serves (given : List NamedFile) (request : ServeWords) (moment : Option ℕ) (old new : Output)
     (before after : Option (List Tended)) (end : CommandEnd) : Type 0 where
   pub scripts : List Script
   pub input : List (List ℕ)
-  pub holds : HoldsSources files request.sources scripts input
+  pub holds : HoldsSources given request.sources scripts input
   pub port : ServesPort scripts input request.wait request.sessions (clients_of request.devtools) moment old new before
       after end
 
 -- no port was served, and nothing was written; or one was, and that ended so
 abbrev pub MayServe : List NamedFile → ServeWords → Option ℕ → Output → Output → Option (List Tended)
     → Option (List Tended) → CommandEnd → Type 0
-MayServe files request moment old new before after end =
-    (IsUnserved end × (new.content ≡ old.content)) ⊎ Serves files request moment old new before after end
+MayServe given request moment old new before after end =
+    (IsUnserved end × (new.content ≡ old.content)) ⊎ Serves given request moment old new before after end
 
 -- ---- causes
 
@@ -179,38 +179,38 @@ BecauseServed (ends.PeerClosed replies) scripts input port sessions old new befo
 
 -- why a server ended so: the files say so, a count of faults rose, memory was wanting, or no ticket was left. The counts
 -- are those of the shelf
-abbrev pub BecauseServe : CommandEnd → ServeWords → Option (List NamedFile) → Faults → Faults → Output → Output → Harbored
+abbrev pub BecauseServe : CommandEnd → ServeWords → (List NamedFile → Type 0) → Faults → Faults → Output → Output → Harbored
     → Harbored → Type 0
-BecauseServe ends.Done request told before after old new was now =
+BecauseServe ends.Done request Hands before after old new was now =
     (after ≡ before)
     × (new.faults ≡ old.faults)
     × IsOpened request.port request.sessions was now
-    × IfTold told (λ files. ServesToEnd files request old.content new.content)
-BecauseServe (ends.Threw text) request told before after old new was now =
+    × Given Hands (λ given. ServesToEnd given request old.content new.content)
+BecauseServe (ends.Threw text) request Hands before after old new was now =
     (after ≡ before)
     × (new.faults ≡ old.faults)
     × IsOpened request.port request.sessions was now
-    × IfTold told (λ files. RunsToThrow files request.sources (string_bytes text) old.content new.content)
-BecauseServe ends.ThrewUnshown request told before after old new was now =
+    × Given Hands (λ given. RunsToThrow given request.sources (string_bytes text) old.content new.content)
+BecauseServe ends.ThrewUnshown request Hands before after old new was now =
     (after ≡ before)
     × (new.faults ≡ old.faults)
     × IsOpened request.port request.sessions was now
-    × ((text : List ℕ) × IfTold told (λ files. RunsToThrow files request.sources text old.content new.content))
-BecauseServe ends.OutOfMemory request told before after old new was now =
+    × ((text : List ℕ) × Given Hands (λ given. RunsToThrow given request.sources text old.content new.content))
+BecauseServe ends.OutOfMemory request Hands before after old new was now =
     (after ≡ before) × (new.faults ≡ old.faults)
-BecauseServe ends.CannotWrite request told before after old new was now =
+BecauseServe ends.CannotWrite request Hands before after old new was now =
     (after ≡ before) × Rose old.faults new.faults × IsOpened request.port request.sessions was now
-BecauseServe ends.NetworkFault request told before after old new was now =
+BecauseServe ends.NetworkFault request Hands before after old new was now =
     (after ≡ before) × (new.faults ≡ old.faults) × Rose was.faults now.faults
-BecauseServe ends.TicketsSpent request told before after old new was now =
+BecauseServe ends.TicketsSpent request Hands before after old new was now =
     (after ≡ before) × (new.faults ≡ old.faults) × IsOpened request.port request.sessions was now
-BecauseServe (ends.Refused name r) request told before after old new was now =
-    (after ≡ before) × (new ≡ old) × IfTold told (λ files. IsRefusedIn files request.sources name.now r)
-BecauseServe (ends.CannotRead name) request told before after old new was now =
+BecauseServe (ends.Refused name r) request Hands before after old new was now =
+    (after ≡ before) × (new ≡ old) × Given Hands (λ given. IsRefusedIn given request.sources name.now r)
+BecauseServe (ends.CannotRead name) request Hands before after old new was now =
     Blames (Read name.now) before after
     × (new ≡ old)
     × IsNamed request.sources name.now
-    × IfTold told (λ files. IsReachedIn files request.sources name.now)
-BecauseServe ends.Usage request told before after old new was now = ⊥
-BecauseServe (ends.LineRefused n) request told before after old new was now = ⊥
-BecauseServe (ends.PeerClosed replies) request told before after old new was now = ⊥
+    × Given Hands (λ given. IsReachedIn given request.sources name.now)
+BecauseServe ends.Usage request Hands before after old new was now = ⊥
+BecauseServe (ends.LineRefused n) request Hands before after old new was now = ⊥
+BecauseServe (ends.PeerClosed replies) request Hands before after old new was now = ⊥

@@ -1,6 +1,6 @@
 -- The status of each end, and its line.
 use Rattle.std.specs.Prelude.{◌≡◌, ◌<◌, ℕ, List, [], ◌∷◌, ◌++◌, codes, decimal, string_bytes, Option, Some, Bool, false}
-use Rattle.cdp_edge.specs.Outside.{NamedFile, IfTold, GainsPrefix}
+use Rattle.cdp_edge.specs.Outside.{NamedFile, Given, GainsPrefix}
 use Rattle.cdp_edge.specs.Blame.{Faults}
 use Rattle.debug_host_script_files.specs.declared.fault.TextFault.{TextFault}
 use Rattle.debug_host_script_files.specs.declared.fault.TextFault.TheVariants as refusals
@@ -74,7 +74,7 @@ said (ends.PeerClosed replies) = closed_said replies
 said (ends.Threw text) = uncaught_said (string_bytes text)
 
 -- the second sink took some first bytes of a line, and of what explains it where explanations are asked for; nothing explains where there is no line
-abbrev pub Says : Bool → Option (List ℕ) → Option (List ℕ) → List ℕ → Type 0
+abbrev pub Says : Bool → List ℕ → List ℕ → List ℕ → Type 0
 Says explains old new line =
     (more : List ℕ)
     × (explains ≡ false → more ≡ [])
@@ -88,36 +88,36 @@ abbrev pub ForRun : Option Request → (Sources → Type 0) → Type 0
 ForRun (Some (Run request)) P = P request.sources
 ForRun asked P = Unit {0}
 
--- what holds of a run and the files, where the words ask for one and the files are told
-abbrev pub GivenRun : Option Request → Option (List NamedFile) → (Sources → List NamedFile → Type 0) → Type 0
-GivenRun asked files P = ForRun asked (λ sources. IfTold files (P sources))
+-- what holds of a run and the files that were handed in, where the words ask for one
+abbrev pub GivenRun : Option Request → (List NamedFile → Type 0) → (Sources → List NamedFile → Type 0) → Type 0
+GivenRun asked Hands P = ForRun asked (λ sources. Given Hands (P sources))
 
 -- what holds of a replay, where the words ask for one
 abbrev pub ForReplay : Option Request → (ReplayWords → Type 0) → Type 0
 ForReplay (Some (Replay words)) P = P words
 ForReplay asked P = Unit {0}
 
--- what holds of a replay and the files, where the words ask for one and the files are told
-abbrev pub GivenReplay : Option Request → Option (List NamedFile) → (ReplayWords → List NamedFile → Type 0) → Type 0
-GivenReplay asked files P = ForReplay asked (λ words. IfTold files (P words))
+-- what holds of a replay and the files that were handed in, where the words ask for one
+abbrev pub GivenReplay : Option Request → (List NamedFile → Type 0) → (ReplayWords → List NamedFile → Type 0) → Type 0
+GivenReplay asked Hands P = ForReplay asked (λ words. Given Hands (P words))
 
 -- what holds of a server, where the words ask for one
 abbrev pub ForServe : Option Request → (ServeWords → Type 0) → Type 0
 ForServe (Some (Serve words)) P = P words
 ForServe asked P = Unit {0}
 
--- what holds of a server and the files, where the words ask for one and the files are told
-abbrev pub GivenServe : Option Request → Option (List NamedFile) → (ServeWords → List NamedFile → Type 0) → Type 0
-GivenServe asked files P = ForServe asked (λ words. IfTold files (P words))
+-- what holds of a server and the files that were handed in, where the words ask for one
+abbrev pub GivenServe : Option Request → (List NamedFile → Type 0) → (ServeWords → List NamedFile → Type 0) → Type 0
+GivenServe asked Hands P = ForServe asked (λ words. Given Hands (P words))
 
 -- what holds of a client, where the words ask for one
 abbrev pub ForSend : Option Request → (SendWords → Type 0) → Type 0
 ForSend (Some (Send words)) P = P words
 ForSend asked P = Unit {0}
 
--- what holds of a client and the files, where the words ask for one and the files are told
-abbrev pub GivenSend : Option Request → Option (List NamedFile) → (SendWords → List NamedFile → Type 0) → Type 0
-GivenSend asked files P = ForSend asked (λ words. IfTold files (P words))
+-- what holds of a client and the files that were handed in, where the words ask for one
+abbrev pub GivenSend : Option Request → (List NamedFile → Type 0) → (SendWords → List NamedFile → Type 0) → Type 0
+GivenSend asked Hands P = ForSend asked (λ words. Given Hands (P words))
 
 -- the words ask for a client
 abbrev pub IsClient : Option Request → Type 0

@@ -2,7 +2,7 @@
 
 ghost use Rattle.std.specs.Prelude.{◌≡◌, ◌≢◌, ◌⊎◌, ◌<◌, ℕ, List, [], None, Some};
 ghost use Rattle.cdp_edge.specs.Blame.{Blames, Read};
-ghost use Rattle.cdp_edge.specs.Outside.{Rose, IfTold, GainsPrefix, gains};
+ghost use Rattle.cdp_edge.specs.Outside.{Rose, Given, HandsIn, GainsPrefix, gains};
 ghost use Rattle.cdp_client.specs.Lines.{Line};
 ghost use Rattle.cdp_client.specs.declared.conversed.Conversed.TheVariants as talks;
 ghost use Rattle.js_tree.specs.declared.script.Script.{Script};
@@ -98,69 +98,69 @@ where
     ensures writes { result ≢ 5 → O.faults out.new ≡ O.faults out.old }
     ensures says { (end : CommandEnd) × (result ≡ status_of end) × Says (explains words.now) (E.content err.old) (E.content err.new) (said end) }
     // `run`: the cause of each status
-    ensures run_done { result ≡ 0 → GivenRun (asked words.now) (F.files shelf.old) (λ sources files. RunsToEnd files sources (O.content out.old) (O.content out.new)) }
-    ensures run_threw { result ≡ 8 → GivenRun (asked words.now) (F.files shelf.old) (λ sources files. (text : List ℕ)
-        × RunsToThrow files sources text (O.content out.old) (O.content out.new) × Says (explains words.now) (E.content err.old) (E.content err.new) (uncaught_said text)) }
-    ensures run_refused { result ≡ 3 → GivenRun (asked words.now) (F.files shelf.old) (λ sources files. (name : List ℕ) × (refusal : TextFault)
-        × IsRefusedIn files sources name refusal × Says (explains words.now) (E.content err.old) (E.content err.new) (refusal_said name refusal)) }
+    ensures run_done { result ≡ 0 → GivenRun (asked words.now) (HandsIn (F.files shelf.old) (F.handed shelf.old) (F.handed shelf.new)) (λ sources given. RunsToEnd given sources (O.content out.old) (O.content out.new)) }
+    ensures run_threw { result ≡ 8 → GivenRun (asked words.now) (HandsIn (F.files shelf.old) (F.handed shelf.old) (F.handed shelf.new)) (λ sources given. (text : List ℕ)
+        × RunsToThrow given sources text (O.content out.old) (O.content out.new) × Says (explains words.now) (E.content err.old) (E.content err.new) (uncaught_said text)) }
+    ensures run_refused { result ≡ 3 → GivenRun (asked words.now) (HandsIn (F.files shelf.old) (F.handed shelf.old) (F.handed shelf.new)) (λ sources given. (name : List ℕ) × (refusal : TextFault)
+        × IsRefusedIn given sources name refusal × Says (explains words.now) (E.content err.old) (E.content err.new) (refusal_said name refusal)) }
     ensures run_read { result ≡ 4 → ForRun (asked words.now) (λ sources. (name : List ℕ) × IsNamed sources name × Blames (Read name) (F.faults shelf.old) (F.faults shelf.new)
-        × IfTold (F.files shelf.old) (λ files. IsReachedIn files sources name) × Says (explains words.now) (E.content err.old) (E.content err.new) (unread_said name)) }
-    ensures run_offered { result ≡ 5 → GivenRun (asked words.now) (F.files shelf.old) (λ sources files. RunsShort files sources (O.content out.old) (O.content out.new)) }
+        × Given (HandsIn (F.files shelf.old) (F.handed shelf.old) (F.handed shelf.new)) (λ given. IsReachedIn given sources name) × Says (explains words.now) (E.content err.old) (E.content err.new) (unread_said name)) }
+    ensures run_offered { result ≡ 5 → GivenRun (asked words.now) (HandsIn (F.files shelf.old) (F.handed shelf.old) (F.handed shelf.new)) (λ sources given. RunsShort given sources (O.content out.old) (O.content out.new)) }
     // no other status where the files hold scripts and input, or one of them is refused, unless memory was wanting or a count rose
-    ensures run_decided { GivenRun (asked words.now) (F.files shelf.old) (λ sources files. (scripts : List Script) (input : List (List ℕ)) → HoldsSources files sources scripts input
+    ensures run_decided { GivenRun (asked words.now) (HandsIn (F.files shelf.old) (F.handed shelf.old) (F.handed shelf.new)) (λ sources given. (scripts : List Script) (input : List (List ℕ)) → HoldsSources given sources scripts input
         → (result ≡ 0) ⊎ (result ≡ 8) ⊎ (result ≡ 1) ⊎ (result ≡ 4) ⊎ (result ≡ 5)) }
-    ensures run_exact { GivenRun (asked words.now) (F.files shelf.old) (λ sources files. (name : List ℕ) (refusal : TextFault) → IsRefusedIn files sources name refusal
+    ensures run_exact { GivenRun (asked words.now) (HandsIn (F.files shelf.old) (F.handed shelf.old) (F.handed shelf.new)) (λ sources given. (name : List ℕ) (refusal : TextFault) → IsRefusedIn given sources name refusal
         → (result ≡ 3) ⊎ (result ≡ 1) ⊎ (result ≡ 4)) }
     // what `out` took at every status, of a program that may never end
-    ensures run_part { GivenRun (asked words.now) (F.files shelf.old) (λ sources files. (O.content out.new ≡ O.content out.old) ⊎ RunsInPart files sources (O.content out.old) (O.content out.new)) }
+    ensures run_part { GivenRun (asked words.now) (HandsIn (F.files shelf.old) (F.handed shelf.old) (F.handed shelf.new)) (λ sources given. (O.content out.new ≡ O.content out.old) ⊎ RunsInPart given sources (O.content out.old) (O.content out.new)) }
     // `replay`: the cause of each status
-    ensures replay_done { result ≡ 0 → GivenReplay (asked words.now) (F.files shelf.old) (λ request files. ReplaysWhole files request None (O.content out.old) (O.content out.new)) }
-    ensures replay_line { result ≡ 6 → GivenReplay (asked words.now) (F.files shelf.old) (λ request files. (number : ℕ)
-        × ReplaysWhole files request (Some number) (O.content out.old) (O.content out.new) × Says (explains words.now) (E.content err.old) (E.content err.new) (line_said number)) }
-    ensures replay_refused { result ≡ 3 → GivenReplay (asked words.now) (F.files shelf.old) (λ request files. (name : List ℕ) × (refusal : TextFault)
-        × IsRefusedBehind files request name refusal × Says (explains words.now) (E.content err.old) (E.content err.new) (refusal_said name refusal)) }
+    ensures replay_done { result ≡ 0 → GivenReplay (asked words.now) (HandsIn (F.files shelf.old) (F.handed shelf.old) (F.handed shelf.new)) (λ request given. ReplaysWhole given request None (O.content out.old) (O.content out.new)) }
+    ensures replay_line { result ≡ 6 → GivenReplay (asked words.now) (HandsIn (F.files shelf.old) (F.handed shelf.old) (F.handed shelf.new)) (λ request given. (number : ℕ)
+        × ReplaysWhole given request (Some number) (O.content out.old) (O.content out.new) × Says (explains words.now) (E.content err.old) (E.content err.new) (line_said number)) }
+    ensures replay_refused { result ≡ 3 → GivenReplay (asked words.now) (HandsIn (F.files shelf.old) (F.handed shelf.old) (F.handed shelf.new)) (λ request given. (name : List ℕ) × (refusal : TextFault)
+        × IsRefusedBehind given request name refusal × Says (explains words.now) (E.content err.old) (E.content err.new) (refusal_said name refusal)) }
     ensures replay_read { result ≡ 4 → ForReplay (asked words.now) (λ request. (name : List ℕ) × IsNamedBy request name × Blames (Read name) (F.faults shelf.old) (F.faults shelf.new)
-        × IfTold (F.files shelf.old) (λ files. IsReachedBy files request name) × Says (explains words.now) (E.content err.old) (E.content err.new) (unread_said name)) }
-    ensures replay_offered { result ≡ 5 → GivenReplay (asked words.now) (F.files shelf.old) (λ request files. ReplaysShort files request (O.content out.old) (O.content out.new)) }
-    ensures replay_decided { GivenReplay (asked words.now) (F.files shelf.old) (λ request files. (journal : List ℕ) (scripts : List Script) (input : List (List ℕ)) → HoldsReplay files request journal scripts input
+        × Given (HandsIn (F.files shelf.old) (F.handed shelf.old) (F.handed shelf.new)) (λ given. IsReachedBy given request name) × Says (explains words.now) (E.content err.old) (E.content err.new) (unread_said name)) }
+    ensures replay_offered { result ≡ 5 → GivenReplay (asked words.now) (HandsIn (F.files shelf.old) (F.handed shelf.old) (F.handed shelf.new)) (λ request given. ReplaysShort given request (O.content out.old) (O.content out.new)) }
+    ensures replay_decided { GivenReplay (asked words.now) (HandsIn (F.files shelf.old) (F.handed shelf.old) (F.handed shelf.new)) (λ request given. (journal : List ℕ) (scripts : List Script) (input : List (List ℕ)) → HoldsReplay given request journal scripts input
         → (result ≡ 0) ⊎ (result ≡ 6) ⊎ (result ≡ 1) ⊎ (result ≡ 4) ⊎ (result ≡ 5)) }
-    ensures replay_exact { GivenReplay (asked words.now) (F.files shelf.old) (λ request files. (name : List ℕ) (refusal : TextFault) → IsRefusedBehind files request name refusal
+    ensures replay_exact { GivenReplay (asked words.now) (HandsIn (F.files shelf.old) (F.handed shelf.old) (F.handed shelf.new)) (λ request given. (name : List ℕ) (refusal : TextFault) → IsRefusedBehind given request name refusal
         → (result ≡ 3) ⊎ (result ≡ 1) ⊎ (result ≡ 4)) }
     // the headline, at every status: what `out` took is a first part of an output of which it holds, and all of that at 0 and 6
-    ensures headline { GivenReplay (asked words.now) (F.files shelf.old) (λ request files. (O.content out.new ≡ O.content out.old) ⊎ ReplaysInPart files request (O.content out.old) (O.content out.new)) }
+    ensures headline { GivenReplay (asked words.now) (HandsIn (F.files shelf.old) (F.handed shelf.old) (F.handed shelf.new)) (λ request given. (O.content out.new ≡ O.content out.old) ⊎ ReplaysInPart given request (O.content out.old) (O.content out.new)) }
     // `serve`: the cause of each status
-    ensures serve_done { result ≡ 0 → GivenServe (asked words.now) (F.files shelf.old) (λ request files. ServesToEnd files request (O.content out.old) (O.content out.new)) }
-    ensures serve_threw { result ≡ 8 → GivenServe (asked words.now) (F.files shelf.old) (λ request files. (text : List ℕ)
-        × RunsToThrow files request.sources text (O.content out.old) (O.content out.new) × Says (explains words.now) (E.content err.old) (E.content err.new) (uncaught_said text)) }
-    ensures serve_refused { result ≡ 3 → GivenServe (asked words.now) (F.files shelf.old) (λ request files. (name : List ℕ) × (refusal : TextFault)
-        × IsRefusedIn files request.sources name refusal × Says (explains words.now) (E.content err.old) (E.content err.new) (refusal_said name refusal)) }
+    ensures serve_done { result ≡ 0 → GivenServe (asked words.now) (HandsIn (F.files shelf.old) (F.handed shelf.old) (F.handed shelf.new)) (λ request given. ServesToEnd given request (O.content out.old) (O.content out.new)) }
+    ensures serve_threw { result ≡ 8 → GivenServe (asked words.now) (HandsIn (F.files shelf.old) (F.handed shelf.old) (F.handed shelf.new)) (λ request given. (text : List ℕ)
+        × RunsToThrow given request.sources text (O.content out.old) (O.content out.new) × Says (explains words.now) (E.content err.old) (E.content err.new) (uncaught_said text)) }
+    ensures serve_refused { result ≡ 3 → GivenServe (asked words.now) (HandsIn (F.files shelf.old) (F.handed shelf.old) (F.handed shelf.new)) (λ request given. (name : List ℕ) × (refusal : TextFault)
+        × IsRefusedIn given request.sources name refusal × Says (explains words.now) (E.content err.old) (E.content err.new) (refusal_said name refusal)) }
     ensures serve_read { result ≡ 4 → ForServe (asked words.now) (λ request. (name : List ℕ) × IsNamed request.sources name × Blames (Read name) (F.faults shelf.old) (F.faults shelf.new)
-        × IfTold (F.files shelf.old) (λ files. IsReachedIn files request.sources name) × Says (explains words.now) (E.content err.old) (E.content err.new) (unread_said name)) }
+        × Given (HandsIn (F.files shelf.old) (F.handed shelf.old) (F.handed shelf.new)) (λ given. IsReachedIn given request.sources name) × Says (explains words.now) (E.content err.old) (E.content err.new) (unread_said name)) }
     ensures serve_network { result ≡ 7 → Rose (H.faults harbor.old) (H.faults harbor.new) }
     // at every status: what `out` took is a first part of what the program prints; the doors are those of one history, in
     // which the program stops exactly where it is named to, and each session is sent what it would be sent alone
-    ensures serve_part { GivenServe (asked words.now) (F.files shelf.old) (λ request files. (O.content out.new ≡ O.content out.old) ⊎ RunsInPart files request.sources (O.content out.old) (O.content out.new)) }
-    ensures serves { GivenServe (asked words.now) (F.files shelf.old) (λ request files. (end : CommandEnd) × (result ≡ status_of end) × MayServe files request (C.moment clock.old) (record { content = O.content out.old; faults = O.faults out.old }) (record { content = O.content out.new; faults = O.faults out.new }) (H.kept harbor.old) (H.kept harbor.new) end) }
+    ensures serve_part { GivenServe (asked words.now) (HandsIn (F.files shelf.old) (F.handed shelf.old) (F.handed shelf.new)) (λ request given. (O.content out.new ≡ O.content out.old) ⊎ RunsInPart given request.sources (O.content out.old) (O.content out.new)) }
+    ensures serves { GivenServe (asked words.now) (HandsIn (F.files shelf.old) (F.handed shelf.old) (F.handed shelf.new)) (λ request given. (end : CommandEnd) × (result ≡ status_of end) × MayServe given request (C.moment clock.old) (record { content = O.content out.old; faults = O.faults out.old }) (record { content = O.content out.new; faults = O.faults out.new }) (H.kept harbor.old) (H.kept harbor.new) end) }
     ensures serve_opened { (result ≡ 0) ⊎ (result ≡ 5) ⊎ (result ≡ 8) ⊎ (result ≡ 10) → ForServe (asked words.now) (λ request. H.opens harbor.new ≡ called (request.port, request.sessions) (H.opens harbor.old)) }
     ensures serve_once { ForServe (asked words.now) (λ request. (H.opens harbor.new ≡ H.opens harbor.old) ⊎ (H.opens harbor.new ≡ called (request.port, request.sessions) (H.opens harbor.old))) }
     ensures serve_dials { ForServe (asked words.now) (λ request. H.dials harbor.new ≡ H.dials harbor.old) }
     ensures serve_statuses { ForServe (asked words.now) (λ request. result ≢ 6) }
     // `send`: the cause of each status
-    ensures send_done { result ≡ 0 → GivenSend (asked words.now) (F.files shelf.old) (λ request files. Sends files request talks.Done (record { content = O.content out.old; faults = O.faults out.old }) (record { content = O.content out.new; faults = O.faults out.new }) (record { faults = H.faults harbor.old; dials = H.dials harbor.old; hung_up = H.hung_up harbor.old }) (record { faults = H.faults harbor.new; dials = H.dials harbor.new; hung_up = H.hung_up harbor.new })) }
-    ensures send_closed { result ≡ 9 → GivenSend (asked words.now) (F.files shelf.old) (λ request files. (replies : ℕ)
-        × Sends files request (talks.PeerClosed replies) (record { content = O.content out.old; faults = O.faults out.old }) (record { content = O.content out.new; faults = O.faults out.new }) (record { faults = H.faults harbor.old; dials = H.dials harbor.old; hung_up = H.hung_up harbor.old }) (record { faults = H.faults harbor.new; dials = H.dials harbor.new; hung_up = H.hung_up harbor.new }) × Says (explains words.now) (E.content err.old) (E.content err.new) (closed_said replies)) }
-    ensures send_line { result ≡ 6 → GivenSend (asked words.now) (F.files shelf.old) (λ request files. (line : ℕ)
-        × RefusesLine files request.commands line × Says (explains words.now) (E.content err.old) (E.content err.new) (line_said line)) }
+    ensures send_done { result ≡ 0 → GivenSend (asked words.now) (HandsIn (F.files shelf.old) (F.handed shelf.old) (F.handed shelf.new)) (λ request given. Sends given request talks.Done (record { content = O.content out.old; faults = O.faults out.old }) (record { content = O.content out.new; faults = O.faults out.new }) (record { faults = H.faults harbor.old; dials = H.dials harbor.old; hung_up = H.hung_up harbor.old }) (record { faults = H.faults harbor.new; dials = H.dials harbor.new; hung_up = H.hung_up harbor.new })) }
+    ensures send_closed { result ≡ 9 → GivenSend (asked words.now) (HandsIn (F.files shelf.old) (F.handed shelf.old) (F.handed shelf.new)) (λ request given. (replies : ℕ)
+        × Sends given request (talks.PeerClosed replies) (record { content = O.content out.old; faults = O.faults out.old }) (record { content = O.content out.new; faults = O.faults out.new }) (record { faults = H.faults harbor.old; dials = H.dials harbor.old; hung_up = H.hung_up harbor.old }) (record { faults = H.faults harbor.new; dials = H.dials harbor.new; hung_up = H.hung_up harbor.new }) × Says (explains words.now) (E.content err.old) (E.content err.new) (closed_said replies)) }
+    ensures send_line { result ≡ 6 → GivenSend (asked words.now) (HandsIn (F.files shelf.old) (F.handed shelf.old) (F.handed shelf.new)) (λ request given. (line : ℕ)
+        × RefusesLine given request.commands line × Says (explains words.now) (E.content err.old) (E.content err.new) (line_said line)) }
     ensures send_read { result ≡ 4 → ForSend (asked words.now) (λ request. Blames (Read request.commands) (F.faults shelf.old) (F.faults shelf.new)
         × Says (explains words.now) (E.content err.old) (E.content err.new) (unread_said request.commands)) }
-    ensures send_offered { result ≡ 5 → GivenSend (asked words.now) (F.files shelf.old) (λ request files. Sends files request talks.WriteFault (record { content = O.content out.old; faults = O.faults out.old }) (record { content = O.content out.new; faults = O.faults out.new }) (record { faults = H.faults harbor.old; dials = H.dials harbor.old; hung_up = H.hung_up harbor.old }) (record { faults = H.faults harbor.new; dials = H.dials harbor.new; hung_up = H.hung_up harbor.new })) }
+    ensures send_offered { result ≡ 5 → GivenSend (asked words.now) (HandsIn (F.files shelf.old) (F.handed shelf.old) (F.handed shelf.new)) (λ request given. Sends given request talks.WriteFault (record { content = O.content out.old; faults = O.faults out.old }) (record { content = O.content out.new; faults = O.faults out.new }) (record { faults = H.faults harbor.old; dials = H.dials harbor.old; hung_up = H.hung_up harbor.old }) (record { faults = H.faults harbor.new; dials = H.dials harbor.new; hung_up = H.hung_up harbor.new })) }
     // no other status where the file is of its form, or a line of it is refused, unless memory was wanting or a count rose
-    ensures send_decided { GivenSend (asked words.now) (F.files shelf.old) (λ request files. (lines : List Line) → HoldsCommands files request.commands lines
+    ensures send_decided { GivenSend (asked words.now) (HandsIn (F.files shelf.old) (F.handed shelf.old) (F.handed shelf.new)) (λ request given. (lines : List Line) → HoldsCommands given request.commands lines
         → (result ≡ 0) ⊎ (result ≡ 9) ⊎ (result ≡ 1) ⊎ (result ≡ 4) ⊎ (result ≡ 5) ⊎ (result ≡ 7)) }
-    ensures send_exact { GivenSend (asked words.now) (F.files shelf.old) (λ request files. (line : ℕ) → RefusesLine files request.commands line
+    ensures send_exact { GivenSend (asked words.now) (HandsIn (F.files shelf.old) (F.handed shelf.old) (F.handed shelf.new)) (λ request given. (line : ℕ) → RefusesLine given request.commands line
         → (result ≡ 6) ⊎ (result ≡ 1) ⊎ (result ≡ 4)) }
     // at every status: what the link was sent and what `out` took are those of the talk over its answers, or a first part of them
-    ensures sends { GivenSend (asked words.now) (F.files shelf.old) (λ request files. (end : CommandEnd) × (result ≡ status_of end) × MaySend files request (record { content = O.content out.old; faults = O.faults out.old }) (record { content = O.content out.new; faults = O.faults out.new }) (record { faults = H.faults harbor.old; dials = H.dials harbor.old; hung_up = H.hung_up harbor.old }) (record { faults = H.faults harbor.new; dials = H.dials harbor.new; hung_up = H.hung_up harbor.new }) end) }
+    ensures sends { GivenSend (asked words.now) (HandsIn (F.files shelf.old) (F.handed shelf.old) (F.handed shelf.new)) (λ request given. (end : CommandEnd) × (result ≡ status_of end) × MaySend given request (record { content = O.content out.old; faults = O.faults out.old }) (record { content = O.content out.new; faults = O.faults out.new }) (record { faults = H.faults harbor.old; dials = H.dials harbor.old; hung_up = H.hung_up harbor.old }) (record { faults = H.faults harbor.new; dials = H.dials harbor.new; hung_up = H.hung_up harbor.new }) end) }
     // the port is dialled once, after the file was read and checked; no port is opened, and no other fault of the harbor is told
     ensures send_undialled { (result ≡ 4) ⊎ (result ≡ 6) → ForSend (asked words.now) (λ request. (out.new ≡ out.old) × (harbor.new ≡ harbor.old)) }
     ensures send_dialled { (result ≡ 0) ⊎ (result ≡ 5) ⊎ (result ≡ 7) ⊎ (result ≡ 9) → ForSend (asked words.now) (λ request. H.dials harbor.new ≡ called request.port (H.dials harbor.old)) }

@@ -1,7 +1,7 @@
 //! The command `replay`, from its files to its end.
 
 ghost use Rattle.std.specs.Prelude.{◌≡◌, ◌⊎◌};
-ghost use Rattle.cdp_edge.specs.Outside.{IfTold};
+ghost use Rattle.cdp_edge.specs.Outside.{Given, HandsIn};
 ghost use Rattle.debug_host_options.specs.Held.{replay_held};
 ghost use Rattle.debug_host_commands.specs.ReplayCauses.{BecauseReplay, ReplaysInPart, outcome_of_replay};
 ghost use Rattle.debug_host_commands.specs.RunCauses.{IsUnbegun};
@@ -30,7 +30,7 @@ fn outcome_of_replay(end: ReplayEnd) -> CommandEnd<'static>
 
 /// Replays the journal over the program that a request names: the journal is read first, then the input, and then the
 /// scripts in order.
-#[tactic(auto, using(crate::proofs::ReplayLemmas::unread))]
+#[tactic(auto, using(crate::proofs::ReplayLemmas::unread, crate::proofs::ReplayLemmas::unread_part, crate::proofs::ReplayLemmas::no_journal, crate::proofs::ReplayLemmas::no_journal_part))]
 pub(crate) fn replay<'w, F: Shelf, O: Sink>(
     alloc: Global,
     request: &ReplayWords<'w>,
@@ -38,8 +38,8 @@ pub(crate) fn replay<'w, F: Shelf, O: Sink>(
     out: &mut O,
     remains: &mut Remains,
 ) -> CommandEnd<'w>
-    ensures cause { BecauseReplay result (replay_held request.now) (F.files shelf.old) (F.faults shelf.old) (F.faults shelf.new) (O.faults out.old) (O.faults out.new) (O.content out.old) (O.content out.new) }
-    ensures part { IfTold (F.files shelf.old) (λ files. (O.content out.new ≡ O.content out.old) ⊎ ReplaysInPart files (replay_held request.now) (O.content out.old) (O.content out.new)) }
+    ensures cause { BecauseReplay result (replay_held request.now) (HandsIn (F.files shelf.old) (F.handed shelf.old) (F.handed shelf.new)) (F.faults shelf.old) (F.faults shelf.new) (O.faults out.old) (O.faults out.new) (O.content out.old) (O.content out.new) }
+    ensures part { Given (HandsIn (F.files shelf.old) (F.handed shelf.old) (F.handed shelf.new)) (λ given. (O.content out.new ≡ O.content out.old) ⊎ ReplaysInPart given (replay_held request.now) (O.content out.old) (O.content out.new)) }
     ensures unbegun { IsUnbegun result → out.new ≡ out.old }
 {
     let journal = match read_whole(alloc, request.journal, shelf, &mut remains.evidence) {

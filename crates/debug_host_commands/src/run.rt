@@ -1,7 +1,7 @@
 //! The command `run`, from its files to its end.
 
 ghost use Rattle.std.specs.Prelude.{◌≡◌, ◌⊎◌};
-ghost use Rattle.cdp_edge.specs.Outside.{IfTold};
+ghost use Rattle.cdp_edge.specs.Outside.{Given, HandsIn};
 ghost use Rattle.debug_host_options.specs.Held.{run_held};
 ghost use Rattle.debug_host_commands.specs.RunCauses.{BecauseRun, IsUnbegun, RunsInPart, outcome_of_run};
 
@@ -30,7 +30,7 @@ fn outcome_of_run(end: PlainRunEnd) -> CommandEnd<'static>
 
 /// Runs the scripts of these names: the input is read first, then the scripts in order. A run that never ends prints as
 /// it goes, and the call doesn't return.
-#[tactic(auto, using(crate::proofs::RunLemmas::unread))]
+#[tactic(auto, using(crate::proofs::RunLemmas::unread, crate::proofs::RunLemmas::unread_part))]
 pub(crate) fn run<'w, R: Wait, F: Shelf, O: Sink>(
     rt: &R,
     alloc: Global,
@@ -39,8 +39,8 @@ pub(crate) fn run<'w, R: Wait, F: Shelf, O: Sink>(
     out: &mut O,
     remains: &mut Remains,
 ) -> CommandEnd<'w>
-    ensures cause { BecauseRun result ((run_held request.now).sources) (F.files shelf.old) (F.faults shelf.old) (F.faults shelf.new) (O.faults out.old) (O.faults out.new) (O.content out.old) (O.content out.new) }
-    ensures part { IfTold (F.files shelf.old) (λ files. (O.content out.new ≡ O.content out.old) ⊎ RunsInPart files ((run_held request.now).sources) (O.content out.old) (O.content out.new)) }
+    ensures cause { BecauseRun result ((run_held request.now).sources) (HandsIn (F.files shelf.old) (F.handed shelf.old) (F.handed shelf.new)) (F.faults shelf.old) (F.faults shelf.new) (O.faults out.old) (O.faults out.new) (O.content out.old) (O.content out.new) }
+    ensures part { Given (HandsIn (F.files shelf.old) (F.handed shelf.old) (F.handed shelf.new)) (λ given. (O.content out.new ≡ O.content out.old) ⊎ RunsInPart given ((run_held request.now).sources) (O.content out.old) (O.content out.new)) }
     ensures unbegun { IsUnbegun result → out.new ≡ out.old }
 {
     match read_sources(alloc, &request.sources, shelf, &mut remains.evidence) {

@@ -1,7 +1,7 @@
 //! The command `send`, from its file of commands to its end.
 
-ghost use Rattle.std.specs.Prelude.{◌≡◌, ◌⊎◌, ◌≤◌, IfOk, IfErr, Some};
-ghost use Rattle.cdp_edge.specs.Outside.{IfTold, content_of};
+ghost use Rattle.std.specs.Prelude.{◌≡◌, ◌⊎◌, ◌≤◌, IfOk, IfErr};
+ghost use Rattle.cdp_edge.specs.Outside.{IfTold, Given, HandsIn, one_file};
 ghost use Rattle.cdp_client.specs.Lines.{IsInForm};
 ghost use Rattle.cdp_edge_server.specs.Contents.{IsUnused, called};
 ghost use Rattle.debug_host_options.specs.Held.{send_held};
@@ -33,16 +33,17 @@ fn outcome_of_talk(end: Conversed) -> CommandEnd<'static>
 }
 
 /// The bytes of the file of commands of this name, each line of which is of its form.
+#[tactic(auto, using(crate::proofs::ClientLemmas::reading))]
 fn read_commands<'w, F: Shelf>(
     alloc: Global,
     name: &'w str,
     shelf: &mut F,
     evidence: &mut Evidence,
 ) -> Result<Vec<u8>, CommandEnd<'w>>
-    ensures content { IfOk result (λ bytes. IfTold (F.files shelf.old) (λ files. content_of name.now files ≡ Some bytes.items)) }
+    ensures content { IfOk result (λ bytes. (HandsIn (F.files shelf.old) (F.handed shelf.old) (F.handed shelf.new) (one_file name.now bytes.items))) }
     ensures form { IfOk result (λ bytes. IsInForm bytes.items) }
     ensures quiet { IfOk result (λ bytes. F.faults shelf.new ≡ F.faults shelf.old) }
-    ensures fault { IfErr result (λ end. BecauseCommands end name.now (F.files shelf.old) (F.faults shelf.old) (F.faults shelf.new)) }
+    ensures fault { IfErr result (λ end. BecauseCommands end name.now (HandsIn (F.files shelf.old) (F.handed shelf.old) (F.handed shelf.new)) (F.faults shelf.old) (F.faults shelf.new)) }
 {
     let bytes = match read_whole(alloc, name, shelf, evidence) {
         Ok(bytes) => bytes,
@@ -94,8 +95,8 @@ pub(crate) fn send<'w, R: Wait, F: Shelf, O: Sink, H: Harbor>(
     harbor: &mut H,
     remains: &mut Remains,
 ) -> CommandEnd<'w>
-    ensures cause { BecauseSend result (send_held request.entry) (F.files shelf.old) (F.faults shelf.old) (F.faults shelf.new) (record { content = O.content out.old; faults = O.faults out.old }) (record { content = O.content out.new; faults = O.faults out.new }) (record { faults = H.faults harbor.old; dials = H.dials harbor.old; hung_up = H.hung_up harbor.old }) (record { faults = H.faults harbor.new; dials = H.dials harbor.new; hung_up = H.hung_up harbor.new }) }
-    ensures part { IfTold (F.files shelf.old) (λ files. MaySend files (send_held request.entry) (record { content = O.content out.old; faults = O.faults out.old }) (record { content = O.content out.new; faults = O.faults out.new }) (record { faults = H.faults harbor.old; dials = H.dials harbor.old; hung_up = H.hung_up harbor.old }) (record { faults = H.faults harbor.new; dials = H.dials harbor.new; hung_up = H.hung_up harbor.new }) result) }
+    ensures cause { BecauseSend result (send_held request.entry) (HandsIn (F.files shelf.old) (F.handed shelf.old) (F.handed shelf.new)) (F.faults shelf.old) (F.faults shelf.new) (record { content = O.content out.old; faults = O.faults out.old }) (record { content = O.content out.new; faults = O.faults out.new }) (record { faults = H.faults harbor.old; dials = H.dials harbor.old; hung_up = H.hung_up harbor.old }) (record { faults = H.faults harbor.new; dials = H.dials harbor.new; hung_up = H.hung_up harbor.new }) }
+    ensures part { Given (HandsIn (F.files shelf.old) (F.handed shelf.old) (F.handed shelf.new)) (λ given. MaySend given (send_held request.entry) (record { content = O.content out.old; faults = O.faults out.old }) (record { content = O.content out.new; faults = O.faults out.new }) (record { faults = H.faults harbor.old; dials = H.dials harbor.old; hung_up = H.hung_up harbor.old }) (record { faults = H.faults harbor.new; dials = H.dials harbor.new; hung_up = H.hung_up harbor.new }) result) }
     ensures undialled { IsUndialled result → (out.new ≡ out.old) × (harbor.new ≡ harbor.old) }
     ensures once { (H.dials harbor.new ≡ H.dials harbor.old) ⊎ (H.dials harbor.new ≡ called request.entry.port (H.dials harbor.old)) }
     ensures opens { H.opens harbor.new ≡ H.opens harbor.old }

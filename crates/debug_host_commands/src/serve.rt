@@ -2,7 +2,7 @@
 
 ghost use Rattle.std.specs.Prelude.{◌≡◌, ◌⊎◌, ◌+◌, ◌<◌, ◌≤◌, [], length, IfOk, false};
 ghost use Rattle.cdp_host_isolation.specs.Makers.{entries_of};
-ghost use Rattle.cdp_edge.specs.Outside.{IfTold};
+ghost use Rattle.cdp_edge.specs.Outside.{Given, HandsIn};
 ghost use Rattle.history_lock.specs.Passes.{initial_pass, initial_passes};
 ghost use Rattle.cdp_edge_server.specs.Contents.{called};
 ghost use Rattle.cdp_host.specs.Histories.{whole};
@@ -214,7 +214,7 @@ where
 
 /// Serves the scripts of these names to clients: the input is read first, then the scripts in order, then the doors are
 /// opened. A program that never ends prints as it goes, and the call doesn't return.
-#[tactic(auto, using(crate::proofs::ServeLemmas::unread, crate::proofs::ServeLemmas::unserved))]
+#[tactic(auto, using(crate::proofs::ServeLemmas::unread, crate::proofs::ServeLemmas::unserved_part))]
 pub(crate) fn serve<
     'w,
     R: Threads + Wait + Sync,
@@ -236,8 +236,8 @@ where
     P::Bell: Sync,
     P::Door: Send,
     <P::Door as Door>::Link: Send,
-    ensures cause { BecauseServe result (serve_held request.now) (F.files shelf.old) (F.faults shelf.old) (F.faults shelf.new) (record { content = O.content out.old; faults = O.faults out.old }) (record { content = O.content out.new; faults = O.faults out.new }) (record { faults = P.faults harbor.old; opens = P.opens harbor.old; kept = P.kept harbor.old }) (record { faults = P.faults harbor.new; opens = P.opens harbor.new; kept = P.kept harbor.new }) }
-    ensures part { IfTold (F.files shelf.old) (λ files. MayServe files (serve_held request.now) (C.moment clock.old) (record { content = O.content out.old; faults = O.faults out.old }) (record { content = O.content out.new; faults = O.faults out.new }) (P.kept harbor.old) (P.kept harbor.new) result) }
+    ensures cause { BecauseServe result (serve_held request.now) (HandsIn (F.files shelf.old) (F.handed shelf.old) (F.handed shelf.new)) (F.faults shelf.old) (F.faults shelf.new) (record { content = O.content out.old; faults = O.faults out.old }) (record { content = O.content out.new; faults = O.faults out.new }) (record { faults = P.faults harbor.old; opens = P.opens harbor.old; kept = P.kept harbor.old }) (record { faults = P.faults harbor.new; opens = P.opens harbor.new; kept = P.kept harbor.new }) }
+    ensures part { Given (HandsIn (F.files shelf.old) (F.handed shelf.old) (F.handed shelf.new)) (λ given. MayServe given (serve_held request.now) (C.moment clock.old) (record { content = O.content out.old; faults = O.faults out.old }) (record { content = O.content out.new; faults = O.faults out.new }) (P.kept harbor.old) (P.kept harbor.new) result) }
     ensures unbegun { IsUnbegun result → out.new ≡ out.old }
     ensures once { (P.opens harbor.new ≡ P.opens harbor.old) ⊎ (P.opens harbor.new ≡ called ((serve_held request.now).port, (serve_held request.now).sessions) (P.opens harbor.old)) }
     ensures dials { P.dials harbor.new ≡ P.dials harbor.old }

@@ -1,7 +1,7 @@
 //! The scripts and the input of a program, from their files.
 
 ghost use Rattle.std.specs.Prelude.{◌≡◌, IfOk, IfErr};
-ghost use Rattle.cdp_edge.specs.Outside.{IfTold};
+ghost use Rattle.cdp_edge.specs.Outside.{Given, HandsIn};
 ghost use Rattle.debug_host_commands.specs.Files.{HoldsLines, HoldsSources};
 ghost use Rattle.debug_host_options.specs.Held.{text_held, sources_held};
 ghost use Rattle.debug_host_commands.specs.RunCauses.{BecauseInput, BecauseSources, outcome_of};
@@ -34,15 +34,16 @@ pub(crate) fn outcome_of(name: &str, fault: FileFault) -> CommandEnd<'_>
 }
 
 /// The lines of input that the file of this name holds; without a name there is none.
+#[tactic(auto, using(crate::proofs::SourceLemmas::input))]
 fn read_lines<'w, F: Shelf>(
     alloc: Global,
     input: Option<&'w str>,
     shelf: &mut F,
     evidence: &mut Evidence,
 ) -> Result<VecDeque<Units>, CommandEnd<'w>>
-    ensures lines { IfOk result (λ lines. IfTold (F.files shelf.old) (λ files. HoldsLines files (text_held input.entry) lines.items)) }
+    ensures lines { IfOk result (λ lines. Given (HandsIn (F.files shelf.old) (F.handed shelf.old) (F.handed shelf.new)) (λ given. HoldsLines given (text_held input.entry) lines.items)) }
     ensures quiet { IfOk result (λ lines. F.faults shelf.new ≡ F.faults shelf.old) }
-    ensures fault { IfErr result (λ end. BecauseInput end (text_held input.entry) (F.files shelf.old) (F.faults shelf.old) (F.faults shelf.new)) }
+    ensures fault { IfErr result (λ end. BecauseInput end (text_held input.entry) (HandsIn (F.files shelf.old) (F.handed shelf.old) (F.handed shelf.new)) (F.faults shelf.old) (F.faults shelf.new)) }
     ensures files { F.files shelf.new ≡ F.files shelf.old }
 {
     let Some(name) = input else {
@@ -60,15 +61,16 @@ fn read_lines<'w, F: Shelf>(
 /// # Errors
 ///
 /// The end that the first fault decides: a file can't be read or is refused, or there is no memory.
+#[tactic(auto, using(crate::proofs::SourceLemmas::program))]
 pub(crate) fn read_sources<'w, F: Shelf>(
     alloc: Global,
     sources: &Sources<'w>,
     shelf: &mut F,
     evidence: &mut Evidence,
 ) -> Result<Program, CommandEnd<'w>>
-    ensures holds { IfOk result (λ p. IfTold (F.files shelf.old) (λ files. HoldsSources files (sources_held sources.now) p.scripts.items p.input.items)) }
+    ensures holds { IfOk result (λ p. Given (HandsIn (F.files shelf.old) (F.handed shelf.old) (F.handed shelf.new)) (λ given. HoldsSources given (sources_held sources.now) p.scripts.items p.input.items)) }
     ensures quiet { IfOk result (λ p. F.faults shelf.new ≡ F.faults shelf.old) }
-    ensures fault { IfErr result (λ end. BecauseSources end (sources_held sources.now) (F.files shelf.old) (F.faults shelf.old) (F.faults shelf.new)) }
+    ensures fault { IfErr result (λ end. BecauseSources end (sources_held sources.now) (HandsIn (F.files shelf.old) (F.handed shelf.old) (F.handed shelf.new)) (F.faults shelf.old) (F.faults shelf.new)) }
     ensures files { F.files shelf.new ≡ F.files shelf.old }
 {
     let input = match read_lines(alloc, sources.input, shelf, evidence) {

@@ -1,6 +1,6 @@
 //! What a replay writes, kept in memory.
 
-ghost use Rattle.std.specs.Prelude.{Some, [], ◌≡◌};
+ghost use Rattle.std.specs.Prelude.{[], ◌≡◌};
 
 use cdp_edge::{Sink, SinkFault};
 use std::alloc::Global;
@@ -32,7 +32,7 @@ impl Transcript {
 impl Sink for Transcript {
     ghost faults = { λ transcript. 0 };
 
-    ghost content = { λ transcript. Some transcript.bytes.items };
+    ghost content = { λ transcript. transcript.bytes.items };
 
     fn write(&mut self, piece: &[u8]) -> Result<usize, SinkFault> {
         match self.bytes.extend_from_slice(piece) {

@@ -1,7 +1,5 @@
 //! A sink that takes its lines in pieces.
 
-ghost use Rattle.std.specs.Prelude.{Some};
-
 use cdp_edge::{Sink, SinkFault};
 
 // Takes at most so many bytes at each write, and counts the writes and the pieces that end with LF.
@@ -16,7 +14,7 @@ pub(crate) struct PieceSink {
 impl Sink for PieceSink {
     ghost faults = { λ _. 0 };
 
-    ghost content = { λ sink. Some sink.taken.items };
+    ghost content = { λ sink. sink.taken.items };
 
     fn write(&mut self, piece: &[u8]) -> Result<usize, SinkFault> {
         let taken = piece.len().min(self.most).max(1).min(piece.len());

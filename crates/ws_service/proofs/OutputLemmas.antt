@@ -1,5 +1,5 @@
 -- What the run of a program says of its output stands over the history of all passes.
-use Rattle.std.proofs.Common.{◌≡◌, ℕ, List, Option as Opt, ◌++◌, Bool, ap, subst, ◌∙◌}
+use Rattle.std.proofs.Common.{◌≡◌, ℕ, List, ◌++◌, Bool, ap, subst, ◌∙◌}
 use Rattle.cdp_host_isolation.specs.Histories.{Entry, steps_made}
 use Rattle.cdp_host_isolation.specs.Makers.{by, entries_of as unmade}
 use Rattle.history_lock.specs.Histories.{Begins}
@@ -10,7 +10,7 @@ use Rattle.ws_service.specs.Programs.{OnlyRuns, Writes}
 use Rattle.ws_service.proofs.ProgramLemmas.{only-after, only-front, parts, steps-before}
 
 -- The sink was given what the steps of a longer history print, where the pass left no entry more in it.
-pub writes-over : (d : Debugging) (k : ℕ) (cut : Bool) (old new h : List (ℕ × Entry)) (before after : Opt (List ℕ))
+pub writes-over : (d : Debugging) (k : ℕ) (cut : Bool) (old new h : List (ℕ × Entry)) (before after : List ℕ)
     → Begins old new → Begins new h → by k h ≡ by k new → Writes d k cut old new before after
     → Writes d k cut old h before after
 writes-over d k cut old new h before after a b own writes more is only =

@@ -195,7 +195,7 @@ due-turn d p q left end act found = λ front rest entry begins is.
 
 -- ---- output
 
-gains-on : (cut : Bool) (before mid after : Option (List ℕ)) (xs ys : List (List ℕ))
+gains-on : (cut : Bool) (before mid after : List ℕ) (xs ys : List (List ℕ))
     → mid ≡ gains before (printed_lines xs) → GainsLines cut mid after ys → GainsLines cut before after (xs ++ ys)
 gains-on false before mid after xs ys first second =
     gains-next before mid after (printed_lines xs) (printed_lines ys) (printed_lines (xs ++ ys)) first second
@@ -204,15 +204,15 @@ gains-on true before mid after xs ys first second =
     GainsPrefix-behind before mid after (printed_lines xs) (printed_lines ys) [] (printed_lines (xs ++ ys)) first
     (lines-append xs ys ∙ sym (append-nil (printed_lines xs ++ printed_lines ys))) second
 
-gains-whole : (cut : Bool) (before after : Option (List ℕ)) (texts : List (List ℕ))
+gains-whole : (cut : Bool) (before after : List ℕ) (texts : List (List ℕ))
     → after ≡ gains before (printed_lines texts) → GainsLines cut before after texts
 gains-whole false before after texts is = is
 gains-whole true before after texts is = (printed_lines texts, [], sym (append-nil (printed_lines texts)), is)
 
-gains-same : (cut : Bool) (content : Option (List ℕ)) → GainsLines cut content content []
+gains-same : (cut : Bool) (content : List ℕ) → GainsLines cut content content []
 gains-same cut content = gains-whole cut content content [] (sym (gains-nil content))
 
-writes-on : (d : Debugging) (k : ℕ) (cut : Bool) (h m g : List (ℕ × Entry)) (before mid after : Option (List ℕ))
+writes-on : (d : Debugging) (k : ℕ) (cut : Bool) (h m g : List (ℕ × Entry)) (before mid after : List ℕ)
     → Begins h m → Begins m g → Writes d k false h m before mid → Writes d k cut m g mid after
     → Writes d k cut h g before after
 writes-on d k cut h m g before mid after a b first second = λ more is only.
@@ -227,7 +227,7 @@ writes-on d k cut h m g before mid after a b first second = λ more is only.
     )
 
 -- where nothing is left
-writes-none : (d : Debugging) (k : ℕ) (cut : Bool) (h : List (ℕ × Entry)) (content : Option (List ℕ))
+writes-none : (d : Debugging) (k : ℕ) (cut : Bool) (h : List (ℕ × Entry)) (content : List ℕ)
     → Writes d k cut h h content content
 writes-none d k cut h content = λ more is only.
     ([], sym (append-nil (printed_by d (steps_made (entries_of h)))), gains-same cut content)
@@ -257,7 +257,7 @@ only-between d p q entry act more is only =
     (parts p.seen (p.seen ++ act.between) q.seen act.between ((p.number, entry) ∷ []) more refl act.seen is) only)
 
 writes-turn : (d : Debugging) (p q : PassState Entry) (entry : Entry) (act : Acts d p q entry) (cut : Bool)
-    (before after : Option (List ℕ)) (texts : List (List ℕ)) → Prints d (steps_of entry) texts (p.seen ++ act.between)
+    (before after : List ℕ) (texts : List (List ℕ)) → Prints d (steps_of entry) texts (p.seen ++ act.between)
     → GainsLines cut before after texts → Writes d p.number cut p.seen q.seen before after
 writes-turn d p q entry act cut before after texts prints gained = λ more is only.
     let same = steps-before p.number p.seen act.between (only-between d p q entry act more is only) act.nothing in (
@@ -274,7 +274,7 @@ prints-none d h =
 
 -- a shut after it prints nothing
 writes-shut : (d : Debugging) (k : ℕ) (p m q : PassState Entry) (act : Acts d m q Shut) (cut : Bool)
-    (before after : Option (List ℕ)) → m.number ≡ k → Begins p.seen m.seen → Writes d k cut p.seen m.seen before after
+    (before after : List ℕ) → m.number ≡ k → Begins p.seen m.seen → Writes d k cut p.seen m.seen before after
     → Writes d k cut p.seen q.seen before after
 writes-shut d k p m q act cut before after number a first = λ more is only.
     let b = (goes d m q Shut act).longer in
@@ -486,7 +486,7 @@ reason-fault : (d : Debugging) (fault : SinkFault) (unshut : Option NotShut) (h 
 reason-fault d sink.Failed unshut h spent = spent
 reason-fault d sink.Memory unshut h spent = spent
 
-gains-fault : (fault : SinkFault) (unshut : Option NotShut) (before after : Option (List ℕ)) (texts : List (List ℕ))
+gains-fault : (fault : SinkFault) (unshut : Option NotShut) (before after : List ℕ) (texts : List (List ℕ))
     → GainsPrefix before after (printed_lines texts)
     → GainsLines (may_cut (Some (end_at fault unshut))) before after texts
 gains-fault fault unshut before after texts gained =

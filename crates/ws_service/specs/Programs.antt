@@ -117,9 +117,9 @@ FindsDue d k old new end =
 
 -- ---- output
 
--- what a sink tells: the bytes that it took, where they are told, and how often it failed
+-- what a sink tells: the bytes that it took, and how often it failed
 pub record Output : Type 0 where
-  pub content : Option (List ℕ)
+  pub content : List ℕ
   pub faults : ℕ
 
 -- an entry that makes steps has this maker
@@ -142,13 +142,13 @@ PrintsOn d old new texts =
     printed_by d (steps_made (entries_of new)) ≡ printed_by d (steps_made (entries_of old)) ++ texts
 
 -- a sink took the lines of these texts, or a first part of them, if it may be cut
-abbrev pub GainsLines : Bool → Option (List ℕ) → Option (List ℕ) → List (List ℕ) → Type 0
+abbrev pub GainsLines : Bool → List ℕ → List ℕ → List (List ℕ) → Type 0
 GainsLines false old new texts = new ≡ gains old (printed_lines texts)
 GainsLines true old new texts = GainsPrefix old new (printed_lines texts)
 
 -- A history goes on to a longer one: where each run of those further entries is this maker's, a sink took the lines of
 -- what their steps print, or a first part of them, if it may be cut.
-abbrev pub Writes : Debugging → ℕ → Bool → List (ℕ × Entry) → List (ℕ × Entry) → Option (List ℕ) → Option (List ℕ)
+abbrev pub Writes : Debugging → ℕ → Bool → List (ℕ × Entry) → List (ℕ × Entry) → List ℕ → List ℕ
     → Type 0
 Writes d k cut old new before after =
     (more : List (ℕ × Entry)) → new ≡ old ++ more → OnlyRuns k more

@@ -1,4 +1,5 @@
-use Rattle.std.proofs.Common.{sym}
+use Rattle.std.proofs.Common.{[], inl, inr, refl, sym}
+use Rattle.cdp_edge.proofs.HandedLemmas.{hands_nothing}
 use Rattle.debug_host_options.specs.Held.{replay_held, run_held, send_held, serve_held}
 use Rattle.debug_host_commands.specs.declared.outcome.CommandEnd.TheVariants as ends
 use Rattle.debug_host_commands.proofs.ReportLemmas as reports
@@ -7,6 +8,7 @@ use Rattle.debug_host_commands.proofs.ReplayLemmas as replays
 use Rattle.debug_host_commands.proofs.ServeLemmas as serves
 use Rattle.debug_host_commands.proofs.ClientLemmas as clients
 use Rattle.debug_host_commands.proofs.DrillLemmas as drills
+use Rattle.debug_host_commands.proofs.UnaskedLemmas.{for_replay, for_run, for_send}
 use Rattle.debug_host_commands.proofs.program.debug_main.Goals as goal
 
 pub returns-in-Ok-Some-Run-clause-run_decided : goal.returns-in-Ok-Some-Run-clause-run_decided
@@ -145,10 +147,10 @@ returns-in-Ok-Some-Drill-clause-drill_refused g c =
     c.end-in-Ok-Some-Drill.ensures.status c.drill.ensures.cause _ _ _ (c.end-in-Ok-Some-Drill.ensures.says _)
 
 pub returns-in-Err-clause-serves : goal.returns-in-Err-clause-serves
-returns-in-Err-clause-serves g c = serves.unasked _ _ _ _ _ c.end.result c.end.ensures.status
+returns-in-Err-clause-serves g c = serves.unasked _ _ _ _ _ c.end.result (hands_nothing _ _ _ refl) c.end.ensures.status
 
 pub returns-in-Err-clause-sends : goal.returns-in-Err-clause-sends
-returns-in-Err-clause-sends g c = clients.unasked _ _ _ _ c.end.result c.end.ensures.status
+returns-in-Err-clause-sends g c = clients.unasked _ _ _ _ c.end.result (hands_nothing _ _ _ refl) c.end.ensures.status
 
 pub returns-in-Err-clause-text_part : goal.returns-in-Err-clause-text_part
 returns-in-Err-clause-text_part g c = clients.untold _ _
@@ -170,7 +172,7 @@ pub returns-in-Err-clause-says : goal.returns-in-Err-clause-says
 returns-in-Err-clause-says g c = (ends.OutOfMemory, c.end.ensures.status, c.end.ensures.says _)
 
 pub returns-in-Err-clause-serve_part : goal.returns-in-Err-clause-serve_part
-returns-in-Err-clause-serve_part g c = serves.unwritten _ _ _
+returns-in-Err-clause-serve_part g c = serves.unwritten _ _ _ (hands_nothing _ _ _ refl)
 
 pub returns-in-Ok-None-clause-says : goal.returns-in-Ok-None-clause-says
 returns-in-Ok-None-clause-says g c = (
@@ -179,3 +181,35 @@ returns-in-Ok-None-clause-says g c = (
   reports.none-says c.args.words.now _ _ _ _ (sym (rw c.in-Ok-None.field-0-is at c.in-Ok-None.ensures.value))
       c.names_explain-explains.ensures c.end_explained.ensures.says,
 )
+
+pub returns-in-Err-clause-run_decided : goal.returns-in-Err-clause-run_decided
+returns-in-Err-clause-run_decided g c =
+    for_run _ _ (λ request. ([], hands_nothing _ _ _ refl, λ scripts input holds. inr (inr (inl c.end.ensures.status))))
+
+pub returns-in-Err-clause-run_exact : goal.returns-in-Err-clause-run_exact
+returns-in-Err-clause-run_exact g c =
+    for_run _ _ (λ request. ([], hands_nothing _ _ _ refl, λ name refusal refused. inr (inl c.end.ensures.status)))
+
+pub returns-in-Err-clause-run_part : goal.returns-in-Err-clause-run_part
+returns-in-Err-clause-run_part g c =
+    for_run _ _ (λ request. ([], hands_nothing _ _ _ refl, inl refl))
+
+pub returns-in-Err-clause-replay_decided : goal.returns-in-Err-clause-replay_decided
+returns-in-Err-clause-replay_decided g c =
+    for_replay _ _ (λ request. ([], hands_nothing _ _ _ refl, λ journal scripts input holds. inr (inr (inl c.end.ensures.status))))
+
+pub returns-in-Err-clause-replay_exact : goal.returns-in-Err-clause-replay_exact
+returns-in-Err-clause-replay_exact g c =
+    for_replay _ _ (λ request. ([], hands_nothing _ _ _ refl, λ name refusal refused. inr (inl c.end.ensures.status)))
+
+pub returns-in-Err-clause-headline : goal.returns-in-Err-clause-headline
+returns-in-Err-clause-headline g c =
+    for_replay _ _ (λ request. ([], hands_nothing _ _ _ refl, inl refl))
+
+pub returns-in-Err-clause-send_decided : goal.returns-in-Err-clause-send_decided
+returns-in-Err-clause-send_decided g c =
+    for_send _ _ (λ request. ([], hands_nothing _ _ _ refl, λ lines holds. inr (inr (inl c.end.ensures.status))))
+
+pub returns-in-Err-clause-send_exact : goal.returns-in-Err-clause-send_exact
+returns-in-Err-clause-send_exact g c =
+    for_send _ _ (λ request. ([], hands_nothing _ _ _ refl, λ line refused. inr (inl c.end.ensures.status)))

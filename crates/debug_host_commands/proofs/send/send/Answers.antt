@@ -1,4 +1,5 @@
 use Rattle.std.proofs.Common.{◌∙◌}
+use Rattle.cdp_edge.specs.Outside.{HandsIn}
 use Rattle.ws_service.specs.Programs.{Output}
 use Rattle.debug_host_options.specs.Held.{send_held}
 use Rattle.debug_host_commands.specs.SendCauses.{Dialled}
@@ -17,7 +18,7 @@ returns-in-Ok-dial-clause-cause g c =
     let now : Dialled = record { faults = g.H.Harbor.faults c.speak.new.harbor; dials = g.H.Harbor.dials c.speak.new.harbor; hung_up = g.H.Harbor.hung_up c.speak.new.harbor } in
     let d = c.in-Ok-dial.ensures in
     rw c.outcome_of_talk.ensures
-    (spoke (send_held c.args.request) (g.F.Shelf.files c.args.shelf.now) c.in-Ok.commands.items old new was now c.in-Ok.ensures.content c.speak.result _ _
+    (spoke (send_held c.args.request) (HandsIn (g.F.Shelf.files c.args.shelf.now) (g.F.Shelf.handed c.args.shelf.now) (g.F.Shelf.handed c.read_commands.new.shelf)) c.in-Ok.commands.items old new was now c.in-Ok.ensures.content c.speak.result _ _
     c.in-Ok.ensures.quiet c.in-Ok.ensures.form (c.speak.ensures.dials ∙ d.dials)
     (since c.in-Ok.commands.items c.deref.result.now c.speak.result old new was mid now c.deref.ensures.value d.quiet
     d.hung_up c.speak.ensures.speaks))
@@ -31,7 +32,7 @@ returns-in-Ok-dial-clause-part g c =
     let now : Dialled = record { faults = g.H.Harbor.faults c.speak.new.harbor; dials = g.H.Harbor.dials c.speak.new.harbor; hung_up = g.H.Harbor.hung_up c.speak.new.harbor } in
     let d = c.in-Ok-dial.ensures in
     rw c.outcome_of_talk.ensures
-    (spoke-part (send_held c.args.request) (g.F.Shelf.files c.args.shelf.now) c.in-Ok.commands.items old new was now c.in-Ok.ensures.content c.speak.result
+    (spoke-part (send_held c.args.request) (HandsIn (g.F.Shelf.files c.args.shelf.now) (g.F.Shelf.handed c.args.shelf.now) (g.F.Shelf.handed c.read_commands.new.shelf)) c.in-Ok.commands.items old new was now c.in-Ok.ensures.content c.speak.result
     (since c.in-Ok.commands.items c.deref.result.now c.speak.result old new was mid now c.deref.ensures.value d.quiet
     d.hung_up c.speak.ensures.speaks))
 
@@ -44,7 +45,7 @@ returns-in-Ok-dial-clause-undialled g c =
     let now : Dialled = record { faults = g.H.Harbor.faults c.speak.new.harbor; dials = g.H.Harbor.dials c.speak.new.harbor; hung_up = g.H.Harbor.hung_up c.speak.new.harbor } in
     let d = c.in-Ok-dial.ensures in
     rw c.outcome_of_talk.ensures
-    (spoke-dialled (send_held c.args.request) (g.F.Shelf.files c.args.shelf.now) c.in-Ok.commands.items old new was now c.in-Ok.ensures.content _
+    (spoke-dialled (send_held c.args.request) (HandsIn (g.F.Shelf.files c.args.shelf.now) (g.F.Shelf.handed c.args.shelf.now) (g.F.Shelf.handed c.read_commands.new.shelf)) c.in-Ok.commands.items old new was now c.in-Ok.ensures.content _
     c.speak.result c.in-Ok.ensures.form
     (since c.in-Ok.commands.items c.deref.result.now c.speak.result old new was mid now c.deref.ensures.value d.quiet
     d.hung_up c.speak.ensures.speaks))

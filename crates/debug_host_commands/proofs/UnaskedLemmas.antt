@@ -1,0 +1,34 @@
+-- What holds of a command whatever the words ask for.
+use Rattle.std.proofs.Common.{Option, Some, None}
+use Rattle.debug_host_options.specs.Requests.{Drill, Help, Replay, ReplayWords, Request, Run, Send, SendWords, Serve, Sources, Version}
+use Rattle.debug_host_commands.specs.Status.{ForReplay, ForRun, ForSend}
+
+pub for_run : (o : Option Request) (P : Sources → Type 0) → ((sources : Sources) → P sources) → ForRun o P
+for_run None P all = tt
+for_run (Some (Run request)) P all = all request.sources
+for_run (Some (Replay request)) P all = tt
+for_run (Some (Serve request)) P all = tt
+for_run (Some (Send request)) P all = tt
+for_run (Some (Drill n)) P all = tt
+for_run (Some (Help topic)) P all = tt
+for_run (Some Version) P all = tt
+
+pub for_replay : (o : Option Request) (P : ReplayWords → Type 0) → ((request : ReplayWords) → P request) → ForReplay o P
+for_replay None P all = tt
+for_replay (Some (Run request)) P all = tt
+for_replay (Some (Replay request)) P all = all request
+for_replay (Some (Serve request)) P all = tt
+for_replay (Some (Send request)) P all = tt
+for_replay (Some (Drill n)) P all = tt
+for_replay (Some (Help topic)) P all = tt
+for_replay (Some Version) P all = tt
+
+pub for_send : (o : Option Request) (P : SendWords → Type 0) → ((request : SendWords) → P request) → ForSend o P
+for_send None P all = tt
+for_send (Some (Run request)) P all = tt
+for_send (Some (Replay request)) P all = tt
+for_send (Some (Serve request)) P all = tt
+for_send (Some (Send request)) P all = all request
+for_send (Some (Drill n)) P all = tt
+for_send (Some (Help topic)) P all = tt
+for_send (Some Version) P all = tt
