@@ -8,6 +8,7 @@ ghost use Rattle.breakpoints.specs.Hits.{hits_in, stands_at};
 ghost use Rattle.breakpoints.specs.Ids.{place_id, url_id};
 ghost use Rattle.breakpoints.specs.Resolving.{resolved_at, resolved_by_url};
 
+use crate::added::{AddedAt, AddedByUrl};
 use crate::breakpoint::Breakpoint;
 use crate::fault::AddFault;
 use crate::hits::Hits;
@@ -101,8 +102,9 @@ impl Breakpoints {
         Ok(())
     }
 
-    /// Sets a breakpoint at a position of the scripts of a URL, and answers where it resolved: in each of them that has a
-    /// break location at the position or behind it, in the order of the scripts. The spots are those of the scripts.
+    /// Sets a breakpoint at a position of the scripts of a URL, and answers its id and where it resolved: in each of
+    /// them that has a break location at the position or after it, in the order of the scripts. The spots are those of
+    /// the scripts.
     ///
     /// # Errors
     ///
@@ -114,22 +116,26 @@ impl Breakpoints {
         url: &[u16],
         pos: Pos,
         condition: Option<Units>,
-    ) -> Result<Vec<Place>, AddFault>
+    ) -> Result<AddedByUrl, AddFault>
         requires { spots.now ≡ map break_locations scripts.now }
-        ensures places { IfOk result (λ places. places.items ≡ resolved_by_url url.now pos scripts.now) }
+        ensures id { IfOk result (λ added. added.id ≡ url_id pos url.now) }
+        ensures places { IfOk result (λ added. added.places.items ≡ resolved_by_url url.now pos scripts.now) }
         ensures answers { Answers (fault_of (url_id pos url.now) self.old) result }
         ensures added { OnOk result (self.new ≡ with_breakpoint (breakpoint_of (url_id pos url.now) condition (resolved_by_url url.now pos scripts.now)) self.old) }
         ensures kept { OnErr result (self.new ≡ self.old) }
     {
         let places = resolve_by_url(self.alloc, scripts, spots, url, pos)?;
-        let answer = places.clone()?;
         let id = url_id(self.alloc, pos, url)?;
+        let added = AddedByUrl {
+            id: id.clone()?,
+            places: places.clone()?,
+        };
         self.add(id, condition, Places::from_vec(places))?;
-        Ok(answer)
+        Ok(added)
     }
 
-    /// Sets a breakpoint at a place of one script, and answers where it resolved: the first break location of the script
-    /// that isn't before it. The spots are those of the scripts.
+    /// Sets a breakpoint at a place of one script, and answers its id and where it resolved: the first break location
+    /// of the script that isn't before it. The spots are those of the scripts.
     ///
     /// # Errors
     ///
@@ -141,11 +147,12 @@ impl Breakpoints {
         spots: &ScriptSpots,
         place: Place,
         condition: Option<Units>,
-    ) -> Result<Place, AddFault>
+    ) -> Result<AddedAt, AddFault>
         requires { spots.now ≡ map break_locations scripts.now }
-        ensures place { IfOk result (λ p. resolved_at place scripts.now ≡ Some p) }
+        ensures id { IfOk result (λ added. added.id ≡ place_id place) }
+        ensures place { IfOk result (λ added. resolved_at place scripts.now ≡ Some added.place) }
         ensures answers { Answers (fault_at place scripts.now self.old) result }
-        ensures added { IfOk result (λ p. self.new ≡ with_breakpoint (breakpoint_of (place_id place) condition (p ∷ [])) self.old) }
+        ensures added { IfOk result (λ added. self.new ≡ with_breakpoint (breakpoint_of (place_id place) condition (added.place ∷ [])) self.old) }
         ensures kept { OnErr result (self.new ≡ self.old) }
     {
         let Some(resolved) = resolve_at(scripts, spots, place) else {
@@ -153,8 +160,12 @@ impl Breakpoints {
         };
         let places = vec![in self.alloc; resolved]?;
         let id = place_id(self.alloc, place)?;
+        let added = AddedAt {
+            id: id.clone()?,
+            place: resolved,
+        };
         self.add(id, condition, Places::from_vec(places))?;
-        Ok(resolved)
+        Ok(added)
     }
 
     /// Removes the breakpoint of an id, and answers whether there was one.

@@ -8,7 +8,7 @@ use cdp_text::units::{Units, ascii};
 use std::alloc::{AllocError, Global};
 
 /// The id of a breakpoint at a position of the scripts of a URL.
-pub fn url_id(alloc: Global, pos: Pos, url: &[u16]) -> Result<Units, AllocError>
+pub(crate) fn url_id(alloc: Global, pos: Pos, url: &[u16]) -> Result<Units, AllocError>
     ensures { IfOk result (λ id. id ≡ url_id pos url.now) }
 {
     let (line, col) = (pos.line, pos.col);
@@ -19,7 +19,7 @@ pub fn url_id(alloc: Global, pos: Pos, url: &[u16]) -> Result<Units, AllocError>
 }
 
 /// The id of a breakpoint at a place of one script.
-pub fn place_id(alloc: Global, place: Place) -> Result<Units, AllocError>
+pub(crate) fn place_id(alloc: Global, place: Place) -> Result<Units, AllocError>
     ensures { IfOk result (λ id. id ≡ place_id place) }
 {
     let (line, col, script) = (place.pos.line, place.pos.col, place.script);

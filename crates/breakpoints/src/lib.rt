@@ -12,6 +12,7 @@
 //! - *spots*: the break locations of a script, in order
 #![tactic(auto)]
 
+mod added;
 mod breakpoint;
 mod breakpoints;
 mod fault;
@@ -25,9 +26,9 @@ mod resolving;
 mod script_spots;
 
 pub use crate::breakpoints::Breakpoints;
+pub use added::{AddedAt, AddedByUrl};
 pub use breakpoint::Breakpoint;
 pub use fault::AddFault;
 pub use hits::Hits;
-pub use ids::{place_id, url_id};
 pub use places::Places;
 pub use script_spots::ScriptSpots;

@@ -7,6 +7,7 @@ pub mod StandingLemmas
 pub mod DebuggeeLemmas
 pub mod SeatLemmas
 pub mod WatchLemmas
+pub mod FlagLemmas
 pub mod StateLemmas
 pub mod StartLemmas
 pub mod AdvanceLemmas

@@ -1,11 +1,11 @@
 -- What a step tells, and what became of a text, as the code holds it.
-use Rattle.std.specs.Prelude.{◌≡◌, ℕ, ◌-◌, List, true, false, Option}
+use Rattle.std.specs.Prelude.{◌≡◌, ℕ, ◌-◌, List, [], ◌∷◌, Bool, true, false, Option}
 use Rattle.std.specs.Option.{option_map}
 use Rattle.cdp_host_isolation.specs.Seats.{put}
 use Rattle.cdp_host_isolation.specs.declared.seat.Loss.{Loss}
 use Rattle.cdp_host_isolation.specs.declared.seat.Loss.TheVariants.{Overrun, Memory}
 use Rattle.cdp_host_isolation.specs.declared.seat.Seat.{Seat}
-use Rattle.cdp_host_isolation.specs.declared.seat.Seat.TheVariants.{Attached, Left}
+use Rattle.cdp_host_isolation.specs.declared.seat.Seat.TheVariants.{Attached, Lost, Left}
 use Rattle.js_heap.specs.declared.value.Value.{Value}
 use Rattle.js_tree.specs.declared.script.Script.{Script}
 use Rattle.js_semantics.specs.Run.{Run}
@@ -17,7 +17,7 @@ use Rattle.cdp_session.specs.Replies.{AnsweredText}
 use Rattle.cdp_session.specs.Sessions.{Session}
 use Rattle.cdp_session.specs.Situations.{Standing}
 use Rattle.cdp_host.specs.Programs.{nexts, prints_next}
-use Rattle.cdp_host.specs.Steps.{Step}
+use Rattle.cdp_host.specs.Steps.{Step, names_stop}
 use Rattle.cdp_host.specs.declared.stretch.Stretch.{Stretch}
 use Rattle.cdp_host.specs.declared.telling.Answered.{Answered}
 use Rattle.cdp_host.specs.declared.telling.Answered.TheVariants.{Kept, Overran, Failed}
@@ -47,6 +47,20 @@ step_held s t =
 -- what a step tells of a program that is lent to the session
 abbrev pub step_seen : {P : Type 0} → (P → Standing) → Held P → HeldStep → Step
 step_seen standing s t = step_held (standing s.program.now) t
+
+-- ---- who named it
+
+-- the session that is attached there, if it isn't flagged, names no stop
+abbrev pub IsFlagged : Step → Seat Session → Bool → Type 0
+IsFlagged t (Attached x) flag = flag ≡ false → names_stop t x ≡ false
+IsFlagged t (Lost loss is_reported is_told) flag = Unit {0}
+IsFlagged t Left flag = Unit {0}
+
+-- so of all seats, with their flags
+abbrev pub AreFlagged : Step → List (Seat Session) → List Bool → Type 0
+AreFlagged t [] flags = Unit {0}
+AreFlagged t (seat ∷ seats) [] = ⊥
+AreFlagged t (seat ∷ seats) (flag ∷ flags) = IsFlagged t seat flag × AreFlagged t seats flags
 
 -- ---- losses
 

@@ -9,17 +9,17 @@ ghost use Rattle.cdp_host_isolation.specs.Runs.{AllFit};
 ghost use Rattle.cdp_host_isolation.specs.Texts.{Fits};
 ghost use Rattle.cdp_session_messages.specs.Outboxes.{fits};
 ghost use Rattle.cdp_session.specs.Situations.{seen};
+ghost use Rattle.cdp_session.specs.Stops.{cause_of};
 ghost use Rattle.cdp_host.specs.Protocols.{protocol};
 ghost use Rattle.cdp_host.specs.Steps.{end_told, is_started, names_stop, print_told, session_behind, told};
-ghost use Rattle.cdp_host.specs.Watching.{step_seen};
+ghost use Rattle.cdp_host.specs.Watching.{step_seen, AreFlagged, IsFlagged};
 
 use crate::seats::lost_by;
 use cdp_host_isolation::Seat;
-use cdp_session::{Ending, Program, Session, Situation};
+use cdp_session::{Ending, Named, Program, Session, Situation};
 use cdp_session_messages::SessionEnd;
 use js_heap::value::Value;
-use std::alloc::AllocError;
-use stepping::Arrival;
+use stepping::{Arrival, Cause};
 
 /// What a step tells of its program.
 #[derive(Drop)]
@@ -105,21 +105,17 @@ fn is_started<P: Program>(session: &Session, situation: &Situation<'_, P>, step:
     step.first && session.enabled() && !situation.program.is_over()
 }
 
-/// Whether a rule of the session or the start rule names a stop behind the step.
-///
-/// # Errors
-///
-/// There is no memory for the evaluation of a condition. The session is to be dropped.
+/// Whether a rule of the session, which is this cause, or the start rule names a stop after the step.
 fn names_stop<P: Program>(
-    session: &mut Session,
+    cause: Option<Cause>,
+    session: &Session,
     situation: &Situation<'_, P>,
     step: &Step,
-) -> Result<bool, AllocError>
-    ensures named { IfOk result (λ named. named ≡ names_stop (step_seen P.standing situation.now step.now) session.old) }
-    ensures kept { OnOk result (session.new ≡ session.old) }
+) -> bool
+    requires { cause ≡ cause_of (seen P.standing situation.now).standing step.now.arrival session.now }
+    ensures { result ≡ names_stop (step_seen P.standing situation.now step.now) session.now }
 {
-    let cause = session.names(situation, &step.arrival)?;
-    Ok(cause.is_some() || is_started(session, situation, step))
+    cause.is_some() || is_started(session, situation, step)
 }
 
 /// Tells a session of a step, and of the stop of this number where it names one; answers whether it names one.
@@ -141,11 +137,12 @@ fn watch<P: Program>(
     ensures over { IsErrOf result SessionEnd.Overrun → fits (session_behind (seen P.standing situation.now) number moment (step_seen P.standing situation.now step.now) session.old).outbox ≡ false }
 {
     tell_step(session, situation, step, moment)?;
-    let named = names_stop(session, situation, step)?;
+    let Named { cause, hits } = session.names(situation, &step.arrival)?;
+    let named = names_stop(cause, session, situation, step);
     if !named {
         return Ok(false);
     }
-    session.stopped(situation, number, &step.arrival)?;
+    session.stopped(situation, number, &step.arrival, hits)?;
     Ok(true)
 }
 
@@ -222,13 +219,14 @@ fn stop_seat<P: Program>(
 )
     requires going { situation.now.paused ≡ None }
     requires fit { Fits (protocol situation.now.scripts.now) seat.old }
+    requires unnamed { IsFlagged (step_seen P.standing situation.now step.now) seat.old named }
     ensures { HearsOf (protocol situation.now.scripts.now) number (step_seen P.standing situation.now step.now) seat.old seat.new named }
 {
     if named {
         return;
     }
     if let Seat::Attached(session) = seat {
-        if let Err(end) = session.stopped(situation, number, &step.arrival) {
+        if let Err(end) = session.stopped_by_another(situation, number, &step.arrival) {
             *seat = lost_by(end);
         }
     }
@@ -245,6 +243,7 @@ fn stop_all<P: Program>(
     requires going { situation.now.paused ≡ None }
     requires fit { AllFit (protocol situation.now.scripts.now) seats.old }
     requires flags { length named.now ≡ length seats.old }
+    requires unnamed { AreFlagged (step_seen P.standing situation.now step.now) seats.old named.now }
     ensures { Over (HearsOf (protocol situation.now.scripts.now) number (step_seen P.standing situation.now step.now)) seats.old seats.new named.now }
 {
     for index in 0..seats.len() {

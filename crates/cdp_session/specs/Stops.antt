@@ -1,5 +1,5 @@
 -- By which rule a session names a stop, and what a stop and a resume do to it.
-use Rattle.std.specs.Prelude.{ℕ, List, [], Bool, false, map, is_some, if◌then◌else◌, Option, Some, None}
+use Rattle.std.specs.Prelude.{◌≡◌, ℕ, List, [], Bool, true, false, map, is_some, if◌then◌else◌, Option, Some, None}
 use Rattle.cdp_text.specs.declared.position.Place.{Place}
 use Rattle.stepping.specs.declared.arrival.Arrival.{Arrival}
 use Rattle.stepping.specs.declared.cause.Cause.{Cause}
@@ -29,6 +29,10 @@ cause_of s a x = first_cause x.rules a (is_some_hit (hits_of s a x))
 -- the ids of those that are hit; none where the session skips pauses
 abbrev pub hit_ids : Standing → Arrival → Session → List (List ℕ)
 hit_ids s a x = if x.rules.skip then [] else map id_of (hits_of s a x)
+
+-- these are the ids of those that are hit, for a session that has the debugger enabled
+abbrev pub AreHits : Standing → Arrival → Session → List (List ℕ) → Type 0
+AreHits s a x ids = x.rules.enabled ≡ true → ids ≡ hit_ids s a x
 
 -- ---- where a session may name a stop
 

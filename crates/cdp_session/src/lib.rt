@@ -26,6 +26,7 @@ mod ends;
 mod evaluating;
 mod finding;
 mod found;
+mod named;
 mod objects;
 mod pausing;
 mod program;
@@ -38,6 +39,7 @@ mod sources;
 
 pub use asks::Asks;
 pub use ending::Ending;
+pub use named::Named;
 pub use program::{Program, ProgramCells};
 pub use session::Session;
 pub use situation::{Pause, Situation};

@@ -21,7 +21,7 @@ use crate::session::Session;
 use crate::showing::detail_of;
 use crate::situation::{Pause, Situation};
 use crate::sources::EvaluatedTexts;
-use breakpoints::{AddFault, Breakpoints, place_id, url_id};
+use breakpoints::{AddFault, AddedAt, AddedByUrl, Breakpoints};
 use cdp_json::params::{ExceptionPauses, Location, Params};
 use cdp_json::parts::nothing;
 use cdp_json::refusal::Refusal;
@@ -265,7 +265,6 @@ impl Session {
         ensures made { Makes result self.new (rows.add_by_url (seen P.standing situation.now) self.old url position condition) }
         ensures kept { KeepsIfRefused result self.old self.new }
     {
-        let id = url_id(self.alloc, position, url.as_slice())?;
         match self.breakpoints.add_by_url(
             situation.scripts,
             situation.spots,
@@ -273,7 +272,7 @@ impl Session {
             position,
             condition,
         ) {
-            Ok(places) => {
+            Ok(AddedByUrl { id, places }) => {
                 let answer = set_by_url(self.alloc, id, &places)?;
                 Ok(answering(self.alloc, answer))
             }
@@ -315,12 +314,16 @@ impl Session {
         ensures made { Makes result self.new (rows.adds_at self.old place condition (resolved_at place situation.now.scripts.now)) }
         ensures kept { KeepsIfRefused result self.old self.new }
     {
-        let id = place_id(self.alloc, place)?;
         match self
             .breakpoints
             .add_at(situation.scripts, situation.spots, place, condition)
         {
-            Ok(resolved) => {
+            Ok(
+                AddedAt {
+                    id,
+                    place: resolved,
+                },
+            ) => {
                 let answer = set_at(self.alloc, id, resolved)?;
                 Ok(answering(self.alloc, answer))
             }

@@ -1,6 +1,6 @@
 //! A session: what it keeps, by which rule it names a stop, and how it answers a text.
 
-ghost use Rattle.std.specs.Prelude.{◌≡◌, ◌<◌, ◌≤◌, ◌^◌, ◌∷◌, [], ◌++◌, List, true, false, map, IfOk, OnOk, IsErrOf, option_to_list, string_bytes, if◌then◌else◌};
+ghost use Rattle.std.specs.Prelude.{◌≡◌, ◌<◌, ◌≤◌, ◌^◌, ◌∷◌, [], ◌++◌, List, true, false, map, IfOk, OnOk, IsErrOf, option_to_list, string_bytes, is_some};
 ghost use Rattle.cdp_session.specs.Situations.{HasSpots, seen};
 ghost use Rattle.cdp_session.specs.Sessions.{emptied, fresh, holding, is_silent, sent, with_exception, with_handles};
 ghost use Rattle.cdp_session_messages.specs.Outboxes.{fits};
@@ -9,7 +9,7 @@ ghost use Rattle.breakpoints.specs.declared.breakpoint.Breakpoint.{Breakpoint};
 ghost use Rattle.stepping.specs.Causes.{first_cause};
 ghost use Rattle.cdp_session.specs.Conditions.{is_some_hit};
 ghost use Rattle.cdp_session_messages.specs.Results.{resumed_text};
-ghost use Rattle.cdp_session.specs.Stops.{cause_of, hits_of, may_be_hit, may_name, resumed, stop_told, stopped};
+ghost use Rattle.cdp_session.specs.Stops.{AreHits, cause_of, hit_ids, hits_of, may_be_hit, may_name, resumed, stop_told, stopped};
 ghost use Rattle.cdp_session.specs.Consoles.{printed};
 ghost use Rattle.cdp_session.specs.Endings.{ended, ending_told};
 ghost use Rattle.cdp_session.specs.Replies.{answer_by, answer_of, comes_to, outcome_by, refusal_of, IsRefused};
@@ -19,6 +19,7 @@ use crate::asks::Asks;
 use crate::conditions::{Condition, ids_hit};
 use crate::done::{Done, Fault};
 use crate::ending::Ending;
+use crate::named::Named;
 use crate::program::Program;
 use crate::refusing::{wants_enabled, wants_pause};
 use crate::situation::Situation;
@@ -128,25 +129,31 @@ impl Session {
         first_cause(&self.rules, arrival, may_be_hit).is_some()
     }
 
-    /// The first rule by which the session names a stop behind a step that leads to this arrival, if one does. The conditions
-    /// of the breakpoints there are evaluated where the program stands; nothing of them is kept.
+    /// What the session finds of a step that leads to this arrival: the first rule by which it names a stop, if one
+    /// does, and the breakpoints that are hit. Their conditions are evaluated where the program stands, once; nothing
+    /// of them is kept. A silent session evaluates none.
     ///
     /// # Errors
     ///
-    /// There is no memory for an evaluation. The session is to be dropped.
+    /// There is no memory for an evaluation or for the ids. The session is to be dropped.
     pub fn names<P: Program>(
         &mut self,
         situation: &Situation<'_, P>,
         arrival: &Arrival,
-    ) -> Result<Option<Cause>, AllocError>
-        ensures cause { IfOk result (λ cause. cause ≡ cause_of (seen P.standing situation.now).standing arrival.now self.old) }
+    ) -> Result<Named, AllocError>
+        ensures cause { IfOk result (λ named. named.cause ≡ cause_of (seen P.standing situation.now).standing arrival.now self.old) }
+        ensures hits { IfOk result (λ named. AreHits (seen P.standing situation.now).standing arrival.now self.old named.hits.items) }
         ensures kept { OnOk result (self.new ≡ self.old) }
     {
         if self.is_silent() {
-            return Ok(None);
+            return Ok(Named {
+                cause: None,
+                hits: Vec::new(self.alloc),
+            });
         }
         let hits = self.ids_hit(situation, arrival)?;
-        Ok(self.cause_with(arrival, &hits))
+        let cause = self.cause_with(arrival, &hits);
+        Ok(Named { cause, hits })
     }
 
     /// The first rule by which the session names a stop, where these breakpoints of it are hit.
@@ -203,35 +210,25 @@ impl Session {
         Ok(())
     }
 
-    /// The ids of hit breakpoints that the session is told of: none where it skips pauses.
-    fn unless_skipped(&self, hits: Vec<Units>) -> Vec<Units>
-        ensures { result.items ≡ (if self.now.rules.skip then [] else hits.items) }
-    {
-        if self.rules.skip {
-            Vec::new(self.alloc)
-        } else {
-            hits
-        }
-    }
-
-    /// The event that tells of the stop of this number. The objects that it names are held from then on.
+    /// The event that tells of the stop of this number, at these breakpoints. The objects that it names are held from
+    /// then on.
     fn stop_told<P: Program>(
         &mut self,
         situation: &Situation<'_, P>,
         number: u64,
         arrival: &Arrival,
+        hits: Vec<Units>,
     ) -> Result<String, AllocError>
+        requires { hits.items ≡ hit_ids (seen P.standing situation.now).standing arrival.now self.old }
         ensures made { IfOk result (λ text. string_bytes text ≡ (stop_told (seen P.standing situation.now) number arrival.now self.old).made) }
         ensures held { OnOk result (self.new ≡ with_handles (stop_told (seen P.standing situation.now) number arrival.now self.old).handles self.old) }
     {
-        let hits = self.ids_hit(situation, arrival)?;
         let cause = self.cause_with(arrival, &hits);
-        let told = self.unless_skipped(hits);
-        self.pause_told(situation, number, told, cause)
+        self.pause_told(situation, number, hits, cause)
     }
 
-    /// The program stopped behind a step that led to this arrival, and the stop has this number: the session's requests end,
-    /// and where it has the debugger enabled it is told.
+    /// The program stopped after a step that led to this arrival, and the stop has this number. The hits are those that
+    /// `names` found there. The session's requests end, and where it has the debugger enabled it is told.
     ///
     /// # Errors
     ///
@@ -241,7 +238,9 @@ impl Session {
         situation: &Situation<'_, P>,
         number: u64,
         arrival: &Arrival,
+        hits: Vec<Units>,
     ) -> Result<(), SessionEnd>
+        requires { AreHits (seen P.standing situation.now).standing arrival.now self.old hits.items }
         ensures session { OnOk result (self.new ≡ stopped (seen P.standing situation.now) number arrival.now self.old) }
         ensures fits { fits self.old.outbox ≡ true → OnOk result (fits (stopped (seen P.standing situation.now) number arrival.now self.old).outbox ≡ true) }
         ensures over { IsErrOf result SessionEnd.Overrun → fits (stopped (seen P.standing situation.now) number arrival.now self.old).outbox ≡ false }
@@ -250,9 +249,30 @@ impl Session {
             self.rules.clear_requests();
             return Ok(());
         }
-        let text = self.stop_told(situation, number, arrival)?;
+        let text = self.stop_told(situation, number, arrival, hits)?;
         self.rules.clear_requests();
         self.send(text)
+    }
+
+    /// Another session stopped the program there. This one named no stop, so none of its breakpoints is hit, and no
+    /// condition is evaluated again. Its requests end, and where it has the debugger enabled it is told.
+    ///
+    /// # Errors
+    ///
+    /// The text doesn't fit behind those that wait, or there is no memory for it. The session is to be dropped.
+    pub fn stopped_by_another<P: Program>(
+        &mut self,
+        situation: &Situation<'_, P>,
+        number: u64,
+        arrival: &Arrival,
+    ) -> Result<(), SessionEnd>
+        requires { is_some (cause_of (seen P.standing situation.now).standing arrival.now self.old) ≡ false }
+        ensures session { OnOk result (self.new ≡ stopped (seen P.standing situation.now) number arrival.now self.old) }
+        ensures fits { fits self.old.outbox ≡ true → OnOk result (fits (stopped (seen P.standing situation.now) number arrival.now self.old).outbox ≡ true) }
+        ensures over { IsErrOf result SessionEnd.Overrun → fits (stopped (seen P.standing situation.now) number arrival.now self.old).outbox ≡ false }
+    {
+        let none = Vec::new(self.alloc);
+        self.stopped(situation, number, arrival, none)
     }
 
     /// Whether the event of a resume may wait behind the other texts.

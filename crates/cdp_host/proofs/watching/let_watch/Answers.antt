@@ -3,12 +3,19 @@ use Rattle.cdp_host_isolation.specs.Passes.{Behind, Over}
 use Rattle.cdp_host_isolation.proofs.PassLemmas.{behind-passed, behind-stopped}
 use Rattle.cdp_host.specs.Protocols.{protocol}
 use Rattle.cdp_host.specs.Watching.{step_seen}
+use Rattle.cdp_host.proofs.FlagLemmas.{watched-flagged}
 use Rattle.cdp_host.proofs.SeatLemmas.{watched-fit}
 use Rattle.cdp_host.proofs.watching.let_watch.Goals as goal
 
 pub stop_all-requires-clause-fit : goal.stop_all-requires-clause-fit
 stop_all-requires-clause-fit g c =
     watched-fit (protocol c.args.situation.now.scripts.now) c.args.number c.args.moment
+    (step_seen g.P.Program.standing c.args.situation.now c.args.step.now)
+    c.args.seats.now c.watch_all-stops.new.seats c.watch_all-stops.new.named c.watch_all-stops.ensures.watched
+
+pub stop_all-requires-clause-unnamed : goal.stop_all-requires-clause-unnamed
+stop_all-requires-clause-unnamed g c =
+    watched-flagged c.args.situation.now.scripts.now c.args.number c.args.moment
     (step_seen g.P.Program.standing c.args.situation.now c.args.step.now)
     c.args.seats.now c.watch_all-stops.new.seats c.watch_all-stops.new.named c.watch_all-stops.ensures.watched
 
