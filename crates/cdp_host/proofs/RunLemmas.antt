@@ -237,20 +237,16 @@ none-settle scripts m none = none-settle-by scripts m (some (is_enabled_seat (pr
 -- ---- a run, and the host behind it
 
 -- a host whose seats were reported, and then settled
-pub settled-as : (a h n : HostState) (scripts : List Script) (news : List (Seat Session)) (t : List (List ℕ))
+pub settled-as : (a h n : HostState) (news : List (Seat Session)) (t : List (List ℕ))
     → a ≡ h
-    → h.scripts ≡ scripts
     → news ≡ each reported a.meaning.seats
     → meaning_with n t ≡ less n.meaning.seats (settle (protocol a.scripts) (with_seats news (meaning_with a t)))
     → meaning_with n t ≡ less n.meaning.seats
-    (settle (protocol scripts) (with_seats (each reported h.meaning.seats) (meaning_with h t)))
-settled-as a h n scripts news t is runs same means =
-    let f : List Script → List (Seat Session) → HostState → Meaning Run =
-    λ ss seats k. less n.meaning.seats (settle (protocol ss) (with_seats seats (meaning_with k t))) in
-    means
-    ∙ ap (λ seats. f a.scripts seats a) same
-    ∙ ap (λ k. f k.scripts (each reported k.meaning.seats) k) is
-    ∙ ap (λ ss. f ss (each reported h.meaning.seats) h) runs
+    (settle (protocol h.scripts) (with_seats (each reported h.meaning.seats) (meaning_with h t)))
+settled-as a h n news t is same means =
+    let f : List (Seat Session) → HostState → Meaning Run =
+    λ seats k. less n.meaning.seats (settle (protocol k.scripts) (with_seats seats (meaning_with k t))) in
+    means ∙ ap (λ seats. f seats a) same ∙ ap (λ k. f (each reported k.meaning.seats) k) is
 
 -- where none fell the host is what it stands for
 pub all-there : (host m : Meaning Run) → host ≡ less host.seats m → fallen_in host.seats ≡ [] → host ≡ m
@@ -398,6 +394,42 @@ ran-nothing scripts moment h most printed taken t none works test stops =
     (ran-longest scripts scripts moment m n most most h.broken t refl
     (ran-none scripts moment h most printed taken none) (omega arith) works test stops)
 
+-- what a run comes to whose losses were reported
+pub reports-run : (old mid new : HostState) (moment most steps : ℕ) (printed : List (List ℕ))
+    (r : Result Made AllocError)
+    → mid.scripts ≡ old.scripts
+    → ((taken : List (List ℕ))
+    → IsLongest (protocol old.scripts) moment most (meaning_with old taken) (meaning_with mid (taken ++ printed)) steps)
+    → ((taken : List (List ℕ))
+    → printed ≡ printed_between (meaning_with old taken).program (meaning_with mid (taken ++ printed)).program)
+    → IfOk r (λ ran. (ran.steps ≡ steps) × (ran.printed.items ≡ printed))
+    → IfOk r (λ ran. ran.lost.items ≡ losses_from 1 mid.meaning.seats)
+    → OnOk r ((taken : List (List ℕ))
+    → meaning_with new taken ≡ less new.meaning.seats
+    (settle (protocol mid.scripts) (with_seats (each reported mid.meaning.seats) (meaning_with mid taken))))
+    → OnOk r (is_paused new.meaning ≡ true → fallen_in new.meaning.seats ≡ [])
+    → IfOk r (λ ran. (taken : List (List ℕ))
+    → RunsTo old.scripts moment most (meaning_with old taken) ran.steps ran.printed.items ran.lost.items
+    (meaning_with new (taken ++ ran.printed.items)))
+reports-run old mid new moment most steps printed (Ok ran) runs longest prints same lost means there = λ taken.
+    let all : List (List ℕ) = taken ++ printed in
+    let f : List Script → Meaning Run = λ ss.
+    less new.meaning.seats
+    (settle (protocol ss) (with_seats (each reported mid.meaning.seats) (meaning_with mid all))) in
+    let P : ℕ → List (List ℕ) → Type 0 = λ k texts.
+    RunsTo old.scripts moment most (meaning_with old taken) k texts ran.lost.items
+    (meaning_with new (taken ++ texts)) in
+    let here : P steps printed = record {
+      middle = meaning_with mid all;
+      longest = longest taken;
+      prints = prints taken;
+      reports = lost;
+      is = means all ∙ ap f runs;
+      all_there = there;
+    } in
+    subst (λ k. P k ran.printed.items) (sym same.0) (subst (P steps) (sym same.1) here)
+reports-run old mid new moment most steps printed (Err error) runs longest prints same lost means there = tt
+
 -- the list of the losses is made behind a step, or where a loss waited before
 pub listed-by : (old mid : HostState) (A : Type 0) (P : A → Type 0)
     → (mid ≡ old) ⊎ ((a : A) → P a)
@@ -411,6 +443,11 @@ listed-by old mid A P (inr more) waits a = inl (more a)
 pub on-error : {A E : Type 0} (r : Result A E) (P Q : Type 0) → (P → Q) → OnErr r P → OnErr r Q
 on-error (Ok value) P Q leads holds = tt
 on-error (Err error) P Q leads holds = leads holds
+
+-- what holds then of one answer holds of a weaker one
+pub on-made : {A E : Type 0} (r : Result A E) (P Q : Type 0) → (P → Q) → OnOk r P → OnOk r Q
+on-made (Ok value) P Q leads holds = leads holds
+on-made (Err error) P Q leads holds = tt
 
 pub keeps-none : (h : HostState) → KeepsFallback h h
 keeps-none h = record { fallback = refl; fallen = refl }

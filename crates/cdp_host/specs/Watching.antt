@@ -18,16 +18,11 @@ use Rattle.cdp_session.specs.Sessions.{Session}
 use Rattle.cdp_session.specs.Situations.{Standing}
 use Rattle.cdp_host.specs.Programs.{nexts, prints_next}
 use Rattle.cdp_host.specs.Steps.{Step, names_stop}
-use Rattle.cdp_host.specs.declared.stretch.Stretch.{Stretch}
 use Rattle.cdp_host.specs.declared.telling.Answered.{Answered}
 use Rattle.cdp_host.specs.declared.telling.Answered.TheVariants.{Kept, Overran, Failed}
 use Rattle.cdp_host.specs.declared.watching.Step.{Step as HeldStep}
 
 -- ---- steps
-
--- values that were printed, if any were
-abbrev pub values_held : Stretch → Option (List Value)
-values_held s = option_map (λ vs. vs.items) s.values
 
 -- the values that the last of so many steps prints, if it prints
 abbrev pub prints_last : List Script → ℕ → Run → Option (List Value)

@@ -16,14 +16,12 @@ ghost use Rattle.js_machine_engine.specs.Prints.{PrintsAs};
 ghost use Rattle.cdp_host.specs.Hosts.{beside, beside_behind, machine_arrival, machine_run, machine_step, AreLines};
 ghost use Rattle.cdp_host.specs.Programs.{code_of, is_over};
 ghost use Rattle.cdp_host.specs.Protocols.{protocol};
-ghost use Rattle.cdp_host.specs.Ran.{may_stop, may_stop_seat, Advances, IsStretch};
-ghost use Rattle.cdp_host.specs.Watching.{prints_last, values_held};
+ghost use Rattle.cdp_host.specs.Ran.{may_stop, may_stop_seat, IsStretch};
 
 use crate::arrival::{arrival_at, arrival_of};
 use crate::debuggee::Debuggee;
 use crate::endings::ending_of;
 use crate::stops::next_number;
-use crate::stretch::Stretch;
 use crate::watching::{Step, let_watch};
 use breakpoints::ScriptSpots;
 use cdp_host_isolation::Seat;
@@ -146,37 +144,6 @@ fn printed_values(why: Why) -> Option<Vec<Value>>
     }
 }
 
-/// Makes steps until a rule of a session may name a stop, until a raise, a print or the end, or until so many are made.
-/// Where there is no memory for one of them, the machine is given up.
-fn run_machine(
-    machine: &mut Machine,
-    heap: &mut BaseHeap,
-    scripts: &[Script],
-    lines: &[LineTable],
-    seats: &[Seat<Session>],
-    most: u64,
-) -> Stretch
-    requires going { machine.old.ended ≡ None }
-    requires runs { (taken : List (List ℕ)) → is_over (machine_run machine.old heap.old taken) ≡ false }
-    requires code { program_of machine.old ≡ code_of scripts.now }
-    requires lines { AreLines scripts.now lines.now }
-    requires some { 0 < most }
-    ensures advances { IsKept machine.new.ended → (taken : List (List ℕ)) → Advances scripts.now seats.now most result.steps (machine_run machine.old heap.old taken) (machine_run machine.new heap.new taken) }
-    ensures prints { IsKept machine.new.ended → (taken : List (List ℕ)) → values_held result ≡ prints_last scripts.now result.steps (machine_run machine.old heap.old taken) }
-    ensures code { HasSameCode machine.old machine.new }
-{
-    let watch = Watch {
-        scripts,
-        lines,
-        seats,
-    };
-    let StoppedRun { steps, why } = machine.run(heap, most, &watch);
-    Stretch {
-        steps,
-        values: printed_values(why),
-    }
-}
-
 /// Whether a machine was given up.
 fn is_lost(machine: &Machine) -> bool
     ensures kept { result ≡ false → IsKept machine.now.ended }
@@ -188,67 +155,6 @@ fn is_lost(machine: &Machine) -> bool
         Some(End::Full(_)) => false,
         Some(End::Lost) => true,
     }
-}
-
-/// Makes steps, at least one, until a rule of a session may name a stop, until a raise, a print or the end, or until so many
-/// are made.
-///
-/// # Errors
-///
-/// There is no memory for a step. The machine is given up.
-fn make_steps(
-    machine: &mut Machine,
-    heap: &mut BaseHeap,
-    scripts: &[Script],
-    lines: &[LineTable],
-    seats: &[Seat<Session>],
-    most: u64,
-) -> Result<Stretch, AllocError>
-    requires going { machine.old.ended ≡ None }
-    requires runs { (taken : List (List ℕ)) → is_over (machine_run machine.old heap.old taken) ≡ false }
-    requires code { program_of machine.old ≡ code_of scripts.now }
-    requires lines { AreLines scripts.now lines.now }
-    requires some { 0 < most }
-    ensures advances { IfOk result (λ made. (taken : List (List ℕ)) → Advances scripts.now seats.now most made.steps (machine_run machine.old heap.old taken) (machine_run machine.new heap.new taken)) }
-    ensures prints { IfOk result (λ made. (taken : List (List ℕ)) → values_held made ≡ prints_last scripts.now made.steps (machine_run machine.old heap.old taken)) }
-    ensures kept { OnOk result (IsKept machine.new.ended) }
-    ensures code { HasSameCode machine.old machine.new }
-{
-    let made = run_machine(machine, heap, scripts, lines, seats, most);
-    if is_lost(machine) {
-        return Err(AllocError);
-    }
-    Ok(made)
-}
-
-/// Makes steps as `make_steps` does, and puts the texts that they print after the other texts.
-///
-/// # Errors
-///
-/// There is no memory for a step or for the list of texts.
-fn make_steps_and_print(
-    machine: &mut Machine,
-    heap: &mut BaseHeap,
-    scripts: &[Script],
-    lines: &[LineTable],
-    seats: &[Seat<Session>],
-    most: u64,
-    printed: &mut Vec<Units>,
-) -> Result<Stretch, AllocError>
-    requires going { machine.old.ended ≡ None }
-    requires runs { (taken : List (List ℕ)) → is_over (machine_run machine.old heap.old taken) ≡ false }
-    requires code { program_of machine.old ≡ code_of scripts.now }
-    requires lines { AreLines scripts.now lines.now }
-    requires some { 0 < most }
-    ensures advances { IfOk result (λ made. (taken : List (List ℕ)) → Advances scripts.now seats.now most made.steps (machine_run machine.old heap.old (taken ++ printed.old.items)) (machine_run machine.new heap.new (taken ++ printed.new.items))) }
-    ensures prints { IfOk result (λ made. (taken : List (List ℕ)) → values_held made ≡ prints_last scripts.now made.steps (machine_run machine.old heap.old taken)) }
-    ensures kept { OnOk result (IsKept machine.new.ended) }
-    ensures handed { OnOk result (machine.new.context.printed ≡ []) }
-    ensures code { HasSameCode machine.old machine.new }
-{
-    let made = make_steps(machine, heap, scripts, lines, seats, most)?;
-    printed.append(&mut machine.take_printed())?;
-    Ok(made)
 }
 
 /// Lets all sessions watch the step that led a machine to where it is, and that printed these values; the stop that one of them
@@ -317,7 +223,7 @@ fn most_of(first: bool, most: u64) -> u64
 /// # Errors
 ///
 /// There is no memory for a step. The machine is given up.
-pub(crate) fn advance(
+pub(crate) fn make_stretch(
     machine: &mut Machine,
     heap: &mut BaseHeap,
     scripts: &[Script],
@@ -351,9 +257,17 @@ pub(crate) fn advance(
     ensures code { HasSameCode machine.old machine.new }
 {
     let most = most_of(first, most);
-    let Stretch { steps, values } = make_steps_and_print(
-        machine, heap, scripts, lines, seats, most, printed,
-    )?;
+    let watch = Watch {
+        scripts,
+        lines,
+        seats: &*seats,
+    };
+    let StoppedRun { steps, why } = machine.run(heap, most, &watch);
+    let values = printed_values(why);
+    if is_lost(machine) {
+        return Err(AllocError);
+    }
+    printed.append(&mut machine.take_printed())?;
     let number = next_number(stops);
     let stopped = watch_machine(
         machine, heap, scripts, lines, spots, number, moment, first, values, seats, named,

@@ -5,10 +5,10 @@
 
 ghost use Rattle.std.specs.Prelude.{◌≡◌, ◌++◌, ◌∷◌, ◌+◌, ◌&&◌, ◌||◌, ◌<◌, ◌^◌, [], not, ℕ, List, Bool, IfOk, OnOk, OnErr, IsErr, map, length, string_bytes, true, false, nat_lt, Option, ◌⊎◌};
 ghost use Rattle.cdp_host_isolation.specs.Histories.{Entry, Attach, Tell, Take, Detach, Ran as RanEntry, Shut, asked, waiting, with_seat};
-ghost use Rattle.cdp_host_isolation.specs.Meanings.{is_enabled_seat, is_held, is_paused, is_ready, longest, resume, settle, waits};
+ghost use Rattle.cdp_host_isolation.specs.Meanings.{is_enabled_seat, is_held, is_paused, is_ready, longest, resume, settle, waits, with_seats};
 ghost use Rattle.cdp_host_isolation.specs.Runs.{HasMade, IsLongest};
-ghost use Rattle.cdp_host_isolation.specs.Seats.{is_attached, each, fallen, seat_of, some, waits_for_report};
-ghost use Rattle.cdp_host_isolation.specs.Standing.{broken_seat, fell, less};
+ghost use Rattle.cdp_host_isolation.specs.Seats.{is_attached, each, fallen, reported, seat_of, some, waits_for_report};
+ghost use Rattle.cdp_host_isolation.specs.Standing.{broken_seat, fallen_in, fell, less};
 ghost use Rattle.cdp_host_isolation.specs.declared.seat.Seat.TheVariants.{Attached};
 ghost use Rattle.js_tree.specs.declared.script.Script.{Script as AnyScript};
 ghost use Rattle.locations.specs.Locations.{break_locations};
@@ -30,7 +30,7 @@ ghost use Rattle.cdp_host.specs.Ran.{IsStretch};
 ghost use Rattle.cdp_host.specs.Rules.{printed_between};
 ghost use Rattle.cdp_host.specs.Watching.{AnswersIn};
 
-use crate::advance::{Advanced, advance};
+use crate::advance::{Advanced, make_stretch};
 use crate::debuggee::{Debuggee, is_over};
 use crate::lines::lines_of_all;
 use crate::seats::{resume_all, some_enabled};
@@ -506,23 +506,27 @@ impl<'p> Host<'p> {
             });
         }
         self.prepare();
-        self.try_run(n, moment)
+        let made = self.make_steps(n, moment)?;
+        self.report(made)
     }
 
-    /// A run of a host that works: its steps, and the losses that it reports. After an error the host fell back.
-    fn try_run(&mut self, n: u64, moment: u64) -> Result<Ran, AllocError>
-        requires moment { moment < 2 ^ 53 }
-        requires works { self.old.broken ≡ false }
-        ensures runs { IfOk result (λ ran. (taken : List (List ℕ))
-            → RunsTo self.old.scripts moment n (meaning_with self.old taken) ran.steps ran.printed.items ran.lost.items (meaning_with self.new (taken ++ ran.printed.items))) }
+    /// Reports the losses after the steps of a run, and lets a paused program go on where no session has the debugger enabled.
+    /// After an error the host fell back.
+    fn report(&mut self, made: Made) -> Result<Ran, AllocError>
+        requires { self.old.broken ≡ false }
+        ensures steps { IfOk result (λ ran. (ran.steps ≡ made.steps) × (ran.printed.items ≡ made.printed.items)) }
+        ensures lost { IfOk result (λ ran. ran.lost.items ≡ losses_from 1 self.old.meaning.seats) }
+        ensures means { OnOk result ((taken : List (List ℕ)) → meaning_with self.new taken
+            ≡ less self.new.meaning.seats (settle (protocol self.old.scripts) (with_seats (each reported self.old.meaning.seats) (meaning_with self.old taken)))) }
+        ensures all_there { OnOk result (is_paused self.new.meaning ≡ true → fallen_in self.new.meaning.seats ≡ []) }
         ensures same { IfOk result (λ ran. self.new.broken ≡ false) }
         ensures scripts { self.new.scripts ≡ self.old.scripts }
         ensures fallen { OnOk result (self.new.fallen ≡ self.old.fallen) }
         ensures handed { OnOk result (self.new.meaning.program.machine.context.printed ≡ []) }
         ensures back { OnErr result (FallsBack self.old self.new) }
-        ensures err_steps { OnErr result ((taken : List (List ℕ)) → (0 < longest (protocol self.old.scripts) moment n (meaning_with self.old taken)) ⊎ (some waits_for_report self.old.meaning.seats ≡ true)) }
+        ensures waits { OnErr result (some waits_for_report self.old.meaning.seats ≡ true) }
     {
-        let Made { steps, printed } = self.make(n, moment)?;
+        let Made { steps, printed } = made;
         match losses_of(self.alloc, self.seats.as_slice()) {
             Ok(lost) => {
                 report_all(self.seats.as_mut_slice());
@@ -540,8 +544,9 @@ impl<'p> Host<'p> {
         }
     }
 
-    /// The steps of a run, without the report of losses. It takes memory only where a step may be made.
-    fn make(&mut self, n: u64, moment: u64) -> Result<Made, AllocError>
+    /// The steps of a run, without the report of losses: goes on while a step may be made. Where none may be it takes no memory;
+    /// else it takes some for a flag of each session.
+    fn make_steps(&mut self, n: u64, moment: u64) -> Result<Made, AllocError>
         requires moment { moment < 2 ^ 53 }
         requires works { self.old.broken ≡ false }
         ensures makes { IfOk result (λ ran. (taken : List (List ℕ)) → IsLongest (protocol self.old.scripts) moment n (meaning_with self.old taken) (meaning_with self.new (taken ++ ran.printed.items)) ran.steps) }
@@ -554,28 +559,11 @@ impl<'p> Host<'p> {
         ensures still { OnOk result ((self.new ≡ self.old) ⊎ ((taken : List (List ℕ)) → 0 < longest (protocol self.old.scripts) moment n (meaning_with self.old taken))) }
         ensures err_steps { OnErr result ((taken : List (List ℕ)) → 0 < longest (protocol self.old.scripts) moment n (meaning_with self.old taken)) }
     {
-        if self.may_step(n) {
-            self.make_steps(n, moment)
-        } else {
-            Ok(Made {
-                steps: 0,
-                printed: Vec::new(self.alloc),
-            })
-        }
-    }
-
-    /// Goes on while a step may be made. It takes memory for a flag of each session, also where none may be.
-    fn make_steps(&mut self, n: u64, moment: u64) -> Result<Made, AllocError>
-        requires moment { moment < 2 ^ 53 }
-        requires works { self.old.broken ≡ false }
-        ensures makes { IfOk result (λ ran. (taken : List (List ℕ)) → IsLongest (protocol self.old.scripts) moment n (meaning_with self.old taken) (meaning_with self.new (taken ++ ran.printed.items)) ran.steps) }
-        ensures printed { IfOk result (λ ran. (taken : List (List ℕ)) → ran.printed.items ≡ printed_between (meaning_with self.old taken).program (meaning_with self.new (taken ++ ran.printed.items)).program) }
-        ensures same { IfOk result (λ ran. self.new.broken ≡ false) }
-        ensures scripts { self.new.scripts ≡ self.old.scripts }
-        ensures keeps { OnOk result (KeepsFallback self.old self.new) }
-        ensures back { OnErr result (FallsBack self.old self.new) }
-    {
         let mut printed = Vec::new(self.alloc);
+        let may_step = self.may_step(n);
+        if !may_step {
+            return Ok(Made { steps: 0, printed });
+        }
         let Ok(mut named) = unset_flags(self.alloc, self.seats.len()) else {
             self.fall_back();
             return Err(AllocError);
@@ -613,7 +601,7 @@ impl<'p> Host<'p> {
         ensures keeps { OnOk result (KeepsFallback self.old self.new) }
         ensures back { OnErr result (FallsBack self.old self.new) }
     {
-        match advance(
+        match make_stretch(
             &mut self.machine,
             &mut self.heap,
             self.scripts,

@@ -21,7 +21,6 @@ pub mod laws;
 mod lines;
 mod seats;
 mod stops;
-mod stretch;
 mod telling;
 mod watching;
 

@@ -11,8 +11,8 @@ use Rattle.cdp_host.proofs.RunLemmas.{advanced, gone-fit}
 use Rattle.cdp_host.proofs.host.Host.advance.Goals as goal
 use Rattle.js_machine.proofs.PlainLemmas.{same_program}
 
-pub advance-requires-clause-going : goal.advance-requires-clause-going
-advance-requires-clause-going c =
+pub make_stretch-requires-clause-going : goal.make_stretch-requires-clause-going
+make_stretch-requires-clause-going c =
     let a = c.self.inside in
     let kept = c.self.invariant.kept (ap (λ h. h.broken) c.self.view_is ∙ c.requires.works) in
     let now = meaning_with c.args.self.now [] in
@@ -20,8 +20,8 @@ advance-requires-clause-going c =
     (ap (λ h. is_over (meaning_with h []).program) c.self.view_is
     ∙ (ready-parts c.args.self.now.scripts now (c.requires.ready [])).1)
 
-pub advance-requires-clause-all_told : goal.advance-requires-clause-all_told
-advance-requires-clause-all_told c =
+pub make_stretch-requires-clause-all_told : goal.make_stretch-requires-clause-all_told
+make_stretch-requires-clause-all_told c =
     let now = meaning_with c.args.self.now [] in
     ap (λ seats. some waits_for_report seats) c.as_mut_slice.ensures.value
     ∙ ap (λ h. some waits_for_report h.meaning.seats) c.self.view_is
@@ -35,7 +35,7 @@ invariant_of-self-in-Err c =
     record {
       lines = c.self.invariant.lines;
       spots = c.self.invariant.spots;
-      code = same_program a.machine c.advance.new.machine c.in-Err.ensures.code ∙ c.self.invariant.code;
+      code = same_program a.machine c.make_stretch.new.machine c.in-Err.ensures.code ∙ c.self.invariant.code;
       handed = λ works. absurd cc;
       kept = λ works. absurd cc;
       quiet = λ works. absurd cc;
@@ -49,13 +49,13 @@ pub returns-in-Ok-clause-made : goal.returns-in-Ok-clause-made
 returns-in-Ok-clause-made c = λ taken.
     let a = c.self.inside in
     let before = taken ++ c.args.printed.now.items in
-    let after = taken ++ c.advance.new.printed.items in
-    let seats : (with_items a.seats c.advance.new.seats).items ≡ c.advance.new.seats =
-    with_items_is a.seats c.advance.new.seats (omega (arith, c.advance.auto.seats, c.as_mut_slice.ensures.len)) in
+    let after = taken ++ c.make_stretch.new.printed.items in
+    let seats : (with_items a.seats c.make_stretch.new.seats).items ≡ c.make_stretch.new.seats =
+    with_items_is a.seats c.make_stretch.new.seats (omega (arith, c.make_stretch.auto.seats, c.as_mut_slice.ensures.len)) in
     advanced _ c.args.self.now a.scripts.now c.args.moment c.in-Ok.field-0.steps c.is_first.result
-    c.as_mut_slice.result.now c.advance.new.seats
-    (with_items a.seats c.advance.new.seats).items before c.in-Ok.field-0.stopped c.pause_behind-self-inside.result
+    c.as_mut_slice.result.now c.make_stretch.new.seats
+    (with_items a.seats c.make_stretch.new.seats).items before c.in-Ok.field-0.stopped c.pause_behind-self-inside.result
     c.stops_behind-self-inside.result
-    (machine_run c.advance.new.machine c.advance.new.heap after)
+    (machine_run c.make_stretch.new.machine c.make_stretch.new.heap after)
     c.self.view_is (c.requires.ready before) refl c.is_first.ensures c.as_mut_slice.ensures.value
     c.pause_behind-self-inside.ensures c.stops_behind-self-inside.ensures seats (c.in-Ok.ensures.made taken)

@@ -1,13 +1,25 @@
-use Rattle.std.proofs.Common.{◌≡◌, [], ◌++◌, length, refl, ap, sym, ◌∙◌, arith}
+use Rattle.std.proofs.Common.{◌≡◌, [], ◌++◌, length, inr, refl, ap, sym, ◌∙◌, arith}
 use Rattle.std.specs.Vec.{with_items}
 use Rattle.std.proofs.lemmas.List.{with_items_is}
 use Rattle.cdp_host_isolation.specs.Meanings.{is_ready}
 use Rattle.cdp_host.specs.Hosts.{meaning_with}
 use Rattle.cdp_host.specs.Protocols.{protocol}
 use Rattle.cdp_host.proofs.StateLemmas.{may-parts}
-use Rattle.cdp_host.proofs.RunLemmas.{falls-from, keeps-more, keeps-none, ran-longest, ran-more, ran-none, ran-prints}
+use Rattle.cdp_host.proofs.RunLemmas.{falls-from, keeps-more, keeps-none, ran-longest, ran-more, ran-none, ran-nothing, ran-prints, some-longest}
 use Rattle.cdp_host.proofs.host.Host.make_steps.Goals as goal
 use Rattle.cdp_text.proofs.TestLemmas.{on-err}
+
+-- ---- where no step may be made
+
+pub returns-then-not-may_step-clause-makes : goal.returns-then-not-may_step-clause-makes
+returns-then-not-may_step-clause-makes c = λ taken.
+    let now = c.args.self.now in
+    let none = c.new-printed.result.items in
+    ran-nothing now.scripts c.args.moment now c.args.n none taken c.may_step-may_step.result c.new-printed.ensures.items
+    c.requires.works (c.may_step-may_step.ensures (taken ++ none)) c.if-not-may_step.true
+
+pub returns-then-not-may_step-clause-keeps : goal.returns-then-not-may_step-clause-keeps
+returns-then-not-may_step-clause-keeps c = keeps-none c.args.self.now
 
 -- ---- the loop
 
@@ -110,7 +122,35 @@ returns-clause-scripts c = c.loop-self.invariant.scripts
 pub returns-clause-keeps : goal.returns-clause-keeps
 returns-clause-keeps c = c.loop-self.invariant.keeps
 
+pub returns-clause-still : goal.returns-clause-still
+returns-clause-still c = inr (λ taken.
+    let now = c.args.self.now in
+    let P = protocol now.scripts in
+    let m = meaning_with now taken in
+    let parts = may-parts c.args.n now.broken (is_ready P m)
+    (sym (c.may_step-may_step.ensures taken) ∙ c.if-not-may_step.false) in
+    some-longest P c.args.moment c.args.n m parts.0 parts.2)
+
 -- ---- where there is no memory
+
+pub returns-in_err-left-clause-err_steps : goal.returns-in_err-left-clause-err_steps
+returns-in_err-left-clause-err_steps c =
+    on-err c.from_residual.result _ (λ taken.
+    let now = c.args.self.now in
+    let P = protocol now.scripts in
+    let m = meaning_with now taken in
+    let parts = may-parts c.args.n now.broken (is_ready P m)
+    (sym (c.may_step-may_step.ensures taken) ∙ c.if-not-may_step.false) in
+    some-longest P c.args.moment c.args.n m parts.0 parts.2)
+
+pub returns-in_default-clause-err_steps : goal.returns-in_default-clause-err_steps
+returns-in_default-clause-err_steps c = λ taken.
+    let now = c.args.self.now in
+    let P = protocol now.scripts in
+    let m = meaning_with now taken in
+    let parts = may-parts c.args.n now.broken (is_ready P m)
+    (sym (c.may_step-may_step.ensures taken) ∙ c.if-not-may_step.false) in
+    some-longest P c.args.moment c.args.n m parts.0 parts.2
 
 pub returns-in_err-left-clause-back : goal.returns-in_err-left-clause-back
 returns-in_err-left-clause-back c =
