@@ -1,5 +1,5 @@
 -- Calls that change one seat, or add one.
-use Rattle.std.proofs.Common.{◌≡◌, ℕ, ◌+◌, List, [], ◌∷◌, ◌++◌, length, take as first, Bool, true, false, refl, ap, sym, subst, ◌∙◌}
+use Rattle.std.proofs.Common.{◌≡◌, ℕ, ◌+◌, List, [], ◌∷◌, ◌++◌, length, take as first, Bool, true, false, Result, Ok, Err, refl, ap, sym, subst, ◌∙◌}
 use Rattle.cdp_host_isolation.specs.Histories.{Attach, Entry, Take, apply, take}
 use Rattle.cdp_host_isolation.specs.Meanings.{with_seats}
 use Rattle.cdp_host_isolation.specs.Runs.{AllFit}
@@ -14,8 +14,11 @@ use Rattle.js_machine.specs.Machines.{Machine}
 use Rattle.locations.specs.declared.spot.Spot.{Spot}
 use Rattle.pure_eval.specs.Workspaces.{Workspace, begun}
 use Rattle.cdp_session_messages.specs.Outboxes.{fits}
+use Rattle.cdp_session_messages.specs.declared.session_end.SessionEnd.{SessionEnd}
+use Rattle.cdp_session_messages.specs.declared.session_end.SessionEnd.TheVariants as ends
 use Rattle.cdp_session.specs.Replies.{AnsweredText}
 use Rattle.cdp_session.specs.Sessions.{Session, emptied, fresh}
+use Rattle.cdp_session.specs.declared.asks.Asks.{Asks}
 use Rattle.cdp_host_seats.specs.Fallbacks.{HasRoom, fallback_held}
 use Rattle.cdp_host_seats.specs.declared.fallback.Fallback.{Fallback}
 use Rattle.cdp_host_seats.specs.declared.losses.SessionLost.{SessionLost}
@@ -24,8 +27,6 @@ use Rattle.cdp_host.specs.Hosts.{CarriesOn, HostState, IsSound, Leaves, NoneAtta
 use Rattle.cdp_host.specs.Programs.{code_of}
 use Rattle.cdp_host.specs.Protocols.{protocol}
 use Rattle.cdp_host.specs.Watching.{AnswersIn}
-use Rattle.cdp_host.specs.declared.telling.Answered.{Answered}
-use Rattle.cdp_host.specs.declared.telling.Answered.TheVariants.{Kept, Overran, Failed}
 use Rattle.cdp_host.proofs.HistoryLemmas.{stands-call}
 use Rattle.cdp_host_isolation.proofs.RoomLemmas.{put-fits, append-fits}
 use Rattle.cdp_host_isolation.proofs.StandingLemmas.{none-append}
@@ -82,15 +83,16 @@ unfolding fits
 nothing-fits = refl
 
 -- the texts that wait fit behind an answer
-pub answer-fit : (scripts : List Script) (w : Answered) (answer : AnsweredText) (s : ℕ) (seats news : List (Seat Session))
+pub answer-fit : (scripts : List Script) (w : Result Asks SessionEnd) (answer : AnsweredText) (s : ℕ)
+    (seats news : List (Seat Session))
     → AnswersIn w answer s seats news
     → AllFit (protocol scripts) seats → AllFit (protocol scripts) news
-answer-fit scripts (Kept asks) answer s seats news is fit =
+answer-fit scripts (Ok asks) answer s seats news is fit =
     subst (AllFit (protocol scripts)) (sym is.0)
     (put-fits (protocol scripts) s (Attached answer.session) seats is.2 fit)
-answer-fit scripts Overran answer s seats news is fit =
+answer-fit scripts (Err ends.Overrun) answer s seats news is fit =
     subst (AllFit (protocol scripts)) (sym is.0) (put-fits (protocol scripts) s Left seats tt fit)
-answer-fit scripts Failed answer s seats news is fit =
+answer-fit scripts (Err ends.Memory) answer s seats news is fit =
     subst (AllFit (protocol scripts)) (sym is) (put-fits (protocol scripts) s Left seats tt fit)
 
 -- and behind a take
@@ -115,19 +117,20 @@ attach-fit scripts x n w seats news is are fit =
 -- ---- seats that were lent
 
 -- what became of a text, where the seats are given back
-pub answers-back : (w : Answered) (answer : AnsweredText) (n s : ℕ) (seats lent news rest : List (Seat Session))
+pub answers-back : (w : Result Asks SessionEnd) (answer : AnsweredText) (n s : ℕ)
+    (seats lent news rest : List (Seat Session))
     → lent ≡ seats
     → n ≡ length lent
     → AnswersIn w answer s lent news → AnswersIn w answer s seats (first n (news ++ rest))
-answers-back (Kept asks) answer n s seats lent news rest same full is = (
+answers-back (Ok asks) answer n s seats lent news rest same full is = (
   put-back n s (Attached answer.session) lent news rest full is.0
       ∙ ap (put s (Attached answer.session)) same,
   is.1,
   is.2,
 )
-answers-back Overran answer n s seats lent news rest same full is =
+answers-back (Err ends.Overrun) answer n s seats lent news rest same full is =
     (put-back n s Left lent news rest full is.0 ∙ ap (put s Left) same, is.1)
-answers-back Failed answer n s seats lent news rest same full is =
+answers-back (Err ends.Memory) answer n s seats lent news rest same full is =
     put-back n s Left lent news rest full is ∙ ap (put s Left) same
 
 pub take-back : (n s : ℕ) (seats lent news rest : List (Seat Session)) → lent ≡ seats → n ≡ length lent

@@ -1,5 +1,5 @@
 -- Calls behind which a paused program may go on: texts, and sessions that leave.
-use Rattle.std.proofs.Common.{◌≡◌, ℕ, List, Bool, true, false, is_some, if◌then◌else◌, refl, ap, sym, ◌∙◌, None}
+use Rattle.std.proofs.Common.{◌≡◌, ℕ, List, Bool, true, false, is_some, if◌then◌else◌, refl, ap, sym, ◌∙◌, None, Ok, Err}
 use Rattle.cdp_host_isolation.specs.Histories.{Detach, Entry, Shut, Tell, apply, asked, detach, tell, with_seat}
 use Rattle.cdp_host_isolation.specs.Meanings as meanings
 use Rattle.cdp_host_isolation.specs.Meanings.{is_enabled_seat, is_paused, resume, resumed_seat, settle, with_seats}
@@ -11,13 +11,13 @@ use Rattle.cdp_host_isolation.specs.declared.seat.Seat.{Seat}
 use Rattle.cdp_host_isolation.specs.declared.seat.Seat.TheVariants.{Attached, Left}
 use Rattle.cdp_host_isolation.proofs.FallenLemmas.{fallen-none, fell-put, less-self, none-fallen}
 use Rattle.cdp_host_isolation.proofs.PassLemmas.{on-each}
+use Rattle.cdp_session_messages.specs.declared.session_end.SessionEnd.TheVariants as ends
 use Rattle.cdp_session.specs.declared.asks.Asks.{Asks}
 use Rattle.cdp_session.specs.Replies.{AnsweredText, answer_of}
 use Rattle.cdp_session.specs.Sessions.{Session}
 use Rattle.cdp_host.specs.Hosts.{CarriesOn, HostState, Leaves, meaning_with, parts_standing}
 use Rattle.cdp_host.specs.Protocols.{answer_at, asks_to_resume, asks_to_wake, protocol, situation}
 use Rattle.cdp_host.specs.Watching.{AnswersIn}
-use Rattle.cdp_host.specs.declared.telling.Answered.TheVariants.{Kept, Overran}
 use Rattle.cdp_host.proofs.HistoryLemmas.{stands-broken, stands-call}
 use Rattle.cdp_host.proofs.StandingLemmas.{standing-taken}
 
@@ -156,7 +156,7 @@ put_is old mid s z same is = same ∙ ap (λ ss. record old { meaning = record o
 pub leaves-kept : (old mid new : HostState) (s : ℕ) (text : List ℕ) (x : Session) (asks : Asks)
     → seat_of s old.meaning.seats ≡ Attached x
     → OnlySeats old mid
-    → AnswersIn (Kept asks) (becomes old text x) s old.meaning.seats mid.meaning.seats
+    → AnswersIn (Ok asks) (becomes old text x) s old.meaning.seats mid.meaning.seats
     → new.scripts ≡ mid.scripts → new.broken ≡ mid.broken → new.fallen ≡ mid.fallen → StaysPaused mid new
     → ((taken : List (List ℕ))
     → meaning_with new taken ≡ less new.meaning.seats
@@ -181,7 +181,7 @@ leaves-kept old mid new s text x asks had only answers same works kept stays mea
 pub leaves-over : (old mid new : HostState) (s : ℕ) (text : List ℕ) (x : Session)
     → seat_of s old.meaning.seats ≡ Attached x
     → OnlySeats old mid
-    → AnswersIn Overran (becomes old text x) s old.meaning.seats mid.meaning.seats
+    → AnswersIn (Err ends.Overrun) (becomes old text x) s old.meaning.seats mid.meaning.seats
     → new.scripts ≡ mid.scripts → new.broken ≡ mid.broken → new.fallen ≡ mid.fallen → StaysPaused mid new
     → ((taken : List (List ℕ))
     → meaning_with new taken ≡ less new.meaning.seats (settle (protocol mid.scripts) (meaning_with mid taken)))

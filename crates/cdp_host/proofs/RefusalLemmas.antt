@@ -1,5 +1,5 @@
 -- A command that is refused changes only the texts that wait for its session.
-use Rattle.std.proofs.Common.{◌≡◌, ℕ, List, [], ◌∷◌, Bool, true, false, refl, ap, sym, ◌∙◌, Option}
+use Rattle.std.proofs.Common.{◌≡◌, ℕ, List, [], ◌∷◌, Bool, true, false, Ok, refl, ap, sym, ◌∙◌, Option}
 use Rattle.cdp_host_isolation.specs.Histories.{Entry, with_seat}
 use Rattle.cdp_host_isolation.specs.Meanings.{is_enabled_seat, is_paused}
 use Rattle.cdp_host_isolation.specs.Seats.{put, seat_of, some}
@@ -20,7 +20,6 @@ use Rattle.cdp_host.specs.Hosts.{HostState, StandsFor, meaning_with, parts_stand
 use Rattle.cdp_host.specs.Programs.{printed_of, start}
 use Rattle.cdp_host.specs.Protocols.{asks_to_resume, asks_to_wake, protocol, situation}
 use Rattle.cdp_host.specs.Watching.{AnswersIn}
-use Rattle.cdp_host.specs.declared.telling.Answered.TheVariants.{Kept}
 use Rattle.cdp_host.proofs.ProtocolLemmas.{enabled-kept}
 use Rattle.cdp_host.proofs.RunLemmas.{all-there}
 
@@ -56,7 +55,7 @@ pub refused-told : (old mid new : HostState) (s : ℕ) (text : List ℕ) (asks :
     (refusal : Refusal)
     → (scripts : List Script) (input : List (List ℕ)) (wait : Bool) (history : List Entry)
     → mid ≡ record old { meaning = record old.meaning { seats = mid.meaning.seats } } → old.broken ≡ false
-    → AnswersIn (Kept asks)
+    → AnswersIn (Ok asks)
     (answer_of (situation old.scripts old.meaning.stop (parts_standing old.scripts old.meaning.program)) x text)
     s old.meaning.seats mid.meaning.seats
     → (asks_to_resume asks ≡ false → asks_to_wake asks ≡ false

@@ -1,5 +1,5 @@
 -- What a step tells, and what became of a text, as the code holds it.
-use Rattle.std.specs.Prelude.{◌≡◌, ℕ, ◌-◌, List, [], ◌∷◌, Bool, true, false, Option}
+use Rattle.std.specs.Prelude.{◌≡◌, ℕ, ◌-◌, List, [], ◌∷◌, Bool, true, false, Option, Result, Ok, Err}
 use Rattle.std.specs.Option.{option_map}
 use Rattle.cdp_host_isolation.specs.Seats.{put}
 use Rattle.cdp_host_isolation.specs.declared.seat.Loss.{Loss}
@@ -11,6 +11,7 @@ use Rattle.js_tree.specs.declared.script.Script.{Script}
 use Rattle.js_semantics.specs.Run.{Run}
 use Rattle.cdp_session_messages.specs.declared.session_end.SessionEnd.{SessionEnd}
 use Rattle.cdp_session_messages.specs.declared.session_end.SessionEnd.TheVariants as ends
+use Rattle.cdp_session.specs.declared.asks.Asks.{Asks}
 use Rattle.cdp_session.specs.declared.situation.Situation.{Situation as Held}
 use Rattle.cdp_session_messages.specs.Outboxes.{fits}
 use Rattle.cdp_session.specs.Replies.{AnsweredText}
@@ -18,8 +19,6 @@ use Rattle.cdp_session.specs.Sessions.{Session}
 use Rattle.cdp_session.specs.Situations.{Standing}
 use Rattle.cdp_host.specs.Programs.{nexts, prints_next}
 use Rattle.cdp_host.specs.Steps.{Step, names_stop}
-use Rattle.cdp_host.specs.declared.telling.Answered.{Answered}
-use Rattle.cdp_host.specs.declared.telling.Answered.TheVariants.{Kept, Overran, Failed}
 use Rattle.cdp_host.specs.declared.watching.Step.{Step as HeldStep}
 
 -- ---- steps
@@ -67,15 +66,20 @@ loss_of ends.Memory = Memory
 -- ---- one seat among others
 
 -- what became of a text with this answer, and the seat of its session
-abbrev pub AnswersAs : Answered → AnsweredText → Seat Session → Type 0
-AnswersAs (Kept asks) answer new =
+abbrev pub AnswersAs : Result Asks SessionEnd → AnsweredText → Seat Session → Type 0
+AnswersAs (Ok asks) answer new =
     (new ≡ Attached answer.session) × (asks ≡ answer.asks) × (fits answer.session.outbox ≡ true)
-AnswersAs Overran answer new = (new ≡ Left) × (fits answer.session.outbox ≡ false)
-AnswersAs Failed answer new = new ≡ Left
+AnswersAs (Err ends.Overrun) answer new = (new ≡ Left) × (fits answer.session.outbox ≡ false)
+AnswersAs (Err ends.Memory) answer new = new ≡ Left
 
 -- what became of a text with this answer, and of the seats of all sessions
-abbrev pub AnswersIn : Answered → AnsweredText → ℕ → List (Seat Session) → List (Seat Session) → Type 0
-AnswersIn (Kept asks) answer s old new =
+abbrev pub AnswersIn : Result Asks SessionEnd
+    → AnsweredText
+    → ℕ
+    → List (Seat Session)
+    → List (Seat Session)
+    → Type 0
+AnswersIn (Ok asks) answer s old new =
     (new ≡ put s (Attached answer.session) old) × (asks ≡ answer.asks) × (fits answer.session.outbox ≡ true)
-AnswersIn Overran answer s old new = (new ≡ put s Left old) × (fits answer.session.outbox ≡ false)
-AnswersIn Failed answer s old new = new ≡ put s Left old
+AnswersIn (Err ends.Overrun) answer s old new = (new ≡ put s Left old) × (fits answer.session.outbox ≡ false)
+AnswersIn (Err ends.Memory) answer s old new = new ≡ put s Left old

@@ -35,7 +35,7 @@ use crate::debuggee::{Debuggee, is_over};
 use crate::lines::lines_of_all;
 use crate::seats::{resume_all, some_enabled};
 use crate::stops::{is_first, pause_behind, phase_of, stops_behind, waits, woken};
-use crate::telling::{Answered, answer, take};
+use crate::telling::{answer, take};
 use breakpoints::ScriptSpots;
 use cdp_host_isolation::{Phase, Seat};
 use cdp_host_seats::{
@@ -44,6 +44,7 @@ use cdp_host_seats::{
 };
 use cdp_host_turns::{Ran, State, Told};
 use cdp_session::{Asks, Pause, Program, Session, Situation};
+use cdp_session_messages::SessionEnd;
 use cdp_text::line_table::LineTable;
 use cdp_text::units::{Units, text_of};
 use js_heap_memory::heap::BaseHeap;
@@ -311,15 +312,15 @@ impl<'p> Host<'p> {
         ensures stands_memory { result ≡ Told.Memory → CarriesOn self.old (Detach s) self.new }
     {
         match self.answer(s, text) {
-            Answered::Kept(asks) => {
+            Ok(asks) => {
                 self.follow(asks);
                 Told::Kept
             }
-            Answered::Overran => {
+            Err(SessionEnd::Overrun) => {
                 self.settle();
                 Told::Overrun
             }
-            Answered::Failed => {
+            Err(SessionEnd::Memory) => {
                 self.settle();
                 Told::Memory
             }
@@ -367,7 +368,7 @@ impl<'p> Host<'p> {
 
 impl<'p> Host<'p> {
     /// Answers a text of this session, and lets the program be.
-    fn answer(&mut self, s: u64, text: &str) -> Answered
+    fn answer(&mut self, s: u64, text: &str) -> Result<Asks, SessionEnd>
         requires { is_attached (seat_of s self.old.meaning.seats) ≡ true }
         ensures answers { (x : Kept) → seat_of s self.old.meaning.seats ≡ Attached x
             → AnswersIn result (answer_of (situation self.old.scripts self.old.meaning.stop (parts_standing self.old.scripts self.old.meaning.program)) x text.now) s self.old.meaning.seats self.new.meaning.seats }
@@ -510,8 +511,8 @@ impl<'p> Host<'p> {
         self.report(made)
     }
 
-    /// Reports the losses after the steps of a run, and lets a paused program go on where no session has the debugger enabled.
-    /// After an error the host fell back.
+    /// Reports the losses after the steps of a run, and lets a paused program go on where no session has the debugger
+    /// enabled. After an error the host fell back.
     fn report(&mut self, made: Made) -> Result<Ran, AllocError>
         requires { self.old.broken ≡ false }
         ensures steps { IfOk result (λ ran. (ran.steps ≡ made.steps) × (ran.printed.items ≡ made.printed.items)) }
@@ -544,8 +545,8 @@ impl<'p> Host<'p> {
         }
     }
 
-    /// The steps of a run, without the report of losses: goes on while a step may be made. Where none may be it takes no memory;
-    /// else it takes some for a flag of each session.
+    /// The steps of a run, without the report of losses: goes on while a step may be made. Where none may be it takes
+    /// no memory; else it takes some for a flag of each session.
     fn make_steps(&mut self, n: u64, moment: u64) -> Result<Made, AllocError>
         requires moment { moment < 2 ^ 53 }
         requires works { self.old.broken ≡ false }

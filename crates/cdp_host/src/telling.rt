@@ -14,56 +14,48 @@ use cdp_session::{Asks, Program, Session, Situation};
 use cdp_session_messages::SessionEnd;
 use std::alloc::Global;
 
-/// What became of a text.
-#[derive(Clone, Copy)]
-pub(crate) enum Answered {
-    /// It was answered, and asks this of the program.
-    Kept(Asks),
-    /// The texts of the answer didn't fit: the session is detached.
-    Overran,
-    /// There was no memory for the answer: the session is detached.
-    Failed,
-}
-
-/// Answers a text of the session of a seat. It is detached where the texts of the answer don't fit, or where there is no memory
-/// for them.
+/// Answers a text of the session of a seat, and says what it asks of the program.
+///
+/// # Errors
+///
+/// The texts of the answer don't fit, or there is no memory for them. The session is detached.
 fn answer_seat<P: Program>(
     seat: &mut Seat<Session>,
     situation: &Situation<'_, P>,
     text: &str,
-) -> Answered
+) -> Result<Asks, SessionEnd>
     requires { HasSpots situation.now }
     ensures { (x : Kept) → seat.old ≡ Attached x → AnswersAs result (answer_of (seen P.standing situation.now) x text.now) seat.new }
 {
     let Seat::Attached(session) = seat else {
-        return Answered::Failed;
+        return Err(SessionEnd::Memory);
     };
     match session.tell(situation, text) {
-        Ok(asks) => Answered::Kept(asks),
-        Err(SessionEnd::Overrun) => {
+        Ok(asks) => Ok(asks),
+        Err(end) => {
             *seat = Seat::Left;
-            Answered::Overran
-        }
-        Err(SessionEnd::Memory) => {
-            *seat = Seat::Left;
-            Answered::Failed
+            Err(end)
         }
     }
 }
 
-/// Answers a text of the session of this number.
+/// Answers a text of the session of this number, and says what it asks of the program.
+///
+/// # Errors
+///
+/// The texts of the answer don't fit, or there is no memory for them. The session is detached.
 pub(crate) fn answer<P: Program>(
     seats: &mut [Seat<Session>],
     s: u64,
     situation: &Situation<'_, P>,
     text: &str,
-) -> Answered
+) -> Result<Asks, SessionEnd>
     requires { HasSpots situation.now }
     ensures { (x : Kept) → seat_of s seats.old ≡ Attached x → AnswersIn result (answer_of (seen P.standing situation.now) x text.now) s seats.old seats.new }
 {
     match seat_index(seats, s) {
         Some(index) => answer_seat(&mut seats[index], situation, text),
-        None => Answered::Failed,
+        None => Err(SessionEnd::Memory),
     }
 }
 
