@@ -12,6 +12,7 @@ ghost use Rattle.js_machine_nodes.specs.Trees.{IsTable};
 ghost use Rattle.js_machine.specs.Machines.{HasSameCode, IsKept, end_of_run, program_of};
 ghost use Rattle.js_machine_engine.specs.Points.{term_at, IsAt};
 ghost use Rattle.cdp_host.specs.Arrivals.{arrival_at};
+ghost use Rattle.stepping.specs.declared.arrival.Arrival.{Arrival as AnyArrival};
 ghost use Rattle.js_machine_engine.specs.Prints.{PrintsAs};
 ghost use Rattle.cdp_host.specs.Hosts.{beside, beside_behind, machine_arrival, machine_run, machine_step, AreLines};
 ghost use Rattle.cdp_host.specs.Programs.{code_of, is_over};
@@ -49,14 +50,17 @@ struct Watch<'s> {
     scripts: &'s [Script],
     lines: &'s [LineTable],
     seats: &'s [Seat<Session>],
+    // whether some session may name a stop anywhere
+    listens: bool,
     ghost located: { AreLines scripts.now lines.now },
+    ghost heard: { listens ≡ false → (a : AnyArrival) → may_stop a seats.now ≡ false },
 }
 
 impl StopTest for Watch<'_> {
     ghost stops = { λ watch term frames. may_stop (arrival_at watch.scripts.now term frames) watch.seats.now };
 
     fn asks(&self, table: &NodeTable, context: &Context, stack: &Stack, point: Point) -> bool {
-        some_listen(self.seats) && self.may_be_named(table, context, stack, point)
+        self.listens && self.may_be_named(table, context, stack, point)
     }
 }
 
@@ -261,6 +265,7 @@ pub(crate) fn make_stretch(
         scripts,
         lines,
         seats: &*seats,
+        listens: some_listen(&*seats),
     };
     let StoppedRun { steps, why } = machine.run(heap, most, &watch);
     let values = printed_values(why);
