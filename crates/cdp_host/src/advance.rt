@@ -267,7 +267,7 @@ pub(crate) fn make_stretch(
         seats: &*seats,
         listens: some_listen(&*seats),
     };
-    let StoppedRun { steps, why } = machine.run(heap, most, &watch);
+    let StoppedRun { steps, why } = machine.run_until(heap, most, &watch);
     let values = printed_values(why);
     if is_lost(machine) {
         return Err(AllocError);

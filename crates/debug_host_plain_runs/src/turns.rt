@@ -24,7 +24,7 @@ fn advance(machine: &mut Machine, heap: &mut BaseHeap) -> Result<Vec<Units>, All
     requires { machine.old.ended ≡ None }
     ensures { IfOk result (λ texts. HasTurned machine.old (heap_world machine.old.names heap.old) machine.new (heap_world machine.new.names heap.new) texts.items) }
 {
-    let ran = machine.run(heap, MANY_STEPS, &Never);
+    let ran = machine.run_until(heap, MANY_STEPS, &Never);
     if let Why::Memory = ran.why {
         return Err(AllocError);
     }

@@ -66,7 +66,7 @@ fn steps_told(
         if machine.end().is_some() || machine.finished().is_some() {
             break;
         }
-        let _ = machine.run(heap, 1, &Never);
+        let _ = machine.run_until(heap, 1, &Never);
         text.push_str(&told(alloc, machine, scripts)?)?;
     }
     Ok(text)

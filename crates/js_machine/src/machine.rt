@@ -28,7 +28,7 @@ use js_heap_memory::names::NameTable;
 use js_heap_memory::world::World;
 use js_machine_actions::context::Context;
 use js_machine_compiler::scripts::ScriptCode;
-use js_machine_engine::run::{StopTest, StoppedRun, Why, run};
+use js_machine_engine::run::{StopTest, StoppedRun, Why, step_until};
 use js_machine_engine::settling::uncover;
 use js_machine_engine::stack::Stack;
 use js_machine_engine::step::step;
@@ -172,7 +172,12 @@ impl Machine {
     }
 
     /// Steps until the host asks for a stop, until a raise, a print or the end, or until so many.
-    pub fn run<W: World, H: StopTest>(&mut self, world: &mut W, most: u64, host: &H) -> StoppedRun
+    pub fn run_until<W: World, H: StopTest>(
+        &mut self,
+        world: &mut W,
+        most: u64,
+        host: &H,
+    ) -> StoppedRun
         requires { self.old.ended ≡ None }
         // The run is so many steps further, and it wasn't over before any of them.
         ensures run { IsKept self.new.ended → (taken : List (List ℕ)) → run_at self.new (W.world self.new.names world.new) taken ≡ steps_in result.steps (program_of self.old) script_scope (run_at self.old (W.world self.old.names world.old) taken) }
@@ -188,7 +193,7 @@ impl Machine {
         ensures end { self.new.ended ≡ end_of_run result.why }
         ensures code { HasSameCode self.old self.new }
     {
-        let ran = run::<StepTable, W, H>(
+        let ran = step_until::<StepTable, W, H>(
             self.alloc,
             &self.table,
             &self.names,

@@ -46,7 +46,7 @@ pub fn run_on<W: World>(machine: &mut Machine, world: &mut W, most: u64) -> Resu
         if machine.end().is_some() {
             break;
         }
-        let ran = machine.run(world, left, &Never);
+        let ran = machine.run_until(world, left, &Never);
         left -= ran.steps;
         if let Why::Memory = ran.why {
             return Err(AllocError);

@@ -118,7 +118,7 @@ fn stops_at<H: StopTest>(
 }
 
 /// Steps until the host asks for a stop, until a raise, a print or the end, or until so many.
-pub fn run<T: Rows, W: World, H: StopTest>(
+pub fn step_until<T: Rows, W: World, H: StopTest>(
     alloc: Global,
     table: &NodeTable,
     names: &NameTable,

@@ -17,7 +17,7 @@ use js_heap_memory::names::NameTable;
 use js_heap_memory::world::World;
 use js_machine_actions::context::Context;
 use js_machine_engine::rows::Rows;
-use js_machine_engine::run::{StopTest, run};
+use js_machine_engine::run::{StopTest, step_until};
 use js_machine_engine::settling::uncover;
 use js_machine_engine::stack::Stack;
 use js_machine_engine::task::Point;
@@ -63,7 +63,7 @@ pub fn run_on<T: Rows, W: World>(
 {
     let mut left = most;
     while left > 0 {
-        let ran = run::<T, W, Nobody>(
+        let ran = step_until::<T, W, Nobody>(
             alloc, table, names, root, context, world, stack, point, left, &Nobody,
         );
         if let Some(end) = end_of(&ran.why) {

@@ -15,11 +15,11 @@ watch_machine-stopped-requires-clause-kept c =
 
 pub returns-clause-made : goal.returns-clause-made
 returns-clause-made c = λ taken.
-    let r = c.run-steps.ensures in
-    let k = c.run-steps.result.steps in
-    let why = c.run-steps.result.why in
-    let n = c.run-steps.new.self in
-    let i = c.run-steps.new.world in
+    let r = c.run_until-steps.ensures in
+    let k = c.run_until-steps.result.steps in
+    let why = c.run_until-steps.result.why in
+    let n = c.run_until-steps.new.self in
+    let i = c.run_until-steps.new.world in
     let m = c.take_printed.new.self in
     let most = c.most_of-most.result in
     let some = c.most_of-most.ensures.some in
@@ -62,11 +62,11 @@ returns-clause-made c = λ taken.
 
 pub returns-clause-counts : goal.returns-clause-counts
 returns-clause-counts c =
-    let r = c.run-steps.ensures in
-    let k = c.run-steps.result.steps in
-    let n = c.run-steps.new.self in
-    let i = c.run-steps.new.world in
-    let why = c.run-steps.result.why in
+    let r = c.run_until-steps.ensures in
+    let k = c.run_until-steps.result.steps in
+    let n = c.run_until-steps.new.self in
+    let i = c.run_until-steps.new.world in
+    let why = c.run_until-steps.result.why in
     let most = c.most_of-most.result in
     let kept = c.is_lost.ensures.kept c.if-is_lost.false in
     let ran : HasRun c.args.scripts.now c.args.seats.now most c.args.machine.now c.args.heap.now n i k why = record {
@@ -90,6 +90,6 @@ returns-clause-fit c =
     let values = option_map (λ vs. vs.items) c.printed_values-values.result in
     (behind-each (protocol c.args.scripts.now) (is_some c.watch_machine-stopped.result)
     c.next_number-number.result c.args.moment
-    (machine_step c.args.scripts.now c.take_printed.new.self c.run-steps.new.world values c.args.first)
+    (machine_step c.args.scripts.now c.take_printed.new.self c.run_until-steps.new.world values c.args.first)
     c.args.seats.now c.watch_machine-stopped.new.seats c.watch_machine-stopped.new.named
     c.watch_machine-stopped.ensures.behind).2

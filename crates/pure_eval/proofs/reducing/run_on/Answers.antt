@@ -5,31 +5,31 @@ use Rattle.pure_eval.proofs.reducing.run_on.Goals as goal
 pub returns-in-Some : goal.returns-in-Some
 returns-in-Some g c = record {
   answer =
-      λ taken. end-answers c.run-ran.result.steps c.loop-left.left c.args.most _ c.args.root _ _ c.run-ran.result.why _
+      λ taken. end-answers c.step_until-ran.result.steps c.loop-left.left c.args.most _ c.args.root _ _ c.step_until-ran.result.why _
       _ c.in-Some.end
-      (c.loop-left.invariant.runs taken) c.run-ran.ensures.within (c.run-ran.ensures.told taken)
+      (c.loop-left.invariant.runs taken) c.step_until-ran.ensures.within (c.step_until-ran.ensures.told taken)
       (sym c.end_of.ensures ∙ c.in-Some.is);
   world =
-      λ taken. end-ends c.run-ran.result.steps c.loop-left.left c.args.most _ c.args.root _ _ c.run-ran.result.why _ _
+      λ taken. end-ends c.step_until-ran.result.steps c.loop-left.left c.args.most _ c.args.root _ _ c.step_until-ran.result.why _ _
       c.in-Some.end
-      (c.loop-left.invariant.runs taken) c.run-ran.ensures.within (c.run-ran.ensures.told taken)
+      (c.loop-left.invariant.runs taken) c.step_until-ran.ensures.within (c.step_until-ran.ensures.told taken)
       (sym c.end_of.ensures ∙ c.in-Some.is);
 }
 
 pub loop-left-preserved-in_default : goal.loop-left-preserved-in_default
 loop-left-preserved-in_default g c =
-    runs-on c.args.names.now c.args.table.now c.args.root c.args.stack.now c.loop-left.stack c.run-ran.new.stack
-    c.args.point.now c.loop-left.point c.run-ran.new.point _ _ _ c.args.context.now c.loop-left.context
-    c.run-ran.new.context c.args.most c.loop-left.left c.run-ran.result.steps c.run-ran.result.why
-    c.loop-left.invariant c.run-ran.ensures.within c.run-ran.ensures.told c.run-ran.ensures.stands
+    runs-on c.args.names.now c.args.table.now c.args.root c.args.stack.now c.loop-left.stack c.step_until-ran.new.stack
+    c.args.point.now c.loop-left.point c.step_until-ran.new.point _ _ _ c.args.context.now c.loop-left.context
+    c.step_until-ran.new.context c.args.most c.loop-left.left c.step_until-ran.result.steps c.step_until-ran.result.why
+    c.loop-left.invariant c.step_until-ran.ensures.within c.step_until-ran.ensures.told c.step_until-ran.ensures.stands
     (sym c.end_of.ensures ∙ no-end c.end_of.result c.in_default.not-Some)
 
 pub loop-left-preserved : goal.loop-left-preserved
 loop-left-preserved g c =
-    runs-on c.args.names.now c.args.table.now c.args.root c.args.stack.now c.loop-left.stack c.run-ran.new.stack
-    c.args.point.now c.loop-left.point c.run-ran.new.point _ _ _ c.args.context.now c.loop-left.context
-    c.run-ran.new.context c.args.most c.loop-left.left c.run-ran.result.steps c.run-ran.result.why
-    c.loop-left.invariant c.run-ran.ensures.within c.run-ran.ensures.told c.run-ran.ensures.stands
+    runs-on c.args.names.now c.args.table.now c.args.root c.args.stack.now c.loop-left.stack c.step_until-ran.new.stack
+    c.args.point.now c.loop-left.point c.step_until-ran.new.point _ _ _ c.args.context.now c.loop-left.context
+    c.step_until-ran.new.context c.args.most c.loop-left.left c.step_until-ran.result.steps c.step_until-ran.result.why
+    c.loop-left.invariant c.step_until-ran.ensures.within c.step_until-ran.ensures.told c.step_until-ran.ensures.stands
     (sym c.end_of.ensures ∙ no-end c.end_of.result c.in_default.not-Some)
 
 pub returns : goal.returns

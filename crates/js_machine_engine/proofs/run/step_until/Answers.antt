@@ -1,7 +1,7 @@
 use Rattle.std.proofs.Common.{sym, ◌∙◌, arith}
 use Rattle.js_machine_engine.proofs.RunLemmas.{going, goes-none, runs-init, none-passed, done-runs, stop-runs, stop-stands, stop-counted, stop-asked, stop-passed, next-runs, more-left, more-passed, asked-so, passed-but-last, first-passed}
 use Rattle.js_machine_engine.proofs.PrintLemmas.{none-silent, more-silent, last-silent, first-silent, silent-but-last, stop-prints, next-silent}
-use Rattle.js_machine_engine.proofs.run.run.Goals as goal
+use Rattle.js_machine_engine.proofs.run.step_until.Goals as goal
 
 pub loop-steps-init : goal.loop-steps-init
 loop-steps-init g c = record {
