@@ -25,4 +25,5 @@ pub mod RefusalLemmas
 pub mod ViewLemmas
 pub mod HeldLemmas
 pub mod HostedLemmas
+pub mod RecordLemmas
 pub mod SendLemmas

@@ -26,6 +26,7 @@ ghost use Rattle.cdp_host.specs.Programs.{code_of, is_over, has_thrown, uncaught
 ghost use Rattle.cdp_host.specs.Protocols.{asks_to_resume, asks_to_wake, protocol, situation, texts_fit};
 ghost use Rattle.cdp_host.specs.Hosts.{CarriesOn, FallsBack, KeepsFallback, Leaves, NoneAttached, PrintsOn, RunsTo, StandsFor, everybody, meaning_with, parts_standing, state_at};
 ghost use Rattle.cdp_host_turns.specs.Entries.{lost_for_memory};
+ghost use Rattle.cdp_host_record.specs.Standing.{still_waits};
 ghost use Rattle.cdp_host.specs.Ran.{IsStretch};
 ghost use Rattle.cdp_host.specs.Rules.{printed_between};
 ghost use Rattle.cdp_host.specs.Watching.{AnswersIn};
@@ -33,6 +34,7 @@ ghost use Rattle.cdp_host.specs.Watching.{AnswersIn};
 use crate::advance::{Advanced, make_stretch};
 use crate::debuggee::{Debuggee, is_over};
 use crate::lines::lines_of_all;
+use crate::recordable::some_still_wait;
 use crate::seats::{resume_all, some_enabled};
 use crate::stops::{is_first, pause_behind, phase_of, stops_behind, waits, woken};
 use crate::telling::{answer, take};
@@ -231,6 +233,20 @@ impl<'p> Host<'p> {
         }
     }
 
+    /// Whether this session is attached, or was lost for want of memory, and no run has told of that.
+    pub(crate) fn is_attached_or_fell(&self, s: u64) -> bool
+        ensures { result ≡ (is_attached (seat_of s self.now.meaning.seats) || fell (seat_of s self.now.meaning.seats)) }
+    {
+        self.attached(s) || self.fell(s)
+    }
+
+    /// Whether a session was lost otherwise than for want of memory, and no run has told of that.
+    pub(crate) fn some_still_wait(&self) -> bool
+        ensures { result ≡ some still_waits self.now.meaning.seats }
+    {
+        some_still_wait(self.seats.as_slice())
+    }
+
     /// The first state that holds, in the order in which `State` lists them.
     pub fn state(&self) -> State
         ensures { (taken : List (List ℕ)) → result ≡ state_at self.now taken }
@@ -287,8 +303,9 @@ impl<'p> Host<'p> {
         take(self.alloc, self.seats.as_mut_slice(), s)
     }
 
-    /// Answers a text of this session: its reply or refusal, and then its events, come behind the texts that wait
-    /// (JSON-RPC 2.0, section 5; Chrome DevTools Protocol, domains Debugger and Runtime). A refused command changes nothing else.
+    /// Answers a text of this session: its reply or refusal and its events, some of which come before the reply, stand behind
+    /// the texts that wait (JSON-RPC 2.0, section 5; Chrome DevTools Protocol, domains Debugger and Runtime). A refused command
+    /// changes nothing else.
     /// A session is detached whose texts don't fit, and after want of memory. A paused program goes on where the command asks for
     /// that, or where no session is left that has the debugger enabled. Each session is told then; one for which the event of
     /// that doesn't fit, or for which there is no memory, is lost, and the next run tells of it.

@@ -19,6 +19,7 @@ mod host;
 mod hosted;
 pub mod laws;
 mod lines;
+mod recordable;
 mod seats;
 mod stops;
 mod telling;

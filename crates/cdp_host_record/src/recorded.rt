@@ -34,6 +34,13 @@ impl<H> Recorded<H> {
         Recorded { host, journal }
     }
 
+    /// The host.
+    pub fn host(&self) -> &H
+        ensures { result.now ≡ self.now.host }
+    {
+        &self.host
+    }
+
     /// The host and its record.
     pub fn into_parts(self) -> (H, Option<Record>)
         ensures host { result.0 ≡ self.host }

@@ -402,8 +402,9 @@ impl Session {
 
     // ---- commands
 
-    /// Answers a text (JSON-RPC 2.0, section 5): the reply or the refusal, and then the events of the command, come behind
-    /// the texts that wait. Says what the command asks of the program. A refused command changes nothing else.
+    /// Answers a text (JSON-RPC 2.0, section 5): the reply or the refusal and the events of the command, some of which come
+    /// before the reply, stand behind the texts that wait. Says what the command asks of the program. A refused command changes
+    /// nothing else.
     ///
     /// # Errors
     ///

@@ -44,6 +44,7 @@ pub fn read_input<F: Shelf>(
     ensures quiet { IfOk result (λ lines. F.faults shelf.new ≡ F.faults shelf.old) }
     ensures fault { IfErr result (λ fault. FailsInput fault (HandsIn (F.files shelf.old) (F.handed shelf.old) (F.handed shelf.new)) name.now (F.faults shelf.old) (F.faults shelf.new)) }
     ensures files { F.files shelf.new ≡ F.files shelf.old }
+    ensures stored { F.stored shelf.new ≡ F.stored shelf.old }
 {
     let bytes = match shelf.read(alloc, name) {
         Ok(bytes) => bytes,

@@ -40,6 +40,7 @@ fn read_script<F: Shelf>(
     ensures quiet { IfOk result (λ s. F.faults shelf.new ≡ F.faults shelf.old) }
     ensures fault { IfErr result (λ fault. FailsNext fault (HandsIn (F.files shelf.old) (F.handed shelf.old) (F.handed shelf.new)) earlier.now name.now (F.faults shelf.old) (F.faults shelf.new)) }
     ensures files { F.files shelf.new ≡ F.files shelf.old }
+    ensures stored { F.stored shelf.new ≡ F.stored shelf.old }
 {
     let bytes = match shelf.read(alloc, name) {
         Ok(bytes) => bytes,
@@ -92,6 +93,7 @@ fn add_script<F: Shelf>(
     ensures quiet { OnOk result (F.faults shelf.new ≡ F.faults shelf.old) }
     ensures fault { IfErr result (λ fault. FailsNext fault (HandsIn (F.files shelf.old) (F.handed shelf.old) (F.handed shelf.new)) scripts.old.items name.now (F.faults shelf.old) (F.faults shelf.new)) }
     ensures files { F.files shelf.new ≡ F.files shelf.old }
+    ensures stored { F.stored shelf.new ≡ F.stored shelf.old }
 {
     let script = match read_script(alloc, shelf, name, scripts, declared, evidence) {
         Ok(script) => script,
@@ -120,6 +122,7 @@ pub fn read_scripts<'n, F: Shelf>(
     ensures quiet { IfOk result (λ ss. F.faults shelf.new ≡ F.faults shelf.old) }
     ensures fault { IfErr result (λ e. Fails e.fault (HandsIn (F.files shelf.old) (F.handed shelf.old) (F.handed shelf.new)) (names_held names.now) e.name.now (F.faults shelf.old) (F.faults shelf.new)) }
     ensures files { F.files shelf.new ≡ F.files shelf.old }
+    ensures stored { F.stored shelf.new ≡ F.stored shelf.old }
     // Where all files hold scripts, none is refused.
     ensures one { (given : List NamedFile) (ss : List AnyScript) (name : List ℕ) (r : AnyRefusal) → AreScripts given (names_held names.now) ss → IsRefusedAt given (names_held names.now) name r → ⊥ }
 {

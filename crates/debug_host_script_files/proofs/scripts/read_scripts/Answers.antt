@@ -28,4 +28,5 @@ loop-name-preserved g c =
       declared = e.declared;
       files = e.files ∙ i.files;
       quiet = e.quiet ∙ i.quiet;
+      stored = e.stored ∙ i.stored;
     }

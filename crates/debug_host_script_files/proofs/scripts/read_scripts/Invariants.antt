@@ -12,4 +12,5 @@ invariant-loop-name g l = record {
   declared : l.declared.items ≡ declared_in l.scripts.items;
   files : g.F.Shelf.files l.shelf ≡ g.F.Shelf.files l.fn.shelf;
   quiet : g.F.Shelf.faults l.shelf ≡ g.F.Shelf.faults l.fn.shelf;
+  stored : g.F.Shelf.stored l.shelf ≡ g.F.Shelf.stored l.fn.shelf;
 }

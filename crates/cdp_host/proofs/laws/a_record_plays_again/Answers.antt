@@ -1,0 +1,11 @@
+use Rattle.cdp_host_record.proofs.ReplayLemmas.{play-again}
+use Rattle.cdp_host.specs.Programs.{start}
+use Rattle.cdp_host.specs.Protocols.{protocol}
+use Rattle.cdp_host.proofs.ProtocolLemmas.{enabled-kept}
+use Rattle.cdp_host.proofs.RecordLemmas.{untouched-kept}
+use Rattle.cdp_host.proofs.laws.a_record_plays_again.Goals as goal
+
+pub returns : goal.returns
+returns c = λ scripts input wait history fits tellable none.
+    play-again (protocol scripts) (start scripts input) wait history (enabled-kept scripts) (untouched-kept scripts) fits
+    tellable none
