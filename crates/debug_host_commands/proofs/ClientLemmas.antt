@@ -17,6 +17,7 @@ use Rattle.debug_host_options.specs.Requests.{Drill, Help, Replay, Request, Run,
 use Rattle.debug_host_commands.specs.declared.outcome.CommandEnd.{CommandEnd}
 use Rattle.debug_host_commands.specs.declared.outcome.CommandEnd.TheVariants as ends
 use Rattle.debug_host_commands.proofs.RunLemmas.{one_content}
+use Rattle.debug_host_commands.proofs.EndLemmas.{cut_only, done_only}
 
 -- ---- before the port is dialled
 
@@ -470,6 +471,16 @@ module _ (request : SendWords) (Hands : List NamedFile → Type 0) (faults now_f
     read_given explains before after says four =
         let it : IsToldRead faults now_faults explains before after request =
         read-told end explains before after (sym ends_so ∙ four) h says in rw is it
+
+    pub done_given : status ≡ 0 → GivenSend o Hands (λ r files. Sends files r talks.Done old new was now)
+    done_given zero =
+        let it : Because ends.Done = subst Because (done_only end (sym ends_so ∙ zero)) h in
+        given_send o request Hands (λ r files. Sends files r talks.Done old new was now) is it.4
+
+    pub short_given : status ≡ 5 → GivenSend o Hands (λ r files. Sends files r talks.WriteFault old new was now)
+    short_given five =
+        let it : Because ends.CannotWrite = subst Because (cut_only end (sym ends_so ∙ five)) h in
+        given_send o request Hands (λ r files. Sends files r talks.WriteFault old new was now) is it.4
 
     pub dialled_given : IsPast status → ForSend o (λ r. now.dials ≡ called r.port was.dials)
     dialled_given past =

@@ -1,6 +1,5 @@
 -- What each end of a drill says of its script, its journal and its summary.
 use Rattle.std.proofs.Common.{◌≡◌, ℕ, List, [], ◌∷◌, false, Option, Some, None, refl, sym, subst, inl, ◌∙◌, Bool}
-use Rattle.std.proofs.lemmas.Option.{same_Some}
 use Rattle.cdp_edge.specs.Outside.{gains, GainsLess, GainsPrefix}
 use Rattle.cdp_journal.specs.Drills.{drill_journal, drill_source}
 use Rattle.cdp_journal.specs.Summaries.{summary}
@@ -22,11 +21,11 @@ use Rattle.cdp_edge_printing.proofs.PrintingLemmas.{whole-part as gained}
 pub drilled : (n : ℕ) (script : Script) (scripts : List Script) (input : List (List ℕ)) (journal before now : List ℕ)
     (line : Option ℕ)
     → scripts ≡ script ∷ [] → input ≡ [] → journal ≡ drill_journal n → before ≡ []
-    → WritesReplay scripts input false journal line (Some before) (Some now) → IsDrilled n script line now
+    → WritesReplay scripts input false journal line before now → IsDrilled n script line now
 drilled n script scripts input journal before now line one none is began written =
-    let w : WritesReplay scripts input false journal line (Some []) (Some now) =
-    subst (λ (b : List ℕ). WritesReplay scripts input false journal line (Some b) (Some now)) began written in
-    let here : now ≡ w.output = same_Some now w.output w.whole in
+    let w : WritesReplay scripts input false journal line [] now =
+    subst (λ (b : List ℕ). WritesReplay scripts input false journal line b now) began written in
+    let here : now ≡ w.output = w.whole in
     let all : IsReplay scripts input false journal line now = subst
     (λ (o : List ℕ). IsReplay scripts input false journal line o) (sym here) w.replay in
     let told : IsReplay scripts input false (drill_journal n) line now = subst
@@ -107,7 +106,7 @@ whole-part n old new w = record {
 -- ---- of the words that ask for a drill
 
 -- how a line of its journal that is refused is told
-abbrev IsToldLine : Option (List ℕ) → Option (List ℕ) → Bool → Option (List ℕ) → Option (List ℕ) → ℕ → Type 0
+abbrev IsToldLine : List ℕ → List ℕ → Bool → List ℕ → List ℕ → ℕ → Type 0
 IsToldLine old new explains before after n =
     (number : ℕ) × DrillRefuses n number × (new ≡ old) × Says explains before after (line_said number)
 
@@ -134,7 +133,7 @@ line_given o n end was now old new explains before after status is ends_so h say
     line-told end n was now old new explains before after (sym ends_so ∙ six) h says in rw is told
 
 -- how a script of it that is refused is told
-abbrev IsToldRefusal : Bool → Option (List ℕ) → Option (List ℕ) → ℕ → Type 0
+abbrev IsToldRefusal : Bool → List ℕ → List ℕ → ℕ → Type 0
 IsToldRefusal explains before after n =
     (refusal : TextFault) × IsRefused [] (drill_source n) refusal × Says explains before after (refusal_said script_name refusal)
 

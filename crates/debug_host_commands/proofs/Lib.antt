@@ -10,6 +10,7 @@ pub mod ReplayedLemmas
 pub mod ReportLemmas
 pub mod SourceLemmas
 pub mod UnaskedLemmas
+pub mod EndLemmas
 pub mod RunLemmas
 pub mod ReplayLemmas
 pub mod ServeLemmas

@@ -11,13 +11,14 @@ use Rattle.debug_host_commands.specs.Replays.{WritesLess, WritesPart, WritesRepl
 use Rattle.debug_host_commands.specs.ReplayCauses.{ReplaysWhole, ReplaysInPart, ReplaysShort, BecauseReplay, outcome_of_replay}
 use Rattle.debug_host_commands.specs.ReadCauses.{BecauseUnread}
 use Rattle.debug_host_commands.specs.RunCauses.{BecauseSources}
-use Rattle.debug_host_commands.specs.Status.{ForReplay, GivenReplay, said, status_of, unread_said, Says}
+use Rattle.debug_host_commands.specs.Status.{ForReplay, GivenReplay, line_said, refusal_said, said, status_of, unread_said, Says}
 use Rattle.debug_host_options.specs.Requests.{Request, Replay, ReplayWords}
 use Rattle.debug_host_commands.specs.declared.outcome.CommandEnd.{CommandEnd}
 use Rattle.debug_host_commands.specs.declared.outcome.CommandEnd.TheVariants as ends
 use Rattle.debug_host_commands.specs.declared.journal.ReplayEnd.{ReplayEnd}
 use Rattle.debug_host_commands.specs.declared.journal.ReplayEnd.TheVariants as plays
 use Rattle.debug_host_commands.proofs.RunLemmas.{one_rest, run_stands, some_handed}
+use Rattle.debug_host_commands.proofs.EndLemmas.{cut_only, done_only, line_only, refused_only}
 
 pub ruleset untouched = (gains-nil, GainsPrefix-refl)
 
@@ -398,3 +399,87 @@ pub read_given : (o : Option Request) (request : ReplayWords) (Hands : List Name
 read_given o request Hands end before after was now old new explains said_before said_after status is ends_so h says four =
     let it : IsToldRead before after Hands explains said_before said_after request =
     read-told end request Hands before after was now old new explains said_before said_after (sym ends_so ∙ four) h says in rw is it
+
+-- ---- what the status says
+
+-- all lines were played
+pub done_given : (o : Option Request) (request : ReplayWords) (Hands : List NamedFile → Type 0) (end : CommandEnd)
+    (before after : Faults) (was now : ℕ) (old new : List ℕ) (status : ℕ)
+    → o ≡ Some (Replay request)
+    → status ≡ status_of end
+    → BecauseReplay end request Hands before after was now old new
+    → status ≡ 0
+    → GivenReplay o Hands (λ words files. ReplaysWhole files words None old new)
+done_given o request Hands end before after was now old new status is ends_so h found =
+    let it : BecauseReplay ends.Done request Hands before after was now old new =
+    subst (λ (e : CommandEnd). BecauseReplay e request Hands before after was now old new)
+    (done_only end (sym ends_so ∙ found)) h in
+    given_replay o request Hands (λ words files. ReplaysWhole files words None old new) is it.2
+
+-- not all of the output could be written
+pub short_given : (o : Option Request) (request : ReplayWords) (Hands : List NamedFile → Type 0) (end : CommandEnd)
+    (before after : Faults) (was now : ℕ) (old new : List ℕ) (status : ℕ)
+    → o ≡ Some (Replay request)
+    → status ≡ status_of end
+    → BecauseReplay end request Hands before after was now old new
+    → status ≡ 5
+    → GivenReplay o Hands (λ words files. ReplaysShort files words old new)
+short_given o request Hands end before after was now old new status is ends_so h found =
+    let it : BecauseReplay ends.CannotWrite request Hands before after was now old new =
+    subst (λ (e : CommandEnd). BecauseReplay e request Hands before after was now old new)
+    (cut_only end (sym ends_so ∙ found)) h in
+    given_replay o request Hands (λ words files. ReplaysShort files words old new) is it.2
+
+-- how a file that is refused is told
+abbrev IsToldRefusal : Bool → List ℕ → List ℕ → ReplayWords → List NamedFile → Type 0
+IsToldRefusal explains said_before said_after words files =
+    (name : List ℕ)
+    × (refusal : TextFault)
+    × IsRefusedBehind files words name refusal
+    × Says explains said_before said_after (refusal_said name refusal)
+
+pub refusal_given : (o : Option Request) (request : ReplayWords) (Hands : List NamedFile → Type 0) (end : CommandEnd)
+    (before after : Faults) (was now : ℕ) (old new : List ℕ) (explains : Bool) (said_before said_after : List ℕ)
+    (status : ℕ)
+    → o ≡ Some (Replay request)
+    → status ≡ status_of end
+    → BecauseReplay end request Hands before after was now old new
+    → Says explains said_before said_after (said end)
+    → status ≡ 3
+    → GivenReplay o Hands (IsToldRefusal explains said_before said_after)
+refusal_given o request Hands end before after was now old new explains said_before said_after status is ends_so h says
+    three =
+    let only = refused_only end (sym ends_so ∙ three) in
+    let it : BecauseReplay (ends.Refused only.0 only.1) request Hands before after was now old new =
+    subst (λ (e : CommandEnd). BecauseReplay e request Hands before after was now old new) only.2 h in
+    let told : Says explains said_before said_after (refusal_said only.0.now only.1) =
+    subst (λ (e : CommandEnd). Says explains said_before said_after (said e)) only.2 says in
+    given_replay o request Hands (IsToldRefusal explains said_before said_after) is
+    (given_as Hands (λ files. IsRefusedBehind files request only.0.now only.1)
+    (IsToldRefusal explains said_before said_after request) (λ files refused. (only.0.now, only.1, refused, told)) it.2)
+
+-- how a line that is refused is told
+abbrev IsToldLine : List ℕ → List ℕ → Bool → List ℕ → List ℕ → ReplayWords → List NamedFile → Type 0
+IsToldLine old new explains said_before said_after words files =
+    (number : ℕ)
+    × ReplaysWhole files words (Some number) old new
+    × Says explains said_before said_after (line_said number)
+
+pub line_given : (o : Option Request) (request : ReplayWords) (Hands : List NamedFile → Type 0) (end : CommandEnd)
+    (before after : Faults) (was now : ℕ) (old new : List ℕ) (explains : Bool) (said_before said_after : List ℕ)
+    (status : ℕ)
+    → o ≡ Some (Replay request)
+    → status ≡ status_of end
+    → BecauseReplay end request Hands before after was now old new
+    → Says explains said_before said_after (said end)
+    → status ≡ 6
+    → GivenReplay o Hands (IsToldLine old new explains said_before said_after)
+line_given o request Hands end before after was now old new explains said_before said_after status is ends_so h says six =
+    let only = line_only end (sym ends_so ∙ six) in
+    let it : BecauseReplay (ends.LineRefused only.0) request Hands before after was now old new =
+    subst (λ (e : CommandEnd). BecauseReplay e request Hands before after was now old new) only.1 h in
+    let told : Says explains said_before said_after (line_said only.0) =
+    subst (λ (e : CommandEnd). Says explains said_before said_after (said e)) only.1 says in
+    given_replay o request Hands (IsToldLine old new explains said_before said_after) is
+    (given_as Hands (λ files. ReplaysWhole files request (Some only.0) old new)
+    (IsToldLine old new explains said_before said_after request) (λ files played. (only.0, played, told)) it.2)

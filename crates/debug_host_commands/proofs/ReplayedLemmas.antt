@@ -99,7 +99,7 @@ abbrev HasEnd : ReplayEnd → List Script → List (List ℕ) → Bool → List 
 HasEnd e scripts input wait journal =
     IsCut e ⊎ (e ≡ end_of (refused scripts 1 (begin scripts input wait) (lines_of journal)))
 
-abbrev HasOutput : ReplayEnd → List Script → List (List ℕ) → Bool → List ℕ → Option (List ℕ) → Option (List ℕ) → Type 0
+abbrev HasOutput : ReplayEnd → List Script → List (List ℕ) → Bool → List ℕ → List ℕ → List ℕ → Type 0
 HasOutput e scripts input wait journal old new =
     IsCut e ⊎ (new ≡ gains old (journal_output scripts (begin scripts input wait) (lines_of journal)))
 

@@ -11,10 +11,11 @@ use Rattle.debug_host_script_files.specs.Scripts.{AreScripts}
 use Rattle.debug_host_script_files.proofs.ScriptLemmas.{none_refused}
 use Rattle.debug_host_commands.specs.Files.{HoldsLines, HoldsSources, IsNamed, IsReachedIn, IsRefusedIn}
 use Rattle.debug_host_commands.specs.RunCauses.{RunsToEnd, RunsToThrow, RunsShort, RunsInPart, BecauseSources, BecauseRun}
-use Rattle.debug_host_commands.specs.Status.{ForRun, GivenRun, said, status_of, unread_said, Says, uncaught_said}
+use Rattle.debug_host_commands.specs.Status.{ForRun, GivenRun, refusal_said, said, status_of, unread_said, Says, uncaught_said}
 use Rattle.debug_host_options.specs.Requests.{Request, Run, RunWords, Sources}
 use Rattle.debug_host_commands.specs.declared.outcome.CommandEnd.{CommandEnd}
 use Rattle.debug_host_commands.specs.declared.outcome.CommandEnd.TheVariants as ends
+use Rattle.debug_host_commands.proofs.EndLemmas.{cut_only, done_only, refused_only}
 
 -- ---- which files were handed in
 
@@ -31,6 +32,7 @@ pub one_rest : (name a b : List ℕ) (xs ys files : List NamedFile)
     → files ≡ one_file name a ++ xs
     → files ≡ one_file name b ++ ys
     → xs ≡ ys
+unfolding files_behind
 one_rest name a b xs ys files p q = ap files_behind (sym p ∙ q)
 
 -- and so are its bytes
@@ -38,6 +40,7 @@ pub one_content : (name a b : List ℕ) (xs ys files : List NamedFile)
     → files ≡ one_file name a ++ xs
     → files ≡ one_file name b ++ ys
     → a ≡ b
+unfolding first_bytes
 one_content name a b xs ys files p q = ap first_bytes (sym p ∙ q)
 
 -- what comes after the input is one list
@@ -249,6 +252,64 @@ pub read_given : (o : Option Request) (request : RunWords) (Hands : List NamedFi
 read_given o request Hands end before after was now old new explains said_before said_after status is ends_so h says four =
     let it : IsToldRead before after Hands explains said_before said_after request.sources =
     read-told end request.sources Hands before after was now old new explains said_before said_after (sym ends_so ∙ four) h says in rw is it
+
+-- ---- what the status says
+
+-- the run has ended
+pub done_given : (o : Option Request) (request : RunWords) (Hands : List NamedFile → Type 0) (end : CommandEnd)
+    (before after : Faults) (was now : ℕ) (old new : List ℕ) (status : ℕ)
+    → o ≡ Some (Run request)
+    → status ≡ status_of end
+    → BecauseRun end request.sources Hands before after was now old new
+    → status ≡ 0
+    → GivenRun o Hands (λ sources files. RunsToEnd files sources old new)
+done_given o request Hands end before after was now old new status is ends_so h found =
+    let it : BecauseRun ends.Done request.sources Hands before after was now old new =
+    subst (λ (e : CommandEnd). BecauseRun e request.sources Hands before after was now old new)
+    (done_only end (sym ends_so ∙ found)) h in
+    given_run o request Hands (λ sources files. RunsToEnd files sources old new) is it.2
+
+-- not all of its output could be written
+pub short_given : (o : Option Request) (request : RunWords) (Hands : List NamedFile → Type 0) (end : CommandEnd)
+    (before after : Faults) (was now : ℕ) (old new : List ℕ) (status : ℕ)
+    → o ≡ Some (Run request)
+    → status ≡ status_of end
+    → BecauseRun end request.sources Hands before after was now old new
+    → status ≡ 5
+    → GivenRun o Hands (λ sources files. RunsShort files sources old new)
+short_given o request Hands end before after was now old new status is ends_so h found =
+    let it : BecauseRun ends.CannotWrite request.sources Hands before after was now old new =
+    subst (λ (e : CommandEnd). BecauseRun e request.sources Hands before after was now old new)
+    (cut_only end (sym ends_so ∙ found)) h in
+    given_run o request Hands (λ sources files. RunsShort files sources old new) is it.2
+
+-- how a file that is refused is told
+abbrev IsToldRefusal : Bool → List ℕ → List ℕ → Sources → List NamedFile → Type 0
+IsToldRefusal explains said_before said_after sources files =
+    (name : List ℕ)
+    × (refusal : TextFault)
+    × IsRefusedIn files sources name refusal
+    × Says explains said_before said_after (refusal_said name refusal)
+
+pub refusal_given : (o : Option Request) (request : RunWords) (Hands : List NamedFile → Type 0) (end : CommandEnd)
+    (before after : Faults) (was now : ℕ) (old new : List ℕ) (explains : Bool) (said_before said_after : List ℕ)
+    (status : ℕ)
+    → o ≡ Some (Run request)
+    → status ≡ status_of end
+    → BecauseRun end request.sources Hands before after was now old new
+    → Says explains said_before said_after (said end)
+    → status ≡ 3
+    → GivenRun o Hands (IsToldRefusal explains said_before said_after)
+refusal_given o request Hands end before after was now old new explains said_before said_after status is ends_so h says
+    three =
+    let only = refused_only end (sym ends_so ∙ three) in
+    let it : BecauseRun (ends.Refused only.0 only.1) request.sources Hands before after was now old new =
+    subst (λ (e : CommandEnd). BecauseRun e request.sources Hands before after was now old new) only.2 h in
+    let told : Says explains said_before said_after (refusal_said only.0.now only.1) =
+    subst (λ (e : CommandEnd). Says explains said_before said_after (said e)) only.2 says in
+    given_run o request Hands (IsToldRefusal explains said_before said_after) is
+    (given_as Hands (λ files. IsRefusedIn files request.sources only.0.now only.1)
+    (IsToldRefusal explains said_before said_after request.sources) (λ files refused. (only.0.now, only.1, refused, told)) it.2)
 
 -- ---- before a step is made
 

@@ -44,7 +44,7 @@ use Rattle.ws_service.specs.declared.program.RunEnd.{RunEnd}
 use Rattle.ws_service.specs.declared.program.RunEnd.TheVariants as runs
 use Rattle.debug_host_commands.specs.Files.{HoldsSources, IsNamed, IsReachedIn, IsRefusedIn}
 use Rattle.debug_host_commands.specs.RunCauses.{BecauseSources, RunsInPart, RunsToThrow}
-use Rattle.debug_host_commands.specs.ServeCauses.{BecauseServe, BecauseServed, Harbored, HasFinished, IsEndOf, IsOpened, IsShutEnd, IsUnserved, MayServe, ServesPort, ShowsThrow, clients_of, outcome_of_serving}
+use Rattle.debug_host_commands.specs.ServeCauses.{BecauseServe, BecauseServed, Harbored, HasFinished, IsEndOf, IsOpened, IsShutEnd, IsUnserved, MayServe, ServesPort, ServesToEnd, ShowsThrow, clients_of, outcome_of_serving}
 use Rattle.debug_host_script_files.specs.declared.fault.TextFault.{TextFault}
 use Rattle.debug_host_commands.specs.Status.{ForServe, GivenServe, said, status_of, uncaught_said, unread_said, Says, refusal_said}
 use Rattle.debug_host_options.specs.Requests.{Request, Serve, ServeWords}
@@ -54,6 +54,7 @@ use Rattle.debug_host_commands.specs.declared.outcome.CommandEnd.TheVariants as 
 use Rattle.debug_host_commands.proofs.PausedLemmas.{run-shut}
 use Rattle.debug_host_commands.proofs.PlainLemmas.{plain-as}
 use Rattle.debug_host_commands.proofs.RunLemmas.{some_handed}
+use Rattle.debug_host_commands.proofs.EndLemmas.{done_only}
 use Rattle.cdp_edge.proofs.HandedLemmas.{given_as}
 use Rattle.ws_service.proofs.ProgramLemmas.{same-tail}
 
@@ -189,7 +190,7 @@ thrown-so k scripts input text before after (over (finishes.threw v place) s) at
   place = place;
   state = s;
   is = at;
-  Hands = sym (same_Some _ _ shown);
+  told = sym (same_Some _ _ shown);
   whole = written;
 }
 thrown-so k scripts input text before after (running t s) at shown written = absurd cc
@@ -758,6 +759,11 @@ module _ (request : ServeWords) (Hands : List NamedFile → Type 0) (faults now_
     refusal_given explains before after says three =
         given_serve o request Hands (IsToldRefusal explains before after) is
         (refusal-told end explains before after (sym ends_so ∙ three) h says)
+
+    pub done_given : status ≡ 0 → GivenServe o Hands (λ r files. ServesToEnd files r old.content new.content)
+    done_given zero =
+        let it : Ended ends.Done = subst Ended (done_only end (sym ends_so ∙ zero)) h in
+        given_serve o request Hands (λ r files. ServesToEnd files r old.content new.content) is it.3
 
     pub opened_given : IsPast status → ForServe o (λ r. now.opens ≡ called (r.port, r.sessions) was.opens)
     opened_given past =

@@ -1,7 +1,9 @@
 -- What holds of a command whatever the words ask for.
-use Rattle.std.proofs.Common.{Option, Some, None}
+use Rattle.std.proofs.Common.{◌≡◌, List, [], Option, Some, None}
+use Rattle.cdp_edge.specs.Outside.{HandsIn, NamedFile}
+use Rattle.cdp_edge.proofs.HandedLemmas.{given_nothing}
 use Rattle.debug_host_options.specs.Requests.{Drill, Help, Replay, ReplayWords, Request, Run, Send, SendWords, Serve, Sources, Version}
-use Rattle.debug_host_commands.specs.Status.{ForReplay, ForRun, ForSend}
+use Rattle.debug_host_commands.specs.Status.{ForReplay, ForRun, ForSend, GivenReplay, GivenRun, GivenSend}
 
 pub for_run : (o : Option Request) (P : Sources → Type 0) → ((sources : Sources) → P sources) → ForRun o P
 for_run None P all = tt
@@ -32,3 +34,18 @@ for_send (Some (Send request)) P all = all request
 for_send (Some (Drill n)) P all = tt
 for_send (Some (Help topic)) P all = tt
 for_send (Some Version) P all = tt
+
+-- ---- no file was handed in
+
+module _ (asked : Option Request) (told : Option (List NamedFile)) (old new : List NamedFile) (same : new ≡ old) where
+  pub unread_run : (P : Sources → List NamedFile → Type 0) → ((sources : Sources) → P sources [])
+      → GivenRun asked (HandsIn told old new) P
+  unread_run P all = for_run asked _ (λ sources. given_nothing told old new (P sources) same (all sources))
+
+  pub unread_replay : (P : ReplayWords → List NamedFile → Type 0) → ((request : ReplayWords) → P request [])
+      → GivenReplay asked (HandsIn told old new) P
+  unread_replay P all = for_replay asked _ (λ request. given_nothing told old new (P request) same (all request))
+
+  pub unread_send : (P : SendWords → List NamedFile → Type 0) → ((request : SendWords) → P request [])
+      → GivenSend asked (HandsIn told old new) P
+  unread_send P all = for_send asked _ (λ request. given_nothing told old new (P request) same (all request))

@@ -8,7 +8,7 @@ use Rattle.debug_host_commands.proofs.ReplayLemmas as replays
 use Rattle.debug_host_commands.proofs.ServeLemmas as serves
 use Rattle.debug_host_commands.proofs.ClientLemmas as clients
 use Rattle.debug_host_commands.proofs.DrillLemmas as drills
-use Rattle.debug_host_commands.proofs.UnaskedLemmas.{for_replay, for_run, for_send}
+use Rattle.debug_host_commands.proofs.UnaskedLemmas.{unread_replay, unread_run, unread_send}
 use Rattle.debug_host_commands.proofs.program.debug_main.Goals as goal
 
 pub returns-in-Ok-Some-Run-clause-run_decided : goal.returns-in-Ok-Some-Run-clause-run_decided
@@ -184,32 +184,95 @@ returns-in-Ok-None-clause-says g c = (
 
 pub returns-in-Err-clause-run_decided : goal.returns-in-Err-clause-run_decided
 returns-in-Err-clause-run_decided g c =
-    for_run _ _ (λ request. ([], hands_nothing _ _ _ refl, λ scripts input holds. inr (inr (inl c.end.ensures.status))))
+    unread_run _ _ _ _ refl _ (λ request scripts input holds. inr (inr (inl c.end.ensures.status)))
 
 pub returns-in-Err-clause-run_exact : goal.returns-in-Err-clause-run_exact
 returns-in-Err-clause-run_exact g c =
-    for_run _ _ (λ request. ([], hands_nothing _ _ _ refl, λ name refusal refused. inr (inl c.end.ensures.status)))
+    unread_run _ _ _ _ refl _ (λ request name refusal refused. inr (inl c.end.ensures.status))
 
 pub returns-in-Err-clause-run_part : goal.returns-in-Err-clause-run_part
 returns-in-Err-clause-run_part g c =
-    for_run _ _ (λ request. ([], hands_nothing _ _ _ refl, inl refl))
+    unread_run _ _ _ _ refl _ (λ request. inl refl)
 
 pub returns-in-Err-clause-replay_decided : goal.returns-in-Err-clause-replay_decided
 returns-in-Err-clause-replay_decided g c =
-    for_replay _ _ (λ request. ([], hands_nothing _ _ _ refl, λ journal scripts input holds. inr (inr (inl c.end.ensures.status))))
+    unread_replay _ _ _ _ refl _ (λ request journal scripts input holds. inr (inr (inl c.end.ensures.status)))
 
 pub returns-in-Err-clause-replay_exact : goal.returns-in-Err-clause-replay_exact
 returns-in-Err-clause-replay_exact g c =
-    for_replay _ _ (λ request. ([], hands_nothing _ _ _ refl, λ name refusal refused. inr (inl c.end.ensures.status)))
+    unread_replay _ _ _ _ refl _ (λ request name refusal refused. inr (inl c.end.ensures.status))
 
 pub returns-in-Err-clause-headline : goal.returns-in-Err-clause-headline
 returns-in-Err-clause-headline g c =
-    for_replay _ _ (λ request. ([], hands_nothing _ _ _ refl, inl refl))
+    unread_replay _ _ _ _ refl _ (λ request. inl refl)
 
 pub returns-in-Err-clause-send_decided : goal.returns-in-Err-clause-send_decided
 returns-in-Err-clause-send_decided g c =
-    for_send _ _ (λ request. ([], hands_nothing _ _ _ refl, λ lines holds. inr (inr (inl c.end.ensures.status))))
+    unread_send _ _ _ _ refl _ (λ request lines holds. inr (inr (inl c.end.ensures.status)))
 
 pub returns-in-Err-clause-send_exact : goal.returns-in-Err-clause-send_exact
 returns-in-Err-clause-send_exact g c =
-    for_send _ _ (λ request. ([], hands_nothing _ _ _ refl, λ line refused. inr (inl c.end.ensures.status)))
+    unread_send _ _ _ _ refl _ (λ request line refused. inr (inl c.end.ensures.status))
+
+pub returns-in-Ok-Some-Run-clause-run_done : goal.returns-in-Ok-Some-Run-clause-run_done
+returns-in-Ok-Some-Run-clause-run_done g c =
+    runs.done_given _ (run_held c.in-Ok-Some-Run.request) _ c.run-outcome.result _ _ _ _ _ _ c.end_explained-in-Ok-Some-Run.result
+    (sym (rw c.in-Ok-Some-Run.field-0-0-is at (rw c.in-Ok-Some-Run.field-0-is at c.in-Ok-Some-Run.ensures.value)))
+    c.end_explained-in-Ok-Some-Run.ensures.status c.run-outcome.ensures.cause
+
+pub returns-in-Ok-Some-Run-clause-run_refused : goal.returns-in-Ok-Some-Run-clause-run_refused
+returns-in-Ok-Some-Run-clause-run_refused g c =
+    runs.refusal_given _ (run_held c.in-Ok-Some-Run.request) _ c.run-outcome.result _ _ _ _ _ _ _ _ _ c.end_explained-in-Ok-Some-Run.result
+    (sym (rw c.in-Ok-Some-Run.field-0-0-is at (rw c.in-Ok-Some-Run.field-0-is at c.in-Ok-Some-Run.ensures.value)))
+    c.end_explained-in-Ok-Some-Run.ensures.status c.run-outcome.ensures.cause (reports.run-says c.args.words.now (run_held c.in-Ok-Some-Run.request) _ _ _ (sym (rw c.in-Ok-Some-Run.field-0-0-is at (rw c.in-Ok-Some-Run.field-0-is at c.in-Ok-Some-Run.ensures.value))) c.end_explained-in-Ok-Some-Run.ensures.says)
+
+pub returns-in-Ok-Some-Run-clause-run_offered : goal.returns-in-Ok-Some-Run-clause-run_offered
+returns-in-Ok-Some-Run-clause-run_offered g c =
+    runs.short_given _ (run_held c.in-Ok-Some-Run.request) _ c.run-outcome.result _ _ _ _ _ _ c.end_explained-in-Ok-Some-Run.result
+    (sym (rw c.in-Ok-Some-Run.field-0-0-is at (rw c.in-Ok-Some-Run.field-0-is at c.in-Ok-Some-Run.ensures.value)))
+    c.end_explained-in-Ok-Some-Run.ensures.status c.run-outcome.ensures.cause
+
+pub returns-in-Ok-Some-Replay-clause-replay_done : goal.returns-in-Ok-Some-Replay-clause-replay_done
+returns-in-Ok-Some-Replay-clause-replay_done g c =
+    replays.done_given _ (replay_held c.in-Ok-Some-Replay.request) _ c.replay-outcome.result _ _ _ _ _ _ c.end_explained-in-Ok-Some-Replay.result
+    (sym (rw c.in-Ok-Some-Replay.field-0-0-is at (rw c.in-Ok-Some-Replay.field-0-is at c.in-Ok-Some-Replay.ensures.value)))
+    c.end_explained-in-Ok-Some-Replay.ensures.status c.replay-outcome.ensures.cause
+
+pub returns-in-Ok-Some-Replay-clause-replay_line : goal.returns-in-Ok-Some-Replay-clause-replay_line
+returns-in-Ok-Some-Replay-clause-replay_line g c =
+    replays.line_given _ (replay_held c.in-Ok-Some-Replay.request) _ c.replay-outcome.result _ _ _ _ _ _ _ _ _ c.end_explained-in-Ok-Some-Replay.result
+    (sym (rw c.in-Ok-Some-Replay.field-0-0-is at (rw c.in-Ok-Some-Replay.field-0-is at c.in-Ok-Some-Replay.ensures.value)))
+    c.end_explained-in-Ok-Some-Replay.ensures.status c.replay-outcome.ensures.cause (reports.replay-says c.args.words.now (replay_held c.in-Ok-Some-Replay.request) _ _ _ (sym (rw c.in-Ok-Some-Replay.field-0-0-is at (rw c.in-Ok-Some-Replay.field-0-is at c.in-Ok-Some-Replay.ensures.value))) c.end_explained-in-Ok-Some-Replay.ensures.says)
+
+pub returns-in-Ok-Some-Replay-clause-replay_refused : goal.returns-in-Ok-Some-Replay-clause-replay_refused
+returns-in-Ok-Some-Replay-clause-replay_refused g c =
+    replays.refusal_given _ (replay_held c.in-Ok-Some-Replay.request) _ c.replay-outcome.result _ _ _ _ _ _ _ _ _ c.end_explained-in-Ok-Some-Replay.result
+    (sym (rw c.in-Ok-Some-Replay.field-0-0-is at (rw c.in-Ok-Some-Replay.field-0-is at c.in-Ok-Some-Replay.ensures.value)))
+    c.end_explained-in-Ok-Some-Replay.ensures.status c.replay-outcome.ensures.cause (reports.replay-says c.args.words.now (replay_held c.in-Ok-Some-Replay.request) _ _ _ (sym (rw c.in-Ok-Some-Replay.field-0-0-is at (rw c.in-Ok-Some-Replay.field-0-is at c.in-Ok-Some-Replay.ensures.value))) c.end_explained-in-Ok-Some-Replay.ensures.says)
+
+pub returns-in-Ok-Some-Replay-clause-replay_offered : goal.returns-in-Ok-Some-Replay-clause-replay_offered
+returns-in-Ok-Some-Replay-clause-replay_offered g c =
+    replays.short_given _ (replay_held c.in-Ok-Some-Replay.request) _ c.replay-outcome.result _ _ _ _ _ _ c.end_explained-in-Ok-Some-Replay.result
+    (sym (rw c.in-Ok-Some-Replay.field-0-0-is at (rw c.in-Ok-Some-Replay.field-0-is at c.in-Ok-Some-Replay.ensures.value)))
+    c.end_explained-in-Ok-Some-Replay.ensures.status c.replay-outcome.ensures.cause
+
+pub returns-in-Ok-Some-Serve-clause-serve_done : goal.returns-in-Ok-Some-Serve-clause-serve_done
+returns-in-Ok-Some-Serve-clause-serve_done g c =
+    serves.done_given (serve_held c.in-Ok-Some-Serve.request) _ _ _ _ _ _ _ _ c.serve-outcome.result
+    c.end_explained-in-Ok-Some-Serve.result
+    (sym (rw c.in-Ok-Some-Serve.field-0-0-is at (rw c.in-Ok-Some-Serve.field-0-is at c.in-Ok-Some-Serve.ensures.value)))
+    c.end_explained-in-Ok-Some-Serve.ensures.status c.serve-outcome.ensures.cause
+
+pub returns-in-Ok-Some-Send-clause-send_done : goal.returns-in-Ok-Some-Send-clause-send_done
+returns-in-Ok-Some-Send-clause-send_done g c =
+    clients.done_given (send_held c.in-Ok-Some-Send.request) _ _ _ _ _ _ _ _ c.send-outcome.result
+    c.end_explained-in-Ok-Some-Send.result
+    (sym (rw c.in-Ok-Some-Send.field-0-0-is at (rw c.in-Ok-Some-Send.field-0-is at c.in-Ok-Some-Send.ensures.value)))
+    c.end_explained-in-Ok-Some-Send.ensures.status c.send-outcome.ensures.cause
+
+pub returns-in-Ok-Some-Send-clause-send_offered : goal.returns-in-Ok-Some-Send-clause-send_offered
+returns-in-Ok-Some-Send-clause-send_offered g c =
+    clients.short_given (send_held c.in-Ok-Some-Send.request) _ _ _ _ _ _ _ _ c.send-outcome.result
+    c.end_explained-in-Ok-Some-Send.result
+    (sym (rw c.in-Ok-Some-Send.field-0-0-is at (rw c.in-Ok-Some-Send.field-0-is at c.in-Ok-Some-Send.ensures.value)))
+    c.end_explained-in-Ok-Some-Send.ensures.status c.send-outcome.ensures.cause
