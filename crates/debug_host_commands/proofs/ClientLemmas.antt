@@ -473,8 +473,8 @@ module _ (request : SendWords) (Hands : List NamedFile → Type 0) (faults now_f
         read-told end explains before after (sym ends_so ∙ four) h says in rw is it
 
     pub done_given : status ≡ 0 → GivenSend o Hands (λ r files. Sends files r talks.Done old new was now)
-    done_given zero =
-        let it : Because ends.Done = subst Because (done_only end (sym ends_so ∙ zero)) h in
+    done_given done =
+        let it : Because ends.Done = subst Because (done_only end (sym ends_so ∙ done)) h in
         given_send o request Hands (λ r files. Sends files r talks.Done old new was now) is it.4
 
     pub short_given : status ≡ 5 → GivenSend o Hands (λ r files. Sends files r talks.WriteFault old new was now)

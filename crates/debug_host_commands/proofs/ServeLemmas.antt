@@ -761,8 +761,8 @@ module _ (request : ServeWords) (Hands : List NamedFile → Type 0) (faults now_
         (refusal-told end explains before after (sym ends_so ∙ three) h says)
 
     pub done_given : status ≡ 0 → GivenServe o Hands (λ r files. ServesToEnd files r old.content new.content)
-    done_given zero =
-        let it : Ended ends.Done = subst Ended (done_only end (sym ends_so ∙ zero)) h in
+    done_given done =
+        let it : Ended ends.Done = subst Ended (done_only end (sym ends_so ∙ done)) h in
         given_serve o request Hands (λ r files. ServesToEnd files r old.content new.content) is it.3
 
     pub opened_given : IsPast status → ForServe o (λ r. now.opens ≡ called (r.port, r.sessions) was.opens)
