@@ -94,7 +94,7 @@ class Host:
     def processor_ms(self):
         return processor_ms(self.process.pid)
 
-    def memory(self):
-        """The most memory that it held, in MiB."""
+    def memory(self, kind="VmHWM"):
+        """The most memory that it held, in MiB; with `VmRSS` what it holds now."""
         with open("/proc/%d/status" % self.process.pid) as file:
-            return int(re.search(r"VmHWM:\s+(\d+) kB", file.read()).group(1)) / 1024
+            return int(re.search(kind + r":\s+(\d+) kB", file.read()).group(1)) / 1024
