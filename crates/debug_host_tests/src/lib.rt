@@ -17,8 +17,6 @@ mod piece_sink;
 #[cfg(test)]
 mod pieces;
 #[cfg(test)]
-mod sending;
-#[cfg(test)]
 mod serving;
 #[cfg(test)]
 mod standing;
