@@ -14,8 +14,9 @@
 //! | `fails output N..`, `fails errors N..`, `fails reads N..` | the numbers of writes and reads that fail, from 1 |
 //! | `fails port N..` | the numbers of the times that the port fails to be opened or dialled |
 //! | `door`, `door N..` | a door of the port; how often it was asked when it fails |
-//! | `client`, `client N..` | a client of the last door, or without a door of the port that is dialled; the calls of its link that fail |
-//! | `says TEXT`, `says*N TEXT`, `binary`, `large` | the client sends a text; so many; a binary message; one above the limit |
+//! | `client`, `client N..` | a client of the last door, or of the port that is dialled; the calls of its link that fail |
+//! | `says TEXT`, `says*N TEXT` | the client sends a text; so many of them |
+//! | `binary`, `large` | the client sends a binary message, a message above the limit |
 //! | `quiet`, `goes`, `waits N`, `waits` | the client is silent once; goes; is silent until gate N is open; stays |
 //! | `opens N` | the first text that the client is sent opens gate N |
 //! | `sent TEXT`, `sent*N TEXT`, `closed N` | the client was sent that, and closed with that code |

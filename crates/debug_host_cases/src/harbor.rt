@@ -122,8 +122,8 @@ pub(crate) fn harbor_of(
     Ok(MemHarbor::new(doors, links, failing.to_vec(alloc)?))
 }
 
-/// What a client was told, behind what others were: a line for each text that it was sent, and one for the code that it was
-/// closed with.
+/// What a client was told, behind what others were: a line for each text that it was sent, and one for the code with
+/// which it was closed.
 fn append_told(alloc: Global, told: &mut String, link: &MemLink) -> Result<(), AllocError> {
     told.push_str("client\n")?;
     for text in link.sent() {
