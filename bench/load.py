@@ -21,7 +21,7 @@ import sys
 import tempfile
 import time
 
-from clients import CLOSE, TEXT, Client, frame
+from clients import TEXT, Client, frame
 from debugging import PROGRAM
 from hosts import Host
 from measured import run, write
