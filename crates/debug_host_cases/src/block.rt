@@ -9,6 +9,7 @@
 //! | `call WORDS` | a call with these words |
 //! | `status N` | its status, where that isn't 0 |
 //! | `out TEXT`, `out*N TEXT` | a line of its output; so many of them |
+//! | `count A B TEXT` | lines of its output with this text and a number, from A to below B |
 //! | `output NAME`, `output NAME N` | what a file of the folder has stands in its output; so many first lines of it |
 //! | `err TEXT` | a line of what is said of errors |
 //! | `fails output N..`, `fails errors N..`, `fails reads N..` | the numbers of writes and reads that fail, from 1 |
@@ -102,6 +103,24 @@ fn take_output(case: &mut Case, folder: &[File], text: &str) -> Result<bool, All
     }
 }
 
+/// Takes lines of output with a text and a number each, from one number to below another.
+fn take_count(alloc: Global, output: &mut Vec<u8>, text: &str) -> Result<bool, AllocError> {
+    let Some((first, behind)) = text.split_once(' ') else {
+        return Ok(false);
+    };
+    let Some((end, text)) = behind.split_once(' ') else {
+        return Ok(false);
+    };
+    let (Some(first), Some(end)) = (read_decimal(first), read_decimal(end)) else {
+        return Ok(false);
+    };
+    for number in first..end {
+        let line = format!(in alloc; "{text} {number}\n")?;
+        output.extend_from_slice(line.as_bytes())?;
+    }
+    Ok(true)
+}
+
 /// Takes a door, by how often it was asked when it fails.
 fn begin_door(alloc: Global, case: &mut Case, text: &str) -> Result<bool, AllocError> {
     let mut door = Entrance::new(alloc);
@@ -134,6 +153,7 @@ fn take_of_case(
         "out" => append(alloc, &mut case.output, text, b"\n", times).map(|()| true),
         "err" => append(alloc, &mut case.errors, text, b"\n", times).map(|()| true),
         "output" => take_output(case, folder, text),
+        "count" => take_count(alloc, &mut case.output, text),
         "fails" => take_fails(case, text),
         "status" => {
             case.status = read_decimal(text).unwrap_or(u64::MAX);
