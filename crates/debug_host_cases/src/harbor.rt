@@ -7,26 +7,28 @@ use crate::clients::{Act, Client, Entrance};
 use crate::texts::sorted_parts;
 use cdp_edge_server::{Gate, Incoming, MemDoor, MemHarbor, MemLink};
 use std::alloc::{AllocError, Global};
+use std::collections::VecDeque;
 
 /// How often the link of a client that waits is asked in vain before the client goes.
 const PATIENCE: u64 = 10_000_000;
 
 /// The gates that one client knows of so far, by their numbers: the other one is still to come.
-type Gates = Vec<(u64, Gate)>;
+type Gates = VecDeque<(u64, Gate)>;
 
 /// The place of the gate of this number.
-fn place_of(gates: &[(u64, Gate)], number: u64) -> Option<usize> {
+fn place_of(gates: &Gates, number: u64) -> Option<usize> {
     gates.iter().position(|gate| gate.0 == number)
 }
 
 /// The gate of this number, of which there are two: for the client that opens it, and for the one that waits.
 fn gate_of(alloc: Global, gates: &mut Gates, number: u64) -> Result<Gate, AllocError> {
     if let Some(place) = place_of(gates, number) {
-        let (_, gate) = gates.remove(place);
-        return Ok(gate);
+        if let Some((_, gate)) = gates.remove(place) {
+            return Ok(gate);
+        }
     }
     let (gate, other) = Gate::pair(alloc)?;
-    gates.push((number, other))?;
+    gates.push_back((number, other))?;
     Ok(gate)
 }
 
@@ -116,7 +118,7 @@ pub(crate) fn harbor_of(
     doors: &[Entrance],
     failing: &[u64],
 ) -> Result<MemHarbor, AllocError> {
-    let mut gates = Vec::new(alloc);
+    let mut gates = VecDeque::new(alloc);
     let links = links_of(alloc, dialled, &mut gates)?;
     let doors = doors_of(alloc, doors, &mut gates)?;
     Ok(MemHarbor::new(doors, links, failing.to_vec(alloc)?))
