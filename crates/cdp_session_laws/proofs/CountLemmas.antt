@@ -1,10 +1,11 @@
 -- Counts that stay at most a limit. The limits are variables here, since great numbers stop a search.
-use Rattle.std.proofs.Common.{◌≡◌, ℕ, ◌+◌, ◌<◌, ◌≤◌, Bool, true, false, cond, List, [], ◌∷◌, length, refl, subst, sym, arith}
-use Rattle.std.specs.Prelude.{filter, nat_le, nat_lt, if◌then◌else◌, Option, Some, None}
+use Rattle.std.proofs.Common.{◌≡◌, ℕ, ◌+◌, ◌<◌, ◌≤◌, Bool, true, false, cond, List, [], ◌∷◌, ◌++◌, length, arith}
+use Rattle.std.specs.Prelude.{filter, nat_le, nat_lt, if◌then◌else◌, Some, None}
 use Rattle.std.proofs.lemmas.Bool.Decides.{nat_tests}
+use Rattle.std.proofs.lemmas.List.{length_push}
 
 -- what passes a test is no more than all
-pub filter-shorter : {X : Type 0} (p : X → Bool) (xs : List X) → length (filter p xs) ≤ length xs
+filter-shorter : {X : Type 0} (p : X → Bool) (xs : List X) → length (filter p xs) ≤ length xs
 filter-shorter p [] = omega arith
 filter-shorter p (x ∷ xs) = at (p x) (filter-shorter p xs)
   where
@@ -13,6 +14,21 @@ filter-shorter p (x ∷ xs) = at (p x) (filter-shorter p xs)
         → length (cond b (x ∷ filter p xs) (filter p xs)) ≤ length (x ∷ xs)
     at true le = omega (arith, le)
     at false le = omega (arith, le)
+
+pub filter-within : {X : Type 0} (m : ℕ) (p : X → Bool) (xs : List X) → length xs ≤ m → length (filter p xs) ≤ m
+filter-within m p xs le =
+    let shorter = filter-shorter p xs in
+    omega (arith, le, shorter)
+
+-- one more of fewer than a limit
+pub push-within : {X : Type 0} (m : ℕ) (xs : List X) (x : X) → length xs < m → length (xs ++ x ∷ []) ≤ m
+push-within m xs x lt =
+    let longer = length_push xs x in
+    omega (arith, lt, longer)
+
+-- nothing is no more than a limit
+pub none-within : (m : ℕ) → 0 ≤ m
+none-within m = omega arith
 
 -- where neither of two tests for a limit is met, both counts are below
 pub below-both : {F : Type 0} (m n a b : ℕ) (x y : F) (s t : Bool)

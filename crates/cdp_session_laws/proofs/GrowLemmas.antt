@@ -1,9 +1,8 @@
 -- Handles that are added, and handles that are taken out: what is held by the numbers of before.
-use Rattle.std.proofs.Common.{◌≡◌, ℕ, ◌+◌, ◌<◌, ◌≤◌, Bool, true, false, cond, List, [], ◌∷◌, ◌++◌, length, refl, sym, ap, subst, ◌∙◌, arith}
+use Rattle.std.proofs.Common.{◌≡◌, ℕ, ◌+◌, ◌≤◌, Bool, true, false, cond, List, [], ◌∷◌, ◌++◌, length, refl, sym, ap, ◌∙◌, arith}
 use Rattle.std.specs.Prelude.{filter, nat_eq, nat_le, if◌then◌else◌, Option, Some, None}
 use Rattle.std.specs.List.{find}
 use Rattle.std.proofs.lemmas.Bool.Decides.{nat_tests}
-use Rattle.std.proofs.lemmas.List.{length_push}
 use Rattle.object_groups.specs.declared.handle.Handle.{Handle}
 use Rattle.object_groups.specs.declared.handle.Target.{Target}
 use Rattle.object_groups.specs.Handles.{HeldHandles, fault_of, has_number, with_handle}
@@ -14,7 +13,7 @@ use Rattle.object_groups.proofs.NumberLemmas.{below-weaker, below-push, below-fi
 use Rattle.cdp_session.specs.Objects.{numbered}
 use Rattle.cdp_session_laws.specs.Handles.{IsOrdered}
 use Rattle.cdp_session_laws.specs.Limits.{HoldsFew}
-use Rattle.cdp_session_laws.proofs.CountLemmas.{below-both, filter-shorter, one-more}
+use Rattle.cdp_session_laws.proofs.CountLemmas.{below-both, filter-within, one-more, push-within}
 
 -- ---- numbers
 
@@ -116,10 +115,6 @@ grows-then a b c first second =
       few = λ f. second.few (first.few f);
     }
 
--- one more of a number of elements below a limit
-more-held : (m : ℕ) (hs : List Handle) (h : Handle) → length hs < m → length (hs ++ h ∷ []) ≤ m
-more-held m hs h lt = subst (λ n. n ≤ m) (sym (length_push hs h)) (one-more m (length hs) lt)
-
 -- where no limit stands
 pub grows-more : (t : Target) (g : Option (List ℕ)) (h : HeldHandles)
     → fault_of h ≡ None
@@ -137,7 +132,7 @@ grows-more t g h none =
             (below-weaker (h.made + 1) (h.made + 1 + 1) h.held (omega arith) o.below) (omega arith);
         ascending = ascending-push h.held new o.below o.ascending;
       };
-      few = λ f. (more-held MOST_HELD h.held new room.0, one-more MOST_MADE h.made room.1);
+      few = λ f. (push-within MOST_HELD h.held new room.0, one-more MOST_MADE h.made room.1);
     }
 
 -- ---- what stays of handles
@@ -157,12 +152,6 @@ fate-grows old new o g = record {
   few = g.few;
 }
 
--- what is left of some is no more than a limit, as they are
-fewer-held : (m : ℕ) (stays : Handle → Bool) (hs : List Handle) → length hs ≤ m → length (filter stays hs) ≤ m
-fewer-held m stays hs le =
-    let shorter = filter-shorter stays hs in
-    omega (arith, le, shorter)
-
 pub fate-filter : (stays : Handle → Bool) (h : HeldHandles)
     → IsOrdered h
     → Fate stays h (record h { held = filter stays h.held })
@@ -173,5 +162,5 @@ fate-filter stays h o = record {
     below = below-filter (h.made + 1) stays h.held o.below;
     ascending = ascending-filter stays h.held o.ascending;
   };
-  few = λ f. (fewer-held MOST_HELD stays h.held f.0, f.1);
+  few = λ f. (filter-within MOST_HELD stays h.held f.0, f.1);
 }

@@ -1,9 +1,8 @@
 -- Whatever happens to a session, it stays within its limits.
-use Rattle.std.proofs.Common.{◌≡◌, ℕ, ◌≤◌, Bool, true, false, List, [], ◌∷◌, ◌++◌, length, refl, sym, subst, arith}
-use Rattle.std.specs.Prelude.{◌^◌, filter, is_some, nat_le, nat_lt, if◌then◌else◌, Option, Some, None}
+use Rattle.std.proofs.Common.{◌≡◌, ℕ, ◌≤◌, Bool, true, false, List, [], ◌∷◌, ◌++◌, length, refl, sym, subst}
+use Rattle.std.specs.Prelude.{◌^◌, is_some, nat_le, nat_lt, if◌then◌else◌, Option, Some, None}
 use Rattle.std.specs.List.{list_any}
 use Rattle.std.specs.Option.{option_map_or}
-use Rattle.std.proofs.lemmas.List.{length_push}
 use Rattle.cdp_text.specs.declared.position.Place.{Place}
 use Rattle.js_heap.specs.declared.value.Value.{Value}
 use Rattle.js_heap.specs.declared.value.Value.TheVariants as values
@@ -44,7 +43,7 @@ use Rattle.cdp_session.specs.declared.situation.Pause.{Pause}
 use Rattle.cdp_session_laws.specs.Events.{Event, Texted, Printed, Ended, Stopped, Resumed, HandedOut, after_all, after_event, lived}
 use Rattle.cdp_session_laws.specs.Handles.{IsOrdered}
 use Rattle.cdp_session_laws.specs.Limits.{HasFew, IsWithinLimits}
-use Rattle.cdp_session_laws.proofs.CountLemmas.{below-last, counts-on, filter-shorter, one-more}
+use Rattle.cdp_session_laws.proofs.CountLemmas.{below-last, counts-on, filter-within, none-within, push-within}
 use Rattle.cdp_session_laws.proofs.EvaluatingLemmas.{Evaluation, a-call, an-evaluation, in-frame}
 use Rattle.cdp_session_laws.proofs.EventLemmas.{event-leaves}
 use Rattle.cdp_session_laws.proofs.RowLemmas.{session_by}
@@ -55,26 +54,30 @@ use Rattle.cdp_session_laws.proofs.RowLemmas.{session_by}
 abbrev Few : Session → Type 0
 Few x = HasFew x.breakpoints × (x.exceptions ≤ 2 ^ 62)
 
--- so has the session that a row leaves
-abbrev Stays : Session → Row → Type 0
-Stays x r = Few x → Few (session_by x r)
-
 -- what is refused before it acts leaves everything
-or-refused : (x : Session) (o : Option Refusal) (r : Row) → Stays x r → Stays x (option_map_or Refuses o r)
+or-refused : (x : Session) (o : Option Refusal) (r : Row)
+    → (Few x → Few (session_by x r))
+    → Few x
+    → Few (session_by x (option_map_or Refuses o r))
 or-refused x None r stays few = stays few
 or-refused x (Some why) r stays few = few
 
 of-script : (x : Session) (o : Option Script) (id : List ℕ) (f : Script → Row)
-    → ((script : Script) → Stays x (f script))
-    → Stays x (in_script o id f)
+    → ((script : Script) → Few x → Few (session_by x (f script)))
+    → Few x
+    → Few (session_by x (in_script o id f))
 of-script x None id f each few = few
 of-script x (Some script) id f each few = each script few
 
-to-place : (x : Session) (o : Option Place) → Stays x (continue_at x o)
+to-place : (x : Session) (o : Option Place)
+    → Few x
+    → Few (session_by x (continue_at x o))
 to-place x None few = few
 to-place x (Some place) few = few
 
-a-step : (x : Session) (kind : StepKind) (o : Option Pause) → Stays x (step_from kind o x)
+a-step : (x : Session) (kind : StepKind) (o : Option Pause)
+    → Few x
+    → Few (session_by x (step_from kind o x))
 a-step x kind None few = few
 a-step x kind (Some p) few = few
 
@@ -85,11 +88,14 @@ asks-pause x true few = few
 asks-pause x false few = few
 
 properties-made : (s : Situation) (x : Session) (preview : Bool) (o : Option Handle)
-    → Stays x (properties_of s x preview o)
+    → Few x
+    → Few (session_by x (properties_of s x preview o))
 properties-made s x preview None few = few
 properties-made s x preview (Some h) few = few
 
-releases-made : (x : Session) (o : Option Handle) → Stays x (releases_row x o)
+releases-made : (x : Session) (o : Option Handle)
+    → Few x
+    → Few (session_by x (releases_row x o))
 releases-made x None few = few
 releases-made x (Some h) few = few
 
@@ -102,43 +108,47 @@ set-below : (id : List ℕ) (b : HeldBreakpoints) (new : Breakpoint)
 set-below id b new none =
     let room = below-last MOST (length b.set) (faults.Exists id) (faults.Full MOST) (list_any (has_id id) b.set)
     (nat_le MOST (length b.set)) refl none in
-    subst (λ n. n ≤ MOST) (sym (length_push b.set new)) (one-more MOST (length b.set) room)
+    push-within MOST b.set new room
 
 adds-one : (x : Session) (o : Option AddFault) (id : List ℕ) (condition : Option (List ℕ)) (places : List Place)
     (result : Json)
     → fault_of id x.breakpoints ≡ o
-    → Stays x (adds_breakpoint o x id condition places result)
+    → Few x
+    → Few (session_by x (adds_breakpoint o x id condition places result))
 adds-one x None id condition places result none few =
     (set-below id x.breakpoints (breakpoint_of id condition places) none, few.1)
 adds-one x (Some fault) id condition places result is few = few
 
 adds-resolved : (x : Session) (place : Place) (condition : Option (List ℕ)) (o : Option Place)
-    → Stays x (adds_at x place condition o)
+    → Few x
+    → Few (session_by x (adds_at x place condition o))
 adds-resolved x place condition None few = few
 adds-resolved x place condition (Some resolved) few =
     adds-one x (fault_of (place_id place) x.breakpoints) (place_id place) condition (resolved ∷ [])
     (set_at (place_id place) resolved) refl few
 
-fewer-set : (m : ℕ) (p : Breakpoint → Bool) (bs : List Breakpoint) → length bs ≤ m → length (filter p bs) ≤ m
-fewer-set m p bs le =
-    let shorter = filter-shorter p bs in
-    omega (arith, le, shorter)
-
 -- ---- evaluations
 
-evaluated : (x : Session) (r : Row) → Evaluation x r → Stays x r
+evaluated : (x : Session) (r : Row) → Evaluation x r
+    → Few x
+    → Few (session_by x r)
 evaluated x (Refuses why) e few = few
-evaluated x (Does done) e few = (subst HasFew (sym e.0.only.breakpoints) few.0, e.0.counts few.1)
+evaluated x (Does done) e few = (subst (λ b. HasFew b) (sym e.0.only.breakpoints) few.0, e.0.counts few.1)
 
 -- ---- all commands
 
 -- a command whose row leaves few leaves few
-by-row : (s : Situation) (x : Session) (p : Params) → Stays x (row s x p) → Stays x (comes_to s x p)
+by-row : (s : Situation) (x : Session) (p : Params)
+    → (Few x → Few (session_by x (row s x p)))
+    → Few x
+    → Few (session_by x (comes_to s x p))
 by-row s x p stays few = or-refused x (refusal_of s x p) (row s x p) stays few
 
-stays-few : (s : Situation) (x : Session) (p : Params) → Stays x (comes_to s x p)
+stays-few : (s : Situation) (x : Session) (p : Params)
+    → Few x
+    → Few (session_by x (comes_to s x p))
 stays-few s x params.DebuggerEnable few = by-row s x params.DebuggerEnable (λ f. f) few
-stays-few s x params.DebuggerDisable few = (omega arith, few.1)
+stays-few s x params.DebuggerDisable few = (none-within 1000, few.1)
 stays-few s x params.Pause few = by-row s x params.Pause (asks-pause x (is_some s.paused)) few
 stays-few s x params.Resume few = by-row s x params.Resume (λ f. f) few
 stays-few s x params.StepInto few = by-row s x params.StepInto (a-step x kinds.Into s.paused) few
@@ -163,7 +173,7 @@ stays-few s x (params.SetBreakpoint at condition) few =
     few
 stays-few s x (params.RemoveBreakpoint id) few =
     by-row s x (params.RemoveBreakpoint id)
-    (λ f. (fewer-set MOST (has_another_id id) x.breakpoints.set f.0, f.1)) few
+    (λ f. (filter-within MOST (has_another_id id) x.breakpoints.set f.0, f.1)) few
 stays-few s x (params.SetBreakpointsActive active) few =
     by-row s x (params.SetBreakpointsActive active) (λ f. f) few
 stays-few s x (params.SetSkipAllPauses skip) few = by-row s x (params.SetSkipAllPauses skip) (λ f. f) few
@@ -252,4 +262,8 @@ pub within-limits : (number : ℕ) (workspace : Workspace) (events : List Event)
     → IsWithinLimits (lived number workspace events)
 within-limits number workspace events =
     within-after events (fresh number workspace) (record { below = tt; ascending = tt })
-    (record { objects = (omega arith, omega arith); breakpoints = omega arith; exceptions = omega arith })
+    (record {
+      objects = (none-within 100000, none-within (2 ^ 62));
+      breakpoints = none-within 1000;
+      exceptions = none-within (2 ^ 62);
+    })
