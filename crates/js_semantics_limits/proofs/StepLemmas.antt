@@ -11,7 +11,9 @@ use Rattle.js_semantics.specs.Next.{Walked, all_values, moved, around, next, sco
 use Rattle.js_semantics.specs.Rows.{row, taken}
 use Rattle.js_semantics.specs.Run.{Run, running, over, first_state, literals_of, placed_scripts, plain, program_of, run_after, start, state_of, step_in, steps_in}
 use Rattle.js_semantics.specs.State.{State, Move, goes, travels, has_effect, is_full, inside, Action, go, raise, leave, make, write, print, take_line, set_here, push_frame, pop_frame, after, first_line, other_lines, perform, raised_at, rest_of, with_here, with_world}
-use Rattle.js_semantics.specs.Terms.{Form, Term, done, standing, part, Terms, end, more, scripts, settled}
+use Rattle.js_semantics.specs.Terms.{Term, done, standing, part, Terms, end, more, settled}
+use Rattle.js_semantics.specs.declared.form.Form.{Form}
+use Rattle.js_semantics.specs.declared.form.Form.TheVariants.{Scripts as scripts}
 use Rattle.js_semantics.proofs.FollowLemmas.{run_of-state}
 use Rattle.js_semantics_limits.specs.Balances.{Balances, IsWithinRoom, RunBalances, units_in}
 use Rattle.js_semantics_limits.proofs.CellLemmas.{balances-same, balances-then, making-balances, writing-balances}
