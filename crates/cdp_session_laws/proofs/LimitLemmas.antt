@@ -12,10 +12,9 @@ use Rattle.stepping.specs.declared.rules.StepKind.{StepKind}
 use Rattle.stepping.specs.declared.rules.StepKind.TheVariants as kinds
 use Rattle.serde_json.specs.Read.{read}
 use Rattle.breakpoints.specs.declared.breakpoint.Breakpoint.{Breakpoint}
-use Rattle.breakpoints.specs.declared.breakpoints.TheConstants.{MOST}
 use Rattle.breakpoints.specs.declared.fault.AddFault.{AddFault}
 use Rattle.breakpoints.specs.declared.fault.AddFault.TheVariants as faults
-use Rattle.breakpoints.specs.Breakpoints.{HeldBreakpoints, breakpoint_of, fault_of, has_another_id, has_id}
+use Rattle.breakpoints.specs.Breakpoints.{HeldBreakpoints, breakpoint_of, fault_of, has_another_id, has_id, most}
 use Rattle.breakpoints.specs.Ids.{place_id, url_id}
 use Rattle.breakpoints.specs.Resolving.{resolved_at, resolved_by_url, resolved_in}
 use Rattle.pure_eval.specs.Workspaces.{Workspace}
@@ -104,11 +103,11 @@ releases-made x (Some h) few = few
 -- where no limit stands, one more fits
 set-below : (id : List ℕ) (b : HeldBreakpoints) (new : Breakpoint)
     → fault_of id b ≡ None
-    → length (b.set ++ new ∷ []) ≤ MOST
+    → length (b.set ++ new ∷ []) ≤ most
 set-below id b new none =
-    let room = below-last MOST (length b.set) (faults.Exists id) (faults.Full MOST) (list_any (has_id id) b.set)
-    (nat_le MOST (length b.set)) refl none in
-    push-within MOST b.set new room
+    let room = below-last most (length b.set) (faults.Exists id) (faults.Full most) (list_any (has_id id) b.set)
+    (nat_le most (length b.set)) refl none in
+    push-within most b.set new room
 
 adds-one : (x : Session) (o : Option AddFault) (id : List ℕ) (condition : Option (List ℕ)) (places : List Place)
     (result : Json)
@@ -173,7 +172,7 @@ stays-few s x (params.SetBreakpoint at condition) few =
     few
 stays-few s x (params.RemoveBreakpoint id) few =
     by-row s x (params.RemoveBreakpoint id)
-    (λ f. (filter-within MOST (has_another_id id) x.breakpoints.set f.0, f.1)) few
+    (λ f. (filter-within most (has_another_id id) x.breakpoints.set f.0, f.1)) few
 stays-few s x (params.SetBreakpointsActive active) few =
     by-row s x (params.SetBreakpointsActive active) (λ f. f) few
 stays-few s x (params.SetSkipAllPauses skip) few = by-row s x (params.SetSkipAllPauses skip) (λ f. f) few
