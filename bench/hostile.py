@@ -33,7 +33,7 @@ from measured import write
 
 SESSIONS = 8
 GROWTH, PEAK = 16, 256  # MiB
-PATIENCE = 20  # seconds that a peer waits for anything; the host lets go of who is silent or doesn't read after 5
+PATIENCE = 60  # seconds that a peer waits for a door and an answer; the host lets go of who is silent after 5
 
 SCRIPT = """let total = 0;
 function add(price, list) {
