@@ -53,7 +53,7 @@ class Honest(Client):
 
     def __init__(self, port):
         super().__init__(port)
-        self.stream.settimeout(60)
+        self.stream.settimeout(600)
         self.texts = []
 
     def hear(self):
