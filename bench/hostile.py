@@ -9,7 +9,7 @@ come at once, of the kinds below, drawn by the seed. Wanted:
 
 - the honest client is sent byte for byte what it was sent alone, and the program prints what it prints, with status 0;
 - behind each batch as many clients are let in as there are doors, and answered;
-- the host's memory is bounded: behind the last batch at most GROWTH more than behind the first, and never more than MOST;
+- the host's memory is bounded: behind the last batch at most GROWTH more than half way, and never more than PEAK;
 - each peer whose fault RFC 6455 or the door's table gives an answer for sees that answer.
 
 Prints the figures; the status is 1 where something else came. It takes some two minutes, and is no part of the gate.
@@ -32,7 +32,7 @@ from hosts import Host
 from measured import write
 
 SESSIONS = 8
-GROWTH, PEAK = 16, 256  # MiB
+GROWTH, PEAK = 8, 64  # MiB
 PATIENCE = 60  # seconds that a peer waits for a door and an answer; the host lets go of who is silent after 5
 
 SCRIPT = """let total = 0;
@@ -514,9 +514,10 @@ def report(asked, alone, beside, turns):
     rows.row("program", all(ends), "%r, closed with %r" % (beside.ended, beside.code))
     doors = min(beside.doors)
     rows.row("doors", doors == SESSIONS - 1, "%d of %d clients let in behind each of %d batches" % (doors, SESSIONS - 1, len(beside.doors)))
-    first, last = beside.memory[0], beside.memory[-1]
-    words = "%.1f MiB behind the first batch, %.1f behind the last, at most %.1f at any time" % (first, last, beside.peak)
-    rows.row("memory", last - first <= GROWTH and beside.peak <= PEAK, words)
+    middle, last = beside.memory[len(beside.memory) // 2], beside.memory[-1]
+    each = ", ".join("%.1f" % memory for memory in beside.memory)
+    words = "at most %.1f MiB at any time; behind each batch %s" % (beside.peak, each)
+    rows.row("memory", last - middle <= GROWTH and beside.peak <= PEAK, words)
     rows.row("peers", beside.stuck == 0, "%d came, %d are stuck" % (sum(beside.seen.values()), beside.stuck))
     for kind, may_see in KINDS.items():
         told = {words: count for (one, words), count in beside.seen.items() if one is kind}

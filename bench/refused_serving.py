@@ -4,8 +4,8 @@
     python3 bench/refused_serving.py [--bin PROGRAM] [--each N] [--cc CC]
 
 The first client sets a breakpoint, looks and goes on; the second one asks, and lets the program begin. Where that one is lost
-before it does, a third one does it. Each of the first N allocations of the host (all of them, without N) is refused by itself,
-which wants a C compiler and a program that is linked dynamically. Moments are taken out of what is sent.
+before it does, a third one does it. Each of the first N allocations of the host (2,000) is refused by itself, which wants a
+C compiler and a program that is linked dynamically. Moments are taken out of what is sent.
 
 Wanted: the status is 0 and the output whole, or it is 1 with the line `debug_host: out of memory` and a first part of the
 output; and each client was sent a first part of what it is sent with ample memory. Prints each run of another kind, and the
@@ -181,7 +181,7 @@ class Tally:
 def main():
     parser = argparse.ArgumentParser()
     parser.add_argument("--bin", default=PROGRAM)
-    parser.add_argument("--each", type=int, default=0)
+    parser.add_argument("--each", type=int, default=2000)
     parser.add_argument("--cc", default="cc")
     asked = parser.parse_args()
     with tempfile.TemporaryDirectory() as folder:
@@ -189,17 +189,10 @@ def main():
         library = refusing(folder, asked.cc)
         if library is None:
             return
-        counted = os.path.join(folder, "counted")
-        play(asked.bin, folder, {"LD_PRELOAD": library, "COUNTED": counted})
-        if not os.path.exists(counted):
-            print("the program isn't linked dynamically, so no allocation is refused by itself")
-            return
-        with open(counted) as file:
-            count = int(file.read())
         tally = Tally(asked.bin, folder)
-        for number in range(1, min(asked.each or count, count) + 1):
+        for number in range(1, asked.each + 1):
             tally.add(number, *play(asked.bin, folder, {"LD_PRELOAD": library, "REFUSED": str(number)}))
-        tally.told(count)
+        tally.told(asked.each)
     sys.exit(tally.other > 0)
 
 
