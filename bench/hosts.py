@@ -30,9 +30,9 @@ def processor_ms(process):
 class Host:
     """The program with the words `serve`, a free port and these, in a folder; ready once it listens.
 
-    Its output goes to a file, or where `output` says."""
+    Its output goes to a file, or where `output` says; `extra` is added to its environment."""
 
-    def __init__(self, program, folder, *words, port=None, output=None):
+    def __init__(self, program, folder, *words, port=None, output=None, extra=None):
         self.port = port or free_port()
         self.files = tempfile.TemporaryFile(), tempfile.TemporaryFile()
         command = [os.path.abspath(program), "serve", "--port", str(self.port), *words]
@@ -42,6 +42,7 @@ class Host:
             stdin=subprocess.DEVNULL,
             stdout=output or self.files[0],
             stderr=self.files[1],
+            env=dict(os.environ, **extra) if extra else None,
             preexec_fn=lambda: signal.signal(signal.SIGINT, signal.SIG_DFL),
         )
 
@@ -94,7 +95,7 @@ class Host:
     def processor_ms(self):
         return processor_ms(self.process.pid)
 
-    def memory(self):
-        """The most memory that it held, in MiB."""
+    def memory(self, kind="VmHWM"):
+        """The most memory that it held, in MiB; with `VmRSS` what it holds now."""
         with open("/proc/%d/status" % self.process.pid) as file:
-            return int(re.search(r"VmHWM:\s+(\d+) kB", file.read()).group(1)) / 1024
+            return int(re.search(kind + r":\s+(\d+) kB", file.read()).group(1)) / 1024

@@ -217,8 +217,8 @@ def by_limits(program, folder, words, count):
     return tally.told("%s, from %.1f to %.1f MiB of address space" % (words, least / 2**20, most / 2**20))
 
 
-def by_each(program, folder, words, count, cc):
-    """Replays with one allocation refused, and with all behind it refused too."""
+def refusing(folder, cc):
+    """The library that refuses allocations; None where there is no C compiler."""
     source, library = os.path.join(folder, "refuses.c"), os.path.join(folder, "refuses.so")
     with open(source, "w") as f:
         f.write(REFUSES)
@@ -226,6 +226,14 @@ def by_each(program, folder, words, count, cc):
         subprocess.run([cc, "-O2", "-shared", "-fPIC", "-o", library, source], check=True)
     except (OSError, subprocess.CalledProcessError):
         print("no C compiler, so no allocation is refused by itself")
+        return None
+    return library
+
+
+def by_each(program, folder, words, count, cc):
+    """Replays with one allocation refused, and with all behind it refused too."""
+    library = refusing(folder, cc)
+    if library is None:
         return 0
     counted = os.path.join(folder, "counted")
     run(program, folder, extra={"LD_PRELOAD": library, "COUNTED": counted})

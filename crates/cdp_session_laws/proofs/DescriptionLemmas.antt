@@ -1,5 +1,5 @@
 -- What is described makes handles, and ends none.
-use Rattle.std.proofs.Common.{ℕ, ◌+◌, Bool, true, false, List, [], ◌∷◌}
+use Rattle.std.proofs.Common.{◌≡◌, ℕ, ◌+◌, Bool, true, false, List, [], ◌∷◌, refl}
 use Rattle.std.specs.Prelude.{if◌then◌else◌, Option, Some, None, option_map}
 use Rattle.js_heap.specs.declared.value.Value.{Value}
 use Rattle.js_heap.specs.declared.value.Value.TheVariants as values
@@ -29,12 +29,14 @@ use Rattle.cdp_session_laws.proofs.GrowLemmas.{Grows, grows-more, grows-same, gr
 -- ---- values
 
 -- a handle is made, or none can be
-by-fault : (o : Option HandleFault) (t : Target) (g : Option (List ℕ)) (h : HeldHandles) → Grows h (handles_by o t g h)
-by-fault None t g h = grows-more t g h
-by-fault (Some fault) t g h = grows-same h
+by-fault : (o : Option HandleFault) (t : Target) (g : Option (List ℕ)) (h : HeldHandles)
+    → fault_of h ≡ o
+    → Grows h (handles_by o t g h)
+by-fault None t g h is = grows-more t g h is
+by-fault (Some fault) t g h is = grows-same h
 
 pub grows-handle : (t : Target) (g : Option (List ℕ)) (h : HeldHandles) → Grows h (handle_on t g h).handles
-grows-handle t g h = by-fault (fault_of h) t g h
+grows-handle t g h = by-fault (fault_of h) t g h refl
 
 pub grows-remote : (s : Sight) (g : Option (List ℕ)) (v : Value) (h : HeldHandles) → Grows h (remote s g v h).handles
 grows-remote s g values.Undefined h = grows-same h

@@ -1,6 +1,6 @@
 -- What an evaluation leaves of its session.
 use Rattle.std.proofs.Common.{◌≡◌, ℕ, ◌+◌, Bool, true, false, not, ◌&&◌, List, [], length, take, refl, sym, ap, ◌∙◌, arith}
-use Rattle.std.specs.Prelude.{is_some, if◌then◌else◌, Option, Some, None, option_map}
+use Rattle.std.specs.Prelude.{◌≤◌, ◌^◌, is_some, nat_lt, if◌then◌else◌, Option, Some, None, option_map}
 use Rattle.std.specs.Option.{option_map_or}
 use lib.Seq.{take-length}
 use Rattle.js_heap.specs.declared.value.Addr.{Addr}
@@ -42,6 +42,7 @@ use Rattle.cdp_session.specs.Sessions.{Session, with_exception, with_handles}
 use Rattle.cdp_session.specs.Situations.{Situation}
 use Rattle.cdp_session.specs.declared.asks.Asks.TheVariants.{Nothing}
 use Rattle.cdp_session_laws.specs.Effects.{IsOnlyEvaluation, OnlyEvaluates}
+use Rattle.cdp_session_laws.proofs.CountLemmas.{counts-on}
 use Rattle.cdp_session_laws.proofs.GrowLemmas.{Grows, grows-same}
 use Rattle.cdp_session_laws.proofs.DescriptionLemmas.{GrowsIf, grows-described}
 
@@ -93,10 +94,11 @@ kept-made s how v h m is there =
 
 -- ---- rows
 
--- what a row leaves that only evaluates, with the handles that it adds
+-- what a row leaves that only evaluates, with the handles that it adds, and its count of exceptions
 pub record Evaluated (x y : Session) : Type 0 where
   pub only : OnlyEvaluates x y
   pub grows : Grows x.handles y.handles
+  pub counts : x.exceptions ≤ 2 ^ 62 → y.exceptions ≤ 2 ^ 62
 
 -- it is refused, or it leaves that, sends nothing besides and asks nothing
 abbrev pub Evaluation : Session → Row → Type 0
@@ -133,6 +135,7 @@ behind true e w x h g front more = record {
     forgets = λ same. absurd (omega (arith, more refl, same-count h x.handles same));
   };
   grows = g;
+  counts = λ le. le;
 }
 behind false e w x h g front more = record {
   only = record {
@@ -147,6 +150,7 @@ behind false e w x h g front more = record {
     forgets = λ same. refl;
   };
   grows = g;
+  counts = λ le. le;
 }
 
 -- one exception more
@@ -164,6 +168,7 @@ excepted x y e = record {
     forgets = e.only.forgets;
   };
   grows = e.grows;
+  counts = λ le. counts-on (2 ^ 62) y.exceptions (nat_lt y.exceptions (2 ^ 62)) refl (e.counts le);
 }
 
 -- nothing was made
@@ -181,6 +186,7 @@ as-before x = record {
     forgets = λ same. refl;
   };
   grows = grows-same x.handles;
+  counts = λ le. le;
 }
 
 -- ---- answers

@@ -1,15 +1,19 @@
 -- Handles that are added, and handles that are taken out: what is held by the numbers of before.
-use Rattle.std.proofs.Common.{◌≡◌, ℕ, ◌+◌, ◌≤◌, Bool, true, false, cond, List, [], ◌∷◌, ◌++◌, refl, sym, ap, ◌∙◌, arith}
-use Rattle.std.specs.Prelude.{filter, nat_eq, if◌then◌else◌, Option, Some, None}
+use Rattle.std.proofs.Common.{◌≡◌, ℕ, ◌+◌, ◌≤◌, Bool, true, false, cond, List, [], ◌∷◌, ◌++◌, length, refl, sym, ap, ◌∙◌, arith}
+use Rattle.std.specs.Prelude.{filter, nat_eq, nat_le, if◌then◌else◌, Option, Some, None}
 use Rattle.std.specs.List.{find}
 use Rattle.std.proofs.lemmas.Bool.Decides.{nat_tests}
 use Rattle.object_groups.specs.declared.handle.Handle.{Handle}
 use Rattle.object_groups.specs.declared.handle.Target.{Target}
-use Rattle.object_groups.specs.Handles.{HeldHandles, has_number, with_handle}
+use Rattle.object_groups.specs.Handles.{HeldHandles, fault_of, has_number, with_handle}
+use Rattle.object_groups.specs.declared.fault.HandleFault.TheVariants.{Full}
+use Rattle.object_groups.specs.declared.fault.TheConstants.{MOST_HELD, MOST_MADE}
 use Rattle.object_groups.specs.Numbers.{AllAbove, AllBelow, IsAscending}
 use Rattle.object_groups.proofs.NumberLemmas.{below-weaker, below-push, below-filter, ascending-push, ascending-filter}
 use Rattle.cdp_session.specs.Objects.{numbered}
 use Rattle.cdp_session_laws.specs.Handles.{IsOrdered}
+use Rattle.cdp_session_laws.specs.Limits.{HoldsFew}
+use Rattle.cdp_session_laws.proofs.CountLemmas.{below-both, filter-within, one-more, push-within}
 
 -- ---- numbers
 
@@ -95,9 +99,10 @@ pub record Grows (old new : HeldHandles) : Type 0 where
   pub counted : old.made ≤ new.made
   pub each : (n : ℕ) → n ≤ old.made → numbered new.held n ≡ numbered old.held n
   pub ordered : IsOrdered old → IsOrdered new
+  pub few : HoldsFew old → HoldsFew new
 
 pub grows-same : (h : HeldHandles) → Grows h h
-grows-same h = record { counted = omega arith; each = λ n le. refl; ordered = λ o. o }
+grows-same h = record { counted = omega arith; each = λ n le. refl; ordered = λ o. o; few = λ f. f }
 
 pub grows-then : (a b c : HeldHandles) → Grows a b → Grows b c → Grows a c
 grows-then a b c first second =
@@ -107,12 +112,18 @@ grows-then a b c first second =
       counted = omega (arith, more, most);
       each = λ n le. second.each n (omega (arith, le, more)) ∙ first.each n le;
       ordered = λ o. second.ordered (first.ordered o);
+      few = λ f. second.few (first.few f);
     }
 
-pub grows-more : (t : Target) (g : Option (List ℕ)) (h : HeldHandles) → Grows h (with_handle t g h)
-grows-more t g h =
+-- where no limit stands
+pub grows-more : (t : Target) (g : Option (List ℕ)) (h : HeldHandles)
+    → fault_of h ≡ None
+    → Grows h (with_handle t g h)
+grows-more t g h none =
     let new : Handle = record { number = h.made + 1; target = t; group = g } in
     let other : (n : ℕ) → n ≤ h.made → nat_eq n (h.made + 1) ≡ false = λ n le. grind (arith, nat_tests) in
+    let room = below-both MOST_HELD MOST_MADE (length h.held) h.made (Full MOST_HELD) (Full MOST_MADE)
+    (nat_le MOST_HELD (length h.held)) (nat_le MOST_MADE h.made) refl refl none in
     record {
       counted = omega arith;
       each = λ n le. find-push n h.held new (other n le);
@@ -121,6 +132,7 @@ grows-more t g h =
             (below-weaker (h.made + 1) (h.made + 1 + 1) h.held (omega arith) o.below) (omega arith);
         ascending = ascending-push h.held new o.below o.ascending;
       };
+      few = λ f. (push-within MOST_HELD h.held new room.0, one-more MOST_MADE h.made room.1);
     }
 
 -- ---- what stays of handles
@@ -130,12 +142,14 @@ pub record Fate (stays : Handle → Bool) (old new : HeldHandles) : Type 0 where
   pub counted : old.made ≤ new.made
   pub each : (n : ℕ) → n ≤ old.made → numbered new.held n ≡ kept stays (numbered old.held n)
   pub ordered : IsOrdered new
+  pub few : HoldsFew old → HoldsFew new
 
 pub fate-grows : (old new : HeldHandles) → IsOrdered old → Grows old new → Fate all_stay old new
 fate-grows old new o g = record {
   counted = g.counted;
   each = λ n le. g.each n le ∙ sym (kept-all (numbered old.held n));
   ordered = g.ordered o;
+  few = g.few;
 }
 
 pub fate-filter : (stays : Handle → Bool) (h : HeldHandles)
@@ -148,4 +162,5 @@ fate-filter stays h o = record {
     below = below-filter (h.made + 1) stays h.held o.below;
     ascending = ascending-filter stays h.held o.ascending;
   };
+  few = λ f. (filter-within MOST_HELD stays h.held f.0, f.1);
 }

@@ -1,3 +1,4 @@
+pub mod CountLemmas
 pub mod GrowLemmas
 pub mod DescriptionLemmas
 pub mod EvaluatingLemmas
@@ -13,3 +14,4 @@ pub mod GroupLemmas
 pub mod NamingLemmas
 pub mod ResultLemmas
 pub mod AskingLemmas
+pub mod LimitLemmas

@@ -9,3 +9,4 @@ pub mod Truth
 pub mod Replying
 pub mod Naming
 pub mod Asking
+pub mod Limits

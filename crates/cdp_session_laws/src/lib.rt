@@ -16,4 +16,5 @@
 pub mod asking;
 pub mod evaluations;
 pub mod identity;
+pub mod limits;
 pub mod stops;

@@ -9,12 +9,22 @@
 //! | `call WORDS` | a call with these words |
 //! | `status N` | its status, where that isn't 0 |
 //! | `out TEXT`, `out*N TEXT` | a line of its output; so many of them |
+//! | `count A B TEXT` | lines of its output with this text and a number, from A to below B |
 //! | `output NAME`, `output NAME N` | what a file of the folder has stands in its output; so many first lines of it |
 //! | `err TEXT` | a line of what is said of errors |
 //! | `fails output N..`, `fails errors N..`, `fails reads N..` | the numbers of writes and reads that fail, from 1 |
+//! | `fails port N..` | the numbers of the times that the port fails to be opened or dialled |
+//! | `door`, `door N..` | a door of the port; how often it was asked when it fails |
+//! | `client`, `client N..` | a client of the last door, or of the port that is dialled; the calls of its link that fail |
+//! | `says TEXT`, `says*N TEXT` | the client sends a text; so many of them |
+//! | `binary`, `large` | the client sends a binary message, a message above the limit |
+//! | `quiet`, `goes`, `waits N`, `waits` | the client is silent once; goes; is silent until gate N is open; stays |
+//! | `opens N` | the first text that the client is sent opens gate N |
+//! | `sent TEXT`, `sent*N TEXT`, `closed N` | the client was sent that, and closed with that code |
 
+use crate::clients::Entrance;
 use crate::folder::{File, content};
-use crate::texts::{append, bytes_of, first_lines, words_of};
+use crate::texts::{append, bytes_of, first_lines, take_numbers, words_of};
 use cdp_text::decimal::read_decimal;
 use std::alloc::{AllocError, Global};
 
@@ -31,6 +41,12 @@ pub(crate) struct Case {
     pub(crate) failing_errors: Vec<u64>,
     /// The numbers of the reads that fail, from 1.
     pub(crate) failing_reads: Vec<u64>,
+    /// The numbers of the times that the port fails to be opened or dialled, from 1.
+    pub(crate) failing_port: Vec<u64>,
+    /// The port that is dialled.
+    pub(crate) dialled: Entrance,
+    /// The doors of the port that is opened.
+    pub(crate) doors: Vec<Entrance>,
 }
 
 /// Files, and calls over them.
@@ -53,19 +69,11 @@ impl Case {
             failing_output: Vec::new(alloc),
             failing_errors: Vec::new(alloc),
             failing_reads: Vec::new(alloc),
+            failing_port: Vec::new(alloc),
+            dialled: Entrance::new(alloc),
+            doors: Vec::new(alloc),
         }
     }
-}
-
-/// Takes numbers with a space between two, and answers whether they are numbers.
-fn take_numbers(numbers: &mut Vec<u64>, text: &str) -> Result<bool, AllocError> {
-    for word in text.split(' ') {
-        match read_decimal(word) {
-            Some(number) => numbers.push(number)?,
-            None => return Ok(false),
-        }
-    }
-    Ok(true)
 }
 
 /// Takes what a call is to meet, and answers whether the text says that.
@@ -74,6 +82,7 @@ fn take_fails(case: &mut Case, text: &str) -> Result<bool, AllocError> {
         Some(("output", numbers)) => take_numbers(&mut case.failing_output, numbers),
         Some(("errors", numbers)) => take_numbers(&mut case.failing_errors, numbers),
         Some(("reads", numbers)) => take_numbers(&mut case.failing_reads, numbers),
+        Some(("port", numbers)) => take_numbers(&mut case.failing_port, numbers),
         _ => Ok(false),
     }
 }
@@ -94,6 +103,44 @@ fn take_output(case: &mut Case, folder: &[File], text: &str) -> Result<bool, All
     }
 }
 
+/// Takes lines of output with a text and a number each, from one number to below another.
+fn take_count(alloc: Global, output: &mut Vec<u8>, text: &str) -> Result<bool, AllocError> {
+    let Some((first, behind)) = text.split_once(' ') else {
+        return Ok(false);
+    };
+    let Some((end, text)) = behind.split_once(' ') else {
+        return Ok(false);
+    };
+    let (Some(first), Some(end)) = (read_decimal(first), read_decimal(end)) else {
+        return Ok(false);
+    };
+    for number in first..end {
+        let line = format!(in alloc; "{text} {number}\n")?;
+        output.extend_from_slice(line.as_bytes())?;
+    }
+    Ok(true)
+}
+
+/// Takes a door, by how often it was asked when it fails.
+fn begin_door(alloc: Global, case: &mut Case, text: &str) -> Result<bool, AllocError> {
+    let mut door = Entrance::new(alloc);
+    let is_read = take_numbers(&mut door.failing, text)?;
+    case.doors.push(door)?;
+    Ok(is_read)
+}
+
+/// Takes a line of the port, and answers whether it is of a form.
+fn take_of_port(
+    alloc: Global,
+    case: &mut Case,
+    line: (&str, u64, &str),
+) -> Result<bool, AllocError> {
+    match case.doors.last_mut() {
+        Some(door) => door.take(alloc, line),
+        None => case.dialled.take(alloc, line),
+    }
+}
+
 /// Takes a line behind a call, and answers whether it is of a form.
 fn take_of_case(
     alloc: Global,
@@ -106,12 +153,14 @@ fn take_of_case(
         "out" => append(alloc, &mut case.output, text, b"\n", times).map(|()| true),
         "err" => append(alloc, &mut case.errors, text, b"\n", times).map(|()| true),
         "output" => take_output(case, folder, text),
+        "count" => take_count(alloc, &mut case.output, text),
         "fails" => take_fails(case, text),
         "status" => {
             case.status = read_decimal(text).unwrap_or(u64::MAX);
             Ok(true)
         }
-        _ => Ok(false),
+        "door" => begin_door(alloc, case, text),
+        _ => take_of_port(alloc, case, line),
     }
 }
 

@@ -1,6 +1,7 @@
 //! Tells calls that came to another end than is written.
 
 use crate::block::{Block, Case};
+use crate::clients::told_at;
 use crate::play::Came;
 use std::{io, str};
 
@@ -19,6 +20,14 @@ fn tell_line<R: Print>(rt: &R, what: &str, wanted: &str, came: &str) -> io::Resu
         number = number.saturating_add(1);
     }
     Ok(())
+}
+
+/// Tells of texts that differ.
+fn tell_text<R: Print>(rt: &R, what: &str, wanted: &str, came: &str) -> io::Result<()> {
+    if wanted == came {
+        return Ok(());
+    }
+    tell_line(rt, what, wanted, came)
 }
 
 /// Tells of bytes that differ.
@@ -55,7 +64,7 @@ fn tell_call<R: Print>(rt: &R, list: &str, block: &Block, case: &Case) -> io::Re
 /// # Errors
 ///
 /// Those of the output.
-pub(crate) fn tell_differences<R: Print>(
+pub(crate) fn tell_differences<R: Print + AllocGlobal>(
     rt: &R,
     list: &str,
     block: &Block,
@@ -64,7 +73,9 @@ pub(crate) fn tell_differences<R: Print>(
 ) -> io::Result<()> {
     let is_status = case.status == came.status;
     let is_output = case.output.as_slice() == came.output.taken();
-    if is_status && is_output && case.errors.as_slice() == came.errors.taken() {
+    let told = told_at(rt.alloc(), &case.dialled, &case.doors)?;
+    let is_told = told.as_str() == came.told.as_str();
+    if is_status && is_output && is_told && case.errors.as_slice() == came.errors.taken() {
         return Ok(());
     }
     tell_call(rt, list, block, case)?;
@@ -72,5 +83,6 @@ pub(crate) fn tell_differences<R: Print>(
         println!(rt; "  status: wanted {}, came {}", case.status, came.status)?;
     }
     tell_bytes(rt, "output", &case.output, came.output.taken())?;
-    tell_bytes(rt, "errors", &case.errors, came.errors.taken())
+    tell_bytes(rt, "errors", &case.errors, came.errors.taken())?;
+    tell_text(rt, "clients", &told, &came.told)
 }

@@ -4,8 +4,10 @@
 #![tactic(auto)]
 
 mod block;
+mod clients;
 mod differences;
 mod folder;
+mod harbor;
 mod play;
 mod texts;
 

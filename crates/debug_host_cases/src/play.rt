@@ -3,8 +3,9 @@
 use crate::block::{Block, Case, read_block};
 use crate::differences::tell_differences;
 use crate::folder::{File, files_in};
+use crate::harbor::{harbor_of, told_by};
 use cdp_edge::{MemShelf, MemSink};
-use cdp_edge_server::{FixedClock, MemHarbor};
+use cdp_edge_server::FixedClock;
 use debug_host_commands::debug_main;
 use std::alloc::{AllocError, Global};
 use std::rt::Files;
@@ -18,6 +19,8 @@ pub(crate) struct Came {
     pub(crate) status: u64,
     pub(crate) output: MemSink,
     pub(crate) errors: MemSink,
+    /// What the clients were told.
+    pub(crate) told: String,
 }
 
 /// Whether a word is the name of a file, or ends with it as `--input=NAME` does.
@@ -62,7 +65,7 @@ fn play(
     let mut shelf = MemShelf::new(named, case.failing_reads.clone()?);
     let mut output = MemSink::new(case.failing_output.clone()?);
     let mut errors = MemSink::new(case.failing_errors.clone()?);
-    let mut harbor = MemHarbor::new(Vec::new(alloc), Vec::new(alloc), Vec::new(alloc));
+    let mut harbor = harbor_of(alloc, &case.dialled, &case.doors, &case.failing_port)?;
     let mut clock = FixedClock::new(0);
     let status = debug_main(
         rt,
@@ -78,6 +81,7 @@ fn play(
         status: u64::from(status),
         output,
         errors,
+        told: told_by(alloc, &harbor)?,
     })
 }
 

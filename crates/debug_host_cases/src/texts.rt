@@ -1,5 +1,6 @@
 //! The texts of a list of calls. In them `<0A>` is the byte of these two hexadecimal digits.
 
+use cdp_text::decimal::read_decimal;
 use cdp_text::lines::cut_line;
 use std::alloc::{AllocError, Global};
 
@@ -89,4 +90,31 @@ pub(crate) fn first_lines(bytes: &[u8], count: u64) -> &[u8] {
         Some(first) => first,
         None => bytes,
     }
+}
+
+/// Takes numbers with a space between two, or none, and answers whether they are numbers.
+pub(crate) fn take_numbers(numbers: &mut Vec<u64>, text: &str) -> Result<bool, AllocError> {
+    if text.is_empty() {
+        return Ok(true);
+    }
+    for word in text.split(' ') {
+        match read_decimal(word) {
+            Some(number) => numbers.push(number)?,
+            None => return Ok(false),
+        }
+    }
+    Ok(true)
+}
+
+/// The parts that aren't empty, sorted, each behind a line `entrance`.
+pub(crate) fn sorted_parts(alloc: Global, mut parts: Vec<String>) -> Result<String, AllocError> {
+    parts.sort()?;
+    let mut text = String::new(alloc);
+    for part in &parts {
+        if !part.is_empty() {
+            text.push_str("entrance\n")?;
+            text.push_str(part)?;
+        }
+    }
+    Ok(text)
 }

@@ -9,6 +9,4 @@ mod piece_sink;
 #[cfg(test)]
 mod pieces;
 #[cfg(test)]
-mod sending;
-#[cfg(test)]
 mod serving;

@@ -1,0 +1,2 @@
+console.log(1);
+throw 8;
