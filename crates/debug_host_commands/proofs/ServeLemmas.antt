@@ -280,18 +280,18 @@ module _ (scripts : List Script) (input : List (List ℕ)) (wait : Bool) (n : �
   }
 
   -- and what became of its journal
-  pub served-stored : (run : RunEnd) (together : DoorsEnd) (served_end : CommandEnd) (clients : Clients)
+  pub served-stored : (run : RunEnd) (together : DoorsEnd) (first : CommandEnd) (clients : Clients)
       (journal : Opt (List ℕ)) (storing : Storing) (before after : Opt (List Tended)) (was now : Shelved)
       (end : CommandEnd) → Is run together
       → AreKept (seen_by clients) before after (map (λ (door : ServedDoor). door.door) served)
-      → IsEndOf served_end (record { run = run; doors = together }) (whole scripts input wait (entries_of h)).program
+      → IsEndOf first (record { run = run; doors = together }) (whole scripts input wait (entries_of h)).program
       → HasStored storing (debugging scripts input wait) h journal was now
-      → end ≡ after_storing served_end storing
+      → end ≡ after_storing first storing
       → ServesStored scripts input wait n clients journal moment old new before after was now end
   unfolding served-port
-  served-stored run together served_end clients journal storing before after was now end s kept is_end stored is = record {
-    served = served_end;
-    port = served-port run together served_end clients before after s kept is_end;
+  served-stored run together first clients journal storing before after was now end s kept is_end stored is = record {
+    served = first;
+    port = served-port run together first clients before after s kept is_end;
     storing = storing;
     stored = stored;
     is = is;
@@ -504,12 +504,14 @@ or_quiet None P Q holds = holds
 or_quiet (Some name) P Q holds = inl holds
 
 -- where one is asked for, what holds of its name
-pub or_stored : (journal : Opt (List ℕ)) (name : List ℕ) (P : Type 0) (Q : List ℕ → Type 0) → journal ≡ Some name → Q name
+pub or_stored : (journal : Opt (List ℕ)) (name : List ℕ) (P : Type 0) (Q : List ℕ → Type 0) → journal ≡ Some name
+    → Q name
     → OrJournal journal P Q
 or_stored journal name P Q is holds = subst (λ j. OrJournal j P Q) (sym is) (inr holds)
 
 -- a step from either side
-pub or_more : (journal : Opt (List ℕ)) (P R : Type 0) (Q S : List ℕ → Type 0) → (P → R) → ((name : List ℕ) → Q name → S name)
+pub or_more : (journal : Opt (List ℕ)) (P R : Type 0) (Q S : List ℕ → Type 0) → (P → R)
+    → ((name : List ℕ) → Q name → S name)
     → OrJournal journal P Q → OrJournal journal R S
 or_more None P R Q S first second h = first h
 or_more (Some name) P R Q S first second (inl h) = inl (first h)

@@ -25,7 +25,8 @@ use Rattle.debug_host_commands.proofs.ServeLemmas.{given_serve, or_more, or_quie
 -- ---- what became of a journal
 
 -- the faults of a shelf by what became of a journal
-pub stored-told : (storing : Storing) (d : Debugging) (h : List (ℕ × Entry)) (journal : Option (List ℕ)) (old new : Shelved)
+pub stored-told : (storing : Storing) (d : Debugging) (h : List (ℕ × Entry)) (journal : Option (List ℕ))
+    (old new : Shelved)
     → HasStored storing d h journal old new → StoreFaults storing journal old.faults new.faults
 stored-told storing d h None old new stored = (stored.0, ap (λ (s : Shelved). s.faults) stored.1)
 stored-told storings.Done d h (Some name) old new stored = ap (λ (s : Shelved). s.faults) stored.0
@@ -81,7 +82,8 @@ told-failed : (named : Bor (List ℕ)) (journal : Option (List ℕ)) (before aft
     → Blames (Store named.now) before after × (journal ≡ Some named.now)
 told-failed named None before after told = absurd cc
 told-failed named (Some name) before after told =
-    (subst (λ (text : List ℕ). Blames (Store text) before after) (sym told.0) told.1, ap (λ text. Some text) (sym told.0))
+    let same = sym told.0 in
+    (subst (λ (text : List ℕ). Blames (Store text) before after) same told.1, ap (λ text. Some text) same)
 
 -- where no memory was left for the journal, one was asked for
 writes-memory : (journal : Option (List ℕ)) (faults now_faults : Faults) (before after : ℕ)
@@ -294,7 +296,8 @@ module _ (status : ℕ) (files : List NamedFile) (request : ServeWords) (moment 
     }
     well storings.Memory is at stored = no-end ends.OutOfMemory Stored refl at
     well (storings.Failed named) is at stored =
-        no-end (unless_ended served (ends.CannotStore named)) Stored (unless-ends served (ends.CannotStore named) refl) at
+        no-end (unless_ended served (ends.CannotStore named)) Stored
+        (unless-ends served (ends.CannotStore named) refl) at
     well storings.Spent is at stored =
         no-end (unless_ended served ends.TicketsSpent) Stored (unless-ends served ends.TicketsSpent refl) at
 
@@ -314,8 +317,9 @@ stores-none : (files : List NamedFile) (request : ServeWords) (moment : Option �
     → now.files ≡ was.files
 stores-none files request moment old new before after was now end none (inl nothing) = nothing.2
 stores-none files request moment old new before after was now end none (inr s) =
-    let stored = subst (λ journal. HasStored s.port.storing (debugging s.scripts s.input request.wait) s.port.port.history
-    journal was now) none s.port.stored in ap (λ (it : Shelved). it.files) stored.1
+    let Has : Option (List ℕ) → Type 0 = λ journal.
+    HasStored s.port.storing (debugging s.scripts s.input request.wait) s.port.port.history journal was now in
+    let stored = subst Has none s.port.stored in ap (λ (it : Shelved). it.files) stored.1
 
 -- ---- of the words that ask for a server
 

@@ -176,9 +176,9 @@ abbrev pub MayServe : List NamedFile → ServeWords → Option ℕ → Output �
 MayServe given request moment old new before after was now end =
     ServesNothing end old new was now ⊎ Serves given request moment old new before after was now end
 
--- A port was served over one history, which ended with this status as the program and its doors decide. Under the name of
--- the journal that is asked for, if one is, the record of that history was stored, byte for byte; no session was lost
--- for want of memory.
+-- A port was served over one history, which ended with this status as the program and its doors decide. Under the name
+-- of the journal that is asked for, if one is, the record of that history was stored, byte for byte; no session was
+-- lost for want of memory.
 pub record Journals (status : ℕ) (given : List NamedFile) (request : ServeWords) (moment : Option ℕ) (old new : Output)
     (before after : Option (List Tended)) (was now : Shelved) : Type 0 where
   pub scripts : List Script

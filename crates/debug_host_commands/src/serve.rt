@@ -167,8 +167,8 @@ fn unopened(fault: HarborFault) -> CommandEnd<'static>
     }
 }
 
-/// Serves the program of a host on a port, by the passes of its lock, and stores its journal under this name, if there is
-/// one.
+/// Serves the program of a host on a port, by the passes of its lock, and stores its journal under this name, if there
+/// is one.
 #[tactic(auto, using(crate::proofs::StoredLemmas::unstored))]
 fn serve_host<
     'p,
@@ -219,8 +219,8 @@ where
     }
 }
 
-/// Serves the program of these scripts, with these lines of input, on a port, and stores its journal under this name, if
-/// there is one.
+/// Serves the program of these scripts, with these lines of input, on a port, and stores its journal under this name,
+/// if there is one.
 #[tactic(auto, using(crate::proofs::StoredLemmas::unstored))]
 fn serve_program<
     'w,

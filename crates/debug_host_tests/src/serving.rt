@@ -56,8 +56,8 @@ fn door(
     Ok(MemDoor::new(links, Vec::new(alloc)))
 }
 
-// The doors of two clients at once: the first waits until the second was sent a text, and lets the program begin; the second
-// goes when the first was answered.
+// The doors of two clients at once: the first waits until the second was sent a text, and lets the program begin; the
+// second goes when the first was answered.
 fn two_doors(alloc: Global) -> Result<Vec<MemDoor>, AllocError>
     ensures { IfOk result (λ doors. All IsNewDoor doors.items) }
 {
@@ -141,8 +141,8 @@ fn behind(alloc: Global, output: &str, beginning: &str) -> Result<Vec<String>, A
     Ok(texts)
 }
 
-// The journal that a server stored is replayed: the program prints the same, and each of the two sessions is handed just
-// the texts that one of the two clients was sent.
+// The journal that a server stored is replayed: the program prints the same, and each of the two sessions is handed
+// just the texts that one of the two clients was sent.
 #[test]
 fn a_stored_journal_plays_again(rt: HostRuntime) -> Result<(), Fail> {
     let alloc = rt.alloc();
@@ -220,8 +220,8 @@ fn a_server_that_can_not_write_shuts_its_program(rt: HostRuntime) -> Result<(), 
     Ok(())
 }
 
-// The status of a server at whose door nobody arrives, of one script, with these words and this shelf; what it told on the
-// error stream is in `err`.
+// The status of a server at whose door nobody arrives, of one script, with these words and this shelf; what it told on
+// the error stream is in `err`.
 fn serve_nobody(
     rt: &(impl Threads + Wait + Sync),
     alloc: Global,
