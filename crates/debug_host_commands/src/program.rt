@@ -68,7 +68,7 @@ use std::thread::Threads;
 /// `--help` and `--version` write a text on `out`, and touch nothing else.
 /// With `--explain` further lines on `err` say the cause, each after two spaces; nothing else changes.
 /// What `err` does changes no status.
-#[tactic(auto, using(crate::proofs::ServeLemmas::told))]
+#[tactic(auto, using(crate::proofs::ServeLemmas::or_quiet))]
 pub fn debug_main<
     R: Threads + Wait + Sync,
     F: Shelf,
