@@ -26,6 +26,7 @@ pub no_commands : (end : CommandEnd) (name : List ℕ) (Hands : List NamedFile �
     → BecauseUnread end name Hands before after
     → BecauseCommands end name Hands before after
 no_commands ends.OutOfMemory name Hands before after h = (h.0, ([], h.1, tt))
+no_commands (ends.CannotStore unread) name Hands before after h = absurd h
 no_commands (ends.CannotRead unread) name Hands before after h = h
 no_commands ends.Done name Hands before after h = absurd h
 no_commands (ends.Threw text) name Hands before after h = absurd h
@@ -69,6 +70,7 @@ pub unread : (end : CommandEnd) (request : SendWords) (Hands : List NamedFile �
     (harbor : Dialled) → BecauseCommands end request.commands Hands before after
     → BecauseSend end request Hands before after out out harbor harbor
 unread ends.OutOfMemory request Hands before after out harbor h = (h.0, refl, refl, h.1)
+unread (ends.CannotStore name) request Hands before after out harbor h = absurd h
 unread (ends.CannotRead name) request Hands before after out harbor h = (h.0, refl, refl, h.1, h.2)
 unread (ends.LineRefused line) request Hands before after out harbor h = (h.0, refl, refl, h.1)
 unread ends.Done request Hands before after out harbor h = absurd h
@@ -84,6 +86,7 @@ unread ends.TicketsSpent request Hands before after out harbor h = absurd h
 unsaid : (end : CommandEnd) (commands : List ℕ) (Hands : List NamedFile → Type 0) (before after : Faults)
     → BecauseCommands end commands Hands before after → IsUnsent end
 unsaid ends.OutOfMemory commands Hands before after h = tt
+unsaid (ends.CannotStore name) commands Hands before after h = absurd h
 unsaid (ends.CannotRead name) commands Hands before after h = tt
 unsaid (ends.LineRefused line) commands Hands before after h = tt
 unsaid ends.Done commands Hands before after h = absurd h
@@ -100,6 +103,7 @@ unsaid ends.TicketsSpent commands Hands before after h = absurd h
 handed : (end : CommandEnd) (commands : List ℕ) (Hands : List NamedFile → Type 0) (before after : Faults)
     → BecauseCommands end commands Hands before after → Given Hands (λ files. Unit {0})
 handed ends.OutOfMemory commands Hands before after h = h.1
+handed (ends.CannotStore name) commands Hands before after h = absurd h
 handed (ends.CannotRead name) commands Hands before after h = ([], h.2, tt)
 handed (ends.LineRefused line) commands Hands before after h = given_as Hands _ (λ files. Unit {0}) (λ files it. tt) h.1
 handed ends.Done commands Hands before after h = absurd h
@@ -333,6 +337,7 @@ module _ (request : SendWords) (Hands : List NamedFile → Type 0) (faults now_f
       given_as Hands _ (IsTaken 9 request) (λ files it lines holds. inr (inl refl)) h.4
   taken_of ends.OutOfMemory h =
       given_as Hands _ (IsTaken 1 request) (λ files it lines holds. inr (inr (inl refl))) h.3
+  taken_of (ends.CannotStore name) h = absurd h
   taken_of (ends.CannotRead name) h =
       given_nothing_as Hands (IsTaken 4 request) (λ lines holds. inr (inr (inr (inl refl)))) h.4
   taken_of ends.CannotWrite h =
@@ -366,6 +371,7 @@ module _ (request : SendWords) (Hands : List NamedFile → Type 0) (faults now_f
       h.4
   left_of ends.OutOfMemory h = given_as Hands _ (IsLeft 1 request) (λ files it line r. inr (inl refl)) h.3
   left_of (ends.LineRefused line) h = given_as Hands _ (IsLeft 6 request) (λ files it other r. inl refl) h.3
+  left_of (ends.CannotStore name) h = absurd h
   left_of (ends.CannotRead name) h = given_nothing_as Hands (IsLeft 4 request) (λ line r. inr (inr refl)) h.4
   left_of ends.NetworkFault h =
       given_as Hands (λ files. (lines : List Line) × HoldsCommands files request.commands lines) (IsLeft 7 request)
@@ -383,6 +389,7 @@ module _ (request : SendWords) (Hands : List NamedFile → Type 0) (faults now_f
       (IsToldClose old new was now explains before after request) (λ files s. (replies, s, says)) h.4
   closed-told ends.Done explains before after is h says = absurd cc
   closed-told ends.OutOfMemory explains before after is h says = absurd cc
+  closed-told (ends.CannotStore name) explains before after is h says = absurd h
   closed-told (ends.CannotRead name) explains before after is h says = absurd cc
   closed-told (ends.LineRefused line) explains before after is h says = absurd cc
   closed-told ends.CannotWrite explains before after is h says = absurd cc
@@ -400,6 +407,7 @@ module _ (request : SendWords) (Hands : List NamedFile → Type 0) (faults now_f
       (λ files r. (line, r, says)) h.3
   line-told ends.Done explains before after is h says = absurd cc
   line-told ends.OutOfMemory explains before after is h says = absurd cc
+  line-told (ends.CannotStore name) explains before after is h says = absurd h
   line-told (ends.CannotRead name) explains before after is h says = absurd cc
   line-told (ends.PeerClosed replies) explains before after is h says = absurd cc
   line-told ends.CannotWrite explains before after is h says = absurd cc
@@ -412,6 +420,7 @@ module _ (request : SendWords) (Hands : List NamedFile → Type 0) (faults now_f
 
   read-told : (end : CommandEnd) (explains : Bool) (before after : List ℕ) → status_of end ≡ 4 → Because end
       → Says explains before after (said end) → IsToldRead faults now_faults explains before after request
+  read-told (ends.CannotStore name) explains before after is h says = absurd h
   read-told (ends.CannotRead name) explains before after is h says =
       subst
       (λ (file : List ℕ). Blames (Read file) faults now_faults × Says explains before after (unread_said file))
@@ -434,6 +443,7 @@ module _ (request : SendWords) (Hands : List NamedFile → Type 0) (faults now_f
   dialled-told ends.CannotWrite past h = h.3
   dialled-told ends.NetworkFault past h = h.3
   dialled-told ends.OutOfMemory past h = not-past-1 _ past
+  dialled-told (ends.CannotStore name) past h = absurd h
   dialled-told (ends.CannotRead name) past h = not-past-4 _ past
   dialled-told (ends.LineRefused line) past h = not-past-6 _ past
   dialled-told (ends.Threw text) past h = absurd h

@@ -14,5 +14,6 @@ pub mod EndLemmas
 pub mod RunLemmas
 pub mod ReplayLemmas
 pub mod ServeLemmas
+pub mod StoredLemmas
 pub mod ClientLemmas
 pub mod DrillLemmas

@@ -68,6 +68,7 @@ unread (ends.Refused name r) request told later first then last before mid after
   behind_journal told later first then last request journal _ (λ files. IsRefusedBehind files request name.now r)
       same there (λ files i. record { journal = journal; rest = files; parts = refl; refused = i }) h.1,
 )
+unread (ends.CannotStore name) request told later first then last before mid after was old journal there same quiet h = absurd h
 unread (ends.CannotRead name) request told later first then last before mid after was old journal there same quiet h = (
   subst (λ (f : Faults). Blames (Read name.now) f after) quiet h.0,
   refl,
@@ -92,6 +93,7 @@ no_journal ends.ThrewUnshown request Hands before after was old h = absurd h
 no_journal ends.TicketsSpent request Hands before after was old h = absurd h
 no_journal (ends.PeerClosed replies) request Hands before after was old h = absurd h
 no_journal (ends.Refused name r) request Hands before after was old h = absurd h
+no_journal (ends.CannotStore name) request Hands before after was old h = absurd h
 no_journal (ends.CannotRead name) request Hands before after was old h =
     (h.0, refl, inl h.1, ([], h.2, inl (h.1, refl)))
 no_journal ends.CannotWrite request Hands before after was old h = absurd h
@@ -111,6 +113,7 @@ no_journal_part ends.ThrewUnshown request Hands before after old h = absurd h
 no_journal_part ends.TicketsSpent request Hands before after old h = absurd h
 no_journal_part (ends.PeerClosed replies) request Hands before after old h = absurd h
 no_journal_part (ends.Refused name r) request Hands before after old h = absurd h
+no_journal_part (ends.CannotStore name) request Hands before after old h = absurd h
 no_journal_part (ends.CannotRead name) request Hands before after old h = ([], h.2, inl refl)
 no_journal_part ends.CannotWrite request Hands before after old h = absurd h
 no_journal_part (ends.LineRefused n) request Hands before after old h = absurd h
@@ -286,6 +289,7 @@ taken_of (ends.Refused name r) request Hands before after was now old new h =
     (λ files i. λ journal scripts input holds. absurd
     (replay_stands files request journal scripts input name.now r holds i))
     h.2
+taken_of (ends.CannotStore name) request Hands before after was now old new h = absurd h
 taken_of (ends.CannotRead name) request Hands before after was now old new h =
     given_as Hands _ (IsTaken 4 request) (λ files it journal scripts input holds. inr (inr (inr (inl refl)))) h.3
 taken_of ends.CannotWrite request Hands before after was now old new h =
@@ -322,6 +326,7 @@ left_of ends.OutOfMemory request Hands before after was now old new h =
     given_as Hands _ (IsLeft 1 request) (λ files it name r refused. inr (inl refl)) h.2
 left_of (ends.Refused name r) request Hands before after was now old new h =
     given_as Hands _ (IsLeft 3 request) (λ files it name q refused. inl refl) h.2
+left_of (ends.CannotStore name) request Hands before after was now old new h = absurd h
 left_of (ends.CannotRead name) request Hands before after was now old new h =
     given_as Hands _ (IsLeft 4 request) (λ files it name r refused. inr (inr refl)) h.3
 left_of ends.CannotWrite request Hands before after was now old new h =
@@ -376,6 +381,7 @@ read-told : (end : CommandEnd) (request : ReplayWords) (Hands : List NamedFile �
     (old new : List ℕ) (explains : Bool) (said_before said_after : List ℕ) → status_of end ≡ 4
     → BecauseReplay end request Hands before after was now old new → Says explains said_before said_after (said end)
     → IsToldRead before after Hands explains said_before said_after request
+read-told (ends.CannotStore name) request Hands before after was now old new explains said_before said_after is h says = absurd h
 read-told (ends.CannotRead name) request Hands before after was now old new explains said_before said_after is h says =
     (name.now, h.2, h.0, h.3, says)
 read-told ends.Done request Hands before after was now old new explains said_before said_after is h says = absurd cc

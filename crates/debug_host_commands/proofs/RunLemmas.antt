@@ -111,6 +111,7 @@ taken_of ends.OutOfMemory sources Hands before after was now old new h =
 taken_of (ends.Refused name r) sources Hands before after was now old new h =
     given_as Hands (λ files. IsRefusedIn files sources name.now r) (IsTaken 3 sources)
     (λ files i. λ scripts input holds. absurd (run_stands files sources scripts input name.now r holds i)) h.2
+taken_of (ends.CannotStore name) sources Hands before after was now old new h = absurd h
 taken_of (ends.CannotRead name) sources Hands before after was now old new h =
     given_as Hands _ (IsTaken 4 sources) (λ files it scripts input holds. inr (inr (inr (inl refl)))) h.3
 taken_of ends.CannotWrite sources Hands before after was now old new h =
@@ -141,6 +142,7 @@ left_of ends.OutOfMemory sources Hands before after was now old new h =
     given_as Hands _ (IsLeft 1 sources) (λ files it name r refused. inr (inl refl)) h.2
 left_of (ends.Refused name r) sources Hands before after was now old new h =
     given_as Hands _ (IsLeft 3 sources) (λ files it name q refused. inl refl) h.2
+left_of (ends.CannotStore name) sources Hands before after was now old new h = absurd h
 left_of (ends.CannotRead name) sources Hands before after was now old new h =
     given_as Hands _ (IsLeft 4 sources) (λ files it name r refused. inr (inr refl)) h.3
 left_of ends.CannotWrite sources Hands before after was now old new h =
@@ -198,6 +200,7 @@ threw-told (ends.Threw text) sources Hands before after was now old new explains
 threw-told ends.Done sources Hands before after was now old new explains said_before said_after is h says = absurd cc
 threw-told ends.OutOfMemory sources Hands before after was now old new explains said_before said_after is h says = absurd cc
 threw-told (ends.Refused name r) sources Hands before after was now old new explains said_before said_after is h says = absurd cc
+threw-told (ends.CannotStore name) sources Hands before after was now old new explains said_before said_after is h says = absurd h
 threw-told (ends.CannotRead name) sources Hands before after was now old new explains said_before said_after is h says = absurd cc
 threw-told ends.CannotWrite sources Hands before after was now old new explains said_before said_after is h says = absurd cc
 threw-told ends.ThrewUnshown sources Hands before after was now old new explains said_before said_after is h says = absurd h
@@ -230,6 +233,7 @@ read-told : (end : CommandEnd) (sources : Sources) (Hands : List NamedFile → T
     (old new : List ℕ) (explains : Bool) (said_before said_after : List ℕ) → status_of end ≡ 4
     → BecauseRun end sources Hands before after was now old new → Says explains said_before said_after (said end)
     → IsToldRead before after Hands explains said_before said_after sources
+read-told (ends.CannotStore name) sources Hands before after was now old new explains said_before said_after is h says = absurd h
 read-told (ends.CannotRead name) sources Hands before after was now old new explains said_before said_after is h says =
     (name.now, h.2, h.0, h.3, says)
 read-told ends.Done sources Hands before after was now old new explains said_before said_after is h says = absurd cc
@@ -326,6 +330,7 @@ some_handed ends.ThrewUnshown sources Hands before after h = absurd h
 some_handed ends.TicketsSpent sources Hands before after h = absurd h
 some_handed (ends.PeerClosed replies) sources Hands before after h = absurd h
 some_handed (ends.Refused name r) sources Hands before after h = given_as Hands _ (λ files. Unit {0}) (λ files it. tt) h.1
+some_handed (ends.CannotStore name) sources Hands before after h = absurd h
 some_handed (ends.CannotRead name) sources Hands before after h = given_as Hands _ (λ files. Unit {0}) (λ files it. tt) h.2
 some_handed ends.CannotWrite sources Hands before after h = absurd h
 some_handed (ends.LineRefused n) sources Hands before after h = absurd h
@@ -353,6 +358,7 @@ unread ends.ThrewUnshown sources Hands before after was old h = absurd h
 unread ends.TicketsSpent sources Hands before after was old h = absurd h
 unread (ends.PeerClosed replies) sources Hands before after was old h = absurd h
 unread (ends.Refused name r) sources Hands before after was old h = (h.0, refl, h.1)
+unread (ends.CannotStore name) sources Hands before after was old h = absurd h
 unread (ends.CannotRead name) sources Hands before after was old h = (h.0, refl, h.1, h.2)
 unread ends.CannotWrite sources Hands before after was old h = absurd h
 unread (ends.LineRefused n) sources Hands before after was old h = absurd h

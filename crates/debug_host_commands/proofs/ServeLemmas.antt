@@ -1,5 +1,9 @@
 -- What serving a program says, in the words of its run without a debugger.
-use Rattle.std.proofs.Common.{◌≡◌, ◌<◌, ◌≤◌, ◌⊎◌, inl, inr, ℕ, zero, suc, ◌+◌, List, [], ◌∷◌, ◌++◌, map, length, Bool, true, false, ◌||◌, if◌then◌else◌, fold, refl, ap, sym, subst, ◌∙◌, arith, append_assoc, append-nil, string_bytes, Option as Opt, Some, None}
+use Rattle.std.specs.Option.{option_map}
+use Rattle.std.specs.declared.alloc.AllocError.{AllocError}
+use Rattle.std.specs.declared.alloc.Global.{Global}
+use Rattle.std.specs.declared.string.String.{String}
+use Rattle.std.proofs.Common.{Result, Ok, Err, IfOk, OnOk, ◌≡◌, ◌<◌, ◌≤◌, ◌⊎◌, inl, inr, ℕ, zero, suc, ◌+◌, List, [], ◌∷◌, ◌++◌, map, length, Bool, true, false, ◌||◌, if◌then◌else◌, fold, refl, ap, sym, subst, ◌∙◌, arith, append_assoc, append-nil, string_bytes, Option as Opt, Some, None}
 use Rattle.std.proofs.lemmas.List.{length-append}
 use Rattle.std.proofs.lemmas.Option.{same_Some}
 use mathlib.Core.Logic.{dite}
@@ -15,7 +19,7 @@ use Rattle.cdp_host_isolation.specs.declared.seat.Seat.TheVariants as seats
 use Rattle.cdp_host_isolation.proofs.AloneLemmas.{alone}
 use Rattle.cdp_host_isolation.proofs.MakerLemmas.{by-append, by-own}
 use Rattle.cdp_host_isolation.proofs.StopLemmas.{stops-exactly}
-use Rattle.cdp_edge.specs.Blame.{Blames, Faults, Read}
+use Rattle.cdp_edge.specs.Blame.{Blames, Faults, Read, Store}
 use Rattle.cdp_edge.specs.Outside.{GainsPrefix, NamedFile, Rose, Given, gains}
 use Rattle.history_lock.specs.Histories.{has}
 use Rattle.history_lock.specs.Passes.{Follows, HasInitialOnly, IsSamePass, LockId, PassState, initial_pass, initial_passes}
@@ -44,9 +48,11 @@ use Rattle.ws_service.specs.declared.program.RunEnd.{RunEnd}
 use Rattle.ws_service.specs.declared.program.RunEnd.TheVariants as runs
 use Rattle.debug_host_commands.specs.Files.{HoldsSources, IsNamed, IsReachedIn, IsRefusedIn}
 use Rattle.debug_host_commands.specs.RunCauses.{BecauseSources, RunsInPart, RunsToThrow}
-use Rattle.debug_host_commands.specs.ServeCauses.{BecauseServe, BecauseServed, Harbored, HasFinished, IsEndOf, IsOpened, IsShutEnd, IsUnserved, MayServe, ServesPort, ServesToEnd, ShowsThrow, clients_of, outcome_of_serving}
+use Rattle.debug_host_commands.specs.ServeCauses.{BecauseServe, BecauseServed, Harbored, HasFinished, IsEndOf, IsOpened, IsShutEnd, IsUnserved, MayServe, ServesNothing, ServesPort, ServesStored, ServesToEnd, ServesWhole, ShowsThrow, clients_of, outcome_of_serving, thrown_end}
+use Rattle.debug_host_commands.specs.Stored.{HasStored, OrJournal, Shelved, after_storing}
+use Rattle.debug_host_commands.specs.declared.storing.Storing.{Storing}
 use Rattle.debug_host_script_files.specs.declared.fault.TextFault.{TextFault}
-use Rattle.debug_host_commands.specs.Status.{ForServe, GivenServe, said, status_of, uncaught_said, unread_said, Says, refusal_said}
+use Rattle.debug_host_commands.specs.Status.{ForServe, GivenServe, said, status_of, uncaught_said, unread_said, unstored_said, Says, refusal_said}
 use Rattle.debug_host_options.specs.Requests.{Request, Serve, ServeWords}
 use Rattle.debug_host_options.specs.Requests as words
 use Rattle.debug_host_commands.specs.declared.outcome.CommandEnd.{CommandEnd}
@@ -273,6 +279,24 @@ module _ (scripts : List Script) (input : List (List ℕ)) (wait : Bool) (n : �
     alone = λ r. alone (protocol scripts) r (start scripts input) wait (entries_of h) s.history.fits;
   }
 
+  -- and what became of its journal
+  pub served-stored : (run : RunEnd) (together : DoorsEnd) (first : CommandEnd) (clients : Clients)
+      (journal : Opt (List ℕ)) (storing : Storing) (before after : Opt (List Tended)) (was now : Shelved)
+      (end : CommandEnd) → Is run together
+      → AreKept (seen_by clients) before after (map (λ (door : ServedDoor). door.door) served)
+      → IsEndOf first (record { run = run; doors = together }) (whole scripts input wait (entries_of h)).program
+      → HasStored storing (debugging scripts input wait) h journal was now
+      → end ≡ after_storing first storing
+      → ServesStored scripts input wait n clients journal moment old new before after was now end
+  unfolding served-port
+  served-stored run together first clients journal storing before after was now end s kept is_end stored is = record {
+    served = first;
+    port = served-port run together first clients before after s kept is_end;
+    storing = storing;
+    stored = stored;
+    is = is;
+  }
+
   -- the output is a first part of the plain one
   pub served-part : (run : RunEnd) (together : DoorsEnd) → Is run together
       → IsFirstPart (terms_of_scripts scripts) input old.content new.content
@@ -333,6 +357,7 @@ module _ (scripts : List Script) (input : List (List ℕ)) (wait : Bool) (n : �
     because-thrown ends.Usage s shown = absurd shown
     because-thrown (ends.Refused name r) s shown = absurd shown
     because-thrown (ends.CannotRead name) s shown = absurd shown
+    because-thrown (ends.CannotStore name) s shown = absurd shown
     because-thrown ends.CannotWrite s shown = absurd shown
     because-thrown (ends.LineRefused number) s shown = absurd shown
     because-thrown (ends.PeerClosed replies) s shown = absurd shown
@@ -459,7 +484,38 @@ host-program scripts input wait host history text stands works Hands =
     let printed = printed_of (whole scripts input wait history).program in
     sym (Hands printed ∙ ap (λ m. uncaught_text m.program) (stands.means works).is)
 
+-- how a program that threw is shown, by the text for which its host was asked
+pub shown-so : (scripts : List Script) (input : List (List ℕ)) (wait : Bool) (host : HostState) (history : List Entry)
+    (answer : Result (Opt (String Global)) AllocError) → StandsFor scripts input wait host history
+    → OnOk answer (host.broken ≡ false)
+    → IfOk answer (λ text. (taken : List (List ℕ)) → option_map string_bytes text
+    ≡ uncaught_text (meaning_with host taken).program)
+    → ShowsThrow (thrown_end answer) (whole scripts input wait history).program
+shown-so scripts input wait host history (Ok (Some text)) stands works is =
+    host-program scripts input wait host history (Some (string_bytes text)) stands works is
+shown-so scripts input wait host history (Ok None) stands works is = tt
+shown-so scripts input wait host history (Err error) stands works is = tt
+
 -- ---- before a port is opened
+
+-- what holds where no journal is asked for holds where one may be asked for
+pub or_quiet : (journal : Opt (List ℕ)) (P : Type 0) (Q : List ℕ → Type 0) → P → OrJournal journal P Q
+or_quiet None P Q holds = holds
+or_quiet (Some name) P Q holds = inl holds
+
+-- where one is asked for, what holds of its name
+pub or_stored : (journal : Opt (List ℕ)) (name : List ℕ) (P : Type 0) (Q : List ℕ → Type 0) → journal ≡ Some name
+    → Q name
+    → OrJournal journal P Q
+or_stored journal name P Q is holds = subst (λ j. OrJournal j P Q) (sym is) (inr holds)
+
+-- a step from either side
+pub or_more : (journal : Opt (List ℕ)) (P R : Type 0) (Q S : List ℕ → Type 0) → (P → R)
+    → ((name : List ℕ) → Q name → S name)
+    → OrJournal journal P Q → OrJournal journal R S
+or_more None P R Q S first second h = first h
+or_more (Some name) P R Q S first second (inl h) = inl (first h)
+or_more (Some name) P R Q S first second (inr h) = inr (second name h)
 
 -- why a server ended so whose files weren't all taken
 pub unread : (end : CommandEnd) (request : ServeWords) (Hands : List NamedFile → Type 0) (before after : Faults) (out : Output)
@@ -468,7 +524,9 @@ pub unread : (end : CommandEnd) (request : ServeWords) (Hands : List NamedFile �
 unread ends.Done request Hands before after out harbor h = absurd h
 unread (ends.Threw text) request Hands before after out harbor h = absurd h
 unread ends.ThrewUnshown request Hands before after out harbor h = absurd h
-unread ends.OutOfMemory request Hands before after out harbor h = (h.0, refl)
+unread ends.OutOfMemory request Hands before after out harbor h =
+    (or_quiet request.journal _ _ h.0, or_quiet request.journal _ _ refl)
+unread (ends.CannotStore name) request Hands before after out harbor h = absurd h
 unread ends.Usage request Hands before after out harbor h = absurd h
 unread (ends.Refused name r) request Hands before after out harbor h = (h.0, refl, h.1)
 unread (ends.CannotRead name) request Hands before after out harbor h = (h.0, refl, h.1, h.2)
@@ -508,10 +566,15 @@ read ends.ThrewUnshown request Hands faults old new before after scripts input h
         (λ files at. record { scripts = scripts; input = input; holds = at; thrown = h.2.1 }) holds,
   ),
 )
-read ends.OutOfMemory request Hands faults old new before after scripts input holds h = (refl, h)
-read ends.CannotWrite request Hands faults old new before after scripts input holds h = (refl, h.0, h.1)
-read ends.NetworkFault request Hands faults old new before after scripts input holds h = (refl, h.0, h.1)
-read ends.TicketsSpent request Hands faults old new before after scripts input holds h = (refl, h.0, h.1)
+read ends.OutOfMemory request Hands faults old new before after scripts input holds h =
+    (or_quiet request.journal _ _ refl, or_quiet request.journal _ _ h)
+read ends.CannotWrite request Hands faults old new before after scripts input holds h =
+    (or_quiet request.journal _ _ refl, h.0, h.1)
+read ends.NetworkFault request Hands faults old new before after scripts input holds h =
+    (or_quiet request.journal _ _ refl, h.0, h.1)
+read ends.TicketsSpent request Hands faults old new before after scripts input holds h =
+    (or_quiet request.journal _ _ refl, h.0, h.1)
+read (ends.CannotStore name) request Hands faults old new before after scripts input holds h = absurd h
 read ends.Usage request Hands faults old new before after scripts input holds h = absurd h
 read (ends.Refused name r) request Hands faults old new before after scripts input holds h = absurd h
 read (ends.CannotRead name) request Hands faults old new before after scripts input holds h = absurd h
@@ -528,6 +591,7 @@ unserved ends.OutOfMemory request Hands before after h = tt
 unserved ends.Usage request Hands before after h = absurd h
 unserved (ends.Refused name r) request Hands before after h = tt
 unserved (ends.CannotRead name) request Hands before after h = tt
+unserved (ends.CannotStore name) request Hands before after h = absurd h
 unserved ends.CannotWrite request Hands before after h = absurd h
 unserved (ends.LineRefused n) request Hands before after h = absurd h
 unserved ends.NetworkFault request Hands before after h = absurd h
@@ -536,69 +600,77 @@ unserved (ends.PeerClosed replies) request Hands before after h = absurd h
 
 -- where a file wasn't taken, no port was served, whatever was handed in
 pub unserved_part : (end : CommandEnd) (request : ServeWords) (Hands : List NamedFile → Type 0) (faults now_faults : Faults)
-    (moment : Opt ℕ) (out : Output) (kept : Opt (List Tended))
+    (moment : Opt ℕ) (out : Output) (kept : Opt (List Tended)) (was now : Shelved)
+    → now.files ≡ was.files
     → BecauseSources end request.sources Hands faults now_faults
-    → Given Hands (λ files. MayServe files request moment out out kept kept end)
-unserved_part end request Hands faults now_faults moment out kept h =
-    given_as Hands (λ files. Unit {0}) (λ files. MayServe files request moment out out kept kept end)
-    (λ files it. inl (unserved end request Hands faults now_faults h, refl))
+    → Given Hands (λ files. MayServe files request moment out out kept kept was now end)
+unserved_part end request Hands faults now_faults moment out kept was now same h =
+    given_as Hands (λ files. Unit {0}) (λ files. MayServe files request moment out out kept kept was now end)
+    (λ files it. inl (unserved end request Hands faults now_faults h, refl, same))
     (some_handed end request.sources Hands faults now_faults h)
 
 -- a port that was served for the scripts that the files hold, or wasn't
 pub serves : (request : ServeWords) (Hands : List NamedFile → Type 0) (moment : Opt ℕ) (old new : Output)
-    (before after : Opt (List Tended)) (end : CommandEnd) (scripts : List Script) (input : List (List ℕ))
+    (before after : Opt (List Tended)) (was now : Shelved) (end : CommandEnd) (scripts : List Script)
+    (input : List (List ℕ))
     → Given Hands (λ files. HoldsSources files request.sources scripts input)
-    → (IsUnserved end × (new.content ≡ old.content))
-    ⊎ ServesPort scripts input request.wait request.sessions (clients_of request.devtools) moment old new before after end
-    → Given Hands (λ files. MayServe files request moment old new before after end)
-serves request Hands moment old new before after end scripts input holds (inl unserved) =
+    → ServesNothing end old new was now
+    ⊎ ServesStored scripts input request.wait request.sessions (clients_of request.devtools) request.journal moment old new
+    before after was now end
+    → Given Hands (λ files. MayServe files request moment old new before after was now end)
+serves request Hands moment old new before after was now end scripts input holds (inl unserved) =
     given_as Hands (λ files. HoldsSources files request.sources scripts input) _ (λ files at. inl unserved) holds
-serves request Hands moment old new before after end scripts input holds (inr port) =
+serves request Hands moment old new before after was now end scripts input holds (inr port) =
     given_as Hands (λ files. HoldsSources files request.sources scripts input) _
     (λ files at. inr (record { scripts = scripts; input = input; holds = at; port = port })) holds
 
 -- its output is a first part of the plain one
 in-part : (request : ServeWords) (files : List NamedFile) (moment : Opt ℕ) (old new : Output)
-    (before after : Opt (List Tended)) (end : CommandEnd) → MayServe files request moment old new before after end
+    (before after : Opt (List Tended)) (was now : Shelved) (end : CommandEnd)
+    → MayServe files request moment old new before after was now end
     → (new.content ≡ old.content) ⊎ RunsInPart files request.sources old.content new.content
-in-part request files moment old new before after end (inl unserved) = inl unserved.1
-in-part request files moment old new before after end (inr s) = inr (record {
+in-part request files moment old new before after was now end (inl unserved) = inl unserved.1
+in-part request files moment old new before after was now end (inr s) = inr (record {
   scripts = s.scripts;
   input = s.input;
   holds = s.holds;
   part =
-      served-part s.scripts s.input request.wait request.sessions moment old new s.port.history s.port.doors
-      s.port.ended.run s.port.ended.doors s.port.serving;
+      let port = s.port.port in
+      served-part s.scripts s.input request.wait request.sessions moment old new port.history port.doors port.ended.run
+      port.ended.doors port.serving;
 })
 
 -- ---- of the words that ask for a server
 
-given_serve : (o : Opt Request) (request : ServeWords) (Hands : List NamedFile → Type 0)
+pub given_serve : (o : Opt Request) (request : ServeWords) (Hands : List NamedFile → Type 0)
     (P : ServeWords → List NamedFile → Type 0) → o ≡ Some (Serve request) → Given Hands (P request) → GivenServe o Hands P
 given_serve o request Hands P is h = rw is h
 
 -- its output is a first part of the plain one
 pub part_given : (o : Opt Request) (request : ServeWords) (Hands : List NamedFile → Type 0) (moment : Opt ℕ)
-    (old new : Output) (before after : Opt (List Tended)) (end : CommandEnd) → o ≡ Some (Serve request)
-    → Given Hands (λ files. MayServe files request moment old new before after end)
+    (old new : Output) (before after : Opt (List Tended)) (was now : Shelved) (end : CommandEnd)
+    → o ≡ Some (Serve request)
+    → Given Hands (λ files. MayServe files request moment old new before after was now end)
     → GivenServe o Hands
     (λ r files. (new.content ≡ old.content) ⊎ RunsInPart files r.sources old.content new.content)
-part_given o request Hands moment old new before after end is h =
+part_given o request Hands moment old new before after was now end is h =
     given_serve o request Hands
     (λ r files. (new.content ≡ old.content) ⊎ RunsInPart files r.sources old.content new.content) is
-    (given_as Hands (λ files. MayServe files request moment old new before after end) _
-    (λ files at. in-part request files moment old new before after end at) h)
+    (given_as Hands (λ files. MayServe files request moment old new before after was now end) _
+    (λ files at. in-part request files moment old new before after was now end at) h)
 
 -- its end is that of the port that it served, if it served one
 pub served_given : (o : Opt Request) (request : ServeWords) (Hands : List NamedFile → Type 0) (moment : Opt ℕ)
-    (old new : Output) (before after : Opt (List Tended)) (end : CommandEnd) (status : ℕ) → o ≡ Some (Serve request)
-    → status ≡ status_of end → Given Hands (λ files. MayServe files request moment old new before after end)
+    (old new : Output) (before after : Opt (List Tended)) (was now : Shelved) (end : CommandEnd) (status : ℕ)
+    → o ≡ Some (Serve request) → status ≡ status_of end
+    → Given Hands (λ files. MayServe files request moment old new before after was now end)
     → GivenServe o Hands
-    (λ r files. (it : CommandEnd) × (status ≡ status_of it) × MayServe files r moment old new before after it)
-served_given o request Hands moment old new before after end status is ends_so h =
+    (λ r files. (it : CommandEnd) × (status ≡ status_of it) × MayServe files r moment old new before after was now it)
+served_given o request Hands moment old new before after was now end status is ends_so h =
     given_serve o request Hands
-    (λ r files. (it : CommandEnd) × (status ≡ status_of it) × MayServe files r moment old new before after it) is
-    (given_as Hands (λ files. MayServe files request moment old new before after end) _ (λ files at. (end, ends_so, at)) h)
+    (λ r files. (it : CommandEnd) × (status ≡ status_of it) × MayServe files r moment old new before after was now it) is
+    (given_as Hands (λ files. MayServe files request moment old new before after was now end) _
+    (λ files at. (end, ends_so, at)) h)
 
 -- where no line is said, nothing was said of any line
 says-unshown : (explains : Bool) (before after : List ℕ) (line : List ℕ) → Says explains before after []
@@ -633,6 +705,7 @@ threw-told ends.Done request Hands faults now_faults old new was now explains be
 threw-told ends.OutOfMemory request Hands faults now_faults old new was now explains before after is h says = absurd cc
 threw-told ends.Usage request Hands faults now_faults old new was now explains before after is h says = absurd h
 threw-told (ends.Refused name r) request Hands faults now_faults old new was now explains before after is h says = absurd cc
+threw-told (ends.CannotStore name) request Hands faults now_faults old new was now explains before after is h says = absurd cc
 threw-told (ends.CannotRead name) request Hands faults now_faults old new was now explains before after is h says = absurd cc
 threw-told ends.CannotWrite request Hands faults now_faults old new was now explains before after is h says = absurd cc
 threw-told (ends.LineRefused n) request Hands faults now_faults old new was now explains before after is h says = absurd h
@@ -695,14 +768,36 @@ IsToldRead faults now_faults Hands explains before after request =
     × Given Hands (λ files. IsReachedIn files request.sources name)
     × Says explains before after (unread_said name)
 
+-- how a journal that can't be stored is told: the program has ended then
+abbrev IsToldStore : Faults → Faults → (List NamedFile → Type 0) → Output → Output → Harbored → Harbored → Bool → List ℕ
+    → List ℕ → ServeWords → List ℕ → Type 0
+IsToldStore faults now_faults Hands old new was now explains before after request name =
+    Blames (Store name) faults now_faults
+    × (now.opens ≡ called (request.port, request.sessions) was.opens)
+    × Given Hands (λ files. ServesWhole files request old.content new.content)
+    × Says explains before after (unstored_said name)
+
 module _ (request : ServeWords) (Hands : List NamedFile → Type 0) (faults now_faults : Faults) (old new : Output)
     (was now : Harbored) where
   abbrev Ended : CommandEnd → Type 0
   Ended end = BecauseServe end request Hands faults now_faults old new was now
 
+  -- how either is told
+  abbrev IsToldFile : Bool → List ℕ → List ℕ → ServeWords → Type 0
+  IsToldFile explains before after r =
+      OrJournal r.journal (IsToldRead faults now_faults Hands explains before after r)
+      (IsToldStore faults now_faults Hands old new was now explains before after r)
+
   read-told : (end : CommandEnd) (explains : Bool) (before after : List ℕ) → status_of end ≡ 4 → Ended end
-      → Says explains before after (said end) → IsToldRead faults now_faults Hands explains before after request
-  read-told (ends.CannotRead name) explains before after is h says = (name.now, h.2, h.0, h.3, says)
+      → Says explains before after (said end) → IsToldFile explains before after request
+  read-told (ends.CannotRead name) explains before after is h says =
+      or_quiet request.journal (IsToldRead faults now_faults Hands explains before after request)
+      (IsToldStore faults now_faults Hands old new was now explains before after request)
+      (name.now, h.2, h.0, h.3, says)
+  read-told (ends.CannotStore name) explains before after is h says =
+      or_stored request.journal name.now (IsToldRead faults now_faults Hands explains before after request)
+      (IsToldStore faults now_faults Hands old new was now explains before after request)
+      h.1 (h.0, h.3, h.4, says)
   read-told ends.Done explains before after is h says = absurd cc
   read-told (ends.Threw text) explains before after is h says = absurd cc
   read-told ends.ThrewUnshown explains before after is h says = absurd cc
@@ -725,6 +820,7 @@ module _ (request : ServeWords) (Hands : List NamedFile → Type 0) (faults now_
   refusal-told ends.ThrewUnshown explains before after is h says = absurd cc
   refusal-told ends.OutOfMemory explains before after is h says = absurd cc
   refusal-told (ends.CannotRead name) explains before after is h says = absurd cc
+  refusal-told (ends.CannotStore name) explains before after is h says = absurd cc
   refusal-told ends.CannotWrite explains before after is h says = absurd cc
   refusal-told ends.NetworkFault explains before after is h says = absurd cc
   refusal-told ends.TicketsSpent explains before after is h says = absurd cc
@@ -741,6 +837,7 @@ module _ (request : ServeWords) (Hands : List NamedFile → Type 0) (faults now_
   opened-told ends.OutOfMemory past h = not-past-1 _ past
   opened-told (ends.Refused name r) past h = not-past-3 _ past
   opened-told (ends.CannotRead name) past h = not-past-4 _ past
+  opened-told (ends.CannotStore name) past h = not-past-4 _ past
   opened-told ends.NetworkFault past h = not-past-7 _ past
   opened-told ends.Usage past h = absurd h
   opened-told (ends.LineRefused n) past h = absurd h
@@ -749,9 +846,9 @@ module _ (request : ServeWords) (Hands : List NamedFile → Type 0) (faults now_
   module _ (o : Opt Request) (end : CommandEnd) (status : ℕ) (is : o ≡ Some (Serve request))
       (ends_so : status ≡ status_of end) (h : Ended end) where
     pub read_given : (explains : Bool) (before after : List ℕ) → Says explains before after (said end) → status ≡ 4
-        → ForServe o (IsToldRead faults now_faults Hands explains before after)
+        → ForServe o (IsToldFile explains before after)
     read_given explains before after says four =
-        let it : IsToldRead faults now_faults Hands explains before after request =
+        let it : IsToldFile explains before after request =
         read-told end explains before after (sym ends_so ∙ four) h says in rw is it
 
     pub refusal_given : (explains : Bool) (before after : List ℕ) → Says explains before after (said end) → status ≡ 3
@@ -772,18 +869,18 @@ module _ (request : ServeWords) (Hands : List NamedFile → Type 0) (faults now_
 
 -- where no memory was left for the words nothing was handed in or served, whatever they ask for
 pub unasked : (o : Opt Request) (Hands : List NamedFile → Type 0) (moment : Opt ℕ) (old : Output) (kept : Opt (List Tended))
-    (status : ℕ) → Hands [] → status ≡ 1
+    (was : Shelved) (status : ℕ) → Hands [] → status ≡ 1
     → GivenServe o Hands
-    (λ r files. (it : CommandEnd) × (status ≡ status_of it) × MayServe files r moment old old kept kept it)
-unasked (Some (Serve request)) Hands moment old kept status none one =
-    ([], none, (ends.OutOfMemory, one, inl (tt, refl)))
-unasked None Hands moment old kept status none one = tt
-unasked (Some (words.Run sources)) Hands moment old kept status none one = tt
-unasked (Some (words.Replay request)) Hands moment old kept status none one = tt
-unasked (Some (words.Send request)) Hands moment old kept status none one = tt
-unasked (Some (words.Drill n)) Hands moment old kept status none one = tt
-unasked (Some (words.Help topic)) Hands moment old kept status none one = tt
-unasked (Some words.Version) Hands moment old kept status none one = tt
+    (λ r files. (it : CommandEnd) × (status ≡ status_of it) × MayServe files r moment old old kept kept was was it)
+unasked (Some (Serve request)) Hands moment old kept was status none one =
+    ([], none, (ends.OutOfMemory, one, inl (tt, refl, refl)))
+unasked None Hands moment old kept was status none one = tt
+unasked (Some (words.Run sources)) Hands moment old kept was status none one = tt
+unasked (Some (words.Replay request)) Hands moment old kept was status none one = tt
+unasked (Some (words.Send request)) Hands moment old kept was status none one = tt
+unasked (Some (words.Drill n)) Hands moment old kept was status none one = tt
+unasked (Some (words.Help topic)) Hands moment old kept was status none one = tt
+unasked (Some words.Version) Hands moment old kept was status none one = tt
 
 -- and nothing was written
 pub unwritten : (o : Opt Request) (Hands : List NamedFile → Type 0) (content : List ℕ) → Hands []

@@ -51,6 +51,7 @@ input_unread (ends.Refused name r) sources Hands before after h = (
   given_as Hands (λ files. HoldsNoText files name.now r) (λ files. IsRefusedIn files sources name.now r)
       (λ files n. inl (record { named = h.1; refused = n })) h.2,
 )
+input_unread (ends.CannotStore name) sources Hands before after h = absurd h
 input_unread (ends.CannotRead name) sources Hands before after h = (h.0, inl h.1, ([], h.2, inl (h.1, refl)))
 input_unread ends.CannotWrite sources Hands before after h = absurd h
 input_unread (ends.LineRefused n) sources Hands before after h = absurd h

@@ -83,5 +83,6 @@ BecauseDrill ends.NetworkFault n was now old new = ⊥
 BecauseDrill ends.ThrewUnshown n was now old new = ⊥
 BecauseDrill ends.TicketsSpent n was now old new = ⊥
 BecauseDrill (ends.PeerClosed replies) n was now old new = ⊥
+BecauseDrill (ends.CannotStore name) n was now old new = ⊥
 BecauseDrill (ends.CannotRead name) n was now old new = ⊥
 BecauseDrill (ends.Threw text) n was now old new = ⊥

@@ -9,6 +9,7 @@ pub mod Replays
 pub mod ReadCauses
 pub mod RunCauses
 pub mod ReplayCauses
+pub mod Stored
 pub mod ServeCauses
 pub mod SendCauses
 pub mod DrillCauses

@@ -68,6 +68,7 @@ BecauseReplay ends.OutOfMemory request Hands before after was now old new =
     (after ≡ before) × (now ≡ was) × Given Hands (λ given. (new ≡ old) ⊎ ReplaysInPart given request old new)
 BecauseReplay (ends.Refused name r) request Hands before after was now old new =
     (after ≡ before) × (now ≡ was) × Given Hands (λ given. IsRefusedBehind given request name.now r)
+BecauseReplay (ends.CannotStore name) request Hands before after was now old new = ⊥
 BecauseReplay (ends.CannotRead name) request Hands before after was now old new =
     Blames (Read name.now) before after
     × (now ≡ was)

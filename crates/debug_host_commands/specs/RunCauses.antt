@@ -104,6 +104,7 @@ BecauseRun ends.OutOfMemory sources Hands before after was now old new =
     (after ≡ before) × (now ≡ was) × Given Hands (λ given. (new ≡ old) ⊎ RunsInPart given sources old new)
 BecauseRun (ends.Refused name r) sources Hands before after was now old new =
     (after ≡ before) × (now ≡ was) × Given Hands (λ given. IsRefusedIn given sources name.now r)
+BecauseRun (ends.CannotStore name) sources Hands before after was now old new = ⊥
 BecauseRun (ends.CannotRead name) sources Hands before after was now old new =
     Blames (Read name.now) before after
     × (now ≡ was)

@@ -141,6 +141,7 @@ BecauseSend (ends.LineRefused line) request Hands before after old new was now =
     × (new ≡ old)
     × (now ≡ was)
     × Given Hands (λ given. RefusesLine given request.commands line)
+BecauseSend (ends.CannotStore name) request Hands before after old new was now = ⊥
 BecauseSend (ends.CannotRead name) request Hands before after old new was now =
     Blames (Read name.now) before after
     × (new ≡ old)

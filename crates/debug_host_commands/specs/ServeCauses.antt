@@ -1,9 +1,12 @@
 -- How a server ends, and why.
-use Rattle.std.specs.Prelude.{◌≡◌, ◌⊎◌, ℕ, List, map, Bool, true, false, Option, Some, None, string_bytes}
+use Rattle.std.specs.Prelude.{Result, Ok, Err, ◌≡◌, ◌⊎◌, ℕ, List, map, Bool, true, false, Option, Some, None, string_bytes}
+use Rattle.std.specs.declared.alloc.AllocError.{AllocError}
+use Rattle.std.specs.declared.alloc.Global.{Global}
+use Rattle.std.specs.declared.string.String.{String}
 use Rattle.cdp_host_isolation.specs.Histories.{Entry}
 use Rattle.cdp_host_isolation.specs.Makers.{entries_of}
 use Rattle.cdp_host_isolation.specs.Stops.{AllStopExactly}
-use Rattle.cdp_edge.specs.Blame.{Blames, Faults, Read}
+use Rattle.cdp_edge.specs.Blame.{Blames, Faults, Read, Store}
 use Rattle.cdp_edge.specs.Outside.{NamedFile, Rose, Given, gains}
 use Rattle.js_tree.specs.declared.script.Script.{Script}
 use Rattle.js_semantics.specs.Run.{Run}
@@ -13,6 +16,7 @@ use Rattle.cdp_edge_printing.specs.Printing.{printed_lines}
 use Rattle.cdp_edge_server.specs.Contents.{Calls, Tended, called}
 use Rattle.cdp_edge_server.specs.declared.harbor.HarborFault.{HarborFault}
 use Rattle.cdp_edge_server.specs.declared.harbor.HarborFault.TheVariants as harbor
+use Rattle.cdp_host_record.specs.Records.{recorded, some_list}
 use Rattle.cdp_host.specs.Debugged.{debugging}
 use Rattle.cdp_host.specs.Histories.{begin, sent_alone, sent_to, view, whole}
 use Rattle.cdp_host.specs.Programs.{has_thrown, is_over, plain, printed_of, start, uncaught_text}
@@ -29,6 +33,9 @@ use Rattle.ws_service.specs.declared.program.RunEnd.TheVariants as runs
 use Rattle.debug_host_commands.specs.Files.{HoldsSources, IsNamed, IsReachedIn, IsRefusedIn}
 use Rattle.debug_host_commands.specs.RunCauses.{RunsToThrow}
 use Rattle.debug_host_options.specs.Requests.{ServeWords}
+use Rattle.debug_host_commands.specs.Status.{status_of}
+use Rattle.debug_host_commands.specs.Stored.{HasStored, OrJournal, Shelved, StoreFaults, after_storing, with_stored}
+use Rattle.debug_host_commands.specs.declared.storing.Storing.{Storing}
 use Rattle.debug_host_commands.specs.declared.outcome.CommandEnd.{CommandEnd}
 use Rattle.debug_host_commands.specs.declared.outcome.CommandEnd.TheVariants as ends
 
@@ -54,6 +61,12 @@ outcome_of_serving runs.Threw together = or_doors None together
 abbrev pub unopened : HarborFault → CommandEnd
 unopened harbor.Failed = ends.NetworkFault
 unopened harbor.Memory = ends.OutOfMemory
+
+-- the end of a program that threw, by the text of the value, if there was memory for that
+abbrev pub thrown_end : Result (Option (String Global)) AllocError → CommandEnd
+thrown_end (Ok (Some text)) = ends.Threw text
+thrown_end (Ok None) = ends.ThrewUnshown
+thrown_end (Err error) = ends.ThrewUnshown
 
 -- how a program ended by a throw is shown: by the text of its value; or no memory was left for that, or no ticket
 abbrev pub ShowsThrow : CommandEnd → Run → Type 0
@@ -99,6 +112,11 @@ pub record ServesToEnd (given : List NamedFile) (request : ServeWords) (before n
   pub holds : HoldsSources given request.sources scripts input
   pub finished : HasFinished scripts input before now
 
+-- the program has ended, by its last script or by a throw, and all that it has printed was written
+abbrev pub ServesWhole : List NamedFile → ServeWords → List ℕ → List ℕ → Type 0
+ServesWhole given request before now =
+    ServesToEnd given request before now ⊎ ((text : List ℕ) × RunsToThrow given request.sources text before now)
+
 -- ---- a port that was served
 
 -- the clients that are let in where DevTools is asked for, or isn't
@@ -128,20 +146,51 @@ pub record ServesPort (scripts : List Script) (input : List (List ℕ)) (wait : 
   pub alone : (s : ℕ) → sent_to scripts input wait s (entries_of history)
       ≡ sent_alone scripts input wait s (view scripts input wait s (entries_of history))
 
+-- A port was served so, with a journal under this name, if there is one. It ended as the program and its doors decide,
+-- or by what became of the journal of its history.
+pub record ServesStored (scripts : List Script) (input : List (List ℕ)) (wait : Bool) (sessions : ℕ) (clients : Clients)
+    (journal : Option (List ℕ)) (moment : Option ℕ) (old new : Output) (before after : Option (List Tended))
+    (was now : Shelved) (end : CommandEnd) : Type 0 where
+  pub served : CommandEnd
+  pub port : ServesPort scripts input wait sessions clients moment old new before after served
+  pub storing : Storing
+  pub stored : HasStored storing (debugging scripts input wait) port.history journal was now
+  pub is : end ≡ after_storing served storing
+
 -- a port was served for the scripts and the input that the files hold, and that ended so
 pub record Serves (given : List NamedFile) (request : ServeWords) (moment : Option ℕ) (old new : Output)
-    (before after : Option (List Tended)) (end : CommandEnd) : Type 0 where
+    (before after : Option (List Tended)) (was now : Shelved) (end : CommandEnd) : Type 0 where
   pub scripts : List Script
   pub input : List (List ℕ)
   pub holds : HoldsSources given request.sources scripts input
-  pub port : ServesPort scripts input request.wait request.sessions (clients_of request.devtools) moment old new before
-      after end
+  pub port : ServesStored scripts input request.wait request.sessions (clients_of request.devtools) request.journal moment
+      old new before after was now end
 
--- no port was served, and nothing was written; or one was, and that ended so
+-- no port was served, and nothing was written or stored
+abbrev pub ServesNothing : CommandEnd → Output → Output → Shelved → Shelved → Type 0
+ServesNothing end old new was now = IsUnserved end × (new.content ≡ old.content) × (now.files ≡ was.files)
+
+-- no port was served, and nothing was written or stored; or one was, and that ended so
 abbrev pub MayServe : List NamedFile → ServeWords → Option ℕ → Output → Output → Option (List Tended)
-    → Option (List Tended) → CommandEnd → Type 0
-MayServe given request moment old new before after end =
-    (IsUnserved end × (new.content ≡ old.content)) ⊎ Serves given request moment old new before after end
+    → Option (List Tended) → Shelved → Shelved → CommandEnd → Type 0
+MayServe given request moment old new before after was now end =
+    ServesNothing end old new was now ⊎ Serves given request moment old new before after was now end
+
+-- A port was served over one history, which ended with this status as the program and its doors decide. Under the name
+-- of the journal that is asked for, if one is, the record of that history was stored, byte for byte; no session was
+-- lost for want of memory.
+pub record Journals (status : ℕ) (given : List NamedFile) (request : ServeWords) (moment : Option ℕ) (old new : Output)
+    (before after : Option (List Tended)) (was now : Shelved) : Type 0 where
+  pub scripts : List Script
+  pub input : List (List ℕ)
+  pub holds : HoldsSources given request.sources scripts input
+  pub served : CommandEnd
+  pub is : status ≡ status_of served
+  pub port : ServesPort scripts input request.wait request.sessions (clients_of request.devtools) moment old new before
+      after served
+  pub stored : (name : List ℕ) → request.journal ≡ Some name
+      → (now ≡ with_stored name (recorded (debugging scripts input request.wait) port.history) was)
+      × (some_list (entries_of port.history) ≡ false)
 
 -- ---- causes
 
@@ -174,8 +223,20 @@ BecauseServed ends.TicketsSpent scripts input port sessions old new before after
 BecauseServed ends.Usage scripts input port sessions old new before after = ⊥
 BecauseServed (ends.Refused name r) scripts input port sessions old new before after = ⊥
 BecauseServed (ends.CannotRead name) scripts input port sessions old new before after = ⊥
+BecauseServed (ends.CannotStore name) scripts input port sessions old new before after = ⊥
 BecauseServed (ends.LineRefused n) scripts input port sessions old new before after = ⊥
 BecauseServed (ends.PeerClosed replies) scripts input port sessions old new before after = ⊥
+
+-- Why serving a program ended so, with a journal under this name, if there is one: the program and its doors ended so,
+-- and what became of the journal comes after that, or before. The first two counts are those of the shelf.
+pub record BecauseStored (end : CommandEnd) (journal : Option (List ℕ)) (faults now_faults : Faults)
+    (scripts : List Script) (input : List (List ℕ)) (port sessions : ℕ) (old new : Output) (before after : Harbored)
+    : Type 0 where
+  pub served : CommandEnd
+  pub because : BecauseServed served scripts input port sessions old new before after
+  pub storing : Storing
+  pub told : StoreFaults storing journal faults now_faults
+  pub is : end ≡ after_storing served storing
 
 -- why a server ended so: the files say so, a count of faults rose, memory was wanting, or no ticket was left. The counts
 -- are those of the shelf
@@ -197,13 +258,26 @@ BecauseServe ends.ThrewUnshown request Hands before after old new was now =
     × IsOpened request.port request.sessions was now
     × ((text : List ℕ) × Given Hands (λ given. RunsToThrow given request.sources text old.content new.content))
 BecauseServe ends.OutOfMemory request Hands before after old new was now =
-    (after ≡ before) × (new.faults ≡ old.faults)
+    OrJournal request.journal (after ≡ before) (λ name. Blames (Store name) before after)
+    × OrJournal request.journal (new.faults ≡ old.faults) (λ name. Rose old.faults new.faults)
 BecauseServe ends.CannotWrite request Hands before after old new was now =
-    (after ≡ before) × Rose old.faults new.faults × IsOpened request.port request.sessions was now
+    OrJournal request.journal (after ≡ before) (λ name. Blames (Store name) before after)
+    × Rose old.faults new.faults
+    × IsOpened request.port request.sessions was now
 BecauseServe ends.NetworkFault request Hands before after old new was now =
-    (after ≡ before) × (new.faults ≡ old.faults) × Rose was.faults now.faults
+    OrJournal request.journal (after ≡ before) (λ name. Blames (Store name) before after)
+    × (new.faults ≡ old.faults)
+    × Rose was.faults now.faults
 BecauseServe ends.TicketsSpent request Hands before after old new was now =
-    (after ≡ before) × (new.faults ≡ old.faults) × IsOpened request.port request.sessions was now
+    OrJournal request.journal (after ≡ before) (λ name. Blames (Store name) before after)
+    × (new.faults ≡ old.faults)
+    × IsOpened request.port request.sessions was now
+BecauseServe (ends.CannotStore name) request Hands before after old new was now =
+    Blames (Store name.now) before after
+    × (request.journal ≡ Some name.now)
+    × (new.faults ≡ old.faults)
+    × IsOpened request.port request.sessions was now
+    × Given Hands (λ given. ServesWhole given request old.content new.content)
 BecauseServe (ends.Refused name r) request Hands before after old new was now =
     (after ≡ before) × (new ≡ old) × Given Hands (λ given. IsRefusedIn given request.sources name.now r)
 BecauseServe (ends.CannotRead name) request Hands before after old new was now =

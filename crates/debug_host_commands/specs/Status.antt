@@ -17,6 +17,7 @@ status_of ends.OutOfMemory = 1
 status_of ends.Usage = 2
 status_of (ends.Refused name r) = 3
 status_of (ends.CannotRead name) = 4
+status_of (ends.CannotStore name) = 4
 status_of ends.CannotWrite = 5
 status_of (ends.LineRefused number) = 6
 status_of ends.NetworkFault = 7
@@ -46,6 +47,10 @@ refusal_said name refusals.TooManyTokens = codes "debug_host: " ++ name ++ (code
 abbrev pub unread_said : List ℕ → List ℕ
 unread_said name = codes "debug_host: cannot read " ++ name ++ 10 ∷ []
 
+-- what is said of a file that can't be stored
+abbrev pub unstored_said : List ℕ → List ℕ
+unstored_said name = codes "debug_host: cannot store " ++ name ++ 10 ∷ []
+
 -- what is said of a line that is refused, of a journal or of a file of commands
 abbrev pub line_said : ℕ → List ℕ
 line_said number = codes "debug_host: line " ++ decimal number ++ (codes " refused" ++ 10 ∷ [])
@@ -65,6 +70,7 @@ said ends.OutOfMemory = codes "debug_host: out of memory" ++ 10 ∷ []
 said ends.Usage = usage_said
 said (ends.Refused name r) = refusal_said name.now r
 said (ends.CannotRead name) = unread_said name.now
+said (ends.CannotStore name) = unstored_said name.now
 said ends.CannotWrite = codes "debug_host: cannot write" ++ 10 ∷ []
 said ends.NetworkFault = codes "debug_host: network fault" ++ 10 ∷ []
 said ends.TicketsSpent = codes "debug_host: tickets spent" ++ 10 ∷ []

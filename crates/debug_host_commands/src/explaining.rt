@@ -4,7 +4,7 @@ use crate::outcome::CommandEnd;
 use cdp_text::units::text_of;
 use debug_host_explanations::{
     FileRefusal, Frame, KeptFile, PortFault, ReadFault, command_lines, frame_lines, journal_lines,
-    link_lines, refusal_lines, unread_lines, word_lines,
+    link_lines, refusal_lines, unread_lines, unstored_line, word_lines,
 };
 use debug_host_script_files::{Evidence, FileEvidence, TextFault};
 use js_tree::script::Script;
@@ -60,6 +60,7 @@ pub(crate) fn lines_of(
         CommandEnd::Usage => lines_of_words(alloc, task),
         CommandEnd::Refused(name, refusal) => lines_of_refusal(alloc, *name, *refusal, evidence),
         CommandEnd::CannotRead(name) => unread_lines(alloc, *name, fault_of(&evidence.file)),
+        CommandEnd::CannotStore(name) => unstored_line(alloc, *name),
         CommandEnd::LineRefused(number) => lines_of_line(alloc, task, *number, evidence),
         CommandEnd::NetworkFault => lines_of_port(alloc, task),
         CommandEnd::PeerClosed(_) => link_lines(alloc, PortFault::Closed),

@@ -24,6 +24,7 @@ mod run;
 mod send;
 mod serve;
 mod sources;
+mod storing;
 mod telling;
 mod throwing;
 mod transcript;

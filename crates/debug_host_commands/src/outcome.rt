@@ -16,6 +16,7 @@ pub(crate) enum CommandEnd<'w> {
     Usage,
     Refused(&'w str, TextFault),
     CannotRead(&'w str),
+    CannotStore(&'w str),
     CannotWrite,
     /// The number, from 1, of the line that is refused, of a journal or of a file of commands.
     LineRefused(u64),

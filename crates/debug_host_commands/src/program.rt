@@ -1,7 +1,7 @@
 //! The program's one top call.
 
 ghost use Rattle.std.specs.Prelude.{◌≡◌, ◌≢◌, ◌⊎◌, ◌<◌, ℕ, List, [], None, Some};
-ghost use Rattle.cdp_edge.specs.Blame.{Blames, Read};
+ghost use Rattle.cdp_edge.specs.Blame.{Blames, Read, Store};
 ghost use Rattle.cdp_edge.specs.Outside.{Rose, Given, HandsIn, GainsPrefix, gains};
 ghost use Rattle.cdp_client.specs.Lines.{Line};
 ghost use Rattle.cdp_client.specs.declared.conversed.Conversed.TheVariants as talks;
@@ -14,8 +14,9 @@ ghost use Rattle.debug_host_commands.specs.Files.{HoldsReplay, HoldsSources, IsN
 ghost use Rattle.debug_host_commands.specs.ReplayCauses.{ReplaysInPart, ReplaysShort, ReplaysWhole};
 ghost use Rattle.debug_host_commands.specs.RunCauses.{RunsInPart, RunsShort, RunsToEnd, RunsToThrow};
 ghost use Rattle.debug_host_commands.specs.SendCauses.{HoldsCommands, MaySend, RefusesLine, Sends};
-ghost use Rattle.debug_host_commands.specs.Status.{Says, ForDrill, ForReplay, ForRun, ForSend, ForServe, ForText, GivenReplay, GivenRun, GivenSend, GivenServe, IsClient, Unfailed, closed_said, line_said, refusal_said, said, status_of, uncaught_said, unread_said};
-ghost use Rattle.debug_host_commands.specs.ServeCauses.{MayServe, ServesToEnd};
+ghost use Rattle.debug_host_commands.specs.Status.{Says, ForDrill, ForReplay, ForRun, ForSend, ForServe, ForText, GivenReplay, GivenRun, GivenSend, GivenServe, IsClient, Unfailed, closed_said, line_said, refusal_said, said, status_of, uncaught_said, unread_said, unstored_said};
+ghost use Rattle.debug_host_commands.specs.ServeCauses.{Journals, MayServe, ServesToEnd, ServesWhole};
+ghost use Rattle.debug_host_commands.specs.Stored.{ComesFirst, OrJournal, journal_asked};
 ghost use Rattle.debug_host_options.specs.Explains.{explains};
 ghost use Rattle.debug_host_options.specs.Requests.{asked};
 ghost use Rattle.cdp_edge_server.specs.Contents.{called};
@@ -45,7 +46,7 @@ use std::thread::Threads;
 /// | 1 | want of memory, also where a session is lost for want of it | `debug_host: out of memory` |
 /// | 2 | only where the words ask for nothing (`read_words` of `debug_host_options`), and there always, but for want of memory | `usage: debug_host run/replay/serve/send/drill` |
 /// | 3 | only where the input or a script isn't UTF-8, or a script is refused by the parser | `debug_host: NAME: not UTF-8`, `debug_host: NAME:LINE:COL: unexpected token`, `debug_host: NAME: too long: N units`, `debug_host: NAME: too deep`, `debug_host: NAME: too many tokens` |
-/// | 4 | only where the shelf tells a fault at a file that the words name | `debug_host: cannot read NAME` |
+/// | 4 | only where the shelf tells a fault at a file that the words name: one that is read, or the one in which `serve` stores its journal | `debug_host: cannot read NAME`, `debug_host: cannot store NAME` |
 /// | 5 | only where the count of `out` rose or stands at the greatest `u64`, with output left to write | `debug_host: cannot write` |
 /// | 6 | only where a line of the journal isn't of its form or names a session that isn't attached, or a line of the file of commands isn't of its form | `debug_host: line N refused` |
 /// | 7 | `serve`, `send`: only where the harbor's count rose: the port couldn't be opened or dialled, or one of its doors or the link to it failed | `debug_host: network fault` |
@@ -58,7 +59,8 @@ use std::thread::Threads;
 /// read; then its lines; then the port that is dialled, and the conversation.
 /// A run that never ends prints as it goes, and the call doesn't return.
 /// `serve` opens so many doors on a port of the harbor, and serves the clients that arrive there while the program runs, until it
-/// is over. Of its ends the first decides in the order of the statuses 1, 5, 7, 10, 8, 0.
+/// is over. With `--journal` it stores then, whatever the end is, the journal of the one history. Of its ends the first decides
+/// in the order of the statuses 1, 5, 7, 10, 4, 8, 0, where a journal for which there was no memory has status 1.
 /// `send` sends the commands of a file to a host that serves, each after the reply to the one before it, and writes each text
 /// that arrives as a line. Where the host neither answers nor closes, the call doesn't return.
 /// `drill N` reads no file: it replays a journal and a script that are made from N, in memory, and writes a summary of that
@@ -66,6 +68,7 @@ use std::thread::Threads;
 /// `--help` and `--version` write a text on `out`, and touch nothing else.
 /// With `--explain` further lines on `err` say the cause, each after two spaces; nothing else changes.
 /// What `err` does changes no status.
+#[tactic(auto, using(crate::proofs::ServeLemmas::or_quiet))]
 pub fn debug_main<
     R: Threads + Wait + Sync,
     F: Shelf,
@@ -91,11 +94,12 @@ where
     ensures usage { result ≡ 2 → asked words.now ≡ None }
     ensures usages { asked words.now ≡ None → (result ≡ 2) ⊎ (result ≡ 1) }
     ensures usage_untouched { result ≡ 2 → (out.new ≡ out.old) × (shelf.new ≡ shelf.old) × (harbor.new ≡ harbor.old) }
-    ensures unwritten { (result ≡ 3) ⊎ (result ≡ 4) → out.new ≡ out.old }
+    ensures unwritten { (result ≡ 3) ⊎ (result ≡ 4) → OrJournal (journal_asked (asked words.now)) (out.new ≡ out.old) (λ name. (result ≡ 4) × Blames (Store name) (F.faults shelf.old) (F.faults shelf.new)) }
     // the counts of faults, and what `err` took
-    ensures reads { result ≢ 4 → F.faults shelf.new ≡ F.faults shelf.old }
+    ensures reads { result ≢ 4 → OrJournal (journal_asked (asked words.now)) (F.faults shelf.new ≡ F.faults shelf.old) (λ name. ComesFirst result × Blames (Store name) (F.faults shelf.old) (F.faults shelf.new)) }
     ensures write { result ≡ 5 → Rose (O.faults out.old) (O.faults out.new) }
-    ensures writes { result ≢ 5 → O.faults out.new ≡ O.faults out.old }
+    ensures writes { result ≢ 5 → OrJournal (journal_asked (asked words.now)) (O.faults out.new ≡ O.faults out.old) (λ name. (result ≡ 1) × Rose (O.faults out.old) (O.faults out.new)) }
+    ensures unstored { journal_asked (asked words.now) ≡ None → F.stored shelf.new ≡ F.stored shelf.old }
     ensures says { (end : CommandEnd) × (result ≡ status_of end) × Says (explains words.now) (E.content err.old) (E.content err.new) (said end) }
     // `run`: the cause of each status
     ensures run_done { result ≡ 0 → GivenRun (asked words.now) (HandsIn (F.files shelf.old) (F.handed shelf.old) (F.handed shelf.new)) (λ sources given. RunsToEnd given sources (O.content out.old) (O.content out.new)) }
@@ -134,13 +138,18 @@ where
         × RunsToThrow given request.sources text (O.content out.old) (O.content out.new) × Says (explains words.now) (E.content err.old) (E.content err.new) (uncaught_said text)) }
     ensures serve_refused { result ≡ 3 → GivenServe (asked words.now) (HandsIn (F.files shelf.old) (F.handed shelf.old) (F.handed shelf.new)) (λ request given. (name : List ℕ) × (refusal : TextFault)
         × IsRefusedIn given request.sources name refusal × Says (explains words.now) (E.content err.old) (E.content err.new) (refusal_said name refusal)) }
-    ensures serve_read { result ≡ 4 → ForServe (asked words.now) (λ request. (name : List ℕ) × IsNamed request.sources name × Blames (Read name) (F.faults shelf.old) (F.faults shelf.new)
-        × Given (HandsIn (F.files shelf.old) (F.handed shelf.old) (F.handed shelf.new)) (λ given. IsReachedIn given request.sources name) × Says (explains words.now) (E.content err.old) (E.content err.new) (unread_said name)) }
+    ensures serve_read { result ≡ 4 → ForServe (asked words.now) (λ request. OrJournal request.journal ((name : List ℕ) × IsNamed request.sources name × Blames (Read name) (F.faults shelf.old) (F.faults shelf.new)
+        × Given (HandsIn (F.files shelf.old) (F.handed shelf.old) (F.handed shelf.new)) (λ given. IsReachedIn given request.sources name) × Says (explains words.now) (E.content err.old) (E.content err.new) (unread_said name))
+        (λ name. Blames (Store name) (F.faults shelf.old) (F.faults shelf.new) × (H.opens harbor.new ≡ called (request.port, request.sessions) (H.opens harbor.old))
+        × Given (HandsIn (F.files shelf.old) (F.handed shelf.old) (F.handed shelf.new)) (λ given. ServesWhole given request (O.content out.old) (O.content out.new)) × Says (explains words.now) (E.content err.old) (E.content err.new) (unstored_said name))) }
     ensures serve_network { result ≡ 7 → Rose (H.faults harbor.old) (H.faults harbor.new) }
     // at every status: what `out` took is a first part of what the program prints; the doors are those of one history, in
     // which the program stops exactly where it is named to, and each session is sent what it would be sent alone
     ensures serve_part { GivenServe (asked words.now) (HandsIn (F.files shelf.old) (F.handed shelf.old) (F.handed shelf.new)) (λ request given. (O.content out.new ≡ O.content out.old) ⊎ RunsInPart given request.sources (O.content out.old) (O.content out.new)) }
-    ensures serves { GivenServe (asked words.now) (HandsIn (F.files shelf.old) (F.handed shelf.old) (F.handed shelf.new)) (λ request given. (end : CommandEnd) × (result ≡ status_of end) × MayServe given request (C.moment clock.old) (record { content = O.content out.old; faults = O.faults out.old }) (record { content = O.content out.new; faults = O.faults out.new }) (H.kept harbor.old) (H.kept harbor.new) end) }
+    ensures serves { GivenServe (asked words.now) (HandsIn (F.files shelf.old) (F.handed shelf.old) (F.handed shelf.new)) (λ request given. (end : CommandEnd) × (result ≡ status_of end) × MayServe given request (C.moment clock.old) (record { content = O.content out.old; faults = O.faults out.old }) (record { content = O.content out.new; faults = O.faults out.new }) (H.kept harbor.old) (H.kept harbor.new) (record { files = F.stored shelf.old; faults = F.faults shelf.old }) (record { files = F.stored shelf.new; faults = F.faults shelf.new }) end) }
+    // where the program ended and nothing failed, the record of its history was stored under the name of the journal that is
+    // asked for
+    ensures serve_journal { (result ≡ 0) ⊎ (result ≡ 8) → GivenServe (asked words.now) (HandsIn (F.files shelf.old) (F.handed shelf.old) (F.handed shelf.new)) (λ request given. Journals result given request (C.moment clock.old) (record { content = O.content out.old; faults = O.faults out.old }) (record { content = O.content out.new; faults = O.faults out.new }) (H.kept harbor.old) (H.kept harbor.new) (record { files = F.stored shelf.old; faults = F.faults shelf.old }) (record { files = F.stored shelf.new; faults = F.faults shelf.new })) }
     ensures serve_opened { (result ≡ 0) ⊎ (result ≡ 5) ⊎ (result ≡ 8) ⊎ (result ≡ 10) → ForServe (asked words.now) (λ request. H.opens harbor.new ≡ called (request.port, request.sessions) (H.opens harbor.old)) }
     ensures serve_once { ForServe (asked words.now) (λ request. (H.opens harbor.new ≡ H.opens harbor.old) ⊎ (H.opens harbor.new ≡ called (request.port, request.sessions) (H.opens harbor.old))) }
     ensures serve_dials { ForServe (asked words.now) (λ request. H.dials harbor.new ≡ H.dials harbor.old) }

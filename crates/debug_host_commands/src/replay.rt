@@ -41,6 +41,7 @@ pub(crate) fn replay<'w, F: Shelf, O: Sink>(
     ensures cause { BecauseReplay result (replay_held request.now) (HandsIn (F.files shelf.old) (F.handed shelf.old) (F.handed shelf.new)) (F.faults shelf.old) (F.faults shelf.new) (O.faults out.old) (O.faults out.new) (O.content out.old) (O.content out.new) }
     ensures part { Given (HandsIn (F.files shelf.old) (F.handed shelf.old) (F.handed shelf.new)) (λ given. (O.content out.new ≡ O.content out.old) ⊎ ReplaysInPart given (replay_held request.now) (O.content out.old) (O.content out.new)) }
     ensures unbegun { IsUnbegun result → out.new ≡ out.old }
+    ensures stored { F.stored shelf.new ≡ F.stored shelf.old }
 {
     let journal = match read_whole(alloc, request.journal, shelf, &mut remains.evidence) {
         Ok(bytes) => bytes,

@@ -2,7 +2,7 @@
 
 ghost use Rattle.std.specs.Prelude.{◌≡◌, ◌≢◌, [], true, Bool, IfOk, string_bytes};
 ghost use Rattle.cdp_edge.specs.Outside.{GainsPrefix, gains};
-ghost use Rattle.debug_host_commands.specs.Status.{Says, closed_said, line_said, refusal_said, said, status_of, uncaught_said, unread_said};
+ghost use Rattle.debug_host_commands.specs.Status.{Says, closed_said, line_said, refusal_said, said, status_of, uncaught_said, unread_said, unstored_said};
 ghost use Rattle.debug_host_script_files.specs.declared.fault.TextFault.TheVariants.{UnexpectedToken, TooLong};
 
 use crate::explaining::{Remains, Task, lines_of};
@@ -21,7 +21,7 @@ fn status_of(outcome: &CommandEnd<'_>) -> u8
         CommandEnd::OutOfMemory => 1,
         CommandEnd::Usage => 2,
         CommandEnd::Refused(_, _) => 3,
-        CommandEnd::CannotRead(_) => 4,
+        CommandEnd::CannotRead(_) | CommandEnd::CannotStore(_) => 4,
         CommandEnd::CannotWrite => 5,
         CommandEnd::LineRefused(_) => 6,
         CommandEnd::NetworkFault => 7,
@@ -51,6 +51,10 @@ fn report<E: Sink>(alloc: Global, outcome: CommandEnd<'_>, err: &mut E) -> bool
             Err(AllocError) => false,
         },
         CommandEnd::CannotRead(name) => match unread_text(alloc, name) {
+            Ok(text) => say(err, &text),
+            Err(AllocError) => false,
+        },
+        CommandEnd::CannotStore(name) => match unstored_text(alloc, name) {
             Ok(text) => say(err, &text),
             Err(AllocError) => false,
         },
@@ -161,6 +165,13 @@ fn unread_text(alloc: Global, name: &str) -> Result<String, AllocError>
     ensures { IfOk result (λ text. string_bytes text ≡ unread_said name.now) }
 {
     format!(in alloc; "debug_host: cannot read {name}\n")
+}
+
+/// The line of a file that can't be stored.
+fn unstored_text(alloc: Global, name: &str) -> Result<String, AllocError>
+    ensures { IfOk result (λ text. string_bytes text ≡ unstored_said name.now) }
+{
+    format!(in alloc; "debug_host: cannot store {name}\n")
 }
 
 /// The line of a peer that closed after so many replies.

@@ -42,6 +42,7 @@ pub(crate) fn run<'w, R: Wait, F: Shelf, O: Sink>(
     ensures cause { BecauseRun result ((run_held request.now).sources) (HandsIn (F.files shelf.old) (F.handed shelf.old) (F.handed shelf.new)) (F.faults shelf.old) (F.faults shelf.new) (O.faults out.old) (O.faults out.new) (O.content out.old) (O.content out.new) }
     ensures part { Given (HandsIn (F.files shelf.old) (F.handed shelf.old) (F.handed shelf.new)) (λ given. (O.content out.new ≡ O.content out.old) ⊎ RunsInPart given ((run_held request.now).sources) (O.content out.old) (O.content out.new)) }
     ensures unbegun { IsUnbegun result → out.new ≡ out.old }
+    ensures stored { F.stored shelf.new ≡ F.stored shelf.old }
 {
     match read_sources(alloc, &request.sources, shelf, &mut remains.evidence) {
         Ok(Program { scripts, input }) => {

@@ -44,6 +44,7 @@ fn read_commands<'w, F: Shelf>(
     ensures form { IfOk result (λ bytes. IsInForm bytes.items) }
     ensures quiet { IfOk result (λ bytes. F.faults shelf.new ≡ F.faults shelf.old) }
     ensures fault { IfErr result (λ end. BecauseCommands end name.now (HandsIn (F.files shelf.old) (F.handed shelf.old) (F.handed shelf.new)) (F.faults shelf.old) (F.faults shelf.new)) }
+    ensures stored { F.stored shelf.new ≡ F.stored shelf.old }
 {
     let bytes = match read_whole(alloc, name, shelf, evidence) {
         Ok(bytes) => bytes,
@@ -100,6 +101,7 @@ pub(crate) fn send<'w, R: Wait, F: Shelf, O: Sink, H: Harbor>(
     ensures undialled { IsUndialled result → (out.new ≡ out.old) × (harbor.new ≡ harbor.old) }
     ensures once { (H.dials harbor.new ≡ H.dials harbor.old) ⊎ (H.dials harbor.new ≡ called request.entry.port (H.dials harbor.old)) }
     ensures opens { H.opens harbor.new ≡ H.opens harbor.old }
+    ensures stored { F.stored shelf.new ≡ F.stored shelf.old }
 {
     let commands = match read_commands(alloc, request.commands, shelf, &mut remains.evidence) {
         Ok(commands) => commands,

@@ -45,6 +45,7 @@ fn read_lines<'w, F: Shelf>(
     ensures quiet { IfOk result (λ lines. F.faults shelf.new ≡ F.faults shelf.old) }
     ensures fault { IfErr result (λ end. BecauseInput end (text_held input.entry) (HandsIn (F.files shelf.old) (F.handed shelf.old) (F.handed shelf.new)) (F.faults shelf.old) (F.faults shelf.new)) }
     ensures files { F.files shelf.new ≡ F.files shelf.old }
+    ensures stored { F.stored shelf.new ≡ F.stored shelf.old }
 {
     let Some(name) = input else {
         return Ok(VecDeque::new(alloc));
@@ -72,6 +73,7 @@ pub(crate) fn read_sources<'w, F: Shelf>(
     ensures quiet { IfOk result (λ p. F.faults shelf.new ≡ F.faults shelf.old) }
     ensures fault { IfErr result (λ end. BecauseSources end (sources_held sources.now) (HandsIn (F.files shelf.old) (F.handed shelf.old) (F.handed shelf.new)) (F.faults shelf.old) (F.faults shelf.new)) }
     ensures files { F.files shelf.new ≡ F.files shelf.old }
+    ensures stored { F.stored shelf.new ≡ F.stored shelf.old }
 {
     let input = match read_lines(alloc, sources.input, shelf, evidence) {
         Ok(input) => input,

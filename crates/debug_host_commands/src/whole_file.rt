@@ -25,6 +25,7 @@ pub(crate) fn read_whole<'w, F: Shelf>(
     ensures quiet { IfOk result (λ bytes. F.faults shelf.new ≡ F.faults shelf.old) }
     ensures fault { IfErr result (λ end. BecauseUnread end name.now (HandsIn (F.files shelf.old) (F.handed shelf.old) (F.handed shelf.new)) (F.faults shelf.old) (F.faults shelf.new)) }
     ensures files { F.files shelf.new ≡ F.files shelf.old }
+    ensures stored { F.stored shelf.new ≡ F.stored shelf.old }
 {
     match shelf.read(alloc, name) {
         Ok(bytes) => Ok(bytes),

@@ -34,5 +34,5 @@ pub use frames::{Frame, frame_lines};
 pub use journal::journal_lines;
 pub use links::{PortFault, link_lines};
 pub use refusals::{FileRefusal, refusal_lines};
-pub use unread::{ReadFault, unread_lines};
+pub use unread::{ReadFault, unread_lines, unstored_line};
 pub use words::{asks_explanation, word_lines};

@@ -77,6 +77,7 @@ pub(crate) fn name_of(option: OptionName) -> &'static str {
         OptionName::Port => "port",
         OptionName::Sessions => "sessions",
         OptionName::Input => "input",
+        OptionName::Journal => "journal",
         OptionName::Wait => "wait",
         OptionName::Devtools => "devtools",
         OptionName::Explain => "explain",
@@ -205,7 +206,11 @@ fn number_fault<'w>(name: &'w str, option: OptionName, text: &'w str) -> Option<
     match option {
         OptionName::Port => range_fault(name, MOST_PORT, text),
         OptionName::Sessions => range_fault(name, MOST_SESSIONS, text),
-        OptionName::Input | OptionName::Wait | OptionName::Devtools | OptionName::Explain => None,
+        OptionName::Input
+        | OptionName::Journal
+        | OptionName::Wait
+        | OptionName::Devtools
+        | OptionName::Explain => None,
     }
 }
 

@@ -1,4 +1,4 @@
-//! Why a file can't be read.
+//! Why a file can't be read, or stored.
 
 use crate::shown::Quoted;
 use std::alloc::{AllocError, Global};
@@ -47,4 +47,16 @@ fn missing_line(alloc: Global, name: &str) -> Result<String, AllocError> {
             "  no file has the name {quoted}; a name counts from the folder in which the command is given\n"
         )
     }
+}
+
+/// What may be done about a file of this name that can't be stored.
+///
+/// # Errors
+///
+/// There is no memory for the line.
+pub fn unstored_line(alloc: Global, name: &str) -> Result<String, AllocError> {
+    let quoted = Quoted(name);
+    format!(in alloc;
+        "  the system doesn't store the file {quoted}: see that its folder is there, and that this user may write there\n"
+    )
 }

@@ -21,6 +21,7 @@ abbrev replay : Bool → Bool → String → Sources → ReplayWords
 replay explain wait journal sources =
     record { explain = explain; wait = wait; journal = codes journal; sources = sources }
 
+-- a server that stores no journal
 abbrev serve : Bool → ℕ → ℕ → Bool → Bool → Sources → ServeWords
 serve explain port sessions wait devtools sources =
     record {
@@ -29,6 +30,20 @@ serve explain port sessions wait devtools sources =
       sessions = sessions;
       wait = wait;
       devtools = devtools;
+      journal = None;
+      sources = sources;
+    }
+
+-- a server that stores its journal under this name
+abbrev serve_stored : ℕ → Bool → String → Sources → ServeWords
+serve_stored sessions wait journal sources =
+    record {
+      explain = false;
+      port = 9229;
+      sessions = sessions;
+      wait = wait;
+      devtools = false;
+      journal = Some (codes journal);
       sources = sources;
     }
 
@@ -641,3 +656,48 @@ form_142 = refl
 form_143 : asked ("run" ∷ "--devtools" ∷ "a.js" ∷ []) ≡ None
 unfolding decimal_value
 form_143 = refl
+
+-- ---- `--journal`
+
+form_144 : asked ("serve" ∷ "--journal" ∷ "j" ∷ "a.js" ∷ [])
+    ≡ Some (Serve (serve_stored 4 false "j" (program None ("a.js" ∷ []))))
+unfolding decimal_value
+form_144 = refl
+
+form_145 : asked ("serve" ∷ "a.js" ∷ "--journal=j" ∷ "--wait" ∷ "--input" ∷ "f" ∷ "--sessions=2" ∷ [])
+    ≡ Some (Serve (serve_stored 2 true "j" (program (Some "f") ("a.js" ∷ []))))
+unfolding decimal_value
+form_145 = refl
+
+form_146 : asked ("serve" ∷ "--journal" ∷ "j" ∷ "--journal" ∷ "k" ∷ "a.js" ∷ []) ≡ None
+unfolding decimal_value
+form_146 = refl
+
+form_147 : asked ("serve" ∷ "--journal" ∷ "a.js" ∷ []) ≡ None
+unfolding decimal_value
+form_147 = refl
+
+form_148 : asked ("serve" ∷ "a.js" ∷ "--journal" ∷ []) ≡ None
+unfolding decimal_value
+form_148 = refl
+
+form_149 : asked ("serve" ∷ "--journal" ∷ "-j" ∷ "a.js" ∷ []) ≡ None
+unfolding decimal_value
+form_149 = refl
+
+form_150 : asked ("run" ∷ "--journal" ∷ "j" ∷ "a.js" ∷ []) ≡ None
+unfolding decimal_value
+form_150 = refl
+
+form_151 : asked ("replay" ∷ "--journal" ∷ "j" ∷ "a.js" ∷ []) ≡ None
+unfolding decimal_value
+form_151 = refl
+
+form_152 : asked ("send" ∷ "--journal" ∷ "j" ∷ "c" ∷ []) ≡ None
+unfolding decimal_value
+form_152 = refl
+
+form_153 : asked ("serve" ∷ "--" ∷ "--journal" ∷ [])
+    ≡ Some (Serve (serve false 9229 4 false false (program None ("--journal" ∷ []))))
+unfolding decimal_value
+form_153 = refl

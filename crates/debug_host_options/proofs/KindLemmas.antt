@@ -8,7 +8,7 @@ use Rattle.cdp_text.proofs.PartsLemmas.{behind-some, halves-some}
 use Rattle.debug_host_options.specs.declared.command.Subcommand.{Subcommand}
 use Rattle.debug_host_options.specs.declared.command.Subcommand.TheVariants.{Run, Replay, Drill, Serve, Send}
 use Rattle.debug_host_options.specs.declared.command.OptionName.{OptionName}
-use Rattle.debug_host_options.specs.declared.command.OptionName.TheVariants.{Port, Sessions, Input, Wait, Devtools, Explain}
+use Rattle.debug_host_options.specs.declared.command.OptionName.TheVariants.{Port, Sessions, Input, Journal, Wait, Devtools, Explain}
 use Rattle.debug_host_options.specs.Commands.{command_named, option_named, has_option, has_value}
 use Rattle.debug_host_options.specs.Parts.{Part, Operand, Valued, Flag, WordKind, End, Whole, Awaiting, Unknown, alone_kind, is_operand, kind_of, known, long_kind, named_kind, option_had, option_of, valued_kind}
 use Rattle.debug_host_options.specs.Written.{HasOption, command_text, option_text, option_word, valued_word}
@@ -39,6 +39,7 @@ kind-alone : (command : Subcommand) (option : OptionName) → has_option command
 kind-alone command Port has = alone-had command Port has
 kind-alone command Sessions has = alone-had command Sessions has
 kind-alone command Input has = alone-had command Input has
+kind-alone command Journal has = alone-had command Journal has
 kind-alone command Wait has = alone-had command Wait has
 kind-alone command Devtools has = alone-had command Devtools has
 kind-alone command Explain has = alone-had command Explain has
@@ -48,6 +49,7 @@ kind-joined : (command : Subcommand) (option : OptionName) (value : List ℕ) �
 kind-joined command Port value has = valued-had command Port value has
 kind-joined command Sessions value has = valued-had command Sessions value has
 kind-joined command Input value has = valued-had command Input value has
+kind-joined command Journal value has = valued-had command Journal value has
 kind-joined command Wait value has = valued-had command Wait value has
 kind-joined command Devtools value has = valued-had command Devtools value has
 kind-joined command Explain value has = valued-had command Explain value has
@@ -99,10 +101,11 @@ option_named-some name option is =
     name_step (bytes_eq name (codes "port")) name Port option _ ((bytes_eq-Decides name (codes "port")).0)
     (name_step (bytes_eq name (codes "sessions")) name Sessions option _ ((bytes_eq-Decides name (codes "sessions")).0)
     (name_step (bytes_eq name (codes "input")) name Input option _ ((bytes_eq-Decides name (codes "input")).0)
+    (name_step (bytes_eq name (codes "journal")) name Journal option _ ((bytes_eq-Decides name (codes "journal")).0)
     (name_step (bytes_eq name (codes "wait")) name Wait option _ ((bytes_eq-Decides name (codes "wait")).0)
     (name_step (bytes_eq name (codes "devtools")) name Devtools option _ ((bytes_eq-Decides name (codes "devtools")).0)
     (name_step (bytes_eq name (codes "explain")) name Explain option None ((bytes_eq-Decides name (codes "explain")).0)
-    (λ none. absurd (none-some option none)))))))
+    (λ none. absurd (none-some option none))))))))
     is
 
 -- a command has an option of this name

@@ -3,7 +3,7 @@ use Rattle.std.specs.Prelude.{ℕ, List, Bool, true, false, bytes_eq, codes, Opt
 use Rattle.debug_host_options.specs.declared.command.Subcommand.{Subcommand}
 use Rattle.debug_host_options.specs.declared.command.Subcommand.TheVariants.{Run, Replay, Drill, Serve, Send}
 use Rattle.debug_host_options.specs.declared.command.OptionName.{OptionName}
-use Rattle.debug_host_options.specs.declared.command.OptionName.TheVariants.{Port, Sessions, Input, Wait, Devtools, Explain}
+use Rattle.debug_host_options.specs.declared.command.OptionName.TheVariants.{Port, Sessions, Input, Journal, Wait, Devtools, Explain}
 
 -- the command of this name
 abbrev pub command_named : List ℕ → Option Subcommand
@@ -20,6 +20,7 @@ option_named name =
     if bytes_eq name (codes "port") then Some Port
     else if bytes_eq name (codes "sessions") then Some Sessions
     else if bytes_eq name (codes "input") then Some Input
+    else if bytes_eq name (codes "journal") then Some Journal
     else if bytes_eq name (codes "wait") then Some Wait
     else if bytes_eq name (codes "devtools") then Some Devtools
     else if bytes_eq name (codes "explain") then Some Explain else None
@@ -48,6 +49,7 @@ abbrev pub same_option : OptionName → OptionName → Bool
 same_option Port Port = true
 same_option Sessions Sessions = true
 same_option Input Input = true
+same_option Journal Journal = true
 same_option Wait Wait = true
 same_option Devtools Devtools = true
 same_option Explain Explain = true

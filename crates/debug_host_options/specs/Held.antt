@@ -88,6 +88,7 @@ serve_held words =
       sessions = count_held words.sessions;
       wait = words.wait;
       devtools = words.devtools;
+      journal = text_held words.journal;
       sources = sources_held words.sources;
     }
 

@@ -6,7 +6,7 @@ use Rattle.std.specs.declared.alloc.Global.{Global}
 use Rattle.cdp_text.specs.Decimal.{decimal_value}
 use Rattle.debug_host_options.specs.declared.command.Subcommand.{Subcommand}
 use Rattle.debug_host_options.specs.declared.command.Subcommand.TheVariants as command
-use Rattle.debug_host_options.specs.declared.command.OptionName.TheVariants.{Port, Sessions, Input, Wait, Devtools, Explain}
+use Rattle.debug_host_options.specs.declared.command.OptionName.TheVariants.{Port, Sessions, Input, Journal, Wait, Devtools, Explain}
 use Rattle.debug_host_options.specs.declared.request.TheConstants.{DEFAULT_PORT, MOST_PORT, DEFAULT_SESSIONS, MOST_DRILLED}
 use Rattle.debug_host_options.specs.declared.session_count.TheConstants.{MOST_SESSIONS}
 use Rattle.debug_host_options.specs.Commands.{command_named}
@@ -31,13 +31,14 @@ pub record ReplayWords : Type 0 where
   pub sources : Sources
 
 -- a server's port and the greatest number of its clients at once, which may be DevTools too where that is asked for, with
--- its program
+-- its program, and the name of the file in which its journal is stored, where one is given
 pub record ServeWords : Type 0 where
   pub explain : Bool
   pub port : ℕ
   pub sessions : ℕ
   pub wait : Bool
   pub devtools : Bool
+  pub journal : Option (List ℕ)
   pub sources : Sources
 
 -- a file of commands by its name, and the port of a serving host
@@ -127,6 +128,7 @@ serve_over parts port sessions sources =
       sessions = sessions;
       wait = is_given Wait parts;
       devtools = is_given Devtools parts;
+      journal = value_of Journal parts;
       sources = sources;
     }
 
@@ -138,7 +140,7 @@ serve_to parts scripts port sessions = option_map (serve_over parts port session
 abbrev pub serve_at : List Part → List (List ℕ) → ℕ → Option Request
 serve_at parts scripts port = option_and_then (serve_to parts scripts port) (sessions_of parts)
 
--- `serve [--port P] [--sessions N] [--wait] [--devtools] [--input FILE] [--explain] SCRIPT...`
+-- `serve [--port P] [--sessions N] [--wait] [--devtools] [--input FILE] [--journal FILE] [--explain] SCRIPT...`
 abbrev pub serve_of : List Part → List (List ℕ) → Option Request
 serve_of parts scripts = option_and_then (serve_at parts scripts) (port_of parts)
 

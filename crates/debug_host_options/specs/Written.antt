@@ -3,7 +3,7 @@ use Rattle.std.specs.Prelude.{◌≡◌, ◌⊎◌, ℕ, List, [], ◌∷◌, �
 use Rattle.debug_host_options.specs.declared.command.Subcommand.{Subcommand}
 use Rattle.debug_host_options.specs.declared.command.Subcommand.TheVariants.{Run, Replay, Drill, Serve, Send}
 use Rattle.debug_host_options.specs.declared.command.OptionName.{OptionName}
-use Rattle.debug_host_options.specs.declared.command.OptionName.TheVariants.{Port, Sessions, Input, Wait, Devtools, Explain}
+use Rattle.debug_host_options.specs.declared.command.OptionName.TheVariants.{Port, Sessions, Input, Journal, Wait, Devtools, Explain}
 use Rattle.debug_host_options.specs.Commands.{has_option, has_value}
 use Rattle.debug_host_options.specs.Parts.{Part, Operand, Valued, Flag, is_operand, operands_alone}
 use Rattle.debug_host_options.specs.Requests.{Request, Help, Version, request_of}
@@ -21,6 +21,7 @@ abbrev pub option_text : OptionName → List ℕ
 option_text Port = codes "port"
 option_text Sessions = codes "sessions"
 option_text Input = codes "input"
+option_text Journal = codes "journal"
 option_text Wait = codes "wait"
 option_text Devtools = codes "devtools"
 option_text Explain = codes "explain"

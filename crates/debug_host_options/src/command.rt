@@ -27,6 +27,8 @@ pub enum OptionName {
     Sessions,
     /// The file of the lines of input, `--input FILE`.
     Input,
+    /// The file that the journal is stored in, `--journal FILE`.
+    Journal,
     /// Whether the program waits for a client, `--wait`.
     Wait,
     /// Whether DevTools is let in, `--devtools`.
@@ -64,6 +66,8 @@ pub fn option_named(name: &str) -> Option<OptionName>
         Some(OptionName::Sessions)
     } else if name == "input" {
         Some(OptionName::Input)
+    } else if name == "journal" {
+        Some(OptionName::Journal)
     } else if name == "wait" {
         Some(OptionName::Wait)
     } else if name == "devtools" {
@@ -96,7 +100,7 @@ pub fn has_value(option: OptionName) -> bool
     ensures { result ≡ has_value option }
 {
     match option {
-        OptionName::Port | OptionName::Sessions | OptionName::Input => true,
+        OptionName::Port | OptionName::Sessions | OptionName::Input | OptionName::Journal => true,
         OptionName::Wait | OptionName::Devtools | OptionName::Explain => false,
     }
 }

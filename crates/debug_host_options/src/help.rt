@@ -34,13 +34,14 @@ Commands:
       replays a journal of debugging sessions over scripts
   drill N
       makes a script and a journal from N (1 to 10000), replays them and prints a summary
-  serve [--port P] [--sessions N] [--wait] [--devtools] [--input FILE] [--explain] SCRIPT...
+  serve [--port P] [--sessions N] [--wait] [--devtools] [--input FILE] [--journal FILE] [--explain] SCRIPT...
       runs scripts, and serves clients of the Chrome DevTools Protocol meanwhile
   send [--port P] [--explain] COMMANDS
       sends the commands of a file to a serving host, and prints what comes back
 
 Options stand anywhere after the command's name, each at most once, as --NAME VALUE or --NAME=VALUE:
   --input FILE   the lines that readline() gives (default: none)
+  --journal FILE where the journal is stored of what clients do, for replay (default: nowhere)
   --wait         no step is made before a client lets the program begin (default: it begins at once)
   --port P       the port on 127.0.0.1, 1 to 65535 (default: 9229)
   --sessions N   the most clients at once, 1 to 16 (default: 4)
@@ -64,7 +65,7 @@ Exit status:
   1   no memory was left
   2   the words are none of a command
   3   the input or a script is not UTF-8, or a script is refused
-  4   a file can't be read
+  4   a file can't be read, or the journal can't be stored
   5   the output can't be written
   6   a line of the journal or of the commands is refused
   7   the network fails
@@ -132,7 +133,7 @@ Exit status:
 
 /// Help with `serve`.
 const SERVE_HELP: &str =
-    "debug_host serve [--port P] [--sessions N] [--wait] [--devtools] [--input FILE] [--explain] SCRIPT...
+    "debug_host serve [--port P] [--sessions N] [--wait] [--devtools] [--input FILE] [--journal FILE] [--explain] SCRIPT...
 Runs scripts, and serves clients of the Chrome DevTools Protocol meanwhile; prints what the scripts print.
 
 Options:
@@ -141,6 +142,7 @@ Options:
   --wait         no step is made before a client lets the program begin (default: it begins at once)
   --devtools     lets in DevTools and node inspect, which send more commands than the host has (default: refused)
   --input FILE   the lines that readline() gives (default: none)
+  --journal FILE where the journal is stored of what clients do, for replay (default: nowhere)
   --explain      further lines on the error stream say a fault's cause (default: one line)
 
 Example:
@@ -151,7 +153,7 @@ Exit status:
   1   no memory was left
   2   the words are none of a command
   3   the input or a script is not UTF-8, or a script is refused
-  4   a file can't be read
+  4   a file can't be read, or the journal can't be stored
   5   the output can't be written
   7   the network fails
   8   the program ended by an uncaught throw

@@ -67,6 +67,8 @@ pub struct ServeWords<'w> {
     pub wait: bool,
     /// Whether DevTools and `node inspect` are let in too.
     pub devtools: bool,
+    /// The file in which the journal is stored of what happens, if there is one.
+    pub journal: Option<&'w str>,
     /// The program.
     pub sources: Sources<'w>,
 }
@@ -156,8 +158,8 @@ fn drill_of(operands: &[&str]) -> Option<Request<'static>>
     }
 }
 
-/// `serve [--port P] [--sessions N] [--wait] [--devtools] [--input FILE] [--explain] SCRIPT...`, by its options and its
-/// scripts.
+/// `serve [--port P] [--sessions N] [--wait] [--devtools] [--input FILE] [--journal FILE] [--explain] SCRIPT...`, by its
+/// options and its scripts.
 fn serve_of<'w>(parts: &[Part<'w>], scripts: Vec<&'w str>) -> Option<Request<'w>>
     ensures { option_map request_held result ≡ serve_of (parts_held parts.now) (texts_held scripts.entry.items) }
 {
@@ -170,6 +172,7 @@ fn serve_of<'w>(parts: &[Part<'w>], scripts: Vec<&'w str>) -> Option<Request<'w>
         sessions,
         wait: is_given(parts, OptionName::Wait),
         devtools: is_given(parts, OptionName::Devtools),
+        journal: value_of(parts, OptionName::Journal),
         sources,
     }))
 }

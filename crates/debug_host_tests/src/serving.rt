@@ -1,12 +1,13 @@
 //! A server whose doors and links are in memory.
 
-ghost use Rattle.std.specs.Prelude.{IfOk};
+ghost use Rattle.std.specs.Prelude.{All, IfOk};
 ghost use Rattle.cdp_edge_server.specs.MemDoor.{IsNewDoor};
 
-use cdp_edge::{MemShelf, MemSink};
+use cdp_edge::{MemShelf, MemSink, Shelf};
 use cdp_edge_server::{FixedClock, Gate, Incoming, MemDoor, MemHarbor, MemLink};
 use debug_host_commands::debug_main;
 use std::alloc::{AllocError, Global};
+use std::str;
 use std::sync::Wait;
 use std::test::Fail;
 use std::thread::Threads;
@@ -55,13 +56,11 @@ fn door(
     Ok(MemDoor::new(links, Vec::new(alloc)))
 }
 
-// Two clients at once: the first waits until the second was sent a text, and lets the program begin; the second goes when
-// the first was answered.
-#[test]
-fn two_clients_are_served_at_once(rt: HostRuntime) -> Result<(), Fail> {
-    let alloc = rt.alloc();
-    let words = words_of(alloc, "serve --sessions 2 --wait a.js")?;
-    let mut shelf = shelf(alloc, b"console.log(1);\nconsole.log('two');\n")?;
+// The doors of two clients at once: the first waits until the second was sent a text, and lets the program begin; the
+// second goes when the first was answered.
+fn two_doors(alloc: Global) -> Result<Vec<MemDoor>, AllocError>
+    ensures { IfOk result (λ doors. All IsNewDoor doors.items) }
+{
     let (first, first_again) = Gate::pair(alloc)?;
     let (second, second_again) = Gate::pair(alloc)?;
     let begin = r#"{"id":1,"method":"Runtime.runIfWaitingForDebugger"}"#;
@@ -69,34 +68,124 @@ fn two_clients_are_served_at_once(rt: HostRuntime) -> Result<(), Fail> {
     let mut doors = Vec::new(alloc);
     doors.push(door(alloc, begin, Some(second), None, first)?)?;
     doors.push(door(alloc, enable, None, Some(first_again), second_again)?)?;
-    let mut harbor = MemHarbor::new(doors, Vec::new(alloc), Vec::new(alloc));
-    let mut clock = FixedClock::new(0);
-    let mut out = MemSink::new(Vec::new(alloc));
-    let mut err = MemSink::new(Vec::new(alloc));
-    let status = debug_main(
-        &rt,
-        alloc,
-        &words,
-        &mut shelf,
-        &mut out,
-        &mut err,
-        &mut harbor,
-        &mut clock,
-    );
-    assert_eq!(rt; status, 0);
-    assert_eq!(rt; out.taken(), b"1\ntwo\n".as_slice());
-    assert_eq!(rt; err.taken(), b"".as_slice());
-    let mut answered: u64 = 0;
+    Ok(doors)
+}
+
+// The status of a call with these words over a shelf and a harbor, at the moment 7.
+fn call(
+    rt: &(impl Threads + Wait + Sync),
+    alloc: Global,
+    words: &str,
+    shelf: &mut MemShelf,
+    harbor: &mut MemHarbor,
+    out: &mut MemSink,
+    err: &mut MemSink,
+) -> Result<u8, AllocError> {
+    let words = words_of(alloc, words)?;
+    let mut clock = FixedClock::new(7);
+    Ok(debug_main(rt, alloc, &words, shelf, out, err, harbor, &mut clock))
+}
+
+// How often one of the links of a harbor was sent just these texts.
+fn times_sent(harbor: &MemHarbor, texts: &[String]) -> u64 {
+    let mut times: u64 = 0;
     for door in harbor.doors() {
         for link in door.served() {
-            if let [text] = link.sent() {
-                if text.as_str() == r#"{"id":1,"result":{}}"# {
-                    answered = answered.saturating_add(1);
-                }
+            if link.sent() == texts {
+                times = times.saturating_add(1);
             }
         }
     }
-    assert_eq!(rt; answered, 1);
+    times
+}
+
+// The one reply to the client that lets the program begin.
+fn replies_of_the_first(alloc: Global) -> Result<Vec<String>, AllocError> {
+    let mut replies = Vec::new(alloc);
+    replies.push(String::from_str(alloc, r#"{"id":1,"result":{}}"#)?)?;
+    Ok(replies)
+}
+
+#[test]
+fn two_clients_are_served_at_once(rt: HostRuntime) -> Result<(), Fail> {
+    let alloc = rt.alloc();
+    let words = "serve --sessions 2 --wait a.js";
+    let mut shelf = shelf(alloc, b"console.log(1);\nconsole.log('two');\n")?;
+    let mut harbor = MemHarbor::new(two_doors(alloc)?, Vec::new(alloc), Vec::new(alloc));
+    let mut out = MemSink::new(Vec::new(alloc));
+    let mut err = MemSink::new(Vec::new(alloc));
+    let status = call(
+        &rt,
+        alloc,
+        words,
+        &mut shelf,
+        &mut harbor,
+        &mut out,
+        &mut err,
+    )?;
+    assert_eq!(rt; status, 0);
+    assert_eq!(rt; out.taken(), b"1\ntwo\n".as_slice());
+    assert_eq!(rt; err.taken(), b"".as_slice());
+    assert_eq!(rt; times_sent(&harbor, &replies_of_the_first(alloc)?), 1);
+    Ok(())
+}
+
+// What stands behind this on the lines that begin with it.
+fn behind(alloc: Global, output: &str, beginning: &str) -> Result<Vec<String>, AllocError> {
+    let mut texts = Vec::new(alloc);
+    for line in output.split('\n') {
+        if let Some(text) = line.strip_prefix(beginning) {
+            texts.push(String::from_str(alloc, text)?)?;
+        }
+    }
+    Ok(texts)
+}
+
+// The journal that a server stored is replayed: the program prints the same, and each of the two sessions is handed
+// just the texts that one of the two clients was sent.
+#[test]
+fn a_stored_journal_plays_again(rt: HostRuntime) -> Result<(), Fail> {
+    let alloc = rt.alloc();
+    let mut shelf = shelf(alloc, b"console.log(1);\nconsole.log('two');\n")?;
+    let mut harbor = MemHarbor::new(two_doors(alloc)?, Vec::new(alloc), Vec::new(alloc));
+    let mut out = MemSink::new(Vec::new(alloc));
+    let mut err = MemSink::new(Vec::new(alloc));
+    let words = "serve --sessions 2 --wait --journal j a.js";
+    let status = call(
+        &rt,
+        alloc,
+        words,
+        &mut shelf,
+        &mut harbor,
+        &mut out,
+        &mut err,
+    )?;
+    assert_eq!(rt; status, 0);
+    assert_eq!(rt; out.taken(), b"1\ntwo\n".as_slice());
+    assert_eq!(rt; times_sent(&harbor, &replies_of_the_first(alloc)?), 1);
+    let mut again = MemSink::new(Vec::new(alloc));
+    let words = "replay --wait j a.js";
+    let status = call(
+        &rt,
+        alloc,
+        words,
+        &mut shelf,
+        &mut harbor,
+        &mut again,
+        &mut err,
+    )?;
+    assert_eq!(rt; status, 0);
+    assert_eq!(rt; err.taken(), b"".as_slice());
+    let output = str::from_utf8(again.taken()).unwrap_or("");
+    let printed = behind(alloc, output, "out ")?;
+    assert_eq!(rt; printed.len(), 2);
+    assert_eq!(rt; printed[0].as_str(), "1");
+    assert_eq!(rt; printed[1].as_str(), "two");
+    let first = behind(alloc, output, "to 1 ")?;
+    let second = behind(alloc, output, "to 2 ")?;
+    assert!(rt; first.len() != second.len());
+    assert_eq!(rt; times_sent(&harbor, &first), 1);
+    assert_eq!(rt; times_sent(&harbor, &second), 1);
     Ok(())
 }
 
@@ -104,7 +193,7 @@ fn two_clients_are_served_at_once(rt: HostRuntime) -> Result<(), Fail> {
 #[test]
 fn a_server_that_can_not_write_shuts_its_program(rt: HostRuntime) -> Result<(), Fail> {
     let alloc = rt.alloc();
-    let words = words_of(alloc, "serve --sessions 1 a.js")?;
+    let words = "serve --sessions 1 a.js";
     let mut shelf = shelf(
         alloc,
         b"console.log(1);\nconsole.log(2);\nconsole.log(3);\n",
@@ -112,53 +201,99 @@ fn a_server_that_can_not_write_shuts_its_program(rt: HostRuntime) -> Result<(), 
     let mut doors = Vec::new(alloc);
     doors.push(MemDoor::new(Vec::new(alloc), Vec::new(alloc)))?;
     let mut harbor = MemHarbor::new(doors, Vec::new(alloc), Vec::new(alloc));
-    let mut clock = FixedClock::new(0);
     let mut failing = Vec::new(alloc);
     failing.push(2)?;
     let mut out = MemSink::new(failing);
     let mut err = MemSink::new(Vec::new(alloc));
-    let status = debug_main(
+    let status = call(
         &rt,
         alloc,
-        &words,
+        words,
         &mut shelf,
+        &mut harbor,
         &mut out,
         &mut err,
-        &mut harbor,
-        &mut clock,
-    );
+    )?;
     assert_eq!(rt; status, 5);
     assert_eq!(rt; out.taken(), b"1\n".as_slice());
     assert_eq!(rt; err.taken(), b"debug_host: cannot write\n".as_slice());
     Ok(())
 }
 
-// The status of a server, and what its client is sent that asks for a method which DevTools asks for.
-fn serve_devtools<R: Threads + Wait + Sync>(
-    rt: &R,
+// The status of a server at whose door nobody arrives, of one script, with these words and this shelf; what it told on
+// the error stream is in `err`.
+fn serve_nobody(
+    rt: &(impl Threads + Wait + Sync),
     alloc: Global,
-    options: &str,
+    words: &str,
+    shelf: &mut MemShelf,
+    err: &mut MemSink,
+) -> Result<u8, AllocError> {
+    let mut doors = Vec::new(alloc);
+    doors.push(MemDoor::new(Vec::new(alloc), Vec::new(alloc)))?;
+    let mut harbor = MemHarbor::new(doors, Vec::new(alloc), Vec::new(alloc));
+    let mut out = MemSink::new(Vec::new(alloc));
+    call(rt, alloc, words, shelf, &mut harbor, &mut out, err)
+}
+
+// The journal has the one run of the program, at the moment of the clock.
+#[test]
+fn a_server_stores_its_journal(rt: HostRuntime) -> Result<(), Fail> {
+    let alloc = rt.alloc();
+    let mut shelf = shelf(alloc, b"console.log(1);\n")?;
+    let mut err = MemSink::new(Vec::new(alloc));
+    let words = "serve --sessions 1 --journal j a.js";
+    let status = serve_nobody(&rt, alloc, words, &mut shelf, &mut err)?;
+    assert_eq!(rt; status, 0);
+    assert_eq!(rt; err.taken(), b"".as_slice());
+    let stored = shelf.read(alloc, "j");
+    assert!(rt; stored.is_ok_and(|bytes| bytes.as_slice() == b"run 5 7\n".as_slice()));
+    Ok(())
+}
+
+// The second call of the shelf fails, which is the store; the first read the script.
+#[test]
+fn a_journal_that_can_not_be_stored_is_told(rt: HostRuntime) -> Result<(), Fail> {
+    let alloc = rt.alloc();
+    let mut files = Vec::new(alloc);
+    files.push((
+        String::from_str(alloc, "a.js")?,
+        b"console.log(1);\n".to_vec(alloc)?,
+    ))?;
+    let mut failing = Vec::new(alloc);
+    failing.push(2)?;
+    let mut shelf = MemShelf::new(files, failing);
+    let mut err = MemSink::new(Vec::new(alloc));
+    let words = "serve --sessions 1 --journal j a.js";
+    let status = serve_nobody(&rt, alloc, words, &mut shelf, &mut err)?;
+    assert_eq!(rt; status, 4);
+    assert_eq!(rt; err.taken(), b"debug_host: cannot store j\n".as_slice());
+    Ok(())
+}
+
+// The status of a server, and what its client is sent that asks for a method which DevTools asks for.
+fn serve_devtools(
+    rt: &(impl Threads + Wait + Sync),
+    alloc: Global,
+    words: &str,
 ) -> Result<(u8, Vec<String>), AllocError> {
-    let words = words_of(alloc, options)?;
     let mut shelf = shelf(alloc, b"")?;
     let (opened, _unused) = Gate::pair(alloc)?;
     let mut doors = Vec::new(alloc);
     let text = r#"{"id":1,"method":"Profiler.enable"}"#;
     doors.push(door(alloc, text, None, None, opened)?)?;
     let mut harbor = MemHarbor::new(doors, Vec::new(alloc), Vec::new(alloc));
-    let mut clock = FixedClock::new(0);
     let mut out = MemSink::new(Vec::new(alloc));
     let mut err = MemSink::new(Vec::new(alloc));
-    let status = debug_main(
+    let status = call(
         rt,
         alloc,
-        &words,
+        words,
         &mut shelf,
+        &mut harbor,
         &mut out,
         &mut err,
-        &mut harbor,
-        &mut clock,
-    );
+    )?;
     let mut sent = Vec::new(alloc);
     for door in harbor.doors() {
         for link in door.served() {

@@ -6,6 +6,7 @@ use Rattle.debug_host_commands.proofs.ReportLemmas as reports
 use Rattle.debug_host_commands.proofs.RunLemmas as runs
 use Rattle.debug_host_commands.proofs.ReplayLemmas as replays
 use Rattle.debug_host_commands.proofs.ServeLemmas as serves
+use Rattle.debug_host_commands.proofs.StoredLemmas as stores
 use Rattle.debug_host_commands.proofs.ClientLemmas as clients
 use Rattle.debug_host_commands.proofs.DrillLemmas as drills
 use Rattle.debug_host_commands.proofs.UnaskedLemmas.{unread_replay, unread_run, unread_send}
@@ -43,12 +44,12 @@ returns-in-Ok-Some-Serve-clause-serve_threw g c =
 
 pub returns-in-Ok-Some-Serve-clause-serve_part : goal.returns-in-Ok-Some-Serve-clause-serve_part
 returns-in-Ok-Some-Serve-clause-serve_part g c =
-    serves.part_given _ (serve_held c.in-Ok-Some-Serve.request) _ _ _ _ _ _ c.serve-outcome.result
+    serves.part_given _ (serve_held c.in-Ok-Some-Serve.request) _ _ _ _ _ _ _ _ c.serve-outcome.result
     (sym (rw c.in-Ok-Some-Serve.field-0-0-is at (rw c.in-Ok-Some-Serve.field-0-is at c.in-Ok-Some-Serve.ensures.value))) c.serve-outcome.ensures.part
 
 pub returns-in-Ok-Some-Serve-clause-serves : goal.returns-in-Ok-Some-Serve-clause-serves
 returns-in-Ok-Some-Serve-clause-serves g c =
-    serves.served_given _ (serve_held c.in-Ok-Some-Serve.request) _ _ _ _ _ _ c.serve-outcome.result c.end_explained-in-Ok-Some-Serve.result
+    serves.served_given _ (serve_held c.in-Ok-Some-Serve.request) _ _ _ _ _ _ _ _ c.serve-outcome.result c.end_explained-in-Ok-Some-Serve.result
     (sym (rw c.in-Ok-Some-Serve.field-0-0-is at (rw c.in-Ok-Some-Serve.field-0-is at c.in-Ok-Some-Serve.ensures.value))) c.end_explained-in-Ok-Some-Serve.ensures.status
     c.serve-outcome.ensures.part
 
@@ -147,7 +148,7 @@ returns-in-Ok-Some-Drill-clause-drill_refused g c =
     c.end-in-Ok-Some-Drill.ensures.status c.drill.ensures.cause _ _ _ (c.end-in-Ok-Some-Drill.ensures.says _)
 
 pub returns-in-Err-clause-serves : goal.returns-in-Err-clause-serves
-returns-in-Err-clause-serves g c = serves.unasked _ _ _ _ _ c.end.result (hands_nothing _ _ _ refl) c.end.ensures.status
+returns-in-Err-clause-serves g c = serves.unasked _ _ _ _ _ _ c.end.result (hands_nothing _ _ _ refl) c.end.ensures.status
 
 pub returns-in-Err-clause-sends : goal.returns-in-Err-clause-sends
 returns-in-Err-clause-sends g c = clients.unasked _ _ _ _ c.end.result (hands_nothing _ _ _ refl) c.end.ensures.status
@@ -276,3 +277,35 @@ returns-in-Ok-Some-Send-clause-send_offered g c =
     c.end_explained-in-Ok-Some-Send.result
     (sym (rw c.in-Ok-Some-Send.field-0-0-is at (rw c.in-Ok-Some-Send.field-0-is at c.in-Ok-Some-Send.ensures.value)))
     c.end_explained-in-Ok-Some-Send.ensures.status c.send-outcome.ensures.cause
+
+-- the journal of a server
+pub returns-in-Ok-Some-Serve-clause-serve_journal : goal.returns-in-Ok-Some-Serve-clause-serve_journal
+returns-in-Ok-Some-Serve-clause-serve_journal g c =
+    stores.journal_given _ (serve_held c.in-Ok-Some-Serve.request) _ _ _ _ _ _ _ _ c.serve-outcome.result c.end_explained-in-Ok-Some-Serve.result
+    (sym (rw c.in-Ok-Some-Serve.field-0-0-is at (rw c.in-Ok-Some-Serve.field-0-is at c.in-Ok-Some-Serve.ensures.value)))
+    c.end_explained-in-Ok-Some-Serve.ensures.status c.serve-outcome.ensures.part
+
+pub returns-in-Ok-Some-Serve-clause-unstored : goal.returns-in-Ok-Some-Serve-clause-unstored
+returns-in-Ok-Some-Serve-clause-unstored g c =
+    stores.unstored_given _ (serve_held c.in-Ok-Some-Serve.request) _ _ _ _ _ _ _ _ c.serve-outcome.result c.end_explained-in-Ok-Some-Serve.result
+    (sym (rw c.in-Ok-Some-Serve.field-0-0-is at (rw c.in-Ok-Some-Serve.field-0-is at c.in-Ok-Some-Serve.ensures.value)))
+    c.end_explained-in-Ok-Some-Serve.ensures.status c.serve-outcome.ensures.part
+
+pub returns-in-Ok-Some-Serve-clause-unwritten : goal.returns-in-Ok-Some-Serve-clause-unwritten
+returns-in-Ok-Some-Serve-clause-unwritten g c = λ at.
+    stores.unwritten_given _ (serve_held c.in-Ok-Some-Serve.request) _ _ _ _ _ _ _ c.end_explained-in-Ok-Some-Serve.result
+    (sym (rw c.in-Ok-Some-Serve.field-0-0-is at (rw c.in-Ok-Some-Serve.field-0-is at c.in-Ok-Some-Serve.ensures.value)))
+    _ c.serve-outcome.result c.end_explained-in-Ok-Some-Serve.ensures.status at c.serve-outcome.ensures.unbegun
+    c.serve-outcome.ensures.cause
+
+pub returns-in-Ok-Some-Serve-clause-reads : goal.returns-in-Ok-Some-Serve-clause-reads
+returns-in-Ok-Some-Serve-clause-reads g c = λ at.
+    stores.reads_given _ (serve_held c.in-Ok-Some-Serve.request) _ _ _ _ _ _ _ c.end_explained-in-Ok-Some-Serve.result
+    (sym (rw c.in-Ok-Some-Serve.field-0-0-is at (rw c.in-Ok-Some-Serve.field-0-is at c.in-Ok-Some-Serve.ensures.value)))
+    c.serve-outcome.result c.end_explained-in-Ok-Some-Serve.ensures.status at c.serve-outcome.ensures.cause
+
+pub returns-in-Ok-Some-Serve-clause-writes : goal.returns-in-Ok-Some-Serve-clause-writes
+returns-in-Ok-Some-Serve-clause-writes g c = λ at.
+    stores.writes_given _ (serve_held c.in-Ok-Some-Serve.request) _ _ _ _ _ _ _ c.end_explained-in-Ok-Some-Serve.result
+    (sym (rw c.in-Ok-Some-Serve.field-0-0-is at (rw c.in-Ok-Some-Serve.field-0-is at c.in-Ok-Some-Serve.ensures.value)))
+    c.serve-outcome.result c.end_explained-in-Ok-Some-Serve.ensures.status at c.serve-outcome.ensures.cause

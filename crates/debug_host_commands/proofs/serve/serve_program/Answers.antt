@@ -3,7 +3,9 @@ use Rattle.history_lock.specs.Passes.{initial_pass, initial_passes}
 use Rattle.js_tree.specs.declared.script.Script.{Script}
 use Rattle.cdp_edge_server.specs.Contents.{called}
 use Rattle.ws_service.specs.Programs.{Output}
-use Rattle.debug_host_commands.specs.ServeCauses.{BecauseServed, Harbored, IsUnserved, ServesPort}
+use Rattle.debug_host_commands.specs.ServeCauses.{BecauseStored, Harbored, ServesNothing, ServesStored}
+use Rattle.debug_host_commands.specs.Stored.{Shelved}
+use Rattle.debug_host_options.specs.Held.{text_held}
 use Rattle.debug_host_commands.proofs.ServeLemmas.{initial-length}
 use Rattle.debug_host_commands.proofs.serve.serve_program.Goals as goal
 
@@ -34,7 +36,8 @@ returns-clause-cause g c =
     let before : Harbored = record { faults = g.P.Harbor.faults c.args.harbor.now; opens = g.P.Harbor.opens c.args.harbor.now; kept = g.P.Harbor.kept c.args.harbor.now } in
     let after : Harbored = record { faults = g.P.Harbor.faults c.serve_host.new.harbor; opens = g.P.Harbor.opens c.serve_host.new.harbor; kept = g.P.Harbor.kept c.serve_host.new.harbor } in
     subst
-    (λ (z : List Script × List (List ℕ) × ℕ). BecauseServed c.serve_host.result z.0 z.1 c.args.port z.2 old new before after)
+    (λ (z : List Script × List (List ℕ) × ℕ). BecauseStored c.serve_host.result (text_held c.args.journal) (g.F.Shelf.faults c.args.shelf.now)
+    (g.F.Shelf.faults c.serve_host.new.shelf) z.0 z.1 c.args.port z.2 old new before after)
     (λ i. (c.requires.scripts i, c.requires.input i, many i)) c.serve_host.ensures.cause
 
 pub returns-clause-part : goal.returns-clause-part
@@ -43,10 +46,12 @@ returns-clause-part g c =
     let many = ap length c.in-Ok-open_lock.ensures.doors ∙ initial-length o.lock (c.args.sessions + 1) c.args.sessions in
     let old : Output = record { content = g.O.Sink.content c.args.out.now; faults = g.O.Sink.faults c.args.out.now } in
     let new : Output = record { content = g.O.Sink.content c.serve_host.new.out; faults = g.O.Sink.faults c.serve_host.new.out } in
+    let was : Shelved = record { files = g.F.Shelf.stored c.args.shelf.now; faults = g.F.Shelf.faults c.args.shelf.now } in
+    let now : Shelved = record { files = g.F.Shelf.stored c.serve_host.new.shelf; faults = g.F.Shelf.faults c.serve_host.new.shelf } in
     subst
-    (λ (z : List Script × List (List ℕ) × Bool × ℕ). (IsUnserved c.serve_host.result × (new.content ≡ old.content))
-    ⊎ ServesPort z.0 z.1 z.2 z.3 c.args.clients (g.C.Clock.moment c.args.clock.now) old new
-    (g.P.Harbor.kept c.args.harbor.now) (g.P.Harbor.kept c.serve_host.new.harbor) c.serve_host.result)
+    (λ (z : List Script × List (List ℕ) × Bool × ℕ). ServesNothing c.serve_host.result old new was now
+    ⊎ ServesStored z.0 z.1 z.2 z.3 c.args.clients (text_held c.args.journal) (g.C.Clock.moment c.args.clock.now) old new
+    (g.P.Harbor.kept c.args.harbor.now) (g.P.Harbor.kept c.serve_host.new.harbor) was now c.serve_host.result)
     (λ i. (c.requires.scripts i, c.requires.input i, c.requires.wait i, many i)) c.serve_host.ensures.part
 
 pub returns-clause-once : goal.returns-clause-once
