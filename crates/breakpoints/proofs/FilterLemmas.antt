@@ -1,14 +1,45 @@
 -- Places whose groups are marked.
-use Rattle.std.proofs.Common.{◌≡◌, Bool, true, false, ◌&&◌, List, cond, ℕ, ◌+◌, ◌*◌, ◌%◌, nat_eq, BTreeSet, refl, sym, ap₂, ◌∙◌}
-use Rattle.std.specs.BTreeMap.{is_at}
-use Rattle.std.specs.BTreeSet.{Updates, contains}
-use Rattle.std.proofs.lemmas.Bool.{and_parts, eqb-true}
+use Rattle.std.proofs.Common.{◌≡◌, ℕ, zero, suc, ◌+◌, ◌*◌, ◌%◌, ◌<◌, ◌≤◌, ◌&&◌, true, List, [], ◌∷◌, length, get_or, set, take, nat_eq, refl, sym, ap₂, ◌∙◌, ⊎_elim, arith, ◌==◌}
+use Rattle.std.proofs.lemmas.Bool.{and_parts, eqb-true, or_cases, false≢true}
+use Rattle.std.proofs.lemmas.List.Folds.{list_any_more}
 use Rattle.cdp_text.specs.declared.position.Place.{Place}
-use Rattle.breakpoints.specs.Hits.{same_place}
+use Rattle.breakpoints.specs.Hits.{has_place, same_place}
 use Rattle.breakpoints.specs.PlaceFilter.{AreMarked, KeepsMarks, group_of, is_marked}
-use Rattle.breakpoints.proofs.IndexLemmas.{place_cmp, has-contains, same-tied}
 
--- one place is in one group
+-- ---- one mark more
+
+mark-there : (marks : List ℕ) (g : ℕ) → (get_or (set marks g 1) g 1 == 1) ≡ true
+mark-there [] g = refl
+mark-there (m ∷ ms) zero = refl
+mark-there (m ∷ ms) (suc g) = mark-there ms g
+
+mark-stays : (marks : List ℕ) (g h : ℕ) → (get_or marks h 1 == 1) ≡ true → (get_or (set marks g 1) h 1 == 1) ≡ true
+mark-stays [] g h is = is
+mark-stays (m ∷ ms) zero zero is = refl
+mark-stays (m ∷ ms) zero (suc h) is = is
+mark-stays (m ∷ ms) (suc g) zero is = is
+mark-stays (m ∷ ms) (suc g) (suc h) is = mark-stays ms g h is
+
+pub one-marked : (marks : List ℕ) (p : Place) → is_marked (set marks (group_of p) 1) p ≡ true
+one-marked marks p = mark-there marks (group_of p)
+
+pub marks-kept : (marks : List ℕ) (g : ℕ) → KeepsMarks marks (set marks g 1)
+marks-kept marks g p is = mark-stays marks g (group_of p) is
+
+-- a group behind the last mark counts as marked
+past : (marks : List ℕ) (g : ℕ) → length marks ≤ g → (get_or marks g 1 == 1) ≡ true
+past [] g h = refl
+past (m ∷ ms) zero h = absurd (omega arith)
+past (m ∷ ms) (suc g) h = past ms g (omega arith)
+
+pub past-marked : (marks : List ℕ) (p : Place) → length marks ≤ group_of p → is_marked marks p ≡ true
+past-marked marks p h = past marks (group_of p) h
+
+pub none-marked : (marks : List ℕ) → AreMarked [] marks
+none-marked marks p has = absurd (false≢true has)
+
+-- ---- the places of a group
+
 same-group : (p q : Place) → same_place p q ≡ true → group_of p ≡ group_of q
 same-group p q same =
     let column = and_parts (nat_eq p.script q.script && nat_eq p.pos.line q.pos.line) (nat_eq p.pos.col q.pos.col)
@@ -23,15 +54,15 @@ marked-as : (marks : List ℕ) (p q : Place)
     → is_marked marks q ≡ true
 marked-as marks p q group is = rw group at is
 
-found : (key q : Place) (s : BTreeSet Place) (old new : List ℕ) (b : Bool) → is_at (place_cmp key) q ≡ b
-    → AreMarked s.keys old → KeepsMarks old new → is_marked new key ≡ true → cond b true (contains place_cmp s q) ≡ true
-    → is_marked new q ≡ true
-found key q s old new true at marked kept is hit =
-    marked-as new key q (sym (same-group q key (same-tied q key ∙ at))) is
-found key q s old new false at marked kept is hit = kept q (marked q (has-contains q s.keys ∙ hit))
-
--- a place that is put in behind a mark of its group
-pub insert-marked : (key : Place) (s n : BTreeSet Place) (old new : List ℕ) → Updates place_cmp s n key true
-    → AreMarked s.keys old → KeepsMarks old new → is_marked new key ≡ true → AreMarked n.keys new
-insert-marked key s n old new u marked kept is q h =
-    found key q s old new (is_at (place_cmp key) q) refl marked kept is (sym (has-contains q n.keys ∙ u.0 q) ∙ h)
+-- the next of some places is marked
+pub marked-more : (places : List Place) (i : ℕ) (d : Place) (old new : List ℕ)
+    → i < length places
+    → AreMarked (take i places) old
+    → KeepsMarks old new
+    → is_marked new (get_or places i d) ≡ true
+    → AreMarked (take (i + 1) places) new
+marked-more places i d old new h marked kept is q has =
+    ⊎_elim (λ before. kept q (marked q before))
+    (λ same. marked-as new (get_or places i d) q (same-group (get_or places i d) q same) is)
+    (or_cases (has_place q (take i places)) (same_place (get_or places i d) q)
+    (sym (list_any_more (λ r. same_place r q) places i d h) ∙ has))

@@ -1,4 +1,8 @@
 pub mod ResolvingLemmas
-pub mod IndexLemmas
-pub mod HitLemmas
+pub mod ListLemmas
+pub mod AscendingLemmas
+pub mod PlaceLemmas
 pub mod FilterLemmas
+pub mod IndexedLemmas
+pub mod HoldingLemmas
+pub mod HitLemmas

@@ -2,6 +2,10 @@ pub mod Ids
 pub mod Resolving
 pub mod Found
 pub mod Hits
+pub mod Ascending
+pub mod PlaceOrder
+pub mod PlaceFilter
+pub mod PlaceSet
 pub mod PlaceIndex
 pub mod Breakpoints
-pub mod PlaceFilter
+pub mod Indexed

@@ -1,5 +1,5 @@
 -- Groups of places, of which those are marked that have a place.
-use Rattle.std.specs.Prelude.{◌≡◌, ◌⊎◌, ℕ, ◌+◌, ◌*◌, ◌%◌, List, [], length, get_or, Bool, true, ◌==◌, IsTrue}
+use Rattle.std.specs.Prelude.{◌≡◌, ℕ, ◌+◌, ◌*◌, ◌%◌, List, get_or, All, Bool, true, ◌==◌, IsTrue}
 use Rattle.cdp_text.specs.declared.position.Place.{Place}
 use Rattle.breakpoints.specs.Hits.{has_place}
 
@@ -7,13 +7,13 @@ use Rattle.breakpoints.specs.Hits.{has_place}
 abbrev pub group_of : Place → ℕ
 group_of place = (place.pos.line * 8 + place.pos.col) % 4096
 
--- the group of a place is marked
+-- the group of a place is marked; one that has no mark counts as marked
 abbrev pub is_marked : List ℕ → Place → Bool
-is_marked marks place = get_or marks (group_of place) 0 == 1
+is_marked marks place = get_or marks (group_of place) 1 == 1
 
--- no group was marked yet, or there is a mark for each
-abbrev pub IsSized : List ℕ → Type 0
-IsSized marks = (marks ≡ []) ⊎ (length marks ≡ 4096)
+-- no mark says that a group has a place
+abbrev pub AreBlank : List ℕ → Type 0
+AreBlank marks = All (λ mark. mark ≡ 0) marks
 
 -- what was marked still is
 abbrev pub KeepsMarks : List ℕ → List ℕ → Type 0

@@ -1,11 +1,13 @@
 //! The breakpoints of a session.
 
-ghost use Rattle.std.specs.Prelude.{◌≡◌, ◌∷◌, [], map, filter, OnErr, OnOk, IfOk, Some};
-ghost use Rattle.std.specs.List.{list_any};
+ghost use Rattle.std.specs.Prelude.{◌≡◌, ◌∷◌, [], map, OnErr, OnOk, IfOk, Some};
+ghost use Rattle.std.specs.List.{list_any, position};
 ghost use Rattle.locations.specs.Locations.{break_locations};
-ghost use Rattle.breakpoints.specs.Breakpoints.{Answers, breakpoint_of, fault_at, fault_of, has_another_id, has_id, hits_at, is_hit, none_set, with_breakpoint, without};
+ghost use Rattle.breakpoints.specs.Breakpoints.{Answers, breakpoint_of, fault_at, fault_of, has_id, hits_at, is_hit, none_set, with_breakpoint, without};
 ghost use Rattle.breakpoints.specs.Hits.{hits_in, stands_at};
 ghost use Rattle.breakpoints.specs.Ids.{place_id, url_id};
+ghost use Rattle.breakpoints.specs.Indexed.{ArePlacesOf, KeepsStanding};
+ghost use Rattle.breakpoints.specs.PlaceOrder.{AreAscending};
 ghost use Rattle.breakpoints.specs.Resolving.{resolved_at, resolved_by_url};
 
 use crate::added::{AddedAt, AddedByUrl};
@@ -13,7 +15,7 @@ use crate::breakpoint::Breakpoint;
 use crate::fault::AddFault;
 use crate::hits::Hits;
 use crate::ids::{place_id, url_id};
-use crate::place_index::PlaceIndex;
+use crate::place_set::PlaceSet;
 use crate::places::Places;
 use crate::resolving::{resolve_at, resolve_by_url};
 use crate::script_spots::ScriptSpots;
@@ -31,7 +33,7 @@ const MOST: usize = 1000;
 pub struct Breakpoints {
     alloc: Global,
     list: Vec<Breakpoint>,
-    index: PlaceIndex,
+    index: PlaceSet,
     active: bool,
 }
 
@@ -42,16 +44,34 @@ impl Model for Breakpoints {
 
     ghost view = { λ b. record { set = b.list.items; active = b.active } };
 
-    ghost use Rattle.breakpoints.specs.PlaceIndex.{IsIndexOf};
+    ghost use Rattle.breakpoints.specs.Indexed.{IsIndexed};
 
-    ghost invariant = { λ b. IsIndexOf b.list.items b.index };
+    ghost invariant = { λ b. IsIndexed b.list.items b.index };
 }
 
-/// The breakpoints of another id stay.
-fn retain_others(list: &mut Vec<Breakpoint>, id: &[u16])
-    ensures { list.new.items ≡ filter (has_another_id id.now) list.old.items }
+/// Whether a breakpoint resolved to a place.
+fn stands(list: &[Breakpoint], place: Place) -> bool
+    ensures { result ≡ list_any (stands_at place) list.now }
 {
-    list.retain(|b| !b.has_id(id));
+    list.iter().any(|b| b.stands_at(place))
+}
+
+/// Takes a place out of the index where none of these breakpoints stands at it.
+fn take_unless_stands(index: &mut PlaceSet, place: Place, list: &[Breakpoint])
+    ensures { KeepsStanding (place ∷ []) list.now index.old index.new }
+{
+    if !stands(list, place) {
+        index.remove(place);
+    }
+}
+
+/// Takes those of some places out of the index at which none of these breakpoints stands.
+fn take_unless_stand(index: &mut PlaceSet, places: &[Place], list: &[Breakpoint])
+    ensures { KeepsStanding places.now list.now index.old index.new }
+{
+    for place in places {
+        take_unless_stands(index, *place, list);
+    }
 }
 
 impl Breakpoints {
@@ -62,7 +82,7 @@ impl Breakpoints {
         Breakpoints {
             alloc,
             list: Vec::new(alloc),
-            index: PlaceIndex::new(alloc),
+            index: PlaceSet::new(alloc),
             active: true,
         }
     }
@@ -74,11 +94,11 @@ impl Breakpoints {
         self.list.iter().any(|b| b.has_id(id))
     }
 
-    /// Whether a breakpoint resolved to a place. The breakpoints are walked only where the place is found in the index.
-    fn has_at(&self, place: Place) -> bool
-        ensures { result ≡ list_any (stands_at place) self.now.set }
+    /// Where the breakpoint of an id stands in their order, counted from 0.
+    fn position(&self, id: &[u16]) -> Option<usize>
+        ensures { result ≡ position (has_id id.now) self.now.set }
     {
-        self.index.has(place) && self.list.iter().any(|b| b.stands_at(place))
+        self.list.iter().position(|b| b.has_id(id))
     }
 
     /// Sets a breakpoint at these places.
@@ -93,12 +113,14 @@ impl Breakpoints {
         if self.list.len() >= MOST {
             return Err(AddFault::Full { count: MOST as u64 });
         }
+        self.list.reserve(1)?;
         self.index.add_all(places.as_slice())?;
-        self.list.push(Breakpoint {
+        let breakpoint = Breakpoint {
             id,
             condition,
             places,
-        })?;
+        };
+        self.list.push(breakpoint).unwrap();
         Ok(())
     }
 
@@ -173,12 +195,25 @@ impl Breakpoints {
         ensures had { result ≡ list_any (has_id id.now) self.old.set }
         ensures rest { self.new ≡ without id.now self.old }
     {
-        let had = self.has(id);
-        retain_others(&mut self.list, id);
-        if self.list.is_empty() {
-            self.index.clear();
-        }
-        had
+        let Some(place) = self.position(id) else {
+            return false;
+        };
+        let removed = self.list.remove(place);
+        take_unless_stand(
+            &mut self.index,
+            removed.places.as_slice(),
+            self.list.as_slice(),
+        );
+        true
+    }
+
+    /// The places to which its breakpoints resolved, each once, in the order of scripts, lines and columns. They are
+    /// the same where the breakpoints aren't active.
+    pub fn places(&self) -> &[Place]
+        ensures exact { ArePlacesOf self.now.set result.now }
+        ensures ascending { AreAscending result.now }
+    {
+        self.index.as_slice()
     }
 
     /// The breakpoints that resolved to a place, in the order in which they were set; none where they aren't active.
@@ -191,12 +226,12 @@ impl Breakpoints {
         }
     }
 
-    /// Whether an active breakpoint stands at a place. Costs a search among the places and, only where one is found, a walk
-    /// over the breakpoints.
+    /// Whether an active breakpoint stands at a place. Costs a search among the places, and only a look for most of
+    /// them.
     pub fn is_hit(&self, place: Place) -> bool
         ensures { result ≡ is_hit place self.now }
     {
-        self.active && self.has_at(place)
+        self.active && self.index.has(place)
     }
 
     /// Whether breakpoints stop the program from now on.

@@ -1,32 +1,30 @@
 //! A quick answer to where no place stands.
 
-ghost use Rattle.std.specs.Prelude.{◌≡◌, ◌<◌, [], OnOk, true};
-ghost use Rattle.breakpoints.specs.PlaceFilter.{KeepsMarks, group_of, is_marked};
+ghost use Rattle.std.specs.Prelude.{◌≡◌, ◌<◌, [], true};
+ghost use Rattle.breakpoints.specs.PlaceFilter.{AreBlank, AreMarked, KeepsMarks, group_of, is_marked};
 
 use cdp_text::position::Place;
-use std::alloc::{AllocError, Global};
+use std::alloc::Global;
 use std::marker::Model;
 
 /// How many groups places are put into.
 const GROUPS: usize = 4096;
 
-/// Groups of places. One that isn't marked has none of the places whose groups were marked.
+/// Groups of places. One that isn't marked has none of the places whose groups were marked. Where there was no memory
+/// for the marks, each group counts as marked.
 #[derive(Drop)]
 pub(crate) struct PlaceFilter {
     alloc: Global,
-    // 1 for a group that is marked, else 0; none until one is marked
+    // 1 for a group that is marked, else 0; none until some are marked, or where there is no memory for them
     marks: Vec<u8>,
 }
 
 impl Model for PlaceFilter {
     ghost use Rattle.std.specs.Prelude.{List, ℕ};
-    ghost use Rattle.breakpoints.specs.PlaceFilter.{IsSized};
 
     ghost Value = { List ℕ };
 
     ghost view = { λ f. f.marks.items };
-
-    ghost invariant = { λ f. IsSized f.marks.items };
 }
 
 /// The group of a place: that of its line and its column.
@@ -38,7 +36,7 @@ fn group_of(place: Place) -> usize
 }
 
 impl PlaceFilter {
-    /// No group is marked. It takes no memory.
+    /// There are no marks, so that each group counts as marked. It takes no memory.
     pub(crate) fn new(alloc: Global) -> PlaceFilter
         ensures { result ≡ [] }
     {
@@ -54,26 +52,41 @@ impl PlaceFilter {
     {
         match self.marks.get(group_of(place)) {
             Some(mark) => *mark == 1,
-            None => false,
+            None => true,
+        }
+    }
+
+    /// Marks the groups of these places and no others, or all where there is no memory for the marks.
+    pub(crate) fn mark_only(&mut self, places: &[Place])
+        ensures { AreMarked places.now self.new }
+    {
+        self.clear();
+        for place in places {
+            self.mark(*place);
+        }
+    }
+
+    /// Takes the marks away; where there are none, it takes the memory for them, if there is some.
+    fn clear(&mut self)
+        ensures { AreBlank self.new }
+    {
+        if !self.marks.is_empty() {
+            self.marks.fill(0);
+            return;
+        }
+        if let Ok(marks) = vec![in self.alloc; 0; GROUPS] {
+            self.marks = marks;
         }
     }
 
     /// Marks the group of a place.
-    pub(crate) fn mark(&mut self, place: Place) -> Result<(), AllocError>
+    fn mark(&mut self, place: Place)
         ensures kept { KeepsMarks self.old self.new }
-        ensures marked { OnOk result (is_marked self.new place ≡ true) }
+        ensures marked { is_marked self.new place ≡ true }
     {
-        if self.marks.is_empty() {
-            self.marks = vec![in self.alloc; 0; GROUPS]?;
+        let group = group_of(place);
+        if group < self.marks.len() {
+            self.marks[group] = 1;
         }
-        self.marks[group_of(place)] = 1;
-        Ok(())
-    }
-
-    /// Takes all marks away. It takes no memory.
-    pub(crate) fn clear(&mut self)
-        ensures { self.new ≡ [] }
-    {
-        self.marks.clear();
     }
 }

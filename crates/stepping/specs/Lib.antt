@@ -1,3 +1,4 @@
 pub mod Rules
 pub mod Causes
 pub mod Alone
+pub mod Beside

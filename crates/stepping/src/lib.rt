@@ -18,5 +18,5 @@ mod rules;
 
 pub use arrival::Arrival;
 pub use cause::Cause;
-pub use naming::first_cause;
+pub use naming::{first_cause, wants};
 pub use rules::{Exceptions, Rules, StepKind, StepRequest};

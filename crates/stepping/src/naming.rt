@@ -1,6 +1,7 @@
 //! Which rule stops the program.
 
-ghost use Rattle.std.specs.Prelude.{◌≡◌, ◌↔◌, IsTrue, IfNone, IfSome};
+ghost use Rattle.std.specs.Prelude.{◌≡◌, ◌↔◌, false, is_some, IsTrue, IfNone, IfSome};
+ghost use Rattle.stepping.specs.Beside.{IsNamedBeside};
 ghost use Rattle.stepping.specs.Causes.{EndsAt, IsFirst, NoneHolds, StopsAtRaise, ends_at, first_cause, stops_at_raise};
 
 use crate::arrival::Arrival;
@@ -61,4 +62,12 @@ pub fn first_cause(rules: &Rules, arrival: &Arrival, hit: bool) -> Option<Cause>
     } else {
         None
     }
+}
+
+/// Whether a rule other than that of breakpoints names a step.
+pub fn wants(rules: &Rules, arrival: &Arrival) -> bool
+    ensures value { result ≡ is_some (first_cause rules.now arrival.now false) }
+    ensures named { IsTrue result ↔ IsNamedBeside rules.now arrival.now }
+{
+    first_cause(rules, arrival, false).is_some()
 }

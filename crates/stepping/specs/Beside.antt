@@ -1,0 +1,13 @@
+-- A step that is named beside breakpoints.
+use Rattle.std.specs.Prelude.{◌≡◌, false}
+use Rattle.stepping.specs.declared.rules.Rules.{Rules}
+use Rattle.stepping.specs.declared.arrival.Arrival.{Arrival}
+use Rattle.stepping.specs.declared.cause.Cause.{Cause}
+use Rattle.stepping.specs.declared.cause.Cause.TheVariants as causes
+use Rattle.stepping.specs.Causes.{Holds}
+
+-- a rule other than that of breakpoints holds: no other asks whether a breakpoint was hit
+pub record IsNamedBeside (r : Rules) (a : Arrival) : Type 0 where
+  pub cause : Cause
+  pub other : ¬ (cause ≡ causes.Breakpoint)
+  pub holds : Holds r a false cause
