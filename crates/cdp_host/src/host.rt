@@ -503,7 +503,8 @@ impl<'p> Host<'p> {
             → RunsTo self.old.scripts moment n (meaning_with self.old taken) ran.steps ran.printed.items ran.lost.items (meaning_with self.new (taken ++ ran.printed.items))) }
         ensures same { IfOk result (λ ran. self.new.broken ≡ self.old.broken) }
         ensures scripts { self.new.scripts ≡ self.old.scripts }
-        ensures broken { self.old.broken ≡ true → IfOk result (λ ran. ran.steps ≡ 0) }
+        // a broken host prints nothing, loses nobody and stays as it is
+        ensures broken { self.old.broken ≡ true → (self.new ≡ self.old) × IfOk result (λ ran. (ran.steps ≡ 0) × (ran.printed.items ≡ []) × (ran.lost.items ≡ [])) }
         ensures err { OnErr result ((self.new.broken ≡ true) × NoneAttached self.new.meaning.seats) }
         ensures err_seats { OnErr result (self.new.meaning.seats ≡ each broken_seat self.old.meaning.seats) }
         ensures err_fallen { OnErr result (self.new.fallen ≡ losses_from 1 (each fallen self.old.meaning.seats)) }

@@ -1,4 +1,4 @@
-use Rattle.std.proofs.Common.{rules, [], ◌≡◌, ◌<◌, ◌⊎◌, ◌++◌, ℕ, List, IfOk, OnErr, inl, true, ap, sym, subst, ◌∙◌}
+use Rattle.std.proofs.Common.{rules, [], ◌≡◌, ◌<◌, ◌⊎◌, ◌++◌, ℕ, List, IfOk, OnErr, inl, true, false, refl, ap, sym, subst, ◌∙◌}
 use Rattle.cdp_host_isolation.specs.Histories.{Ran}
 use Rattle.cdp_host_isolation.specs.Meanings.{longest}
 use Rattle.cdp_host_isolation.specs.Seats.{some, waits_for_report}
@@ -21,6 +21,12 @@ returns-then-self-clause-prints c =
     (sym empty)
     (none-prints c.args.self.now c.args.moment (lost_for_memory c.new-then-self.result.items))
 
+pub returns-then-self-clause-broken : goal.returns-then-self-clause-broken
+returns-then-self-clause-broken c = λ fails.
+    let printed : c.new.result.items ≡ [] = search rules in
+    let lost : c.new-then-self.result.items ≡ [] = search rules in
+    (refl, (refl, printed, lost))
+
 pub make_steps-requires-clause-works : goal.make_steps-requires-clause-works
 make_steps-requires-clause-works c =
     ap (λ h. h.broken) c.prepare.ensures ∙ sym (ap (λ h. h.broken) c.self.view_is) ∙ c.if-self.false
@@ -32,6 +38,11 @@ report-requires c = c.in_ok-made.ensures.same
 
 pub returns-in_err-made-clause-scripts : goal.returns-in_err-made-clause-scripts
 returns-in_err-made-clause-scripts c = c.in_err-made.ensures.scripts ∙ ap (λ h. h.scripts) c.prepare.ensures
+
+pub returns-in_err-made-clause-broken : goal.returns-in_err-made-clause-broken
+returns-in_err-made-clause-broken c = λ fails.
+    let works : c.args.self.now.broken ≡ false = sym (ap (λ h. h.broken) c.self.view_is) ∙ c.if-self.false in
+    absurd cc
 
 pub returns-in_err-made-clause-err : goal.returns-in_err-made-clause-err
 returns-in_err-made-clause-err c =
@@ -80,6 +91,11 @@ returns-clause-runs c = λ works.
     (reports-run c.prepare.new.self c.make_steps.new.self new c.args.moment c.args.n made.steps made.printed.items
     c.report.result c.in_ok-made.ensures.scripts c.in_ok-made.ensures.makes c.in_ok-made.ensures.printed
     c.report.ensures.steps c.report.ensures.lost c.report.ensures.means c.report.ensures.all_there)
+
+pub returns-clause-broken : goal.returns-clause-broken
+returns-clause-broken c = λ fails.
+    let works : c.args.self.now.broken ≡ false = sym (ap (λ h. h.broken) c.self.view_is) ∙ c.if-self.false in
+    absurd cc
 
 pub returns-clause-scripts : goal.returns-clause-scripts
 returns-clause-scripts c =
