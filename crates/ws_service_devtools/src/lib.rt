@@ -16,8 +16,6 @@ mod flag;
 pub mod laws;
 mod link;
 mod methods;
-#[cfg(test)]
-mod tests;
 mod text;
 mod unread;
 
