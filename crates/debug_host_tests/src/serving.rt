@@ -1,4 +1,4 @@
-//! A server whose doors and links are in memory.
+//! The journal that a server stores, whose doors and links are in memory.
 
 ghost use Rattle.std.specs.Prelude.{All, IfOk};
 ghost use Rattle.cdp_edge_server.specs.MemDoor.{IsNewDoor};
@@ -106,30 +106,6 @@ fn replies_of_the_first(alloc: Global) -> Result<Vec<String>, AllocError> {
     Ok(replies)
 }
 
-#[test]
-fn two_clients_are_served_at_once(rt: HostRuntime) -> Result<(), Fail> {
-    let alloc = rt.alloc();
-    let words = "serve --sessions 2 --wait a.js";
-    let mut shelf = shelf(alloc, b"console.log(1);\nconsole.log('two');\n")?;
-    let mut harbor = MemHarbor::new(two_doors(alloc)?, Vec::new(alloc), Vec::new(alloc));
-    let mut out = MemSink::new(Vec::new(alloc));
-    let mut err = MemSink::new(Vec::new(alloc));
-    let status = call(
-        &rt,
-        alloc,
-        words,
-        &mut shelf,
-        &mut harbor,
-        &mut out,
-        &mut err,
-    )?;
-    assert_eq!(rt; status, 0);
-    assert_eq!(rt; out.taken(), b"1\ntwo\n".as_slice());
-    assert_eq!(rt; err.taken(), b"".as_slice());
-    assert_eq!(rt; times_sent(&harbor, &replies_of_the_first(alloc)?), 1);
-    Ok(())
-}
-
 // What stands behind this on the lines that begin with it.
 fn behind(alloc: Global, output: &str, beginning: &str) -> Result<Vec<String>, AllocError> {
     let mut texts = Vec::new(alloc);
@@ -189,37 +165,6 @@ fn a_stored_journal_plays_again(rt: HostRuntime) -> Result<(), Fail> {
     Ok(())
 }
 
-// The sink fails at its second write.
-#[test]
-fn a_server_that_can_not_write_shuts_its_program(rt: HostRuntime) -> Result<(), Fail> {
-    let alloc = rt.alloc();
-    let words = "serve --sessions 1 a.js";
-    let mut shelf = shelf(
-        alloc,
-        b"console.log(1);\nconsole.log(2);\nconsole.log(3);\n",
-    )?;
-    let mut doors = Vec::new(alloc);
-    doors.push(MemDoor::new(Vec::new(alloc), Vec::new(alloc)))?;
-    let mut harbor = MemHarbor::new(doors, Vec::new(alloc), Vec::new(alloc));
-    let mut failing = Vec::new(alloc);
-    failing.push(2)?;
-    let mut out = MemSink::new(failing);
-    let mut err = MemSink::new(Vec::new(alloc));
-    let status = call(
-        &rt,
-        alloc,
-        words,
-        &mut shelf,
-        &mut harbor,
-        &mut out,
-        &mut err,
-    )?;
-    assert_eq!(rt; status, 5);
-    assert_eq!(rt; out.taken(), b"1\n".as_slice());
-    assert_eq!(rt; err.taken(), b"debug_host: cannot write\n".as_slice());
-    Ok(())
-}
-
 // The status of a server at whose door nobody arrives, of one script, with these words and this shelf; what it told on
 // the error stream is in `err`.
 fn serve_nobody(
@@ -248,77 +193,5 @@ fn a_server_stores_its_journal(rt: HostRuntime) -> Result<(), Fail> {
     assert_eq!(rt; err.taken(), b"".as_slice());
     let stored = shelf.read(alloc, "j");
     assert!(rt; stored.is_ok_and(|bytes| bytes.as_slice() == b"run 5 7\n".as_slice()));
-    Ok(())
-}
-
-// The second call of the shelf fails, which is the store; the first read the script.
-#[test]
-fn a_journal_that_can_not_be_stored_is_told(rt: HostRuntime) -> Result<(), Fail> {
-    let alloc = rt.alloc();
-    let mut files = Vec::new(alloc);
-    files.push((
-        String::from_str(alloc, "a.js")?,
-        b"console.log(1);\n".to_vec(alloc)?,
-    ))?;
-    let mut failing = Vec::new(alloc);
-    failing.push(2)?;
-    let mut shelf = MemShelf::new(files, failing);
-    let mut err = MemSink::new(Vec::new(alloc));
-    let words = "serve --sessions 1 --journal j a.js";
-    let status = serve_nobody(&rt, alloc, words, &mut shelf, &mut err)?;
-    assert_eq!(rt; status, 4);
-    assert_eq!(rt; err.taken(), b"debug_host: cannot store j\n".as_slice());
-    Ok(())
-}
-
-// The status of a server, and what its client is sent that asks for a method which DevTools asks for.
-fn serve_devtools(
-    rt: &(impl Threads + Wait + Sync),
-    alloc: Global,
-    words: &str,
-) -> Result<(u8, Vec<String>), AllocError> {
-    let mut shelf = shelf(alloc, b"")?;
-    let (opened, _unused) = Gate::pair(alloc)?;
-    let mut doors = Vec::new(alloc);
-    let text = r#"{"id":1,"method":"Profiler.enable"}"#;
-    doors.push(door(alloc, text, None, None, opened)?)?;
-    let mut harbor = MemHarbor::new(doors, Vec::new(alloc), Vec::new(alloc));
-    let mut out = MemSink::new(Vec::new(alloc));
-    let mut err = MemSink::new(Vec::new(alloc));
-    let status = call(
-        rt,
-        alloc,
-        words,
-        &mut shelf,
-        &mut harbor,
-        &mut out,
-        &mut err,
-    )?;
-    let mut sent = Vec::new(alloc);
-    for door in harbor.doors() {
-        for link in door.served() {
-            for text in link.sent() {
-                sent.push(text.clone()?)?;
-            }
-        }
-    }
-    Ok((status, sent))
-}
-
-// The same text is answered with `--devtools`, and refused without it.
-#[test]
-fn devtools_is_let_in_where_that_is_asked_for(rt: HostRuntime) -> Result<(), Fail> {
-    let alloc = rt.alloc();
-    let (status, sent) = serve_devtools(&rt, alloc, "serve --sessions 1 --devtools a.js")?;
-    assert_eq!(rt; status, 0);
-    assert_eq!(rt; sent.len(), 1);
-    assert_eq!(rt; sent[0].as_str(), r#"{"id":1,"result":{}}"#);
-    let (status, sent) = serve_devtools(&rt, alloc, "serve --sessions 1 a.js")?;
-    assert_eq!(rt; status, 0);
-    assert_eq!(rt; sent.len(), 1);
-    assert_eq!(rt;
-        sent[0].as_str(),
-        r#"{"error":{"code":-32601,"message":"'Profiler.enable' wasn't found"},"id":1}"#
-    );
     Ok(())
 }
