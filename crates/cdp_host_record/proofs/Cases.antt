@@ -6,6 +6,8 @@ use Rattle.cdp_host_isolation.specs.Histories.{Entry, Attach, Tell, Take, Detach
 use Rattle.cdp_host_isolation.specs.Meanings.{begin}
 use Rattle.cdp_host_isolation.specs.Protocols.{Protocol}
 use Rattle.cdp_host_record.specs.Records.{recorded_from}
+use Rattle.cdp_host_record.specs.Replays.{is_played}
+use Rattle.cdp_journal.specs.Lines.{is_memory, memory_text}
 
 abbrev of_two : Protocol ℕ ℕ ℕ (List (List ℕ))
 of_two = record {
@@ -79,3 +81,12 @@ ends = refl
 shuts : recorded_of (Ran 3 4 [] ∷ Shut ∷ Ran 0 5 [] ∷ []) ≡ codes "run 3 4\nshut\n"
 unfolding digits
 shuts = refl
+
+-- the line `memory` ends a journal, and not even an empty line stands behind it
+cut : is_played of_two (begin 0 false) (memory_text ∷ []) ≡ true
+unfolding is_memory
+cut = refl
+
+behind : is_played of_two (begin 0 false) (memory_text ∷ [] ∷ []) ≡ false
+unfolding is_memory
+behind = refl

@@ -11,7 +11,7 @@ use Rattle.cdp_text.specs.Lines.{IsOneLine, lines_of}
 use Rattle.cdp_text.proofs.LinesLemmas.{lines_of-ended}
 use Rattle.cdp_journal.specs.Escapes.{escaped}
 use Rattle.cdp_journal.specs.Lines as journal
-use Rattle.cdp_journal.specs.Lines.{Line, line_of, line_text, most_told}
+use Rattle.cdp_journal.specs.Lines.{Line, line_of, line_text, memory_text, most_told}
 use Rattle.cdp_journal.proofs.DrillLemmas.{ended-append}
 use Rattle.cdp_journal.proofs.EscapeLemmas.{char-plain, escaped-append}
 use Rattle.cdp_journal.proofs.WrittenLemmas.{IsWritten, all_ascii, are-one, ascii-of, is-one, read-each, utf8-of, written-attach, written-cut, written-run, written-take}
@@ -130,18 +130,18 @@ cut P m history none = ap lines_of (recorded-plain P m history none) ∙ written
 
 -- with the last line of a record that tells no more
 pub cut-memory : (lines : List Line)
-    → lines_of (bytes_of lines ++ memory_line) ≡ map line_text lines ++ codes "memory" ∷ []
+    → lines_of (bytes_of lines ++ memory_line) ≡ map line_text lines ++ memory_text ∷ []
 cut-memory lines =
     let texts = map line_text lines in
-    let last = codes "memory" ∷ [] in
+    let last = memory_text ∷ [] in
     ap lines_of (sym (ended-append texts last))
     ∙ lines_of-ended (texts ++ last)
     (All-append IsOneLine texts last (are-one lines)
-    (All-cons IsOneLine (codes "memory") [] (is-one (codes "memory") refl) (All-nil IsOneLine)))
+    (All-cons IsOneLine memory_text [] (is-one memory_text refl) (All-nil IsOneLine)))
 
 pub cut-last : {C T Q X : Type 0} → (P : Protocol C T Q X) (m : Meaning C Q X) (history : List Entry)
     → some_list history ≡ true
-    → lines_of (recorded_from P m history) ≡ map line_text (lines_from P m history) ++ codes "memory" ∷ []
+    → lines_of (recorded_from P m history) ≡ map line_text (lines_from P m history) ++ memory_text ∷ []
 cut-last P m history some =
     ap (λ (b : Bool). lines_of (bytes_of (lines_from P m history) ++ (if b then memory_line else []))) some
     ∙ cut-memory (lines_from P m history)

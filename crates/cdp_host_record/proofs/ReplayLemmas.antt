@@ -1,13 +1,13 @@
 -- A record that is played does what its history did.
-use Rattle.std.proofs.Common.{◌≡◌, ◌⊎◌, inl, inr, ℕ, zero, suc, ◌+◌, ◌<◌, List, [], ◌∷◌, ◌++◌, length, map, All, Bool, true, false, ◌||◌, ◌==◌, not, fold, if◌then◌else◌, Option, Some, None, refl, ap, sym, subst, ◌∙◌, arith}
+use Rattle.std.proofs.Common.{◌≡◌, ◌⊎◌, inl, inr, ℕ, zero, suc, ◌+◌, ◌<◌, List, [], ◌∷◌, ◌++◌, map, All, Bool, true, false, ◌||◌, ◌==◌, not, fold, if◌then◌else◌, Option, Some, None, refl, ap, sym, subst, ◌∙◌, append-nil, arith}
 use Rattle.std.specs.Option.{option_and_then, option_map_or}
 use Rattle.std.proofs.lemmas.Bool.{eqb-true, false≢true, or_parts}
 use Rattle.std.proofs.lemmas.List.Elements.{All-head, All-tail}
 use Rattle.cdp_text.specs.Lines.{lines_of}
 use Rattle.cdp_journal.specs.Lines as journal
-use Rattle.cdp_journal.specs.Lines.{Line, line_text}
+use Rattle.cdp_journal.specs.Lines.{Line, is_memory, line_of, line_text, memory_text}
 use Rattle.cdp_journal.proofs.LineLemmas.{line-read}
-use Rattle.cdp_journal.proofs.WrittenLemmas.{IsWritten}
+use Rattle.cdp_journal.proofs.WrittenLemmas.{IsWritten, written-other}
 use Rattle.cdp_host_isolation.specs.Histories.{Entry, Attach, Tell, Take, Detach, Ran, Shut, FitsAll, FitsEntry, apply, detach, handed_at, handed_of, take, tell, waiting, with_seat}
 use Rattle.cdp_host_isolation.specs.Meanings.{Meaning, after_steps, begin, is_enabled_seat, is_paused, is_ready, longest, resumed_seat, settle, step, with_seats}
 use Rattle.cdp_host_isolation.specs.Protocols.{Protocol}
@@ -18,9 +18,10 @@ use Rattle.cdp_host_isolation.specs.declared.seat.Seat.TheVariants.{Attached, Lo
 use Rattle.cdp_host_isolation.proofs.FallenLemmas.{without-none}
 use Rattle.cdp_host_isolation.proofs.SeatLemmas.{each-at}
 use Rattle.cdp_host_isolation.proofs.StopLemmas.{paused-well, paused-well-from}
-use Rattle.cdp_host_record.specs.Records.{is_some_there, line_if, lines_at, lines_from, lists, recorded_from, some_list}
-use Rattle.cdp_host_record.specs.Replays.{IsTellable, KeepsUntouched, PlaysAs, but_told, entry_at, if_attached, played, untold}
-use Rattle.cdp_host_record.proofs.ReadLemmas.{cut, from-written}
+use Rattle.cdp_host_record.specs.Records.{is_some_there, line_if, lines_at, lines_from, lists, memory_line, recorded_from, some_list}
+use Rattle.cdp_host_record.specs.Replays.{IsTellable, KeepsUntouched, PlaysAs, but_told, entry_at, if_attached, is_played, played, untold}
+use Rattle.cdp_host_record.proofs.GrowthLemmas.{recorded-plain}
+use Rattle.cdp_host_record.proofs.ReadLemmas.{cut, cut-memory, from-written}
 use Rattle.cdp_host_record.proofs.ToldLemmas.{put-untold, same-apply, same-attached, same-handed, same-longest}
 
 -- ---- entries without lines
@@ -247,10 +248,16 @@ abbrev plays : {C T Q X : Type 0} → Protocol C T Q X → Meaning C Q X → Lis
 plays P m [] = []
 plays P m (line ∷ lines) = option_map_or (λ entry. entry ∷ plays P (apply P m entry) lines) (entry_at P m line) []
 
+-- each of these lines has an entry
+abbrev have_entries : {C T Q X : Type 0} → Protocol C T Q X → Meaning C Q X → List Line → Bool
+have_entries P m [] = true
+have_entries P m (line ∷ lines) =
+    option_map_or (λ entry. have_entries P (apply P m entry) lines) (entry_at P m line) false
+
 -- lines that are played by a host, and what a host that means the same comes to
 record Follows {C T Q X : Type 0} (P : Protocol C T Q X) (k m : Meaning C Q X) (lines : List Line)
     (history : List Entry) : Type 0 where
-  all : length (plays P k lines) ≡ length lines
+  all : have_entries P k lines ≡ true
   means : but_told (fold (apply P) k (plays P k lines)) ≡ but_told (fold (apply P) m history)
   handed : (s : ℕ) → handed_of P s k (plays P k lines) ≡ handed_of P s m history
 
@@ -276,7 +283,7 @@ goes P k m entry line lines history same is follows =
     let whole : plays P k (line ∷ lines) ≡ entry ∷ plays P (apply P k entry) lines =
     ap (λ o. option_map_or (λ entry. entry ∷ plays P (apply P k entry) lines) o []) is in
     record {
-      all = ap (λ entries. length entries) whole ∙ ap (λ n. suc n) follows.all;
+      all = ap (λ o. option_map_or (λ entry. have_entries P (apply P k entry) lines) o false) is ∙ follows.all;
       means = ap (λ entries. but_told (fold (apply P) k entries)) whole ∙ follows.means;
       handed = λ s.
           ap (λ entries. handed_of P s k entries) whole
@@ -285,8 +292,8 @@ goes P k m entry line lines history same is follows =
           ∙ ap (λ later. handed_at P s m entry ++ later) (follows.handed s);
     }
 
-quiet-lines : (b : Bool) (lines : List Line) → b ≡ false → (if b then [] else lines) ≡ lines
-quiet-lines b lines quiet = rw quiet refl
+otherwise : {A : Type 0} → (b : Bool) (x y : A) → b ≡ false → (if b then x else y) ≡ y
+otherwise b x y off = rw off refl
 
 follows-on : {C T Q X : Type 0} → (P : Protocol C T Q X) → KeepsEnabled P → KeepsUntouched P → (k m : Meaning C Q X)
     (history : List Entry)
@@ -301,7 +308,7 @@ follows-on P keeps idle k m (entry ∷ history) well fits none same =
     let next = apply P m entry in
     let rest = lines_from P next history in
     let well_next = paused-well-from P m (entry ∷ []) keeps well in
-    let whole = quiet-lines (lists entry) (lines_at P m entry ++ rest) parts.0 in
+    let whole = otherwise (lists entry) [] (lines_at P m entry ++ rest) parts.0 in
     elim (one P k m entry idle well fits.0 parts.0 same) [
       | inl told ↦
           subst (λ lines. Follows P k m lines (entry ∷ history))
@@ -318,37 +325,79 @@ follows-on P keeps idle k m (entry ∷ history) well fits none same =
 
 -- ---- lines as they are written
 
-pub same-or : {A : Type 0} → (f g : A → List A) (o : Option A) → ((a : A) → f a ≡ g a)
+same-or : {A : Type 0} → (f g : A → List A) (o : Option A) → ((a : A) → f a ≡ g a)
     → option_map_or f o [] ≡ option_map_or g o []
 same-or f g None same = refl
 same-or f g (Some a) same = same a
 
+-- what stands behind written lines plays nothing, and isn't refused
+record IsTail {C T Q X : Type 0} (P : Protocol C T Q X) (texts : List (List ℕ)) : Type 0 where
+  nothing : (m : Meaning C Q X) → played P m texts ≡ []
+  all : (m : Meaning C Q X) → is_played P m texts ≡ true
+
+no-tail : {C T Q X : Type 0} → (P : Protocol C T Q X) → IsTail P []
+no-tail P = record { nothing = λ m. refl; all = λ m. refl }
+
+memory-tail : {C T Q X : Type 0} → (P : Protocol C T Q X) → IsTail P (memory_text ∷ [])
+unfolding is_memory
+memory-tail P = record { nothing = λ m. refl; all = λ m. refl }
+
 read-plays : {C T Q X : Type 0} → (P : Protocol C T Q X) (m : Meaning C Q X) (lines : List Line)
+    (tail : List (List ℕ))
     → All IsWritten lines
-    → played P m (map line_text lines) ≡ plays P m lines
-read-plays P m [] all = refl
-read-plays P m (line ∷ lines) all =
-    let texts = map line_text lines in
-    let read = line-read (line_text line) line (All-head IsWritten line lines all) in
-    ap (λ o. option_map_or (λ entry. entry ∷ played P (apply P m entry) texts) (option_and_then (entry_at P m) o) [])
-    read
+    → IsTail P tail
+    → played P m (map line_text lines ++ tail) ≡ plays P m lines
+read-plays P m [] tail all last = last.nothing m
+read-plays P m (line ∷ lines) tail all last =
+    let texts = map line_text lines ++ tail in
+    let written = All-head IsWritten line lines all in
+    otherwise (is_memory (line_text line)) []
+    (option_map_or (λ entry. entry ∷ played P (apply P m entry) texts)
+    (option_and_then (entry_at P m) (line_of (line_text line))) [])
+    (written-other line written)
+    ∙ ap (λ o. option_map_or (λ entry. entry ∷ played P (apply P m entry) texts) (option_and_then (entry_at P m) o) [])
+    (line-read (line_text line) line written)
     ∙ same-or (λ entry. entry ∷ played P (apply P m entry) texts)
     (λ entry. entry ∷ plays P (apply P m entry) lines) (entry_at P m line)
     (λ entry. ap (λ later. entry ∷ later)
-    (read-plays P (apply P m entry) lines (All-tail IsWritten line lines all)))
+    (read-plays P (apply P m entry) lines tail (All-tail IsWritten line lines all) last))
 
-text-length : (lines : List Line) → length (map line_text lines) ≡ length lines
-text-length [] = refl
-text-length (line ∷ lines) = ap (λ n. suc n) (text-length lines)
+true-through : {A : Type 0} → (f g : A → Bool) (o : Option A) → ((a : A) → g a ≡ true → f a ≡ true)
+    → option_map_or g o false ≡ true
+    → option_map_or f o false ≡ true
+true-through f g None goes is = is
+true-through f g (Some a) goes is = goes a is
 
-plays-as : {C T Q X : Type 0} → (P : Protocol C T Q X) (m : Meaning C Q X) (lines : List Line) (history : List Entry)
+read-all : {C T Q X : Type 0} → (P : Protocol C T Q X) (m : Meaning C Q X) (lines : List Line)
+    (tail : List (List ℕ))
     → All IsWritten lines
+    → IsTail P tail
+    → have_entries P m lines ≡ true
+    → is_played P m (map line_text lines ++ tail) ≡ true
+read-all P m [] tail all last have = last.all m
+read-all P m (line ∷ lines) tail all last have =
+    let texts = map line_text lines ++ tail in
+    let written = All-head IsWritten line lines all in
+    otherwise (is_memory (line_text line)) (not (is_some_there texts))
+    (option_map_or (λ entry. is_played P (apply P m entry) texts)
+    (option_and_then (entry_at P m) (line_of (line_text line))) false)
+    (written-other line written)
+    ∙ ap (λ o. option_map_or (λ entry. is_played P (apply P m entry) texts) (option_and_then (entry_at P m) o) false)
+    (line-read (line_text line) line written)
+    ∙ true-through (λ entry. is_played P (apply P m entry) texts)
+    (λ entry. have_entries P (apply P m entry) lines) (entry_at P m line)
+    (λ entry. read-all P (apply P m entry) lines tail (All-tail IsWritten line lines all) last) have
+
+plays-as : {C T Q X : Type 0} → (P : Protocol C T Q X) (m : Meaning C Q X) (lines : List Line) (tail : List (List ℕ))
+    (history : List Entry)
+    → All IsWritten lines
+    → IsTail P tail
     → Follows P m m lines history
-    → PlaysAs P m (map line_text lines) history
-plays-as P m lines history all follows =
-    let same = read-plays P m lines all in
+    → PlaysAs P m (map line_text lines ++ tail) history
+plays-as P m lines tail history all last follows =
+    let same = read-plays P m lines tail all last in
     record {
-      all = ap (λ entries. length entries) same ∙ follows.all ∙ sym (text-length lines);
+      all = read-all P m lines tail all last follows.all;
       means = ap (λ entries. but_told (fold (apply P) m entries)) same ∙ follows.means;
       handed = λ s. ap (λ entries. handed_of P s m entries) same ∙ follows.handed s;
     }
@@ -363,6 +412,23 @@ pub play-again : {C T Q X : Type 0} → (P : Protocol C T Q X) (c : C) (wait : B
     → PlaysAs P (begin c wait) (lines_of (recorded_from P (begin c wait) history)) history
 play-again P c wait history keeps idle fits tellable none =
     let m = begin c wait in
-    subst (λ lines. PlaysAs P m lines history) (sym (cut P m history none))
-    (plays-as P m (lines_from P m history) history (from-written P m history tellable)
+    let lines = lines_from P m history in
+    subst (λ texts. PlaysAs P m texts history) (append-nil (map line_text lines) ∙ sym (cut P m history none))
+    (plays-as P m lines [] history (from-written P m history tellable) (no-tail P)
+    (follows-on P keeps idle m m history (paused-well P c wait [] keeps) fits none refl))
+
+-- and one that the line `memory` ends
+pub play-cut : {C T Q X : Type 0} → (P : Protocol C T Q X) (c : C) (wait : Bool) (history : List Entry)
+    → KeepsEnabled P
+    → KeepsUntouched P
+    → FitsAll P (begin c wait) history
+    → All IsTellable history
+    → some_list history ≡ false
+    → PlaysAs P (begin c wait) (lines_of (recorded_from P (begin c wait) history ++ memory_line)) history
+play-cut P c wait history keeps idle fits tellable none =
+    let m = begin c wait in
+    let lines = lines_from P m history in
+    subst (λ texts. PlaysAs P m texts history)
+    (sym (ap (λ bytes. lines_of (bytes ++ memory_line)) (recorded-plain P m history none) ∙ cut-memory lines))
+    (plays-as P m lines (memory_text ∷ []) history (from-written P m history tellable) (memory-tail P)
     (follows-on P keeps idle m m history (paused-well P c wait [] keeps) fits none refl))

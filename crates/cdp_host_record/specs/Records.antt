@@ -1,8 +1,8 @@
 -- The record of a history: the journal that tells it.
-use Rattle.std.specs.Prelude.{ℕ, List, [], ◌∷◌, ◌++◌, map, Bool, true, false, ◌==◌, ◌||◌, not, if◌then◌else◌, codes}
+use Rattle.std.specs.Prelude.{ℕ, List, [], ◌∷◌, ◌++◌, map, Bool, true, false, ◌==◌, ◌||◌, not, if◌then◌else◌}
 use Rattle.cdp_text.specs.Lines.{ended}
 use Rattle.cdp_journal.specs.Lines as journal
-use Rattle.cdp_journal.specs.Lines.{Line, line_text}
+use Rattle.cdp_journal.specs.Lines.{Line, line_text, memory_text}
 use Rattle.cdp_host_isolation.specs.Histories.{Entry, Attach, Tell, Take, Detach, Ran, Shut, apply, waiting}
 use Rattle.cdp_host_isolation.specs.Makers.{entries_of}
 use Rattle.cdp_host_isolation.specs.Meanings.{Meaning, begin}
@@ -60,7 +60,7 @@ bytes_of lines = ended (map line_text lines)
 
 -- the last line of a record that tells no more
 abbrev pub memory_line : List ℕ
-memory_line = codes "memory\n"
+memory_line = ended (memory_text ∷ [])
 
 -- the record of a history, of a host that means this before it: the bytes of its lines, and the last line in place of
 -- the first run that lists somebody

@@ -1,16 +1,17 @@
 -- What the journal that a record is does to a host, and that it does what the history did.
-use Rattle.std.specs.Prelude.{◌≡◌, ◌<◌, ◌≤◌, ◌^◌, ℕ, List, [], ◌∷◌, ◌++◌, length, Bool, true, false, fold, if◌then◌else◌, Option, Some, None}
+use Rattle.std.specs.Prelude.{◌≡◌, ◌<◌, ◌≤◌, ◌^◌, ℕ, List, [], ◌∷◌, ◌++◌, length, Bool, true, false, not, fold, if◌then◌else◌, Option, Some, None}
 use Rattle.std.specs.Option.{option_and_then, option_map_or}
 use Rattle.std.specs.Str.{is_utf8}
 use Rattle.cdp_text.specs.Lines.{lines_of}
 use Rattle.cdp_journal.specs.Lines as journal
-use Rattle.cdp_journal.specs.Lines.{Line, line_of, most_told}
+use Rattle.cdp_journal.specs.Lines.{Line, is_memory, line_of, most_told}
 use Rattle.cdp_host_isolation.specs.Histories.{Entry, Attach, Tell, Take, Detach, Ran, Shut, apply, handed_of}
 use Rattle.cdp_host_isolation.specs.Meanings.{Meaning, longest, with_seats}
 use Rattle.cdp_host_isolation.specs.Protocols.{Protocol}
 use Rattle.cdp_host_isolation.specs.Seats.{each, is_attached, seat_of}
 use Rattle.cdp_host_isolation.specs.declared.seat.Seat.{Seat}
 use Rattle.cdp_host_isolation.specs.declared.seat.Seat.TheVariants.{Attached, Lost, Left}
+use Rattle.cdp_host_record.specs.Records.{is_some_there}
 
 -- ---- a journal that is played
 
@@ -28,11 +29,21 @@ entry_at P m (journal.Detach s) = if_attached m s (Detach s)
 entry_at P m (journal.Run most moment) = Some (Ran (longest P moment most m) moment [])
 entry_at P m journal.Shut = Some Shut
 
--- the history of a journal's lines, up to the first that is refused
+-- the history of a journal's lines, up to the line `memory` or the first that is refused
 abbrev pub played : {C T Q X : Type 0} → Protocol C T Q X → Meaning C Q X → List (List ℕ) → List Entry
 played P m [] = []
 played P m (line ∷ lines) =
-    option_map_or (λ entry. entry ∷ played P (apply P m entry) lines) (option_and_then (entry_at P m) (line_of line)) []
+    if is_memory line then []
+    else option_map_or (λ entry. entry ∷ played P (apply P m entry) lines)
+    (option_and_then (entry_at P m) (line_of line)) []
+
+-- no line of a journal is refused; behind the line `memory` each would be
+abbrev pub is_played : {C T Q X : Type 0} → Protocol C T Q X → Meaning C Q X → List (List ℕ) → Bool
+is_played P m [] = true
+is_played P m (line ∷ lines) =
+    if is_memory line then not (is_some_there lines)
+    else option_map_or (λ entry. is_played P (apply P m entry) lines) (option_and_then (entry_at P m) (line_of line))
+    false
 
 -- ---- what it comes to
 
@@ -50,18 +61,19 @@ but_told m = with_seats (each untold m.seats) m
 -- were told of losses, and each session is handed the same texts, in order.
 pub record PlaysAs {C T Q X : Type 0} (P : Protocol C T Q X) (m : Meaning C Q X) (lines : List (List ℕ))
     (history : List Entry) : Type 0 where
-  pub all : length (played P m lines) ≡ length lines
+  pub all : is_played P m lines ≡ true
   pub means : but_told (fold (apply P) m (played P m lines)) ≡ but_told (fold (apply P) m history)
   pub handed : (s : ℕ) → handed_of P s m (played P m lines) ≡ handed_of P s m history
 
--- A record that is held, when it is played up to a line that is refused, does what a first part of a history did;
--- unless the record is lost, what all of it did.
+-- A record that is held, when it is played, does what a first part of a history did; unless the record is lost, what all
+-- of it did. No line of it is refused: the line `memory` ends it, where it is lost.
 pub record PlaysFirst {C T Q X : Type 0} (P : Protocol C T Q X) (m : Meaning C Q X) (history : List Entry) (lost : Bool)
     (bytes : List ℕ) : Type 0 where
   pub first : List Entry
   pub rest : List Entry
   pub whole : history ≡ first ++ rest
   pub kept : lost ≡ false → rest ≡ []
+  pub all : is_played P m (lines_of bytes) ≡ true
   pub means : but_told (fold (apply P) m (played P m (lines_of bytes))) ≡ but_told (fold (apply P) m first)
   pub handed : (s : ℕ) → handed_of P s m (played P m (lines_of bytes)) ≡ handed_of P s m first
 

@@ -1,9 +1,9 @@
 //! The laws of records. Each function does nothing: its contract is the law, for every protocol and every history.
 //! Programs, pauses, sessions and what steps tell are numbers here; the lemmas of `proofs/` say the same of any types.
 
-ghost use Rattle.std.specs.Prelude.{◌≡◌, ℕ, List, [], ◌∷◌, ◌++◌, map, All, Bool, true, false, ◌||◌, codes, Some};
+ghost use Rattle.std.specs.Prelude.{◌≡◌, ℕ, List, [], ◌∷◌, ◌++◌, map, All, Bool, true, false, ◌||◌, Some};
 ghost use Rattle.cdp_text.specs.Lines.{lines_of};
-ghost use Rattle.cdp_journal.specs.Lines.{line_of, line_text};
+ghost use Rattle.cdp_journal.specs.Lines.{line_of, line_text, memory_text};
 ghost use Rattle.cdp_host_isolation.specs.Histories.{Entry, FitsAll, whole};
 ghost use Rattle.cdp_host_isolation.specs.Meanings.{Meaning, begin};
 ghost use Rattle.cdp_host_isolation.specs.Protocols.{Protocol};
@@ -41,7 +41,7 @@ pub fn records_are_journals()
     ensures last { (P : Protocol ℕ ℕ ℕ ℕ) (c : ℕ) (wait : Bool) (history : List Entry)
         → some_list history ≡ true
         → lines_of (recorded_from P (begin c wait) history)
-        ≡ map line_text (lines_from P (begin c wait) history) ++ codes "memory" ∷ [] }
+        ≡ map line_text (lines_from P (begin c wait) history) ++ memory_text ∷ [] }
     ensures read { (P : Protocol ℕ ℕ ℕ ℕ) (c : ℕ) (wait : Bool) (history : List Entry)
         → All IsTellable history
         → map line_of (map line_text (lines_from P (begin c wait) history))
@@ -61,7 +61,7 @@ pub fn records_play_again()
 {}
 
 /// What a host holds as the record of a history does, when it is played, what a first part of the history did: all of
-/// it, unless the record is lost.
+/// it, unless the record is lost. No line of it is refused, and the line `memory` is the last.
 pub fn held_records_play_again()
     ensures { (P : Protocol ℕ ℕ ℕ ℕ) (c : ℕ) (wait : Bool) (history : List Entry) (lost : Bool) (bytes : List ℕ)
         → KeepsEnabled P

@@ -5,7 +5,9 @@ ghost use Rattle.cdp_journal.specs.Lines.{Attach, Tell, Take, Detach, Run, Shut}
 ghost use Rattle.cdp_host_record.specs.Records.{bytes_of};
 ghost use Rattle.cdp_host_record.specs.Recordings.{Adds, closed, unwritten};
 
-use cdp_journal::{attach_line, detach_line, run_line, shut_line, take_line, tell_line};
+use cdp_journal::{
+    attach_line, detach_line, memory_line, run_line, shut_line, take_line, tell_line,
+};
 use std::alloc::{AllocError, Global};
 use std::marker::Model;
 
@@ -69,7 +71,7 @@ impl Record {
         ensures { self.new ≡ closed self.old }
     {
         if !self.is_lost {
-            self.text.push_str("memory\n").unwrap();
+            self.text.push_str(memory_line()).unwrap();
             self.is_lost = true;
         }
     }

@@ -1,17 +1,19 @@
 -- A journal whose lines are written is cut into these lines, and each of them is read as what it was written of.
-use Rattle.std.proofs.Common.{◌≡◌, ◌≢◌, ℕ, suc, ◌<◌, ◌≤◌, ◌^◌, List, [], ◌∷◌, ◌++◌, length, map, All, Bool, true, false, ◌==◌, nat_lt, Some, refl, ap, ◌∙◌, arith, codes, decimal, if◌then◌else◌}
+use Rattle.std.proofs.Common.{◌≡◌, ◌≢◌, ℕ, suc, ◌<◌, ◌≤◌, ◌^◌, List, [], ◌∷◌, ◌++◌, length, map, All, Bool, true, false, ◌==◌, nat_lt, None, Some, refl, ap, sym, ◌∙◌, arith, codes, decimal, if◌then◌else◌}
 use Rattle.std.specs.List.{list_all}
 use Rattle.std.specs.Str.{IsAscii, is_utf8}
-use Rattle.std.proofs.lemmas.Bool.{and_parts, eqb-false, ltb-true, not-true}
+use Rattle.std.proofs.lemmas.Bool.{and_parts, eqb-false, false_from_ne_true, false≢true, ltb-true, not-true}
 use Rattle.std.proofs.lemmas.Fmt.{IsAscii-decimal}
 use Rattle.std.proofs.lemmas.List.Elements.{All-cons, All-head, All-nil, All-tail}
+use Rattle.std.proofs.lemmas.Option.{none-some}
+use Rattle.std.proofs.lemmas.Slice.Eq.{bytes_eq-Decides}
 use Rattle.std.proofs.lemmas.Str.{IsAscii-append, IsUtf8-from_ascii, is_utf8-from_IsUtf8}
 use Rattle.std.proofs.lemmas.Str.Ascii.{IsAscii-cons, IsAscii-nil}
 use Rattle.cdp_text.specs.Lines.{IsOneLine, ended, lines_of}
 use Rattle.cdp_text.proofs.LinesLemmas.{lines_of-ended}
 use Rattle.cdp_journal.specs.Escapes.{byte_escaped, escaped}
-use Rattle.cdp_journal.specs.Lines.{Line, Attach, Tell, Take, Detach, Run, Shut, IsLine, line_of, line_text, most_told}
-use Rattle.cdp_journal.proofs.LineLemmas.{line-read}
+use Rattle.cdp_journal.specs.Lines.{Line, Attach, Tell, Take, Detach, Run, Shut, IsLine, is_memory, line_of, line_text, memory_text, most_told}
+use Rattle.cdp_journal.proofs.LineLemmas.{line_of-utf8, line-read}
 use Rattle.cdp_journal.proofs.OneLineLemmas.{is_one_line, is_other, one-append, decimal-one, escaped-one}
 
 -- ---- lines are cut off
@@ -122,3 +124,29 @@ written-run most moment few soon = record {
   in_form = (few, soon);
   is = refl;
 }
+
+-- ---- the line that ends a journal
+
+pub memory-is : (text : List ℕ) → is_memory text ≡ true → text ≡ memory_text
+unfolding is_memory
+memory-is text is = (bytes_eq-Decides text memory_text).0 is
+
+memory-test : is_memory memory_text ≡ true
+unfolding is_memory
+memory-test = refl
+
+pub other-text : (text : List ℕ) → is_memory text ≡ false → text ≢ memory_text
+other-text text other = λ same. false≢true (sym other ∙ ap is_memory same ∙ memory-test)
+
+memory-refused : line_of memory_text ≡ None
+memory-refused = line_of-utf8 memory_text (IsUtf8-from_ascii memory_text (ascii-of memory_text refl))
+
+-- it is none of those that ask for something
+pub memory-none : (text : List ℕ) → is_memory text ≡ true → line_of text ≡ None
+memory-none text is = ap line_of (memory-is text is) ∙ memory-refused
+
+-- and none of those is it
+pub written-other : (line : Line) → IsWritten line → is_memory (line_text line) ≡ false
+written-other line are =
+    false_from_ne_true (is_memory (line_text line))
+    (λ is. none-some line (sym (memory-none (line_text line) is) ∙ line-read (line_text line) line are))

@@ -1,5 +1,5 @@
 -- The lines of a journal.
-use Rattle.std.specs.Prelude.{◌≡◌, ◌<◌, ◌≤◌, ◌^◌, ℕ, List, ◌∷◌, ◌++◌, length, true, ◌&&◌, nat_lt, nat_le, bytes_eq, if◌then◌else◌, codes, decimal, Option, Some, None}
+use Rattle.std.specs.Prelude.{◌≡◌, ◌<◌, ◌≤◌, ◌^◌, ℕ, List, ◌∷◌, ◌++◌, length, Bool, true, ◌&&◌, nat_lt, nat_le, bytes_eq, if◌then◌else◌, codes, decimal, Option, Some, None}
 use Rattle.std.specs.Option.{option_and_then, option_map}
 use Rattle.std.specs.Str.{is_utf8}
 use Rattle.cdp_text.specs.Decimal.{decimal_value}
@@ -108,3 +108,13 @@ line_of_text text =
 -- the line whose text these bytes are
 abbrev pub line_of : List ℕ → Option Line
 line_of bytes = if is_utf8 bytes then line_of_text bytes else None
+
+-- ---- the line that ends a journal
+
+-- the text of the line that ends a journal which tells no more: it asks for nothing, and no line stands behind it
+abbrev pub memory_text : List ℕ
+memory_text = codes "memory"
+
+-- a text is that line's
+unfoldable pub is_memory : List ℕ → Bool
+is_memory text = bytes_eq text memory_text

@@ -1,19 +1,21 @@
 //! The laws of journals. Each function does nothing: its contract is the law.
 
-ghost use Rattle.std.specs.Prelude.{◌≡◌, ◌<◌, ◌^◌, ℕ, List, Some, All, codes, filter, map, nat_eq};
+ghost use Rattle.std.specs.Prelude.{◌≡◌, ◌<◌, ◌^◌, ℕ, List, None, Some, All, codes, false, filter, map, nat_eq, true};
 ghost use Rattle.std.specs.List.{starts_with};
 ghost use Rattle.cdp_text.specs.Lines.{ended, lines_of};
 ghost use Rattle.cdp_journal.specs.Drills.{drill_journal, drill_steps};
 ghost use Rattle.cdp_journal.specs.Fronts.{behind_each};
-ghost use Rattle.cdp_journal.specs.Lines.{IsLine, Line, line_of, line_text};
+ghost use Rattle.cdp_journal.specs.Lines.{IsLine, Line, is_memory, line_of, line_text};
 ghost use Rattle.cdp_journal.specs.Summaries.{RunLine, printed_lines, ran_of, ran_text, runs_of};
 
 /// A journal that is written line by line is cut into just these lines, and where each of them is in form, it is read
-/// as what was written.
+/// as what was written. The line `memory` is none of them.
 pub fn written_journals_are_read()
     ensures cut { (lines : List Line) → lines_of (ended (map line_text lines)) ≡ map line_text lines }
     ensures read { (lines : List Line) → All (λ line. IsLine (line_text line) line) lines
         → map line_of (lines_of (ended (map line_text lines))) ≡ map (λ line. Some line) lines }
+    ensures memory { (text : List ℕ) → is_memory text ≡ true → line_of text ≡ None }
+    ensures others { (line : Line) → IsLine (line_text line) line → is_memory (line_text line) ≡ false }
 {}
 
 /// The journal of a drill is cut into the lines of its steps. Each of them is in form, so the journal is read as these

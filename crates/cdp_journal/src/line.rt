@@ -2,7 +2,7 @@
 
 ghost use Rattle.std.specs.Prelude.{◌≡◌, ◌<◌, Some, IfOk, IfSome, string_bytes};
 ghost use Rattle.std.specs.Option.{option_map};
-ghost use Rattle.cdp_journal.specs.Lines.{Line as Meant, IsLine, line_of, line_of_text, line_of_words, tell_rest, take_rest, detach_rest, run_rest, tell_at, tell_text};
+ghost use Rattle.cdp_journal.specs.Lines.{Line as Meant, IsLine, is_memory, line_of, line_of_text, line_of_words, tell_rest, take_rest, detach_rest, run_rest, tell_at, tell_text};
 ghost use Rattle.cdp_journal.specs.LineRead.{line_held};
 
 use crate::escapes::unescape;
@@ -36,8 +36,17 @@ pub enum Line {
     Shut,
 }
 
+/// Whether these bytes are the line `memory`, without its LF. It ends a journal that tells no more: it asks for nothing, and
+/// no line stands behind it.
+#[tactic(auto, unfolding(crate::specs::Lines::is_memory))]
+pub fn is_memory(bytes: &[u8]) -> bool
+    ensures { result ≡ is_memory bytes.now }
+{
+    bytes == b"memory".as_slice()
+}
+
 /// The line of these bytes, without their LF: `attach`, `tell S TEXT`, `take S`, `detach S`, `run N MS` or `shut`. None for
-/// all other bytes.
+/// all other bytes, also for `memory`.
 ///
 /// # Errors
 ///

@@ -1,8 +1,8 @@
 //! The lines of a journal as they are written, each ended by LF.
 
-ghost use Rattle.std.specs.Prelude.{◌≡◌, ◌∷◌, ◌++◌, [], IfOk, OnOk, string_bytes};
+ghost use Rattle.std.specs.Prelude.{◌≡◌, ◌∷◌, ◌++◌, [], length, IfOk, OnOk, string_bytes};
 ghost use Rattle.cdp_text.specs.Lines.{ended};
-ghost use Rattle.cdp_journal.specs.Lines.{Attach, Tell, Take, Detach, Run, Shut, line_text};
+ghost use Rattle.cdp_journal.specs.Lines.{Attach, Tell, Take, Detach, Run, Shut, line_text, memory_text};
 
 use crate::escapes::escape;
 use std::alloc::{AllocError, Global};
@@ -73,4 +73,12 @@ pub fn shut_line() -> &'static str
     ensures { result.now ≡ ended (line_text Shut ∷ []) }
 {
     "shut\n"
+}
+
+/// The line that ends a journal which tells no more. It has seven bytes.
+pub fn memory_line() -> &'static str
+    ensures line { result.now ≡ ended (memory_text ∷ []) }
+    ensures bytes { length result.now ≡ 7 }
+{
+    "memory\n"
 }

@@ -1,8 +1,8 @@
 -- A journal's lines, one after another.
-use Rattle.std.proofs.Common.{◌≡◌, ℕ, ◌+◌, ◌<◌, List, [], ◌∷◌, ◌++◌, Bool, length, get_or, take, drop, map, Option, Some, None, refl, ap, sym, ◌∙◌, append_assoc, append-nil, false, arith}
+use Rattle.std.proofs.Common.{◌≡◌, ℕ, ◌+◌, ◌<◌, List, [], ◌∷◌, ◌++◌, Bool, length, get_or, take, drop, map, if◌then◌else◌, Option, Some, None, refl, ap, sym, ◌∙◌, append_assoc, append-nil, false, true, arith}
 use Rattle.std.proofs.lemmas.Grind.{common_steps}
 use Rattle.std.proofs.lemmas.List.{take_more, take-append-drop, map-append}
-use Rattle.std.specs.Option.{option_map_or}
+use Rattle.std.specs.Option.{option_and_then, option_map_or}
 use Rattle.cdp_edge.specs.Outside.{gains, GainsPrefix, GainsLess}
 use Rattle.cdp_edge.proofs.Gains.{gains-append, gains-nil, GainsPrefix-behind, GainsLess-behind}
 use Rattle.cdp_host_isolation.specs.Histories.{Entry}
@@ -11,7 +11,9 @@ use Rattle.js_semantics.specs.Run.{Run as Program}
 use Rattle.cdp_host.specs.Histories.{Meaning, apply, begin, whole}
 use Rattle.cdp_host.specs.Hosts.{HostState, StandsFor}
 use Rattle.cdp_host.proofs.HistoryLemmas.{longer}
-use Rattle.debug_host_commands.specs.Journal.{entry_of, refused}
+use Rattle.cdp_journal.specs.Lines.{is_memory}
+use Rattle.cdp_journal.proofs.WrittenLemmas.{memory-none}
+use Rattle.debug_host_commands.specs.Journal.{behind_memory, entry_at, entry_of, refused}
 use Rattle.debug_host_commands.specs.Output.{joined, output_text, output_at, output_bytes}
 use Rattle.debug_host_commands.specs.Played.{Plays, line_output, journal_output}
 
@@ -90,6 +92,34 @@ left-output scripts m rest line lines is =
     ap (λ all. journal_output scripts m all) is
     ∙ journal_output-line scripts m line lines (entry_of scripts m line) refl
 
+-- ---- the first line that is refused
+
+-- a line that isn't `memory` is refused, or one behind it is
+refused-line : (scripts : List Script) (number : ℕ) (m : Meaning Program) (line : List ℕ) (lines : List (List ℕ))
+    → is_memory line ≡ false
+    → refused scripts number m (line ∷ lines)
+    ≡ option_map_or (λ entry. refused scripts (number + 1) (apply scripts m entry) lines) (entry_of scripts m line)
+    (Some number)
+refused-line scripts number m line lines other =
+    ap (λ (b : Bool). if b then behind_memory (number + 1) lines
+    else option_map_or (λ entry. refused scripts (number + 1) (apply scripts m entry) lines) (entry_of scripts m line)
+    (Some number)) other
+
+-- behind the line `memory` the next one is
+refused-memory : (scripts : List Script) (number : ℕ) (m : Meaning Program) (line : List ℕ) (lines : List (List ℕ))
+    → is_memory line ≡ true
+    → refused scripts number m (line ∷ lines) ≡ behind_memory (number + 1) lines
+refused-memory scripts number m line lines is =
+    ap (λ (b : Bool). if b then behind_memory (number + 1) lines
+    else option_map_or (λ entry. refused scripts (number + 1) (apply scripts m entry) lines) (entry_of scripts m line)
+    (Some number)) is
+
+-- the line `memory` has no entry
+pub memory-entry : (scripts : List Script) (m : Meaning Program) (line : List ℕ)
+    → is_memory line ≡ true
+    → entry_of scripts m line ≡ None
+memory-entry scripts m line is = ap (λ o. option_and_then (entry_at scripts m) o) (memory-none line is)
+
 -- ---- how far a replay came
 
 -- A host stands for the history of the lines so far; what was written and what the lines that are left write make up
@@ -118,13 +148,15 @@ behind-start scripts input wait all host before stands works = record {
 behind-by : (scripts : List Script) (input : List (List ℕ)) (wait : Bool) (all rest : List (List ℕ)) (number : ℕ)
     (host new : HostState) (before now next : List ℕ) (line : List ℕ) (lines : List (List ℕ))
     → rest ≡ line ∷ lines
+    → is_memory line ≡ false
     → (b : IsBehind scripts input wait all rest number host before now)
     → (o : Option Entry)
     → entry_of scripts (whole scripts input wait b.history) line ≡ o
     → Plays scripts input wait b.history o new now next
     → IsBehind scripts input wait all lines (number + 1) new before next
-behind-by scripts input wait all rest number host new before now next line lines is b None none plays = absurd plays
-behind-by scripts input wait all rest number host new before now next line lines is b (Some entry) some plays =
+behind-by scripts input wait all rest number host new before now next line lines is other b None none plays =
+    absurd plays
+behind-by scripts input wait all rest number host new before now next line lines is other b (Some entry) some plays =
     let m : Meaning Program = whole scripts input wait b.history in
     let more : whole scripts input wait (b.history ++ entry ∷ [])
     ≡ apply scripts m entry = longer scripts input wait b.history entry in
@@ -135,6 +167,7 @@ behind-by scripts input wait all rest number host new before now next line lines
       refused = ap (λ k. refused scripts (number + 1) k lines) more
           ∙ ap (λ o. option_map_or (λ e. refused scripts (number + 1) (apply scripts m e) lines) o (Some number))
           (sym some)
+          ∙ sym (refused-line scripts number m line lines other)
           ∙ ap (λ xs. refused scripts number m xs) (sym is)
           ∙ b.refused;
       written =
@@ -147,13 +180,13 @@ behind-by scripts input wait all rest number host new before now next line lines
 -- a line was played
 pub behind-next : (scripts : List Script) (input : List (List ℕ)) (wait : Bool) (all rest : List (List ℕ)) (number : ℕ)
     (host new : HostState) (before now next : List ℕ) (line : List ℕ) (lines : List (List ℕ))
-    → rest ≡ line ∷ lines → IsBehind scripts input wait all rest number host before now
+    → rest ≡ line ∷ lines → is_memory line ≡ false → IsBehind scripts input wait all rest number host before now
     → ((s : List Script) (i : List (List ℕ)) (w : Bool) (h : List Entry)
     → StandsFor s i w host h
     → Plays s i w h (entry_of s (whole s i w h) line) new now next)
     → IsBehind scripts input wait all lines (number + 1) new before next
-behind-next scripts input wait all rest number host new before now next line lines is b plays =
-    behind-by scripts input wait all rest number host new before now next line lines is b
+behind-next scripts input wait all rest number host new before now next line lines is other b plays =
+    behind-by scripts input wait all rest number host new before now next line lines is other b
     (entry_of scripts (whole scripts input wait b.history) line) refl (plays scripts input wait b.history b.stands)
 
 -- a first part of what the line writes was written
@@ -184,14 +217,15 @@ behind-less scripts input wait all rest number host before now next line lines i
 -- the line is refused
 pub behind-refused : (scripts : List Script) (input : List (List ℕ)) (wait : Bool) (all rest : List (List ℕ))
     (number : ℕ) (host : HostState) (before now : List ℕ) (line : List ℕ) (lines : List (List ℕ))
-    → rest ≡ line ∷ lines → IsBehind scripts input wait all rest number host before now
+    → rest ≡ line ∷ lines → is_memory line ≡ false → IsBehind scripts input wait all rest number host before now
     → ((s : List Script) (i : List (List ℕ)) (w : Bool) (h : List Entry)
     → StandsFor s i w host h
     → entry_of s (whole s i w h) line ≡ None)
     → refused scripts 1 (begin scripts input wait) all ≡ Some number
-behind-refused scripts input wait all rest number host before now line lines is b none =
+behind-refused scripts input wait all rest number host before now line lines is other b none =
     let m : Meaning Program = whole scripts input wait b.history in
     sym b.refused ∙ ap (λ xs. refused scripts number m xs) is
+    ∙ refused-line scripts number m line lines other
     ∙ ap (λ o. option_map_or (λ e. refused scripts (number + 1) (apply scripts m e) lines) o (Some number))
     (none scripts input wait b.history b.stands)
 
@@ -210,6 +244,24 @@ behind-refused-whole scripts input wait all rest number host before now line lin
     ∙ ap (λ o. line_output scripts m o ++ option_map_or (λ e. journal_output scripts (apply scripts m e) lines)
     o [])
     (none scripts input wait b.history b.stands))
+
+-- the line is `memory`
+pub behind-memory : (scripts : List Script) (input : List (List ℕ)) (wait : Bool) (all rest : List (List ℕ))
+    (number : ℕ) (host : HostState) (before now : List ℕ) (line : List ℕ) (lines : List (List ℕ))
+    → rest ≡ line ∷ lines → is_memory line ≡ true → IsBehind scripts input wait all rest number host before now
+    → refused scripts 1 (begin scripts input wait) all ≡ behind_memory (number + 1) lines
+behind-memory scripts input wait all rest number host before now line lines is memory b =
+    let m : Meaning Program = whole scripts input wait b.history in
+    sym b.refused ∙ ap (λ xs. refused scripts number m xs) is ∙ refused-memory scripts number m line lines memory
+
+-- and then all is written
+pub behind-memory-whole : (scripts : List Script) (input : List (List ℕ)) (wait : Bool) (all rest : List (List ℕ))
+    (number : ℕ) (host : HostState) (before now : List ℕ) (line : List ℕ) (lines : List (List ℕ))
+    → rest ≡ line ∷ lines → is_memory line ≡ true → IsBehind scripts input wait all rest number host before now
+    → now ≡ gains before (journal_output scripts (begin scripts input wait) all)
+behind-memory-whole scripts input wait all rest number host before now line lines is memory b =
+    behind-refused-whole scripts input wait all rest number host before now line lines is b
+    (λ s i w h stood. memory-entry s (whole s i w h) line memory)
 
 -- no line is left
 pub behind-done : (scripts : List Script) (input : List (List ℕ)) (wait : Bool) (all rest : List (List ℕ)) (number : ℕ)

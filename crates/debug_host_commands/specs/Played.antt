@@ -64,7 +64,7 @@ of_sink Memory = fault.Memory
 
 -- ---- all lines
 
--- what a journal's lines write, up to the first that is refused
+-- what a journal's lines write, up to the line `memory` or the first that is refused
 abbrev pub journal_output : List Script → Meaning Program → List (List ℕ) → List ℕ
 journal_output scripts m lines = output_bytes (output_of scripts m (entries scripts m lines))
 

@@ -1,13 +1,13 @@
 //! Journals: their replay over a host, line by line, and what is written of it.
 
-ghost use Rattle.std.specs.Prelude.{◌≡◌, ◌⊎◌, ℕ, List, [], Bool, false, Some, None, OnOk, OnErr, IsErrOf, map, string_bytes};
+ghost use Rattle.std.specs.Prelude.{◌≡◌, ◌≢◌, ◌⊎◌, ℕ, List, [], Bool, false, Some, None, OnOk, OnErr, IsErrOf, map, string_bytes};
 ghost use Rattle.cdp_edge.specs.Outside.{Rose, gains, GainsPrefix, GainsLess};
 ghost use Rattle.cdp_text.specs.Lines.{lines_of};
 ghost use Rattle.cdp_host_isolation.specs.Histories.{Entry};
 ghost use Rattle.js_tree.specs.declared.script.Script.{Script as AnyScript};
 ghost use Rattle.cdp_host.specs.Histories.{begin, whole};
 ghost use Rattle.cdp_host.specs.Hosts.{StandsFor};
-ghost use Rattle.debug_host_commands.specs.Journal.{entry_of, refused};
+ghost use Rattle.debug_host_commands.specs.Journal.{behind_memory, entry_of, refused};
 ghost use Rattle.debug_host_commands.specs.Output.{joined};
 ghost use Rattle.debug_host_commands.specs.Played.{IsCut, Plays, end_of, journal_output, line_output, of_sink};
 ghost use Rattle.debug_host_commands.specs.Replays.{WritesLess, WritesPart, WritesReplay};
@@ -15,7 +15,7 @@ ghost use Rattle.debug_host_commands.specs.Replays.{WritesLess, WritesPart, Writ
 use crate::act::act;
 use cdp_edge::{Sink, SinkFault, put};
 use cdp_host::Host;
-use cdp_journal::read_line;
+use cdp_journal::{is_memory, read_line};
 use cdp_text::lines::cut_line;
 use cdp_text::units::Units;
 use js_tree::script::Script;
@@ -27,8 +27,8 @@ use std::collections::VecDeque;
 pub enum ReplayEnd {
     /// Every line was applied.
     Done,
-    /// The line of this number, from 1, isn't of its form, or names a session that isn't attached; the lines before it were
-    /// applied.
+    /// The line of this number, from 1, isn't of its form, names a session that isn't attached, or follows the line
+    /// `memory`; the lines before it were applied.
     Refused { line: u64 },
     /// The output can't be written.
     WriteFault,
@@ -104,7 +104,20 @@ fn play_line<O: Sink>(
     Ok(())
 }
 
-/// Replays a journal's lines over a host before its first entry, up to the first line that is refused.
+/// How a replay ends at the line `memory`, where the first line behind it would have this number. Each line there is
+/// refused.
+fn end_behind_memory(number: u64, behind: &[u8]) -> ReplayEnd
+    ensures is { result ≡ end_of (behind_memory number (lines_of behind.now)) }
+    ensures uncut { result ≢ ReplayEnd.WriteFault }
+{
+    match cut_line(behind) {
+        None => ReplayEnd::Done,
+        Some(_) => ReplayEnd::Refused { line: number },
+    }
+}
+
+/// Replays a journal's lines over a host before its first entry, up to the line `memory` or the first line that is
+/// refused.
 fn play_lines<O: Sink>(alloc: Global, host: &mut Host, journal: &[u8], out: &mut O) -> ReplayEnd
     requires { host.old.broken ≡ false }
     ensures end { (scripts : List AnyScript) (input : List (List ℕ)) (wait : Bool) → StandsFor scripts input wait host.old []
@@ -121,6 +134,9 @@ fn play_lines<O: Sink>(alloc: Global, host: &mut Host, journal: &[u8], out: &mut
     let mut rest = journal;
     let mut number: u64 = 1;
     while let Some((line, after)) = cut_line(rest) {
+        if is_memory(line) {
+            return end_behind_memory(number + 1, after);
+        }
         match play_line(alloc, host, line, out) {
             Ok(()) => {}
             Err(LineFault::Refused) => return ReplayEnd::Refused { line: number },
@@ -133,8 +149,8 @@ fn play_lines<O: Sink>(alloc: Global, host: &mut Host, journal: &[u8], out: &mut
     ReplayEnd::Done
 }
 
-/// Replays a journal's lines over these scripts with these lines of input, which may be to wait, up to the first line that is
-/// refused.
+/// Replays a journal's lines over these scripts with these lines of input, which may be to wait, up to the line `memory`
+/// or the first line that is refused.
 fn play<O: Sink>(
     alloc: Global,
     scripts: &[Script],
@@ -163,7 +179,8 @@ fn play<O: Sink>(
 /// A journal is UTF-8, and its lines are ended by LF, which the last may lack. They are `attach`, `tell S TEXT`, `take S`,
 /// `detach S`, `run N MS` and `shut`; S is the number of an attached session, N a number of steps below 2^32, and MS a moment
 /// below 2^53, in milliseconds since the epoch. A TEXT has at most 1,048,576 bytes and is written with `%25`, `%0A` and `%0D`
-/// for `%`, LF and CR. What is written is `attached S`, `to S TEXT`, `out TEXT`, `overrun S` and `ran K STATE`.
+/// for `%`, LF and CR. What is written is `attached S`, `to S TEXT`, `out TEXT`, `overrun S` and `ran K STATE`. The last
+/// line may be `memory`, which does nothing and writes nothing; a line behind it is refused.
 pub fn replay<O: Sink>(
     alloc: Global,
     scripts: &[Script],

@@ -48,7 +48,7 @@ use std::thread::Threads;
 /// | 3 | only where the input or a script isn't UTF-8, or a script is refused by the parser | `debug_host: NAME: not UTF-8`, `debug_host: NAME:LINE:COL: unexpected token`, `debug_host: NAME: too long: N units`, `debug_host: NAME: too deep`, `debug_host: NAME: too many tokens` |
 /// | 4 | only where the shelf tells a fault at a file that the words name: one that is read, or the one in which `serve` stores its journal | `debug_host: cannot read NAME`, `debug_host: cannot store NAME` |
 /// | 5 | only where the count of `out` rose or stands at the greatest `u64`, with output left to write | `debug_host: cannot write` |
-/// | 6 | only where a line of the journal isn't of its form or names a session that isn't attached, or a line of the file of commands isn't of its form | `debug_host: line N refused` |
+/// | 6 | only where a line of the journal isn't of its form, names a session that isn't attached, or follows the line `memory`, or a line of the file of commands isn't of its form | `debug_host: line N refused` |
 /// | 7 | `serve`, `send`: only where the harbor's count rose: the port couldn't be opened or dialled, or one of its doors or the link to it failed | `debug_host: network fault` |
 /// | 8 | `run`, `serve`: only where the run ended by an uncaught throw | `Uncaught TEXT` |
 /// | 9 | `send`: only where the peer closed before every command was answered and every wait met | `debug_host: peer closed after N replies` |

@@ -18,9 +18,20 @@ pub fn journal_lines(alloc: Global, journal: &[u8], number: u64) -> Result<Strin
     let Some(line) = line_at(journal, number) else {
         return Ok(String::new(alloc));
     };
+    if follows_memory(journal, number) {
+        return format!(in alloc; "  line {number}: no line follows memory, which ends a journal\n");
+    }
     match str::from_utf8(line) {
         Ok(text) => text_lines(alloc, journal, number, text),
         Err(_) => bad_line(alloc, number, line),
+    }
+}
+
+/// Whether the line before that of this number, from 1, is `memory`.
+fn follows_memory(journal: &[u8], number: u64) -> bool {
+    match line_at(journal, number.saturating_sub(1)) {
+        Some(line) => number > 1 && line == b"memory".as_slice(),
+        None => false,
     }
 }
 
@@ -55,7 +66,7 @@ fn fault_of<'t>(journal: &[u8], number: u64, text: &'t str) -> Option<LineFault<
     };
     match word {
         "" => Some(LineFault::Space),
-        "attach" | "shut" => Some(LineFault::Alone(word)),
+        "attach" | "shut" | "memory" => Some(LineFault::Alone(word)),
         "take" | "detach" => Some(session_fault(journal, number, word, rest)),
         "tell" => Some(tell_fault(journal, number, rest)),
         "run" => run_fault(rest),

@@ -1,7 +1,7 @@
 use Rattle.std.proofs.Common.{◌∙◌, refl, sym, ap, inr, Err, arith}
 use Rattle.cdp_text.specs.Lines.{lines_of}
 use Rattle.debug_host_commands.specs.Played.{end_of}
-use Rattle.debug_host_commands.proofs.PlayLemmas.{behind-done, behind-done-whole, behind-first, behind-less, behind-next, behind-part, behind-refused, behind-refused-whole, behind-start}
+use Rattle.debug_host_commands.proofs.PlayLemmas.{behind-done, behind-done-whole, behind-first, behind-less, behind-memory, behind-memory-whole, behind-next, behind-part, behind-refused, behind-refused-whole, behind-start}
 use Rattle.debug_host_commands.proofs.journal.play_lines.Goals as goal
 
 pub loop-line-init : goal.loop-line-init
@@ -14,13 +14,40 @@ loop-line-init g c = record {
   quiet = refl;
 }
 
+-- ---- the line `memory`
+
+pub returns-then-is_memory-clause-end : goal.returns-then-is_memory-clause-end
+returns-then-is_memory-clause-end g c = λ scripts input wait stood.
+    inr (c.end_behind_memory.ensures.is
+    ∙ sym (ap end_of
+    (behind-memory scripts input wait _ _ c.loop-line.number _ _ _ c.in-Some.line.now
+    (lines_of c.in-Some.after.now) c.in-Some.ensures.lines (sym c.is_memory.ensures ∙ c.if-is_memory.true)
+    (c.loop-line.invariant.behind scripts input wait stood))))
+
+pub returns-then-is_memory-clause-whole : goal.returns-then-is_memory-clause-whole
+returns-then-is_memory-clause-whole g c = λ scripts input wait stood.
+    inr (behind-memory-whole scripts input wait _ _ c.loop-line.number _ _ _ c.in-Some.line.now
+    (lines_of c.in-Some.after.now) c.in-Some.ensures.lines (sym c.is_memory.ensures ∙ c.if-is_memory.true)
+    (c.loop-line.invariant.behind scripts input wait stood))
+
+pub returns-then-is_memory-clause-part : goal.returns-then-is_memory-clause-part
+returns-then-is_memory-clause-part g c = λ scripts input wait stood.
+    behind-first scripts input wait (lines_of c.args.journal.now) (lines_of c.loop-line.rest.now)
+    c.loop-line.number c.loop-line.host _ _ (c.loop-line.invariant.behind scripts input wait stood)
+
+pub returns-then-is_memory-clause-less : goal.returns-then-is_memory-clause-less
+returns-then-is_memory-clause-less g c is = absurd (c.end_behind_memory.ensures.uncut is)
+
+pub returns-then-is_memory-clause-failed : goal.returns-then-is_memory-clause-failed
+returns-then-is_memory-clause-failed g c is = absurd (c.end_behind_memory.ensures.uncut is)
+
 -- ---- a line that is refused
 
 pub returns-in-Err-Refused-clause-end : goal.returns-in-Err-Refused-clause-end
 returns-in-Err-Refused-clause-end g c = λ scripts input wait stood.
     inr (sym (ap end_of
     (behind-refused scripts input wait _ _ c.loop-line.number _ _ _ c.in-Some.line.now
-    (lines_of c.in-Some.after.now) c.in-Some.ensures.lines
+    (lines_of c.in-Some.after.now) c.in-Some.ensures.lines (sym c.is_memory.ensures ∙ c.if-is_memory.false)
     (c.loop-line.invariant.behind scripts input wait stood)
     (c.in-Err-Refused.ensures.refused (ap (λ fault. Err fault) c.in-Err-Refused.field-0-is)).1)))
 
@@ -66,7 +93,8 @@ loop-line-preserved g c =
       works = c.in-Ok.ensures.works;
       behind = λ scripts input wait stood.
           behind-next scripts input wait _ _ c.loop-line.number _ _ _ _ _ c.in-Some.line.now
-          (lines_of c.in-Some.after.now) c.in-Some.ensures.lines (before.behind scripts input wait stood)
+          (lines_of c.in-Some.after.now) c.in-Some.ensures.lines (sym c.is_memory.ensures ∙ c.if-is_memory.false)
+          (before.behind scripts input wait stood)
           c.in-Ok.ensures.ok;
       quiet = c.in-Ok.ensures.quiet ∙ before.quiet;
     }
