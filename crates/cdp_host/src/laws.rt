@@ -1,9 +1,8 @@
 //! The laws of histories. Each function does nothing: its contract is the law, for every history of any scripts.
 
-ghost use Rattle.std.specs.Prelude.{◌≡◌, ℕ, List, All, Bool, true, false};
-ghost use Rattle.cdp_text.specs.Lines.{lines_of};
-ghost use Rattle.cdp_host_record.specs.Records.{recorded_from, some_list};
-ghost use Rattle.cdp_host_record.specs.Replays.{IsTellable, PlaysAs};
+ghost use Rattle.std.specs.Prelude.{◌≡◌, ℕ, List, Bool, true, false};
+ghost use Rattle.cdp_host_record.specs.Records.{has_ended, recorded_from};
+ghost use Rattle.cdp_host_record.specs.Replays.{PlaysFirst};
 ghost use Rattle.locations_arrivals.specs.Arrivals.{ScriptsAreNumbered};
 ghost use Rattle.cdp_host_isolation.specs.Histories.{Entry, FitsEntry, Ran, steps_made};
 ghost use Rattle.cdp_host_isolation.specs.Meanings.{is_first, is_paused, longest, after_steps, is_enabled_seat};
@@ -109,13 +108,13 @@ pub fn an_id_of_another_session_is_unknown()
     ensures frames { (s : Situation) (x : Session) (r stop depth : ℕ) → IsOfAnother r x → RefusesFrame s x (frame_id r stop depth) }
 {}
 
-/// The record of a history that lists nobody, when it is played over the same scripts and input, does what the history did: no
-/// line is refused, the program and its sessions come to the same, and each session is handed the same texts, in order.
+/// The record of any history, when it is played over the same scripts and input, does what the history did: no line is
+/// refused, the program and its sessions come to the same, and each session is handed the same texts, in order. Where an
+/// entry ends the record, so that its last line is `memory`, it does what a first part of the history did.
 pub fn a_record_plays_again()
     ensures { (scripts : List Script) (input : List (List ℕ)) (wait : Bool) (history : List Entry)
         → IsHistory scripts input wait history
-        → All IsTellable history
-        → some_list history ≡ false
-        → PlaysAs (protocol scripts) (begin scripts input wait)
-        (lines_of (recorded_from (protocol scripts) (begin scripts input wait) history)) history }
+        → PlaysFirst (protocol scripts) (begin scripts input wait) history
+        (has_ended (protocol scripts) (begin scripts input wait) history)
+        (recorded_from (protocol scripts) (begin scripts input wait) history) }
 {}

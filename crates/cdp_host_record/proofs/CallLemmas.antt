@@ -14,7 +14,7 @@ use Rattle.cdp_host_turns.specs.Entries.{lost_for_memory, told_entry}
 use Rattle.cdp_host_turns.specs.declared.answers.Told.{Told}
 use Rattle.cdp_host_turns.specs.declared.answers.Told.TheVariants.{Kept, Overrun, Memory}
 use Rattle.cdp_host_record.specs.Records.{is_some_there, line_if, lines_at, lists}
-use Rattle.cdp_host_record.specs.Recordings.{AddsLines, AddsRun, Held, RecordsIf, closed_if, told_lines}
+use Rattle.cdp_host_record.specs.Recordings.{AddsLines, AddsRun, Held, RecordsIf, ended_if, told_lines}
 use Rattle.cdp_host_record.proofs.GrowthLemmas.{adds-lines, adds-run}
 
 -- ---- who was lost
@@ -96,7 +96,7 @@ detaches d h k s is_there old new is records added =
 pub adds-last : (losses : List SessionLost) (b : Bool) (lines : List Line) (old new : Option Held)
     → b ≡ list_any (λ (one : SessionLost). is_for_memory one.loss) losses
     → b ≡ true
-    → new ≡ closed_if old
+    → new ≡ ended_if old
     → AddsRun (is_some_there (lost_for_memory losses)) lines old new
 adds-last losses b lines old new is some last =
     subst (λ (b : Bool). AddsRun b lines old new) (sym some ∙ is ∙ listed losses) last

@@ -1,15 +1,18 @@
--- A record that is held, when it is played, does what a first part of its history did.
-use Rattle.std.proofs.Common.{◌≡◌, ℕ, List, [], ◌∷◌, ◌++◌, All, Bool, true, false, fold, refl, ap, sym, subst, ◌∙◌, append-nil}
-use Rattle.std.proofs.lemmas.Bool.{false≢true}
-use Rattle.std.proofs.lemmas.List.Elements.{All-cons, All-head, All-nil, All-tail}
+-- A record, when it is played, does what a first part of its history did.
+use Rattle.std.proofs.Common.{◌≡◌, ℕ, List, [], ◌∷◌, ◌++◌, Bool, true, false, ◌||◌, not, if◌then◌else◌, refl, ap, sym, subst, ◌∙◌}
+use Rattle.std.proofs.lemmas.Bool.{false≢true, or_from}
 use Rattle.cdp_text.specs.Lines.{lines_of}
-use Rattle.cdp_host_isolation.specs.Histories.{Entry, FitsAll, apply, handed_of}
+use Rattle.cdp_host_isolation.specs.Histories.{Entry, FitsAll, apply}
 use Rattle.cdp_host_isolation.specs.Meanings.{Meaning, begin}
 use Rattle.cdp_host_isolation.specs.Protocols.{Protocol}
 use Rattle.cdp_host_isolation.specs.Stops.{KeepsEnabled}
-use Rattle.cdp_host_record.specs.Recordings.{Holds}
-use Rattle.cdp_host_record.specs.Replays.{IsTellable, KeepsUntouched, PlaysFirst, but_told, is_played, played}
-use Rattle.cdp_host_record.proofs.ReplayLemmas.{play-again, play-cut}
+use Rattle.cdp_host_record.specs.Records.{bytes_of, ends_record, has_ended, lines_at, lines_from, memory_line, recorded_from}
+use Rattle.cdp_host_record.specs.Recordings.{Holds, is_going}
+use Rattle.cdp_host_record.specs.Replays.{KeepsUntouched, PlaysAs, PlaysFirst}
+use Rattle.cdp_host_record.specs.declared.state.RecordState.{RecordState}
+use Rattle.cdp_host_record.specs.declared.state.RecordState.TheVariants.{Going, Ended, Lost}
+use Rattle.cdp_host_record.proofs.GrowthLemmas.{recorded-plain}
+use Rattle.cdp_host_record.proofs.ReplayLemmas.{play-again}
 
 -- ---- the first entries of a history
 
@@ -19,49 +22,95 @@ fits-first : {C T Q X : Type 0} → (P : Protocol C T Q X) (m : Meaning C Q X) (
 fits-first P m [] rest fits = tt
 fits-first P m (entry ∷ first) rest fits = (fits.0, fits-first P (apply P m entry) first rest fits.1)
 
-tellable-first : (first rest : List Entry) → All IsTellable (first ++ rest) → All IsTellable first
-tellable-first [] rest all = All-nil IsTellable
-tellable-first (entry ∷ first) rest all =
-    All-cons IsTellable entry first (All-head IsTellable entry (first ++ rest) all)
-    (tellable-first first rest (All-tail IsTellable entry (first ++ rest) all))
+-- A history up to the first entry that ends the record: it has the same lines, and is all of it where there is none.
+record Splits {C T Q X : Type 0} (P : Protocol C T Q X) (m : Meaning C Q X) (history : List Entry) : Type 0 where
+  first : List Entry
+  rest : List Entry
+  whole : history ≡ first ++ rest
+  none : has_ended P m first ≡ false
+  lines : lines_from P m history ≡ lines_from P m first
+  kept : has_ended P m history ≡ false → rest ≡ []
 
--- ---- what is held
+split-at : {C T Q X : Type 0} → (P : Protocol C T Q X) (m : Meaning C Q X) (entry : Entry) (history : List Entry)
+    → Splits P (apply P m entry) history
+    → (b : Bool)
+    → ends_record P m entry ≡ b
+    → Splits P m (entry ∷ history)
+split-at P m entry history s true is = record {
+  first = [];
+  rest = entry ∷ history;
+  whole = refl;
+  none = refl;
+  lines = ap (λ (b : Bool). if b then [] else lines_at P m entry ++ lines_from P (apply P m entry) history) is;
+  kept = λ unended. absurd
+      (false≢true (sym unended ∙ ap (λ (b : Bool). b || has_ended P (apply P m entry) history) is));
+}
+split-at P m entry history s false is = record {
+  first = entry ∷ s.first;
+  rest = s.rest;
+  whole = ap (λ entries. entry ∷ entries) s.whole;
+  none = or_from (ends_record P m entry) (has_ended P (apply P m entry) s.first) is s.none;
+  lines =
+      ap (λ later. if ends_record P m entry then [] else lines_at P m entry ++ later) s.lines;
+  kept = λ unended. s.kept (sym (ap (λ (b : Bool). b || has_ended P (apply P m entry) history) is) ∙ unended);
+}
 
--- a record that isn't lost, and one that is
+splits : {C T Q X : Type 0} → (P : Protocol C T Q X) (m : Meaning C Q X) (history : List Entry) → Splits P m history
+splits P m [] = record { first = []; rest = []; whole = refl; none = refl; lines = refl; kept = λ unended. refl }
+splits P m (entry ∷ history) =
+    split-at P m entry history (splits P (apply P m entry) history) (ends_record P m entry) refl
+
+-- ---- a record
+
 pub plays-first : {C T Q X : Type 0} → (P : Protocol C T Q X) (c : C) (wait : Bool) (history : List Entry)
-    (lost : Bool) (bytes : List ℕ)
     → KeepsEnabled P
     → KeepsUntouched P
     → FitsAll P (begin c wait) history
-    → All IsTellable history
-    → Holds P (begin c wait) history lost bytes
-    → PlaysFirst P (begin c wait) history lost bytes
-plays-first P c wait history false bytes keeps idle fits tellable holds =
+    → PlaysFirst P (begin c wait) history (has_ended P (begin c wait) history)
+    (recorded_from P (begin c wait) history)
+plays-first P c wait history keeps idle fits =
     let m = begin c wait in
-    let plays = play-again P c wait history keeps idle fits tellable holds.1 in
-    let same = ap (λ bytes. played P m (lines_of bytes)) holds.0 in
+    let s = splits P m history in
     record {
-      first = history;
-      rest = [];
-      whole = sym (append-nil history);
-      kept = λ is. refl;
-      all = ap (λ bytes. is_played P m (lines_of bytes)) holds.0 ∙ plays.all;
-      means = ap (λ entries. but_told (fold (apply P) m entries)) same ∙ plays.means;
-      handed = λ s. ap (λ entries. handed_of P s m entries) same ∙ plays.handed s;
+      first = s.first;
+      rest = s.rest;
+      whole = s.whole;
+      kept = s.kept;
+      plays = subst
+          (λ lines. PlaysAs P m (lines_of (bytes_of lines ++ (if has_ended P m history then memory_line else []))) s.first)
+          (sym s.lines)
+          (play-again P c wait s.first (has_ended P m history) keeps idle
+          (fits-first P m s.first s.rest (subst (FitsAll P m) s.whole fits)) s.none);
     }
-plays-first P c wait history true bytes keeps idle fits tellable holds =
+
+-- and what a host holds as one
+pub plays-held : {C T Q X : Type 0} → (P : Protocol C T Q X) (c : C) (wait : Bool) (history : List Entry)
+    (state : RecordState) (bytes : List ℕ)
+    → KeepsEnabled P
+    → KeepsUntouched P
+    → FitsAll P (begin c wait) history
+    → Holds P (begin c wait) history state bytes
+    → PlaysFirst P (begin c wait) history (not (is_going state)) bytes
+plays-held P c wait history Going bytes keeps idle fits holds =
+    let m = begin c wait in
+    subst (PlaysFirst P m history false) (sym holds.0)
+    (subst (λ (b : Bool). PlaysFirst P m history b (recorded_from P m history)) holds.1
+    (plays-first P c wait history keeps idle fits))
+plays-held P c wait history Ended bytes keeps idle fits holds =
+    let m = begin c wait in
+    subst (PlaysFirst P m history true) (sym holds.0)
+    (subst (λ (b : Bool). PlaysFirst P m history b (recorded_from P m history)) holds.1
+    (plays-first P c wait history keeps idle fits))
+plays-held P c wait history Lost bytes keeps idle fits holds =
     let m = begin c wait in
     let more = holds.entry ∷ holds.rest in
-    let plays = play-cut P c wait holds.first keeps idle
-    (fits-first P m holds.first more (subst (FitsAll P m) holds.whole fits))
-    (tellable-first holds.first more (subst (All IsTellable) holds.whole tellable)) holds.none_listed in
-    let same = ap (λ bytes. played P m (lines_of bytes)) holds.is in
     record {
       first = holds.first;
       rest = more;
       whole = holds.whole;
       kept = λ is. absurd (false≢true (sym is));
-      all = ap (λ bytes. is_played P m (lines_of bytes)) holds.is ∙ plays.all;
-      means = ap (λ entries. but_told (fold (apply P) m entries)) same ∙ plays.means;
-      handed = λ s. ap (λ entries. handed_of P s m entries) same ∙ plays.handed s;
+      plays = subst (λ held. PlaysAs P m (lines_of held) holds.first)
+          (sym (holds.is ∙ ap (λ before. before ++ memory_line) (recorded-plain P m holds.first holds.none_ended)))
+          (play-again P c wait holds.first true keeps idle
+          (fits-first P m holds.first more (subst (FitsAll P m) holds.whole fits)) holds.none_ended);
     }

@@ -7,7 +7,7 @@ use Rattle.cdp_text.specs.Lines.{lines_of}
 use Rattle.cdp_journal.specs.Lines as journal
 use Rattle.cdp_journal.specs.Lines.{Line, is_memory, line_of, line_text, memory_text}
 use Rattle.cdp_journal.proofs.LineLemmas.{line-read}
-use Rattle.cdp_journal.proofs.WrittenLemmas.{IsWritten, written-other}
+use Rattle.cdp_journal.proofs.WrittenLemmas.{IsWritten, written-cut, written-other}
 use Rattle.cdp_host_isolation.specs.Histories.{Entry, Attach, Tell, Take, Detach, Ran, Shut, FitsAll, FitsEntry, apply, detach, handed_at, handed_of, take, tell, waiting, with_seat}
 use Rattle.cdp_host_isolation.specs.Meanings.{Meaning, after_steps, begin, is_enabled_seat, is_paused, is_ready, longest, resumed_seat, settle, step, with_seats}
 use Rattle.cdp_host_isolation.specs.Protocols.{Protocol}
@@ -18,10 +18,9 @@ use Rattle.cdp_host_isolation.specs.declared.seat.Seat.TheVariants.{Attached, Lo
 use Rattle.cdp_host_isolation.proofs.FallenLemmas.{without-none}
 use Rattle.cdp_host_isolation.proofs.SeatLemmas.{each-at}
 use Rattle.cdp_host_isolation.proofs.StopLemmas.{paused-well, paused-well-from}
-use Rattle.cdp_host_record.specs.Records.{is_some_there, line_if, lines_at, lines_from, lists, memory_line, recorded_from, some_list}
-use Rattle.cdp_host_record.specs.Replays.{IsTellable, KeepsUntouched, PlaysAs, but_told, entry_at, if_attached, is_played, played, untold}
-use Rattle.cdp_host_record.proofs.GrowthLemmas.{recorded-plain}
-use Rattle.cdp_host_record.proofs.ReadLemmas.{cut, cut-memory, from-written}
+use Rattle.cdp_host_record.specs.Records.{are_tellable, bytes_of, ends_record, has_ended, is_some_there, line_if, lines_at, lines_from, lists, memory_line}
+use Rattle.cdp_host_record.specs.Replays.{KeepsUntouched, PlaysAs, but_told, entry_at, if_attached, is_played, played, untold}
+use Rattle.cdp_host_record.proofs.ReadLemmas.{cut-memory, from-written}
 use Rattle.cdp_host_record.proofs.ToldLemmas.{put-untold, same-apply, same-attached, same-handed, same-longest}
 
 -- ---- entries without lines
@@ -299,17 +298,18 @@ follows-on : {C T Q X : Type 0} → (P : Protocol C T Q X) → KeepsEnabled P �
     (history : List Entry)
     → IsPausedWell P m
     → FitsAll P m history
-    → some_list history ≡ false
+    → has_ended P m history ≡ false
     → but_told k ≡ but_told m
     → Follows P k m (lines_from P m history) history
 follows-on P keeps idle k m [] well fits none same = record { all = refl; means = same; handed = λ s. refl }
 follows-on P keeps idle k m (entry ∷ history) well fits none same =
-    let parts = or_parts (lists entry) (some_list history) none in
     let next = apply P m entry in
+    let parts = or_parts (ends_record P m entry) (has_ended P next history) none in
+    let quiet = or_parts (lists entry) (not (are_tellable (lines_at P m entry))) parts.0 in
     let rest = lines_from P next history in
     let well_next = paused-well-from P m (entry ∷ []) keeps well in
-    let whole = otherwise (lists entry) [] (lines_at P m entry ++ rest) parts.0 in
-    elim (one P k m entry idle well fits.0 parts.0 same) [
+    let whole = otherwise (ends_record P m entry) [] (lines_at P m entry ++ rest) parts.0 in
+    elim (one P k m entry idle well fits.0 quiet.0 same) [
       | inl told ↦
           subst (λ lines. Follows P k m lines (entry ∷ history))
           (sym (whole ∙ ap (λ now. now ++ rest) told.0))
@@ -402,33 +402,25 @@ plays-as P m lines tail history all last follows =
       handed = λ s. ap (λ entries. handed_of P s m entries) same ∙ follows.handed s;
     }
 
--- a record that is played
-pub play-again : {C T Q X : Type 0} → (P : Protocol C T Q X) (c : C) (wait : Bool) (history : List Entry)
+-- the lines of a history that doesn't end its record are played, with the line `memory` behind them or without it
+pub play-again : {C T Q X : Type 0} → (P : Protocol C T Q X) (c : C) (wait : Bool) (history : List Entry) (b : Bool)
     → KeepsEnabled P
     → KeepsUntouched P
     → FitsAll P (begin c wait) history
-    → All IsTellable history
-    → some_list history ≡ false
-    → PlaysAs P (begin c wait) (lines_of (recorded_from P (begin c wait) history)) history
-play-again P c wait history keeps idle fits tellable none =
-    let m = begin c wait in
-    let lines = lines_from P m history in
-    subst (λ texts. PlaysAs P m texts history) (append-nil (map line_text lines) ∙ sym (cut P m history none))
-    (plays-as P m lines [] history (from-written P m history tellable) (no-tail P)
-    (follows-on P keeps idle m m history (paused-well P c wait [] keeps) fits none refl))
-
--- and one that the line `memory` ends
-pub play-cut : {C T Q X : Type 0} → (P : Protocol C T Q X) (c : C) (wait : Bool) (history : List Entry)
-    → KeepsEnabled P
-    → KeepsUntouched P
-    → FitsAll P (begin c wait) history
-    → All IsTellable history
-    → some_list history ≡ false
-    → PlaysAs P (begin c wait) (lines_of (recorded_from P (begin c wait) history ++ memory_line)) history
-play-cut P c wait history keeps idle fits tellable none =
+    → has_ended P (begin c wait) history ≡ false
+    → PlaysAs P (begin c wait)
+    (lines_of (bytes_of (lines_from P (begin c wait) history) ++ (if b then memory_line else []))) history
+play-again P c wait history false keeps idle fits none =
     let m = begin c wait in
     let lines = lines_from P m history in
     subst (λ texts. PlaysAs P m texts history)
-    (sym (ap (λ bytes. lines_of (bytes ++ memory_line)) (recorded-plain P m history none) ∙ cut-memory lines))
-    (plays-as P m lines (memory_text ∷ []) history (from-written P m history tellable) (memory-tail P)
+    (append-nil (map line_text lines)
+    ∙ sym (ap lines_of (append-nil (bytes_of lines)) ∙ written-cut lines))
+    (plays-as P m lines [] history (from-written P m history) (no-tail P)
+    (follows-on P keeps idle m m history (paused-well P c wait [] keeps) fits none refl))
+play-again P c wait history true keeps idle fits none =
+    let m = begin c wait in
+    let lines = lines_from P m history in
+    subst (λ texts. PlaysAs P m texts history) (sym (cut-memory lines))
+    (plays-as P m lines (memory_text ∷ []) history (from-written P m history) (memory-tail P)
     (follows-on P keeps idle m m history (paused-well P c wait [] keeps) fits none refl))

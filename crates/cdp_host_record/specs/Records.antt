@@ -1,8 +1,8 @@
 -- The record of a history: the journal that tells it.
-use Rattle.std.specs.Prelude.{ℕ, List, [], ◌∷◌, ◌++◌, map, Bool, true, false, ◌==◌, ◌||◌, not, if◌then◌else◌}
+use Rattle.std.specs.Prelude.{ℕ, List, [], ◌∷◌, ◌++◌, map, Bool, true, false, ◌==◌, ◌&&◌, ◌||◌, not, if◌then◌else◌}
 use Rattle.cdp_text.specs.Lines.{ended}
 use Rattle.cdp_journal.specs.Lines as journal
-use Rattle.cdp_journal.specs.Lines.{Line, line_text, memory_text}
+use Rattle.cdp_journal.specs.Lines.{Line, is_tellable, line_text, memory_text}
 use Rattle.cdp_host_isolation.specs.Histories.{Entry, Attach, Tell, Take, Detach, Ran, Shut, apply, waiting}
 use Rattle.cdp_host_isolation.specs.Makers.{entries_of}
 use Rattle.cdp_host_isolation.specs.Meanings.{Meaning, begin}
@@ -41,18 +41,28 @@ lists (Detach s) = false
 lists (Ran n moment gone) = is_some_there gone
 lists Shut = false
 
+-- a journal can tell each of these lines
+abbrev pub are_tellable : List Line → Bool
+are_tellable [] = true
+are_tellable (line ∷ lines) = is_tellable line && are_tellable lines
+
+-- it ends the record of a host that means this: it is such a run, or has a line that no journal can tell, since its text
+-- is too long or a number too great
+abbrev pub ends_record : {C T Q X : Type 0} → Protocol C T Q X → Meaning C Q X → Entry → Bool
+ends_record P m entry = lists entry || not (are_tellable (lines_at P m entry))
+
 -- ---- entries one after another
 
--- one of them is such a run
-abbrev pub some_list : List Entry → Bool
-some_list [] = false
-some_list (entry ∷ history) = lists entry || some_list history
+-- one of them ends the record
+abbrev pub has_ended : {C T Q X : Type 0} → Protocol C T Q X → Meaning C Q X → List Entry → Bool
+has_ended P m [] = false
+has_ended P m (entry ∷ history) = ends_record P m entry || has_ended P (apply P m entry) history
 
--- the lines of a history, of a host that means this before it, up to the first run that lists somebody
+-- the lines of a history, of a host that means this before it, up to the first entry that ends the record
 abbrev pub lines_from : {C T Q X : Type 0} → Protocol C T Q X → Meaning C Q X → List Entry → List Line
 lines_from P m [] = []
 lines_from P m (entry ∷ history) =
-    if lists entry then [] else lines_at P m entry ++ lines_from P (apply P m entry) history
+    if ends_record P m entry then [] else lines_at P m entry ++ lines_from P (apply P m entry) history
 
 -- the bytes of lines, each ended by LF
 abbrev pub bytes_of : List Line → List ℕ
@@ -63,9 +73,9 @@ abbrev pub memory_line : List ℕ
 memory_line = ended (memory_text ∷ [])
 
 -- the record of a history, of a host that means this before it: the bytes of its lines, and the last line in place of
--- the first run that lists somebody
+-- the first entry that ends it
 abbrev pub recorded_from : {C T Q X : Type 0} → Protocol C T Q X → Meaning C Q X → List Entry → List ℕ
-recorded_from P m history = bytes_of (lines_from P m history) ++ (if some_list history then memory_line else [])
+recorded_from P m history = bytes_of (lines_from P m history) ++ (if has_ended P m history then memory_line else [])
 
 -- the record of a history with makers
 abbrev pub recorded : Debugging → List (ℕ × Entry) → List ℕ

@@ -1,10 +1,9 @@
 -- What the journal that a record is does to a host, and that it does what the history did.
-use Rattle.std.specs.Prelude.{◌≡◌, ◌<◌, ◌≤◌, ◌^◌, ℕ, List, [], ◌∷◌, ◌++◌, length, Bool, true, false, not, fold, if◌then◌else◌, Option, Some, None}
+use Rattle.std.specs.Prelude.{◌≡◌, ℕ, List, [], ◌∷◌, ◌++◌, Bool, true, false, not, fold, if◌then◌else◌, Option, Some, None}
 use Rattle.std.specs.Option.{option_and_then, option_map_or}
-use Rattle.std.specs.Str.{is_utf8}
 use Rattle.cdp_text.specs.Lines.{lines_of}
 use Rattle.cdp_journal.specs.Lines as journal
-use Rattle.cdp_journal.specs.Lines.{Line, is_memory, line_of, most_told}
+use Rattle.cdp_journal.specs.Lines.{Line, is_memory, line_of}
 use Rattle.cdp_host_isolation.specs.Histories.{Entry, Attach, Tell, Take, Detach, Ran, Shut, apply, handed_of}
 use Rattle.cdp_host_isolation.specs.Meanings.{Meaning, longest, with_seats}
 use Rattle.cdp_host_isolation.specs.Protocols.{Protocol}
@@ -65,29 +64,16 @@ pub record PlaysAs {C T Q X : Type 0} (P : Protocol C T Q X) (m : Meaning C Q X)
   pub means : but_told (fold (apply P) m (played P m lines)) ≡ but_told (fold (apply P) m history)
   pub handed : (s : ℕ) → handed_of P s m (played P m lines) ≡ handed_of P s m history
 
--- A record that is held, when it is played, does what a first part of a history did; unless the record is lost, what all
--- of it did. No line of it is refused: the line `memory` ends it, where it is lost.
-pub record PlaysFirst {C T Q X : Type 0} (P : Protocol C T Q X) (m : Meaning C Q X) (history : List Entry) (lost : Bool)
-    (bytes : List ℕ) : Type 0 where
+-- A journal that is played does what a first part of a history did; unless it is cut, what all of it did. No line of it
+-- is refused.
+pub record PlaysFirst {C T Q X : Type 0} (P : Protocol C T Q X) (m : Meaning C Q X) (history : List Entry)
+    (is_cut : Bool) (bytes : List ℕ) : Type 0 where
   pub first : List Entry
   pub rest : List Entry
   pub whole : history ≡ first ++ rest
-  pub kept : lost ≡ false → rest ≡ []
-  pub all : is_played P m (lines_of bytes) ≡ true
-  pub means : but_told (fold (apply P) m (played P m (lines_of bytes))) ≡ but_told (fold (apply P) m first)
-  pub handed : (s : ℕ) → handed_of P s m (played P m (lines_of bytes)) ≡ handed_of P s m first
-
--- ---- what a journal can tell
+  pub kept : is_cut ≡ false → rest ≡ []
+  pub plays : PlaysAs P m (lines_of bytes) first
 
 -- taking no texts leaves a session as it was
 abbrev pub KeepsUntouched : {C T Q X : Type 0} → Protocol C T Q X → Type 0
 KeepsUntouched {C} {T} {Q} {X} P = (x : X) → P.outbox x ≡ [] → P.emptied x ≡ x
-
--- a journal's line holds the numbers of an entry and its text, which is UTF-8
-abbrev pub IsTellable : Entry → Type 0
-IsTellable Attach = Unit {0}
-IsTellable (Tell s text) = (s < 2 ^ 64) × (length text ≤ most_told) × (is_utf8 text ≡ true)
-IsTellable (Take s) = s < 2 ^ 64
-IsTellable (Detach s) = s < 2 ^ 64
-IsTellable (Ran n moment gone) = (n < 2 ^ 32) × (moment < 2 ^ 53)
-IsTellable Shut = Unit {0}

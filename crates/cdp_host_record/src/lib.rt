@@ -3,15 +3,18 @@
 //! Its words in contracts:
 //!
 //! - *recorded*: a history as the bytes of a journal: a line for each entry that another host could tell apart
-//! - *lost*: a record that tells no more. It ends with the line `memory`
-//! - *due*: an entry that asks for a line
+//! - *ends the record*: an entry that no line tells: a run that loses a session for want of memory, or one with a text or
+//!   a number that is too great for a line. The record is the line `memory` longer, and tells no more
+//! - *lost*: a record that found no memory for a line. It ends with the line `memory` too
 #![tactic(auto)]
 
 pub mod laws;
 mod record;
 mod recordable;
 mod recorded;
+mod state;
 
 pub use record::Record;
 pub use recordable::Recordable;
 pub use recorded::{Recorded, journal_of};
+pub use state::RecordState;

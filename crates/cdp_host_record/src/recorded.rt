@@ -1,14 +1,16 @@
 //! A host and the record of its history.
 
-ghost use Rattle.std.specs.Prelude.{◌≡◌, ◌∷◌, [], ◌||◌, not, ◌==◌, ℕ, List, false, IfSome};
+ghost use Rattle.std.specs.Prelude.{◌≡◌, ◌∷◌, [], ◌||◌, not, ◌==◌, ℕ, List, false, true, IfSome};
 ghost use Rattle.std.specs.List.{list_any};
 ghost use Rattle.std.specs.Option.{option_map};
 ghost use Rattle.cdp_journal.specs.Lines.{Attach, Tell, Take, Detach, Run, Shut};
 ghost use Rattle.cdp_host_isolation.specs.Histories.{Entry as AnyEntry};
+ghost use Rattle.cdp_host_isolation.specs.Makers.{entries_of};
+ghost use Rattle.cdp_host_isolation.specs.Meanings.{begin};
 ghost use Rattle.cdp_host_seats.specs.Losses.{is_for_memory};
 ghost use Rattle.cdp_host_turns.specs.Entries.{lost_for_memory};
 ghost use Rattle.cdp_host_record.specs.Records.{is_some_there, line_if, recorded};
-ghost use Rattle.cdp_host_record.specs.Recordings.{AddsLines, AddsRun, RecordsIf, closed_if, told_lines};
+ghost use Rattle.cdp_host_record.specs.Recordings.{AddsLines, AddsRun, IsCutShort, RecordsIf, ended_if, is_lost, told_lines};
 
 use crate::record::Record;
 use crate::recordable::Recordable;
@@ -51,12 +53,16 @@ impl<H> Recorded<H> {
     }
 }
 
-/// The record, if one is kept. While it isn't lost, it is that of the history for which the host stands.
+/// The record, if one is kept. Unless it is lost, it is that of the history for which the host stands; else it is cut
+/// short at a line for which there was no memory.
 pub fn journal_of<H: Recordable<B>, B>(host: &Recorded<H>) -> Option<&Record>
     ensures kept { option_map (λ kept. kept.now) result ≡ host.now.journal }
     ensures whole { IfSome result (λ kept. (h : List (ℕ × AnyEntry)) → RecordsIf H.debugs h host.now.journal
-        → kept.now.is_lost ≡ false
+        → is_lost kept.now.state ≡ false
         → kept.now.bytes ≡ recorded H.debugs h) }
+    ensures cut { IfSome result (λ kept. (h : List (ℕ × AnyEntry)) → RecordsIf H.debugs h host.now.journal
+        → is_lost kept.now.state ≡ true
+        → IsCutShort H.debugs.protocol (begin H.debugs.program H.debugs.wait) (entries_of h) kept.now.bytes) }
 {
     host.journal.as_ref()
 }
@@ -151,12 +157,12 @@ fn add_run(journal: &mut Option<Record>, steps: u64, moment: u64, is_told: bool)
     }
 }
 
-/// A session was lost for want of memory.
+/// A session was lost for want of memory, which no line tells.
 fn add_memory(journal: &mut Option<Record>)
-    ensures { journal.new ≡ closed_if journal.old }
+    ensures { journal.new ≡ ended_if journal.old }
 {
     if let Some(kept) = journal {
-        kept.close();
+        kept.end();
     }
 }
 

@@ -4,6 +4,7 @@ pub mod OneLineLemmas
 pub mod LineLemmas
 pub mod DrillLemmas
 pub mod WrittenLemmas
+pub mod TellableLemmas
 pub mod DrillLines
 pub mod BytePartLemmas
 pub mod TallyLemmas

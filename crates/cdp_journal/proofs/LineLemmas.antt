@@ -14,7 +14,7 @@ use Rattle.cdp_text.proofs.PartsLemmas.{behind-some, halves-some, halves-decimal
 use Rattle.cdp_journal.specs.declared.line.Line.{Line as Held}
 use Rattle.cdp_journal.specs.Escapes.{escaped, unescaped}
 use Rattle.cdp_journal.specs.LineRead.{line_held}
-use Rattle.cdp_journal.specs.Lines.{Line, Attach, Tell, Take, Detach, Run, Shut, line_text, IsInForm, IsLine, most_told, tell_text, tell_at, tell_in, run_at, run_in, tell_rest, take_rest, detach_rest, run_rest, or_else, line_of, line_of_text, line_of_words}
+use Rattle.cdp_journal.specs.Lines.{Line, Attach, Tell, Take, Detach, Run, Shut, line_text, IsInForm, IsLine, is_tellable, most_told, tell_text, tell_at, tell_in, run_at, run_in, tell_rest, take_rest, detach_rest, run_rest, or_else, line_of, line_of_text, line_of_words}
 use Rattle.cdp_journal.proofs.UnescapeLemmas.{read-back, written-is}
 
 pub line_of-utf8 : (bytes : List ℕ) → IsUtf8 bytes → line_of bytes ≡ line_of_text bytes
@@ -240,3 +240,18 @@ pub held-one : (bytes : List ℕ) (r : Option Held)
 held-one bytes r read line is = read ∙ line-read bytes line is
 
 pub ruleset utf8 = (line_of-utf8, line_of-other, held-is, held-one)
+
+-- ---- what a journal can tell
+
+and-true : (b : Bool) → (b && true) ≡ b
+and-true true = refl
+and-true false = refl
+
+-- of a text only its length is looked at
+pub told-is : (text : List ℕ) → IsUtf8 text → (s : ℕ) → s < 2 ^ 64
+    → nat_le (length text) most_told ≡ is_tellable (Tell s text)
+unfolding is_tellable
+told-is text utf8 s small =
+    sym (and-true (nat_le (length text) most_told))
+    ∙ ap (λ (b : Bool). nat_le (length text) most_told && b) (sym (is_utf8-from_IsUtf8 text utf8))
+    ∙ ap (λ (b : Bool). b && (nat_le (length text) most_told && is_utf8 text)) (sym (lt-ltb s (2 ^ 64) small))

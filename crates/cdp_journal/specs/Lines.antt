@@ -44,6 +44,15 @@ IsInForm (Detach s) = s < 2 ^ 64
 IsInForm (Run most moment) = (most < 2 ^ 32) × (moment < 2 ^ 53)
 IsInForm Shut = Unit {0}
 
+-- the same, and the text that is told is UTF-8: a journal can tell the line
+unfoldable pub is_tellable : Line → Bool
+is_tellable Attach = true
+is_tellable (Tell s text) = nat_lt s (2 ^ 64) && (nat_le (length text) most_told && is_utf8 text)
+is_tellable (Take s) = nat_lt s (2 ^ 64)
+is_tellable (Detach s) = nat_lt s (2 ^ 64)
+is_tellable (Run most moment) = nat_lt most (2 ^ 32) && nat_lt moment (2 ^ 53)
+is_tellable Shut = true
+
 -- the text, which is UTF-8, is that of this line
 pub record IsLine (text : List ℕ) (line : Line) : Type 0 where
   pub utf8 : is_utf8 text ≡ true

@@ -5,15 +5,16 @@ ghost use Rattle.std.specs.List.{starts_with};
 ghost use Rattle.cdp_text.specs.Lines.{ended, lines_of};
 ghost use Rattle.cdp_journal.specs.Drills.{drill_journal, drill_steps};
 ghost use Rattle.cdp_journal.specs.Fronts.{behind_each};
-ghost use Rattle.cdp_journal.specs.Lines.{IsLine, Line, is_memory, line_of, line_text};
+ghost use Rattle.cdp_journal.specs.Lines.{IsLine, Line, is_memory, is_tellable, line_of, line_text};
 ghost use Rattle.cdp_journal.specs.Summaries.{RunLine, printed_lines, ran_of, ran_text, runs_of};
 
 /// A journal that is written line by line is cut into just these lines, and where each of them is in form, it is read
-/// as what was written. The line `memory` is none of them.
+/// as what was written. What a journal can tell is in form; the line `memory` is none of these.
 pub fn written_journals_are_read()
     ensures cut { (lines : List Line) → lines_of (ended (map line_text lines)) ≡ map line_text lines }
     ensures read { (lines : List Line) → All (λ line. IsLine (line_text line) line) lines
         → map line_of (lines_of (ended (map line_text lines))) ≡ map (λ line. Some line) lines }
+    ensures told { (line : Line) → is_tellable line ≡ true → IsLine (line_text line) line }
     ensures memory { (text : List ℕ) → is_memory text ≡ true → line_of text ≡ None }
     ensures others { (line : Line) → IsLine (line_text line) line → is_memory (line_text line) ≡ false }
 {}

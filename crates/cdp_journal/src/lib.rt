@@ -20,7 +20,7 @@ mod writing;
 
 pub use drill::{drill_journal, drill_source};
 pub use escapes::{escape, unescape};
-pub use line::{Line, is_memory, read_line};
+pub use line::{Line, is_memory, read_line, tells_run, tells_text};
 pub use summaries::summary;
 pub use writing::{
     attach_line, detach_line, memory_line, run_line, shut_line, take_line, tell_line,

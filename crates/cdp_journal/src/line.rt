@@ -1,8 +1,8 @@
 //! The lines of a journal.
 
-ghost use Rattle.std.specs.Prelude.{◌≡◌, ◌<◌, Some, IfOk, IfSome, string_bytes};
+ghost use Rattle.std.specs.Prelude.{◌≡◌, ◌<◌, ◌^◌, ℕ, Some, IfOk, IfSome, string_bytes};
 ghost use Rattle.std.specs.Option.{option_map};
-ghost use Rattle.cdp_journal.specs.Lines.{Line as Meant, IsLine, is_memory, line_of, line_of_text, line_of_words, tell_rest, take_rest, detach_rest, run_rest, tell_at, tell_text};
+ghost use Rattle.cdp_journal.specs.Lines.{Line as Meant, Run, Tell, IsLine, is_memory, is_tellable, line_of, line_of_text, line_of_words, tell_rest, take_rest, detach_rest, run_rest, tell_at, tell_text};
 ghost use Rattle.cdp_journal.specs.LineRead.{line_held};
 
 use crate::escapes::unescape;
@@ -34,6 +34,22 @@ pub enum Line {
     Run(u64, u64),
     /// Make no further step.
     Shut,
+}
+
+/// Whether a journal can tell that a session was told this text: it has at most 1,048,576 bytes.
+pub fn tells_text(text: &str) -> bool
+    ensures { (session : ℕ) → session < 2 ^ 64 → result ≡ is_tellable (Tell session text.now) }
+{
+    text.len() <= MOST_TOLD
+}
+
+/// Whether a journal can tell a run of so many steps at this moment, in milliseconds since the epoch: there are fewer than
+/// 2^32 steps, and the moment is below 2^53.
+#[tactic(auto, unfolding(crate::specs::Lines::is_tellable))]
+pub fn tells_run(steps: u64, moment: u64) -> bool
+    ensures { result ≡ is_tellable (Run steps moment) }
+{
+    steps < STEPS_LIMIT && moment < MOMENT_LIMIT
 }
 
 /// Whether these bytes are the line `memory`, without its LF. It ends a journal that tells no more: it asks for nothing, and

@@ -6,7 +6,11 @@ use Rattle.cdp_edge.specs.Outside.{NamedFile, Rose, Given}
 use Rattle.cdp_edge.proofs.HandedLemmas.{given_as}
 use Rattle.cdp_edge_server.specs.Contents.{Tended}
 use Rattle.cdp_host_isolation.specs.Histories.{Entry}
+use Rattle.cdp_host_isolation.specs.Makers.{entries_of}
+use Rattle.cdp_host_isolation.specs.Meanings.{begin}
 use Rattle.cdp_host_turns.specs.Debuggings.{Debugging}
+use Rattle.cdp_host_record.specs.Recordings.{Held, RecordsIf}
+use Rattle.cdp_host_record.proofs.HeldLemmas.{held-cut, held-whole}
 use Rattle.cdp_host.specs.Debugged.{debugging}
 use Rattle.js_tree.specs.declared.script.Script.{Script}
 use Rattle.ws_service.specs.Programs.{Output}
@@ -15,7 +19,7 @@ use Rattle.debug_host_commands.specs.Files.{HoldsSources}
 use Rattle.debug_host_commands.specs.RunCauses.{IsUnbegun, RunsToThrow}
 use Rattle.debug_host_commands.specs.ServeCauses.{BecauseServe, BecauseServed, BecauseStored, Harbored, IsUnserved, Journals, MayServe, ServesPort, ServesToEnd, ServesWhole, clients_of}
 use Rattle.debug_host_commands.specs.Status.{GivenServe, status_of}
-use Rattle.debug_host_commands.specs.Stored.{ComesFirst, HasStored, OrJournal, Shelved, StoreFaults, after_storing, is_program_end, journal_asked, spent_if, unless_ended}
+use Rattle.debug_host_commands.specs.Stored.{ComesFirst, HasStored, OrJournal, Shelved, StoreFaults, StoresLines, after_storing, is_program_end, journal_asked, spent_if, unless_ended, with_stored}
 use Rattle.debug_host_commands.specs.declared.outcome.CommandEnd.{CommandEnd}
 use Rattle.debug_host_commands.specs.declared.outcome.CommandEnd.TheVariants as ends
 use Rattle.debug_host_commands.specs.declared.storing.Storing.{Storing}
@@ -24,12 +28,33 @@ use Rattle.debug_host_commands.proofs.ServeLemmas.{given_serve, or_more, or_quie
 
 -- ---- what became of a journal
 
+-- a record of a history whose lines were stored so
+pub stores-history : (storing : Storing) (d : Debugging) (h : List (ℕ × Entry)) (name : Bor (List ℕ)) (held : Held)
+    (old new : Shelved)
+    → RecordsIf d h (Some held)
+    → StoresLines storing name held old new
+    → HasStored storing d h (Some name.now) old new
+stores-history storings.Done d h name held old new records stores =
+    stores.1
+    ∙ ap (λ bytes. with_stored name.now bytes old)
+    (held-whole d.protocol (begin d.program d.wait) (entries_of h) held.state held.bytes records stores.0)
+stores-history storings.Memory d h name held old new records (inl same) = inl same
+stores-history storings.Memory d h name held old new records (inr (lost, is)) =
+    inr (
+      held.bytes,
+      is,
+      held-cut d.protocol (begin d.program d.wait) (entries_of h) held.state held.bytes records lost,
+    )
+stores-history (storings.Failed named) d h name held old new records stores =
+    (ap (λ (it : Bor (List ℕ)). it.now) stores.0, stores.1)
+stores-history storings.Spent d h name held old new records stores = absurd stores
+
 -- the faults of a shelf by what became of a journal
 pub stored-told : (storing : Storing) (d : Debugging) (h : List (ℕ × Entry)) (journal : Option (List ℕ))
     (old new : Shelved)
     → HasStored storing d h journal old new → StoreFaults storing journal old.faults new.faults
 stored-told storing d h None old new stored = (stored.0, ap (λ (s : Shelved). s.faults) stored.1)
-stored-told storings.Done d h (Some name) old new stored = ap (λ (s : Shelved). s.faults) stored.0
+stored-told storings.Done d h (Some name) old new stored = ap (λ (s : Shelved). s.faults) stored
 stored-told storings.Memory d h (Some name) old new (inl same) = ap (λ (s : Shelved). s.faults) same
 stored-told storings.Memory d h (Some name) old new (inr (bytes, is, cut)) = ap (λ (s : Shelved). s.faults) is
 stored-told (storings.Failed named) d h (Some name) old new stored = (stored.0, stored.1.faults)

@@ -16,7 +16,7 @@ use Rattle.cdp_edge_printing.specs.Printing.{printed_lines}
 use Rattle.cdp_edge_server.specs.Contents.{Calls, Tended, called}
 use Rattle.cdp_edge_server.specs.declared.harbor.HarborFault.{HarborFault}
 use Rattle.cdp_edge_server.specs.declared.harbor.HarborFault.TheVariants as harbor
-use Rattle.cdp_host_record.specs.Records.{recorded, some_list}
+use Rattle.cdp_host_record.specs.Records.{recorded}
 use Rattle.cdp_host.specs.Debugged.{debugging}
 use Rattle.cdp_host.specs.Histories.{begin, sent_alone, sent_to, view, whole}
 use Rattle.cdp_host.specs.Programs.{has_thrown, is_over, plain, printed_of, start, uncaught_text}
@@ -177,8 +177,7 @@ MayServe given request moment old new before after was now end =
     ServesNothing end old new was now ⊎ Serves given request moment old new before after was now end
 
 -- A port was served over one history, which ended with this status as the program and its doors decide. Under the name
--- of the journal that is asked for, if one is, the record of that history was stored, byte for byte; no session was
--- lost for want of memory.
+-- of the journal that is asked for, if one is, the record of that history was stored, byte for byte.
 pub record Journals (status : ℕ) (given : List NamedFile) (request : ServeWords) (moment : Option ℕ) (old new : Output)
     (before after : Option (List Tended)) (was now : Shelved) : Type 0 where
   pub scripts : List Script
@@ -189,8 +188,7 @@ pub record Journals (status : ℕ) (given : List NamedFile) (request : ServeWord
   pub port : ServesPort scripts input request.wait request.sessions (clients_of request.devtools) moment old new before
       after served
   pub stored : (name : List ℕ) → request.journal ≡ Some name
-      → (now ≡ with_stored name (recorded (debugging scripts input request.wait) port.history) was)
-      × (some_list (entries_of port.history) ≡ false)
+      → now ≡ with_stored name (recorded (debugging scripts input request.wait) port.history) was
 
 -- ---- causes
 

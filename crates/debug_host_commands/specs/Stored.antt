@@ -7,8 +7,8 @@ use Rattle.cdp_host_isolation.specs.Histories.{Entry}
 use Rattle.cdp_host_isolation.specs.Makers.{entries_of}
 use Rattle.cdp_host_isolation.specs.Meanings.{begin}
 use Rattle.cdp_host_turns.specs.Debuggings.{Debugging}
-use Rattle.cdp_host_record.specs.Records.{recorded, some_list}
-use Rattle.cdp_host_record.specs.Recordings.{Held, IsCutShort}
+use Rattle.cdp_host_record.specs.Records.{recorded}
+use Rattle.cdp_host_record.specs.Recordings.{Held, IsCutShort, is_lost}
 use Rattle.debug_host_options.specs.Requests.{Request, Serve}
 use Rattle.debug_host_commands.specs.declared.outcome.CommandEnd.{CommandEnd}
 use Rattle.debug_host_commands.specs.declared.outcome.CommandEnd.TheVariants as ends
@@ -50,22 +50,20 @@ pub record FailsToStore (name : List ℕ) (old new : Shelved) : Type 0 where
 -- what the store of a record's lines under this name came to
 abbrev pub StoresLines : Storing → Bor (List ℕ) → Held → Shelved → Shelved → Type 0
 StoresLines storings.Done name held old new =
-    (held.is_lost ≡ false) × (new ≡ with_stored name.now held.bytes old)
+    (is_lost held.state ≡ false) × (new ≡ with_stored name.now held.bytes old)
 StoresLines storings.Memory name held old new =
-    (new ≡ old) ⊎ ((held.is_lost ≡ true) × (new ≡ with_stored name.now held.bytes old))
+    (new ≡ old) ⊎ ((is_lost held.state ≡ true) × (new ≡ with_stored name.now held.bytes old))
 StoresLines (storings.Failed named) name held old new = (named ≡ name) × FailsToStore name.now old new
 StoresLines storings.Spent name held old new = ⊥
 
 -- ---- the journal of a history
 
 -- What became of the journal of a history, if one is asked for under a name. It was stored: the record of that history,
--- byte for byte, in which no session was lost for want of memory. Or memory was wanting: to store it, and nothing was
--- stored; or before that, and a record was stored that is cut short. Or its store failed. Or no turn was left to store
--- it.
+-- byte for byte. Or memory was wanting: to store it, and nothing was stored; or before that for one of its lines, and a
+-- record was stored that is cut short there. Or its store failed. Or no turn was left to store it.
 abbrev pub HasStored : Storing → Debugging → List (ℕ × Entry) → Option (List ℕ) → Shelved → Shelved → Type 0
 HasStored storing d h None old new = (storing ≡ storings.Done) × (new ≡ old)
-HasStored storings.Done d h (Some name) old new =
-    (new ≡ with_stored name (recorded d h) old) × (some_list (entries_of h) ≡ false)
+HasStored storings.Done d h (Some name) old new = new ≡ with_stored name (recorded d h) old
 HasStored storings.Memory d h (Some name) old new =
     (new ≡ old)
     ⊎ ((bytes : List ℕ)

@@ -43,7 +43,7 @@ use std::thread::Threads;
 /// | Status | Where | Line on `err` |
 /// |---|---|---|
 /// | 0 | `run`: only where the run ended by its last script; `replay`: only where every line was applied; `send`: only where every command was answered and every wait met; `drill`: only where the summary is written; help and the version: only where their text is | none |
-/// | 1 | want of memory, also where a session is lost for want of it | `debug_host: out of memory` |
+/// | 1 | want of memory; `replay`: also where a session is lost for want of it | `debug_host: out of memory` |
 /// | 2 | only where the words ask for nothing (`read_words` of `debug_host_options`), and there always, but for want of memory | `usage: debug_host run/replay/serve/send/drill` |
 /// | 3 | only where the input or a script isn't UTF-8, or a script is refused by the parser | `debug_host: NAME: not UTF-8`, `debug_host: NAME:LINE:COL: unexpected token`, `debug_host: NAME: too long: N units`, `debug_host: NAME: too deep`, `debug_host: NAME: too many tokens` |
 /// | 4 | only where the shelf tells a fault at a file that the words name: one that is read, or the one in which `serve` stores its journal | `debug_host: cannot read NAME`, `debug_host: cannot store NAME` |
@@ -60,7 +60,8 @@ use std::thread::Threads;
 /// A run that never ends prints as it goes, and the call doesn't return.
 /// `serve` opens so many doors on a port of the harbor, and serves the clients that arrive there while the program runs, until it
 /// is over. With `--journal` it stores then, whatever the end is, the journal of the one history. Of its ends the first decides
-/// in the order of the statuses 1, 5, 7, 10, 4, 8, 0, where a journal for which there was no memory has status 1.
+/// in the order of the statuses 1, 5, 7, 10, 4, 8, 0, where a journal for which there was no memory has status 1. A session that
+/// is lost for want of memory changes no status.
 /// `send` sends the commands of a file to a host that serves, each after the reply to the one before it, and writes each text
 /// that arrives as a line. Where the host neither answers nor closes, the call doesn't return.
 /// `drill N` reads no file: it replays a journal and a script that are made from N, in memory, and writes a summary of that

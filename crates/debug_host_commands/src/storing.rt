@@ -17,7 +17,7 @@ use std::alloc::{AllocError, Global};
 pub(crate) enum Storing<'w> {
     /// It was stored, or none was asked for.
     Done,
-    /// No memory was left for all of it, or to store it.
+    /// No memory was left for a line of it, or to store it.
     Memory,
     Failed(&'w str),
     /// No turn was left to store it.
