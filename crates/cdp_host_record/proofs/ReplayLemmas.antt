@@ -325,7 +325,7 @@ follows-on P keeps idle k m (entry ∷ history) well fits none same =
 
 -- ---- lines as they are written
 
-same-or : {A : Type 0} → (f g : A → List A) (o : Option A) → ((a : A) → f a ≡ g a)
+pub same-or : {A : Type 0} → (f g : A → List A) (o : Option A) → ((a : A) → f a ≡ g a)
     → option_map_or f o [] ≡ option_map_or g o []
 same-or f g None same = refl
 same-or f g (Some a) same = same a

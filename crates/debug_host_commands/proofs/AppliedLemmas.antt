@@ -72,7 +72,7 @@ entry-none scripts m text none entry is =
 -- ---- all lines, where none is refused
 
 -- the line `memory` has no entry, and nothing behind it has one
-memory-last : (scripts : List Script) (m : Meaning Program) (text : List ℕ) (texts : List (List ℕ))
+pub memory-last : (scripts : List Script) (m : Meaning Program) (text : List ℕ) (texts : List (List ℕ))
     → is_memory text ≡ true
     → entries scripts m (text ∷ texts) ≡ []
 memory-last scripts m text texts is =

@@ -7,6 +7,7 @@ pub mod LossLemmas
 pub mod ActLemmas
 pub mod PlayLemmas
 pub mod ReplayedLemmas
+pub mod AgainLemmas
 pub mod ReportLemmas
 pub mod SourceLemmas
 pub mod UnaskedLemmas

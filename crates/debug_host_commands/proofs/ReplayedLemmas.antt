@@ -1,5 +1,5 @@
 -- What a journal's replay writes, by the lines that are applied.
-use Rattle.std.proofs.Common.{◌≡◌, ◌⊎◌, ℕ, List, Bool, Option, Some, None, refl, inl, inr}
+use Rattle.std.proofs.Common.{◌≡◌, ◌⊎◌, ℕ, List, Bool, Option, Some, None, refl, sym, inl, inr}
 use Rattle.cdp_edge.specs.Outside.{gains, GainsPrefix, GainsLess}
 use Rattle.cdp_text.specs.Lines.{lines_of}
 use Rattle.js_tree.specs.declared.script.Script.{Script}
@@ -28,6 +28,8 @@ replays scripts input wait journal line is = record {
   applied = applies scripts input wait (lines_of journal) line is;
   writes = refl;
   headline = headline-of (lines_of journal) scripts input wait;
+  decided = sym is;
+  only = refl;
 }
 
 -- ---- what is written of it

@@ -6,6 +6,7 @@ pub mod Shown
 pub mod Headline
 pub mod Played
 pub mod Replays
+pub mod Again
 pub mod ReadCauses
 pub mod RunCauses
 pub mod ReplayCauses

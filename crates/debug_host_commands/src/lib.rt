@@ -15,6 +15,7 @@ mod act;
 mod drill;
 mod explaining;
 pub mod journal;
+pub mod laws;
 mod outcome;
 mod output;
 mod program;
