@@ -39,7 +39,7 @@ gone-by false mine seat is gone stays = ap (λ s. is_attached s) (sym is) ∙ go
 
 -- ---- the seats of a host
 
-host-seat : {C Q X : Type 0} → (host m : Meaning C Q X) (s : ℕ) → StandsAs host m
+pub host-seat : {C Q X : Type 0} → (host m : Meaning C Q X) (s : ℕ) → StandsAs host m
     → seat_of s host.seats ≡
     (if is_listed (fallen_in host.seats) s then fallen (seat_of s m.seats) else seat_of s m.seats)
 host-seat host m s stands = ap (λ k. seat_of s k.seats) stands.is ∙ without-at (fallen_in host.seats) s m.seats

@@ -147,7 +147,7 @@ tell-owned told.Kept s text k h owns = owner-may k s h owns
 tell-owned told.Overrun s text k h owns = owner-may k s h owns
 tell-owned told.Memory s text k h owns = owner-may k s h owns
 
-works-if : (s : ℕ) (b : Bool) (seats : List (Seat Session)) → (b ≡ true → some is_attached seats ≡ false)
+pub works-if : (s : ℕ) (b : Bool) (seats : List (Seat Session)) → (b ≡ true → some is_attached seats ≡ false)
     → is_attached (seat_of s seats) ≡ true → b ≡ false
 works-if s true seats alone held = let gone = none-at s seats (alone refl) in absurd cc
 works-if s false seats alone held = refl

@@ -25,5 +25,6 @@ pub mod RefusalLemmas
 pub mod ViewLemmas
 pub mod HeldLemmas
 pub mod HostedLemmas
+pub mod PresenceLemmas
 pub mod RecordLemmas
 pub mod SendLemmas

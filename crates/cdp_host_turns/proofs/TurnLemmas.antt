@@ -8,14 +8,15 @@ use Rattle.cdp_host_isolation.proofs.OwnerLemmas.{handed-next, handed-stays, han
 use Rattle.history_lock.specs.Histories.{has}
 use Rattle.history_lock.specs.Passes.{Follows, IsSamePass, PassState}
 use Rattle.cdp_host_turns.specs.Debuggings.{Debugging, IsHistory, IsLongest, IsNew, handed, meaning}
+use Rattle.cdp_host_turns.specs.Presences.{FindsSession, FitsIfTold, IsGoneAs, IsThere, IsToldAs}
+use Rattle.cdp_host_turns.specs.Entries.{told_entry}
 use Rattle.cdp_host_turns.specs.States.{HasState, IsShut, tells_over}
-use Rattle.cdp_host_turns.specs.Turns.{Acts, Attaches, AttachesAs, Finds, FindsShut, IsOverIf, IsStateOf, Leaves, Prints, Runs, RunsAs, Steps, TakesAs, Tells, TellsAndTakes, TellsAs, unless_kept}
+use Rattle.cdp_host_turns.specs.Turns.{Acts, Attaches, AttachesAs, Finds, IsOverIf, IsStateOf, Leaves, Prints, Runs, RunsAs, Steps, TakesAs, Tells, TellsAndTakes, TellsAs, unless_kept}
 use Rattle.cdp_host_turns.specs.declared.answers.Answered.{Answered}
 use Rattle.cdp_host_turns.specs.declared.answers.Answered.TheVariants as answered
 use Rattle.cdp_host_turns.specs.declared.answers.Attached.{Attached}
 use Rattle.cdp_host_turns.specs.declared.answers.Attached.TheVariants as attached
 use Rattle.cdp_host_turns.specs.declared.answers.Gone.{Gone}
-use Rattle.cdp_host_turns.specs.declared.answers.Gone.TheVariants as gone
 use Rattle.cdp_host_turns.specs.declared.answers.Progress.{Progress}
 use Rattle.cdp_host_turns.specs.declared.answers.Progress.TheVariants as progress
 use Rattle.cdp_host_turns.specs.declared.answers.Told.{Told}
@@ -123,29 +124,36 @@ attaches d p m q attached.Memory entry t did = acts d p m q (Take 0) (subst (Tur
 -- ---- a session
 
 -- it was gone before
-pub leaves : (A : Type 0) (d : Debugging) (s : ℕ) (p m q : PassState Entry) (why : Gone) (entry : Entry)
-    → Turn d p m q entry → entry ≡ Detach s → FindsShut {A = A} d m.seen (Err why) → Leaves d s p q why
-leaves A d s p m q (gone.Lost loss) entry t is found = acts d p m q (Detach s) (subst (Turn d p m q) is t)
-leaves A d s p m q gone.Shut entry t is found = finds d (IsShut d) p m q (Detach s) (subst (Turn d p m q) is t) found
+pub leaves : (d : Debugging) (s : ℕ) (p m q : PassState Entry) (why : Gone) (entry : Entry) → Turn d p m q entry
+    → entry ≡ Detach s → IsGoneAs d s why m.seen → Leaves d s p q why
+leaves d s p m q why entry t is found =
+    finds d (IsGoneAs d s why) p m q (Detach s) (subst (Turn d p m q) is t) found
 
 -- it was told a text
 pub tells : (d : Debugging) (s : ℕ) (text : List ℕ) (p m q : PassState Entry) (answer : Result Told Gone) (entry : Entry)
-    → Turn d p m q entry → TellsAs s text answer entry → FindsShut d m.seen answer → Tells d s text p q answer
-tells d s text p m q (Ok told) entry t is found = acts d p m q _ (subst (Turn d p m q) is t)
-tells d s text p m q (Err why) entry t is found = leaves Told d s p m q why entry t is found
+    → Turn d p m q entry → TellsAs s text answer entry → FindsSession d s answer m.seen
+    → FitsIfTold d s text answer m.seen → Tells d s text p q answer
+tells d s text p m q (Ok told) entry t is found fits =
+    finds d (IsToldAs d s text told) p m q (told_entry told s text) (subst (Turn d p m q) is t) (found, fits)
+tells d s text p m q (Err why) entry t is found fits = leaves d s p m q why entry t is found
 
 -- its texts were handed out
 pub take-entry : (A : Type 0) (s : ℕ) (answer : Result A Gone) (taken : A) (entry : Entry) → answer ≡ Ok taken
     → TakesAs s answer entry → entry ≡ Take s
 take-entry A s answer taken entry is did = subst (λ (r : Result A Gone). TakesAs s r entry) is did
 
+-- the session was there for that
+pub take-there : (A : Type 0) (d : Debugging) (s : ℕ) (h : List (ℕ × Entry)) (answer : Result A Gone) (taken : A)
+    → answer ≡ Ok taken → FindsSession d s answer h → IsThere d s h
+take-there A d s h answer taken is found = subst (λ (r : Result A Gone). FindsSession d s r h) is found
+
 -- it was gone, so none were
 pub take-leaves : (A : Type 0) (d : Debugging) (s : ℕ) (p m q : PassState Entry) (answer : Result A Gone) (why : Gone)
-    (entry : Entry) → Turn d p m q entry → answer ≡ Err why → TakesAs s answer entry → FindsShut d m.seen answer
+    (entry : Entry) → Turn d p m q entry → answer ≡ Err why → TakesAs s answer entry → FindsSession d s answer m.seen
     → Leaves d s p q why
 take-leaves A d s p m q answer why entry t is did found =
-    leaves A d s p m q why entry t (subst (λ (r : Result A Gone). TakesAs s r entry) is did)
-    (subst (FindsShut {A = A} d m.seen) is found)
+    leaves d s p m q why entry t (subst (λ (r : Result A Gone). TakesAs s r entry) is did)
+    (subst (λ (r : Result A Gone). FindsSession d s r m.seen) is found)
 
 -- what is handed out to it
 pub hands : (d : Debugging) (s : ℕ) (p m q : PassState Entry) (texts found : List (List ℕ))
@@ -210,10 +218,10 @@ is-kept (Err why) is = absurd (true≢false (ap is_some is))
 
 pub tells-kept : (d : Debugging) (s : ℕ) (text : List ℕ) (p m : PassState Entry) (answer : Result Told Gone) (entry : Entry)
     → Turn d p m (midway m entry) entry → unless_kept answer ≡ None → TellsAs s text answer entry
-    → Tells d s text p (midway m entry) (Ok Kept)
-tells-kept d s text p m answer entry t is told =
-    tells d s text p m (midway m entry) (Ok Kept) entry t
-    (subst (λ (a : Result Told Gone). TellsAs s text a entry) (is-kept answer is) told) tt
+    → FindsSession d s answer m.seen → FitsIfTold d s text answer m.seen → Tells d s text p (midway m entry) (Ok Kept)
+tells-kept d s text p m answer entry t is told found fits =
+    subst (Tells d s text p (midway m entry)) (is-kept answer is)
+    (tells d s text p m (midway m entry) answer entry t told found fits)
 
 -- one that wasn't
 pub tells-alone : (d : Debugging) (s : ℕ) (text : List ℕ) (p q : PassState Entry) (answer : Result Told Gone)

@@ -1,4 +1,5 @@
 pub mod Debuggings
 pub mod Entries
+pub mod Presences
 pub mod States
 pub mod Turns

@@ -41,3 +41,13 @@ tells_over Ended = true
 tells_over Paused = false
 tells_over Waiting = false
 tells_over Ready = false
+
+-- a state that tells that the program was shut
+abbrev pub tells_shut : State → Bool
+tells_shut Broken = false
+tells_shut Shut = true
+tells_shut Threw = false
+tells_shut Ended = false
+tells_shut Paused = false
+tells_shut Waiting = false
+tells_shut Ready = false

@@ -7,13 +7,13 @@ use Rattle.history_lock.specs.Histories.{has, limit}
 use Rattle.history_lock.specs.Passes.{PassState, IsSamePass}
 use Rattle.cdp_host_turns.specs.Debuggings.{Debugging, IsHistory, IsLongest, IsNew, handed, meaning}
 use Rattle.cdp_host_turns.specs.Entries.{told_entry}
+use Rattle.cdp_host_turns.specs.Presences.{IsGoneAs, IsThere, IsToldAs}
 use Rattle.cdp_host_turns.specs.States.{HasState, IsOver, IsShut}
 use Rattle.cdp_host_turns.specs.declared.answers.Answered.{Answered}
 use Rattle.cdp_host_turns.specs.declared.answers.Answered.TheVariants as answered
 use Rattle.cdp_host_turns.specs.declared.answers.Attached.{Attached}
 use Rattle.cdp_host_turns.specs.declared.answers.Attached.TheVariants as attached
 use Rattle.cdp_host_turns.specs.declared.answers.Gone.{Gone}
-use Rattle.cdp_host_turns.specs.declared.answers.Gone.TheVariants as gone
 use Rattle.cdp_host_turns.specs.declared.answers.Progress.{Progress}
 use Rattle.cdp_host_turns.specs.declared.answers.Progress.TheVariants as progress
 use Rattle.cdp_host_turns.specs.declared.answers.HandedOut.{HandedOut}
@@ -45,12 +45,6 @@ unless_kept (Ok Kept) = None
 unless_kept (Ok Overrun) = Some answered.Overrun
 unless_kept (Ok Memory) = Some answered.Memory
 unless_kept (Err why) = Some (answered.Gone why)
-
--- a session that was shut out found the program shut
-abbrev pub FindsShut : {A : Type 0} → Debugging → List (ℕ × Entry) → Result A Gone → Type 0
-FindsShut d h (Ok done) = Unit {0}
-FindsShut d h (Err (gone.Lost loss)) = Unit {0}
-FindsShut d h (Err gone.Shut) = IsShut d h
 
 -- the texts that so many steps print
 abbrev pub printed_by : Debugging → ℕ → List (List ℕ)
@@ -97,12 +91,11 @@ Attaches d p q attached.Memory = Acts d p q (Take 0)
 
 -- a session was gone before its turn, which detached it
 abbrev pub Leaves : Debugging → ℕ → PassState Entry → PassState Entry → Gone → Type 0
-Leaves d s p q (gone.Lost loss) = Acts d p q (Detach s)
-Leaves d s p q gone.Shut = Finds d (IsShut d) p q (Detach s)
+Leaves d s p q why = Finds d (IsGoneAs d s why) p q (Detach s)
 
 -- a session was told a text
 abbrev pub Tells : Debugging → ℕ → List ℕ → PassState Entry → PassState Entry → Result Told Gone → Type 0
-Tells d s text p q (Ok told) = Acts d p q (told_entry told s text)
+Tells d s text p q (Ok told) = Finds d (IsToldAs d s text told) p q (told_entry told s text)
 Tells d s text p q (Err why) = Leaves d s p q why
 
 -- the texts that are handed out to it now
@@ -114,9 +107,13 @@ abbrev pub IsOverIf : Debugging → Bool → List (ℕ × Entry) → Type 0
 IsOverIf d true h = IsOver d h
 IsOverIf d false h = Unit {0}
 
+-- it was there for that
+abbrev pub IsTakenAs : Debugging → ℕ → Bool → List (ℕ × Entry) → Type 0
+IsTakenAs d s is_over h = IsThere d s h × IsOverIf d is_over h
+
 -- the texts that wait for a session were handed out
 abbrev pub Takes : Debugging → ℕ → PassState Entry → PassState Entry → Result HandedOut Gone → Type 0
-Takes d s p q (Ok taken) = Finds d (IsOverIf d taken.is_over) p q (Take s) × Hands d s p q taken
+Takes d s p q (Ok taken) = Finds d (IsTakenAs d s taken.is_over) p q (Take s) × Hands d s p q taken
 Takes d s p q (Err why) = Leaves d s p q why
 
 -- a session was told a text; where that was kept, the texts that wait were handed out by a second turn

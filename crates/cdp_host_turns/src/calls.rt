@@ -6,8 +6,9 @@ ghost use Rattle.cdp_host_isolation.specs.Makers.{Owns};
 ghost use Rattle.cdp_host_isolation.specs.Seats.{seat_of};
 ghost use Rattle.cdp_host_turns.specs.Debuggings.{meaning};
 ghost use Rattle.cdp_host_turns.specs.Entries.{told_entry};
-ghost use Rattle.cdp_host_turns.specs.States.{IsShut};
-ghost use Rattle.cdp_host_turns.specs.Turns.{AttachesAs, FindsShut, IsStateOf, RunsAs, TakesAs, TellsAs};
+ghost use Rattle.cdp_host_turns.specs.Presences.{FindsSession, FitsIfTold, IsGoneAs, IsThere, is_overrun, tells_overrun};
+ghost use Rattle.cdp_host_turns.specs.States.{tells_shut};
+ghost use Rattle.cdp_host_turns.specs.Turns.{AttachesAs, IsStateOf, RunsAs, TakesAs, TellsAs};
 
 use crate::answers::{Attached, Gone, Progress, Told};
 use crate::entry::Entry;
@@ -55,35 +56,47 @@ pub fn attach<H: Hosted<B>, B>(host: &mut H) -> Called<Attached>
 }
 
 /// Why a session was lost. One whose owner was told before is lost for want of memory.
-fn loss_of(lost: Option<SessionLost>) -> Loss {
+fn loss_of(lost: Option<SessionLost>) -> Loss
+    ensures { is_overrun result ≡ tells_overrun lost }
+{
     match lost {
         Some(lost) => lost.loss,
         None => Loss::Memory,
     }
 }
 
+/// Whether this is the state of a program that was shut.
+fn is_shut(state: State) -> bool
+    ensures { result ≡ tells_shut state }
+{
+    match state {
+        State::Shut => true,
+        State::Broken
+        | State::Threw
+        | State::Ended
+        | State::Paused
+        | State::Waiting
+        | State::Ready => false,
+    }
+}
+
 /// Detaches a session that is gone: it was lost, or the program was shut.
 fn end_if_gone<H: Hosted<B>, B>(host: &mut H, session: u64) -> Option<Gone>
     ensures gone { IfSome result (λ why. (k : ℕ) (h : List (ℕ × AnyEntry)) → H.stands host.old h → Owns k session h → H.stands host.new (h ++ (k, Detach session) ∷ [])) }
-    ensures shut { IfSome result (λ why. why ≡ Gone.Shut → (h : List (ℕ × AnyEntry)) → H.stands host.old h → IsShut H.debugs h) }
+    ensures why { IfSome result (λ why. (h : List (ℕ × AnyEntry)) → H.stands host.old h
+        → IsGoneAs H.debugs session why h) }
+    ensures there { IfNone result ((h : List (ℕ × AnyEntry)) → H.stands host.old h → IsThere H.debugs session h) }
     ensures stays { IfNone result (host.new ≡ host.old) }
     ensures attached { IfNone result (H.attached host.old session ≡ true) }
 {
     if !host.is_attached(session) {
         return Some(Gone::Lost(loss_of(host.detach(session))));
     }
-    match host.state() {
-        State::Shut => {
-            host.detach(session);
-            Some(Gone::Shut)
-        }
-        State::Broken
-        | State::Threw
-        | State::Ended
-        | State::Paused
-        | State::Waiting
-        | State::Ready => None,
+    if is_shut(host.state()) {
+        host.detach(session);
+        return Some(Gone::Shut);
     }
+    None
 }
 
 /// The entry of a command that was answered so.
@@ -100,7 +113,9 @@ fn entry_told(told: Told, session: u64, text: String) -> Entry
 pub fn tell<H: Hosted<B>, B>(host: &mut H, session: u64, text: String) -> Called<Result<Told, Gone>>
     ensures stands { (k : ℕ) (h : List (ℕ × AnyEntry)) → H.stands host.old h → Owns k session h → H.stands host.new (h ++ (k, result.entry) ∷ []) }
     ensures entry { TellsAs session (string_bytes text) result.answer result.entry }
-    ensures shut { (h : List (ℕ × AnyEntry)) → H.stands host.old h → FindsShut H.debugs h result.answer }
+    ensures finds { (h : List (ℕ × AnyEntry)) → H.stands host.old h → FindsSession H.debugs session result.answer h }
+    ensures fits { (h : List (ℕ × AnyEntry)) → H.stands host.old h
+        → FitsIfTold H.debugs session (string_bytes text) result.answer h }
 {
     if let Some(gone) = end_if_gone(host, session) {
         return Called {
@@ -120,7 +135,7 @@ pub fn take<H: Hosted<B>, B>(host: &mut H, session: u64) -> Called<Result<Vec<St
     ensures stands { (k : ℕ) (h : List (ℕ × AnyEntry)) → H.stands host.old h → Owns k session h → H.stands host.new (h ++ (k, result.entry) ∷ []) }
     ensures entry { TakesAs session result.answer result.entry }
     ensures texts { IfOk result.answer (λ texts. (h : List (ℕ × AnyEntry)) → H.stands host.old h → map string_bytes texts.items ≡ waiting H.debugs.protocol (seat_of session (meaning H.debugs h).seats)) }
-    ensures shut { (h : List (ℕ × AnyEntry)) → H.stands host.old h → FindsShut H.debugs h result.answer }
+    ensures finds { (h : List (ℕ × AnyEntry)) → H.stands host.old h → FindsSession H.debugs session result.answer h }
 {
     match end_if_gone(host, session) {
         Some(gone) => Called {

@@ -7,7 +7,8 @@ ghost use Rattle.cdp_host_isolation.specs.Seats.{seat_of};
 ghost use Rattle.cdp_host_isolation.specs.Stops.{plain};
 ghost use Rattle.cdp_host_turns.specs.Debuggings.{IsHistory, IsLongest, meaning};
 ghost use Rattle.cdp_host_turns.specs.Entries.{lost_for_memory, told_entry};
-ghost use Rattle.cdp_host_turns.specs.States.{HasState};
+ghost use Rattle.cdp_host_turns.specs.Presences.{FitsAs, IsAttached, overran, seat_after, tells_overrun};
+ghost use Rattle.cdp_host_turns.specs.States.{HasState, tells_shut};
 
 use crate::answers::Told;
 use crate::entry::Entry;
@@ -50,12 +51,18 @@ pub trait Hosted<B>: Standing<Entry, B> {
         ensures tells { result ≡ tells self.now }
         ensures history { (h : List (ℕ × AnyEntry)) → Self.stands self.now h → IsHistory Self.debugs h }
         ensures state { (h : List (ℕ × AnyEntry)) → Self.stands self.now h → HasState Self.debugs result h }
+        // while a session is attached, whether the program was shut
+        ensures shut { (session : ℕ) → attached self.now session ≡ true → (h : List (ℕ × AnyEntry))
+            → Self.stands self.now h → tells_shut result ≡ (meaning Self.debugs h).shut }
         // a turn may leave everything as it is: nobody is the session of the number 0
         ensures idle { (k : ℕ) (h : List (ℕ × AnyEntry)) → Self.stands self.now h → Self.stands self.now (h ++ (k, Take 0) ∷ []) };
 
     /// Whether the session of this number is attached.
     fn is_attached(&self, session: u64) -> bool
-        ensures { result ≡ attached self.now session };
+        ensures is { result ≡ attached self.now session }
+        // then it is by the history
+        ensures held { attached self.now session ≡ true → (h : List (ℕ × AnyEntry)) → Self.stands self.now h
+            → IsAttached Self.debugs session h };
 
     /// Attaches a session and answers its number; the numbers count from 1.
     ///
@@ -70,7 +77,11 @@ pub trait Hosted<B>: Standing<Entry, B> {
     /// Answers a text of this session, which its owner tells.
     fn tell(&mut self, session: u64, text: &str) -> Told
         requires { attached self.old session ≡ true }
-        ensures { (k : ℕ) (h : List (ℕ × AnyEntry)) → Self.stands self.old h → Owns k session h → Self.stands self.new (h ++ (k, told_entry result session text.now) ∷ []) };
+        ensures stands { (k : ℕ) (h : List (ℕ × AnyEntry)) → Self.stands self.old h → Owns k session h
+            → Self.stands self.new (h ++ (k, told_entry result session text.now) ∷ []) }
+        // the texts of the answer fit behind those that wait, or they don't
+        ensures fits { (h : List (ℕ × AnyEntry)) → Self.stands self.old h
+            → FitsAs Self.debugs session text.now result h };
 
     /// Hands out the texts that wait for this session, to its owner.
     fn take(&mut self, session: u64) -> Vec<String>
@@ -80,7 +91,11 @@ pub trait Hosted<B>: Standing<Entry, B> {
 
     /// Detaches this session for its owner, if it is attached. Where it was lost, its loss is answered, once.
     fn detach(&mut self, session: u64) -> Option<SessionLost>
-        ensures { (k : ℕ) (h : List (ℕ × AnyEntry)) → Self.stands self.old h → Owns k session h → Self.stands self.new (h ++ (k, Detach session) ∷ []) };
+        ensures stands { (k : ℕ) (h : List (ℕ × AnyEntry)) → Self.stands self.old h → Owns k session h
+            → Self.stands self.new (h ++ (k, Detach session) ∷ []) }
+        // a loss by an overrun exactly where the session was lost so, and its owner wasn't told of that
+        ensures told { (h : List (ℕ × AnyEntry)) → Self.stands self.old h
+            → tells_overrun result ≡ overran (seat_after Self.debugs session h) };
 
     /// Makes the longest run of at most so many steps at a moment, in milliseconds since the epoch: it ends earlier only where
     /// the program isn't ready any more. It makes no step where a session that was lost before for want of memory is to be

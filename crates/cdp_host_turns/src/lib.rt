@@ -6,6 +6,7 @@
 //!   `handed` what it hands out to a session
 //! - `IsHistory`: a list of entries with their makers is a history of the program, and each session is its owner's
 //! - `Acts`: a turn of a pass left an entry after what others left
+//! - *there*: a session that is attached, whose program wasn't shut
 //! - *gone*: a session that was lost, or whose program was shut, before its turn
 #![tactic(auto)]
 

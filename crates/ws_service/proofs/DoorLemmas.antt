@@ -102,7 +102,7 @@ looks-by d p q state false is found = (tends-look d p q found.0, found.0.history
 -- the program was shut, or no ticket was left
 pub shuts-if : (d : Debugging) (p q : PassState Entry) (unshut : Option NotShut) → p.in_turn ≡ false
     → ShutsDown d p q unshut → Shuts d p q unshut
-shuts-if d p q None free act = (tends-last d p q Shut act (λ s. tt), tt)
+shuts-if d p q None free act = (tends-last d p q Shut act tt (λ s. tt), tt)
 shuts-if d p q (Some unshut) free none =
     (subst (λ z. Tends d p z [] []) (sym none.0) (tends-none d p free), none.1)
 

@@ -16,6 +16,8 @@ use Rattle.ws_service.specs.Doors.{EndsDoor, asked_more, questions}
 use Rattle.ws_service.specs.Joins.{AnswersForAll, AreAll, HasServed, IsServedDoor, joined_passes}
 use Rattle.ws_service.specs.Visits.{AreActs, AreNew, entries_of, links_of, sessions_of}
 use Rattle.ws_service.specs.declared.door.DoorEnd.{DoorEnd}
+use Rattle.ws_service.specs.Passing.{FindsThere}
+use Rattle.ws_service.proofs.EntryLemmas.{there-over}
 use Rattle.ws_service.proofs.PassingLemmas.{begins-on, was-longer}
 use Rattle.ws_service.proofs.VisitLemmas.{acts-stay}
 
@@ -47,6 +49,9 @@ served-at d q door ended s =
           subst (λ (n : ℕ). by n q.seen ≡ entries_of t.acts ++ t.last) k
           (subst (λ h. by s.first.number q.seen ≡ by s.first.number h ++ (entries_of t.acts ++ t.last)) s.unstarted.start
           t.tends.goes.own);
+      there =
+          subst (λ (z : ℕ × List (ℕ × Entry)). FindsThere d z.0 z.1 q.seen) (λ i. (k i, s.unstarted.start i))
+          t.tends.goes.there;
       are = subst (λ (n : ℕ). AreActs d n q.seen t.acts) k t.tends.are;
       apart = subst (λ h. AreNew h (sessions_of t.acts)) s.unstarted.start t.tends.new;
       links = told-added s.unasked.served door.served (links_of t.acts) s.is_new.2 t.links;
@@ -70,6 +75,9 @@ served-longer d k h g door ended longer own is s = record {
   last = s.last;
   end = s.end;
   own = own ∙ s.own;
+  there =
+      subst (FindsThere d k []) (sym longer.1)
+      (there-over d k [] h longer.0 (by_behind k h longer.0 g longer.1 own) s.there);
   are =
       subst (λ l. AreActs d k l s.acts) (sym longer.1)
       (acts-stay d k h longer.0 s.acts (subst (IsHistory d) longer.1 is)

@@ -1,3 +1,4 @@
+pub mod EntryLemmas
 pub mod PassingLemmas
 pub mod ConnectionLemmas
 pub mod SendLemmas

@@ -1,5 +1,5 @@
 -- A pass goes on, turn after turn.
-use Rattle.std.proofs.Common.{◌≡◌, ℕ, List, [], ◌∷◌, ◌++◌, false, refl, ap, sym, subst, ◌∙◌, append_assoc, append-nil}
+use Rattle.std.proofs.Common.{◌≡◌, inr, ℕ, List, [], ◌∷◌, ◌++◌, false, refl, ap, sym, subst, ◌∙◌, append_assoc, append-nil}
 use Rattle.cdp_host_isolation.specs.Histories.{Entry, Take}
 use Rattle.cdp_host_isolation.specs.Makers.{AreOwned, IsNoTake, Owns, by}
 use Rattle.cdp_host_isolation.proofs.MakerLemmas.{by-append, by-own, owned-front, owns-longer}
@@ -8,7 +8,9 @@ use Rattle.history_lock.specs.Histories.{Begins}
 use Rattle.history_lock.specs.Passes.{PassState, IsSamePass}
 use Rattle.cdp_host_turns.specs.Debuggings.{Debugging, handed}
 use Rattle.cdp_host_turns.specs.Turns.{Acts, Finds}
-use Rattle.ws_service.specs.Passing.{Goes, Serves, Was}
+use Rattle.cdp_host_turns.specs.Presences.{IsThere}
+use Rattle.ws_service.specs.Passing.{FindsThere, FoundAt, Goes, IsThereFor, Serves, Was}
+use Rattle.ws_service.proofs.EntryLemmas.{there-none, there-on, there-turn}
 
 pub begins-on : {A : Type 0} (xs ys zs : List A) → Begins xs ys → Begins ys zs → Begins xs zs
 begins-on xs ys zs a b = (a.0 ++ b.0, b.1 ∙ ap (λ l. l ++ b.0) a.1 ∙ append_assoc xs a.0 b.0)
@@ -28,13 +30,20 @@ made d p q entry a =
     (by-append p.number p.seen a.between ∙ ap (λ l. by p.number p.seen ++ l) a.nothing ∙ append-nil (by p.number p.seen))
     ∙ ap (λ l. by p.number p.seen ++ l) (by-own p.number entry [])
 
-pub goes : (d : Debugging) (p q : PassState Entry) (entry : Entry) → Acts d p q entry → Goes d p q (entry ∷ [])
-goes d p q entry a = record {
+-- and makes what was seen longer
+longer-by : (d : Debugging) (p q : PassState Entry) (entry : Entry) → Acts d p q entry → Begins p.seen q.seen
+longer-by d p q entry a =
+    (a.between ++ (p.number, entry) ∷ [], a.seen ∙ append_assoc p.seen a.between ((p.number, entry) ∷ []))
+
+pub goes : (d : Debugging) (p q : PassState Entry) (entry : Entry) (a : Acts d p q entry)
+    → IsThereFor d (p.seen ++ a.between) entry → Goes d p q (entry ∷ [])
+goes d p q entry a there = record {
   own = made d p q entry a;
-  longer = (a.between ++ (p.number, entry) ∷ [], a.seen ∙ append_assoc p.seen a.between ((p.number, entry) ∷ []));
+  longer = longer-by d p q entry a;
   history = λ _. a.history;
   same = a.same;
   free = a.free;
+  there = there-turn d p q entry a there;
 }
 
 -- no turn leaves nothing
@@ -45,6 +54,7 @@ goes-none d p free = record {
   history = λ h. h;
   same = (refl, refl, refl, refl, refl);
   free = free;
+  there = there-none d p.number p.seen;
 }
 
 pub goes-on : (d : Debugging) (p m q : PassState Entry) (es fs : List Entry) → Goes d p m es → Goes d m q fs
@@ -58,12 +68,30 @@ goes-on d p m q es fs a b = record {
   history = λ h. b.history (a.history h);
   same = same-on p m q a.same b.same;
   free = b.free;
+  there =
+      there-on d p.number p.seen m.seen q.seen b.longer a.there
+      (subst (λ (k : ℕ). FindsThere d k m.seen q.seen) a.same.1 b.there);
 }
 
 -- what a turn found was so at some time
 pub found-was : (d : Debugging) (R : List (ℕ × Entry) → Type 0) (p q : PassState Entry) (entry : Entry)
     → Finds d R p q entry → Was R q.seen
 found-was d R p q entry f = (p.seen ++ f.0.between, ((p.number, entry) ∷ [], f.0.seen), f.1)
+
+-- the entry of a turn came when what it found was so
+pub found-at : (d : Debugging) (R : List (ℕ × Entry) → Type 0) (p q : PassState Entry) (entry : Entry)
+    → Finds d R p q entry → FoundAt R entry q.seen
+found-at d R p q entry f = (p.seen ++ f.0.between, [], p.number, f.0.seen, f.1)
+
+pub found-longer : (R : List (ℕ × Entry) → Type 0) (entry : Entry) (h g : List (ℕ × Entry)) → Begins h g
+    → FoundAt R entry h → FoundAt R entry g
+found-longer R entry h g b f = (
+  f.0,
+  f.1 ++ b.0,
+  f.2,
+  b.1 ∙ ap (λ l. l ++ b.0) f.3 ∙ append_assoc f.0 ((f.2, entry) ∷ f.1) b.0,
+  f.4,
+)
 
 pub was-longer : (R : List (ℕ × Entry) → Type 0) (h g : List (ℕ × Entry)) → Begins h g → Was R h → Was R g
 was-longer R h g b was = (was.0, begins-on was.0 h g was.1 b, was.2)
@@ -83,17 +111,26 @@ quiet d s p q entry a owns none =
 owns-on : (d : Debugging) (s : ℕ) (p q : PassState Entry) (entry : Entry) → Acts d p q entry → Owns p.number s p.seen
     → Owns p.number s q.seen
 owns-on d s p q entry a owns =
-    subst (Owns p.number s) (sym (goes d p q entry a).longer.1) (owns-longer p.number s p.seen (goes d p q entry a).longer.0 owns)
+    let longer = longer-by d p q entry a in
+    subst (Owns p.number s) (sym longer.1) (owns-longer p.number s p.seen longer.0 owns)
 
-pub serves : (d : Debugging) (s : ℕ) (p q : PassState Entry) (entry : Entry) → Acts d p q entry → Owns p.number s p.seen
-    → IsNoTake s entry → Serves d s p q (entry ∷ []) []
-serves d s p q entry a owns none =
-    record { goes = goes d p q entry a; handed_out = quiet d s p q entry a owns none; owns = owns-on d s p q entry a owns }
+pub serves : (d : Debugging) (s : ℕ) (p q : PassState Entry) (entry : Entry) (a : Acts d p q entry)
+    → IsThereFor d (p.seen ++ a.between) entry → Owns p.number s p.seen → IsNoTake s entry
+    → Serves d s p q (entry ∷ []) []
+serves d s p q entry a there owns none = record {
+  goes = goes d p q entry a there;
+  handed_out = quiet d s p q entry a owns none;
+  owns = owns-on d s p q entry a owns;
+}
 
-pub serves-take : (d : Debugging) (s : ℕ) (p q : PassState Entry) (texts : List (List ℕ)) → Acts d p q (Take s)
-    → Owns p.number s p.seen → handed d s q.seen ≡ handed d s p.seen ++ texts → Serves d s p q (Take s ∷ []) texts
-serves-take d s p q texts a owns handed_out =
-    record { goes = goes d p q (Take s) a; handed_out = handed_out; owns = owns-on d s p q (Take s) a owns }
+pub serves-take : (d : Debugging) (s : ℕ) (p q : PassState Entry) (texts : List (List ℕ)) (a : Acts d p q (Take s))
+    → IsThere d s (p.seen ++ a.between) → Owns p.number s p.seen
+    → handed d s q.seen ≡ handed d s p.seen ++ texts → Serves d s p q (Take s ∷ []) texts
+serves-take d s p q texts a there owns handed_out = record {
+  goes = goes d p q (Take s) a (inr there);
+  handed_out = handed_out;
+  owns = owns-on d s p q (Take s) a owns;
+}
 
 pub serves-none : (d : Debugging) (s : ℕ) (p : PassState Entry) → p.in_turn ≡ false → Owns p.number s p.seen
     → Serves d s p p [] []

@@ -7,7 +7,6 @@ use native.Mathlib.Decide.{ℕ_discrete}
 use Rattle.cdp_host_isolation.specs.Histories.{Entry, Attach, Tell, Take, Detach, Ran, Shut, steps_made, steps_of, whole}
 use Rattle.cdp_host_isolation.specs.Makers.{by, entries_of, entry_of}
 use Rattle.cdp_host_isolation.proofs.LongerLemmas.{call-program, whole-more}
-use Rattle.cdp_host_isolation.proofs.MakerLemmas.{by-append, by-own}
 use Rattle.history_lock.specs.Histories.{Begins, limit}
 use Rattle.history_lock.specs.Passes.{PassState}
 use Rattle.cdp_edge.specs.Outside.{GainsPrefix, IfTold, gains}
@@ -21,11 +20,13 @@ use Rattle.cdp_host_turns.specs.States.{HasState}
 use Rattle.cdp_host_turns.specs.Turns.{Acts, Finds, Prints, Steps, printed_by}
 use Rattle.cdp_host_turns.specs.declared.state.State.{State}
 use Rattle.cdp_host_turns.specs.declared.state.State.TheVariants as states
+use Rattle.ws_service.specs.Passing.{IsThereFor}
 use Rattle.ws_service.specs.Programs.{AreLeft, AreTurns, Counts, FindsDue, Finishes, GainsLines, HasReason, HasRun, IsDue, IsLast, IsRunOf, OnlyRuns, Output, Writes, end_at, end_in, may_cut, shuts_at}
 use Rattle.ws_service.specs.Shutdowns.{HadNoTicket, ShutsDown, shut_entries}
 use Rattle.ws_service.specs.declared.program.RunEnd.{RunEnd}
 use Rattle.ws_service.specs.declared.program.RunEnd.TheVariants as ends
 use Rattle.ws_service.specs.declared.shutdown.NotShut.{NotShut}
+use Rattle.ws_service.proofs.EntryLemmas.{Falls, alone, falls, none-at-all, none-between, same-entry}
 use Rattle.ws_service.proofs.PassingLemmas.{goes, goes-none, goes-on}
 
 -- ---- the makers of runs
@@ -79,37 +80,6 @@ parts h m g a b more first second whole =
     append_cancel_left h more (a ++ b)
     (sym whole ∙ second ∙ ap (λ l. l ++ b) first ∙ append_assoc h a b)
 
-same-head : {A : Type 0} → (x y : A) (xs ys : List A) → x ∷ xs ≡ y ∷ ys → x ≡ y
-same-head x y xs ys is = cc
-
-pub same-tail : {A : Type 0} → (x y : A) (xs ys : List A) → x ∷ xs ≡ y ∷ ys → xs ≡ ys
-same-tail x y xs ys is = cc
-
-some-after : {A : Type 0} → (front rest : List A) (x : A) → [] ≡ front ++ x ∷ rest → ⊥
-some-after [] rest x is = absurd cc
-some-after (y ∷ front) rest x is = absurd cc
-
--- one entry alone
-alone : {A : Type 0} → (y x : A) (front rest : List A) → y ∷ [] ≡ front ++ x ∷ rest
-    → (front ≡ []) × (y ≡ x) × (rest ≡ [])
-alone y x [] rest is = (refl, same-head y x [] rest is, sym (same-tail y x [] rest is))
-alone y x (z ∷ front) rest is = absurd (some-after front rest x (same-tail y z [] (front ++ x ∷ rest) is))
-
--- an entry falls into the first list, or after it
-abbrev pub Falls : {A : Type 0} → List A → List A → A → Type 0
-Falls {A} m front x = Begins m front ⊎ ((rest : List A) × (m ≡ front ++ x ∷ rest))
-
-falls-more : {A : Type 0} → (y z x : A) (m front : List A) → y ≡ z → Falls m front x → Falls (y ∷ m) (z ∷ front) x
-falls-more y z x m front same (inl b) = inl (b.0, λ i. sym same i ∷ b.1 i)
-falls-more y z x m front same (inr w) = inr (w.0, λ i. same i ∷ w.1 i)
-
-pub falls : {A : Type 0} → (m b front rest : List A) (x : A) → m ++ b ≡ front ++ x ∷ rest → Falls m front x
-falls [] b front rest x is = inl (front, refl)
-falls (y ∷ m) b [] rest x is = inr (m, ap (λ z. z ∷ m) (same-head y x (m ++ b) rest is))
-falls (y ∷ m) b (z ∷ front) rest x is =
-    falls-more y z x m front (same-head y z (m ++ b) (front ++ x ∷ rest) is)
-    (falls m b front rest x (same-tail y z (m ++ b) (front ++ x ∷ rest) is))
-
 -- ---- entries that were due
 
 due-before : (d : Debugging) (k : ℕ) (front rest more : List (ℕ × Entry)) (entry : Entry) (end : Option RunEnd)
@@ -132,13 +102,7 @@ due-on d k h m g end longer first second = λ front rest entry begins is.
 
 -- where nothing is left
 due-none : (d : Debugging) (k : ℕ) (h : List (ℕ × Entry)) (end : Option RunEnd) → FindsDue d k h h end
-due-none d k h end = λ front rest entry begins is.
-    let all : h ++ [] ≡ h ++ (begins.0 ++ (k, entry) ∷ rest) =
-    append-nil h
-    ∙ is
-    ∙ ap (λ l. l ++ (k, entry) ∷ rest) begins.1
-    ∙ append_assoc h begins.0 ((k, entry) ∷ rest) in
-    absurd (some-after begins.0 rest (k, entry) (append_cancel_left h [] (begins.0 ++ (k, entry) ∷ rest) all))
+due-none d k h end = λ front rest entry begins is. absurd (none-at-all k h front rest entry begins is)
 
 -- the entry of a turn was due, or the host was broken, and it made no step
 abbrev FindsAt : Debugging → List (ℕ × Entry) → Entry → Option RunEnd → Type 0
@@ -148,9 +112,6 @@ is-last : (d : Debugging) (k : ℕ) (h : List (ℕ × Entry)) (entry : Entry) (e
     → FindsAt d h entry end → (rest : List (ℕ × Entry)) → rest ≡ [] → IsDue d h entry ⊎ IsLast k end entry rest
 is-last d k h entry end (inl due) rest none = inl due
 is-last d k h entry end (inr broken) rest none = inr (broken.0, broken.1, ap (by k) none)
-
-same-entry : (j k : ℕ) (entry other : Entry) → ◌≡◌ {A = ℕ × Entry} (j, entry) (k, other) → entry ≡ other
-same-entry j k entry other is = ap (λ (made : ℕ × Entry). made.1) is
 
 due-last : (d : Debugging) (k : ℕ) (h front rest : List (ℕ × Entry)) (left entry : Entry) (end : Option RunEnd)
     → FindsAt d h left end → Begins h front → h ++ (k, left) ∷ [] ≡ front ++ (k, entry) ∷ rest
@@ -164,19 +125,6 @@ due-last d k h front rest left entry end found begins is =
     let same = same-entry k k left entry one.1 in
     subst (λ l. IsDue d l entry ⊎ IsLast k end entry rest) (sym front-same)
     (is-last d k h entry end (subst (λ (e : Entry). FindsAt d h e end) same found) rest one.2)
-
--- there is none where this maker left nothing
-pub none-between : (k : ℕ) (h between front rest : List (ℕ × Entry)) (entry : Entry) → by k between ≡ [] → Begins h front
-    → h ++ between ≡ front ++ (k, entry) ∷ rest → ⊥
-none-between k h between front rest entry nothing begins is =
-    let all : between ≡ begins.0 ++ (k, entry) ∷ rest =
-    append_cancel_left h between (begins.0 ++ (k, entry) ∷ rest)
-    (is ∙ ap (λ l. l ++ (k, entry) ∷ rest) begins.1 ∙ append_assoc h begins.0 ((k, entry) ∷ rest)) in
-    some-after (by k begins.0) (by k rest) entry
-    (sym nothing
-    ∙ ap (by k) all
-    ∙ by-append k begins.0 ((k, entry) ∷ rest)
-    ∙ ap (λ l. by k begins.0 ++ l) (by-own k entry rest))
 
 due-act : (d : Debugging) (k : ℕ) (h between front rest : List (ℕ × Entry)) (left entry : Entry)
     (end : Option RunEnd) → by k between ≡ [] → FindsAt d (h ++ between) left end → Begins h front
@@ -277,7 +225,7 @@ writes-shut : (d : Debugging) (k : ℕ) (p m q : PassState Entry) (act : Acts d 
     (before after : List ℕ) → m.number ≡ k → Begins p.seen m.seen → Writes d k cut p.seen m.seen before after
     → Writes d k cut p.seen q.seen before after
 writes-shut d k p m q act cut before after number a first = λ more is only.
-    let b = (goes d m q Shut act).longer in
+    let b = (goes d m q Shut act tt).longer in
     let all = subst (OnlyRuns k) (parts p.seen m.seen q.seen a.0 b.0 more a.1 b.1 is) only in
     let x = first a.0 a.1 (only-front k a.0 b.0 all) in
     let later = subst (λ j. OnlyRuns j b.0) (sym number) (only-after k a.0 b.0 all) in
@@ -357,13 +305,13 @@ run-next d moment now p m q old mid new end same a b =
 
 -- one turn
 turn-run : (d : Debugging) (moment : Option ℕ) (p q : PassState Entry) (old new : Output) (entry : Entry)
-    (texts : List (List ℕ)) (end : Option RunEnd) (act : Acts d p q entry)
+    (texts : List (List ℕ)) (end : Option RunEnd) (act : Acts d p q entry) → IsThereFor d (p.seen ++ act.between) entry
     → AreLeft moment end (entry ∷ []) → Prints d (steps_of entry) texts (p.seen ++ act.between)
     → FindsAt d (p.seen ++ act.between) entry end → GainsLines (may_cut end) old.content new.content texts
     → HasReason d end q.seen → Counts end old.faults new.faults → HasRun d moment p q old new end
-turn-run d moment p q old new entry texts end act left prints found gained reason counts = record {
+turn-run d moment p q old new entry texts end act there left prints found gained reason counts = record {
   entries = entry ∷ [];
-  goes = goes d p q entry act;
+  goes = goes d p q entry act there;
   left = left;
   due = due-turn d p q entry end act found;
   writes = writes-turn d p q entry act (may_cut end) old.content new.content texts prints gained;
@@ -433,7 +381,7 @@ pub idle-run : (d : Debugging) (moment : Option ℕ) (p q : PassState Entry) (ou
 idle-run d moment p q out state end is found some =
     let h = p.seen ++ found.0.between in
     subst (λ (e : Option RunEnd). HasRun d moment p q out out e) (sym is)
-    (turn-run d moment p q out out (Take 0) [] (end_in state) found.0
+    (turn-run d moment p q out out (Take 0) [] (end_in state) found.0 (inl refl)
     (left-turns moment (end_in state) (Take 0 ∷ []) (unshut-in state) (refl, tt)) (prints-none d h) (idle-in d state h found.1 some) (gains-same (may_cut (end_in state)) out.content)
     (reason-found d p q found.0 state found.1) (counts-in state out.faults out.faults refl))
 
@@ -442,7 +390,7 @@ pub broken-run : (d : Debugging) (moment : Option ℕ) (at : ℕ) (p q : PassSta
     → IfTold moment (λ ms. at ≡ ms) → Acts d p q (Ran 0 at lost) → HasRun d moment p q out out (Some ends.Broken)
 broken-run d moment at p q out lost told act =
     let h = p.seen ++ act.between in
-    turn-run d moment p q out out (Ran 0 at lost) [] (Some ends.Broken) act
+    turn-run d moment p q out out (Ran 0 at lost) [] (Some ends.Broken) act tt
     (left-turns moment (Some ends.Broken) (Ran 0 at lost ∷ []) refl (told, tt)) (prints-none d h) (inr (refl, refl))
     (gains-same false out.content) tt refl
 
@@ -466,7 +414,7 @@ whole-run : (d : Debugging) (moment : Option ℕ) (at : ℕ) (p q : PassState En
     → HasRun d moment p q old new (end_in state)
 whole-run d moment at p q old new texts state told made is gained quiet =
     let act = made.act.0 in
-    turn-run d moment p q old new (Ran made.steps at made.lost) texts (end_in state) act
+    turn-run d moment p q old new (Ran made.steps at made.lost) texts (end_in state) act tt
     (left-turns moment (end_in state) (Ran made.steps at made.lost ∷ []) (unshut-in state) (told, tt)) made.act.1
     (inl made.longest) (gains-whole (may_cut (end_in state)) old.content new.content texts gained)
     (reason-left d state q.seen is) (counts-in state old.faults new.faults quiet)
@@ -501,7 +449,7 @@ unshut-run : (d : Debugging) (moment : Option ℕ) (at : ℕ) (p q : PassState E
 unshut-run d moment at p q old new texts fault unshut spent told made gained counts =
     let end = Some (end_at fault (Some unshut)) in
     let ran = Ran made.steps at made.lost in
-    turn-run d moment p q old new ran texts end made.act.0
+    turn-run d moment p q old new ran texts end made.act.0 tt
     (left-turns moment end (ran ∷ []) (shuts-fault fault (Some unshut)) (told, tt)) made.act.1 (inl made.longest)
     (gains-fault fault (Some unshut) old.content new.content texts gained) (reason-fault d fault (Some unshut) q.seen spent)
     counts
@@ -514,8 +462,8 @@ shut-run : (d : Debugging) (moment : Option ℕ) (at : ℕ) (p m q : PassState E
 shut-run d moment at p m q old new texts fault told made act gained counts =
     let end = Some (end_at fault None) in
     let ran = Ran made.steps at made.lost in
-    let first = goes d p m ran made.act.0 in
-    let second = goes d m q Shut act in record {
+    let first = goes d p m ran made.act.0 tt in
+    let second = goes d m q Shut act tt in record {
       entries = ran ∷ Shut ∷ [];
       goes = goes-on d p m q (ran ∷ []) (Shut ∷ []) first second;
       left = (ran ∷ [], (told, tt), ap (λ l. ran ∷ l) (sym (shuts-fault fault None)));

@@ -29,7 +29,8 @@ use Rattle.ws_service.specs.declared.program.RunEnd.TheVariants as ends
 use Rattle.ws_service.proofs.ClientLemmas.{Each, MakesNoSteps, ShutsNothing, each-append, each-are, shutless-door, stepless-door}
 use Rattle.ws_service.proofs.JoinLemmas.{among}
 use Rattle.ws_service.proofs.OutputLemmas.{writes-over}
-use Rattle.ws_service.proofs.ProgramLemmas.{Falls, falls, none-between, none-made, only-after, same-tail}
+use Rattle.ws_service.proofs.EntryLemmas.{Falls, falls, none-between, same-tail}
+use Rattle.ws_service.proofs.ProgramLemmas.{none-made, only-after}
 
 -- ---- how doors ended
 

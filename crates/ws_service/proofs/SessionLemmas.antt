@@ -12,17 +12,19 @@ use Rattle.cdp_edge_server.specs.Heard.{Heard}
 use Rattle.cdp_edge_server.specs.declared.link.LinkFault.{LinkFault}
 use Rattle.cdp_edge_server.specs.declared.link.LinkFault.TheVariants as faults
 use Rattle.cdp_host_turns.specs.Debuggings.{Debugging, IsHistory, IsNew, handed, sent_alone}
+use Rattle.cdp_host_turns.specs.Presences.{IsGoneAs, IsToldAs}
 use Rattle.cdp_host_turns.specs.States.{IsOver, IsShut}
-use Rattle.cdp_host_turns.specs.Turns.{Acts, Finds, IsOverIf, Leaves, Takes}
+use Rattle.cdp_host_turns.specs.Turns.{Acts, Finds, IsTakenAs, Leaves, Takes}
 use Rattle.cdp_host_turns.specs.declared.answers.Gone.{Gone}
 use Rattle.cdp_host_turns.specs.declared.answers.Gone.TheVariants as gone
 use Rattle.cdp_host_turns.specs.declared.answers.HandedOut.{HandedOut}
+use Rattle.cdp_host_turns.specs.declared.answers.Told.TheVariants as told
 use Rattle.ws_service.specs.Connections.{AllGoOn, Ends, SentOf, end_at, end_of, turns, turns_at}
 use Rattle.ws_service.specs.Passing.{Serves}
-use Rattle.ws_service.specs.Sessions.{Answers, EndsTaking, HandsOut, HasCause, Hears, IsEnded, IsServed, Talk, Waits, WasOverIf, talks}
+use Rattle.ws_service.specs.Sessions.{Answers, EndsTaking, HandsOut, HasCause, HasOverrun, Hears, IsEnded, IsServed, Talk, Waits, WasOverIf, talks}
 use Rattle.ws_service.specs.declared.served.Served.{Served}
 use Rattle.ws_service.specs.declared.served.Served.TheVariants as served
-use Rattle.ws_service.proofs.PassingLemmas.{found-was, goes, goes-on, serves, serves-none, serves-on, serves-take, still-owns, was-longer}
+use Rattle.ws_service.proofs.PassingLemmas.{found-at, found-longer, found-was, goes, goes-on, serves, serves-none, serves-on, serves-take, still-owns, was-longer}
 use Rattle.ws_service.proofs.ConnectionLemmas.{connection-after, ends-here, go-on-more, gone-at-text, memory-at-text, over-spent, overrun-at-text, sent-after, spent-at, taking-after-text, taking-alone, turns-more}
 use Rattle.ws_service.proofs.SendLemmas.{adds-none, adds-on}
 
@@ -36,30 +38,35 @@ talks-none old = λ i. record { answers = adds-none old.answers i; sent = adds-n
 
 -- ---- causes
 
-pub cause-longer : (d : Debugging) (end : Served) (h g : List (ℕ × Entry)) → Begins h g → HasCause d end h → HasCause d end g
-cause-longer d served.Closed h g b c = tt
-cause-longer d served.TooBig h g b c = tt
-cause-longer d served.Binary h g b c = tt
-cause-longer d served.Overrun h g b c = tt
-cause-longer d served.Shut h g b c = was-longer (IsShut d) h g b c
-cause-longer d served.Over h g b c = was-longer (IsOver d) h g b c
-cause-longer d served.Fault h g b c = tt
-cause-longer d (served.Spent ticket) h g b c = tt
-cause-longer d served.Memory h g b c = tt
+overrun-longer : (d : Debugging) (s : ℕ) (h g : List (ℕ × Entry)) → Begins h g → HasOverrun d s h → HasOverrun d s g
+overrun-longer d s h g b (inl lost) = inl (found-longer (IsGoneAs d s (gone.Lost Overrun)) (Detach s) h g b lost)
+overrun-longer d s h g b (inr over) =
+    inr (over.0, found-longer (IsToldAs d s over.0 told.Overrun) (Tell s over.0) h g b over.1)
+
+pub cause-longer : (d : Debugging) (s : ℕ) (end : Served) (h g : List (ℕ × Entry)) → Begins h g → HasCause d s end h
+    → HasCause d s end g
+cause-longer d s served.Closed h g b c = tt
+cause-longer d s served.TooBig h g b c = tt
+cause-longer d s served.Binary h g b c = tt
+cause-longer d s served.Overrun h g b c = overrun-longer d s h g b c
+cause-longer d s served.Shut h g b c = found-longer (IsGoneAs d s gone.Shut) (Detach s) h g b c
+cause-longer d s served.Over h g b c = was-longer (IsOver d) h g b c
+cause-longer d s served.Fault h g b c = tt
+cause-longer d s (served.Spent ticket) h g b c = tt
+cause-longer d s served.Memory h g b c = tt
 
 -- ---- a session that is gone
 
 -- what its turn left
 gone-serves : (d : Debugging) (s : ℕ) (p q : PassState Entry) (why : Gone) → Leaves d s p q why → Owns p.number s p.seen
     → Serves d s p q (Detach s ∷ []) []
-gone-serves d s p q (gone.Lost loss) a owns = serves d s p q (Detach s) a owns tt
-gone-serves d s p q gone.Shut f owns = serves d s p q (Detach s) f.0 owns tt
+gone-serves d s p q why f owns = serves d s p q (Detach s) f.0 tt owns tt
 
 gone-cause : (d : Debugging) (s : ℕ) (p q : PassState Entry) (why : Gone) → Leaves d s p q why
-    → HasCause d (end_of why) q.seen
-gone-cause d s p q (gone.Lost Overrun) a = tt
-gone-cause d s p q (gone.Lost Memory) a = tt
-gone-cause d s p q gone.Shut f = found-was d (IsShut d) p q (Detach s) f
+    → HasCause d s (end_of why) q.seen
+gone-cause d s p q (gone.Lost Overrun) f = inl (found-at d (IsGoneAs d s (gone.Lost Overrun)) p q (Detach s) f)
+gone-cause d s p q (gone.Lost Memory) f = tt
+gone-cause d s p q gone.Shut f = found-at d (IsGoneAs d s gone.Shut) p q (Detach s) f
 
 gone-taking : (s : ℕ) (why : Gone) → EndsTaking s (end_of why) (Detach s ∷ []) false
 gone-taking s (gone.Lost Overrun) = (refl, refl)
@@ -87,8 +94,9 @@ hands-spent d s ticket p q old new is stays free owns same = (
   tt,
 )
 
-over-was : (d : Debugging) (s : ℕ) (p q : PassState Entry) (b : Bool) → Finds d (IsOverIf d b) p q (Take s) → WasOverIf d b q.seen
-over-was d s p q true f = found-was d (IsOver d) p q (Take s) f
+over-was : (d : Debugging) (s : ℕ) (p q : PassState Entry) (b : Bool) → Finds d (IsTakenAs d s b) p q (Take s)
+    → WasOverIf d b q.seen
+over-was d s p q true f = found-was d (IsOver d) p q (Take s) (f.0, f.1.1)
 over-was d s p q false f = tt
 
 -- all were sent
@@ -97,7 +105,7 @@ pub hands-all : (d : Debugging) (s : ℕ) (p q : PassState Entry) (old new : Tal
     → HandsOut d s p q old new (Ok taken.is_over)
 hands-all d s p q old new taken t owns answers sent = (
   map string_bytes taken.texts.items,
-  serves-take d s p q (map string_bytes taken.texts.items) t.0.0 owns t.1,
+  serves-take d s p q (map string_bytes taken.texts.items) t.0.0 t.0.1.0 owns t.1,
   (λ i. record { answers = (answers ∙ adds-none old.answers) i; sent = sent i }),
   over-was d s p q taken.is_over t.0,
 )
@@ -109,7 +117,7 @@ pub hands-some : (d : Debugging) (s : ℕ) (p m q : PassState Entry) (old new : 
     → IsEnded d s m q (end_at fault) end → HandsOut d s p q old new (Err end)
 hands-some d s p m q old new taken part fault end t owns answers begins sent (inl e) =
     let texts = map string_bytes taken.texts.items in
-    let first = serves-take d s p m texts t.0.0 owns t.1 in
+    let first = serves-take d s p m texts t.0.0 t.0.1.0 owns t.1 in
     let both = serves-on d s p m q (Take s ∷ []) (Detach s ∷ []) texts [] first e.1 in
     subst (λ (x : Served). HandsOut d s p q old new (Err x)) (sym e.0)
     (by_fault fault both)
@@ -143,7 +151,7 @@ hands-some d s p m q old new taken part fault end t owns answers begins sent (in
     )
 hands-some d s p m q old new taken part fault end t owns answers begins sent (inr (ticket, is, at, stays)) =
     let texts = map string_bytes taken.texts.items in
-    let first = serves-take d s p m texts t.0.0 owns t.1 in
+    let first = serves-take d s p m texts t.0.0 t.0.1.0 owns t.1 in
     subst (λ (x : Served). HandsOut d s p q old new (Err x)) (sym is) (
       Take s ∷ [],
       texts,
@@ -161,43 +169,71 @@ pub owns-taken : (d : Debugging) (s : ℕ) (p q : PassState Entry) (taken : Hand
     → Owns p.number s p.seen → Owns q.number s q.seen
 owns-taken d s p q taken t owns =
     let texts = map string_bytes taken.texts.items in
-    still-owns d s p q (Take s ∷ []) texts (serves-take d s p q texts t.0.0 owns t.1)
+    still-owns d s p q (Take s ∷ []) texts (serves-take d s p q texts t.0.0 t.0.1.0 owns t.1)
 
 -- ---- a text is told
 
-pub owns-told : (d : Debugging) (s : ℕ) (p q : PassState Entry) (text : List ℕ) → Acts d p q (Tell s text)
+-- a text was told, and its answer kept
+abbrev pub Keeps : Debugging → ℕ → PassState Entry → PassState Entry → List ℕ → Type 0
+Keeps d s p q text = Finds d (IsToldAs d s text told.Kept) p q (Tell s text)
+
+pub owns-told : (d : Debugging) (s : ℕ) (p q : PassState Entry) (text : List ℕ) → Keeps d s p q text
     → Owns p.number s p.seen → Owns q.number s q.seen
-owns-told d s p q text a owns =
-    still-owns d s p q (Tell s text ∷ []) [] (serves d s p q (Tell s text) a owns tt)
+owns-told d s p q text f owns =
+    still-owns d s p q (Tell s text ∷ []) [] (serves d s p q (Tell s text) f.0 f.1.0 owns tt)
 
 pub answers-on : (d : Debugging) (s : ℕ) (p m q : PassState Entry) (text : List ℕ) (old new : Talk) (is_over : Bool)
-    → Acts d p m (Tell s text) → Owns p.number s p.seen → HandsOut d s m q old new (Ok is_over) → Answers d s p q text old new None
-answers-on d s p m q text old new is_over a owns h =
-    (h.0, serves-on d s p m q (Tell s text ∷ []) (Take s ∷ []) [] h.0 (serves d s p m (Tell s text) a owns tt) h.1, h.2)
+    → Keeps d s p m text → Owns p.number s p.seen → HandsOut d s m q old new (Ok is_over)
+    → Answers d s p q text old new None
+answers-on d s p m q text old new is_over f owns h = (
+  h.0,
+  serves-on d s p m q (Tell s text ∷ []) (Take s ∷ []) [] h.0 (serves d s p m (Tell s text) f.0 f.1.0 owns tt) h.1,
+  h.2,
+)
 
 pub answers-end : (d : Debugging) (s : ℕ) (p m q : PassState Entry) (text : List ℕ) (old new : Talk) (end : Served)
-    → Acts d p m (Tell s text) → Owns p.number s p.seen → HandsOut d s m q old new (Err end) → Answers d s p q text old new (Some end)
-answers-end d s p m q text old new end a owns h = (
+    → Keeps d s p m text → Owns p.number s p.seen → HandsOut d s m q old new (Err end)
+    → Answers d s p q text old new (Some end)
+answers-end d s p m q text old new end f owns h = (
   Tell s text ∷ h.0,
   h.1,
   h.2,
   h.3,
-  serves-on d s p m q (Tell s text ∷ []) h.0 [] h.1 (serves d s p m (Tell s text) a owns tt) h.4,
+  serves-on d s p m q (Tell s text ∷ []) h.0 [] h.1 (serves d s p m (Tell s text) f.0 f.1.0 owns tt) h.4,
   taking-after-text s text end h.0 h.3 h.7,
   h.5,
   h.6,
   h.8,
 )
 
-pub answers-overrun : (d : Debugging) (s : ℕ) (p q : PassState Entry) (text : List ℕ) (old new : Talk) → Acts d p q (Tell s text)
-    → Owns p.number s p.seen → new ≡ old → Answers d s p q text old new (Some served.Overrun)
-answers-overrun d s p q text old new a owns same =
-    (Tell s text ∷ [], [], [], false, serves d s p q (Tell s text) a owns tt, overrun-at-text s text, same ∙ talks-none old, refl, tt)
+pub answers-overrun : (d : Debugging) (s : ℕ) (p q : PassState Entry) (text : List ℕ) (old new : Talk)
+    → Finds d (IsToldAs d s text told.Overrun) p q (Tell s text) → Owns p.number s p.seen → new ≡ old
+    → Answers d s p q text old new (Some served.Overrun)
+answers-overrun d s p q text old new f owns same = (
+  Tell s text ∷ [],
+  [],
+  [],
+  false,
+  serves d s p q (Tell s text) f.0 f.1.0 owns tt,
+  overrun-at-text s text,
+  same ∙ talks-none old,
+  refl,
+  inr (text, found-at d (IsToldAs d s text told.Overrun) p q (Tell s text) f),
+)
 
 pub answers-memory : (d : Debugging) (s : ℕ) (p q : PassState Entry) (text : List ℕ) (old new : Talk) → Acts d p q (Detach s)
     → Owns p.number s p.seen → new ≡ old → Answers d s p q text old new (Some served.Memory)
-answers-memory d s p q text old new a owns same =
-    (Detach s ∷ [], [], [], false, serves d s p q (Detach s) a owns tt, memory-at-text s text, same ∙ talks-none old, refl, tt)
+answers-memory d s p q text old new a owns same = (
+  Detach s ∷ [],
+  [],
+  [],
+  false,
+  serves d s p q (Detach s) a tt owns tt,
+  memory-at-text s text,
+  same ∙ talks-none old,
+  refl,
+  tt,
+)
 
 pub answers-gone : (d : Debugging) (s : ℕ) (p q : PassState Entry) (text : List ℕ) (old new : Talk) (why : Gone) → Leaves d s p q why
     → Owns p.number s p.seen → new ≡ old → Answers d s p q text old new (Some (end_of why))
@@ -220,19 +256,19 @@ answers-spent d s ticket p q text old new is stays free owns same = (
 
 -- the session was gone after it, before its texts were handed out
 pub answers-gone-after : (d : Debugging) (s : ℕ) (p m q : PassState Entry) (text : List ℕ) (old new : Talk) (why : Gone)
-    → Acts d p m (Tell s text) → Leaves d s m q why → Owns p.number s p.seen → new ≡ old
+    → Keeps d s p m text → Leaves d s m q why → Owns p.number s p.seen → new ≡ old
     → Answers d s p q text old new (Some (end_of why))
-answers-gone-after d s p m q text old new why a l owns same =
-    answers-end d s p m q text old new (end_of why) a owns
-    (hands-gone d s m q old new why l (owns-told d s p m text a owns) same)
+answers-gone-after d s p m q text old new why f l owns same =
+    answers-end d s p m q text old new (end_of why) f owns
+    (hands-gone d s m q old new why l (owns-told d s p m text f owns) same)
 
 -- or no ticket was left for that
 pub answers-spent-after : (d : Debugging) (s ticket : ℕ) (p q : PassState Entry) (text : List ℕ) (old new : Talk)
-    → Acts d p q (Tell s text) → ticket ≡ limit → Owns p.number s p.seen → new ≡ old
+    → Keeps d s p q text → ticket ≡ limit → Owns p.number s p.seen → new ≡ old
     → Answers d s p q text old new (Some (served.Spent ticket))
-answers-spent-after d s ticket p q text old new a is owns same =
-    answers-end d s p q q text old new (served.Spent ticket) a owns
-    (hands-spent d s ticket q q old new is refl a.free (owns-told d s p q text a owns) same)
+answers-spent-after d s ticket p q text old new f is owns same =
+    answers-end d s p q q text old new (served.Spent ticket) f owns
+    (hands-spent d s ticket q q old new is refl f.0.free (owns-told d s p q text f owns) same)
 
 -- ---- nothing is told
 
@@ -292,7 +328,7 @@ hears-nothing d s p q old mid new (Some end) is h =
 
 -- the session ends at an answer, or at none
 pub hears-last : (d : Debugging) (s : ℕ) (p q : PassState Entry) (answers : List Heard) (old new : Talk) (end result : Served)
-    → new ≡ talks old answers [] → Ends s end answers (Detach s ∷ []) false → HasCause d end q.seen
+    → new ≡ talks old answers [] → Ends s end answers (Detach s ∷ []) false → HasCause d s end q.seen
     → ((answers ≡ []) ⊎ ((answer : Heard) × (answers ≡ answer ∷ []))) → p.in_turn ≡ false → Owns p.number s p.seen
     → IsEnded d s p q end result → Hears d s p q old new (Some result)
 hears-last d s p q answers old new end result is ends cause few free owns (inl e) =
@@ -370,7 +406,7 @@ served-session d s p m q old new end a owns fresh none h = inr (
   record {
     entries = h.1;
     cut = h.4;
-    goes = goes-on d p m q (Attach ∷ []) h.1 (goes d p m Attach a) h.5.goes;
+    goes = goes-on d p m q (Attach ∷ []) h.1 (goes d p m Attach a tt) h.5.goes;
     connection = h.6;
     sent = subst (SentOf h.4 h.3) (sym (ap (λ l. l ++ h.2) none) ∙ sym h.5.handed_out ∙ handed-alone d s q.seen (h.5.goes.history a.history)) h.8;
     owns = subst (λ (k : ℕ). Owns k s q.seen) a.same.1 h.5.owns;
@@ -382,8 +418,9 @@ served-session d s p m q old new end a owns fresh none h = inr (
 
 pub served-shut : (d : Debugging) (p q : PassState Entry) (old : Talk) → Finds d (IsShut d) p q (Take 0)
     → IsServed d p q old old served.Shut
-served-shut d p q old f = inl ((goes d p q (Take 0) f.0, found-was d (IsShut d) p q (Take 0) f), refl)
+served-shut d p q old f =
+    inl ((goes d p q (Take 0) f.0 (inl refl), found-was d (IsShut d) p q (Take 0) f), refl)
 
 pub served-memory : (d : Debugging) (p q : PassState Entry) (old : Talk) → Acts d p q (Take 0)
     → IsServed d p q old old served.Memory
-served-memory d p q old a = inl (goes d p q (Take 0) a, refl)
+served-memory d p q old a = inl (goes d p q (Take 0) a (inl refl), refl)

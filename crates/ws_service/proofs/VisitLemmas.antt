@@ -16,7 +16,7 @@ use Rattle.cdp_host_turns.specs.Debuggings.{Debugging, IsHistory, sent_alone}
 use Rattle.cdp_host_turns.specs.States.{IsShut}
 use Rattle.cdp_host_turns.specs.Turns.{Acts}
 use Rattle.ws_service.specs.Connections.{Connection, Ends, IsCutOff, IsToldLast, SentOf, turns, turns_at}
-use Rattle.ws_service.specs.Passing.{Goes}
+use Rattle.ws_service.specs.Passing.{Goes, IsThereFor}
 use Rattle.ws_service.specs.Sessions.{IsRefused, Session}
 use Rattle.ws_service.specs.Visits.{AreActs, AreNew, DoorAct, IsAct, IsUnattached, IsVisit, Looked, Refused, Speaks, Tends, Visit, Visited, entries_at, entries_of, link_at, links_of, sessions_of}
 use Rattle.ws_service.specs.declared.served.Served.{Served}
@@ -57,7 +57,7 @@ visit-stays d k h g visit is none a = record {
   sent =
       subst (SentOf visit.cut visit.texts)
       (sym (alone-stays d k visit.session h g a.owns is (none visit.session a.owns))) a.sent;
-  cause = cause-longer d visit.end h (h ++ g) (g, refl) a.cause;
+  cause = cause-longer d visit.session visit.end h (h ++ g) (g, refl) a.cause;
   speaks = a.speaks;
 }
 
@@ -213,17 +213,17 @@ takes-nobodys k s h owns = All-cons (IsNoTake s) (Take 0) [] (nobody k s h owns)
 -- one look
 pub tends-look : (d : Debugging) (p q : PassState Entry) → Acts d p q (Take 0) → Tends d p q (Looked ∷ []) []
 tends-look d p q a = record {
-  goes = goes d p q (Take 0) a;
+  goes = goes d p q (Take 0) a (inl refl);
   are = (tt, tt);
   new = tt;
   others = λ s owns. takes-nobodys p.number s p.seen owns;
 }
 
 -- a last entry that takes no text
-pub tends-last : (d : Debugging) (p q : PassState Entry) (entry : Entry) → Acts d p q entry
-    → ((s : ℕ) → IsNoTake s entry) → Tends d p q [] (entry ∷ [])
-tends-last d p q entry a none = record {
-  goes = goes d p q entry a;
+pub tends-last : (d : Debugging) (p q : PassState Entry) (entry : Entry) (a : Acts d p q entry)
+    → IsThereFor d (p.seen ++ a.between) entry → ((s : ℕ) → IsNoTake s entry) → Tends d p q [] (entry ∷ [])
+tends-last d p q entry a there none = record {
+  goes = goes d p q entry a there;
   are = tt;
   new = tt;
   others = λ s owns. All-cons (IsNoTake s) entry [] (none s) (All-nil (IsNoTake s));

@@ -7,7 +7,7 @@ use Rattle.history_lock.specs.Passes.{LockId, PassState, joined_pass}
 use Rattle.cdp_edge_server.specs.Contents.{IsNew, Tended}
 use Rattle.cdp_host_turns.specs.Debuggings.{Debugging}
 use Rattle.ws_service.specs.Doors.{EndsDoor, IsTended, asked_more, questions}
-use Rattle.ws_service.specs.Passing.{Was}
+use Rattle.ws_service.specs.Passing.{FindsThere, Was}
 use Rattle.ws_service.specs.Visits.{AreActs, AreNew, DoorAct, entries_of, links_of, sessions_of}
 use Rattle.ws_service.specs.declared.door.DoorEnd.{DoorEnd}
 
@@ -36,14 +36,16 @@ pub record HasServed (d : Debugging) (q : PassState Entry) (door : Tended)
   pub is_end : ended ≡ Some end
 
 -- A door that was new was served by this maker, over a history: the maker's entries there are exactly those of what it
--- did, each act is so over the whole history, and each link that was served had a session of its own. The door took
--- back just these links, in order, has none out, and was asked so often. Serving it ended so, at some time.
+-- did, each text that a session was told, and each taking of its texts, found it there; each act is so over the whole
+-- history, and each link that was served had a session of its own. The door took back just these links, in order, has
+-- none out, and was asked so often. Serving it ended so, at some time.
 pub record IsServedDoor (d : Debugging) (k : ℕ) (h : List (ℕ × Entry)) (door : Tended)
     (ended : Option DoorEnd) : Type 0 where
   pub acts : List DoorAct
   pub last : List Entry
   pub end : DoorEnd
   pub own : by k h ≡ entries_of acts ++ last
+  pub there : FindsThere d k [] h
   pub are : AreActs d k h acts
   pub apart : AreNew [] (sessions_of acts)
   pub links : IfTold door.served (λ links. links ≡ links_of acts)

@@ -8,23 +8,35 @@ use Rattle.cdp_edge_server.specs.Contents.{adds, becomes}
 use Rattle.cdp_edge_server.specs.Heard as heard
 use Rattle.cdp_edge_server.specs.Heard.{Heard}
 use Rattle.cdp_host_turns.specs.Debuggings.{Debugging, IsNew, sent_alone}
+use Rattle.cdp_host_turns.specs.Presences.{IsGoneAs, IsToldAs}
 use Rattle.cdp_host_turns.specs.States.{IsOver, IsShut}
+use Rattle.cdp_host_turns.specs.declared.answers.Gone.TheVariants as gone
+use Rattle.cdp_host_turns.specs.declared.answers.Told.TheVariants as told
+use Rattle.cdp_host_isolation.specs.declared.seat.Loss.TheVariants.{Overrun}
 use Rattle.ws_service.specs.Connections.{Connection, GoesOn, SentOf, code_of, turns_at}
-use Rattle.ws_service.specs.Passing.{Goes, Serves, Was}
+use Rattle.ws_service.specs.Passing.{FoundAt, Goes, Serves, Was}
 use Rattle.ws_service.specs.declared.served.Served.{Served}
 use Rattle.ws_service.specs.declared.served.Served.TheVariants as served
 
--- what an end says of the program: that it was shut, or that it has ended
-abbrev pub HasCause : Debugging → Served → List (ℕ × Entry) → Type 0
-HasCause d served.Closed h = Unit {0}
-HasCause d served.TooBig h = Unit {0}
-HasCause d served.Binary h = Unit {0}
-HasCause d served.Overrun h = Unit {0}
-HasCause d served.Shut h = Was (IsShut d) h
-HasCause d served.Over h = Was (IsOver d) h
-HasCause d served.Fault h = Unit {0}
-HasCause d (served.Spent ticket) h = Unit {0}
-HasCause d served.Memory h = Unit {0}
+-- A session overran: at its detach it had been lost so, and its owner wasn't told of that; or it was told a text, and
+-- the answer didn't fit behind the texts that waited.
+abbrev pub HasOverrun : Debugging → ℕ → List (ℕ × Entry) → Type 0
+HasOverrun d s h =
+    FoundAt (IsGoneAs d s (gone.Lost Overrun)) (Detach s) h
+    ⊎ ((text : List ℕ) × FoundAt (IsToldAs d s text told.Overrun) (Tell s text) h)
+
+-- What an end says of a session and its program: that the session overran; that the program had been shut at its
+-- detach, when it wasn't lost; or that the program has ended.
+abbrev pub HasCause : Debugging → ℕ → Served → List (ℕ × Entry) → Type 0
+HasCause d s served.Closed h = Unit {0}
+HasCause d s served.TooBig h = Unit {0}
+HasCause d s served.Binary h = Unit {0}
+HasCause d s served.Overrun h = HasOverrun d s h
+HasCause d s served.Shut h = FoundAt (IsGoneAs d s gone.Shut) (Detach s) h
+HasCause d s served.Over h = Was (IsOver d) h
+HasCause d s served.Fault h = Unit {0}
+HasCause d s (served.Spent ticket) h = Unit {0}
+HasCause d s served.Memory h = Unit {0}
 
 -- ---- a link of a session
 
@@ -39,7 +51,7 @@ pub record Session (d : Debugging) (s : ℕ) (p q : PassState Entry) (end : Serv
   pub sent : SentOf cut texts (sent_alone d s q.seen)
   pub owns : Owns p.number s q.seen
   pub new : IsNew s p.seen
-  pub cause : HasCause d end q.seen
+  pub cause : HasCause d s end q.seen
 
 -- no session was attached: at most nobody's texts were taken
 abbrev pub IsRefused : Debugging → PassState Entry → PassState Entry → Served → Type 0
@@ -99,13 +111,13 @@ HandsOut d s p q old new (Ok is_over) =
     (texts : List (List ℕ)) × Serves d s p q (Take s ∷ []) texts × (new ≡ talks old [] texts) × WasOverIf d is_over q.seen
 HandsOut d s p q old new (Err end) =
     (entries : List Entry) × (texts sent : List (List ℕ)) × (cut : Bool) × Serves d s p q entries texts
-    × (new ≡ talks old [] sent) × SentOf cut sent texts × EndsTaking s end entries cut × HasCause d end q.seen
+    × (new ≡ talks old [] sent) × SentOf cut sent texts × EndsTaking s end entries cut × HasCause d s end q.seen
 
 -- a session ended after these answers of its link, the last ones: what it left, and what was handed out and sent
 abbrev pub EndsAfter : Debugging → ℕ → PassState Entry → PassState Entry → List Heard → Talk → Talk → Served → Type 0
 EndsAfter d s p q answers old new end =
     (entries : List Entry) × (texts sent : List (List ℕ)) × (cut : Bool) × Serves d s p q entries texts
-    × Connection s end answers entries cut × (new ≡ talks old [] sent) × SentOf cut sent texts × HasCause d end q.seen
+    × Connection s end answers entries cut × (new ≡ talks old [] sent) × SentOf cut sent texts × HasCause d s end q.seen
 
 -- a session was told a text, and what waits for it was sent: it goes on, or ends
 abbrev pub Answers : Debugging → ℕ → PassState Entry → PassState Entry → List ℕ → Talk → Talk → Option Served → Type 0
@@ -126,7 +138,7 @@ Hears d s p q old new None =
 Hears d s p q old new (Some end) =
     (answers : List Heard) × (entries : List Entry) × (texts sent : List (List ℕ)) × (cut : Bool)
     × Serves d s p q entries texts × Connection s end answers entries cut × (new ≡ talks old answers sent)
-    × SentOf cut sent texts × HasCause d end q.seen
+    × SentOf cut sent texts × HasCause d s end q.seen
 
 -- a session ends so: it was detached; or no ticket was left, and nothing was done
 abbrev pub IsEnded : Debugging → ℕ → PassState Entry → PassState Entry → Served → Served → Type 0

@@ -96,7 +96,7 @@ pub record IsVisit (d : Debugging) (k : ℕ) (h : List (ℕ × Entry)) (visit : 
   pub connection : Connection visit.session visit.end visit.answers visit.entries visit.cut
   pub owns : Owns k visit.session h
   pub sent : SentOf visit.cut visit.texts (sent_alone d visit.session h)
-  pub cause : HasCause d visit.end h
+  pub cause : HasCause d visit.session visit.end h
   pub speaks : Speaks visit.link visit.answers visit.texts visit.end
 
 -- no session was attached: the program was shut, there was no memory, or no ticket was left

@@ -5,7 +5,8 @@
 //! - `Connection`: the answers of a link and the entries that its session left for them
 //! - `Session`: a session in a history, whose link was sent exactly what it would be sent with no other session there
 //! - `HasRun`: a pass ran the program by some turns, and a sink was given what they printed
-//! - `Goes`: the entries that a pass left by some turns; `Was`: at some time a history was so
+//! - `Goes`: the entries that a pass left by some turns; `Was`: at some time a history was so; `FoundAt`: an entry came when
+//!   what was before it was so
 //! - *act*: what a pass does at a door: it serves a link that arrived (`Visit`), or looks whether the program is over
 //! - `Work`: what a thread does to what it owns; `IsServedDoor`: a door that was served, over the one history of all passes
 //! - `IsServing`: the program and all doors of a port, over that history

@@ -11,7 +11,7 @@ leave-requires-clause-stands g c =
     let stood = subst (λ host. g.H.Standing.stands host m.seen) (sym c.state-host.ensures.state) opened.state in
     let owns = still-owns p m c.args.session opened.seen c.enter.ensures.same c.requires.session in
     subst (λ (e : Entry). g.H.Standing.stands c.detach.new.self (m.seen ++ (m.number, e) ∷ [])) (sym c.detach-2.ensures)
-    (c.detach.ensures m.number m.seen stood owns)
+    (c.detach.ensures.stands m.number m.seen stood owns)
 
 pub returns-clause-acts : goal.returns-clause-acts
 returns-clause-acts g c =
@@ -22,7 +22,7 @@ returns-clause-acts g c =
     let stood = subst (λ host. g.H.Standing.stands host m.seen) (sym c.state-host.ensures.state) opened.state in
     let owns = still-owns p m c.args.session opened.seen c.enter.ensures.same c.requires.session in
     let q = c.leave-2.new.p in
-    let after = c.detach.ensures m.number m.seen stood owns in
+    let after = c.detach.ensures.stands m.number m.seen stood owns in
     acts d p m q (Detach c.args.session)
     (turn d p m q (Detach c.args.session) opened.seen c.enter.ensures.same c.enter.ensures.named
     (seen-with m q c.detach-2.result (Detach c.args.session) c.detach-2.ensures c.leave-2.ensures.seen)

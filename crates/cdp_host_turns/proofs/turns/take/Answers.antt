@@ -1,7 +1,7 @@
 use Rattle.std.proofs.Common.{Bool, ap, map, string_bytes, sym, subst}
 use Rattle.std.proofs.lemmas.Result.{IfOk-at_ok}
-use Rattle.cdp_host_turns.specs.Turns.{IsOverIf}
-use Rattle.cdp_host_turns.proofs.TurnLemmas.{Turn, finds, hands, over-if, still-owns, take-entry, take-leaves, turn}
+use Rattle.cdp_host_turns.specs.Turns.{IsOverIf, IsTakenAs}
+use Rattle.cdp_host_turns.proofs.TurnLemmas.{Turn, finds, hands, over-if, still-owns, take-entry, take-leaves, take-there, turn}
 use Rattle.cdp_host_turns.proofs.turns.take.Goals as goal
 
 pub leave-requires-clause-stands : goal.leave-requires-clause-stands
@@ -30,8 +30,9 @@ returns-in-Ok-clause-takes g c =
     let took = subst (Turn d p m q) (take-entry _ s r.answer c.in-Ok.texts r.entry c.in-Ok.is c.take-answer.ensures.entry) t in
     let over = subst (λ (b : Bool). IsOverIf d b m.seen) (sym c.taken.ensures.over)
     (over-if d c.state-before.result m.seen (c.state-before.ensures.state m.seen stood)) in
+    let there = take-there _ d s m.seen r.answer c.in-Ok.texts c.in-Ok.is (c.take-answer.ensures.finds m.seen stood) in
     let waits = IfOk-at_ok _ c.in-Ok.is c.take-answer.ensures.texts m.seen stood in (
-      finds d (IsOverIf d c.taken.result.is_over) p m q _ took over,
+      finds d (IsTakenAs d s c.taken.result.is_over) p m q _ took (there, over),
       hands d s p m q _ _ took c.requires.session (ap (λ texts. map string_bytes texts.items) c.taken.ensures.texts) waits,
     )
 
@@ -50,4 +51,4 @@ returns-clause-takes g c =
     let t = turn d p m q r.entry opened.seen c.enter.ensures.same c.enter.ensures.named c.leave.ensures.seen
     c.leave.ensures.free c.leave.ensures.same (c.state-after.ensures.history _ after) in
     take-leaves _ d s p m q r.answer c.in-Err.gone r.entry t c.in-Err.is c.take-answer.ensures.entry
-    (c.take-answer.ensures.shut m.seen stood)
+    (c.take-answer.ensures.finds m.seen stood)

@@ -25,4 +25,4 @@ returns-clause-tells g c =
     let t = turn d p m q r.entry opened.seen c.enter.ensures.same c.enter.ensures.named c.leave.ensures.seen
     c.leave.ensures.free c.leave.ensures.same (c.state-after.ensures.history _ after) in
     tells d c.args.session (string_bytes c.args.text) p m q r.answer r.entry t c.tell-answer.ensures.entry
-    (c.tell-answer.ensures.shut m.seen stood)
+    (c.tell-answer.ensures.finds m.seen stood) (c.tell-answer.ensures.fits m.seen stood)

@@ -1,7 +1,7 @@
 use Rattle.std.proofs.Common.{◌≡◌, None, Bool, ap, map, rules, string_bytes, sym, subst, ◌∙◌}
 use Rattle.std.proofs.lemmas.Result.{IfOk-at_ok}
-use Rattle.cdp_host_turns.specs.Turns.{IsOverIf, unless_kept}
-use Rattle.cdp_host_turns.proofs.TurnLemmas.{Turn, finds, first-turn, hands, midway, over-if, owns-midway, second-turn, still-owns, take-entry, take-leaves, tells, tells-alone, tells-kept, turn}
+use Rattle.cdp_host_turns.specs.Turns.{IsOverIf, IsTakenAs, unless_kept}
+use Rattle.cdp_host_turns.proofs.TurnLemmas.{Turn, finds, first-turn, hands, midway, over-if, owns-midway, second-turn, still-owns, take-entry, take-leaves, take-there, tells, tells-alone, tells-kept, turn}
 use Rattle.cdp_host_turns.proofs.turns.tell_and_take.Goals as goal
 
 pub leave_once-requires-clause-stands : goal.leave_once-requires-clause-stands
@@ -32,7 +32,8 @@ returns-in-Some-unless_kept-clause-answers g c =
     let q = c.leave_once.new.p in
     let t = turn d p m q r.entry opened.seen c.enter_twice.ensures.same c.enter_twice.ensures.named c.leave_once.ensures.seen
     c.leave_once.ensures.free c.leave_once.ensures.same (c.state-between.ensures.history _ first) in
-    let told = tells d s text p m q r.answer r.entry t c.tell-answer.ensures.entry (c.tell-answer.ensures.shut m.seen stood) in
+    let told = tells d s text p m q r.answer r.entry t c.tell-answer.ensures.entry
+    (c.tell-answer.ensures.finds m.seen stood) (c.tell-answer.ensures.fits m.seen stood) in
     tells-alone d s text p q r.answer c.in-Some-unless_kept.ended told (sym c.unless_kept.ensures ∙ c.in-Some-unless_kept.is)
 
 pub leave_twice-requires-clause-stands : goal.leave_twice-requires-clause-stands
@@ -67,7 +68,8 @@ returns-in-Ok-clause-answers g c =
     let t = first-turn d p m r.entry opened.seen c.enter_twice.ensures.same c.enter_twice.ensures.named
     (c.state-between.ensures.history _ first) in
     let none : unless_kept r.answer ≡ None = search rules in
-    let told = tells-kept d s text p m r.answer r.entry t none c.tell-answer.ensures.entry in
+    let told = tells-kept d s text p m r.answer r.entry t none c.tell-answer.ensures.entry
+    (c.tell-answer.ensures.finds m.seen stood) (c.tell-answer.ensures.fits m.seen stood) in
     let f = c.take-found.result in
     let second = c.take-found.ensures.stands m.number half.seen first owned in
     let u = second-turn d m q r.entry f.entry c.enter_twice.ensures.named c.leave_twice.ensures.seen c.leave_twice.ensures.free
@@ -75,11 +77,13 @@ returns-in-Ok-clause-answers g c =
     let took = subst (Turn d half half q) (take-entry _ s f.answer c.in-Ok.texts f.entry c.in-Ok.is c.take-found.ensures.entry) u in
     let over = subst (λ (b : Bool). IsOverIf d b half.seen) (sym c.taken.ensures.over)
     (over-if d c.state-between.result half.seen (c.state-between.ensures.state half.seen first)) in
+    let there = take-there _ d s half.seen f.answer c.in-Ok.texts c.in-Ok.is
+    (c.take-found.ensures.finds half.seen first) in
     let waits = IfOk-at_ok _ c.in-Ok.is c.take-found.ensures.texts half.seen first in (
       half,
       told,
       (
-        finds d (IsOverIf d c.taken.result.is_over) half half q _ took over,
+        finds d (IsTakenAs d s c.taken.result.is_over) half half q _ took (there, over),
         hands d s half half q _ _ took owned (ap (λ texts. map string_bytes texts.items) c.taken.ensures.texts) waits,
       ),
     )
@@ -102,7 +106,8 @@ returns-clause-answers g c =
     let t = first-turn d p m r.entry opened.seen c.enter_twice.ensures.same c.enter_twice.ensures.named
     (c.state-between.ensures.history _ first) in
     let none : unless_kept r.answer ≡ None = search rules in
-    let told = tells-kept d s text p m r.answer r.entry t none c.tell-answer.ensures.entry in
+    let told = tells-kept d s text p m r.answer r.entry t none c.tell-answer.ensures.entry
+    (c.tell-answer.ensures.finds m.seen stood) (c.tell-answer.ensures.fits m.seen stood) in
     let f = c.take-found.result in
     let second = c.take-found.ensures.stands m.number half.seen first owned in
     let u = second-turn d m q r.entry f.entry c.enter_twice.ensures.named c.leave_twice.ensures.seen c.leave_twice.ensures.free
@@ -110,5 +115,5 @@ returns-clause-answers g c =
       half,
       told,
       take-leaves _ d s half half q f.answer c.in-Err.gone f.entry u c.in-Err.is c.take-found.ensures.entry
-          (c.take-found.ensures.shut half.seen first),
+          (c.take-found.ensures.finds half.seen first),
     )

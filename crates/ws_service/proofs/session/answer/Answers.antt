@@ -48,7 +48,7 @@ returns-in-Ok-Memory-clause-answers g c =
     let p = c.args.p.now in let m = c.tell_and_take.new.p in
     let old : Talk = record { answers = g.L.Link.answers c.args.link.now; sent = g.L.Link.sent c.args.link.now } in
     let a = subst (TellsAndTakes d s text p m) c.in-Ok-Memory.field-0-is c.in-Ok-Memory.ensures.answers in
-    answers-memory d s p m text old old a c.requires.session refl
+    answers-memory d s p m text old old a.0 c.requires.session refl
 
 pub returns-in-Ok-Gone-clause-answers : goal.returns-in-Ok-Gone-clause-answers
 returns-in-Ok-Gone-clause-answers g c =

@@ -5,4 +5,8 @@ use Rattle.ws_service.proofs.session.leave.Goals as goal
 
 pub returns-in-Ok : goal.returns-in-Ok
 returns-in-Ok g c =
-    inl (refl, serves g.H.Hosted.debugs c.args.session c.args.p.now c.detach.new.p (Detach c.args.session) c.in-Ok.ensures.acts c.requires.session tt)
+    inl (
+      refl,
+      serves g.H.Hosted.debugs c.args.session c.args.p.now c.detach.new.p (Detach c.args.session) c.in-Ok.ensures.acts tt
+          c.requires.session tt,
+    )

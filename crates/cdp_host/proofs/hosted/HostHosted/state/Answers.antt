@@ -1,5 +1,6 @@
 use Rattle.std.proofs.Common.{[]}
 use Rattle.cdp_host.proofs.HostedLemmas.{owned-history, owned-idle, owned-state}
+use Rattle.cdp_host.proofs.PresenceLemmas.{owned-shut}
 use Rattle.cdp_host.proofs.hosted.HostHosted.state.Goals as goal
 
 pub returns-clause-tells : goal.returns-clause-tells
@@ -13,3 +14,8 @@ returns-clause-state g c = λ h stood. owned-state g.B.Beginning.scripts g.B.Beg
 
 pub returns-clause-idle : goal.returns-clause-idle
 returns-clause-idle g c = λ k h stood. owned-idle g.B.Beginning.scripts g.B.Beginning.input g.B.Beginning.wait c.args.self.now k h stood
+
+pub returns-clause-shut : goal.returns-clause-shut
+returns-clause-shut g c = λ s held h stood.
+    owned-shut g.B.Beginning.scripts g.B.Beginning.input g.B.Beginning.wait c.args.self.now s h stood c.state.result
+    c.state.ensures held

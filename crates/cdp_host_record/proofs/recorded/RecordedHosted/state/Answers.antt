@@ -12,3 +12,6 @@ returns-clause-idle g c = λ k h stood. (
   c.state.ensures.idle k h stood.0,
   idles g.H.Hosted.debugs h k c.args.self.now.journal stood.1,
 )
+
+pub returns-clause-shut : goal.returns-clause-shut
+returns-clause-shut g c = λ s held h stood. c.state.ensures.shut s held h stood.0
