@@ -62,7 +62,7 @@ use Rattle.debug_host_commands.proofs.PlainLemmas.{plain-as}
 use Rattle.debug_host_commands.proofs.RunLemmas.{some_handed}
 use Rattle.debug_host_commands.proofs.EndLemmas.{done_only}
 use Rattle.cdp_edge.proofs.HandedLemmas.{given_as}
-use Rattle.ws_service.proofs.ProgramLemmas.{same-tail}
+use Rattle.ws_service.proofs.EntryLemmas.{same-tail}
 
 -- ---- shuts
 

@@ -16,6 +16,8 @@ use Rattle.cdp_edge_printing.specs.Printing.{printed_lines}
 use Rattle.cdp_edge_server.specs.Contents.{Calls, Tended, called}
 use Rattle.cdp_edge_server.specs.declared.harbor.HarborFault.{HarborFault}
 use Rattle.cdp_edge_server.specs.declared.harbor.HarborFault.TheVariants as harbor
+use Rattle.history_lock.specs.Histories.{limit}
+use Rattle.history_lock.specs.declared.lock.Spent.{Spent}
 use Rattle.cdp_host_record.specs.Records.{recorded}
 use Rattle.cdp_host.specs.Debugged.{debugging}
 use Rattle.cdp_host.specs.Histories.{begin, sent_alone, sent_to, view, whole}
@@ -68,11 +70,16 @@ thrown_end (Ok (Some text)) = ends.Threw text
 thrown_end (Ok None) = ends.ThrewUnshown
 thrown_end (Err error) = ends.ThrewUnshown
 
--- how a program ended by a throw is shown: by the text of its value; or no memory was left for that, or no ticket
+-- no ticket was left for a turn, as the lock tells
+abbrev pub HadNoTurn : Type 0
+HadNoTurn = (spent : Spent) × (spent.ticket ≡ limit)
+
+-- how a program ended by a throw is shown: by the text of its value; or no memory was left for that; or no ticket was
+-- left for the turn that shows it
 abbrev pub ShowsThrow : CommandEnd → Run → Type 0
 ShowsThrow (ends.Threw text) r = uncaught_text r ≡ Some (string_bytes text)
 ShowsThrow ends.ThrewUnshown r = Unit {0}
-ShowsThrow ends.TicketsSpent r = Unit {0}
+ShowsThrow ends.TicketsSpent r = HadNoTurn
 ShowsThrow end r = ⊥
 
 -- a port that was served ended so, which the program and its doors decide, or how a throw that ended the program is shown

@@ -1,8 +1,9 @@
 //! The command `serve`, from its files to its end.
 
-ghost use Rattle.std.specs.Prelude.{◌≡◌, ◌⊎◌, ◌+◌, ◌<◌, ◌≤◌, [], length, IfOk, false};
+ghost use Rattle.std.specs.Prelude.{◌≡◌, ◌⊎◌, ◌+◌, ◌<◌, ◌≤◌, [], length, IfErr, IfOk, OnErr, false};
 ghost use Rattle.cdp_host_isolation.specs.Makers.{entries_of};
 ghost use Rattle.cdp_edge.specs.Outside.{Given, HandsIn};
+ghost use Rattle.history_lock.specs.Histories.{limit};
 ghost use Rattle.history_lock.specs.Passes.{initial_pass, initial_passes};
 ghost use Rattle.cdp_edge_server.specs.Contents.{called};
 ghost use Rattle.cdp_host.specs.Debugged.{debugging};
@@ -27,7 +28,7 @@ use cdp_host_record::Recorded;
 use cdp_host_turns::{Entry, Hosted, Lock, Worker};
 use cdp_text::units::Units;
 use debug_host_options::ServeWords;
-use history_lock::HistoryLock;
+use history_lock::{HistoryLock, Spent};
 use js_tree::script::Script;
 use std::alloc::{AllocError, Global};
 use std::collections::VecDeque;
@@ -100,6 +101,40 @@ fn thrown_end(text: Result<Option<String>, AllocError>) -> CommandEnd<'static>
 
 /// The last turn of all: the host is asked for the text of the value whose throw ended its program, if one did, and its
 /// journal is stored under this name, if there is one.
+///
+/// # Errors
+///
+/// No ticket is left for a turn; nothing was stored.
+fn take_last_turn<'p, 'w, B: Beginning, R: Wait, F: Shelf>(
+    rt: &R,
+    lock: &Lock<Recorded<Host<'p>>, B>,
+    p: &mut Worker<Recorded<Host<'p>>, B>,
+    journal: Option<&'w str>,
+    shelf: &mut F,
+) -> Result<(CommandEnd<'static>, Storing<'w>), Spent>
+    requires lock { p.old.lock ≡ lock.now }
+    requires free { p.old.in_turn ≡ false }
+    requires all { AnswersForAll p.old }
+    ensures shows { IfOk result (λ shown. ShowsThrow shown.0
+        (whole B.scripts B.input B.wait (entries_of p.old.seen)).program) }
+    ensures stores { IfOk result (λ shown. HasStored shown.1 (debugging B.scripts B.input B.wait) p.old.seen
+        (text_held journal.entry) (record { files = F.stored shelf.old; faults = F.faults shelf.old })
+        (record { files = F.stored shelf.new; faults = F.faults shelf.new })) }
+    ensures spent { IfErr result (λ e. e.ticket ≡ limit) }
+    ensures untouched { OnErr result (shelf.new ≡ shelf.old) }
+    ensures handed { F.handed shelf.new ≡ F.handed shelf.old }
+{
+    let mut turn = lock.enter(rt, p)?;
+    let recorded = turn.state();
+    <Recorded<Host<'p>> as Hosted<B>>::state(recorded);
+    let text = recorded.host().uncaught_text();
+    let storing = store_journal::<Host<'p>, B, F>(recorded, journal, shelf);
+    lock.leave(p, turn, &Entry::take(0));
+    Ok((thrown_end(text), storing))
+}
+
+/// How a program that ended by a throw is shown, and what became of its journal. Both are told by a last turn; where no
+/// ticket is left for that, the end says so.
 fn last_turn<'p, 'w, B: Beginning, R: Wait, F: Shelf>(
     rt: &R,
     lock: &Lock<Recorded<Host<'p>>, B>,
@@ -114,15 +149,10 @@ fn last_turn<'p, 'w, B: Beginning, R: Wait, F: Shelf>(
     ensures stores { HasStored result.1 (debugging B.scripts B.input B.wait) p.old.seen (text_held journal.entry) (record { files = F.stored shelf.old; faults = F.faults shelf.old }) (record { files = F.stored shelf.new; faults = F.faults shelf.new }) }
     ensures handed { F.handed shelf.new ≡ F.handed shelf.old }
 {
-    let Ok(mut turn) = lock.enter(rt, p) else {
-        return (CommandEnd::TicketsSpent, spent_if(journal));
-    };
-    let recorded = turn.state();
-    <Recorded<Host<'p>> as Hosted<B>>::state(recorded);
-    let text = recorded.host().uncaught_text();
-    let storing = store_journal::<Host<'p>, B, F>(recorded, journal, shelf);
-    lock.leave(p, turn, &Entry::take(0));
-    (thrown_end(text), storing)
+    match take_last_turn(rt, lock, p, journal, shelf) {
+        Ok(shown) => shown,
+        Err(Spent { .. }) => (CommandEnd::TicketsSpent, spent_if(journal)),
+    }
 }
 
 /// Stores the journal of a host by a last turn, if there is a name.
