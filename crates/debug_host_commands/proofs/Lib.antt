@@ -16,5 +16,6 @@ pub mod RunLemmas
 pub mod ReplayLemmas
 pub mod ServeLemmas
 pub mod StoredLemmas
+pub mod DecidedLemmas
 pub mod ClientLemmas
 pub mod DrillLemmas

@@ -46,7 +46,7 @@ use Rattle.ws_service.specs.declared.ends.DoorsEnd.{DoorsEnd}
 use Rattle.ws_service.specs.declared.ends.DoorsEnd.TheVariants as doors
 use Rattle.ws_service.specs.declared.program.RunEnd.{RunEnd}
 use Rattle.ws_service.specs.declared.program.RunEnd.TheVariants as runs
-use Rattle.debug_host_commands.specs.Files.{HoldsSources, IsNamed, IsReachedIn, IsRefusedIn}
+use Rattle.debug_host_commands.specs.Files.{HoldsProgram, HoldsSources, IsNamed, IsReachedIn, IsRefusedIn}
 use Rattle.debug_host_commands.specs.RunCauses.{BecauseSources, RunsInPart, RunsToThrow}
 use Rattle.debug_host_commands.specs.ServeCauses.{BecauseServe, BecauseServed, Harbored, HasFinished, IsEndOf, IsOpened, IsShutEnd, IsUnserved, MayServe, ServesNothing, ServesPort, ServesStored, ServesToEnd, ServesWhole, ShowsThrow, clients_of, outcome_of_serving, thrown_end}
 use Rattle.debug_host_commands.specs.Stored.{HasStored, OrJournal, Shelved, after_storing}
@@ -536,6 +536,16 @@ unread ends.NetworkFault request Hands before after out harbor h = absurd h
 unread ends.TicketsSpent request Hands before after out harbor h = absurd h
 unread (ends.PeerClosed replies) request Hands before after out harbor h = absurd h
 
+-- files that hold these scripts and this input hold a program
+pub program-held : (request : ServeWords) (Hands : List NamedFile → Type 0) (scripts : List Script)
+    (input : List (List ℕ))
+    → Given Hands (λ files. HoldsSources files request.sources scripts input)
+    → Given Hands (λ files. HoldsProgram files request.sources)
+program-held request Hands scripts input holds =
+    given_as Hands (λ files. HoldsSources files request.sources scripts input)
+    (λ files. HoldsProgram files request.sources)
+    (λ files at. record { scripts = scripts; input = input; holds = at }) holds
+
 -- why one ended so whose program was served
 pub read : (end : CommandEnd) (request : ServeWords) (Hands : List NamedFile → Type 0) (faults : Faults) (old new : Output)
     (before after : Harbored) (scripts : List Script) (input : List (List ℕ))
@@ -569,11 +579,11 @@ read ends.ThrewUnshown request Hands faults old new before after scripts input h
 read ends.OutOfMemory request Hands faults old new before after scripts input holds h =
     (or_quiet request.journal _ _ refl, or_quiet request.journal _ _ h)
 read ends.CannotWrite request Hands faults old new before after scripts input holds h =
-    (or_quiet request.journal _ _ refl, h.0, h.1)
+    (or_quiet request.journal _ _ refl, h.0, h.1, program-held request Hands scripts input holds)
 read ends.NetworkFault request Hands faults old new before after scripts input holds h =
-    (or_quiet request.journal _ _ refl, h.0, h.1)
+    (or_quiet request.journal _ _ refl, h.0, h.1, program-held request Hands scripts input holds)
 read ends.TicketsSpent request Hands faults old new before after scripts input holds h =
-    (or_quiet request.journal _ _ refl, h.0, h.1)
+    (or_quiet request.journal _ _ refl, h.0, h.1, program-held request Hands scripts input holds)
 read (ends.CannotStore name) request Hands faults old new before after scripts input holds h = absurd h
 read ends.Usage request Hands faults old new before after scripts input holds h = absurd h
 read (ends.Refused name r) request Hands faults old new before after scripts input holds h = absurd h

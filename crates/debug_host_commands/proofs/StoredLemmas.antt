@@ -15,7 +15,7 @@ use Rattle.cdp_host.specs.Debugged.{debugging}
 use Rattle.js_tree.specs.declared.script.Script.{Script}
 use Rattle.ws_service.specs.Programs.{Output}
 use Rattle.debug_host_options.specs.Requests.{Request, Serve, ServeWords}
-use Rattle.debug_host_commands.specs.Files.{HoldsSources}
+use Rattle.debug_host_commands.specs.Files.{HoldsProgram, HoldsSources}
 use Rattle.debug_host_commands.specs.RunCauses.{IsUnbegun, RunsToThrow}
 use Rattle.debug_host_commands.specs.ServeCauses.{BecauseServe, BecauseServed, BecauseStored, Harbored, IsUnserved, Journals, MayServe, ServesPort, ServesToEnd, ServesWhole, clients_of}
 use Rattle.debug_host_commands.specs.Status.{GivenServe, status_of}
@@ -24,7 +24,7 @@ use Rattle.debug_host_commands.specs.declared.outcome.CommandEnd.{CommandEnd}
 use Rattle.debug_host_commands.specs.declared.outcome.CommandEnd.TheVariants as ends
 use Rattle.debug_host_commands.specs.declared.storing.Storing.{Storing}
 use Rattle.debug_host_commands.specs.declared.storing.Storing.TheVariants as storings
-use Rattle.debug_host_commands.proofs.ServeLemmas.{given_serve, or_more, or_quiet, or_stored, read}
+use Rattle.debug_host_commands.proofs.ServeLemmas.{given_serve, or_more, or_quiet, or_stored, program-held, read}
 
 -- ---- what became of a journal
 
@@ -131,6 +131,9 @@ module _ (request : ServeWords) (Hands : List NamedFile → Type 0) (faults now_
   abbrev Quiet : CommandEnd → Type 0
   Quiet end = BecauseServe end request Hands faults faults old new before after
 
+  has-program : Given Hands (λ files. HoldsProgram files request.sources)
+  has-program = program-held request Hands scripts input holds
+
   quiet : (end : CommandEnd) → Served end → Quiet end
   quiet end h = read end request Hands faults old new before after scripts input holds h
 
@@ -188,9 +191,9 @@ module _ (request : ServeWords) (Hands : List NamedFile → Type 0) (faults now_
       let ended = quiet ends.ThrewUnshown h in
       (blamed.0, blamed.1, h.0, h.1, whole-threw ended.3.0 ended.3.1)
   ends-failed ends.OutOfMemory named told h = (may-blame named told, or_quiet request.journal _ _ h)
-  ends-failed ends.CannotWrite named told h = (may-blame named told, h.0, h.1)
-  ends-failed ends.NetworkFault named told h = (may-blame named told, h.0, h.1)
-  ends-failed ends.TicketsSpent named told h = (may-blame named told, h.0, h.1)
+  ends-failed ends.CannotWrite named told h = (may-blame named told, h.0, h.1, has-program)
+  ends-failed ends.NetworkFault named told h = (may-blame named told, h.0, h.1, has-program)
+  ends-failed ends.TicketsSpent named told h = (may-blame named told, h.0, h.1, has-program)
   ends-failed ends.Usage named told h = absurd h
   ends-failed (ends.Refused name r) named told h = absurd h
   ends-failed (ends.CannotRead name) named told h = absurd h
@@ -199,13 +202,13 @@ module _ (request : ServeWords) (Hands : List NamedFile → Type 0) (faults now_
   ends-failed (ends.PeerClosed replies) named told h = absurd h
 
   ends-spent : (end : CommandEnd) → now_faults ≡ faults → Served end → Ended (after_storing end storings.Spent)
-  ends-spent ends.Done same h = (or_quiet request.journal _ _ same, h.0, h.1)
-  ends-spent (ends.Threw text) same h = (or_quiet request.journal _ _ same, h.0, h.1)
-  ends-spent ends.ThrewUnshown same h = (or_quiet request.journal _ _ same, h.0, h.1)
+  ends-spent ends.Done same h = (or_quiet request.journal _ _ same, h.0, h.1, has-program)
+  ends-spent (ends.Threw text) same h = (or_quiet request.journal _ _ same, h.0, h.1, has-program)
+  ends-spent ends.ThrewUnshown same h = (or_quiet request.journal _ _ same, h.0, h.1, has-program)
   ends-spent ends.OutOfMemory same h = (or_quiet request.journal _ _ same, or_quiet request.journal _ _ h)
-  ends-spent ends.CannotWrite same h = (or_quiet request.journal _ _ same, h.0, h.1)
-  ends-spent ends.NetworkFault same h = (or_quiet request.journal _ _ same, h.0, h.1)
-  ends-spent ends.TicketsSpent same h = (or_quiet request.journal _ _ same, h.0, h.1)
+  ends-spent ends.CannotWrite same h = (or_quiet request.journal _ _ same, h.0, h.1, has-program)
+  ends-spent ends.NetworkFault same h = (or_quiet request.journal _ _ same, h.0, h.1, has-program)
+  ends-spent ends.TicketsSpent same h = (or_quiet request.journal _ _ same, h.0, h.1, has-program)
   ends-spent ends.Usage same h = absurd h
   ends-spent (ends.Refused name r) same h = absurd h
   ends-spent (ends.CannotRead name) same h = absurd h

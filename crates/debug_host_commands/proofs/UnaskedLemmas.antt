@@ -2,8 +2,8 @@
 use Rattle.std.proofs.Common.{◌≡◌, List, [], Option, Some, None}
 use Rattle.cdp_edge.specs.Outside.{HandsIn, NamedFile}
 use Rattle.cdp_edge.proofs.HandedLemmas.{given_nothing}
-use Rattle.debug_host_options.specs.Requests.{Drill, Help, Replay, ReplayWords, Request, Run, Send, SendWords, Serve, Sources, Version}
-use Rattle.debug_host_commands.specs.Status.{ForReplay, ForRun, ForSend, GivenReplay, GivenRun, GivenSend}
+use Rattle.debug_host_options.specs.Requests.{Drill, Help, Replay, ReplayWords, Request, Run, Send, SendWords, Serve, ServeWords, Sources, Version}
+use Rattle.debug_host_commands.specs.Status.{ForReplay, ForRun, ForSend, ForServe, GivenReplay, GivenRun, GivenSend, GivenServe}
 
 pub for_run : (o : Option Request) (P : Sources → Type 0) → ((sources : Sources) → P sources) → ForRun o P
 for_run None P all = tt
@@ -25,6 +25,16 @@ for_replay (Some (Drill n)) P all = tt
 for_replay (Some (Help topic)) P all = tt
 for_replay (Some Version) P all = tt
 
+pub for_serve : (o : Option Request) (P : ServeWords → Type 0) → ((request : ServeWords) → P request) → ForServe o P
+for_serve None P all = tt
+for_serve (Some (Run request)) P all = tt
+for_serve (Some (Replay request)) P all = tt
+for_serve (Some (Serve request)) P all = all request
+for_serve (Some (Send request)) P all = tt
+for_serve (Some (Drill n)) P all = tt
+for_serve (Some (Help topic)) P all = tt
+for_serve (Some Version) P all = tt
+
 pub for_send : (o : Option Request) (P : SendWords → Type 0) → ((request : SendWords) → P request) → ForSend o P
 for_send None P all = tt
 for_send (Some (Run request)) P all = tt
@@ -45,6 +55,10 @@ module _ (asked : Option Request) (told : Option (List NamedFile)) (old new : Li
   pub unread_replay : (P : ReplayWords → List NamedFile → Type 0) → ((request : ReplayWords) → P request [])
       → GivenReplay asked (HandsIn told old new) P
   unread_replay P all = for_replay asked _ (λ request. given_nothing told old new (P request) same (all request))
+
+  pub unread_serve : (P : ServeWords → List NamedFile → Type 0) → ((request : ServeWords) → P request [])
+      → GivenServe asked (HandsIn told old new) P
+  unread_serve P all = for_serve asked _ (λ request. given_nothing told old new (P request) same (all request))
 
   pub unread_send : (P : SendWords → List NamedFile → Type 0) → ((request : SendWords) → P request [])
       → GivenSend asked (HandsIn told old new) P

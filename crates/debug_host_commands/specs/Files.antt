@@ -25,6 +25,12 @@ pub record HoldsSources (given : List NamedFile) (sources : Sources) (scripts : 
   pub lines : HoldsLines first sources.input input
   pub are : AreScripts rest sources.scripts scripts
 
+-- the files that were handed in are a program's, with some scripts and some input
+pub record HoldsProgram (given : List NamedFile) (sources : Sources) : Type 0 where
+  pub scripts : List Script
+  pub input : List (List ℕ)
+  pub holds : HoldsSources given sources scripts input
+
 -- the input was handed in, and isn't taken
 pub record IsRefusedInput (given : List NamedFile) (sources : Sources) (name : List ℕ) (r : TextFault) : Type 0 where
   pub named : sources.input ≡ Some name

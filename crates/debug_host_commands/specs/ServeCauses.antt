@@ -32,7 +32,7 @@ use Rattle.ws_service.specs.declared.ends.DoorsEnd.TheVariants as doors
 use Rattle.ws_service.specs.declared.ends.Ends.{Ends}
 use Rattle.ws_service.specs.declared.program.RunEnd.{RunEnd}
 use Rattle.ws_service.specs.declared.program.RunEnd.TheVariants as runs
-use Rattle.debug_host_commands.specs.Files.{HoldsSources, IsNamed, IsReachedIn, IsRefusedIn}
+use Rattle.debug_host_commands.specs.Files.{HoldsProgram, HoldsSources, IsNamed, IsReachedIn, IsRefusedIn}
 use Rattle.debug_host_commands.specs.RunCauses.{RunsToThrow}
 use Rattle.debug_host_options.specs.Requests.{ServeWords}
 use Rattle.debug_host_commands.specs.Status.{status_of}
@@ -269,14 +269,17 @@ BecauseServe ends.CannotWrite request Hands before after old new was now =
     OrJournal request.journal (after ≡ before) (λ name. Blames (Store name) before after)
     × Rose old.faults new.faults
     × IsOpened request.port request.sessions was now
+    × Given Hands (λ given. HoldsProgram given request.sources)
 BecauseServe ends.NetworkFault request Hands before after old new was now =
     OrJournal request.journal (after ≡ before) (λ name. Blames (Store name) before after)
     × (new.faults ≡ old.faults)
     × Rose was.faults now.faults
+    × Given Hands (λ given. HoldsProgram given request.sources)
 BecauseServe ends.TicketsSpent request Hands before after old new was now =
     OrJournal request.journal (after ≡ before) (λ name. Blames (Store name) before after)
     × (new.faults ≡ old.faults)
     × IsOpened request.port request.sessions was now
+    × Given Hands (λ given. HoldsProgram given request.sources)
 BecauseServe (ends.CannotStore name) request Hands before after old new was now =
     Blames (Store name.now) before after
     × (request.journal ≡ Some name.now)

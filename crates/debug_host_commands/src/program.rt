@@ -144,6 +144,12 @@ where
         (λ name. Blames (Store name) (F.faults shelf.old) (F.faults shelf.new) × (H.opens harbor.new ≡ called (request.port, request.sessions) (H.opens harbor.old))
         × Given (HandsIn (F.files shelf.old) (F.handed shelf.old) (F.handed shelf.new)) (λ given. ServesWhole given request (O.content out.old) (O.content out.new)) × Says (explains words.now) (E.content err.old) (E.content err.new) (unstored_said name))) }
     ensures serve_network { result ≡ 7 → Rose (H.faults harbor.old) (H.faults harbor.new) }
+    // no other status where the files hold scripts and input, or one of them is refused, unless memory or tickets were
+    // wanting or a count rose
+    ensures serve_decided { GivenServe (asked words.now) (HandsIn (F.files shelf.old) (F.handed shelf.old) (F.handed shelf.new)) (λ request given. (scripts : List Script) (input : List (List ℕ)) → HoldsSources given request.sources scripts input
+        → (result ≡ 0) ⊎ (result ≡ 8) ⊎ (result ≡ 1) ⊎ (result ≡ 4) ⊎ (result ≡ 5) ⊎ (result ≡ 7) ⊎ (result ≡ 10)) }
+    ensures serve_exact { GivenServe (asked words.now) (HandsIn (F.files shelf.old) (F.handed shelf.old) (F.handed shelf.new)) (λ request given. (name : List ℕ) (refusal : TextFault) → IsRefusedIn given request.sources name refusal
+        → (result ≡ 3) ⊎ (result ≡ 1) ⊎ (result ≡ 4)) }
     // at every status: what `out` took is a first part of what the program prints; the doors are those of one history, in
     // which the program stops exactly where it is named to, and each session is sent what it would be sent alone
     ensures serve_part { GivenServe (asked words.now) (HandsIn (F.files shelf.old) (F.handed shelf.old) (F.handed shelf.new)) (λ request given. (O.content out.new ≡ O.content out.old) ⊎ RunsInPart given request.sources (O.content out.old) (O.content out.new)) }

@@ -7,9 +7,10 @@ use Rattle.debug_host_commands.proofs.RunLemmas as runs
 use Rattle.debug_host_commands.proofs.ReplayLemmas as replays
 use Rattle.debug_host_commands.proofs.ServeLemmas as serves
 use Rattle.debug_host_commands.proofs.StoredLemmas as stores
+use Rattle.debug_host_commands.proofs.DecidedLemmas as decided
 use Rattle.debug_host_commands.proofs.ClientLemmas as clients
 use Rattle.debug_host_commands.proofs.DrillLemmas as drills
-use Rattle.debug_host_commands.proofs.UnaskedLemmas.{unread_replay, unread_run, unread_send}
+use Rattle.debug_host_commands.proofs.UnaskedLemmas.{unread_replay, unread_run, unread_send, unread_serve}
 use Rattle.debug_host_commands.proofs.program.debug_main.Goals as goal
 
 pub returns-in-Ok-Some-Run-clause-run_decided : goal.returns-in-Ok-Some-Run-clause-run_decided
@@ -35,6 +36,20 @@ returns-in-Ok-Some-Replay-clause-replay_exact g c =
     _ c.replay-outcome.result _ _ _ _ _ _ c.end_explained-in-Ok-Some-Replay.result
     (sym (rw c.in-Ok-Some-Replay.field-0-0-is at (rw c.in-Ok-Some-Replay.field-0-is at c.in-Ok-Some-Replay.ensures.value)))
     c.end_explained-in-Ok-Some-Replay.ensures.status c.replay-outcome.ensures.cause
+
+pub returns-in-Ok-Some-Serve-clause-serve_decided : goal.returns-in-Ok-Some-Serve-clause-serve_decided
+returns-in-Ok-Some-Serve-clause-serve_decided g c =
+    decided.taken_given (serve_held c.in-Ok-Some-Serve.request) _ _ _ _ _ _ _ _ c.serve-outcome.ensures.part _
+    c.serve-outcome.result c.end_explained-in-Ok-Some-Serve.result
+    (sym (rw c.in-Ok-Some-Serve.field-0-0-is at (rw c.in-Ok-Some-Serve.field-0-is at c.in-Ok-Some-Serve.ensures.value)))
+    c.end_explained-in-Ok-Some-Serve.ensures.status c.serve-outcome.ensures.cause
+
+pub returns-in-Ok-Some-Serve-clause-serve_exact : goal.returns-in-Ok-Some-Serve-clause-serve_exact
+returns-in-Ok-Some-Serve-clause-serve_exact g c =
+    decided.left_given (serve_held c.in-Ok-Some-Serve.request) _ _ _ _ _ _ _ _ c.serve-outcome.ensures.part _
+    c.serve-outcome.result c.end_explained-in-Ok-Some-Serve.result
+    (sym (rw c.in-Ok-Some-Serve.field-0-0-is at (rw c.in-Ok-Some-Serve.field-0-is at c.in-Ok-Some-Serve.ensures.value)))
+    c.end_explained-in-Ok-Some-Serve.ensures.status c.serve-outcome.ensures.cause
 
 pub returns-in-Ok-Some-Serve-clause-serve_threw : goal.returns-in-Ok-Some-Serve-clause-serve_threw
 returns-in-Ok-Some-Serve-clause-serve_threw g c =
@@ -206,6 +221,14 @@ returns-in-Err-clause-replay_exact g c =
 pub returns-in-Err-clause-headline : goal.returns-in-Err-clause-headline
 returns-in-Err-clause-headline g c =
     unread_replay _ _ _ _ refl _ (λ request. inl refl)
+
+pub returns-in-Err-clause-serve_decided : goal.returns-in-Err-clause-serve_decided
+returns-in-Err-clause-serve_decided g c =
+    unread_serve _ _ _ _ refl _ (λ request scripts input holds. inr (inr (inl c.end.ensures.status)))
+
+pub returns-in-Err-clause-serve_exact : goal.returns-in-Err-clause-serve_exact
+returns-in-Err-clause-serve_exact g c =
+    unread_serve _ _ _ _ refl _ (λ request name refusal refused. inr (inl c.end.ensures.status))
 
 pub returns-in-Err-clause-send_decided : goal.returns-in-Err-clause-send_decided
 returns-in-Err-clause-send_decided g c =
