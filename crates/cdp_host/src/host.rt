@@ -112,7 +112,7 @@ fn workspace_of(
     scripts: &[Script],
     names: &NameTable,
 ) -> Result<Workspace, AllocError>
-    ensures { IfOk result (λ w. w ≡ begun (code_of scripts.now)) }
+    ensures { IfOk result (λ w. w.workspace ≡ begun (code_of scripts.now)) }
 {
     let terms = terms_of_scripts(alloc, scripts)?;
     let placed = placed_scripts(alloc, &terms)?;

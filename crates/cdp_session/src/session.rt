@@ -60,16 +60,16 @@ pub struct Session {
 }
 
 impl Model for Session {
-    ghost use Rattle.std.specs.Prelude.{◌≤◌, ◌^◌, unwrap_or};
+    ghost use Rattle.std.specs.Prelude.{◌≤◌, ◌^◌};
     ghost use Rattle.std.specs.Coded.{codes};
     ghost use Rattle.pure_eval.specs.TermCodes.{term_coded};
-    ghost use Rattle.cdp_session.specs.Sessions.{Session as Kept, no_workspace};
+    ghost use Rattle.cdp_session.specs.Sessions.{Session as Kept, workspace_in};
 
     ghost Value = { Kept };
 
     ghost coded = { Prim.hlevel (codes, term_coded) };
 
-    ghost view = { λ x. record { number = x.number; rules = x.rules; runtime = x.runtime; breakpoints = x.breakpoints; handles = x.handles; workspace = unwrap_or x.workspace no_workspace; exceptions = x.exceptions; outbox = x.outbox } };
+    ghost view = { λ x. record { number = x.number; rules = x.rules; runtime = x.runtime; breakpoints = x.breakpoints; handles = x.handles; workspace = workspace_in x.workspace; exceptions = x.exceptions; outbox = x.outbox } };
 
     ghost invariant = { λ x. x.exceptions ≤ 2 ^ 62 };
 }
@@ -90,7 +90,7 @@ fn may_be_hit(breakpoints: &Breakpoints, place: Option<Place>) -> bool
 impl Session {
     /// A session of this number that asks for nothing, and whose evaluations begin with this. It takes no memory.
     pub fn new(alloc: Global, number: u64, workspace: Workspace) -> Session
-        ensures { result ≡ fresh number workspace }
+        ensures { result ≡ fresh number workspace.workspace }
     {
         Session {
             alloc,

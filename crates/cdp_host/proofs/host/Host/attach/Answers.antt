@@ -55,7 +55,7 @@ returns-clause-leaves c =
     subst P (sym c.in_ok-reserve.ensures.same)
     (attach-leaves h c.args.self.now c.push.new.self.items c.new-session.result c.self.view_is
     (c.new-session.ensures
-    ∙ ap (λ n. f (n + 1) c.in_ok-workspace.workspace)
+    ∙ ap (λ n. f (n + 1) c.in_ok-workspace.workspace.workspace)
     (c.sessions-number.ensures ∙ sym (ap (λ o. length o.meaning.seats) c.self.view_is))
     ∙ ap (f (length a.seats.items + 1))
     c.in_ok-workspace.ensures)
