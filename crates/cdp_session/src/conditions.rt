@@ -236,6 +236,24 @@ fn ids_met<P: Program>(
     Ok(ids)
 }
 
+/// The same; at most places none stands, which shows at a look.
+fn ids_there<P: Program>(
+    alloc: Global,
+    breakpoints: &Breakpoints,
+    parsed: &mut Vec<Condition>,
+    workspace: &mut Option<Workspace>,
+    situation: &Situation<'_, P>,
+    place: Place,
+) -> Result<Vec<Units>, AllocError>
+    ensures ids { IfOk result (λ ids. ids.items ≡ map id_of (filter (conditions.is_met (seen P.standing situation.now).standing (unwrap_or workspace.old no_workspace)) (hits_at place breakpoints.now))) }
+    ensures kept { OnOk result (unwrap_or workspace.new no_workspace ≡ unwrap_or workspace.old no_workspace) }
+{
+    if !breakpoints.is_hit(place) {
+        return Ok(Vec::new(alloc));
+    }
+    ids_met(alloc, breakpoints, parsed, workspace, situation, place)
+}
+
 /// The ids of the breakpoints that are hit where the program arrived, if it did, in the order in which they were set.
 ///
 /// # Errors
@@ -254,7 +272,7 @@ pub(crate) fn ids_hit<P: Program>(
     ensures kept { OnOk result (workspace_in workspace.new ≡ workspace_in workspace.old) }
 {
     match place {
-        Some(place) => ids_met(alloc, breakpoints, parsed, workspace, situation, place),
+        Some(place) => ids_there(alloc, breakpoints, parsed, workspace, situation, place),
         None => Ok(Vec::new(alloc)),
     }
 }
