@@ -132,8 +132,7 @@ impl<
     D: Bell + Sync,
     O: Sink + Send,
     C: Clock + Send,
-> Task for Running<'a, 'l, 'b, H, B, D, O, C>
-{
+> Task for Running<'a, 'l, 'b, H, B, D, O, C> {
     type Output = Ran<'a, 'l, 'b, H, B, D, O, C>;
 
     ghost use Rattle.std.specs.Prelude.{◌≡◌, Some, false};
@@ -191,8 +190,7 @@ impl<
 /// Uses a reference that came back, which ties it to the one that was lent.
 fn take_back<T>(x: &mut T)
     ensures { x.new ≡ x.old }
-{
-}
+{}
 
 /// Runs a program to its end, and does all works beside it, which come back. Where no thread can be made for the works,
 /// the program is shut before its first turn, as where there is no memory for its lines.
