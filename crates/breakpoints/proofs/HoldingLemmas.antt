@@ -1,12 +1,12 @@
 -- Which sessions have which places.
-use Rattle.std.proofs.Common.{◌≡◌, ◌↔◌, ℕ, zero, suc, ◌+◌, ◌-◌, ◌<◌, Bool, true, false, not, ◌&&◌, ◌||◌, cond, List, [], ◌∷◌, ◌++◌, length, get_or, take, drop, map, filter, append_assoc, nat_eq, nat_cmp, IsTrue, Ordering, Less, Equal, Greater, is_eq, is_lt, is_gt, refl, sym, ap, ap₂, subst, ◌∙◌, inl, inr, ⊎_elim, arith, true≢false}
+use Rattle.std.proofs.Common.{◌≡◌, ◌↔◌, ℕ, zero, suc, ◌+◌, ◌-◌, ◌<◌, Bool, true, false, not, ◌&&◌, ◌||◌, cond, List, [], ◌∷◌, ◌++◌, length, get_or, take, drop, map, filter, slice_get, Some, None, append_assoc, nat_eq, nat_cmp, IsTrue, Ordering, Less, Equal, Greater, is_eq, is_lt, is_gt, refl, sym, ap, ap₂, subst, ◌∙◌, inl, inr, ⊎_elim, arith, true≢false}
 use Rattle.std.specs.Ordering.{match_ordering, ordering_then, ordering_reverse}
 use Rattle.std.specs.Cmp.{IsTotalOrder, both_tied, Equal-is}
 use Rattle.std.specs.List.{list_any, AllByRecursion}
 use Rattle.std.specs.List.Sorted.{IsStrictlySortedBy, IsStrictlyIncreasing, IsPartitionedBy}
 use Rattle.std.specs.BTreeMap.{is_at}
 use Rattle.std.specs.BTreeSet.{insert_key}
-use Rattle.std.proofs.lemmas.Bool.{cases_lt, and_parts, or_cases, false≢true}
+use Rattle.std.proofs.lemmas.Bool.{cases_lt, and_parts, false_from_ne_true, or_cases, false≢true}
 use Rattle.std.proofs.lemmas.Bool.Decides.{nat_tests}
 use Rattle.std.proofs.lemmas.Cmp.{nat_cmp_total, on_total, then_total, tied_itself, alike_right}
 use Rattle.std.proofs.lemmas.List.Folds.{list_any_more, list_any_at}
@@ -17,9 +17,9 @@ use Rattle.std.proofs.lemmas.List.{drop_more}
 use Rattle.breakpoints.specs.declared.holding.Holding.{Holding}
 use Rattle.breakpoints.specs.Hits.{same_place, has_place}
 use Rattle.breakpoints.specs.PlaceOrder.{place_cmp}
-use Rattle.breakpoints.specs.PlaceIndex.{AreInOrder, HasAlso, HasOnly, HoldersAre, HoldsAll, holders_at, holding_cmp, holds, is_at_place, is_before, is_of_another, is_pair, session_of, stays, without_session}
+use Rattle.breakpoints.specs.PlaceIndex.{AreInOrder, HasAlso, HasOnly, HoldersAre, HoldsAll, holders_at, holding_cmp, holds, is_at_place, is_before, is_of_another, is_pair, session_of, starts_at, stays, without_session}
 use Rattle.breakpoints.proofs.AscendingLemmas.{has-put}
-use Rattle.breakpoints.proofs.ListLemmas.{Splits, any-filter, filter-twice, split-dropped, slice-from, map-drop, map-take}
+use Rattle.breakpoints.proofs.ListLemmas.{Splits, any-filter, filter-twice, split-dropped, split-taken, slice-from, map-drop, map-take}
 use Rattle.breakpoints.proofs.PlaceLemmas.{place_total, same-tied, same-right, has-alike, any-alike}
 
 -- ---- the order of pairs
@@ -234,6 +234,30 @@ at-first index p ordered none i j d l m e =
           same-tied here p ∙ turned p here ∙ eq-of (place_cmp here p) no_later (none.1 i d (omega arith) (omega arith))
       | inr ge ↦ let same : i ≡ j = omega arith in ap (λ k. is_at_place p (get_or index k d)) same ∙ e
     ]
+
+pub first-at : (p : Place) (index : List Holding) (h : Holding)
+    → slice_get index 0 ≡ Some h
+    → is_at_place p h ≡ starts_at p index
+first-at p [] h is = absurd cc
+first-at p (g ∷ gs) h is = let same : g ≡ h = cc in ap (is_at_place p) (sym same)
+
+pub first-none : (p : Place) (index : List Holding) → slice_get index 0 ≡ None → starts_at p index ≡ false
+first-none p [] is = refl
+first-none p (g ∷ gs) is = absurd cc
+
+-- where the first pair isn't of a place, none is
+pub none-start : (p : Place) (index : List Holding)
+    → IsPartitionedBy (is_at_place p) index
+    → starts_at p index ≡ false
+    → take 0 index ≡ filter (is_at_place p) index
+none-start p [] parted other = refl
+none-start p (h ∷ hs) parted other =
+    let none : Splits (is_at_place p) (h ∷ hs) 0 = (
+      λ k d a b. absurd (omega arith),
+      λ k d a b. false_from_ne_true (is_at_place p (get_or (h ∷ hs) k d))
+          (λ is. true≢false (sym (parted 0 k d (omega arith) b is) ∙ other)),
+    ) in
+    sym (split-taken (is_at_place p) (h ∷ hs) 0 none)
 
 before-apart : (p : Place) (h : Holding) → is_before p h ≡ true → is_at_place p h ≡ false
 before-apart p h e =

@@ -1,5 +1,5 @@
 -- Which sessions have breakpoints at which places.
-use Rattle.std.specs.Prelude.{◌≡◌, ℕ, Bool, not, ◌&&◌, ◌||◌, List, map, filter, nat_eq, IsTrue}
+use Rattle.std.specs.Prelude.{◌≡◌, ℕ, Bool, false, not, ◌&&◌, ◌||◌, List, [], ◌∷◌, map, filter, nat_eq, IsTrue}
 use Rattle.std.specs.declared.cmp.Ordering.{Ordering}
 use Rattle.std.specs.Ordering.{is_lt, nat_cmp, ordering_then}
 use Rattle.std.specs.List.{list_any}
@@ -69,6 +69,11 @@ HoldersAre place index sessions = (session : ℕ) → list_any (nat_eq session) 
 -- a pair is of a place before this one
 abbrev pub is_before : Place → Holding → Bool
 is_before place h = is_lt (place_cmp h.place place)
+
+-- the first pair is of a place
+abbrev pub starts_at : Place → List Holding → Bool
+starts_at place [] = false
+starts_at place (h ∷ hs) = is_at_place place h
 
 -- by place, then session
 abbrev pub holding_cmp : Holding → Holding → Ordering

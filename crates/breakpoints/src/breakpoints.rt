@@ -1,6 +1,6 @@
 //! The breakpoints of a session.
 
-ghost use Rattle.std.specs.Prelude.{◌≡◌, ◌∷◌, [], map, OnErr, OnOk, IfOk, Some};
+ghost use Rattle.std.specs.Prelude.{◌≡◌, ◌∷◌, [], length, map, OnErr, OnOk, IfOk, Some};
 ghost use Rattle.std.specs.List.{list_any, position};
 ghost use Rattle.locations.specs.Locations.{break_locations};
 ghost use Rattle.breakpoints.specs.Breakpoints.{Answers, breakpoint_of, fault_at, fault_of, has_id, hits_at, is_hit, none_set, with_breakpoint, without};
@@ -85,6 +85,13 @@ impl Breakpoints {
             index: PlaceSet::new(alloc),
             active: true,
         }
+    }
+
+    /// How many breakpoints are set.
+    pub fn count(&self) -> usize
+        ensures { result ≡ length self.now.set }
+    {
+        self.list.len()
     }
 
     /// Whether a breakpoint has an id.

@@ -3,7 +3,7 @@
 ghost use Rattle.std.specs.Prelude.{◌≡◌, ◌↔◌, ◌+◌, ◌≤◌, [], filter, length, map, take, vec_len, vec_capacity, IsOk, IsTrue, OnErr, OnOk, true, false};
 ghost use Rattle.std.specs.List.Sorted.{IsPartitionPoint, IsStrictlyIncreasing};
 ghost use Rattle.breakpoints.specs.Hits.{has_place};
-ghost use Rattle.breakpoints.specs.PlaceIndex.{AreInOrder, HasAlso, HasOnly, HoldersAre, HoldsAll, holders_at, holds, is_at_place, is_before, session_of, stays, without_session};
+ghost use Rattle.breakpoints.specs.PlaceIndex.{AreInOrder, HasAlso, HasOnly, HoldersAre, HoldsAll, holders_at, holds, is_at_place, is_before, session_of, starts_at, stays, without_session};
 
 use crate::ascending::{is_among, put};
 use crate::holding::Holding;
@@ -167,13 +167,26 @@ fn count_before(pairs: &[Holding], place: Place) -> usize
     pairs.partition_point(|pair| is_before(pair, place))
 }
 
-/// How many pairs are of a place, where none is of one before it.
+/// Whether the first pair is of a place.
+fn starts_at(pairs: &[Holding], place: Place) -> bool
+    ensures { result ≡ starts_at place pairs.now }
+{
+    match pairs.first() {
+        Some(pair) => is_at(pair, place),
+        None => false,
+    }
+}
+
+/// How many pairs are of a place, where none is of one before it. By halving; where there are none, at a look.
 fn count_at(pairs: &[Holding], place: Place) -> usize
     requires ordered { AreInOrder pairs.now }
     requires first { IsPartitionPoint (λ h. is_before place h ≡ true) (λ h. is_before place h ≡ false) pairs.now 0 }
     ensures within { result ≤ length pairs.now }
     ensures all { take result pairs.now ≡ filter (is_at_place place) pairs.now }
 {
+    if !starts_at(pairs, place) {
+        return 0;
+    }
     pairs.partition_point(|pair| is_at(pair, place))
 }
 

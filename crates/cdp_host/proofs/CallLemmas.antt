@@ -12,6 +12,8 @@ use Rattle.cdp_host_isolation.proofs.FallenLemmas.{fallen-none, fell-put, less-s
 use Rattle.js_tree.specs.declared.script.Script.{Script}
 use Rattle.js_machine.specs.Machines.{Machine}
 use Rattle.locations.specs.declared.spot.Spot.{Spot}
+use Rattle.breakpoints.specs.PlaceIndex.{without_session}
+use Rattle.breakpoints.specs.declared.holding.Holding.{Holding}
 use Rattle.pure_eval.specs.Workspaces.{Workspace, begun}
 use Rattle.cdp_session_messages.specs.Outboxes.{fits}
 use Rattle.cdp_session_messages.specs.declared.session_end.SessionEnd.{SessionEnd}
@@ -22,14 +24,17 @@ use Rattle.cdp_session.specs.declared.asks.Asks.{Asks}
 use Rattle.cdp_host_seats.specs.Fallbacks.{HasRoom, fallback_held}
 use Rattle.cdp_host_seats.specs.declared.fallback.Fallback.{Fallback}
 use Rattle.cdp_host_seats.specs.declared.losses.SessionLost.{SessionLost}
-use Rattle.cdp_host_seats.proofs.PlacedLemmas.{put-back}
+use Rattle.cdp_host_seats.proofs.PlacedLemmas.{given-back, put-back}
 use Rattle.cdp_host.specs.Hosts.{CarriesOn, HostState, IsSound, Leaves, NoneAttached, meaning_with}
+use Rattle.cdp_host.specs.Indexing.{IsIndexOf, IsIndexedAs}
 use Rattle.cdp_host.specs.Programs.{code_of}
 use Rattle.cdp_host.specs.Protocols.{protocol}
 use Rattle.cdp_host.specs.Watching.{AnswersIn}
 use Rattle.cdp_host.proofs.HistoryLemmas.{stands-call}
+use Rattle.cdp_host.proofs.IndexLemmas.{changed-indexed}
 use Rattle.cdp_host_isolation.proofs.RoomLemmas.{put-fits, append-fits}
 use Rattle.cdp_host_isolation.proofs.StandingLemmas.{none-append}
+use Rattle.cdp_host_isolation.proofs.TextLemmas.{put-length}
 
 -- ---- who is attached
 
@@ -52,31 +57,38 @@ works-at s false seats alone held = refl
 
 pub sound-more : (scripts : List Script) (starts : List (List ℕ)) (found : List (List Spot)) (machine : Machine)
     (b : Bool)
-    → (seats news : List (Seat Session)) (count more : ℕ) (held wider : Fallback Session) (losses : List SessionLost)
-    → IsSound scripts starts found machine b seats count held losses → b ≡ false → AllFit (protocol scripts) news
+    → (seats news : List (Seat Session)) (count more : ℕ) (index places : List Holding) (held wider : Fallback Session)
+    (losses : List SessionLost)
+    → IsSound scripts starts found machine b seats count index held losses → b ≡ false → AllFit (protocol scripts) news
+    → IsIndexOf news places
     → HasRoom more wider → fallback_held wider ≡ fallback_held held
-    → IsSound scripts starts found machine b news more wider losses
-sound-more scripts starts found machine b seats news count more held wider losses sound works fit room same = record {
-  lines = sound.lines;
-  spots = sound.spots;
-  code = sound.code;
-  handed = sound.handed;
-  kept = sound.kept;
-  quiet = sound.quiet;
-  room = λ _. room;
-  alone = λ fails. absurd cc;
-  gone = ap (λ f. some is_attached f.seats) same ∙ sound.gone;
-  fit = fit;
-}
+    → IsSound scripts starts found machine b news more places wider losses
+sound-more scripts starts found machine b seats news count more index places held wider losses sound works fit indexed
+    room same =
+    record {
+      lines = sound.lines;
+      spots = sound.spots;
+      code = sound.code;
+      handed = sound.handed;
+      kept = sound.kept;
+      quiet = sound.quiet;
+      room = λ _. room;
+      alone = λ fails. absurd cc;
+      gone = ap (λ f. some is_attached f.seats) same ∙ sound.gone;
+      indexed = indexed;
+      fit = fit;
+    }
 
 pub sound-seats : (scripts : List Script) (starts : List (List ℕ)) (found : List (List Spot)) (machine : Machine)
     (b : Bool)
-    → (seats news : List (Seat Session)) (count : ℕ) (held : Fallback Session) (losses : List SessionLost)
-    → IsSound scripts starts found machine b seats count held losses → b ≡ false → AllFit (protocol scripts) news
-    → IsSound scripts starts found machine b news count held losses
-sound-seats scripts starts found machine b seats news count held losses sound works fit =
-    sound-more scripts starts found machine b seats news count count held held losses sound works fit
-    (sound.room works) refl
+    → (seats news : List (Seat Session)) (count : ℕ) (index places : List Holding) (held : Fallback Session)
+    (losses : List SessionLost)
+    → IsSound scripts starts found machine b seats count index held losses → b ≡ false → AllFit (protocol scripts) news
+    → IsIndexOf news places
+    → IsSound scripts starts found machine b news count places held losses
+sound-seats scripts starts found machine b seats news count index places held losses sound works fit indexed =
+    sound-more scripts starts found machine b seats news count count index places held held losses sound works fit
+    indexed (sound.room works) refl
 
 pub nothing-fits : fits [] ≡ true
 unfolding fits
@@ -132,6 +144,32 @@ answers-back (Err ends.Overrun) answer n s seats lent news rest same full is =
     (put-back n s Left lent news rest full is.0 ∙ ap (put s Left) same, is.1)
 answers-back (Err ends.Memory) answer n s seats lent news rest same full is =
     put-back n s Left lent news rest full is ∙ ap (put s Left) same
+
+-- what became of it is another seat of that session
+answers-put : (w : Result Asks SessionEnd) (answer : AnsweredText) (s : ℕ) (seats news : List (Seat Session))
+    → AnswersIn w answer s seats news
+    → (seat : Seat Session) × (news ≡ put s seat seats)
+answers-put (Ok asks) answer s seats news is = (Attached answer.session, is.0)
+answers-put (Err ends.Overrun) answer s seats news is = (Left, is.0)
+answers-put (Err ends.Memory) answer s seats news is = (Left, is)
+
+-- an index that has its places has those of all sessions
+pub answer-indexed : (w : Result Asks SessionEnd) (answer : AnsweredText) (n s : ℕ)
+    (seats lent news rest : List (Seat Session)) (old index : List Holding)
+    → lent ≡ seats
+    → n ≡ length lent
+    → AnswersIn w answer s lent news
+    → IsIndexedAs s (seat_of s news) index
+    → without_session s index ≡ without_session s old
+    → IsIndexOf seats old
+    → IsIndexOf (first n (news ++ rest)) index
+answer-indexed w answer n s seats lent news rest old index same full is own others indexed =
+    let put_there = answers-put w answer s lent news is in
+    let back : first n (news ++ rest) ≡ news =
+    given-back n news rest (full ∙ sym (put-length s put_there.0 lent) ∙ sym (ap length put_there.1)) in
+    subst (λ ss. IsIndexOf ss index) (sym back)
+    (changed-indexed s put_there.0 lent news old index put_there.1 own others
+    (subst (λ ss. IsIndexOf ss old) (sym same) indexed))
 
 pub take-back : (n s : ℕ) (seats lent news rest : List (Seat Session)) → lent ≡ seats → n ≡ length lent
     → ((x : Session) → seat_of s lent ≡ Attached x → news ≡ put s (Attached (emptied x)) lent)

@@ -28,3 +28,6 @@ pub mod HostedLemmas
 pub mod PresenceLemmas
 pub mod RecordLemmas
 pub mod SendLemmas
+pub mod IndexLemmas
+pub mod KeepingLemmas
+pub mod HolderLemmas

@@ -25,6 +25,7 @@ use Rattle.js_tree.proofs.tree.Expr.TheLaws.TheKnot as tree
 use Rattle.js_tree.specs.contracts.script.Script as script
 use Rattle.js_heap_memory.proofs.heap.BaseHeap.TheSendSync as heap
 use Rattle.js_machine.proofs.machine.Machine.TheSendSync as machine
+use Rattle.breakpoints.proofs.place_index.PlaceIndex.TheSendSync as places
 use Rattle.breakpoints.proofs.script_spots.ScriptSpots.TheSendSync as spots
 use Rattle.cdp_session.proofs.SendLemmas.{session-send}
 use Rattle.cdp_session.proofs.situation.Pause.TheSendSync as pause
@@ -75,12 +76,15 @@ host-parts ℓ =
                         (
                           search (session-send, seat.the_field_send, seat.the_send, vectors.the_send, crosses, sendable) depth 30,
                           (
-                            search sendable,
+                            places.the_send,
                             (
-                              search (session-send, fallback.the_field_send, fallback.the_send, crosses, sendable) depth 60,
+                              search sendable,
                               (
-                                search (lost.the_field_send, vectors.the_send, crosses, sendable) depth 30,
-                                tt,
+                                search (session-send, fallback.the_field_send, fallback.the_send, crosses, sendable) depth 60,
+                                (
+                                  search (lost.the_field_send, vectors.the_send, crosses, sendable) depth 30,
+                                  tt,
+                                ),
                               ),
                             ),
                           ),

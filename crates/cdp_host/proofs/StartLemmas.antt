@@ -6,6 +6,7 @@ use Rattle.js_semantics.specs.Sources.{terms_of_scripts}
 use Rattle.js_semantics.specs.Terms.{Terms}
 use Rattle.locations.specs.declared.spot.Spot.{Spot}
 use Rattle.locations.specs.Locations.{break_locations}
+use Rattle.breakpoints.specs.declared.holding.Holding.{Holding}
 use Rattle.js_machine.specs.declared.end.End.{End}
 use Rattle.js_machine.specs.declared.machine.Started.{Started}
 use Rattle.js_machine.specs.Machines.{IsKept}
@@ -20,6 +21,7 @@ use Rattle.pure_eval.specs.Workspaces.{Workspace, begun}
 use Rattle.cdp_session.specs.Sessions.{Session}
 use Rattle.cdp_host.specs.Hosts.{Parts, AreLines, IsSound, machine_run}
 use Rattle.cdp_host.proofs.ProgramLemmas.{start-prints}
+use Rattle.cdp_host.proofs.IndexLemmas.{gone-indexed}
 use Rattle.cdp_host.proofs.PartLemmas.{run-printed}
 
 -- it means the beginning
@@ -61,9 +63,10 @@ pub start-sound : (scripts : List Script) (input lines : List (List ℕ)) (spots
     → AreLines scripts lines
     → spots ≡ map break_locations scripts
     → (held : Fallback Session) → HasRoom 0 held → fallback_held held ≡ fallback_of []
-    → IsSound scripts lines spots s.machine false [] 0 held []
+    → (index : List Holding) → index ≡ []
+    → IsSound scripts lines spots s.machine false [] 0 index held []
 unfolding code_of
-start-sound scripts input lines spots s is located found held room made =
+start-sound scripts input lines spots s is located found held room made index none =
     let K : Option End → Type 0 = IsKept in
     record {
       lines = located;
@@ -75,6 +78,7 @@ start-sound scripts input lines spots s is located found held room made =
       room = λ works. room;
       alone = λ fails. absurd cc;
       gone = ap (λ f. some is_attached f.seats) made;
+      indexed = gone-indexed [] index refl none;
       fit = tt;
     }
 

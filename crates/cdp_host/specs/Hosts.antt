@@ -18,6 +18,7 @@ use Rattle.js_machine.specs.Machines.{Machine, program_of, term_of, run_at, IsKe
 use Rattle.js_machine.specs.Standing.{source_of, until_end, holds_until_end}
 use Rattle.locations.specs.declared.spot.Spot.{Spot}
 use Rattle.locations.specs.Locations.{break_locations}
+use Rattle.breakpoints.specs.declared.holding.Holding.{Holding}
 use Rattle.stepping.specs.declared.arrival.Arrival.{Arrival}
 use Rattle.cdp_session.specs.declared.situation.Pause.{Pause}
 use Rattle.cdp_session.specs.Sessions.{Session}
@@ -29,6 +30,7 @@ use Rattle.cdp_host_seats.specs.declared.fallback.Fallback.{Fallback as HeldFall
 use Rattle.cdp_host_seats.specs.declared.losses.SessionLost.{SessionLost}
 use Rattle.cdp_host.specs.Arrivals.{place_at, is_uncaught, IsShort}
 use Rattle.cdp_host.specs.Histories.{IsHistory, Meaning, apply, whole}
+use Rattle.cdp_host.specs.Indexing.{IsIndexOf}
 use Rattle.cdp_host.specs.Programs.{code_of, printed_of}
 use Rattle.cdp_host.specs.Protocols.{protocol}
 use Rattle.cdp_host.specs.Rules.{printed_between}
@@ -202,9 +204,11 @@ pub record FallsBack (old new : HostState) : Type 0 where
 -- What holds of every host: its machine has the code of its scripts, and beside them stand where their lines begin and
 -- where their break locations are. Until want of memory breaks it, all texts were handed out, the machine isn't given
 -- up, no loss is to be handed out, and there is room for what it falls back to with so many seats; then it has no
--- session, nor has what it falls back to. The texts that wait fit.
+-- session, nor has what it falls back to. The index has the places of each attached session, and no others. The texts
+-- that wait fit.
 pub record IsSound (scripts : List Script) (starts : List (List ℕ)) (found : List (List Spot)) (machine : Machine)
-    (broken : Bool) (seats : List (Seat Session)) (count : ℕ) (fallback : HeldFallback Session) (fallen : List SessionLost)
+    (broken : Bool) (seats : List (Seat Session)) (count : ℕ) (index : List Holding) (fallback : HeldFallback Session)
+    (fallen : List SessionLost)
     : Type 0 where
   pub lines : AreLines scripts starts
   pub spots : found ≡ map break_locations scripts
@@ -215,4 +219,5 @@ pub record IsSound (scripts : List Script) (starts : List (List ℕ)) (found : L
   pub room : broken ≡ false → HasRoom count fallback
   pub alone : broken ≡ true → NoneAttached seats
   pub gone : NoneAttached fallback.seats.items
+  pub indexed : IsIndexOf seats index
   pub fit : AllFit (protocol scripts) seats

@@ -7,6 +7,7 @@ pub mod Protocols
 pub mod Histories
 pub mod States
 pub mod Ran
+pub mod Indexing
 pub mod Rules
 pub mod Watching
 pub mod Hosts

@@ -33,12 +33,13 @@ ghost use Rattle.cdp_host.specs.Watching.{AnswersIn};
 
 use crate::advance::{Advanced, make_stretch};
 use crate::debuggee::{Debuggee, is_over};
+use crate::indexing::forget_lost;
 use crate::lines::lines_of_all;
 use crate::recordable::some_still_wait;
 use crate::seats::{resume_all, some_enabled};
 use crate::stops::{is_first, pause_behind, phase_of, stops_behind, waits, woken};
 use crate::telling::{answer, take};
-use breakpoints::ScriptSpots;
+use breakpoints::{PlaceIndex, ScriptSpots};
 use cdp_host_isolation::{Phase, Seat};
 use cdp_host_seats::{
     Fallback, SessionLost, fell, is_attached, leave, losses_of, report_all, seat_index,
@@ -78,6 +79,8 @@ pub struct Host<'p> {
     shut: bool,
     // what became of the sessions, in the order of their numbers, which count from 1
     seats: Vec<Seat<Session>>,
+    // the places at which each attached session has breakpoints, and no others
+    index: PlaceIndex,
     broken: bool,
     fallback: Fallback<Session>,
     // the losses that want of memory in a run brought, until they are handed out
@@ -103,7 +106,7 @@ impl<'p> Model for Host<'p> {
       fallen = a.fallen.items;
     } };
 
-    ghost invariant = { λ a. IsSound a.scripts.now a.lines.items a.spots a.machine a.broken a.seats.items a.seats.len a.fallback a.fallen.items };
+    ghost invariant = { λ a. IsSound a.scripts.now a.lines.items a.spots a.machine a.broken a.seats.items a.seats.len a.index a.fallback a.fallen.items };
 }
 
 /// What the evaluations of a session begin with, for a program of these scripts and names.
@@ -112,7 +115,7 @@ fn workspace_of(
     scripts: &[Script],
     names: &NameTable,
 ) -> Result<Workspace, AllocError>
-    ensures { IfOk result (λ w. w ≡ begun (code_of scripts.now)) }
+    ensures { IfOk result (λ w. w.workspace ≡ begun (code_of scripts.now)) }
 {
     let terms = terms_of_scripts(alloc, scripts)?;
     let placed = placed_scripts(alloc, &terms)?;
@@ -191,6 +194,7 @@ impl<'p> Host<'p> {
             stops: 0,
             shut: false,
             seats: Vec::new(alloc),
+            index: PlaceIndex::new(alloc),
             broken: false,
             fallback: Fallback::new(alloc),
             fallen: Vec::new(alloc),
@@ -399,7 +403,13 @@ impl<'p> Host<'p> {
             lines: self.lines.as_slice(),
         };
         let situation = situation_of(self.scripts, &self.spots, self.stop, &program);
-        answer(self.seats.as_mut_slice(), s, &situation, text)
+        answer(
+            &mut self.index,
+            self.seats.as_mut_slice(),
+            s,
+            &situation,
+            text,
+        )
     }
 
     /// Does what a command asks of the program.
@@ -441,6 +451,7 @@ impl<'p> Host<'p> {
         ensures works { self.old.broken ≡ false }
     {
         leave(self.seats.as_mut_slice(), s);
+        self.index.forget(s);
         self.settle();
     }
 
@@ -468,6 +479,7 @@ impl<'p> Host<'p> {
         if self.stop.is_some() {
             self.stop = None;
             resume_all(self.seats.as_mut_slice());
+            forget_lost(&mut self.index, self.seats.as_slice());
         }
     }
 
@@ -629,6 +641,7 @@ impl<'p> Host<'p> {
             is_first(self.phase),
             self.stops,
             self.seats.as_mut_slice(),
+            &mut self.index,
             named,
             most,
             moment,
@@ -643,6 +656,7 @@ impl<'p> Host<'p> {
             Err(error) => {
                 self.broken = true;
                 self.fallback.restore(&mut self.seats, &mut self.fallen);
+                self.index = PlaceIndex::new(self.alloc);
                 Err(error)
             }
         }
@@ -663,6 +677,7 @@ impl<'p> Host<'p> {
     {
         self.broken = true;
         self.fallback.restore(&mut self.seats, &mut self.fallen);
+        self.index = PlaceIndex::new(self.alloc);
     }
 
     /// Whether one of so many steps that are left may be made.

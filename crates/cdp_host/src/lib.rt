@@ -17,6 +17,7 @@ mod debuggee;
 mod endings;
 mod host;
 mod hosted;
+mod indexing;
 pub mod laws;
 mod lines;
 mod recordable;

@@ -5,3 +5,4 @@ pub mod StopLemmas
 pub mod ConditionLemmas
 pub mod CallLemmas
 pub mod SendLemmas
+pub mod CountLemmas

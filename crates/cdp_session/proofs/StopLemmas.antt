@@ -14,7 +14,7 @@ use Rattle.pure_eval.specs.Workspaces.{Workspace}
 use Rattle.cdp_session.specs.Conditions.{hits, is_met, is_some_hit}
 use Rattle.cdp_session.specs.Sessions.{Session, is_silent}
 use Rattle.cdp_session.specs.Situations.{Standing}
-use Rattle.cdp_session.specs.Stops.{AreHits, cause_of, hit_ids, hits_of, may_be_hit, may_name}
+use Rattle.cdp_session.specs.Stops.{AreHits, cause_of, hit_ids, hits_of, may_be_hit, may_name, wants}
 
 -- no breakpoint is hit where none stands
 pub none-hit : (s : Standing) (w : Workspace) (place : Place) (b : breakpoints.HeldBreakpoints)
@@ -52,6 +52,17 @@ pub never-causes : (s : Standing) (a : Arrival) (x : Session) → may_name a x �
 never-causes s a x never =
     fewer (may_be_hit a.place x.breakpoints) (is_some_hit (hits s x.workspace x.breakpoints a.place)) x.rules a
     (none-anywhere s x.workspace a.place x.breakpoints) never
+
+-- nor does a rule of it other than that of breakpoints
+pub never-wants : (a : Arrival) (x : Session) → may_name a x ≡ false → wants a x ≡ false
+never-wants a x never = fewer (may_be_hit a.place x.breakpoints) false x.rules a (λ _. refl) never
+
+-- where none of these names a stop and no breakpoint stands, nothing does
+pub unwanted-names : (a : Arrival) (x : Session)
+    → wants a x ≡ false
+    → may_be_hit a.place x.breakpoints ≡ false
+    → may_name a x ≡ false
+unwanted-names a x unwanted none = ap (λ b. is_some (first_cause x.rules a b)) none ∙ unwanted
 
 -- ---- the hits of a session
 

@@ -45,6 +45,12 @@ may_be_hit (Some place) b = is_hit place b
 abbrev pub may_name : Arrival → Session → Bool
 may_name a x = is_some (first_cause x.rules a (may_be_hit a.place x.breakpoints))
 
+-- ---- what names a stop beside breakpoints
+
+-- a rule of the session other than that of breakpoints names a stop there
+abbrev pub wants : Arrival → Session → Bool
+wants a x = is_some (first_cause x.rules a false)
+
 -- ---- stops and resumes
 
 -- the event that tells of the stop of this number, with the objects that the session holds behind it

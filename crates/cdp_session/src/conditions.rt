@@ -1,7 +1,7 @@
 //! Conditions of breakpoints, evaluated where the program arrived: nothing of an evaluation is kept (Chrome DevTools Protocol
 //! 1.3, `Debugger.setBreakpoint`).
 
-ghost use Rattle.std.specs.Prelude.{◌≡◌, false, filter, map, slice_get, unwrap_or, IfOk, IfSome, OnOk, Some};
+ghost use Rattle.std.specs.Prelude.{◌≡◌, false, filter, map, slice_get, IfOk, IfSome, OnOk, Some};
 ghost use Rattle.breakpoints.specs.Breakpoints.{hits_at, id_of};
 ghost use Rattle.frames_scopes_types.specs.Views.{frame_of};
 ghost use Rattle.js_heap.specs.World.{World};
@@ -11,7 +11,7 @@ ghost use Rattle.pure_eval.specs.Workspaces.{opened as just_opened, EvaluatesTo,
 ghost use Rattle.cdp_session.specs.Conditions as conditions;
 ghost use Rattle.cdp_session.specs.Conditions.{IsParsed, expression_holds, hits};
 ghost use Rattle.pure_eval.specs.Answering.{is_memory};
-ghost use Rattle.cdp_session.specs.Sessions.{no_workspace};
+ghost use Rattle.cdp_session.specs.Sessions.{workspace_in};
 ghost use Rattle.cdp_session.specs.Situations.{seen};
 
 use crate::evaluating::{innermost, open};
@@ -130,7 +130,9 @@ fn top_this(frames: &[CallFrame<'_>]) -> Value
 
 /// Whether an evaluation came to a value that counts as true.
 fn comes_true(opened: &OpenWorkspace<'_>, end: Evaluated) -> Result<bool, AllocError>
-    ensures value { IfOk result (λ is. (base : World) (w : Kept) (a : Answer) (e : Source) → EvaluatesTo a e end (just_opened base w) opened.now → is ≡ conditions.comes_true base a) }
+    ensures value { IfOk result (λ is. (base : World) (w : Kept) (a : Answer) (e : Source)
+        → EvaluatesTo a e end (just_opened base w) opened.now.workspace
+        → is ≡ conditions.comes_true base a) }
     ensures memory { IfOk result (λ is. is_memory end ≡ false) }
 {
     match end {
@@ -154,8 +156,9 @@ fn holds_at_top<P: Program>(
     situation: &Situation<'_, P>,
     expression: &Expression,
 ) -> Result<bool, AllocError>
-    ensures holds { IfOk result (λ is. is ≡ expression_holds (seen P.standing situation.now).standing (unwrap_or workspace.old no_workspace) expression.now) }
-    ensures kept { OnOk result (unwrap_or workspace.new no_workspace ≡ unwrap_or workspace.old no_workspace) }
+    ensures holds { IfOk result (λ is. is ≡ expression_holds (seen P.standing situation.now).standing
+        (workspace_in workspace.old) expression.now) }
+    ensures kept { OnOk result (workspace_in workspace.new ≡ workspace_in workspace.old) }
 {
     let frames = situation.program.call_frames(alloc)?;
     let scope = top_scope(frames.as_slice());
@@ -177,8 +180,9 @@ impl Condition {
         workspace: &mut Option<Workspace>,
         situation: &Situation<'_, P>,
     ) -> Result<bool, AllocError>
-        ensures holds { IfOk result (λ is. is ≡ conditions.holds (seen P.standing situation.now).standing (unwrap_or workspace.old no_workspace) self.now) }
-        ensures kept { OnOk result (unwrap_or workspace.new no_workspace ≡ unwrap_or workspace.old no_workspace) }
+        ensures holds { IfOk result (λ is. is ≡ conditions.holds (seen P.standing situation.now).standing
+            (workspace_in workspace.old) self.now) }
+        ensures kept { OnOk result (workspace_in workspace.new ≡ workspace_in workspace.old) }
     {
         match &self.expression {
             Some(expression) => holds_at_top(alloc, workspace, situation, expression),
@@ -195,8 +199,9 @@ fn is_met<P: Program>(
     situation: &Situation<'_, P>,
     condition: &Option<Units>,
 ) -> Result<bool, AllocError>
-    ensures met { IfOk result (λ is. is ≡ conditions.condition_holds (seen P.standing situation.now).standing (unwrap_or workspace.old no_workspace) condition.now) }
-    ensures kept { OnOk result (unwrap_or workspace.new no_workspace ≡ unwrap_or workspace.old no_workspace) }
+    ensures met { IfOk result (λ is. is ≡ conditions.condition_holds (seen P.standing situation.now).standing
+        (workspace_in workspace.old) condition.now) }
+    ensures kept { OnOk result (workspace_in workspace.new ≡ workspace_in workspace.old) }
 {
     let Some(text) = condition else {
         return Ok(true);
@@ -217,8 +222,10 @@ fn ids_met<P: Program>(
     situation: &Situation<'_, P>,
     place: Place,
 ) -> Result<Vec<Units>, AllocError>
-    ensures ids { IfOk result (λ ids. ids.items ≡ map id_of (filter (conditions.is_met (seen P.standing situation.now).standing (unwrap_or workspace.old no_workspace)) (hits_at place breakpoints.now))) }
-    ensures kept { OnOk result (unwrap_or workspace.new no_workspace ≡ unwrap_or workspace.old no_workspace) }
+    ensures ids { IfOk result (λ ids. ids.items ≡ map id_of (filter
+        (conditions.is_met (seen P.standing situation.now).standing (workspace_in workspace.old))
+        (hits_at place breakpoints.now))) }
+    ensures kept { OnOk result (workspace_in workspace.new ≡ workspace_in workspace.old) }
 {
     let mut ids = Vec::new(alloc);
     for breakpoint in breakpoints.at(place) {
@@ -227,6 +234,24 @@ fn ids_met<P: Program>(
         }
     }
     Ok(ids)
+}
+
+/// The same; at most places none stands, which shows at a look.
+fn ids_there<P: Program>(
+    alloc: Global,
+    breakpoints: &Breakpoints,
+    parsed: &mut Vec<Condition>,
+    workspace: &mut Option<Workspace>,
+    situation: &Situation<'_, P>,
+    place: Place,
+) -> Result<Vec<Units>, AllocError>
+    ensures ids { IfOk result (λ ids. ids.items ≡ map id_of (filter (conditions.is_met (seen P.standing situation.now).standing (unwrap_or workspace.old no_workspace)) (hits_at place breakpoints.now))) }
+    ensures kept { OnOk result (unwrap_or workspace.new no_workspace ≡ unwrap_or workspace.old no_workspace) }
+{
+    if !breakpoints.is_hit(place) {
+        return Ok(Vec::new(alloc));
+    }
+    ids_met(alloc, breakpoints, parsed, workspace, situation, place)
 }
 
 /// The ids of the breakpoints that are hit where the program arrived, if it did, in the order in which they were set.
@@ -242,11 +267,12 @@ pub(crate) fn ids_hit<P: Program>(
     situation: &Situation<'_, P>,
     place: Option<Place>,
 ) -> Result<Vec<Units>, AllocError>
-    ensures ids { IfOk result (λ ids. ids.items ≡ map id_of (hits (seen P.standing situation.now).standing (unwrap_or workspace.old no_workspace) breakpoints.now place)) }
-    ensures kept { OnOk result (unwrap_or workspace.new no_workspace ≡ unwrap_or workspace.old no_workspace) }
+    ensures ids { IfOk result (λ ids. ids.items ≡ map id_of (hits (seen P.standing situation.now).standing
+        (workspace_in workspace.old) breakpoints.now place)) }
+    ensures kept { OnOk result (workspace_in workspace.new ≡ workspace_in workspace.old) }
 {
     match place {
-        Some(place) => ids_met(alloc, breakpoints, parsed, workspace, situation, place),
+        Some(place) => ids_there(alloc, breakpoints, parsed, workspace, situation, place),
         None => Ok(Vec::new(alloc)),
     }
 }

@@ -29,7 +29,8 @@ fn describer_of<'o, 'b>(
     session: u64,
     sources: &'o EvaluatedTexts,
 ) -> Describer<'o, Overlay<'b>, EvaluatedTexts>
-    ensures { described_over result ≡ sight_of node_text (copied_world opened.now.world opened.now.behind.scratch) scripts.now session }
+    ensures { described_over result ≡ sight_of node_text
+        (copied_world opened.now.workspace.world opened.now.workspace.behind.scratch) scripts.now session }
 {
     let seen = opened.seen();
     Describer {
@@ -53,8 +54,12 @@ pub(crate) fn properties_of(
     detail: Detail,
     handles: &mut Handles,
 ) -> Result<Vec<Json>, AllocError>
-    ensures made { IfOk result (λ values. map json_view values.items ≡ (descriptors_with (sight_of node_text (copied_world opened.now.world opened.now.behind.scratch) scripts.now session) detail object.now.group object.now.target handles.old).made) }
-    ensures handles { OnOk result (handles.new ≡ (descriptors_with (sight_of node_text (copied_world opened.now.world opened.now.behind.scratch) scripts.now session) detail object.now.group object.now.target handles.old).handles) }
+    ensures made { IfOk result (λ values. map json_view values.items ≡ (descriptors_with (sight_of node_text
+        (copied_world opened.now.workspace.world opened.now.workspace.behind.scratch) scripts.now session)
+        detail object.now.group object.now.target handles.old).made) }
+    ensures handles { OnOk result (handles.new ≡ (descriptors_with (sight_of node_text
+        (copied_world opened.now.workspace.world opened.now.workspace.behind.scratch) scripts.now session)
+        detail object.now.group object.now.target handles.old).handles) }
 {
     let sources = EvaluatedTexts;
     let describer = describer_of(alloc, opened, scripts, session, &sources);
@@ -73,8 +78,12 @@ pub(crate) fn value_of(
     group: Option<&[u16]>,
     handles: &mut Handles,
 ) -> Result<Json, AllocError>
-    ensures made { IfOk result (λ j. json_view j ≡ (remote_with (sight_of node_text (copied_world opened.now.world opened.now.behind.scratch) scripts.now session) detail (option_copied group.entry) value handles.old).made) }
-    ensures handles { OnOk result (handles.new ≡ (remote_with (sight_of node_text (copied_world opened.now.world opened.now.behind.scratch) scripts.now session) detail (option_copied group.entry) value handles.old).handles) }
+    ensures made { IfOk result (λ j. json_view j ≡ (remote_with (sight_of node_text
+        (copied_world opened.now.workspace.world opened.now.workspace.behind.scratch) scripts.now session)
+        detail (option_copied group.entry) value handles.old).made) }
+    ensures handles { OnOk result (handles.new ≡ (remote_with (sight_of node_text
+        (copied_world opened.now.workspace.world opened.now.workspace.behind.scratch) scripts.now session)
+        detail (option_copied group.entry) value handles.old).handles) }
 {
     let sources = EvaluatedTexts;
     let describer = describer_of(alloc, opened, scripts, session, &sources);
@@ -89,7 +98,8 @@ pub(crate) fn given_of(
     session: u64,
     value: Value,
 ) -> Result<Json, ByValueFault>
-    ensures { Gives json_view result (remote_by_value (sight_of node_text (copied_world opened.now.world opened.now.behind.scratch) scripts.now session) value) }
+    ensures { Gives json_view result (remote_by_value (sight_of node_text
+        (copied_world opened.now.workspace.world opened.now.workspace.behind.scratch) scripts.now session) value) }
 {
     let sources = EvaluatedTexts;
     let describer = describer_of(alloc, opened, scripts, session, &sources);

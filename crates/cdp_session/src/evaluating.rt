@@ -1,6 +1,6 @@
 //! Evaluations without effects (Chrome DevTools Protocol 1.3, `Runtime.evaluate` and `Debugger.evaluateOnCallFrame`).
 
-ghost use Rattle.std.specs.Prelude.{◌≡◌, Err, IfOk, None, OnOk, bytes_eq, map, option_copied, option_map, unwrap_or, if◌then◌else◌};
+ghost use Rattle.std.specs.Prelude.{◌≡◌, Err, IfOk, None, OnOk, bytes_eq, map, option_copied, option_map, if◌then◌else◌};
 ghost use Rattle.js_heap.specs.BuiltIns.{script_scope};
 ghost use Rattle.js_parser_readers.specs.declared.fault.ParseFault.TheVariants as parse_faults;
 ghost use Rattle.cdp_session.specs.declared.done.Fault.TheVariants as faults;
@@ -15,7 +15,7 @@ ghost use Rattle.remote_objects.specs.Ids as ids;
 ghost use Rattle.js_parser.specs.Expressions.{expression_of};
 ghost use Rattle.js_parser.specs.NodeTexts.{node_text};
 ghost use Rattle.remote_objects.specs.ByValue.{remote_by_value};
-ghost use Rattle.cdp_session.specs.Sessions.{no_workspace, with_workspace};
+ghost use Rattle.cdp_session.specs.Sessions.{no_workspace, with_workspace, workspace_in};
 ghost use Rattle.cdp_session.specs.Evaluations as evaluations;
 ghost use Rattle.cdp_session.specs.Made.{Describes, GivesValue, KeepsIfRefused, Makes};
 ghost use Rattle.cdp_session.specs.Rows.{row_of};
@@ -75,7 +75,9 @@ fn holds_on(value: Value, handles: &Handles) -> bool
 
 /// What evaluations go on from behind one that is kept, or forgotten.
 fn kept_or_forgotten(keeps: bool, opened: OpenWorkspace<'_>) -> Workspace
-    ensures { result ≡ (if keeps then opened.entry.behind else opened.entry.before) }
+    ensures workspace { result.workspace
+        ≡ (if keeps then opened.entry.workspace.behind else opened.entry.workspace.before) }
+    ensures names { result.names ≡ opened.entry.names }
 {
     if keeps {
         opened.keep()
@@ -99,7 +101,8 @@ pub(crate) fn open<'p, P: Program>(
     workspace: &mut Option<Workspace>,
     situation: &Situation<'p, P>,
 ) -> Result<OpenWorkspace<'p>, AllocError>
-    ensures opened { IfOk result (λ o. o ≡ just_opened (seen P.standing situation.now).standing.world (unwrap_or workspace.old no_workspace)) }
+    ensures opened { IfOk result (λ o. o.workspace ≡ just_opened (seen P.standing situation.now).standing.world
+        (workspace_in workspace.old)) }
     ensures rest { OnOk result (workspace.new ≡ None) }
 {
     let Some(workspace) = workspace.take() else {
@@ -290,7 +293,8 @@ impl Session {
         &mut self,
         situation: &Situation<'p, P>,
     ) -> Result<OpenWorkspace<'p>, AllocError>
-        ensures opened { IfOk result (λ o. o ≡ just_opened (seen P.standing situation.now).standing.world self.old.workspace) }
+        ensures opened { IfOk result (λ o. o.workspace ≡ just_opened (seen P.standing situation.now).standing.world
+            self.old.workspace) }
         ensures rest { OnOk result (self.new ≡ with_workspace no_workspace self.old) }
     {
         open(&mut self.workspace, situation)
@@ -304,8 +308,13 @@ impl Session {
         end: Evaluated,
         opened: OpenWorkspace<'_>,
     ) -> Result<Done, Fault>
-        ensures made { (s : Seen) (e : Source) (a : Answer) → s.scripts ≡ scripts.now → s.standing.world ≡ opened.entry.world → EvaluatesTo a e end (just_opened opened.entry.world opened.entry.before) opened.entry → Makes result self.new (row_of (evaluations.outcome_of_answer s (with_workspace opened.entry.before self.old) showing.now e a)) }
-        ensures kept { KeepsIfRefused result (with_workspace opened.entry.before self.old) self.new }
+        ensures made { (s : Seen) (e : Source) (a : Answer)
+            → s.scripts ≡ scripts.now → s.standing.world ≡ opened.entry.workspace.world
+            → EvaluatesTo a e end (just_opened opened.entry.workspace.world opened.entry.workspace.before)
+            opened.entry.workspace
+            → Makes result self.new (row_of (evaluations.outcome_of_answer s
+            (with_workspace opened.entry.workspace.before self.old) showing.now e a)) }
+        ensures kept { KeepsIfRefused result (with_workspace opened.entry.workspace.before self.old) self.new }
     {
         match end {
             Evaluated::Value(value) => {
@@ -346,8 +355,13 @@ impl Session {
         showing: &Showing,
         opened: OpenWorkspace<'_>,
     ) -> Result<Json, Fault>
-        ensures described { Describes result self.new (with_workspace (if evaluations.keeps showing.now value self.old.handles then opened.entry.behind else opened.entry.before) self.old) (evaluations.described_as (sight_of node_text (copied_world opened.entry.world opened.entry.behind.scratch) scripts.now self.old.number) showing.now value self.old.handles) }
-        ensures kept { KeepsIfRefused result (with_workspace opened.entry.before self.old) self.new }
+        ensures described { Describes result self.new
+            (with_workspace (if evaluations.keeps showing.now value self.old.handles
+            then opened.entry.workspace.behind else opened.entry.workspace.before) self.old)
+            (evaluations.described_as (sight_of node_text
+            (copied_world opened.entry.workspace.world opened.entry.workspace.behind.scratch) scripts.now
+            self.old.number) showing.now value self.old.handles) }
+        ensures kept { KeepsIfRefused result (with_workspace opened.entry.workspace.before self.old) self.new }
     {
         if showing.by_value {
             return self.describe_by_value(scripts, value, opened);
@@ -374,8 +388,10 @@ impl Session {
         value: Value,
         opened: OpenWorkspace<'_>,
     ) -> Result<Json, Fault>
-        ensures given { GivesValue result (remote_by_value (sight_of node_text (copied_world opened.entry.world opened.entry.behind.scratch) scripts.now self.old.number) value) }
-        ensures session { self.new ≡ with_workspace opened.entry.before self.old }
+        ensures given { GivesValue result (remote_by_value (sight_of node_text
+            (copied_world opened.entry.workspace.world opened.entry.workspace.behind.scratch) scripts.now
+            self.old.number) value) }
+        ensures session { self.new ≡ with_workspace opened.entry.workspace.before self.old }
     {
         let given = given_of(self.alloc, &opened, scripts, self.number, value);
         self.workspace = Some(opened.forget());

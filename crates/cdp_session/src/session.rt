@@ -1,15 +1,19 @@
 //! A session: what it keeps, by which rule it names a stop, and how it answers a text.
 
-ghost use Rattle.std.specs.Prelude.{◌≡◌, ◌<◌, ◌≤◌, ◌^◌, ◌∷◌, [], ◌++◌, List, true, false, map, IfOk, OnOk, IsErrOf, option_to_list, string_bytes, is_some};
+ghost use Rattle.std.specs.Prelude.{◌≡◌, ◌↔◌, ◌<◌, ◌≤◌, ◌^◌, ◌∷◌, [], ◌++◌, List, length, true, false, map, IfOk, IsTrue, OnOk, IsErrOf, option_to_list, string_bytes, is_some};
 ghost use Rattle.cdp_session.specs.Situations.{HasSpots, seen};
 ghost use Rattle.cdp_session.specs.Sessions.{emptied, fresh, holding, is_silent, sent, with_exception, with_handles};
 ghost use Rattle.cdp_session_messages.specs.Outboxes.{fits};
 ghost use Rattle.breakpoints.specs.Breakpoints.{id_of};
 ghost use Rattle.breakpoints.specs.declared.breakpoint.Breakpoint.{Breakpoint};
+ghost use Rattle.breakpoints.specs.Indexed.{ArePlacesOf};
+ghost use Rattle.breakpoints.specs.PlaceOrder.{AreAscending};
+ghost use Rattle.stepping.specs.Beside.{IsNamedBeside};
 ghost use Rattle.stepping.specs.Causes.{first_cause};
+ghost use Rattle.stepping.specs.Rules.{has_request};
 ghost use Rattle.cdp_session.specs.Conditions.{is_some_hit};
 ghost use Rattle.cdp_session_messages.specs.Results.{resumed_text};
-ghost use Rattle.cdp_session.specs.Stops.{AreHits, cause_of, hit_ids, hits_of, may_be_hit, may_name, resumed, stop_told, stopped};
+ghost use Rattle.cdp_session.specs.Stops.{AreHits, cause_of, hit_ids, hits_of, may_be_hit, may_name, resumed, stop_told, stopped, wants};
 ghost use Rattle.cdp_session.specs.Consoles.{printed};
 ghost use Rattle.cdp_session.specs.Endings.{ended, ending_told};
 ghost use Rattle.cdp_session.specs.Replies.{answer_by, answer_of, comes_to, outcome_by, refusal_of, IsRefused};
@@ -39,7 +43,7 @@ use pure_eval::Workspace;
 use remote_objects::backtrace;
 use std::alloc::{AllocError, Global};
 use std::marker::Model;
-use stepping::{Arrival, Cause, Rules, first_cause};
+use stepping::{Arrival, Cause, Rules, first_cause, wants};
 
 /// One client: what it asks for, its breakpoints, the objects that it holds, and the texts that wait for it.
 #[derive(Drop)]
@@ -60,16 +64,16 @@ pub struct Session {
 }
 
 impl Model for Session {
-    ghost use Rattle.std.specs.Prelude.{◌≤◌, ◌^◌, unwrap_or};
+    ghost use Rattle.std.specs.Prelude.{◌≤◌, ◌^◌};
     ghost use Rattle.std.specs.Coded.{codes};
     ghost use Rattle.pure_eval.specs.TermCodes.{term_coded};
-    ghost use Rattle.cdp_session.specs.Sessions.{Session as Kept, no_workspace};
+    ghost use Rattle.cdp_session.specs.Sessions.{Session as Kept, workspace_in};
 
     ghost Value = { Kept };
 
     ghost coded = { Prim.hlevel (codes, term_coded) };
 
-    ghost view = { λ x. record { number = x.number; rules = x.rules; runtime = x.runtime; breakpoints = x.breakpoints; handles = x.handles; workspace = unwrap_or x.workspace no_workspace; exceptions = x.exceptions; outbox = x.outbox } };
+    ghost view = { λ x. record { number = x.number; rules = x.rules; runtime = x.runtime; breakpoints = x.breakpoints; handles = x.handles; workspace = workspace_in x.workspace; exceptions = x.exceptions; outbox = x.outbox } };
 
     ghost invariant = { λ x. x.exceptions ≤ 2 ^ 62 };
 }
@@ -90,7 +94,7 @@ fn may_be_hit(breakpoints: &Breakpoints, place: Option<Place>) -> bool
 impl Session {
     /// A session of this number that asks for nothing, and whose evaluations begin with this. It takes no memory.
     pub fn new(alloc: Global, number: u64, workspace: Workspace) -> Session
-        ensures { result ≡ fresh number workspace }
+        ensures { result ≡ fresh number workspace.workspace }
     {
         Session {
             alloc,
@@ -127,6 +131,39 @@ impl Session {
     {
         let may_be_hit = may_be_hit(&self.breakpoints, arrival.place);
         first_cause(&self.rules, arrival, may_be_hit).is_some()
+    }
+
+    /// Whether a rule of the session other than that of breakpoints names a stop behind a step that leads to this arrival.
+    /// Takes no memory.
+    pub fn wants(&self, arrival: &Arrival) -> bool
+        ensures value { result ≡ wants arrival.now self.now }
+        ensures named { IsTrue result ↔ IsNamedBeside self.now.rules arrival.now }
+    {
+        wants(&self.rules, arrival)
+    }
+
+    /// Whether the session asked for a pause, a step, or a place to run to. Without that no rule of it other than that of
+    /// breakpoints names a step that raised nothing and led to no `debugger` statement.
+    pub fn has_request(&self) -> bool
+        ensures { result ≡ has_request self.now.rules }
+    {
+        self.rules.has_request()
+    }
+
+    /// The places to which its breakpoints resolved, each once, in the order of scripts, lines and columns. They are the
+    /// same where the breakpoints aren't active.
+    pub fn places(&self) -> &[Place]
+        ensures exact { ArePlacesOf self.now.breakpoints.set result.now }
+        ensures ascending { AreAscending result.now }
+    {
+        self.breakpoints.places()
+    }
+
+    /// How many breakpoints it has. A text that leaves as many leaves the same ones.
+    pub fn breakpoint_count(&self) -> usize
+        ensures { result ≡ length self.now.breakpoints.set }
+    {
+        self.breakpoints.count()
     }
 
     /// What the session finds of a step that leads to this arrival: the first rule by which it names a stop, if one

@@ -1,9 +1,9 @@
 -- Two numbers have the same text only if they are one number.
-use Rattle.std.proofs.Common.{◌≡◌, ℕ, zero, suc, ◌+◌, ◌≤◌, Bool, true, false, List, [], ◌∷◌, length, Option, Some, None, refl, sym, ap, ◌∙◌, arith}
-use Rattle.std.proofs.lemmas.List.{length-replicate}
+use Rattle.std.proofs.Common.{◌≡◌, ℕ, zero, suc, ◌+◌, ◌≤◌, ◌<◌, Bool, true, false, List, [], ◌∷◌, ◌++◌, length, take, drop, get_or, Option, Some, None, refl, sym, ap, ◌∙◌, arith}
+use Rattle.std.proofs.lemmas.List.{length-replicate, get_or_append_left, get_or_default, take-append-drop, take_all, take_more_same}
 use Rattle.std.specs.Prelude.{slice_get, unwrap_or, nat_eq}
 use Rattle.js_heap.specs.Keys.{same_units}
-use Rattle.js_heap_memory.specs.Names.{total, spare, name_of, Differ}
+use Rattle.js_heap_memory.specs.Names.{total, spare, name_of, Differ, GoesOn}
 use Rattle.std.proofs.lemmas.Bool.{and_parts, eqb-true, eq-eqb}
 
 -- ---- same units
@@ -62,3 +62,51 @@ same-names ts m n d =
     both (nat_eq m n) (same_units (name_of ts m) (name_of ts n))
     (λ e. let f : m ≡ n = eqb-true m n e in rw f (same-refl (name_of ts n)))
     (λ e. let f : m ≡ n = name-once ts m n d (same-only (name_of ts m) (name_of ts n) e) in rw f (eq-eqb n n refl))
+
+-- ---- tables that go on
+
+-- what a table goes on from stands in it, in the same places
+went-at : (ts us : List (List ℕ)) (i : ℕ) (t u : List ℕ)
+    → GoesOn ts us
+    → i < length ts
+    → t ≡ get_or ts i t
+    → u ≡ get_or us i u
+    → t ≡ u
+went-at ts us i t u w inside a b =
+    a
+    ∙ get_or_default ts i t u inside
+    ∙ sym (get_or_append_left ts w.more u i inside)
+    ∙ ap (λ l. get_or l i u) (sym w.is)
+    ∙ sym b
+
+pub not-went : (ts us : List (List ℕ)) (i : ℕ) (t u : List ℕ) (same : Bool)
+    → i < length ts
+    → t ≡ get_or ts i t
+    → u ≡ get_or us i u
+    → same ≡ same_units t u
+    → same ≡ false
+    → GoesOn ts us
+    → false ≡ true
+not-went ts us i t u same inside a b is isnt w =
+    sym isnt ∙ is ∙ ap (λ v. same_units t v) (sym (went-at ts us i t u w inside a b)) ∙ same-refl t
+
+pub went-more : (ts us : List (List ℕ)) (i : ℕ) (t u : List ℕ) (same : Bool)
+    → length ts ≤ length us
+    → i < length ts
+    → t ≡ get_or ts i t
+    → u ≡ get_or us i u
+    → same ≡ same_units t u
+    → same ≡ true
+    → take i ts ≡ take i us
+    → take (i + 1) ts ≡ take (i + 1) us
+went-more ts us i t u same long inside a b is alike before =
+    let there : i < length us = omega (arith, long, inside) in
+    take_more_same ts us i t inside there before
+    (sym a ∙ same-only t u (sym is ∙ alike) ∙ b ∙ get_or_default us i u t there)
+
+pub went-all : (ts us : List (List ℕ)) (i : ℕ) → length ts ≤ i → take i ts ≡ take i us → GoesOn ts us
+went-all ts us i all same =
+    record {
+      more = drop i us;
+      is = sym (take-append-drop i us) ∙ ap (λ l. l ++ drop i us) (sym same ∙ take_all i ts all);
+    }

@@ -1,9 +1,10 @@
 //! The table of names.
 
-ghost use Rattle.std.specs.Prelude.{◌≡◌, ◌++◌, ◌∷◌, ◌-◌, ◌<◌, [], IfOk, IfSome, OnOk, OnErr, None, length, option_map, take};
+ghost use Rattle.std.specs.Prelude.{◌≡◌, ◌++◌, ◌∷◌, ◌-◌, ◌<◌, [], IfOk, IfSome, OnOk, OnErr, None, length, option_map, take, true};
 ghost use Rattle.js_heap_memory.specs.Names.{name_of, number_of, Differ, GoesOn};
 
 use cdp_text::units::Units;
+use js_heap::keys::same_units;
 use std::alloc::{AllocError, Global};
 use std::collections::HashMap;
 use std::marker::Model;
@@ -31,6 +32,22 @@ impl Model for NameTable {
     ghost view = { λ n. n.texts.items };
 
     ghost invariant = { λ n. IsIndexed n.texts.items n.index };
+}
+
+/// Whether a list of texts begins with all of another.
+fn begins_with(texts: &[Units], first: &[Units]) -> bool
+    ensures begins { result ≡ true → GoesOn first.now texts.now }
+    ensures only { GoesOn first.now texts.now → result ≡ true }
+{
+    if texts.len() < first.len() {
+        return false;
+    }
+    for i in 0..first.len() {
+        if !same_units(first[i].as_slice(), texts[i].as_slice()) {
+            return false;
+        }
+    }
+    true
 }
 
 impl NameTable {
@@ -135,6 +152,14 @@ impl NameTable {
             Some(text) => Ok(text.as_slice()),
             None => Err(AllocError),
         }
+    }
+
+    /// Whether this table goes on from another: each text of the other has its number here too.
+    pub fn goes_on_from(&self, first: &NameTable) -> bool
+        ensures goes_on { result ≡ true → GoesOn first.now self.now }
+        ensures only { GoesOn first.now self.now → result ≡ true }
+    {
+        begins_with(self.texts.as_slice(), first.texts.as_slice())
     }
 
     /// How many names there are.

@@ -23,6 +23,8 @@ use Rattle.js_semantics.specs.Literals.{expression_literals}
 use Rattle.js_semantics.specs.Run.{Run, running, over, plain, program_of, state_of}
 use Rattle.js_semantics.specs.Frames.{frames}
 use Rattle.js_semantics.specs.Evaluation.{ScratchSpace, given, made_of, json_string, Answer, a_result, a_throw, an_effect, is_full_of, spent, with_source, evaluate, evaluate_call}
+use Rattle.js_tree.specs.Views.{statements}
+use Rattle.js_semantics.proofs.Shorthand.{add, array, arrow, at, call, d, dot, fn, key, mul, object, put, ret, run, s, same, sub, v}
 
 -- an answer with its value as it is shown
 pub data Shown : Type 0 where
@@ -111,155 +113,125 @@ adding =
     t.no_statements)))
 
 -- f() writes n, a cell of the program
-write_is_an_effect : at_top 6 counting (t.call (t.name (codes "f")) t.no_expressions) ≡ effect_answer
+write_is_an_effect : at_top 6 counting (call (v "f") []) ≡ effect_answer
 unfolding digits
 write_is_an_effect = refl
 
 -- n
-reads : at_top 6 counting (t.name (codes "n")) ≡ a_value_shown (codes "0")
+reads : at_top 6 counting (v "n") ≡ a_value_shown (codes "0")
 unfolding digits
 reads = refl
 
 -- [1,2].length
-makes : at_top 6 counting
-    (t.member (t.array (t.an_expression (t.number 1) (t.an_expression (t.number 2) t.no_expressions))) (codes "length"))
-    ≡ a_value_shown (codes "2")
+makes : at_top 6 counting (dot (array (d 1 ∷ d 2 ∷ [])) "length") ≡ a_value_shown (codes "2")
 unfolding digits
 makes = refl
 
 -- ({x: 'y'})
-makes_an_object : at_top 6 counting
-    (t.parenthesized
-    (t.object (t.a_property (t.value (t.word_key (codes "x")) (t.string (codes "y"))) t.no_properties)))
-    ≡ a_value_shown (codes "[object Object]")
+makes_an_object : at_top 6 counting (t.parenthesized (object (key "x" (s "y") ∷ []))) ≡ a_value_shown
+    (codes "[object Object]")
 unfolding digits
 makes_an_object = refl
 
 -- x
-throws : at_top 6 counting (t.name (codes "x")) ≡ a_throw_shown (codes "ReferenceError: x is not defined")
+throws : at_top 6 counting (v "x") ≡ a_throw_shown (codes "ReferenceError: x is not defined")
 unfolding digits
 throws = refl
 
 -- 'p' + 'q'
-joins : at_top 6 counting (t.binary binaries.Add (t.string (codes "p")) (t.string (codes "q"))) ≡ a_value_shown
-    (codes "pq")
+joins : at_top 6 counting (add (s "p") (s "q")) ≡ a_value_shown (codes "pq")
 unfolding digits
 joins = refl
 
 -- n = 1
-assigns_foreign : at_top 6 counting (t.assign assigns.Assign (t.name (codes "n")) (t.number 1)) ≡ effect_answer
+assigns_foreign : at_top 6 counting (put (v "n") (d 1)) ≡ effect_answer
 unfolding digits
 assigns_foreign = refl
 
 -- an error comes before the write
-error_before_the_write : at_top 6 counting (t.assign assigns.Assign (t.name (codes "undefined")) (t.number 1))
-    ≡ a_throw_shown (codes "TypeError: Assignment to constant variable.")
+error_before_the_write : at_top 6 counting (put (v "undefined") (d 1)) ≡ a_throw_shown
+    (codes "TypeError: Assignment to constant variable.")
 unfolding digits
 error_before_the_write = refl
 
 -- console.log(1)
-prints : at_top 6 counting
-    (t.call (t.member (t.name (codes "console")) (codes "log")) (t.an_expression (t.number 1) t.no_expressions))
-    ≡ effect_answer
+prints : at_top 6 counting (call (dot (v "console") "log") (d 1 ∷ [])) ≡ effect_answer
 unfolding digits
 prints = refl
 
 -- readline()
-reads_input : at_top 6 counting (t.call (t.name (codes "readline")) t.no_expressions) ≡ effect_answer
+reads_input : at_top 6 counting (call (v "readline") []) ≡ effect_answer
 unfolding digits
 reads_input = refl
 
 -- a function that the evaluation makes has its code in the kept source
-calls_its_own_arrow : at_top 6 counting
-    (t.call (t.parenthesized (t.arrow (t.name_list []) (t.string (codes "v")))) t.no_expressions) ≡ a_value_shown
-    (codes "v")
+calls_its_own_arrow : at_top 6 counting (call (t.parenthesized (arrow [] (s "v"))) []) ≡ a_value_shown (codes "v")
 unfolding digits
 calls_its_own_arrow = refl
 
 -- [].pop()
-pops_nothing : at_top 6 counting (t.call (t.member (t.array t.no_expressions) (codes "pop")) t.no_expressions)
-    ≡ a_value_shown (codes "undefined")
+pops_nothing : at_top 6 counting (call (dot (array []) "pop") []) ≡ a_value_shown (codes "undefined")
 unfolding digits
 pops_nothing = refl
 
 -- [].push()
-pushes_nothing : at_top 6 counting (t.call (t.member (t.array t.no_expressions) (codes "push")) t.no_expressions)
-    ≡ a_value_shown (codes "0")
+pushes_nothing : at_top 6 counting (call (dot (array []) "push") []) ≡ a_value_shown (codes "0")
 unfolding digits
 pushes_nothing = refl
 
 -- typeof zzz
-types_nothing : at_top 6 counting (t.unary unaries.Typeof (t.name (codes "zzz"))) ≡ a_value_shown (codes "undefined")
+types_nothing : at_top 6 counting (t.unary unaries.Typeof (v "zzz")) ≡ a_value_shown (codes "undefined")
 unfolding digits
 types_nothing = refl
 
 -- a * b in the frame of add(2, 3), at its return
-in_the_frame_of_a_call : at_frame 6 adding (t.binary binaries.Multiply (t.name (codes "a")) (t.name (codes "b")))
-    ≡ a_value_shown (codes "6")
+in_the_frame_of_a_call : at_frame 6 adding (mul (v "a") (v "b")) ≡ a_value_shown (codes "6")
 unfolding digits
 in_the_frame_of_a_call = refl
 
 -- a * b in the script scope
-frame_is_needed : at_top 6 adding (t.binary binaries.Multiply (t.name (codes "a")) (t.name (codes "b"))) ≡ a_throw_shown
-    (codes "ReferenceError: a is not defined")
+frame_is_needed : at_top 6 adding (mul (v "a") (v "b")) ≡ a_throw_shown (codes "ReferenceError: a is not defined")
 unfolding digits
 frame_is_needed = refl
 
 -- no cell is left
-full_of_cells : with_room (record { cells = 0; units = 1000 }) 6 counting
-    (t.member (t.array (t.an_expression (t.number 1) (t.an_expression (t.number 2) t.no_expressions))) (codes "length"))
-    ≡ full_answer counted.Cells
+full_of_cells : with_room (record { cells = 0; units = 1000 }) 6 counting (dot (array (d 1 ∷ d 2 ∷ [])) "length") ≡
+    full_answer counted.Cells
 unfolding digits
 full_of_cells = refl
 
 -- the source takes 6 units, the array needs 16
-full_of_units : with_room (record { cells = 9; units = 21 }) 6 counting
-    (t.member (t.array (t.an_expression (t.number 1) (t.an_expression (t.number 2) t.no_expressions))) (codes "length"))
-    ≡ full_answer counted.Units
+full_of_units : with_room (record { cells = 9; units = 21 }) 6 counting (dot (array (d 1 ∷ d 2 ∷ [])) "length") ≡
+    full_answer counted.Units
 unfolding digits
 full_of_units = refl
 
 -- and with one unit more
-just_enough : with_room (record { cells = 9; units = 22 }) 6 counting
-    (t.member (t.array (t.an_expression (t.number 1) (t.an_expression (t.number 2) t.no_expressions))) (codes "length"))
-    ≡ a_value_shown (codes "2")
+just_enough : with_room (record { cells = 9; units = 22 }) 6 counting (dot (array (d 1 ∷ d 2 ∷ [])) "length") ≡
+    a_value_shown (codes "2")
 unfolding digits
 just_enough = refl
 
 -- the source takes 6 units
-source_is_counted : with_room (record { cells = 9; units = 5 }) 6 counting (t.name (codes "n"))
-    ≡ full_answer counted.Units
+source_is_counted : with_room (record { cells = 9; units = 5 }) 6 counting (v "n") ≡ full_answer counted.Units
 unfolding digits
 source_is_counted = refl
 
 -- (() => 1)()
-calls_its_own_function : at_top 6 counting
-    (t.call (t.parenthesized (t.arrow (t.name_list []) (t.number 1))) t.no_expressions) ≡ a_value_shown (codes "1")
+calls_its_own_function : at_top 6 counting (call (t.parenthesized (arrow [] (d 1))) []) ≡ a_value_shown (codes "1")
 unfolding digits
 calls_its_own_function = refl
 
 -- (function f(n) { return n === 0 ? 'end' : f(n - 1); })(2)
-calls_itself : at_top 6 counting
-    (t.call (t.parenthesized
-    (t.function (Some (codes "f")) ((codes "n") ∷ [])
-    (t.a_statement
-    (t.return
-    (t.present
-    (t.conditional (t.binary binaries.StrictEqual (t.name (codes "n")) (t.number 0))
-    (t.string (codes "end"))
-    (t.call (t.name (codes "f"))
-    (t.an_expression (t.binary binaries.Subtract (t.name (codes "n")) (t.number 1))
-    t.no_expressions)))))
-    t.no_statements)))
-    (t.an_expression (t.number 2) t.no_expressions))
-    ≡ a_value_shown (codes "end")
+calls_itself : at_top 6 counting (call (t.parenthesized
+    (t.function (Some (codes "f")) (codes "n" ∷ []) (statements
+    (ret (t.conditional (same (v "n") (d 0)) (s "end") (call (v "f") (sub (v "n") (d 1) ∷ []))) ∷ [])))) (d 2 ∷ [])) ≡
+    a_value_shown (codes "end")
 unfolding digits
 calls_itself = refl
 
 -- add(4, 5), a function of the program
-calls_the_program : at_top 6 adding
-    (t.call (t.name (codes "add")) (t.an_expression (t.number 4) (t.an_expression (t.number 5) t.no_expressions)))
-    ≡ a_value_shown (codes "9")
+calls_the_program : at_top 6 adding (call (v "add") (d 4 ∷ d 5 ∷ [])) ≡ a_value_shown (codes "9")
 unfolding digits
 calls_the_program = refl
 
@@ -271,10 +243,8 @@ called ts s f =
     (expression_made 1 f) (values.Object (Base 4)) (made_of (json_string (codes "log")) ∷ []))
 
 calls_with_this : called counting (state_of (plain 6 counting []))
-    (t.parenthesized
-    (t.function None ((codes "k") ∷ [])
-    (t.a_statement (t.return (t.present (t.index t.this (t.name (codes "k"))))) t.no_statements)))
-    ≡ a_value_shown (codes "function log")
+    (t.parenthesized (t.function None (codes "k" ∷ []) (statements (ret (at t.this (v "k")) ∷ [])))) ≡ a_value_shown
+    (codes "function log")
 unfolding digits
 calls_with_this = refl
 
@@ -284,37 +254,22 @@ abbrev with_one_cell : Expression → Shown
 with_one_cell e = with_room (record { cells = 1; units = 8 }) 6 counting e
 
 -- (function () { do 'long'; while ('b'); }): 'long' comes first, though the term keeps the test before the body
-body_before_test : with_one_cell
-    (t.parenthesized
-    (t.function None []
-    (t.a_statement (t.do_while (t.expression (t.string (codes "long"))) (t.string (codes "b")))
-    t.no_statements)))
-    ≡ full_answer counted.Units
+body_before_test : with_one_cell (t.parenthesized (t.function None []
+    (statements (t.do_while (run (s "long")) (s "b") ∷ [])))) ≡ full_answer counted.Units
 unfolding digits
 body_before_test = refl
 
 -- (function () { function f() { return 'b'; } return 'long'; }): 'b' comes first, though the term keeps the function
 -- behind
-declared_before_statements : with_one_cell
-    (t.parenthesized
-    (t.function None []
-    (t.a_statement
-    (t.declared_function (codes "f") []
-    (t.a_statement (t.return (t.present (t.string (codes "b")))) t.no_statements))
-    (t.a_statement (t.return (t.present (t.string (codes "long")))) t.no_statements))))
-    ≡ full_answer counted.Cells
+declared_before_statements : with_one_cell (t.parenthesized
+    (t.function None [] (statements (fn "f" [] (ret (s "b") ∷ []) ∷ ret (s "long") ∷ [])))) ≡ full_answer counted.Cells
 unfolding digits
 declared_before_statements = refl
 
 -- ({ [1]() { return 'long'; }, x: 'b' }): 'long' comes first, though the term keeps x before the method
-method_before_members : with_one_cell
-    (t.parenthesized
-    (t.object
-    (t.a_property
-    (t.method (t.computed_key (t.number 1)) []
-    (t.a_statement (t.return (t.present (t.string (codes "long")))) t.no_statements))
-    (t.a_property (t.value (t.word_key (codes "x")) (t.string (codes "b"))) t.no_properties))))
-    ≡ full_answer counted.Units
+method_before_members : with_one_cell (t.parenthesized
+    (object (t.method (t.computed_key (d 1)) [] (statements (ret (s "long") ∷ [])) ∷ key "x" (s "b") ∷ []))) ≡
+    full_answer counted.Units
 unfolding digits
 method_before_members = refl
 
@@ -336,14 +291,7 @@ one_after_another ts s e g =
 
 -- () => 'made before', then function(f) { return f() + '!'; } called with it
 calls_a_function_of_an_earlier_one : one_after_another counting (state_of (plain 6 counting []))
-    (t.arrow (t.name_list []) (t.string (codes "made before")))
-    (t.parenthesized
-    (t.function None ((codes "f") ∷ [])
-    (t.a_statement
-    (t.return
-    (t.present
-    (t.binary binaries.Add (t.call (t.name (codes "f")) t.no_expressions) (t.string (codes "!")))))
-    t.no_statements)))
-    ≡ a_value_shown (codes "made before!")
+    (arrow [] (s "made before")) (t.parenthesized (t.function None (codes "f" ∷ [])
+    (statements (ret (add (call (v "f") []) (s "!")) ∷ [])))) ≡ a_value_shown (codes "made before!")
 unfolding digits
 calls_a_function_of_an_earlier_one = refl

@@ -1,5 +1,5 @@
 -- What goes on with values alone: built-in functions, writes, and most of the other rows.
-use Rattle.std.proofs.Common.{ℕ, ◌+◌, Bool, true, false, List, [], ◌∷◌, Option, None, Some, length, if◌then◌else◌}
+use Rattle.std.proofs.Common.{ℕ, ◌+◌, Bool, List, [], ◌∷◌, Option, None, Some, length}
 use Rattle.std.specs.Prelude.{slice_get, pos, negsuc, codes}
 use Rattle.js_tree_operators.specs.declared.operator.UpdateOperator.{UpdateOperator}
 use Rattle.js_heap.specs.declared.value.Addr.{Addr}
@@ -15,51 +15,45 @@ use Rattle.js_heap.specs.declared.cell.Property.{Property}
 use Rattle.js_heap.specs.World.{World, read_cell}
 use Rattle.js_heap.specs.Values.{text_of, units_at, type_text, key_of}
 use Rattle.js_heap.specs.Operators.{not_numbers, not_a_text, not_safe, update_result}
-use Rattle.js_heap.specs.Properties.{bad_key, property_written, property_deleted}
+use Rattle.js_heap.specs.Properties.{property_written, property_deleted}
 use Rattle.js_heap.specs.declared.computed.Computed.{Computed as Result}
 use Rattle.js_heap.specs.declared.computed.Computed.TheVariants.{Value as a_value, Text as a_text, Error as an_error}
 use Rattle.js_heap.specs.declared.computed.Written.{Written}
 use Rattle.js_heap.specs.declared.computed.Written.TheVariants.{Change as a_change, Refused as refused}
-use Rattle.js_semantics.specs.Terms.{Reference, to_name, to_member, to_index, FunctionForm, done, standing, part}
-use Rattle.js_semantics.specs.State.{State, Action, go, raise, leave, make, write, print, take_line, set_here, push_frame, pop_frame, give, make_text, fail, this_of}
+use Rattle.js_semantics.specs.Terms.{Reference, to_name, to_member, to_index, FunctionForm, Term, done, standing, part}
+use Rattle.js_semantics.specs.State.{State, Action, make, give, make_text, fail, this_of}
 use Rattle.js_semantics.specs.References.{Found, found, value_of_found, name_written, with_result, with_written, with_key, read_result, put, remove}
 use Rattle.js_semantics.specs.BuiltIns.{argument, wrong_type, line_value, error_of, text_or_fail, string_of, keys_of_cell, make_texts, new_array, keys_of, push_all, pop_last, joined_or_fail, joined_parts, join, slice_places, array_or_wrong, text_or_wrong, occurrence_of, unit_or_fail, unit_at, array_call, on_array_cell, on_array, string_call, on_string, built_in_call}
 use Rattle.js_semantics.specs.Functions.{function_cell, receiver_of, named_function, function_row}
 use Rattle.js_semantics.specs.Rows.{type_of_found, update_value, updated_by, update_row, object_or_fail}
+use Rattle.js_semantics.proofs.ActionLemmas.{GoesOn, fail-goes, result-goes, key-goes, choose-goes}
 
--- an action that comes to values, or raises
+-- a value
+abbrev pub IsValue : Term → Type 0
+IsValue (done v) = Unit {0}
+IsValue (standing v place) = ⊥
+IsValue (part f now later) = ⊥
+
+-- an action that comes to values or raises, and touches no frame
 abbrev pub GivesValues : Action → Type 0
-GivesValues (go (done v)) = Unit {0}
-GivesValues (go (standing v place)) = ⊥
-GivesValues (go (part f now later)) = ⊥
-GivesValues (raise v) = Unit {0}
-GivesValues (leave c) = ⊥
-GivesValues (make c k) = (a : Addr) → GivesValues (k a)
-GivesValues (write a c k) = GivesValues k
-GivesValues (print vs text) = Unit {0}
-GivesValues (take_line k) = (line : Option (List ℕ)) → GivesValues (k line)
-GivesValues (set_here m k) = GivesValues k
-GivesValues (push_frame f k) = ⊥
-GivesValues (pop_frame k) = ⊥
+GivesValues a = GoesOn IsValue ⊥ a
 
 -- ---- results and references
 
 abbrev pub GivesK : (Value → Action) → Type 0
 GivesK k = (x : Value) → GivesValues (k x)
 
-pub give-gives : GivesK give
+give-gives : GivesK give
 give-gives x = tt
 
-pub fail-gives : (class : ErrorClass) (message : List ℕ) → GivesValues (fail class message)
-fail-gives class message = λ a b. tt
+fail-gives : (class : ErrorClass) (message : List ℕ) → GivesValues (fail class message)
+fail-gives class message = fail-goes IsValue ⊥ class message
 
 text-gives : (us : List ℕ) (k : Value → Action) → GivesK k → GivesValues (make_text us k)
 text-gives us k h = λ a. h (values.Text a)
 
-pub result-gives : (r : Result) (k : Value → Action) → GivesK k → GivesValues (with_result r k)
-result-gives (a_value v) k h = h v
-result-gives (a_text us) k h = text-gives us k h
-result-gives (an_error class message) k h = fail-gives class message
+result-gives : (r : Result) (k : Value → Action) → GivesK k → GivesValues (with_result r k)
+result-gives r k h = result-goes IsValue ⊥ r k h
 
 written-gives : (r : Written) (k : Action) → GivesValues k → GivesValues (with_written r k)
 written-gives (a_change a c) k h = h
@@ -68,8 +62,7 @@ written-gives (refused class message) k h = fail-gives class message
 key-gives : (o : Option (List ℕ)) (k : List ℕ → Action)
     → ((key : List ℕ) → GivesValues (k key))
     → GivesValues (with_key o k)
-key-gives None k h = result-gives bad_key give give-gives
-key-gives (Some key) k h = h key
+key-gives o k h = key-goes IsValue ⊥ o k h
 
 pub put-gives : (w : World) (scope : Addr) (r : Reference) (vs : List Value) (x : Value) (k : Action)
     → GivesValues k
@@ -168,11 +161,7 @@ unit_or_fail-gives None = result-gives not_safe give give-gives
 unit_at-gives : (us : List ℕ) (x : Value) → GivesValues (unit_at us x)
 unit_at-gives us (values.Number (pos i)) = unit_or_fail-gives (slice_get us i)
 unit_at-gives us (values.Number (negsuc i)) = unit_or_fail-gives None
-unit_at-gives us values.Undefined = wrong-gives
-unit_at-gives us values.Null = wrong-gives
-unit_at-gives us (values.Bool b) = wrong-gives
-unit_at-gives us (values.Text a) = wrong-gives
-unit_at-gives us (values.Object a) = wrong-gives
+unit_at-gives us _ = wrong-gives
 
 array_call-gives : (w : World) (f : BuiltIn) (a : Addr) (vs args : List Value) → GivesValues (array_call w f a vs args)
 array_call-gives w built_ins.ArrayPush a vs args = push-gives a (length vs) args
@@ -186,11 +175,7 @@ on_cell-gives : (w : World) (f : BuiltIn) (a : Addr) (o : Option Cell) (args : L
     → GivesValues (on_array_cell w f a o args)
 on_cell-gives w f a None args = wrong-gives
 on_cell-gives w f a (Some (cells.Array vs)) args = array_call-gives w f a vs args
-on_cell-gives w f a (Some (cells.Object ps)) args = wrong-gives
-on_cell-gives w f a (Some (cells.Error class ps)) args = wrong-gives
-on_cell-gives w f a (Some (cells.Function code n l s t)) args = wrong-gives
-on_cell-gives w f a (Some (cells.Text us)) args = wrong-gives
-on_cell-gives w f a (Some (cells.Bindings kind n o ns)) args = wrong-gives
+on_cell-gives w f a _ args = wrong-gives
 
 on_array-gives : (w : World) (f : BuiltIn) (x : Value) (args : List Value) → GivesValues (on_array w f x args)
 on_array-gives w f (values.Object a) args = on_cell-gives w f a (read_cell w a) args
@@ -216,17 +201,9 @@ built_in-gives w built_ins.MakeString x args = string-gives w (argument args 0)
 built_in-gives w built_ins.StringIndexOf x args = on_string-gives w built_ins.StringIndexOf x args
 built_in-gives w built_ins.StringSlice x args = on_string-gives w built_ins.StringSlice x args
 built_in-gives w built_ins.StringCharCodeAt x args = on_string-gives w built_ins.StringCharCodeAt x args
-built_in-gives w built_ins.ArrayPush x args = on_array-gives w built_ins.ArrayPush x args
-built_in-gives w built_ins.ArrayPop x args = on_array-gives w built_ins.ArrayPop x args
-built_in-gives w built_ins.ArrayIndexOf x args = on_array-gives w built_ins.ArrayIndexOf x args
-built_in-gives w built_ins.ArrayJoin x args = on_array-gives w built_ins.ArrayJoin x args
-built_in-gives w built_ins.ArraySlice x args = on_array-gives w built_ins.ArraySlice x args
+built_in-gives w f x args = on_array-gives w f x args
 
 -- ---- the rows that give values
-
-choose_gives : (b : Bool) (x y : Action) → GivesValues x → GivesValues y → GivesValues (if b then x else y)
-choose_gives true x y h k = h
-choose_gives false x y h k = k
 
 pub type_of-gives : (w : World) (n : List ℕ) (o : Option Found) → GivesValues (type_of_found w n o)
 type_of-gives w n None = λ a. tt
@@ -251,6 +228,6 @@ made-gives (Some ps) = λ a. tt
 
 pub function_row-gives : (s : State) (scope : Addr) (f : FunctionForm) → GivesValues (function_row s scope f)
 function_row-gives s scope f =
-    choose_gives f.is_named (named_function f scope)
+    choose-goes IsValue ⊥ f.is_named (named_function f scope)
     (make (function_cell f f.name scope (receiver_of f (this_of s))) (λ a. give (values.Object a))) (λ a b. tt)
     (λ a. tt)

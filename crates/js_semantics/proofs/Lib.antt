@@ -3,6 +3,7 @@ pub mod SourceFolds
 pub mod TreeLemmas
 pub mod Clean
 pub mod Reports
+pub mod Shorthand
 pub mod Steps
 pub mod Cases
 pub mod Places
@@ -19,9 +20,13 @@ pub mod StartLemmas
 pub mod UnstartedMakers
 pub mod SourceLemmas
 pub mod SafeLemmas
+pub mod ActionLemmas
 pub mod GiveLemmas
+pub mod InvariantLemmas
+pub mod RowLemmas
+pub mod FrameLemmas
+pub mod MadeLemmas
 pub mod ShapeLemmas
-pub mod ShapeRows
 pub mod ShapeMakers
 pub mod ShapeStart
 pub mod DepthLemmas

@@ -11,6 +11,8 @@ use Rattle.js_semantics.specs.Makers.{MadeStatements, number_made, name_made, me
 use Rattle.js_semantics.proofs.Clean.{clean_script, clean_scripts}
 use Rattle.js_semantics.specs.Run.{Run, running, over, plain, threw}
 use Rattle.js_semantics.specs.Frames.{offset_of, at, StandingThrow, thrown, frames, Listed, as_block, as_catch, as_local, as_closure, as_script, as_global, scope_chain}
+use Rattle.js_tree.specs.Views.{statements}
+use Rattle.js_semantics.proofs.Shorthand.{call, d, fn, let_, run, try_catch, try_finally, v}
 
 -- ---- arrivals
 
@@ -71,34 +73,11 @@ frame_kinds (running t s) = kinds_of s (frames script_scope t s)
 frame_kinds (over f s) = []
 
 -- a function whose inner function stands at a `debugger` in a catch
-nested_scopes : frame_kinds
-    (plain 16
-    (one (clean_script 1
-    (t.a_statement
-    (t.declared_function (codes "f") ((codes "p") ∷ [])
-    (t.a_statement
-    (t.declared_function (codes "g") []
-    (t.a_statement
-    (t.try (t.a_statement (t.throw (t.number 1)) t.no_statements)
-    (t.catch (Some (codes "e"))
-    (t.a_statement
-    (t.lexical false
-    (t.a_declarator
-    (t.declarator (codes "b") (t.present (t.name (codes "e"))))
-    t.no_declarators))
-    (t.a_statement t.debugger t.no_statements)))
-    t.no_finally)
-    t.no_statements))
-    (t.a_statement (t.expression (t.call (t.name (codes "g")) t.no_expressions))
-    t.no_statements)))
-    (t.a_statement
-    (t.expression (t.call (t.name (codes "f")) (t.an_expression (t.number 5) t.no_expressions)))
-    t.no_statements))))
-    [])
-    ≡ (as_block ∷ as_catch ∷ as_local ∷ as_closure ∷ as_script ∷ as_global ∷ [])
-    ∷ (as_local ∷ as_script ∷ as_global ∷ [])
-    ∷ (as_script ∷ as_global ∷ [])
-    ∷ []
+nested_scopes : frame_kinds (plain 16 (one (clean_script 1
+    (statements (fn "f" ("p" ∷ []) (fn "g" [] (try_catch (t.throw (d 1) ∷ []) "e" (let_ "b" (v "e") ∷ t.debugger ∷ []) ∷
+    []) ∷ run (call (v "g") []) ∷ []) ∷ run (call (v "f") (d 5 ∷ [])) ∷ [])))) []) ≡
+    (as_block ∷ as_catch ∷ as_local ∷ as_closure ∷ as_script ∷ as_global ∷ []) ∷
+    (as_local ∷ as_script ∷ as_global ∷ []) ∷ (as_script ∷ as_global ∷ []) ∷ []
 nested_scopes = refl
 
 -- ---- throws
@@ -108,37 +87,15 @@ thrown_in (running t s) = thrown t
 thrown_in (over f s) = None
 
 -- a throw in a try without a catch, in a call within a try with one
-caught_outside : thrown_in
-    (plain 10
-    (one (clean_script 1
-    (t.a_statement
-    (t.declared_function (codes "f") []
-    (t.a_statement
-    (t.try (t.a_statement (t.throw (t.number 1)) t.no_statements) t.no_catch
-    (t.finally t.no_statements))
-    t.no_statements))
-    (t.a_statement
-    (t.try (t.a_statement (t.expression (t.call (t.name (codes "f")) t.no_expressions))
-    t.no_statements)
-    (t.catch (Some (codes "e")) t.no_statements) t.no_finally)
-    t.no_statements))))
-    [])
-    ≡ Some (record { value = values.Number (pos 1); uncaught = false })
+caught_outside : thrown_in (plain 10 (one (clean_script 1
+    (statements (fn "f" [] (try_finally (t.throw (d 1) ∷ []) [] ∷ []) ∷ try_catch (run (call (v "f") []) ∷ []) "e" [] ∷
+    [])))) []) ≡ Some (record { value = values.Number (pos 1); uncaught = false })
 caught_outside = refl
 
 -- a finally catches nothing
-not_caught : thrown_in
-    (plain 8 (one
-    (clean_script 1
-    (t.a_statement
-    (t.declared_function (codes "f") []
-    (t.a_statement
-    (t.try (t.a_statement (t.throw (t.number 1)) t.no_statements) t.no_catch
-    (t.finally t.no_statements))
-    t.no_statements))
-    (t.a_statement (t.expression (t.call (t.name (codes "f")) t.no_expressions)) t.no_statements))))
-    [])
-    ≡ Some (record { value = values.Number (pos 1); uncaught = true })
+not_caught : thrown_in (plain 8 (one (clean_script 1 (statements
+    (fn "f" [] (try_finally (t.throw (d 1) ∷ []) [] ∷ []) ∷ run (call (v "f") []) ∷ [])))) []) ≡ Some
+    (record { value = values.Number (pos 1); uncaught = true })
 not_caught = refl
 
 -- ---- the scripts of a run
@@ -148,7 +105,6 @@ place_of_throw (over (threw v place) s) = Some place.source
 place_of_throw r = None
 
 -- throw 1; as the second script
-throws_in_the_second : place_of_throw
-    (plain 20 (clean_scripts (t.no_statements ∷ t.a_statement (t.throw (t.number 1)) t.no_statements ∷ [])) []) ≡ Some
-    (script_source 2)
+throws_in_the_second : place_of_throw (plain 20 (clean_scripts (t.no_statements ∷ statements (t.throw (d 1) ∷ []) ∷ []))
+    []) ≡ Some (script_source 2)
 throws_in_the_second = refl

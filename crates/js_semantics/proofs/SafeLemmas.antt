@@ -115,18 +115,7 @@ binary-safe w binaries.StrictEqual x y = tt
 binary-safe w binaries.StrictNotEqual x y = tt
 binary-safe w binaries.Equal x y = answer-safe (is_equal w x y)
 binary-safe w binaries.NotEqual x y = answer-safe (negated (is_equal w x y))
-binary-safe w binaries.LogicalOr x y = numeric-safe binaries.LogicalOr x y
-binary-safe w binaries.LogicalAnd x y = numeric-safe binaries.LogicalAnd x y
-binary-safe w binaries.BitwiseOr x y = numeric-safe binaries.BitwiseOr x y
-binary-safe w binaries.BitwiseXor x y = numeric-safe binaries.BitwiseXor x y
-binary-safe w binaries.BitwiseAnd x y = numeric-safe binaries.BitwiseAnd x y
-binary-safe w binaries.LeftShift x y = numeric-safe binaries.LeftShift x y
-binary-safe w binaries.RightShift x y = numeric-safe binaries.RightShift x y
-binary-safe w binaries.UnsignedRightShift x y = numeric-safe binaries.UnsignedRightShift x y
-binary-safe w binaries.Subtract x y = numeric-safe binaries.Subtract x y
-binary-safe w binaries.Multiply x y = numeric-safe binaries.Multiply x y
-binary-safe w binaries.Divide x y = numeric-safe binaries.Divide x y
-binary-safe w binaries.Remainder x y = numeric-safe binaries.Remainder x y
+binary-safe w o x y = numeric-safe o x y
 
 -- ---- one operand
 
@@ -145,10 +134,7 @@ pub unary-safe : (w : World) (o : UnaryOperator) (x : Value) → IsSafe x → An
 unary-safe w unaries.Void x h = tt
 unary-safe w unaries.Typeof x h = tt
 unary-safe w unaries.LogicalNot x h = tt
-unary-safe w unaries.Plus x h = number-safe unaries.Plus x h
-unary-safe w unaries.Minus x h = number-safe unaries.Minus x h
-unary-safe w unaries.BitwiseNot x h = number-safe unaries.BitwiseNot x h
-unary-safe w unaries.Delete x h = number-safe unaries.Delete x h
+unary-safe w o x h = number-safe o x h
 
 pub update-safe : (o : UpdateOperator) (x : Value) → AnswersSafe (update_result o x)
 update-safe updates.Increment x = numeric-safe binaries.Add x (values.Number (pos 1))

@@ -4,10 +4,12 @@ use Rattle.js_heap.specs.declared.value.Addr.{Addr}
 use Rattle.js_heap.specs.declared.value.Addr.TheVariants.{Base}
 use Rattle.js_heap.specs.BuiltIns.{script_scope, first_literal}
 use Rattle.js_semantics.specs.Terms.{Form, scripts, script, block, function, object, method, literal, Term, done, standing, part, Terms, end, more, settled}
-use Rattle.js_semantics.specs.Run.{literals, literals_of, with_literals, all_with_literals, placed_scripts, program_from, program_of, first_state, start, plain}
-use Rattle.js_semantics.specs.Shapes.{size, AreFunctions, BehindBody, AreMethods, methods_size, OtherShape, Shape, IsShaped, AreShaped, ShapedProgram, ShapedRun}
-use Rattle.js_semantics.proofs.ShapeLemmas.{settled-shaped}
-use Rattle.js_semantics.proofs.ShapeRows.{of-shaped, steps-shaped}
+use Rattle.js_semantics.specs.Run.{literals, literals_of, with_literals, all_with_literals, placed_scripts, program_of, first_state, start, plain}
+use Rattle.js_semantics.specs.Shapes.{size, AreFunctions, BehindBody, AreMethods, methods_size, OtherShape, Shape, IsShaped, AreShaped, ShapedRun}
+use Rattle.js_semantics.proofs.ActionLemmas.{of-run}
+use Rattle.js_semantics.proofs.InvariantLemmas.{settled-kept}
+use Rattle.js_semantics.proofs.RowLemmas.{program-kept}
+use Rattle.js_semantics.proofs.ShapeLemmas.{shaped, shape-kept, steps-shaped}
 
 -- ---- the cells of literals in their places
 
@@ -74,14 +76,10 @@ mutual
 
 -- ---- the start, and the run
 
-program-shaped : (n : ℕ) (ts : Terms) → AreShaped ts → ShapedProgram (program_from n ts)
-program-shaped n end h = tt
-program-shaped n (more t ts) h = (h.0, program-shaped (n + 1) ts h.1)
-
 pub plain-shaped : (k : ℕ) (ts : Terms) (input : List (List ℕ)) → AreShaped ts → ShapedRun (plain k ts input)
 plain-shaped k ts input h =
     let placed : AreShaped (placed_scripts ts) = all-placed-shaped (λ n. Base n) first_literal ts h in
-    steps-shaped k (program_of ts) script_scope (start ts input) (program-shaped 1 (placed_scripts ts) placed)
-    (of-shaped (settled scripts (placed_scripts ts) end) (first_state ts input)
-    (settled-shaped scripts (placed_scripts ts) end
+    steps-shaped k (program_of ts) script_scope (start ts input) (program-kept shaped shape-kept 1 (placed_scripts ts) placed)
+    (of-run IsShaped (settled scripts (placed_scripts ts) end) (first_state ts input)
+    (settled-kept shaped shape-kept scripts (placed_scripts ts) end
     (record { reduced = omega arith; kept = omega arith; others = tt }) placed tt))

@@ -64,10 +64,7 @@ error-sound : (w : World) (class : ErrorClass) (x : Value) → SoundValue w x �
 error-sound w class (values.Text a) h =
     make_object-sound w (cells.Error class (message_property (values.Text a) ∷ [])) (h, tt) tt
 error-sound w class values.Undefined h = make_object-sound w (cells.Error class []) tt tt
-error-sound w class values.Null h = wrong-sound w
-error-sound w class (values.Bool b) h = wrong-sound w
-error-sound w class (values.Number z) h = wrong-sound w
-error-sound w class (values.Object a) h = wrong-sound w
+error-sound w class _ h = wrong-sound w
 
 text_or_fail-sound : (w : World) (o : Option (List ℕ)) → SoundAction w (text_or_fail o)
 text_or_fail-sound w None = with_result-sound w not_a_text give tt (give-sound w)
@@ -96,11 +93,7 @@ new_array-sound w vs h = make_object-sound w (cells.Array vs) h tt
 keys-sound : (w : World) (x : Value) → SoundAction w (keys_of w x)
 keys-sound w (values.Object a) =
     texts-sound w (keys_of_cell (read_cell w a)) new_array (λ v l xs h. new_array-sound v xs h)
-keys-sound w (values.Text a) = wrong-sound w
-keys-sound w values.Undefined = wrong-sound w
-keys-sound w values.Null = wrong-sound w
-keys-sound w (values.Bool b) = wrong-sound w
-keys-sound w (values.Number z) = wrong-sound w
+keys-sound w _ = wrong-sound w
 
 push-sound : (w : World) (a : Addr) (l : ℕ) (xs : List Value) → SoundValues w xs → SoundAction w (push_all a l xs)
 push-sound w a l [] h = tt
@@ -117,10 +110,7 @@ joined-sound w us (Some ts) = make_text-sound w (between us ts) give (give-sound
 join-sound : (w : World) (vs : List Value) (x : Value) → SoundAction w (join w vs x)
 join-sound w vs values.Undefined = joined-sound w (codes ",") (joined_parts w vs)
 join-sound w vs (values.Text a) = joined-sound w (units_at w a) (joined_parts w vs)
-join-sound w vs values.Null = wrong-sound w
-join-sound w vs (values.Bool b) = wrong-sound w
-join-sound w vs (values.Number z) = wrong-sound w
-join-sound w vs (values.Object a) = wrong-sound w
+join-sound w vs _ = wrong-sound w
 
 abbrev SoundPart : World → Option (List Value) → Type 0
 SoundPart w None = Unit {0}
@@ -141,11 +131,7 @@ text_or_wrong-sound w (Some us) = make_text-sound w us give (give-sound w)
 
 occurrence-sound : (w : World) (us : List ℕ) (x : Value) → SoundAction w (occurrence_of w us x)
 occurrence-sound w us (values.Text b) = tt
-occurrence-sound w us values.Undefined = wrong-sound w
-occurrence-sound w us values.Null = wrong-sound w
-occurrence-sound w us (values.Bool b) = wrong-sound w
-occurrence-sound w us (values.Number z) = wrong-sound w
-occurrence-sound w us (values.Object a) = wrong-sound w
+occurrence-sound w us _ = wrong-sound w
 
 unit_or_fail-sound : (w : World) (o : Option ℕ) → SoundAction w (unit_or_fail o)
 unit_or_fail-sound w (Some u) = tt
@@ -154,11 +140,7 @@ unit_or_fail-sound w None = with_result-sound w not_safe give tt (give-sound w)
 unit_at-sound : (w : World) (us : List ℕ) (x : Value) → SoundAction w (unit_at us x)
 unit_at-sound w us (values.Number (pos i)) = unit_or_fail-sound w (slice_get us i)
 unit_at-sound w us (values.Number (negsuc i)) = unit_or_fail-sound w None
-unit_at-sound w us values.Undefined = wrong-sound w
-unit_at-sound w us values.Null = wrong-sound w
-unit_at-sound w us (values.Bool b) = wrong-sound w
-unit_at-sound w us (values.Text a) = wrong-sound w
-unit_at-sound w us (values.Object a) = wrong-sound w
+unit_at-sound w us _ = wrong-sound w
 
 array_call-sound : (w : World) (f : BuiltIn) (a : Addr) (vs args : List Value)
     → SoundValues w vs
@@ -179,11 +161,7 @@ on_cell-sound : (w : World) (f : BuiltIn) (a : Addr) (o : Option Cell) (args : L
     → SoundAction w (on_array_cell w f a o args)
 on_cell-sound w f a None args h k = wrong-sound w
 on_cell-sound w f a (Some (cells.Array vs)) args h k = array_call-sound w f a vs args (h (cells.Array vs) refl) k
-on_cell-sound w f a (Some (cells.Object ps)) args h k = wrong-sound w
-on_cell-sound w f a (Some (cells.Error class ps)) args h k = wrong-sound w
-on_cell-sound w f a (Some (cells.Function code n l s t)) args h k = wrong-sound w
-on_cell-sound w f a (Some (cells.Text us)) args h k = wrong-sound w
-on_cell-sound w f a (Some (cells.Bindings kind n o ns)) args h k = wrong-sound w
+on_cell-sound w f a _ args h k = wrong-sound w
 
 on_array-sound : (w : World)
     → IsSound w
@@ -191,11 +169,7 @@ on_array-sound : (w : World)
     → SoundValues w args
     → SoundAction w (on_array w f x args)
 on_array-sound w s f (values.Object a) args k = on_cell-sound w f a (read_cell w a) args (λ c e. read-sound w a c e s) k
-on_array-sound w s f values.Undefined args k = wrong-sound w
-on_array-sound w s f values.Null args k = wrong-sound w
-on_array-sound w s f (values.Bool b) args k = wrong-sound w
-on_array-sound w s f (values.Number z) args k = wrong-sound w
-on_array-sound w s f (values.Text a) args k = wrong-sound w
+on_array-sound w s f _ args k = wrong-sound w
 
 string_call-sound : (w : World) (f : BuiltIn) (us : List ℕ) (args : List Value)
     → SoundAction w (string_call w f us args)
@@ -206,11 +180,7 @@ string_call-sound w _ us args = wrong-sound w
 
 on_string-sound : (w : World) (f : BuiltIn) (x : Value) (args : List Value) → SoundAction w (on_string w f x args)
 on_string-sound w f (values.Text a) args = string_call-sound w f (units_at w a) args
-on_string-sound w f values.Undefined args = wrong-sound w
-on_string-sound w f values.Null args = wrong-sound w
-on_string-sound w f (values.Bool b) args = wrong-sound w
-on_string-sound w f (values.Number z) args = wrong-sound w
-on_string-sound w f (values.Object a) args = wrong-sound w
+on_string-sound w f _ args = wrong-sound w
 
 pub built_in-sound : (w : World)
     → IsSound w
@@ -227,11 +197,7 @@ built_in-sound w s built_ins.MakeString x args k = string-sound w (argument args
 built_in-sound w s built_ins.StringIndexOf x args k = on_string-sound w built_ins.StringIndexOf x args
 built_in-sound w s built_ins.StringSlice x args k = on_string-sound w built_ins.StringSlice x args
 built_in-sound w s built_ins.StringCharCodeAt x args k = on_string-sound w built_ins.StringCharCodeAt x args
-built_in-sound w s built_ins.ArrayPush x args k = on_array-sound w s built_ins.ArrayPush x args k
-built_in-sound w s built_ins.ArrayPop x args k = on_array-sound w s built_ins.ArrayPop x args k
-built_in-sound w s built_ins.ArrayIndexOf x args k = on_array-sound w s built_ins.ArrayIndexOf x args k
-built_in-sound w s built_ins.ArrayJoin x args k = on_array-sound w s built_ins.ArrayJoin x args k
-built_in-sound w s built_ins.ArraySlice x args k = on_array-sound w s built_ins.ArraySlice x args k
+built_in-sound w s f x args k = on_array-sound w s f x args k
 
 -- ---- code
 
@@ -459,11 +425,7 @@ cell-sound p s a (Some (cells.Function (code.Kept at node) n l outer x)) y args 
     let d = c (cells.Function (code.Kept at node) n l outer x) refl in
     code-sound s (function_at p (kept_source at) node) (kept_source at) a n outer x y args
     (function_at-sound s.world p (kept_source at) node h.program) d.0 d.1 q k
-cell-sound p s a (Some (cells.Object ps)) y args h c q k = not_function-sound s.world
-cell-sound p s a (Some (cells.Error class ps)) y args h c q k = not_function-sound s.world
-cell-sound p s a (Some (cells.Array vs)) y args h c q k = not_function-sound s.world
-cell-sound p s a (Some (cells.Text us)) y args h c q k = not_function-sound s.world
-cell-sound p s a (Some (cells.Bindings kind n o ns)) y args h c q k = not_function-sound s.world
+cell-sound p s a _ y args h c q k = not_function-sound s.world
 
 value-sound : (p : Program) (s : State) (f y : Value) (args : List Value)
     → SoundState p s
@@ -472,11 +434,7 @@ value-sound : (p : Program) (s : State) (f y : Value) (args : List Value)
     → SoundAction s.world (call_value p s f y args)
 value-sound p s (values.Object a) y args h q k =
     cell-sound p s a (read_cell s.world a) y args h (λ c e. let i = h.world in read-sound s.world a c e i) q k
-value-sound p s values.Undefined y args h q k = not_function-sound s.world
-value-sound p s values.Null y args h q k = not_function-sound s.world
-value-sound p s (values.Bool b) y args h q k = not_function-sound s.world
-value-sound p s (values.Number z) y args h q k = not_function-sound s.world
-value-sound p s (values.Text a) y args h q k = not_function-sound s.world
+value-sound p s _ y args h q k = not_function-sound s.world
 
 pub call-sound : (p : Program) (s : State) (m : Mark) (vs : List Value)
     → SoundState p s

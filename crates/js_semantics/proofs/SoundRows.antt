@@ -17,8 +17,8 @@ use Rattle.js_heap.specs.Cells.{kind_of}
 use Rattle.js_heap.specs.World.{World, read_cell}
 use Rattle.js_heap.specs.Worlds.{Leads, IsObjectKind, SoundValue, SoundScope, SoundIfSome, SoundValues, SoundProperties, SoundNames, SoundCell, IsSound, Later}
 use Rattle.js_heap.specs.BuiltIns.{script_scope}
-use Rattle.js_heap.proofs.SoundLemmas.{sound-value, sound_values, sound_if_some, sound-scope, read-sound, put_sound}
-use Rattle.js_semantics.specs.Terms.{Mark, Completion, throws, returns, breaks, continues, Reference, to_name, to_member, to_index, FunctionForm, Member, keyed, computed, Stage, first, doing, testing, body, updating, Form, script, enter, enter_debugger, enter_for, enter_for_of, block, scoped, frame, initialize, choose, both, either, loop, list_of, turn_of, body_of, break_, continue_, return_, throw_, catching, finishing, ending, this, read, typeof_name, unary, binary, comma, function, array, object, method, assign, compound, update, delete, call, call_of, Term, done, standing, part, Terms, end, more, one, joined, dones, at_test, at_update, settled, settle}
+use Rattle.js_heap.proofs.SoundLemmas.{sound-value, sound_values, sound_if_some, sound_names, sound-scope, read-sound, put_sound}
+use Rattle.js_semantics.specs.Terms.{Mark, Completion, throws, returns, breaks, continues, Reference, to_name, to_member, to_index, FunctionForm, Member, keyed, computed, Stage, first, doing, testing, body, updating, Form, script, enter, enter_debugger, enter_for, enter_for_of, block, scoped, frame, initialize, choose, both, either, loop, list_of, turn_of, body_of, break_, continue_, return_, throw_, catching, finishing, ending, this, read, typeof_name, unary, binary, comma, function, array, object, method, assign, compound, update, delete, call, call_of, Term, done, part, Terms, end, more, one, joined, dones, at_test, at_update, settled, settle}
 use Rattle.js_heap.specs.Values.{type_text, is_truthy, key_of}
 use Rattle.js_heap.specs.Operators.{not_numbers, binary_result, unary_result, update_result}
 use Rattle.js_heap.specs.declared.computed.Computed.{Computed as Result}
@@ -27,9 +27,10 @@ use Rattle.js_semantics.specs.State.{State, Action, go, make, give, make_text, f
 use Rattle.js_semantics.specs.References.{Found, found, value_of_found, read_result, put}
 use Rattle.js_semantics.specs.BuiltIns.{argument, last_of, is_array}
 use Rattle.js_semantics.specs.Functions.{Program, function_cell, with_functions}
-use Rattle.js_semantics.specs.Rows.{only, script_row, enter_row, block_row, chosen, kept_or, otherwise, turn_or_end, copy_of, copied, loop_row, for_in, enter_for_row, enter_for_of_row, list_row, element_of, elements_of, body_part, turn_row, type_of_found, comma_row, compound_row, update_value, updated_by, update_row, assign_row, callee_this, callee_row, with_computed, properties_from, object_or_fail, object_row, ending_row, row, catch_row, taken}
+use Rattle.js_semantics.specs.Rows.{only, script_row, enter_row, block_row, copy_of, copied, loop_row, for_in, enter_for_row, enter_for_of_row, list_row, element_of, elements_of, body_part, turn_row, type_of_found, comma_row, compound_row, update_value, updated_by, update_row, assign_row, callee_this, callee_row, with_computed, properties_from, object_or_fail, object_row, ending_row, row, catch_row, taken}
 use Rattle.js_semantics.specs.Sound.{SoundCompletion, SoundKept, SoundForm, SoundTerm, SoundTerms, SoundState, HasBuiltIns, SoundAction}
-use Rattle.js_semantics.proofs.SoundTerms.{later-trans, sound-term, sound-terms, joined-sound, dones-sound, at_test-sound, at_update-sound, at_body-sound, settled-sound, settle-sound}
+use Rattle.js_semantics.proofs.InvariantLemmas.{at_test-kept, at_update-kept, scoped-kept, chosen-kept, kept_or-kept, otherwise-kept, turn_or_end-kept, for_in-kept, body_part-kept}
+use Rattle.js_semantics.proofs.SoundTerms.{later-trans, sound-term, sound-terms, sound_in, sound-kept-parts, sound-loop, joined-sound, dones-sound, settled-sound, settle-sound}
 use Rattle.js_semantics.proofs.SoundValues.{SoundK, SoundResult, give-sound, leads-as, make_text-sound, make_object-sound, fail-sound, with_result-sound, binary-sound, unary-sound, update-sound, SoundFound, found-sound, value_of_found-sound, get-value, with_key-sound, read_result-sound, get-sound, put-sound, remove-sound}
 use Rattle.js_semantics.proofs.SoundCalls.{argument-sound, last_of-sound, is-scope, this_of-sound, function-sound, functions-sound, names-sound, new_scope-sound, call-sound, choose_action}
 
@@ -58,7 +59,7 @@ scoped-sound : (w : World) (t : Term) (a : Addr)
     → SoundTerm w t
     → SoundScope w (Some a)
     → SoundTerm w (settled (scoped a) (one t) end)
-scoped-sound w t a h s = settled-sound w (scoped a) (one t) end s (h, tt) tt
+scoped-sound w t a h s = scoped-kept (sound_in w) (sound-kept-parts w) t a s h
 
 block-sound : (w : World) (scope : Addr) (names : List Binding) (later : Terms)
     → SoundScope w (Some scope)
@@ -75,59 +76,19 @@ block-sound w scope (b ∷ bs) (more t fs) s n h =
     (λ u m. scoped-sound u (settle t) a (sound-term w u (later-trans w v u l m) (settle t) (settle-sound w t h.0))
     (sound-scope v u m (Some a) e)))
 
--- ---- tests
-
-chosen-sound : (w : World) (b : Bool) (later : Terms) → SoundTerms w later → SoundTerm w (chosen b later)
-chosen-sound w true end h = tt
-chosen-sound w true (more a ts) h = settle-sound w a h.0
-chosen-sound w false end h = tt
-chosen-sound w false (more a end) h = tt
-chosen-sound w false (more a (more b ts)) h = settle-sound w b h.1.0
-
-kept-sound : (w : World) (b : Bool) (v : Value) (later : Terms)
-    → SoundValue w v
-    → SoundTerms w later
-    → SoundTerm w (kept_or b v later)
-kept-sound w true v end h k = h
-kept-sound w true v (more t ts) h k = k.0
-kept-sound w false v later h k = h
-
-otherwise-sound : (w : World) (b : Bool) (v : Value) (later : Terms)
-    → SoundValue w v
-    → SoundTerms w later
-    → SoundTerm w (otherwise b v later)
-otherwise-sound w false v end h k = h
-otherwise-sound w false v (more t ts) h k = k.0
-otherwise-sound w true v later h k = h
-
 -- ---- loops
-
-turn-sound : (w : World) (b : Bool) (scope : Option Addr) (later : Terms)
-    → SoundScope w scope
-    → SoundTerms w later
-    → SoundTerm w (turn_or_end b scope later)
-turn-sound w true scope later h k = at_body-sound w scope later h k
-turn-sound w false scope later h k = tt
 
 copy-sound : (w : World) (o : Option Cell) → ((c : Cell) → o ≡ Some c → SoundCell w c) → SoundCell w (copy_of o)
 copy-sound w None h = (tt, tt)
 copy-sound w (Some (cells.Bindings kind n o ns)) h = h (cells.Bindings kind n o ns) refl
-copy-sound w (Some (cells.Object ps)) h = (tt, tt)
-copy-sound w (Some (cells.Error class ps)) h = (tt, tt)
-copy-sound w (Some (cells.Array vs)) h = (tt, tt)
-copy-sound w (Some (cells.Function code n l s t)) h = (tt, tt)
-copy-sound w (Some (cells.Text us)) h = (tt, tt)
+copy-sound w _ h = (tt, tt)
 
 copy-scope : (w : World) (o : Option Cell) (a : Addr)
     → Leads (λ k. k ≡ kind_of (copy_of o)) (read_cell w a)
     → SoundScope w (Some a)
 copy-scope w None a h = is-scope w scopes.Block [] None [] a h
 copy-scope w (Some (cells.Bindings kind n o ns)) a h = is-scope w kind n o ns a h
-copy-scope w (Some (cells.Object ps)) a h = is-scope w scopes.Block [] None [] a h
-copy-scope w (Some (cells.Error class ps)) a h = is-scope w scopes.Block [] None [] a h
-copy-scope w (Some (cells.Array vs)) a h = is-scope w scopes.Block [] None [] a h
-copy-scope w (Some (cells.Function code n l s t)) a h = is-scope w scopes.Block [] None [] a h
-copy-scope w (Some (cells.Text us)) a h = is-scope w scopes.Block [] None [] a h
+copy-scope w _ a h = is-scope w scopes.Block [] None [] a h
 
 copied-sound : (w : World)
     → IsSound w
@@ -143,28 +104,20 @@ loop-sound : (w : World)
     → SoundScope w scope
     → SoundTerms w later
     → SoundAction w (loop_row w stage scope vs later)
-loop-sound w s testing scope vs later h k = turn-sound w (is_truthy w (only vs)) scope later h k
+loop-sound w s testing scope vs later h k =
+    turn_or_end-kept (sound_in w) (sound-kept-parts w) (is_truthy w (only vs)) scope later (sound-loop w later) h k
 loop-sound w s first (Some a) vs later h k =
     copied-sound w s a (λ b. go (at_test (Some b) later))
-    (λ v l b e. at_test-sound v (Some b) later e (sound-terms w v l later k))
+    (λ v l b e. at_test-kept (sound_in v) (sound-kept-parts v) (Some b) later (sound-loop v later) e
+    (sound-terms w v l later k))
 loop-sound w s body (Some a) vs later h k =
     copied-sound w s a (λ b. go (at_update (Some b) later))
-    (λ v l b e. at_update-sound v (Some b) later e (sound-terms w v l later k))
+    (λ v l b e. at_update-kept (sound_in v) (sound-kept-parts v) (Some b) later (sound-loop v later) e
+    (sound-terms w v l later k))
 loop-sound w s first None vs later h k = tt
 loop-sound w s body None vs later h k = tt
 loop-sound w s doing scope vs later h k = tt
 loop-sound w s updating scope vs later h k = tt
-
-for_in-sound : (w : World) (constant : Bool) (a : Addr) (later : Terms)
-    → SoundScope w (Some a)
-    → SoundTerms w later
-    → SoundTerm w (for_in constant a later)
-for_in-sound w true a end h k = tt
-for_in-sound w false a end h k = tt
-for_in-sound w true a (more t ts) h k =
-    (h, (settled-sound w (loop first None) (one (settle t)) ts tt (settle-sound w t k.0, tt) k.1, tt), tt)
-for_in-sound w false a (more t ts) h k =
-    settled-sound w (loop first (Some a)) (one (settle t)) ts h (settle-sound w t k.0, tt) k.1
 
 enter_for-sound : (w : World) (scope : Addr) (node : ℕ) (constant : Bool) (names : List Binding) (later : Terms)
     → SoundScope w (Some scope)
@@ -173,7 +126,8 @@ enter_for-sound : (w : World) (scope : Addr) (node : ℕ) (constant : Bool) (nam
     → SoundAction w (enter_for_row scope node constant names later)
 enter_for-sound w scope node constant names later s n h =
     new_scope-sound w scopes.Block [] scope names (λ a. go (for_in constant a later)) s n
-    (λ v l a e. for_in-sound v constant a later e (sound-terms w v l later h))
+    (λ v l a e. for_in-kept (sound_in v) (sound-kept-parts v) node constant names 0 a later tt e
+    (sound_names w v l names n) (sound-terms w v l later h))
 
 enter_for_of-sound : (w : World) (scope : Addr) (node : ℕ) (b : Binding) (later : Terms)
     → SoundScope w (Some scope)
@@ -202,28 +156,12 @@ element-sound : (w : World) (o : Option Cell) (i : ℕ)
     → SoundIfSome w (element_of o i)
 element-sound w None i h = tt
 element-sound w (Some (cells.Array vs)) i h = get-value w vs i (h (cells.Array vs) refl)
-element-sound w (Some (cells.Object ps)) i h = tt
-element-sound w (Some (cells.Error class ps)) i h = tt
-element-sound w (Some (cells.Function code n l s t)) i h = tt
-element-sound w (Some (cells.Text us)) i h = tt
-element-sound w (Some (cells.Bindings kind n o ns)) i h = tt
+element-sound w _ i h = tt
 
 elements-sound : (w : World) → IsSound w → (later : Terms) (i : ℕ) → SoundIfSome w (elements_of w later i)
 elements-sound w s (more (done (values.Object a)) ts) i =
     element-sound w (read_cell w a) i (λ c e. read-sound w a c e s)
-elements-sound w s (more (done values.Undefined) ts) i = tt
-elements-sound w s (more (done values.Null) ts) i = tt
-elements-sound w s (more (done (values.Bool b)) ts) i = tt
-elements-sound w s (more (done (values.Number z)) ts) i = tt
-elements-sound w s (more (done (values.Text a)) ts) i = tt
-elements-sound w s (more (standing v place) ts) i = tt
-elements-sound w s (more (part f now later) ts) i = tt
-elements-sound w s end i = tt
-
-body_part-sound : (w : World) (later : Terms) → SoundTerms w later → SoundTerm w (body_part later)
-body_part-sound w end h = tt
-body_part-sound w (more t end) h = tt
-body_part-sound w (more t (more u ts)) h = h.1.0
+elements-sound w s _ i = tt
 
 turn_row-sound : (w : World) (scope : Addr) (b : Binding) (i : ℕ) (o : Option Value) (later : Terms)
     → SoundScope w (Some scope)
@@ -236,8 +174,11 @@ turn_row-sound w scope b i (Some x) later s n h k =
     new_scope-sound w scopes.Block [] scope (record b { value = Some x } ∷ [])
     (λ a. go (settled (body_of b (i + 1)) (one (settled (scoped a) (one (body_part later)) end)) later)) s (h, tt)
     (λ v l a e. settled-sound v (body_of b (i + 1)) (one (settled (scoped a) (one (body_part later)) end)) later
-    (sound_if_some w v l b.value n)
-    (scoped-sound v (body_part later) a (sound-term w v l (body_part later) (body_part-sound w later k)) e, tt)
+    (sound_if_some w v l b.value n) (
+      scoped-sound v (body_part later) a
+          (sound-term w v l (body_part later) (body_part-kept (sound_in w) (sound-kept-parts w) later k)) e,
+      tt,
+    )
     (sound-terms w v l later k))
 
 -- ---- expressions
@@ -413,11 +354,14 @@ row-sound p s scope (enter_for node constant names) vs later h o n k t =
 row-sound p s scope (enter_for_of node b) vs later h o n k t = enter_for_of-sound s.world scope node b later o n t
 row-sound p s scope (block names) vs later h o n k t = block-sound s.world scope names later o n t
 row-sound p s scope (initialize name) vs later h o n k t = (argument-sound s.world vs 0 k, λ v l. tt)
-row-sound p s scope choose vs later h o n k t = chosen-sound s.world (is_truthy s.world (only vs)) later t
+row-sound p s scope choose vs later h o n k t =
+    chosen-kept (sound_in s.world) (sound-kept-parts s.world) (is_truthy s.world (only vs)) later t
 row-sound p s scope both vs later h o n k t =
-    kept-sound s.world (is_truthy s.world (only vs)) (only vs) later (argument-sound s.world vs 0 k) t
+    kept_or-kept (sound_in s.world) (sound-kept-parts s.world) (is_truthy s.world (only vs)) (only vs) later
+    (argument-sound s.world vs 0 k) t
 row-sound p s scope either vs later h o n k t =
-    otherwise-sound s.world (is_truthy s.world (only vs)) (only vs) later (argument-sound s.world vs 0 k) t
+    otherwise-kept (sound_in s.world) (sound-kept-parts s.world) (is_truthy s.world (only vs)) (only vs) later
+    (argument-sound s.world vs 0 k) t
 row-sound p s scope (loop stage a) vs later h o n k t = loop-sound s.world h.world stage a vs later n t
 row-sound p s scope (list_of b) vs later h o n k t =
     list-sound s.world b (only vs) later n (argument-sound s.world vs 0 k) t

@@ -1,6 +1,5 @@
 -- What is sound in a world is sound in each later one; what takes no step keeps terms sound; actions keep states sound.
 use Rattle.std.proofs.Common.{◌≡◌, Bool, true, false, List, [], ◌∷◌, ◌++◌, Option, None, Some, if◌then◌else◌}
-use Rattle.js_heap.specs.declared.value.Addr.{Addr}
 use Rattle.js_heap.specs.declared.value.Value.{Value}
 use Rattle.js_heap.specs.declared.value.Value.TheVariants as values
 use Rattle.js_heap.specs.declared.change.Counted.{Counted}
@@ -10,10 +9,12 @@ use Rattle.js_heap.specs.Worlds.{Leads, Keeps, AfterFine, SoundValue, SoundScope
 use Rattle.js_heap.specs.BuiltIns.{function_value, heap_full_error, script_scope}
 use Rattle.js_heap.proofs.KeepLemmas.{stays-same, stays-trans, making-keeps, writing-keeps}
 use Rattle.js_heap.proofs.SoundLemmas.{sound-value, sound-scope, sound_if_some, sound_names, making-sound, writing-sound, making-leads}
-use Rattle.js_semantics.specs.Terms.{Completion, throws, returns, breaks, continues, first, doing, testing, body, updating, Form, scripts, script, sequence, enter_for, enter_for_of, block, scoped, frame, loop, list_of, turn_of, body_of, catching, finishing, ending, function, method, Term, done, standing, part, Terms, end, more, one, joined, dones, is_done, all_done, last_value, test_of, update_of, body_of_loop, at_test, at_update, behind_body, at_body, behind_first, finished, settled, settle}
+use Rattle.js_semantics.specs.Terms.{Completion, throws, returns, breaks, continues, Form, script, enter_for, enter_for_of, block, scoped, frame, loop, list_of, turn_of, body_of, ending, function, method, Term, done, standing, part, Terms, end, more, joined, dones, settled, settle}
 use Rattle.js_semantics.specs.State.{Frame, State, Move, goes, has_effect, is_full, Action, go, raise, leave, make, write, print, take_line, set_here, push_frame, pop_frame, with_world, with_here, moved_frames, rest_of, first_line, other_lines, after, raised_at, perform}
 use Rattle.js_semantics.specs.Functions.{Program}
+use Rattle.js_semantics.specs.Waiting.{uncovers}
 use Rattle.js_semantics.specs.Sound.{SoundCompletion, SoundKept, SoundForm, SoundTerm, SoundTerms, SoundProgram, SoundFrames, HasBuiltIns, SoundState, SoundAction, SoundMove}
+use Rattle.js_semantics.proofs.InvariantLemmas.{Invariant, Loops, IsKept, either-way, one-way, joined-kept, settled-kept, settle-kept}
 
 pub later-same : (w : World) → Later w w
 later-same w a = stays-same (read_cell w a)
@@ -90,101 +91,62 @@ state_later p s v l sound h = record {
   outer = sound-value s.world v l s.outer_this h.outer;
 }
 
--- ---- what takes no step
+-- ---- what steps make of parts
 
-pub one-sound : (w : World) (t : Term) → SoundTerm w t → SoundTerms w (one t)
-one-sound w t h = (h, tt)
+abbrev pub sound_in : World → Invariant
+sound_in w = record {
+  holds = λ t. SoundTerm w t;
+  covered = λ t. SoundTerm w t;
+  all = λ ts. SoundTerms w ts;
+  rest = λ ts. SoundTerms w ts;
+  form = λ f n later. SoundForm w f;
+  value = λ v. SoundValue w v;
+  scope = λ a. SoundScope w a;
+  kept = λ c. SoundKept w c;
+}
+
+pub sound-kept-parts : (w : World) → IsKept (sound_in w)
+sound-kept-parts w = record {
+  no_value = tt;
+  no_completion = tt;
+  of_value = λ v h. h;
+  no_parts = tt;
+  a_part = λ t ts h k. (h, k);
+  first_part = λ t ts h. h.0;
+  other_parts = λ t ts h. h.1;
+  uncovered = λ t ts h. h.0;
+  behind = λ t ts h. h.1;
+  covers = λ t h. h;
+  of_done = λ v h. h;
+  of_standing = λ v place h. h;
+  opened = λ f now later h. (h.0, h.1, either-way (uncovers f) (SoundTerms w later) h.2);
+  closed = λ f now later e h n k. (h, n, one-way (uncovers f) (SoundTerms w later) k);
+  of_loop = λ stage a n later h. (h, λ s b m r l. l);
+  of_for = λ node c names n t later h s b m r l. l;
+  of_for_of = λ node b n t later h. h;
+  of_list = λ b n v later h. h;
+  of_turn = λ b i n m later h. h;
+  of_again = λ b i n m later h. h;
+  of_next = λ b i n later h. h;
+  of_scope = λ a n l. l;
+  of_ending = λ c n l. l;
+  of_comma = λ n t u ts h. tt;
+  of_binary = λ o. tt;
+  of_compound = λ o r n later h. tt;
+  of_callee = λ r place node n m later h. tt;
+  of_method = λ ms n f now later ts h. tt;
+}
+
+-- a loop whose scope is live
+pub sound-loop : (w : World) (later : Terms) → Loops (sound_in w) later
+sound-loop w later = λ stage a n r l. l
 
 pub joined-sound : (w : World) (ts us : Terms) → SoundTerms w ts → SoundTerms w us → SoundTerms w (joined ts us)
-joined-sound w end us h k = k
-joined-sound w (more t ts) us h k = (h.0, joined-sound w ts us h.1 k)
+joined-sound w = joined-kept (sound_in w) (sound-kept-parts w)
 
 pub dones-sound : (w : World) (vs : List Value) → SoundValues w vs → SoundTerms w (dones vs)
 dones-sound w [] h = tt
 dones-sound w (v ∷ vs) h = (h.0, dones-sound w vs h.1)
-
-last-sound : (w : World) (v : Value) (ts : Terms) → SoundValue w v → SoundTerms w ts → SoundValue w (last_value v ts)
-last-sound w v end h k = h
-last-sound w v (more (done u) ts) h k = last-sound w u ts k.0 k.1
-last-sound w v (more (standing u place) ts) h k = last-sound w v ts h k.1
-last-sound w v (more (part f now later) ts) h k = last-sound w v ts h k.1
-
-test-sound : (w : World) (ts : Terms) → SoundTerms w ts → SoundTerm w (test_of ts)
-test-sound w end h = tt
-test-sound w (more t ts) h = h.0
-
-update-sound : (w : World) (ts : Terms) → SoundTerms w ts → SoundTerm w (update_of ts)
-update-sound w end h = tt
-update-sound w (more t end) h = tt
-update-sound w (more t (more u ts)) h = h.1.0
-
-body-sound : (w : World) (ts : Terms) → SoundTerms w ts → SoundTerm w (body_of_loop ts)
-body-sound w end h = tt
-body-sound w (more t end) h = tt
-body-sound w (more t (more u end)) h = tt
-body-sound w (more t (more u (more b ts))) h = h.1.1.0
-
-either-sound : (w : World) (b : Bool) (t u : Term) → SoundTerm w t → SoundTerm w u → SoundTerm w (if b then t else u)
-either-sound w true t u h k = h
-either-sound w false t u h k = k
-
-pub at_test-sound : (w : World) (scope : Option Addr) (later : Terms)
-    → SoundScope w scope
-    → SoundTerms w later
-    → SoundTerm w (at_test scope later)
-at_test-sound w scope later h k = (h, one-sound w (test_of later) (test-sound w later k), k)
-
-pub at_update-sound : (w : World) (scope : Option Addr) (later : Terms)
-    → SoundScope w scope
-    → SoundTerms w later
-    → SoundTerm w (at_update scope later)
-at_update-sound w scope later h k =
-    either-sound w (is_done (update_of later)) (at_test scope later)
-    (part (loop updating scope) (one (update_of later)) later)
-    (at_test-sound w scope later h k) (h, one-sound w (update_of later) (update-sound w later k), k)
-
-behind_body-sound : (w : World) (scope : Option Addr) (later : Terms)
-    → SoundScope w scope
-    → SoundTerms w later
-    → SoundTerm w (behind_body scope later)
-behind_body-sound w None later h k = at_update-sound w None later tt k
-behind_body-sound w (Some a) later h k = (h, tt, k)
-
-pub at_body-sound : (w : World) (scope : Option Addr) (later : Terms)
-    → SoundScope w scope
-    → SoundTerms w later
-    → SoundTerm w (at_body scope later)
-at_body-sound w scope later h k =
-    either-sound w (is_done (body_of_loop later)) (behind_body scope later)
-    (part (loop body scope) (one (body_of_loop later)) later)
-    (behind_body-sound w scope later h k) (h, one-sound w (body_of_loop later) (body-sound w later k), k)
-
-behind_first-sound : (w : World) (scope : Option Addr) (later : Terms)
-    → SoundScope w scope
-    → SoundTerms w later
-    → SoundTerm w (behind_first scope later)
-behind_first-sound w None later h k = at_test-sound w None later tt k
-behind_first-sound w (Some a) later h k = (h, tt, k)
-
-finished-sound : (w : World) (f : Form) (now later : Terms)
-    → SoundForm w f
-    → SoundTerms w now
-    → SoundTerms w later
-    → SoundTerm w (finished f now later)
-finished-sound w scripts now later h n k = tt
-finished-sound w sequence now later h n k = tt
-finished-sound w (scoped a) now later h n k = last-sound w values.Undefined now tt n
-finished-sound w (loop first scope) now later h n k = behind_first-sound w scope later h k
-finished-sound w (loop doing scope) now later h n k = at_body-sound w scope later h k
-finished-sound w (loop body scope) now later h n k = behind_body-sound w scope later h k
-finished-sound w (loop updating scope) now later h n k = at_test-sound w scope later h k
-finished-sound w (loop testing scope) now later h n k = (h, n, k)
-finished-sound w (body_of b i) now later h n k = (h, tt, k)
-finished-sound w (catching x) now later h n k = tt
-finished-sound w finishing now later h n k = (tt, k, tt)
-finished-sound w (ending None) now later h n k = tt
-finished-sound w (ending (Some c)) now later h n k = (h, n, k)
-finished-sound w f now later h n k = (h, n, k)
 
 pub settled-sound : (w : World) (f : Form) (now later : Terms)
     → SoundForm w f
@@ -192,13 +154,10 @@ pub settled-sound : (w : World) (f : Form) (now later : Terms)
     → SoundTerms w later
     → SoundTerm w (settled f now later)
 settled-sound w f now later h n k =
-    either-sound w (all_done now) (finished f now later) (part f now later) (finished-sound w f now later h n k)
-    (h, n, k)
+    settled-kept (sound_in w) (sound-kept-parts w) f now later h n (either-way (uncovers f) (SoundTerms w later) k)
 
 pub settle-sound : (w : World) (t : Term) → SoundTerm w t → SoundTerm w (settle t)
-settle-sound w (done v) h = h
-settle-sound w (standing v place) h = h
-settle-sound w (part f now later) h = settled-sound w f now later h.0 h.1 h.2
+settle-sound w = settle-kept (sound_in w) (sound-kept-parts w)
 
 -- ---- actions
 

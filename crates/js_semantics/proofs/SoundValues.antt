@@ -1,6 +1,6 @@
 -- Results, properties, names and built-in functions give only what is live.
 use Rattle.std.proofs.Common.{◌≡◌, ℕ, zero, suc, ◌+◌, ◌^◌, Bool, true, false, List, [], ◌∷◌, Option, None, Some, length, refl, sym, subst, if◌then◌else◌}
-use Rattle.std.specs.Prelude.{slice_get, ℤ, pos, negsuc, ◌+ℤ◌, ◌-ℤ◌, ◌*ℤ◌, int_div, int_rem, nat_abs, nat_lt, nat_le, codes}
+use Rattle.std.specs.Prelude.{slice_get, ℤ, pos, ◌+ℤ◌, ◌-ℤ◌, ◌*ℤ◌, int_div, int_rem, nat_abs, nat_lt, nat_le, codes}
 use Rattle.js_tree_operators.specs.declared.operator.UnaryOperator.{UnaryOperator}
 use Rattle.js_tree_operators.specs.declared.operator.UnaryOperator.TheVariants as unaries
 use Rattle.js_tree_operators.specs.declared.operator.UpdateOperator.{UpdateOperator}
@@ -148,18 +148,7 @@ binary-sound w v binaries.StrictEqual x y = tt
 binary-sound w v binaries.StrictNotEqual x y = tt
 binary-sound w v binaries.Equal x y = answer-sound v (is_equal w x y)
 binary-sound w v binaries.NotEqual x y = answer-sound v (negated (is_equal w x y))
-binary-sound w v binaries.LogicalOr x y = numeric-sound v binaries.LogicalOr x y
-binary-sound w v binaries.LogicalAnd x y = numeric-sound v binaries.LogicalAnd x y
-binary-sound w v binaries.BitwiseOr x y = numeric-sound v binaries.BitwiseOr x y
-binary-sound w v binaries.BitwiseXor x y = numeric-sound v binaries.BitwiseXor x y
-binary-sound w v binaries.BitwiseAnd x y = numeric-sound v binaries.BitwiseAnd x y
-binary-sound w v binaries.LeftShift x y = numeric-sound v binaries.LeftShift x y
-binary-sound w v binaries.RightShift x y = numeric-sound v binaries.RightShift x y
-binary-sound w v binaries.UnsignedRightShift x y = numeric-sound v binaries.UnsignedRightShift x y
-binary-sound w v binaries.Subtract x y = numeric-sound v binaries.Subtract x y
-binary-sound w v binaries.Multiply x y = numeric-sound v binaries.Multiply x y
-binary-sound w v binaries.Divide x y = numeric-sound v binaries.Divide x y
-binary-sound w v binaries.Remainder x y = numeric-sound v binaries.Remainder x y
+binary-sound w v o x y = numeric-sound v o x y
 
 number_result-sound : (w : World) (o : UnaryOperator) (x : Value) → SoundResult w (number_result o x)
 number_result-sound w unaries.Plus (values.Number z) = tt
@@ -171,10 +160,7 @@ pub unary-sound : (w v : World) (o : UnaryOperator) (x : Value) → SoundResult 
 unary-sound w v unaries.Void x = tt
 unary-sound w v unaries.Typeof x = tt
 unary-sound w v unaries.LogicalNot x = tt
-unary-sound w v unaries.Plus x = number_result-sound v unaries.Plus x
-unary-sound w v unaries.Minus x = number_result-sound v unaries.Minus x
-unary-sound w v unaries.BitwiseNot x = number_result-sound v unaries.BitwiseNot x
-unary-sound w v unaries.Delete x = number_result-sound v unaries.Delete x
+unary-sound w v o x = number_result-sound v o x
 
 pub update-sound : (w : World) (o : UpdateOperator) (x : Value) → SoundResult w (update_result o x)
 update-sound w updates.Increment x = numeric-sound w binaries.Add x (values.Number (pos 1))
@@ -340,12 +326,7 @@ written_if w false r q h k = k
 
 length-sound : (w : World) (a : Addr) (vs : List Value) (x : Value) → SoundWritten w (length_change a vs x)
 length-sound w a vs (values.Number (pos l)) = written_if w (nat_le l (length vs)) _ _ tt tt
-length-sound w a vs (values.Number (negsuc l)) = tt
-length-sound w a vs values.Undefined = tt
-length-sound w a vs values.Null = tt
-length-sound w a vs (values.Bool b) = tt
-length-sound w a vs (values.Text t) = tt
-length-sound w a vs (values.Object t) = tt
+length-sound w a vs _ = tt
 
 array_change-sound : (w : World) (a : Addr) (vs : List Value) (key : List ℕ) (o : Option ℕ) (x : Value)
     → SoundValue w x
@@ -362,19 +343,13 @@ cell_change-sound w a None key x h = tt
 cell_change-sound w a (Some (cells.Object ps)) key x h = h
 cell_change-sound w a (Some (cells.Error class ps)) key x h = h
 cell_change-sound w a (Some (cells.Array vs)) key x h = array_change-sound w a vs key (index_of_key key) x h
-cell_change-sound w a (Some (cells.Function code n l s t)) key x h = tt
-cell_change-sound w a (Some (cells.Text us)) key x h = tt
-cell_change-sound w a (Some (cells.Bindings k n o ns)) key x h = tt
+cell_change-sound w a _ key x h = tt
 
 property_written-sound : (w v : World) (o : Value) (key : List ℕ) (x : Value)
     → SoundValue v x
     → SoundWritten v (property_written w o key x)
 property_written-sound w v (values.Object a) key x h = cell_change-sound v a (read_cell w a) key x h
-property_written-sound w v values.Undefined key x h = tt
-property_written-sound w v values.Null key x h = tt
-property_written-sound w v (values.Bool b) key x h = tt
-property_written-sound w v (values.Number z) key x h = tt
-property_written-sound w v (values.Text a) key x h = tt
+property_written-sound w v _ key x h = tt
 
 cell_removal-sound : (w : World) (a : Addr) (o : Option Cell) (key : List ℕ) → SoundWritten w (cell_removal a o key)
 cell_removal-sound w a None key = tt
@@ -387,11 +362,7 @@ cell_removal-sound w a (Some (cells.Bindings k n o ns)) key = tt
 
 property_deleted-sound : (w v : World) (o : Value) (key : List ℕ) → SoundWritten v (property_deleted w o key)
 property_deleted-sound w v (values.Object a) key = cell_removal-sound v a (read_cell w a) key
-property_deleted-sound w v values.Undefined key = tt
-property_deleted-sound w v values.Null key = tt
-property_deleted-sound w v (values.Bool b) key = tt
-property_deleted-sound w v (values.Number z) key = tt
-property_deleted-sound w v (values.Text a) key = tt
+property_deleted-sound w v _ key = tt
 
 -- ---- names
 
@@ -436,11 +407,7 @@ in-sound w a (Some (cells.Bindings kind n outer ns)) name further h k =
     let c = h (cells.Bindings kind n outer ns) refl in
     here-sound w a (binding_of ns name) (found_outward outer further) (binding-sound w ns name c.1)
     (outward-sound w outer further k)
-in-sound w a (Some (cells.Object ps)) name further h k = tt
-in-sound w a (Some (cells.Error class ps)) name further h k = tt
-in-sound w a (Some (cells.Array vs)) name further h k = tt
-in-sound w a (Some (cells.Function code n l s t)) name further h k = tt
-in-sound w a (Some (cells.Text us)) name further h k = tt
+in-sound w a _ name further h k = tt
 
 within-sound : (n : ℕ) (w : World) (name : List ℕ) → IsSound w → (a : Addr) → SoundFound w (found_within n w name a)
 within-sound zero w name s a = tt

@@ -59,10 +59,8 @@ pub expression_turn : (x : Level Expr-F)
 unfolding expression_source property_source key_source statement_source block_source catch_source declarator_source
     declarators_source expressions_source properties_source statements_source
 expression_turn x =
-    fold-roll-Expr MadeExpression MadeProperty PropertyKey MadeStatement MadeStatements MadeCatch MadeDeclarator (List MadeDeclarator) (List MadeExpression)
-    (List MadeProperty)
-    MadeStatements expression_layer property_layer key_layer statement_layer block_layer catch_layer declarator_layer
-    declarators_layer expressions_layer properties_layer statements_layer x
+    fold-roll-Expr _ _ _ _ _ _ _ _ _ _ _ expression_layer property_layer key_layer statement_layer block_layer
+    catch_layer declarator_layer declarators_layer expressions_layer properties_layer statements_layer x
 
 pub property_turn : (x : Level PropertyDefinition-F)
     → property_source (views.roll-PropertyDefinition x) ≡ property_layer
@@ -70,60 +68,48 @@ pub property_turn : (x : Level PropertyDefinition-F)
 unfolding expression_source property_source key_source statement_source block_source catch_source declarator_source
     declarators_source expressions_source properties_source statements_source
 property_turn x =
-    fold-roll-PropertyDefinition MadeExpression MadeProperty PropertyKey MadeStatement MadeStatements MadeCatch MadeDeclarator (List MadeDeclarator)
-    (List MadeExpression) (List MadeProperty)
-    MadeStatements expression_layer property_layer key_layer statement_layer block_layer catch_layer declarator_layer
-    declarators_layer expressions_layer properties_layer statements_layer x
+    fold-roll-PropertyDefinition _ _ _ _ _ _ _ _ _ _ _ expression_layer property_layer key_layer statement_layer block_layer
+    catch_layer declarator_layer declarators_layer expressions_layer properties_layer statements_layer x
 
 pub key_turn : (x : Level PropertyName-F)
     → key_source (views.roll-PropertyName x) ≡ key_layer (made_parts PropertyName-F map-PropertyName x)
 unfolding expression_source property_source key_source statement_source block_source catch_source declarator_source
     declarators_source expressions_source properties_source statements_source
 key_turn x =
-    fold-roll-PropertyName MadeExpression MadeProperty PropertyKey MadeStatement MadeStatements MadeCatch MadeDeclarator (List MadeDeclarator)
-    (List MadeExpression) (List MadeProperty)
-    MadeStatements expression_layer property_layer key_layer statement_layer block_layer catch_layer declarator_layer
-    declarators_layer expressions_layer properties_layer statements_layer x
+    fold-roll-PropertyName _ _ _ _ _ _ _ _ _ _ _ expression_layer property_layer key_layer statement_layer block_layer
+    catch_layer declarator_layer declarators_layer expressions_layer properties_layer statements_layer x
 
 pub statement_turn : (x : Level Stmt-F)
     → statement_source (views.roll-Stmt x) ≡ statement_layer (made_parts Stmt-F map-Stmt x)
 unfolding expression_source property_source key_source statement_source block_source catch_source declarator_source
     declarators_source expressions_source properties_source statements_source
 statement_turn x =
-    fold-roll-Stmt MadeExpression MadeProperty PropertyKey MadeStatement MadeStatements MadeCatch MadeDeclarator (List MadeDeclarator) (List MadeExpression)
-    (List MadeProperty)
-    MadeStatements expression_layer property_layer key_layer statement_layer block_layer catch_layer declarator_layer
-    declarators_layer expressions_layer properties_layer statements_layer x
+    fold-roll-Stmt _ _ _ _ _ _ _ _ _ _ _ expression_layer property_layer key_layer statement_layer block_layer
+    catch_layer declarator_layer declarators_layer expressions_layer properties_layer statements_layer x
 
 pub block_turn : (x : Level layers.Block-F)
     → block_source (views.roll-Block x) ≡ block_layer (made_parts layers.Block-F map-Block x)
 unfolding expression_source property_source key_source statement_source block_source catch_source declarator_source
     declarators_source expressions_source properties_source statements_source
 block_turn x =
-    fold-roll-Block MadeExpression MadeProperty PropertyKey MadeStatement MadeStatements MadeCatch MadeDeclarator (List MadeDeclarator) (List MadeExpression)
-    (List MadeProperty)
-    MadeStatements expression_layer property_layer key_layer statement_layer block_layer catch_layer declarator_layer
-    declarators_layer expressions_layer properties_layer statements_layer x
+    fold-roll-Block _ _ _ _ _ _ _ _ _ _ _ expression_layer property_layer key_layer statement_layer block_layer
+    catch_layer declarator_layer declarators_layer expressions_layer properties_layer statements_layer x
 
 pub catch_turn : (x : Level layers.Catch-F)
     → catch_source (views.roll-Catch x) ≡ catch_layer (made_parts layers.Catch-F map-Catch x)
 unfolding expression_source property_source key_source statement_source block_source catch_source declarator_source
     declarators_source expressions_source properties_source statements_source
 catch_turn x =
-    fold-roll-Catch MadeExpression MadeProperty PropertyKey MadeStatement MadeStatements MadeCatch MadeDeclarator (List MadeDeclarator) (List MadeExpression)
-    (List MadeProperty)
-    MadeStatements expression_layer property_layer key_layer statement_layer block_layer catch_layer declarator_layer
-    declarators_layer expressions_layer properties_layer statements_layer x
+    fold-roll-Catch _ _ _ _ _ _ _ _ _ _ _ expression_layer property_layer key_layer statement_layer block_layer
+    catch_layer declarator_layer declarators_layer expressions_layer properties_layer statements_layer x
 
 pub declarator_turn : (x : Level layers.Declarator-F)
     → declarator_source (views.roll-Declarator x) ≡ declarator_layer (made_parts layers.Declarator-F map-Declarator x)
 unfolding expression_source property_source key_source statement_source block_source catch_source declarator_source
     declarators_source expressions_source properties_source statements_source
 declarator_turn x =
-    fold-roll-Declarator MadeExpression MadeProperty PropertyKey MadeStatement MadeStatements MadeCatch MadeDeclarator (List MadeDeclarator)
-    (List MadeExpression) (List MadeProperty)
-    MadeStatements expression_layer property_layer key_layer statement_layer block_layer catch_layer declarator_layer
-    declarators_layer expressions_layer properties_layer statements_layer x
+    fold-roll-Declarator _ _ _ _ _ _ _ _ _ _ _ expression_layer property_layer key_layer statement_layer block_layer
+    catch_layer declarator_layer declarators_layer expressions_layer properties_layer statements_layer x
 
 pub declarators_turn : (x : Level layers.Declarators-F)
     → declarators_source (views.roll-Declarators x) ≡ declarators_layer
@@ -131,20 +117,16 @@ pub declarators_turn : (x : Level layers.Declarators-F)
 unfolding expression_source property_source key_source statement_source block_source catch_source declarator_source
     declarators_source expressions_source properties_source statements_source
 declarators_turn x =
-    fold-roll-Declarators MadeExpression MadeProperty PropertyKey MadeStatement MadeStatements MadeCatch MadeDeclarator (List MadeDeclarator)
-    (List MadeExpression) (List MadeProperty)
-    MadeStatements expression_layer property_layer key_layer statement_layer block_layer catch_layer declarator_layer
-    declarators_layer expressions_layer properties_layer statements_layer x
+    fold-roll-Declarators _ _ _ _ _ _ _ _ _ _ _ expression_layer property_layer key_layer statement_layer block_layer
+    catch_layer declarator_layer declarators_layer expressions_layer properties_layer statements_layer x
 
 pub expressions_turn : (x : Level layers.Exprs-F)
     → expressions_source (views.roll-Exprs x) ≡ expressions_layer (made_parts layers.Exprs-F map-Exprs x)
 unfolding expression_source property_source key_source statement_source block_source catch_source declarator_source
     declarators_source expressions_source properties_source statements_source
 expressions_turn x =
-    fold-roll-Exprs MadeExpression MadeProperty PropertyKey MadeStatement MadeStatements MadeCatch MadeDeclarator (List MadeDeclarator) (List MadeExpression)
-    (List MadeProperty)
-    MadeStatements expression_layer property_layer key_layer statement_layer block_layer catch_layer declarator_layer
-    declarators_layer expressions_layer properties_layer statements_layer x
+    fold-roll-Exprs _ _ _ _ _ _ _ _ _ _ _ expression_layer property_layer key_layer statement_layer block_layer
+    catch_layer declarator_layer declarators_layer expressions_layer properties_layer statements_layer x
 
 pub properties_turn : (x : Level layers.PropertyDefinitions-F)
     → properties_source (views.roll-PropertyDefinitions x) ≡ properties_layer
@@ -152,20 +134,16 @@ pub properties_turn : (x : Level layers.PropertyDefinitions-F)
 unfolding expression_source property_source key_source statement_source block_source catch_source declarator_source
     declarators_source expressions_source properties_source statements_source
 properties_turn x =
-    fold-roll-PropertyDefinitions MadeExpression MadeProperty PropertyKey MadeStatement MadeStatements MadeCatch MadeDeclarator
-    (List MadeDeclarator) (List MadeExpression) (List MadeProperty)
-    MadeStatements expression_layer property_layer key_layer statement_layer block_layer catch_layer declarator_layer
-    declarators_layer expressions_layer properties_layer statements_layer x
+    fold-roll-PropertyDefinitions _ _ _ _ _ _ _ _ _ _ _ expression_layer property_layer key_layer statement_layer block_layer
+    catch_layer declarator_layer declarators_layer expressions_layer properties_layer statements_layer x
 
 pub statements_turn : (x : Level layers.Stmts-F)
     → statements_source (views.roll-Stmts x) ≡ statements_layer (made_parts layers.Stmts-F map-Stmts x)
 unfolding expression_source property_source key_source statement_source block_source catch_source declarator_source
     declarators_source expressions_source properties_source statements_source
 statements_turn x =
-    fold-roll-Stmts MadeExpression MadeProperty PropertyKey MadeStatement MadeStatements MadeCatch MadeDeclarator (List MadeDeclarator) (List MadeExpression)
-    (List MadeProperty)
-    MadeStatements expression_layer property_layer key_layer statement_layer block_layer catch_layer declarator_layer
-    declarators_layer expressions_layer properties_layer statements_layer x
+    fold-roll-Stmts _ _ _ _ _ _ _ _ _ _ _ expression_layer property_layer key_layer statement_layer block_layer
+    catch_layer declarator_layer declarators_layer expressions_layer properties_layer statements_layer x
 
 -- ---- what is made of a tree beside its clean tree
 
@@ -616,26 +594,25 @@ statements-known : (R : Relations)
     (statements_step (clean_parts layers.Stmts-F map-Stmts (known_trees (related R) layers.Stmts-F map-Stmts y)))
 statements-known R k ss = statements-listed R k ss.items.items
 
+-- what holds of what two trees are made of holds of them
+turned : {A B : Type 0} (P : A → B → Type 0) (a c : A) (b d : B) → a ≡ c → b ≡ d → P c d → P a b
+turned P a c b d e f h = subst (λ x. P x b) (sym e) (subst (λ y. P c y) (sym f) h)
+
 grown-expression : (R : Relations)
     → Keeps R
     → (y : Known (related R) Expr-F)
     → (related R).of_expression (views.roll-Expr (known_trees (related R) Expr-F map-Expr y))
 grown-expression R k y =
     let x : Level Expr-F = known_trees (related R) Expr-F map-Expr y in
-    subst (λ m. R.expression m (expression_view (views.roll-Expr x))) (sym (expression_turn x))
-    (subst (λ t. R.expression (expression_layer (made_parts Expr-F map-Expr x)) t) (sym (expression_roll x))
-    (expression-known R k y))
+    turned R.expression _ _ _ _ (expression_turn x) (expression_roll x) (expression-known R k y)
 
 grown-property : (R : Relations)
     → Keeps R
     → (y : Known (related R) PropertyDefinition-F)
-    → (related R).of_property
-    (views.roll-PropertyDefinition (known_trees (related R) PropertyDefinition-F map-PropertyDefinition y))
+    → (related R).of_property (views.roll-PropertyDefinition (known_trees (related R) PropertyDefinition-F map-PropertyDefinition y))
 grown-property R k y =
     let x : Level PropertyDefinition-F = known_trees (related R) PropertyDefinition-F map-PropertyDefinition y in
-    subst (λ m. R.property m (property_view (views.roll-PropertyDefinition x))) (sym (property_turn x))
-    (subst (λ t. R.property (property_layer (made_parts PropertyDefinition-F map-PropertyDefinition x)) t)
-    (sym (property_roll x)) (property-known R k y))
+    turned R.property _ _ _ _ (property_turn x) (property_roll x) (property-known R k y)
 
 grown-key : (R : Relations)
     → Keeps R
@@ -643,9 +620,7 @@ grown-key : (R : Relations)
     → (related R).of_key (views.roll-PropertyName (known_trees (related R) PropertyName-F map-PropertyName y))
 grown-key R k y =
     let x : Level PropertyName-F = known_trees (related R) PropertyName-F map-PropertyName y in
-    subst (λ m. R.key m (key_view (views.roll-PropertyName x))) (sym (key_turn x))
-    (subst (λ t. R.key (key_layer (made_parts PropertyName-F map-PropertyName x)) t) (sym (key_roll x))
-    (key-known R k y))
+    turned R.key _ _ _ _ (key_turn x) (key_roll x) (key-known R k y)
 
 grown-statement : (R : Relations)
     → Keeps R
@@ -653,9 +628,7 @@ grown-statement : (R : Relations)
     → (related R).of_statement (views.roll-Stmt (known_trees (related R) Stmt-F map-Stmt y))
 grown-statement R k y =
     let x : Level Stmt-F = known_trees (related R) Stmt-F map-Stmt y in
-    subst (λ m. R.statement m (statement_view (views.roll-Stmt x))) (sym (statement_turn x))
-    (subst (λ t. R.statement (statement_layer (made_parts Stmt-F map-Stmt x)) t) (sym (statement_roll x))
-    (statement-known R k y))
+    turned R.statement _ _ _ _ (statement_turn x) (statement_roll x) (statement-known R k y)
 
 grown-block : (R : Relations)
     → Keeps R
@@ -663,9 +636,7 @@ grown-block : (R : Relations)
     → (related R).of_block (views.roll-Block (known_trees (related R) layers.Block-F map-Block y))
 grown-block R k y =
     let x : Level layers.Block-F = known_trees (related R) layers.Block-F map-Block y in
-    subst (λ m. R.statements m (block_view (views.roll-Block x))) (sym (block_turn x))
-    (subst (λ t. R.statements (block_layer (made_parts layers.Block-F map-Block x)) t) (sym (block_roll x))
-    (block-known R k y))
+    turned R.statements _ _ _ _ (block_turn x) (block_roll x) (block-known R k y)
 
 grown-catch : (R : Relations)
     → Keeps R
@@ -673,9 +644,7 @@ grown-catch : (R : Relations)
     → (related R).of_catch (views.roll-Catch (known_trees (related R) layers.Catch-F map-Catch y))
 grown-catch R k y =
     let x : Level layers.Catch-F = known_trees (related R) layers.Catch-F map-Catch y in
-    subst (λ m. R.handler (Some m) (catch_view (views.roll-Catch x))) (sym (catch_turn x))
-    (subst (λ t. R.handler (Some (catch_layer (made_parts layers.Catch-F map-Catch x))) t) (sym (catch_roll x))
-    (catch-known R k y))
+    turned (λ m t. R.handler (Some m) t) _ _ _ _ (catch_turn x) (catch_roll x) (catch-known R k y)
 
 grown-declarator : (R : Relations)
     → Keeps R
@@ -683,20 +652,15 @@ grown-declarator : (R : Relations)
     → (related R).of_declarator (views.roll-Declarator (known_trees (related R) layers.Declarator-F map-Declarator y))
 grown-declarator R k y =
     let x : Level layers.Declarator-F = known_trees (related R) layers.Declarator-F map-Declarator y in
-    subst (λ m. R.declarator m (declarator_view (views.roll-Declarator x))) (sym (declarator_turn x))
-    (subst (λ t. R.declarator (declarator_layer (made_parts layers.Declarator-F map-Declarator x)) t)
-    (sym (declarator_roll x)) (declarator-known R k y))
+    turned R.declarator _ _ _ _ (declarator_turn x) (declarator_roll x) (declarator-known R k y)
 
 grown-declarators : (R : Relations)
     → Keeps R
     → (y : Known (related R) layers.Declarators-F)
-    → (related R).of_declarators
-    (views.roll-Declarators (known_trees (related R) layers.Declarators-F map-Declarators y))
+    → (related R).of_declarators (views.roll-Declarators (known_trees (related R) layers.Declarators-F map-Declarators y))
 grown-declarators R k y =
     let x : Level layers.Declarators-F = known_trees (related R) layers.Declarators-F map-Declarators y in
-    subst (λ m. R.declarators m (declarators_view (views.roll-Declarators x))) (sym (declarators_turn x))
-    (subst (λ t. R.declarators (declarators_layer (made_parts layers.Declarators-F map-Declarators x)) t)
-    (sym (declarators_roll x)) (declarators-known R k y))
+    turned R.declarators _ _ _ _ (declarators_turn x) (declarators_roll x) (declarators-known R k y)
 
 grown-expressions : (R : Relations)
     → Keeps R
@@ -704,23 +668,15 @@ grown-expressions : (R : Relations)
     → (related R).of_expressions (views.roll-Exprs (known_trees (related R) layers.Exprs-F map-Exprs y))
 grown-expressions R k y =
     let x : Level layers.Exprs-F = known_trees (related R) layers.Exprs-F map-Exprs y in
-    subst (λ m. R.expressions m (expressions_view (views.roll-Exprs x))) (sym (expressions_turn x))
-    (subst (λ t. R.expressions (expressions_layer (made_parts layers.Exprs-F map-Exprs x)) t)
-    (sym (expressions_roll x)) (expressions-known R k y))
+    turned R.expressions _ _ _ _ (expressions_turn x) (expressions_roll x) (expressions-known R k y)
 
 grown-properties : (R : Relations)
     → Keeps R
     → (y : Known (related R) layers.PropertyDefinitions-F)
-    → (related R).of_properties
-    (views.roll-PropertyDefinitions
-    (known_trees (related R) layers.PropertyDefinitions-F map-PropertyDefinitions y))
+    → (related R).of_properties (views.roll-PropertyDefinitions (known_trees (related R) layers.PropertyDefinitions-F map-PropertyDefinitions y))
 grown-properties R k y =
-    let x : Level layers.PropertyDefinitions-F = known_trees (related R)
-    layers.PropertyDefinitions-F map-PropertyDefinitions y in
-    subst (λ m. R.properties m (properties_view (views.roll-PropertyDefinitions x))) (sym (properties_turn x))
-    (subst (λ t. R.properties (properties_layer (made_parts layers.PropertyDefinitions-F map-PropertyDefinitions x))
-    t)
-    (sym (properties_roll x)) (properties-known R k y))
+    let x : Level layers.PropertyDefinitions-F = known_trees (related R) layers.PropertyDefinitions-F map-PropertyDefinitions y in
+    turned R.properties _ _ _ _ (properties_turn x) (properties_roll x) (properties-known R k y)
 
 grown-statements : (R : Relations)
     → Keeps R
@@ -728,9 +684,7 @@ grown-statements : (R : Relations)
     → (related R).of_statements (views.roll-Stmts (known_trees (related R) layers.Stmts-F map-Stmts y))
 grown-statements R k y =
     let x : Level layers.Stmts-F = known_trees (related R) layers.Stmts-F map-Stmts y in
-    subst (λ m. R.statements m (statements_view (views.roll-Stmts x))) (sym (statements_turn x))
-    (subst (λ t. R.statements (statements_layer (made_parts layers.Stmts-F map-Stmts x)) t)
-    (sym (statements_roll x)) (statements-known R k y))
+    turned R.statements _ _ _ _ (statements_turn x) (statements_roll x) (statements-known R k y)
 
 grown : (R : Relations) → Keeps R → Grows (related R)
 grown R k =

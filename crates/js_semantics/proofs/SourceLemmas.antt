@@ -4,7 +4,7 @@ use Rattle.std.proofs.Common.{ℕ, List, [], ◌∷◌}
 use Rattle.js_tree.specs.declared.tree.Expr.{Expr}
 use Rattle.js_tree.specs.declared.script.Script.{Script}
 use Rattle.js_semantics.specs.Makers.{LoweringContext}
-use Rattle.js_semantics.specs.Sources.{expression_source, statements_source, terms_of_scripts}
+use Rattle.js_semantics.specs.Sources.{expression_source, statements_source, term_of_script, terms_of_scripts}
 use Rattle.js_semantics.specs.Run.{program_of, plain as plain_run}
 use Rattle.js_semantics.specs.Sound.{SoundRun}
 use Rattle.js_semantics.specs.Untouched.{IsUntouched, AreUntouched}
@@ -13,40 +13,40 @@ use Rattle.js_semantics.proofs.Ready.{all_ready}
 use Rattle.js_semantics.specs.Waiting.{AllWait, RunWaits}
 use Rattle.js_semantics.specs.Depths.{RunListsFrames}
 use Rattle.js_semantics.proofs.SourceFolds.{expression-related, statements-related}
-use Rattle.js_semantics.proofs.UnstartedMakers.{AreUnstarted, term-untouched, terms-untouched, unstarted, keeps-fresh, script-fresh}
-use Rattle.js_semantics.proofs.ShapeMakers.{well_shaped, keeps-shaped, script-shaped}
-use Rattle.js_semantics.proofs.WaitMakers.{waiting, keeps-waits, script-waits}
+use Rattle.js_semantics.proofs.MadeLemmas.{Making, IsMade, relations_of, keeps-made, script-made}
+use Rattle.js_semantics.proofs.UnstartedMakers.{AreUnstarted, term-untouched, terms-untouched, made_unstarted, unstarted-made}
+use Rattle.js_semantics.proofs.ShapeMakers.{made_shaped, shape-made}
+use Rattle.js_semantics.proofs.WaitMakers.{made_waiting, wait-made}
 use Rattle.js_semantics.proofs.StartLemmas.{plain-sound}
 use Rattle.js_semantics.proofs.ShapeStart.{plain-shaped}
 use Rattle.js_semantics.proofs.WaitLemmas.{plain-waits}
 use Rattle.js_semantics.proofs.DepthLaws.{plain-listed}
 
 pub expression-untouched : (e : Expr) (c : LoweringContext) → IsUntouched ((expression_source e).term c)
-expression-untouched e c = term-untouched _ (expression-related unstarted keeps-fresh e c)
+expression-untouched e c =
+    term-untouched _ (expression-related (relations_of made_unstarted) (keeps-made made_unstarted unstarted-made) e c)
 
 -- ---- the scripts
 
+scripts-made : (M : Making) → IsMade M → (ss : List Script) → M.all (terms_of_scripts ss)
+scripts-made M m [] = m.no_parts
+scripts-made M m (s ∷ ss) =
+    m.a_part (term_of_script s) (terms_of_scripts ss)
+    (script-made M m s.number (statements_source s.body)
+    (statements-related (relations_of M) (keeps-made M m) s.body))
+    (scripts-made M m ss)
+
 pub scripts-unstarted : (ss : List Script) → AreUnstarted (terms_of_scripts ss)
-scripts-unstarted [] = tt
-scripts-unstarted (s ∷ ss) = (
-  script-fresh s.number (statements_source s.body) (statements-related unstarted keeps-fresh s.body),
-  scripts-unstarted ss,
-)
+scripts-unstarted ss = scripts-made made_unstarted unstarted-made ss
 
 scripts-untouched : (ss : List Script) → AreUntouched (terms_of_scripts ss)
 scripts-untouched ss = terms-untouched (terms_of_scripts ss) (scripts-unstarted ss)
 
 scripts-well : (ss : List Script) → AreShaped (terms_of_scripts ss)
-scripts-well [] = tt
-scripts-well (s ∷ ss) = (
-  script-shaped s.number (statements_source s.body) (statements-related well_shaped keeps-shaped s.body),
-  scripts-well ss,
-)
+scripts-well ss = scripts-made made_shaped shape-made ss
 
 scripts-wait : (ss : List Script) → AllWait all_ready (terms_of_scripts ss)
-scripts-wait [] = tt
-scripts-wait (s ∷ ss) =
-    (script-waits s.number (statements_source s.body) (statements-related waiting keeps-waits s.body), scripts-wait ss)
+scripts-wait ss = scripts-made made_waiting wait-made ss
 
 pub scripts-sound : (k : ℕ) (scripts : List Script) (input : List (List ℕ))
     → SoundRun (program_of (terms_of_scripts scripts)) (plain_run k (terms_of_scripts scripts) input)

@@ -25,10 +25,7 @@ use Rattle.js_semantics.proofs.SoundSteps.{of-sound, steps-sound}
 value-sound : (w : World) (v : Value) → HasNoAddress v → SoundValue w v
 value-sound w (values.Text a) h = absurd h
 value-sound w (values.Object a) h = absurd h
-value-sound w values.Undefined h = tt
-value-sound w values.Null h = tt
-value-sound w (values.Bool b) h = tt
-value-sound w (values.Number z) h = tt
+value-sound w _ h = tt
 
 binding-sound : (w : World) (o : Option Value) → o ≡ None → SoundIfSome w o
 binding-sound w None e = tt
@@ -125,81 +122,19 @@ literal-cells-sound : (w : World) (ts : List (List ℕ)) → SoundCells w (liter
 literal-cells-sound w [] = tt
 literal-cells-sound w (t ∷ ts) = (tt, literal-cells-sound w ts)
 
+-- a pair, in a row of them
+also : {A B : Type 0} → A → B → A × B
+also a b = (a, b)
+
 first-sound : (ts : List (List ℕ)) → IsSound (first_world ts)
 first-sound ts = record {
-  base_cells = (
-    (tt, (tt, (tt, (tt, (tt, (tt, (tt, (tt, (tt, (tt, (tt, tt))))))))))),
-    (
-      (refl, tt),
-      (
-        tt,
-        (
-          (refl, tt),
-          (
-            (tt, tt),
-            (
-              (tt, tt),
-              (
-                (tt, tt),
-                (
-                  (tt, tt),
-                  (
-                    (tt, tt),
-                    (
-                      (tt, tt),
-                      (
-                        (tt, tt),
-                        (
-                          (tt, tt),
-                          (
-                            (tt, tt),
-                            (
-                              (tt, tt),
-                              (
-                                (tt, tt),
-                                (
-                                  (tt, tt),
-                                  (
-                                    (tt, tt),
-                                    (
-                                      (tt, tt),
-                                      (
-                                        (tt, tt),
-                                        (
-                                          (tt, tt),
-                                          (
-                                            (tt, tt),
-                                            (
-                                              (tt, tt),
-                                              (
-                                                (tt, tt),
-                                                (
-                                                  (tt, tt),
-                                                  literal-cells-sound (first_world ts) ts,
-                                                ),
-                                              ),
-                                            ),
-                                          ),
-                                        ),
-                                      ),
-                                    ),
-                                  ),
-                                ),
-                              ),
-                            ),
-                          ),
-                        ),
-                      ),
-                    ),
-                  ),
-                ),
-              ),
-            ),
-          ),
-        ),
-      ),
-    ),
-  );
+  base_cells =
+      also (tt, (tt, (tt, (tt, (tt, (tt, (tt, (tt, (tt, (tt, (tt, tt)))))))))))
+      (also (refl, tt) (also tt (also (refl, tt)
+      (also (tt, tt) (also (tt, tt) (also (tt, tt) (also (tt, tt) (also (tt, tt) (also (tt, tt) (also (tt, tt)
+      (also (tt, tt) (also (tt, tt) (also (tt, tt) (also (tt, tt) (also (tt, tt) (also (tt, tt) (also (tt, tt)
+      (also (tt, tt) (also (tt, tt) (also (tt, tt) (also (tt, tt) (also (tt, tt) (also (tt, tt)
+      (literal-cells-sound (first_world ts) ts))))))))))))))))))))))));
   scratch_cells = tt;
 }
 

@@ -1,12 +1,13 @@
 -- How the active frames stand in a term: each is a `frame` around the part about to be reduced, and no other part has
 -- one.
-use Rattle.std.specs.Prelude.{◌≡◌, ℕ, suc, ◌+◌, ◌≤◌, [], ◌∷◌, length, Some}
+use Rattle.std.specs.Prelude.{◌≡◌, ℕ, suc, ◌+◌, ◌≤◌, length, Some}
 use Rattle.js_heap.specs.BuiltIns.{script_scope}
 use Rattle.js_semantics.specs.Terms.{frame, Term, done, standing, part, Terms, end, more}
 use Rattle.js_semantics.specs.State.{Frame, State, Move, goes, travels, has_effect, is_full}
 use Rattle.js_semantics.specs.Functions.{Program}
 use Rattle.js_semantics.specs.Frames.{scopes_at, frames, frame_at, depth}
 use Rattle.js_semantics.specs.Run.{Run, running, over}
+use Rattle.js_semantics.specs.Claims.{OfProgram}
 
 -- no active call stands anywhere in a term
 abbrev mutual
@@ -55,8 +56,7 @@ abbrev mutual
 
 -- no active call stands in the sources of a program
 abbrev pub ProgramHasNoFrame : Program → Type 0
-ProgramHasNoFrame [] = Unit {0}
-ProgramHasNoFrame (t ∷ ts) = HasNoFrame t.tree × ProgramHasNoFrame ts
+ProgramHasNoFrame p = OfProgram HasNoFrame p
 
 -- the state has the frames of the term, above so many others
 pub record Agrees (b : ℕ) (t : Term) (s : State) : Type 0 where

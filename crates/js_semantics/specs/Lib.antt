@@ -6,6 +6,7 @@ pub mod Functions
 pub mod Rows
 pub mod Next
 pub mod Run
+pub mod Claims
 pub mod Makers
 pub mod Literals
 pub mod Frames

@@ -3,9 +3,10 @@
 -- list of one.
 use Rattle.std.specs.Prelude.{◌≡◌, ℕ, suc, ◌+◌, ◌≤◌, List, [], ◌∷◌}
 use Rattle.js_semantics.specs.Terms.{Reference, to_name, to_member, to_index, Member, keyed, computed, testing, Form, script, enter, enter_debugger, enter_for, enter_for_of, block, choose, both, either, loop, list_of, turn_of, body_of, throw_, catching, finishing, read, unary, binary, comma, function, object, method, assign, compound, update, delete, call, call_of, Term, done, standing, part, Terms, end, more}
-use Rattle.js_semantics.specs.State.{Action, go, make, write, take_line, set_here, push_frame, pop_frame, Move, goes}
+use Rattle.js_semantics.specs.State.{Move}
 use Rattle.js_semantics.specs.Functions.{Program}
-use Rattle.js_semantics.specs.Run.{Run, running, over}
+use Rattle.js_semantics.specs.Run.{Run}
+use Rattle.js_semantics.specs.Claims.{OfProgram, OfMove, OfRun}
 
 -- how many parts there are
 abbrev pub size : Terms → ℕ
@@ -119,26 +120,12 @@ abbrev mutual
 
 -- all sources of a program are well-shaped
 abbrev pub ShapedProgram : Program → Type 0
-ShapedProgram [] = Unit {0}
-ShapedProgram (t ∷ ts) = IsShaped t.tree × ShapedProgram ts
-
--- whatever comes of an action's changes, it goes on with a well-shaped term
-abbrev pub ShapedAction : Action → Type 0
-ShapedAction (go t) = IsShaped t
-ShapedAction (make c k) = (a : _) → ShapedAction (k a)
-ShapedAction (write a c k) = ShapedAction k
-ShapedAction (take_line k) = (line : _) → ShapedAction (k line)
-ShapedAction (set_here m k) = ShapedAction k
-ShapedAction (push_frame f k) = ShapedAction k
-ShapedAction (pop_frame k) = ShapedAction k
-ShapedAction _ = Unit {0}
+ShapedProgram p = OfProgram IsShaped p
 
 -- where a step goes on, it goes on with a well-shaped term
 abbrev pub ShapedMove : Move Term → Type 0
-ShapedMove (goes t s told) = IsShaped t
-ShapedMove _ = Unit {0}
+ShapedMove m = OfMove IsShaped m
 
 -- a run that isn't over has a well-shaped term
 abbrev pub ShapedRun : Run → Type 0
-ShapedRun (running t s) = IsShaped t
-ShapedRun (over f s) = Unit {0}
+ShapedRun r = OfRun IsShaped r

@@ -1,10 +1,11 @@
 -- What takes no step is done at once: where all parts of a form about to be reduced have their values, the form waits
 -- for its step, and isn't one that is finished without one.
-use Rattle.std.specs.Prelude.{◌≡◌, Bool, true, false, [], ◌∷◌, None}
+use Rattle.std.specs.Prelude.{◌≡◌, Bool, true, false, None}
 use Rattle.js_semantics.specs.Terms.{first, doing, body, updating, Form, scripts, script, sequence, enter, enter_debugger, enter_for, block, scoped, loop, body_of, catching, finishing, function, method, Term, done, standing, part, Terms, end, more, all_done}
-use Rattle.js_semantics.specs.State.{Action, go, make, write, take_line, set_here, push_frame, pop_frame, Move, goes}
+use Rattle.js_semantics.specs.State.{Move}
 use Rattle.js_semantics.specs.Functions.{Program}
-use Rattle.js_semantics.specs.Run.{Run, running, over}
+use Rattle.js_semantics.specs.Run.{Run}
+use Rattle.js_semantics.specs.Claims.{OfProgram, OfMove, OfRun}
 
 -- A `finally` that keeps nothing, a literal without its cell and a method of an object literal aren't told apart from
 -- what waits: the first keeps a block that is no value, the others don't stand among the parts that are reduced.
@@ -68,26 +69,12 @@ abbrev mutual
 
 -- the forms in all sources of a program wait for their steps
 abbrev pub ProgramWaits : Program → Type 0
-ProgramWaits [] = Unit {0}
-ProgramWaits (t ∷ ts) = Waits all_done t.tree × ProgramWaits ts
-
--- whatever comes of an action's changes, the forms in the term that it goes on with wait for their steps
-abbrev pub ActionWaits : Action → Type 0
-ActionWaits (go t) = Waits all_done t
-ActionWaits (make c k) = (a : _) → ActionWaits (k a)
-ActionWaits (write a c k) = ActionWaits k
-ActionWaits (take_line k) = (line : _) → ActionWaits (k line)
-ActionWaits (set_here m k) = ActionWaits k
-ActionWaits (push_frame f k) = ActionWaits k
-ActionWaits (pop_frame k) = ActionWaits k
-ActionWaits _ = Unit {0}
+ProgramWaits p = OfProgram (Waits all_done) p
 
 -- where a step goes on, the forms in its term wait for their steps
 abbrev pub MoveWaits : Move Term → Type 0
-MoveWaits (goes t s told) = Waits all_done t
-MoveWaits _ = Unit {0}
+MoveWaits m = OfMove (Waits all_done) m
 
 -- the forms in the term of a run that isn't over wait for their steps
 abbrev pub RunWaits : Run → Type 0
-RunWaits (running t s) = Waits all_done t
-RunWaits (over f s) = Unit {0}
+RunWaits r = OfRun (Waits all_done) r

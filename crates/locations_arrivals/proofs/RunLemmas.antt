@@ -16,9 +16,11 @@ use Rattle.js_semantics.specs.Next.{Walked, all_values, moved, with_value, aroun
 use Rattle.js_semantics.specs.Run.{Run, running, over, run_of, run_after, step_in, steps_in}
 use Rattle.js_heap.specs.BuiltIns.{script_scope}
 use Rattle.locations.specs.declared.marks.Marked.{Marked}
-use Rattle.locations_arrivals.specs.Belonging.{AllBelong, MarkedSources, behind_step, sources_of, TermStands, MoveStands, ProgramBelongs, AllWait, ScriptStands, ScriptsStand, RunningStands, RunStands}
+use Rattle.locations_arrivals.specs.Belonging.{Belongs, AllBelong, MarkedSources, behind_step, sources_of, TermStands, MoveStands, ProgramBelongs, AllWait, ScriptStands, ScriptsStand, RunningStands, RunStands}
 use Rattle.locations_arrivals.specs.Raises.{told_of}
-use Rattle.locations_arrivals.proofs.PartLemmas.{BelongsAction, settle-belongs, functions-belongs, names-belongs}
+use Rattle.js_semantics.proofs.ActionLemmas.{functions-goes, names-goes}
+use Rattle.js_semantics.proofs.RowLemmas.{IsQuiet}
+use Rattle.locations_arrivals.proofs.PartLemmas.{belonging, settle-belongs}
 use Rattle.locations_arrivals.proofs.StepLemmas.{ActionStands, action-stands, perform-stands, next-stands}
 
 -- ---- a script begins
@@ -57,8 +59,9 @@ script-begins R source number names (more t fs) s e r w h =
     let own : List Source = script_source number ∷ [] in
     let made : Action = with_functions script_scope fs (go (settle t)) in
     let rest : Action = with_names script_scope names made in
-    let belongs : BelongsAction P rest = names-belongs P script_scope names made
-    (functions-belongs P script_scope fs (go (settle t)) (settle-belongs P t h.0)) in
+    let Q : Term → Type 0 = λ x. Belongs P x in
+    let belongs : IsQuiet (belonging P) rest = names-goes Q ⊥ script_scope names made
+    (functions-goes Q ⊥ script_scope fs (go (settle t)) (settle-belongs P t h.0)) in
     of-source R (script_source number) (perform (script_row number names (more t fs)) s) w
     (perform-stands R own rest (record s { frames = script_frame number ∷ rest_of s.frames })
     (subst (λ (under : List Source). ActionStands R own (script_source number ∷ under) rest)

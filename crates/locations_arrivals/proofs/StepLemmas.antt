@@ -1,38 +1,25 @@
 -- Every step keeps each part of a term with its source, and the frames of the state those of the term.
-use Rattle.std.proofs.Common.{◌≡◌, ℕ, Bool, true, false, List, [], ◌∷◌, Option, None, Some, length, refl, sym, ap, subst, ◌∙◌, inl, inr, if◌then◌else◌}
-use Rattle.std.specs.Prelude.{nat_eq, nat_lt, codes}
+use Rattle.std.proofs.Common.{◌≡◌, ℕ, Bool, true, false, List, [], ◌∷◌, Option, None, Some, refl, sym, ap, subst, ◌∙◌, inl, inr, if◌then◌else◌}
 use Rattle.js_heap.specs.declared.value.Addr.{Addr}
 use Rattle.js_heap.specs.declared.value.Value.{Value}
-use Rattle.js_heap.specs.declared.value.Value.TheVariants as values
-use Rattle.js_heap.specs.declared.built_in.Code.TheVariants as code
-use Rattle.js_heap.specs.declared.built_in.ErrorClass.{ErrorClass}
-use Rattle.js_heap.specs.declared.built_in.ErrorClass.TheVariants as classes
-use Rattle.js_heap.specs.declared.cell.Cell.{Cell}
-use Rattle.js_heap.specs.declared.cell.Cell.TheVariants as cells
-use Rattle.js_heap.specs.declared.change.Counted.{Counted}
-use Rattle.js_heap.specs.World.{World, Tried, fine, effect, full, read_cell, make_cell, write_cell, is_evaluation}
-use Rattle.js_heap.specs.Values.{is_truthy}
-use Rattle.js_heap.specs.Operators.{binary_result, unary_result}
 use Rattle.js_semantics.specs.declared.form.Source.{Source}
-use Rattle.js_semantics.specs.declared.form.Source.TheVariants.{Script as script_source, Kept as kept_source}
 use Rattle.js_semantics.specs.declared.form.Mark.{Mark}
 use Rattle.js_semantics.specs.declared.form.Completion.{Completion}
 use Rattle.js_semantics.specs.declared.form.Completion.TheVariants.{Throws as throws, Returns as returns, Breaks as breaks, Continues as continues}
-use Rattle.js_semantics.specs.declared.form.FunctionForm.{FunctionForm}
-use Rattle.js_semantics.specs.declared.form.Stage.TheVariants.{Body as body}
 use Rattle.js_semantics.specs.declared.form.Form.{Form}
-use Rattle.js_semantics.specs.declared.form.Form.TheVariants.{Script as script, Enter as enter, EnterDebugger as enter_debugger, EnterFor as enter_for, EnterForOf as enter_for_of, Block as block, Frame as frame, Initialize as initialize, Choose as choose, Both as both, Either as either, Loop as loop, ListOf as list_of, TurnOf as turn_of, BodyOf as body_of, Break as break_, Continue as continue_, Return as return_, Throw as throw_, Catching as catching, Finishing as finishing, Ending as ending, Read as read, TypeofName as typeof_name, Unary as unary, Binary as binary, Comma as comma, Function as function, Array as array, Object as object, Method as method, Assign as assign, Compound as compound, Update as update, Delete as delete, Call as call, CallOf as call_of}
-use Rattle.js_semantics.specs.Terms.{Term, done, standing, part, Terms, end, more, one, all_done, finished, settled, settle}
-use Rattle.js_semantics.specs.State.{Frame, State, went, Move, goes, travels, has_effect, is_full, inside, Action, go, raise, leave, make, write, print, take_line, set_here, push_frame, pop_frame, give, fail, with_world, with_here, moved_frames, rest_of, first_line, other_lines, after, raised_at, perform}
-use Rattle.js_semantics.specs.References.{found, with_result, read_result, remove}
-use Rattle.js_semantics.specs.BuiltIns.{argument, last_of, built_in_call}
-use Rattle.js_semantics.specs.Functions.{Program, FunctionCode, first_code, code_if, function_in, function_in_all, same_source, function_at, function_row, with_functions, too_deep, called_this, frame_entered, entered, frame_limit, call_code, call_cell, call_value, call_row}
-use Rattle.js_semantics.specs.Rows.{only, enter_row, block_row, chosen, kept_or, otherwise, loop_row, enter_for_row, enter_for_of_row, list_row, elements_of, turn_row, type_of_found, comma_row, compound_row, update_row, assign_row, callee_row, object_row, row, catch_row, taken}
+use Rattle.js_semantics.specs.declared.form.Form.TheVariants.{Script as script, Frame as frame, Call as call}
+use Rattle.js_semantics.specs.Terms.{Term, done, standing, part, Terms, end, more, one, all_done, finished, settle}
+use Rattle.js_semantics.specs.State.{Frame, State, went, Move, goes, travels, has_effect, is_full, inside, Action, moved_frames, rest_of, perform}
+use Rattle.js_semantics.specs.Functions.{Program, FunctionCode, first_code, function_in, function_in_all, same_source, function_at, call_row}
+use Rattle.js_semantics.specs.Rows.{row, taken}
 use Rattle.js_semantics.specs.Next.{Walked, all_values, moved, with_value, scope_in, around, next, walk}
-use Rattle.js_semantics.proofs.GiveLemmas.{GivesValues, put-gives, remove-gives, built_in-gives, type_of-gives, update_row-gives, function_row-gives}
+use Rattle.js_semantics.proofs.InvariantLemmas.{either-way, finished-kept}
+use Rattle.js_semantics.proofs.RowLemmas.{IsQuiet, HasCode, FindsCode, first-has, function_in_all-has, row-quiet, taken-quiet}
+use Rattle.js_semantics.proofs.FrameLemmas.{Framing, IsFraming, ActionIn, MoveIn, quiet-in, perform-in, Enters, KnowsCode, call-in}
+use Rattle.js_semantics.specs.Waiting.{uncovers}
 use Rattle.locations.specs.declared.marks.Marked.{Marked}
 use Rattle.locations_arrivals.specs.Belonging.{FirstReturns, Closes, FormBelongs, Belongs, AllBelong, MarkedSources, behind_step, top_marks, sources_of, TermStands, AllStand, MoveStands, TreeBelongs, ProgramBelongs}
-use Rattle.locations_arrivals.proofs.PartLemmas.{finished-belongs, settled-belongs, settle-belongs, BelongsAction, gives-belongs, fail-belongs, result-belongs, enter-belongs, block-belongs, chosen-belongs, kept-belongs, otherwise-belongs, loop-belongs, for_in-belongs, enter_for_of-belongs, list-belongs, turn-belongs, comma-belongs, compound-belongs, callee-belongs, object-belongs, catch-belongs}
+use Rattle.locations_arrivals.proofs.PartLemmas.{belonging, belong-kept, belong-free, settle-belongs}
 use Rattle.locations_arrivals.proofs.ReturnLemmas.{settle-returns, WalkKeeps, walk-keeps}
 use Rattle.js_semantics.proofs.SameSources.{same_source-true}
 
@@ -51,95 +38,57 @@ closes-settled P node t (inr m) = inr m
 
 -- ---- the code of a function
 
-abbrev CodeBelongs : (Marked → Type 0) → Option FunctionCode → Type 0
-CodeBelongs P None = Unit {0}
-CodeBelongs P (Some c) = Closes P c.form.node (one c.body) × Belongs P c.body
+-- a function's body belongs to a source
+abbrev CodeBelongs : (Marked → Type 0) → FunctionCode → Type 0
+CodeBelongs P c = Closes P c.form.node (one c.body) × Belongs P c.body
 
-first-belongs : (P : Marked → Type 0) (o q : Option FunctionCode)
-    → CodeBelongs P o
-    → CodeBelongs P q
-    → CodeBelongs P (first_code o q)
-first-belongs P (Some c) q h k = h
-first-belongs P None q h k = k
-
-code_if-belongs : (P : Marked → Type 0) (b : Bool) (f : FunctionForm) (later : Terms)
-    → Closes P f.node later
-    → AllBelong P later
-    → CodeBelongs P (code_if b f later)
-code_if-belongs P true f (more t ts) c h = (c, h.0)
-code_if-belongs P true f end c h = tt
-code_if-belongs P false f later c h = tt
-
-within-belongs : (P : Marked → Type 0) (o q r : Option FunctionCode)
-    → CodeBelongs P o
-    → CodeBelongs P q
-    → CodeBelongs P r
-    → CodeBelongs P (first_code o (first_code q r))
-within-belongs P o q r h k l = first-belongs P o (first_code q r) h (first-belongs P q r k l)
-
-mutual
-  function_in-belongs : (P : Marked → Type 0) (node : ℕ) (t : Term) → Belongs P t → CodeBelongs P (function_in node t)
-  function_in-belongs P node (done v) h = tt
-  function_in-belongs P node (standing v place) h = tt
-  function_in-belongs P node (part (function f) now later) h =
-      within-belongs P (code_if (nat_eq f.node node) f later) (function_in_all node now) (function_in_all node later)
-      (code_if-belongs P (nat_eq f.node node) f later h.0 h.2) (function_in_all-belongs P node now h.1)
-      (function_in_all-belongs P node later h.2)
-  function_in-belongs P node (part (method f) now later) h =
-      within-belongs P (code_if (nat_eq f.node node) f later) (function_in_all node now) (function_in_all node later)
-      (code_if-belongs P (nat_eq f.node node) f later h.0 h.2) (function_in_all-belongs P node now h.1)
-      (function_in_all-belongs P node later h.2)
-  function_in-belongs P node (part f now later) h =
-      within-belongs P None (function_in_all node now) (function_in_all node later) tt
-      (function_in_all-belongs P node now h.1) (function_in_all-belongs P node later h.2)
-
-  function_in_all-belongs : (P : Marked → Type 0) (node : ℕ) (ts : Terms)
-      → AllBelong P ts
-      → CodeBelongs P (function_in_all node ts)
-  function_in_all-belongs P node end h = tt
-  function_in_all-belongs P node (more t ts) h =
-      first-belongs P (function_in node t) (function_in_all node ts) (function_in-belongs P node t h.0)
-      (function_in_all-belongs P node ts h.1)
+finds-code : (P : Marked → Type 0) → FindsCode (belonging P) (λ c. CodeBelongs P c)
+finds-code P = record { of_function = λ f n b fs h q. (h, q.0); of_method = λ f n b fs h q. (h, q.0) }
 
 -- the code is of a source that runs
-abbrev KnownCode : MarkedSources → Source → Option FunctionCode → Type 0
-KnownCode R source None = Unit {0}
-KnownCode R source (Some c) = R.runs source × CodeBelongs (R.marks source) (Some c)
+abbrev IsKnown : MarkedSources → Source → FunctionCode → Type 0
+IsKnown R source c = R.runs source × CodeBelongs (R.marks source) c
 
 known-code : (R : MarkedSources) (source : Source) (o : Option FunctionCode)
     → R.runs source
-    → CodeBelongs (R.marks source) o
-    → KnownCode R source o
+    → HasCode (λ c. CodeBelongs (R.marks source) c) o
+    → HasCode (λ c. IsKnown R source c) o
 known-code R source None r h = tt
 known-code R source (Some c) r h = (r, h)
 
+parts-code : (P : Marked → Type 0) (node : ℕ) (ts : Terms)
+    → AllBelong P ts
+    → HasCode (λ c. CodeBelongs P c) (function_in_all node ts)
+parts-code P = function_in_all-has (belonging P) (belong-kept P) (λ c. CodeBelongs P c) (finds-code P)
+
 tree-code : (R : MarkedSources) (source : Source) (node : ℕ) (t : Term)
     → TreeBelongs R source t
-    → KnownCode R source (function_in node t)
+    → HasCode (λ c. IsKnown R source c) (function_in node t)
 tree-code R source node (done v) h = absurd h
 tree-code R source node (standing v place) h = absurd h
 tree-code R source node (part (script number names) now later) h =
     let P : Marked → Type 0 = R.marks source in
     known-code R source (first_code None (first_code (function_in_all node now) (function_in_all node later))) h.0
-    (within-belongs P None (function_in_all node now) (function_in_all node later) tt
-    (function_in_all-belongs P node now h.1) (function_in_all-belongs P node later h.2))
+    (first-has (λ c. CodeBelongs P c) (function_in_all node now) (function_in_all node later)
+    (parts-code P node now h.1) (parts-code P node later h.2))
 tree-code R source node (part f now later) h = absurd h
 
 at_if : (R : MarkedSources) (other source : Source) (b : Bool) (o q : Option FunctionCode)
     → same_source other source ≡ b
-    → KnownCode R other o
-    → KnownCode R source q
-    → KnownCode R source (if b then o else q)
-at_if R other source true o q e h k = subst (λ x. KnownCode R x o) (same_source-true other source e) h
+    → HasCode (λ c. IsKnown R other c) o
+    → HasCode (λ c. IsKnown R source c) q
+    → HasCode (λ c. IsKnown R source c) (if b then o else q)
+at_if R other source true o q e h k =
+    subst (λ (x : Source). HasCode (λ c. IsKnown R x c) o) (same_source-true other source e) h
 at_if R other source false o q e h k = k
 
-function_at-known : (R : MarkedSources) (p : Program) (source : Source) (node : ℕ)
+function_at-known : (R : MarkedSources) (p : Program)
     → ProgramBelongs R p
-    → KnownCode R source (function_at p source node)
-function_at-known R [] source node h = tt
-function_at-known R (t ∷ ts) source node h =
+    → KnowsCode p (λ source c. IsKnown R source c)
+function_at-known R [] h = λ source node. tt
+function_at-known R (t ∷ ts) h = λ source node.
     at_if R t.source source (same_source t.source source) (function_in node t.tree) (function_at ts source node) refl
-    (tree-code R t.source node t.tree h.0) (function_at-known R ts source node h.1)
+    (tree-code R t.source node t.tree h.0) (function_at-known R ts h.1 source node)
 
 -- ---- a part that waits, in its frame
 
@@ -166,31 +115,15 @@ abbrev outer_of : List Source → List Source
 outer_of [] = []
 outer_of (source ∷ sources) = sources
 
-abbrev pub ActionStands : MarkedSources → List Source → List Source → Action → Type 0
-ActionStands R outside all (go t) = TermStands (behind_step R (Some went)) outside t all
-ActionStands R outside all (raise v) = all ≡ outside
-ActionStands R outside all (leave c) = all ≡ outside
-ActionStands R outside all (make c k) = (all ≡ outside) × ((a : Addr) → ActionStands R outside all (k a))
-ActionStands R outside all (write a c k) = (all ≡ outside) × ActionStands R outside all k
-ActionStands R outside all (print vs text) = all ≡ outside
-ActionStands R outside all (take_line k) = (line : Option (List ℕ)) → ActionStands R outside all (k line)
-ActionStands R outside all (set_here m k) = ActionStands R outside all k
-ActionStands R outside all (push_frame f k) = ActionStands R outside (f.source ∷ all) k
-ActionStands R outside all (pop_frame k) = ActionStands R outside (outer_of all) k
-
-pub action-stands : (R : MarkedSources) (outside : List Source) (a : Action)
-    → BelongsAction (top_marks R outside) a
-    → ActionStands R outside outside a
-action-stands R outside (go t) h = belongs-stands (behind_step R (Some went)) outside t h
-action-stands R outside (raise v) h = refl
-action-stands R outside (leave c) h = refl
-action-stands R outside (make c k) h = (refl, λ a. action-stands R outside (k a) (h a))
-action-stands R outside (write a c k) h = (refl, action-stands R outside k h)
-action-stands R outside (print vs text) h = refl
-action-stands R outside (take_line k) h = λ line. action-stands R outside (k line) (h line)
-action-stands R outside (set_here m k) h = action-stands R outside k h
-action-stands R outside (push_frame f k) h = absurd h
-action-stands R outside (pop_frame k) h = absurd h
+-- the sources of the frames, within which a term stands
+abbrev pub sourced : MarkedSources → Framing
+sourced R = record {
+  view = List Source;
+  seen = λ fs. sources_of fs;
+  push = λ f all. f.source ∷ all;
+  pop = λ all. outer_of all;
+  stands = λ told outside t all. TermStands (behind_step R (Some told)) outside t all;
+}
 
 moved-sources : (fs : List Frame) (m : Mark) → sources_of (moved_frames fs m) ≡ sources_of fs
 moved-sources [] m = refl
@@ -200,132 +133,62 @@ rest-sources : (fs : List Frame) → sources_of (rest_of fs) ≡ outer_of (sourc
 rest-sources [] = refl
 rest-sources (f ∷ fs) = refl
 
-full_stands : (R : MarkedSources) (outside : List Source) (b : Bool) (what : Counted) (s : State) (v : Value)
-    → sources_of s.frames ≡ outside
-    → MoveStands R outside (if b then is_full what s else raised_at v s)
-full_stands R outside true what s v e = tt
-full_stands R outside false what s v e = (e, refl)
+sources-framed : (R : MarkedSources) → IsFraming (sourced R)
+sources-framed R = record {
+  moved = moved-sources;
+  pushed = λ f fs. refl;
+  popped = rest-sources;
+  of_value = λ told outside v. refl;
+  of_throw = λ outside v place. (refl, refl);
+}
 
-outside_stands : (R : MarkedSources) (outside : List Source) (b : Bool) (s : State) (m : Move Term)
+abbrev pub ActionStands : MarkedSources → List Source → List Source → Action → Type 0
+ActionStands R outside all a = ActionIn (sourced R) outside all a
+
+quiet-stands : (R : MarkedSources) (outside : List Source) (t : Term)
+    → Belongs (top_marks R outside) t
+    → TermStands (behind_step R (Some went)) outside t outside
+quiet-stands R outside t h = belongs-stands (behind_step R (Some went)) outside t h
+
+pub action-stands : (R : MarkedSources) (outside : List Source) (a : Action)
+    → IsQuiet (belonging (top_marks R outside)) a
+    → ActionStands R outside outside a
+action-stands R outside a h =
+    quiet-in (sourced R) (belonging (top_marks R outside)) outside (quiet-stands R outside) a h
+
+moves-stand : (R : MarkedSources) (outside : List Source) (m : Move Term)
+    → MoveIn (sourced R) outside m
     → MoveStands R outside m
-    → MoveStands R outside (if b then has_effect s else m)
-outside_stands R outside true s m h = tt
-outside_stands R outside false s m h = h
-
-after_stands : {A : Type 0} (R : MarkedSources) (outside : List Source) (s : State) (t : Tried A) (k : A → State → Move Term)
-    → sources_of s.frames ≡ outside
-    → ((a : A) (w : World) → MoveStands R outside (k a (with_world s w)))
-    → MoveStands R outside (after t s k)
-after_stands R outside s (fine a w) k e h = h a w
-after_stands R outside s effect k e h = tt
-after_stands R outside s (full what) k e h = full_stands R outside (is_evaluation s.world) what s _ e
+moves-stand R outside (goes t s told) h = h
+moves-stand R outside (travels c s) h = h
+moves-stand R outside (has_effect s) h = tt
+moves-stand R outside (is_full what s) h = tt
 
 pub perform-stands : (R : MarkedSources) (outside : List Source) (a : Action) (s : State)
     → ActionStands R outside (sources_of s.frames) a
     → MoveStands R outside (perform a s)
-perform-stands R outside (go t) s h = h
-perform-stands R outside (raise v) s h = (h, refl)
-perform-stands R outside (leave c) s h = h
-perform-stands R outside (make c k) s h =
-    after_stands R outside s (make_cell s.world c) (λ a. perform (k a)) h.0
-    (λ a w. perform-stands R outside (k a) (with_world s w) (h.1 a))
-perform-stands R outside (write a c k) s h =
-    after_stands R outside s (write_cell s.world a c) (λ x. perform k) h.0
-    (λ x w. perform-stands R outside k (with_world s w) h.1)
-perform-stands R outside (print vs text) s h = outside_stands R outside (is_evaluation s.world) s _ h
-perform-stands R outside (take_line k) s h =
-    outside_stands R outside (is_evaluation s.world) s _
-    (perform-stands R outside (k (first_line s.input)) (record s { input = other_lines s.input })
-    (h (first_line s.input)))
-perform-stands R outside (set_here m k) s h =
-    perform-stands R outside k (with_here s m)
-    (subst (λ (all : List Source). ActionStands R outside all k) (sym (moved-sources s.frames m)) h)
-perform-stands R outside (push_frame f k) s h = perform-stands R outside k (record s { frames = f ∷ s.frames }) h
-perform-stands R outside (pop_frame k) s h =
-    perform-stands R outside k (record s { frames = rest_of s.frames })
-    (subst (λ (all : List Source). ActionStands R outside all k) (sym (rest-sources s.frames)) h)
+perform-stands R outside a s h =
+    moves-stand R outside (perform a s) (perform-in (sourced R) (sources-framed R) outside a s h)
 
 -- ---- calls
 
-entered-stands : (R : MarkedSources) (outside : List Source) (scope : Addr) (ts : Terms) (c : FunctionCode) (source : Source)
-    (a : Addr) (x : Value) (s : Addr)
-    → KnownCode R source (Some c)
-    → ActionStands R outside outside (with_functions scope ts (frame_entered c source a x s))
-entered-stands R outside scope end c source a x s h = (
-  source,
+enters : (R : MarkedSources) (outside : List Source) → Enters (sourced R) outside (λ source c. IsKnown R source c)
+enters R outside = λ f c a h. (
+  f.source,
   h.0,
-  closes-settled (R.marks source) c.form.node c.body h.1.0,
-  all-stand (behind_step R (Some went)) (source ∷ outside) (one (settle c.body))
-      (settle-belongs (R.marks source) c.body h.1.1, tt),
+  closes-settled (R.marks f.source) c.form.node c.body h.1.0,
+  all-stand (behind_step R (Some went)) (f.source ∷ outside) (one (settle c.body))
+      (settle-belongs (R.marks f.source) c.body h.1.1, tt),
   tt,
 )
-entered-stands R outside scope (more (part (function f) now later) ts) c source a x s h =
-    (refl, λ d. (refl, entered-stands R outside scope ts c source a x s h))
-entered-stands R outside scope (more _ ts) c source a x s h = entered-stands R outside scope ts c source a x s h
-
-choose_stands : (R : MarkedSources) (outside all : List Source) (b : Bool) (x y : Action)
-    → ActionStands R outside all x
-    → ActionStands R outside all y
-    → ActionStands R outside all (if b then x else y)
-choose_stands R outside all true x y h k = h
-choose_stands R outside all false x y h k = k
-
-fail-stands : (R : MarkedSources) (outside : List Source) (class : ErrorClass) (message : List ℕ)
-    → ActionStands R outside outside (fail class message)
-fail-stands R outside class message =
-    action-stands R outside (fail class message) (fail-belongs (top_marks R outside) class message)
-
-code-stands : (R : MarkedSources) (outside : List Source) (s : State) (o : Option FunctionCode) (source : Source) (a : Addr)
-    (name : List ℕ) (outer : Option Addr) (x y : Value) (args : List Value)
-    → KnownCode R source o
-    → ActionStands R outside outside (call_code s o source a name outer x y args)
-code-stands R outside s None source a name outer x y args h =
-    fail-stands R outside classes.TypeError (codes "Value is not a function")
-code-stands R outside s (Some c) source a name None x y args h =
-    fail-stands R outside classes.TypeError (codes "Value is not a function")
-code-stands R outside s (Some c) source a name (Some outer) x y args h =
-    choose_stands R outside outside (nat_lt (length s.frames) frame_limit)
-    (entered c source a name outer (called_this c.form.is_arrow x y) args) too_deep
-    (refl, λ d. entered-stands R outside d c.functions c source a (called_this c.form.is_arrow x y) d h)
-    (fail-stands R outside classes.RangeError (codes "Maximum call stack size exceeded"))
-
-cell-stands : (R : MarkedSources) (outside : List Source) (p : Program) (s : State) (a : Addr) (o : Option Cell) (y : Value)
-    (args : List Value)
-    → ProgramBelongs R p
-    → ActionStands R outside outside (call_cell p s a o y args)
-cell-stands R outside p s a None y args h = fail-stands R outside classes.TypeError (codes "Value is not a function")
-cell-stands R outside p s a (Some (cells.Function (code.BuiltIn f) n l outer x)) y args h =
-    action-stands R outside (built_in_call s.world f y args)
-    (gives-belongs (top_marks R outside) (built_in_call s.world f y args) (built_in-gives s.world f y args))
-cell-stands R outside p s a (Some (cells.Function (code.Script number node) n l outer x)) y args h =
-    code-stands R outside s (function_at p (script_source number) node) (script_source number) a n outer x y args
-    (function_at-known R p (script_source number) node h)
-cell-stands R outside p s a (Some (cells.Function (code.Kept at node) n l outer x)) y args h =
-    code-stands R outside s (function_at p (kept_source at) node) (kept_source at) a n outer x y args
-    (function_at-known R p (kept_source at) node h)
-cell-stands R outside p s a (Some (cells.Object ps)) y args h =
-    fail-stands R outside classes.TypeError (codes "Value is not a function")
-cell-stands R outside p s a (Some (cells.Error class ps)) y args h =
-    fail-stands R outside classes.TypeError (codes "Value is not a function")
-cell-stands R outside p s a (Some (cells.Array vs)) y args h =
-    fail-stands R outside classes.TypeError (codes "Value is not a function")
-cell-stands R outside p s a (Some (cells.Text us)) y args h =
-    fail-stands R outside classes.TypeError (codes "Value is not a function")
-cell-stands R outside p s a (Some (cells.Bindings kind n o ns)) y args h =
-    fail-stands R outside classes.TypeError (codes "Value is not a function")
-
-value-stands : (R : MarkedSources) (outside : List Source) (p : Program) (s : State) (f y : Value) (args : List Value)
-    → ProgramBelongs R p
-    → ActionStands R outside outside (call_value p s f y args)
-value-stands R outside p s (values.Object a) y args h = cell-stands R outside p s a (read_cell s.world a) y args h
-value-stands R outside p s _ y args h = fail-stands R outside classes.TypeError (codes "Value is not a function")
 
 call-stands : (R : MarkedSources) (outside : List Source) (p : Program) (s : State) (m : Mark) (vs : List Value)
     → ProgramBelongs R p
     → ActionStands R outside outside (call_row p s m vs)
-call-stands R outside p s m [] h = refl
-call-stands R outside p s m (x ∷ []) h = refl
-call-stands R outside p s m (x ∷ f ∷ args) h = value-stands R outside p s f x args h
+call-stands R outside p s m vs g =
+    let P : Marked → Type 0 = top_marks R outside in
+    call-in (sourced R) (sources-framed R) outside (belonging P) (belong-kept P) (belong-free P)
+    (quiet-stands R outside) (λ source c. IsKnown R source c) (enters R outside) p s m vs (function_at-known R p g)
 
 -- ---- a form outside the part about to be reduced, and the frames outside its parts
 
@@ -392,7 +255,8 @@ finished-stands R outside (frame node a) now later parts all i e h k =
     part-stands R outside (frame node a) now later parts all i h k
 finished-stands R outside f now later parts all i e h k =
     at-stands R outside (finished f now later) all (values-stand R parts now all e h ∙ i.0)
-    (finished-belongs (top_marks R outside) f now later (i.1, values-belong (top_marks R outside) now e, k))
+    (finished-kept (belonging (top_marks R outside)) (belong-kept (top_marks R outside)) f now later i.1
+    (values-belong (top_marks R outside) now e) (either-way (uncovers f) (AllBelong (top_marks R outside) later) k))
 
 settled_if : (R : MarkedSources) (outside : List Source) (b : Bool) (f : Form) (now later : Terms) (parts all : List Source)
     → all_done now ≡ b
@@ -403,20 +267,14 @@ settled_if : (R : MarkedSources) (outside : List Source) (b : Bool) (f : Form) (
 settled_if R outside true f now later parts all e i h k = finished-stands R outside f now later parts all i e h k
 settled_if R outside false f now later parts all e i h k = part-stands R outside f now later parts all i h k
 
--- ---- THE TABLE OF STEPS
+-- ---- THE TABLE OF STEPS, AND THAT OF COMPLETIONS
 
 row-belongs : (R : MarkedSources) (outside parts : List Source) (a : Action)
     → parts ≡ outside
-    → BelongsAction (top_marks R outside) a
+    → IsQuiet (belonging (top_marks R outside)) a
     → ActionStands R outside parts a
 row-belongs R outside parts a e h =
     subst (λ (x : List Source). ActionStands R outside x a) (sym e) (action-stands R outside a h)
-
-row-gives : (R : MarkedSources) (outside parts : List Source) (a : Action)
-    → parts ≡ outside
-    → GivesValues a
-    → ActionStands R outside parts a
-row-gives R outside parts a e h = row-belongs R outside parts a e (gives-belongs (top_marks R outside) a h)
 
 row-stands : (R : MarkedSources) (outside : List Source) (p : Program) (s : State) (scope : Addr) (f : Form) (vs : List Value)
     (now later : Terms) (parts : List Source)
@@ -425,117 +283,30 @@ row-stands : (R : MarkedSources) (outside : List Source) (p : Program) (s : Stat
     → AllBelong (top_marks R outside) later
     → ActionStands R outside parts (row p s scope f vs later)
 row-stands R outside p s scope (script number names) vs now later parts g i k = absurd i.1
-row-stands R outside p s scope (enter node) vs now later parts g i k =
-    row-belongs R outside parts (enter_row node later) i.0 (enter-belongs (top_marks R outside) node later k)
-row-stands R outside p s scope (enter_debugger node) vs now later parts g i k =
-    row-belongs R outside parts (enter_row node later) i.0 (enter-belongs (top_marks R outside) node later k)
-row-stands R outside p s scope (enter_for node constant names) vs now later parts g i k =
-    row-belongs R outside parts (enter_for_row scope node constant names later) i.0
-    (λ a. for_in-belongs (top_marks R outside) constant a later k)
-row-stands R outside p s scope (enter_for_of node x) vs now later parts g i k =
-    row-belongs R outside parts (enter_for_of_row scope node x later) i.0
-    (enter_for_of-belongs (top_marks R outside) scope node x later k)
-row-stands R outside p s scope (block names) vs now later parts g i k =
-    row-belongs R outside parts (block_row scope names later) i.0
-    (block-belongs (top_marks R outside) scope names later k)
-row-stands R outside p s scope (initialize name) vs now later parts g i k = (i.0, i.0)
-row-stands R outside p s scope choose vs now later parts g i k =
-    row-belongs R outside parts (go (chosen (is_truthy s.world (only vs)) later)) i.0
-    (chosen-belongs (top_marks R outside) (is_truthy s.world (only vs)) later k)
-row-stands R outside p s scope both vs now later parts g i k =
-    row-belongs R outside parts (go (kept_or (is_truthy s.world (only vs)) (only vs) later)) i.0
-    (kept-belongs (top_marks R outside) (is_truthy s.world (only vs)) (only vs) later k)
-row-stands R outside p s scope either vs now later parts g i k =
-    row-belongs R outside parts (go (otherwise (is_truthy s.world (only vs)) (only vs) later)) i.0
-    (otherwise-belongs (top_marks R outside) (is_truthy s.world (only vs)) (only vs) later k)
-row-stands R outside p s scope (loop stage a) vs now later parts g i k =
-    row-belongs R outside parts (loop_row s.world stage a vs later) i.0
-    (loop-belongs (top_marks R outside) s.world stage a vs later k)
-row-stands R outside p s scope (list_of x) vs now later parts g i k =
-    row-belongs R outside parts (list_row s.world x (only vs) later) i.0
-    (list-belongs (top_marks R outside) s.world x (only vs) later k)
-row-stands R outside p s scope (turn_of x n) vs now later parts g i k =
-    row-belongs R outside parts (turn_row scope x n (elements_of s.world later n) later) i.0
-    (turn-belongs (top_marks R outside) scope x n (elements_of s.world later n) later k)
-row-stands R outside p s scope (read r) vs now later parts g i k =
-    row-belongs R outside parts (with_result (read_result s.world scope r vs) give) i.0
-    (result-belongs (top_marks R outside) (read_result s.world scope r vs) give (λ x. tt))
-row-stands R outside p s scope (typeof_name x) vs now later parts g i k =
-    row-gives R outside parts (type_of_found s.world x (found s.world scope x)) i.0
-    (type_of-gives s.world x (found s.world scope x))
-row-stands R outside p s scope (unary op) vs now later parts g i k =
-    row-belongs R outside parts (with_result (unary_result s.world op (only vs)) give) i.0
-    (result-belongs (top_marks R outside) (unary_result s.world op (only vs)) give (λ x. tt))
-row-stands R outside p s scope (binary op) vs now later parts g i k =
-    row-belongs R outside parts (with_result (binary_result s.world op (argument vs 0) (argument vs 1)) give) i.0
-    (result-belongs (top_marks R outside) (binary_result s.world op (argument vs 0) (argument vs 1)) give (λ x. tt))
-row-stands R outside p s scope comma vs now later parts g i k =
-    row-belongs R outside parts (comma_row later) i.0 (comma-belongs (top_marks R outside) later k)
-row-stands R outside p s scope (function f) vs now later parts g i k =
-    row-gives R outside parts (function_row s scope f) i.0 (function_row-gives s scope f)
-row-stands R outside p s scope array vs now later parts g i k = (i.0, λ a. i.0)
-row-stands R outside p s scope (object ms) vs now later parts g i k =
-    row-belongs R outside parts (object_row s.world scope ms vs later) i.0
-    (object-belongs (top_marks R outside) s.world scope ms vs later k)
-row-stands R outside p s scope (compound op r) vs now later parts g i k =
-    row-belongs R outside parts (compound_row s.world scope op r vs later) i.0
-    (compound-belongs (top_marks R outside) s.world scope op r vs later k)
-row-stands R outside p s scope (assign r) vs now later parts g i k =
-    row-gives R outside parts (assign_row s.world scope r vs) i.0
-    (put-gives s.world scope r vs (last_of vs) (give (last_of vs)) tt)
-row-stands R outside p s scope (update op prefix r) vs now later parts g i k =
-    row-gives R outside parts (update_row s.world scope op prefix r vs) i.0
-    (update_row-gives s.world scope op prefix r vs)
-row-stands R outside p s scope (delete r) vs now later parts g i k =
-    row-gives R outside parts (remove s.world r vs (give (values.Bool true))) i.0
-    (remove-gives s.world r vs (give (values.Bool true)) tt)
+row-stands R outside p s scope (frame node a) vs now later parts g i k = ap outer_of i.1
 row-stands R outside p s scope (call m node) vs now later parts g i k =
     subst (λ (x : List Source). ActionStands R outside x (call_row p s m vs)) (sym i.0)
     (call-stands R outside p s m vs g)
-row-stands R outside p s scope (call_of r m node) vs now later parts g i k =
-    row-belongs R outside parts (callee_row s.world scope r m node vs later) i.0
-    (callee-belongs (top_marks R outside) s.world scope r m node vs later i.1 k)
-row-stands R outside p s scope (frame node a) vs now later parts g i k = ap outer_of i.1
-row-stands R outside p s scope return_ vs now later parts g i k = i.0
-row-stands R outside p s scope break_ vs now later parts g i k = i.0
-row-stands R outside p s scope continue_ vs now later parts g i k = i.0
-row-stands R outside p s scope (throw_ node) vs now later parts g i k = i.0
-row-stands R outside p s scope (ending None) vs now later parts g i k = i.0
-row-stands R outside p s scope (ending (Some c)) vs now later parts g i k = i.0
-row-stands R outside p s scope _ vs now later parts g i k = i.0
-
--- ---- THE TABLE OF COMPLETIONS
+row-stands R outside p s scope f vs now later parts g i k =
+    row-belongs R outside parts (row p s scope f vs later) i.0
+    (row-quiet (belonging (top_marks R outside)) (belong-kept (top_marks R outside)) (belong-free (top_marks R outside)) p s
+    scope f vs later refl i.1 (either-way (uncovers f) (AllBelong (top_marks R outside) later) k))
 
 taken-stands : (R : MarkedSources) (outside : List Source) (scope : Addr) (f : Form) (c : Completion) (now later : Terms)
     (parts : List Source)
     → Inside R outside f now later parts
     → AllBelong (top_marks R outside) later
     → ActionStands R outside parts (taken scope f c later)
-taken-stands R outside scope (catching x) (throws v m) now later parts i k =
-    row-belongs R outside parts (catch_row scope x v later) i.0 (catch-belongs (top_marks R outside) scope x v later k)
-taken-stands R outside scope (catching x) (returns v) now later parts i k = i.0
-taken-stands R outside scope (catching x) breaks now later parts i k = i.0
-taken-stands R outside scope (catching x) continues now later parts i k = i.0
-taken-stands R outside scope finishing c now later parts i k =
-    row-belongs R outside parts (go (settled (ending (Some c)) later end)) i.0
-    (settled-belongs (top_marks R outside) (ending (Some c)) later end (tt, k, tt))
 taken-stands R outside scope (frame node a) (returns v) now later parts i k = ap outer_of i.1
 taken-stands R outside scope (frame node a) (throws v m) now later parts i k = ap outer_of i.1
 taken-stands R outside scope (frame node a) breaks now later parts i k = ap outer_of i.1
 taken-stands R outside scope (frame node a) continues now later parts i k = ap outer_of i.1
-taken-stands R outside scope (loop body a) breaks now later parts i k = i.0
-taken-stands R outside scope (loop body a) continues now later parts i k =
-    row-belongs R outside parts (go (settled (loop body a) end later)) i.0
-    (settled-belongs (top_marks R outside) (loop body a) end later (tt, tt, k))
-taken-stands R outside scope (loop body a) (throws v m) now later parts i k = i.0
-taken-stands R outside scope (loop body a) (returns v) now later parts i k = i.0
-taken-stands R outside scope (body_of x n) breaks now later parts i k = i.0
-taken-stands R outside scope (body_of x n) continues now later parts i k =
-    row-belongs R outside parts (go (settled (body_of x n) end later)) i.0
-    (settled-belongs (top_marks R outside) (body_of x n) end later (tt, tt, k))
-taken-stands R outside scope (body_of x n) (throws v m) now later parts i k = i.0
-taken-stands R outside scope (body_of x n) (returns v) now later parts i k = i.0
-taken-stands R outside scope f c now later parts i k = i.0
+taken-stands R outside scope (script number names) c now later parts i k = i.0
+taken-stands R outside scope (call m node) c now later parts i k = i.0
+taken-stands R outside scope f c now later parts i k =
+    row-belongs R outside parts (taken scope f c later) i.0
+    (taken-quiet (belonging (top_marks R outside)) (belong-kept (top_marks R outside)) (belong-free (top_marks R outside)) scope
+    f c 0 later refl i.1 (either-way (uncovers f) (AllBelong (top_marks R outside) later) k))
 
 -- ---- steps
 

@@ -14,6 +14,7 @@ pub mod OrderLemmas
 pub mod EvaluatorLemmas
 pub mod ReturnLemmas
 pub mod ForgetLemmas
+pub mod KnownLemmas
 pub mod WorkspaceLemmas
 pub mod EmptyLemmas
 pub mod OpenLemmas

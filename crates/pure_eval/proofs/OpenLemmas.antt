@@ -35,7 +35,8 @@ use Rattle.pure_eval.specs.Working.{IsWorking, IsOpen}
 use Rattle.pure_eval.specs.Workspaces.{OpenWorkspace, opened_of, source_kept, EvaluatesTo}
 use Rattle.pure_eval.proofs.EvaluatorLemmas.{next-same, source_same, world-further, work-keeps}
 use Rattle.pure_eval.proofs.ReturnLemmas.{went-through}
-use Rattle.pure_eval.proofs.WorkspaceLemmas.{space_over, made_open, program-first}
+use Rattle.pure_eval.specs.Held.{marked_names}
+use Rattle.pure_eval.proofs.WorkspaceLemmas.{space_over, made_open, program-first, names-stay}
 
 -- ---- what holds behind an evaluation
 
@@ -97,6 +98,14 @@ open-on end old new n start m base h o q k count next later p s f i went code ov
       marked_cells = i.marked_cells;
       next_is = next_is ∙ sym (next-same new.names h) ∙ ap next_kept (sym (there new.names));
     }
+
+-- the names with which it began stay
+pub names-on : (end : Evaluated) (old new : Evaluator) (n : ℕ) (m : EvaluatorMark)
+    → is_memory end ≡ false
+    → IsWorking old n m
+    → WentOnAfter end old new
+    → marked_names new m ≡ marked_names old m
+names-on end old new n m f w went = names-stay old new n m w (went_on end old new f went)
 
 -- ---- the cells of when it was opened
 

@@ -1,20 +1,17 @@
 -- What a session's evaluations go on from.
-use Rattle.std.proofs.Common.{◌≡◌, ℕ, zero, suc, ◌<◌, ◌≤◌, Bool, true, List, [], ◌∷◌, ◌++◌, length, take, refl, sym, ap, ◌∙◌, arith}
+use Rattle.std.proofs.Common.{◌≡◌, ℕ, suc, ◌≤◌, List, [], ◌∷◌, ◌++◌, length, take, refl, sym, ap, subst, ◌∙◌}
 use Rattle.std.proofs.Math.Seq.{take-length, take-append_seam}
 use Rattle.js_heap.specs.declared.value.Addr.{Addr}
 use Rattle.js_heap.specs.declared.value.Addr.TheVariants.{Scratch}
 use Rattle.js_heap.specs.declared.cell.Cell.{Cell}
-use Rattle.js_heap.specs.Keys.{same_units}
 use Rattle.js_heap.specs.World.{World}
 use Rattle.js_heap.specs.ScratchSpaces.{ScratchSpace, copied_world}
 use Rattle.js_semantics.specs.Functions.{Program}
 use Rattle.js_semantics.specs.Evaluation.{next_kept}
-use Rattle.std.specs.Prelude.{slice_get, unwrap_or}
-use Rattle.js_heap_memory.specs.Names.{GoesOn, name_of, spare}
+use Rattle.js_heap_memory.specs.Names.{GoesOn}
 use Rattle.js_heap_memory.specs.Heaps.{Heap, heap_world}
 use Rattle.js_heap_memory.specs.Overlays.{OverlayMark, Over, over_world, space_of, space_after, space_at, first_space, next_of, mark_of}
 use Rattle.js_heap_memory.proofs.HeapLemmas.{cells-length}
-use Rattle.js_heap_memory.proofs.TableLemmas.{same-only}
 use Rattle.js_machine_nodes.specs.declared.node.SourceEntry.{SourceEntry}
 use Rattle.js_machine_nodes.specs.declared.table.NodeTable.{NodeTable}
 use Rattle.js_machine_nodes.specs.Trees.{source_tree, source_trees, program_of}
@@ -24,6 +21,7 @@ use Rattle.pure_eval.specs.Whole.{IsWhole}
 use Rattle.pure_eval.specs.Returning.{WentOn, IsMarked, IsAgain, IsCode, IsCodeOf}
 use Rattle.pure_eval.specs.Working.{IsWorking, IsOpen, IsKnown}
 use Rattle.pure_eval.specs.Workspaces.{Workspace, workspace_of, begun, emptied_workspace, OpenWorkspace, opened_of, opened}
+use Rattle.pure_eval.specs.Held.{marked_names}
 use Rattle.pure_eval.proofs.EvaluatorLemmas.{next-same, world-further}
 use Rattle.pure_eval.proofs.ReturnLemmas.{went-same, went-through, code-again}
 use Rattle.pure_eval.proofs.StayLemmas.{sources-stay}
@@ -218,37 +216,34 @@ forgotten-is e new n start m base h g o k count next i cut names over was =
     refl
     (was new.names ∙ ap (λ x. space_at x k) (over new.names ∙ ap (λ ts. space_after (over_world ts o)) names))
 
--- ---- names that go on behind others
+-- ---- the names with which it began
 
-abbrev get_at : List (List ℕ) → ℕ → List ℕ
-get_at ts i = unwrap_or (slice_get ts i) []
+names_first : (e : Evaluator) (m : EvaluatorMark) → IsMarked e m → marked_names e m ≡ e.names
+names_first e m k = ap (λ n. take n e.names) k.names ∙ take-length e.names
 
-same_entries : (ts us : List (List ℕ))
-    → length ts ≤ length us
-    → ((i : ℕ) → i < length ts → get_at ts i ≡ get_at us i)
-    → GoesOn ts us
-same_entries [] us l h = record { more = us; is = refl }
-same_entries (t ∷ ts) [] l h = absurd (omega (arith, l))
-same_entries (t ∷ ts) (u ∷ us) l h =
-    let rest : GoesOn ts us = same_entries ts us (omega (arith, l)) (λ i b. h (suc i) (omega (arith, b))) in
-    record { more = rest.more; is = ap (λ v. v ∷ us) (sym (h 0 (omega arith))) ∙ ap (λ vs. t ∷ vs) rest.is }
+-- where it was just marked they go on from what all of them do
+pub goes-marked : (names : List (List ℕ)) (e : Evaluator) (m : EvaluatorMark)
+    → IsMarked e m
+    → GoesOn names e.names
+    → GoesOn names (marked_names e m)
+goes-marked names e m k g =
+    let P : List (List ℕ) → Type 0 = λ ts. GoesOn names ts in
+    subst P (sym (names_first e m k)) g
 
-or_there : (ts : List (List ℕ)) (i : ℕ) (d : List ℕ) → i < length ts → unwrap_or (slice_get ts i) d ≡ get_at ts i
-or_there [] i d h = absurd (omega (arith, h))
-or_there (t ∷ ts) zero d h = refl
-or_there (t ∷ ts) (suc i) d h = or_there ts i d (omega (arith, h))
+names_since : (first e : Evaluator) (m : EvaluatorMark)
+    → IsMarked first m
+    → WentOn first e
+    → marked_names e m ≡ first.names
+names_since first e m k g =
+    ap (λ n. take n e.names) k.names
+    ∙ ap (λ ts. take (length first.names) ts) g.names.is
+    ∙ take-append_seam first.names g.names.more
 
-pub names-go-on : (ts us : List (List ℕ)) (n : ℕ)
-    → length ts ≤ length us
-    → length ts ≤ n
-    → ((i : ℕ) → 0 ≤ i → i < n → name_of ts i ≡ name_of us i)
-    → GoesOn ts us
-unfolding name_of
-names-go-on ts us n l b h =
-    same_entries ts us l
-    (λ i k. sym (or_there ts i (spare ts i) k)
-    ∙ h i (omega arith) (omega (arith, b, k))
-    ∙ or_there us i (spare us i) (omega (arith, l, k)))
-
-pub same-name : (b : Bool) (xs ys us vs : List ℕ) → b ≡ same_units xs ys → xs ≡ us → ys ≡ vs → b ≡ true → us ≡ vs
-same-name b xs ys us vs e f g h = sym f ∙ same-only xs ys (sym e ∙ h) ∙ g
+-- they stay however it goes on
+pub names-stay : (old new : Evaluator) (n : ℕ) (m : EvaluatorMark)
+    → IsWorking old n m
+    → WentOn old new
+    → marked_names new m ≡ marked_names old m
+names-stay old new n m w g =
+    names_since w.first new m w.marked (went-through w.first old new w.goes_on g)
+    ∙ sym (names_since w.first old m w.marked w.goes_on)

@@ -13,3 +13,4 @@ pub mod Returning
 pub mod TermCodes
 pub mod Working
 pub mod Workspaces
+pub mod Held

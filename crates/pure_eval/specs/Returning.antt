@@ -29,10 +29,11 @@ abbrev pub WentOnAfter : Evaluated → Evaluator → Evaluator → Type 0
 WentOnAfter ends.Memory old new = Unit {0}
 WentOnAfter end old new = WentOn old new
 
--- where an evaluator's code and its kept sources ended
+-- where an evaluator's code, its kept sources and its names ended
 pub record IsMarked (e : Evaluator) (m : EvaluatorMark) : Type 0 where
   pub table : IsMarkOf e.table m.table
   pub next : m.next ≡ e.next
+  pub names : m.names ≡ length e.names
 
 -- an evaluator has the code again that it had
 pub record IsAgain (old new : Evaluator) : Type 0 where

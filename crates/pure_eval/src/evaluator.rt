@@ -61,13 +61,15 @@ pub struct Evaluator {
     pub call: u32,
 }
 
-/// Where an evaluator's code ended, and below which number its kept sources stood.
+/// Where an evaluator's code ended, below which number its kept sources stood, and how many names it had.
 #[derive(Clone, Copy)]
 pub struct EvaluatorMark {
     /// Where its code ended.
     pub table: TableMark,
     /// Its kept sources stood below this number.
     pub next: u32,
+    /// How many names it had.
+    pub names: usize,
 }
 
 /// A source that was added: its node, where the table ended before it, and the number behind its address.
@@ -184,7 +186,7 @@ impl Evaluator {
         })
     }
 
-    /// Where the code ends now. It takes no memory.
+    /// Where the code ends now, and how many names there are. It takes no memory.
     pub fn mark(&self) -> EvaluatorMark
         ensures marked { IsMarked self.now result }
         ensures came { (p : Program) → Runs self.now p → CameFrom result p self.now }
@@ -192,6 +194,7 @@ impl Evaluator {
         EvaluatorMark {
             table: mark(&self.table),
             next: self.next,
+            names: self.names.len(),
         }
     }
 

@@ -5,7 +5,7 @@
 //! - *evaluator*: the code of a program and of the sources that evaluations keep, with their names; `Runs`,
 //!   `HoldsProgram` say of which
 //! - *workspace*: what the evaluations of a session go on from; it is *opened* over the cells of a program for one of
-//!   them
+//!   them, if the program's names are the first of those with which it *began*
 //! - *kept*: a source that stays, with the cells of its evaluation; *cut* and *forgotten* is what doesn't
 //! - *ready*: a term whose string literals have their cells
 //! - `Answers`, `EndsIn`, `Leaves`: how an evaluation ends, in which world, and with which cells, by the definition;

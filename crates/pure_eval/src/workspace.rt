@@ -1,6 +1,6 @@
 //! What a session's evaluations go on from.
 
-ghost use Rattle.std.specs.Prelude.{◌≡◌, ℕ, List, [], true, IfOk, IfSome};
+ghost use Rattle.std.specs.Prelude.{◌≡◌, ℕ, List, [], true, false, IfOk, IfSome, is_some, take};
 ghost use Rattle.js_heap.specs.declared.value.Addr.TheVariants.{Scratch as scratch_place};
 ghost use Rattle.js_heap.specs.ScratchSpaces.{copied_world};
 ghost use Rattle.js_semantics.specs.Evaluation.{evaluate_expression, evaluate_function, next_kept};
@@ -12,8 +12,9 @@ ghost use Rattle.js_tree.specs.declared.script.Expression.{Expression};
 ghost use Rattle.js_tree.specs.declared.script.FunctionCode.{FunctionCode};
 ghost use Rattle.js_tree.specs.declared.tree.Expr.{Expr};
 ghost use Rattle.js_heap_memory.specs.Heaps.{heap_world};
-ghost use Rattle.js_heap_memory.specs.Names.{name_of, GoesOn};
+ghost use Rattle.js_heap_memory.specs.Names.{GoesOn};
 ghost use Rattle.js_heap_memory.specs.Overlays.{over_world};
+ghost use Rattle.pure_eval.specs.Answering.{is_memory};
 ghost use Rattle.pure_eval.specs.Arguments.{arguments_of};
 ghost use Rattle.pure_eval.specs.Calling.{work_of};
 ghost use Rattle.pure_eval.specs.Preparing.{IsReady, IsPrepared, IsPreparedFunction};
@@ -27,10 +28,9 @@ use crate::evaluator::{Evaluator, EvaluatorMark};
 use crate::prepared::PreparedSource;
 use crate::session::Outcome;
 use crate::work::Work;
-use js_heap::keys::same_units;
 use js_heap::value::{Addr, Value};
 use js_heap_memory::heap::BaseHeap;
-use js_heap_memory::names::{NameId, NameTable};
+use js_heap_memory::names::NameTable;
 use js_heap_memory::overlay::{Overlay, OverlayMark, Scratch};
 use js_heap_memory::world::World;
 use js_machine_engine::rows::Rows;
@@ -39,12 +39,13 @@ use js_machine_terms::term::Terms;
 use std::alloc::{AllocError, Global};
 use std::marker::Model;
 
-/// The code that a session's evaluations run, and the cells that they made.
+/// The code that a session's evaluations run, and the cells that they made. Contracts see beside them the names with
+/// which it began.
 #[derive(Drop)]
 pub struct Workspace {
     evaluator: Evaluator,
     scratch: Scratch,
-    // how many of the sources are scripts, and where their code ends
+    // how many of the sources are scripts, and where their code and their names end
     scripts: usize,
     start: EvaluatorMark,
 }
@@ -52,14 +53,14 @@ pub struct Workspace {
 impl Model for Workspace {
     ghost use Rattle.std.specs.Coded.{codes};
     ghost use Rattle.pure_eval.specs.TermCodes.{term_coded};
-    ghost use Rattle.pure_eval.specs.Workspaces as workspaces;
+    ghost use Rattle.pure_eval.specs.Held as held;
     ghost use Rattle.pure_eval.specs.Working.{IsWorking};
 
-    ghost Value = { workspaces.Workspace };
+    ghost Value = { held.HeldWorkspace };
 
     ghost coded = { Prim.hlevel (codes, term_coded) };
 
-    ghost view = { λ w. workspaces.workspace_of w.evaluator w.scripts w.scratch };
+    ghost view = { λ w. held.held_of w.evaluator w.scripts w.start w.scratch };
 
     ghost invariant = { λ w. IsWorking w.evaluator w.scripts w.start };
 }
@@ -92,57 +93,32 @@ pub struct OpenWorkspace<'b> {
 impl<'b> Model for OpenWorkspace<'b> {
     ghost use Rattle.std.specs.Coded.{codes};
     ghost use Rattle.pure_eval.specs.TermCodes.{term_coded};
-    ghost use Rattle.pure_eval.specs.Workspaces as workspaces;
+    ghost use Rattle.pure_eval.specs.Held as held;
     ghost use Rattle.pure_eval.specs.Working.{IsOpen};
 
-    ghost Value = { workspaces.OpenWorkspace };
+    ghost Value = { held.HeldOpenWorkspace };
 
     ghost coded = { Prim.hlevel (codes, term_coded) };
 
-    ghost view = { λ o. workspaces.opened_of o.evaluator o.scripts o.mark o.base.now o.world o.cells };
+    ghost view = { λ o. held.held_open_of o.evaluator o.scripts o.start o.mark o.base.now o.world o.cells };
 
     ghost invariant = { λ o. IsOpen o.evaluator o.scripts o.start o.mark o.base.now o.world o.cells o.count o.next };
 }
 
-/// Whether two tables have the same text at a number.
-fn is_same_name(names: &NameTable, own: &NameTable, name: NameId) -> bool
-    ensures { result ≡ true → name_of names.now name.number ≡ name_of own.now name.number }
+/// Whether a program's names are all that its cells need, and the first of those with which a workspace began: of so
+/// many of its own.
+fn is_known(base: &BaseHeap, names: &NameTable, own: &NameTable, began: usize) -> bool
+    ensures known { result ≡ true → IsKnown base.now names.now (take began own.now) }
+    ensures only { IsKnown base.now names.now (take began own.now) → result ≡ true }
 {
-    let Ok(text) = names.text(name) else {
-        return false;
-    };
-    let Ok(other) = own.text(name) else {
-        return false;
-    };
-    same_units(text, other)
-}
-
-/// Whether a table of names goes on behind another.
-fn goes_on(names: &NameTable, own: &NameTable) -> bool
-    ensures { result ≡ true → GoesOn names.now own.now }
-{
-    let Ok(count) = u32::try_from(names.len()) else {
-        return false;
-    };
-    if own.len() < names.len() {
+    let count = names.len();
+    if base.known() > count {
         return false;
     }
-    for number in 0..count {
-        if !is_same_name(names, own, NameId { number }) {
-            return false;
-        }
-    }
-    true
-}
-
-/// Whether a table of names goes on behind another, which has all that a program's cells need.
-fn is_known(base: &BaseHeap, names: &NameTable, own: &NameTable) -> bool
-    ensures { result ≡ true → IsKnown base.now names.now own.now }
-{
-    if base.known() > names.len() {
+    if count > began {
         return false;
     }
-    goes_on(names, own)
+    own.goes_on_from(names)
 }
 
 /// The number of an address of a session's cells.
@@ -192,14 +168,15 @@ fn given_up<'b>(alloc: Global, base: &'b BaseHeap) -> OpenWorkspace<'b> {
 }
 
 impl Workspace {
-    /// What the evaluations of a session begin with: the code of scripts with the addresses of their literals, whose names go on
-    /// behind these.
+    /// What the evaluations of a session begin with: the code of scripts with the addresses of their literals. The names
+    /// with which it begins are these, and behind them any more that the scripts have.
     ///
     /// # Errors
     ///
     /// There is no memory for it, or something in the scripts comes up in a run alone.
     pub fn start(alloc: Global, names: &NameTable, scripts: &Terms) -> Result<Workspace, AllocError>
-        ensures { IfOk result (λ w. w ≡ begun (program_from 1 (terms_view scripts.now))) }
+        ensures workspace { IfOk result (λ w. w.workspace ≡ begun (program_from 1 (terms_view scripts.now))) }
+        ensures names { IfOk result (λ w. GoesOn names.now w.names) }
     {
         let evaluator = Evaluator::start(alloc, names, scripts)?;
         let start = evaluator.mark();
@@ -214,7 +191,8 @@ impl Workspace {
 
     /// Gives up all that evaluations made and kept. It takes no memory.
     pub fn empty(&mut self)
-        ensures { self.new ≡ emptied_workspace self.old }
+        ensures workspace { self.new.workspace ≡ emptied_workspace self.old.workspace }
+        ensures names { self.new.names ≡ self.old.names }
     {
         let alloc = *self.evaluator.table.sources.allocator();
         let start = self.start;
@@ -223,11 +201,15 @@ impl Workspace {
         self.scratch = scratch;
     }
 
-    /// Opens it over the cells of a program. None where the names of the program aren't those with which it began.
+    /// Opens it over the cells of a program, whose names are to be the first of those with which it began, and all that
+    /// the cells need. None where they aren't, and nowhere else. It takes no memory.
     pub fn open<'b>(self, base: &'b BaseHeap, names: &NameTable) -> Option<OpenWorkspace<'b>>
-        ensures { IfSome result (λ o. o ≡ opened (heap_world names.now base.now) self) }
+        ensures opened { IfSome result (λ o. o.workspace ≡ opened (heap_world names.now base.now) self.workspace) }
+        ensures names { IfSome result (λ o. o.names ≡ self.names) }
+        ensures known { is_some result ≡ true → IsKnown base.now names.now self.names }
+        ensures only { IsKnown base.now names.now self.names → is_some result ≡ true }
     {
-        if !is_known(base, names, &self.evaluator.names) {
+        if !is_known(base, names, &self.evaluator.names, self.start.names) {
             return None;
         }
         base.goes_on();
@@ -259,7 +241,7 @@ impl Workspace {
 impl<'b> OpenWorkspace<'b> {
     /// The address at which the source of the next evaluation is kept.
     pub fn next_address(&self) -> Addr
-        ensures { result ≡ next_kept self.now.behind.scratch }
+        ensures { result ≡ next_kept self.now.workspace.behind.scratch }
     {
         self.next
     }
@@ -271,7 +253,12 @@ impl<'b> OpenWorkspace<'b> {
         work: Work<'_>,
         prepared: &PreparedSource,
     ) -> Evaluated
-        ensures { (source : List ℕ) (tree : Expr) → IsReady (next_kept self.old.behind.scratch) source tree prepared.now → EvaluatesTo (work_of self.old.behind.program self.old.world self.old.behind.scratch source (source_literals tree) (expression_source tree) work.entry) (expression_source tree) result self.old self.new }
+        ensures answer { (source : List ℕ) (tree : Expr)
+            → IsReady (next_kept self.old.workspace.behind.scratch) source tree prepared.now
+            → EvaluatesTo (work_of self.old.workspace.behind.program self.old.workspace.world self.old.workspace.behind.scratch
+            source (source_literals tree) (expression_source tree) work.entry)
+            (expression_source tree) result self.old.workspace self.new.workspace }
+        ensures names { is_memory result ≡ false → self.new.names ≡ self.old.names }
     {
         let base = self.base;
         // neither of these comes up in a workspace that was opened; that they don't is tested here rather than carried on
@@ -309,7 +296,12 @@ impl<'b> OpenWorkspace<'b> {
         receiver: Value,
         prepared: &PreparedSource,
     ) -> Evaluated
-        ensures { (e : Expression) → IsPrepared (next_kept self.old.behind.scratch) e prepared.now → EvaluatesTo (evaluate_expression self.old.behind.program self.old.world self.old.behind.scratch scope receiver e) (expression_source e.tree) result self.old self.new }
+        ensures answer { (e : Expression)
+            → IsPrepared (next_kept self.old.workspace.behind.scratch) e prepared.now
+            → EvaluatesTo (evaluate_expression self.old.workspace.behind.program self.old.workspace.world
+            self.old.workspace.behind.scratch scope receiver e)
+            (expression_source e.tree) result self.old.workspace self.new.workspace }
+        ensures names { is_memory result ≡ false → self.new.names ≡ self.old.names }
     {
         self.evaluate_ready::<T>(alloc, Work::Expression { scope, receiver }, prepared)
     }
@@ -325,7 +317,12 @@ impl<'b> OpenWorkspace<'b> {
         arguments: &[Argument],
         prepared: &PreparedSource,
     ) -> Evaluated
-        ensures { (f : FunctionCode) → IsPreparedFunction (next_kept self.old.behind.scratch) f prepared.now → EvaluatesTo (evaluate_function self.old.behind.program self.old.world self.old.behind.scratch f receiver (arguments_of arguments.now)) (expression_source f.tree) result self.old self.new }
+        ensures answer { (f : FunctionCode)
+            → IsPreparedFunction (next_kept self.old.workspace.behind.scratch) f prepared.now
+            → EvaluatesTo (evaluate_function self.old.workspace.behind.program self.old.workspace.world
+            self.old.workspace.behind.scratch f receiver (arguments_of arguments.now))
+            (expression_source f.tree) result self.old.workspace self.new.workspace }
+        ensures names { is_memory result ≡ false → self.new.names ≡ self.old.names }
     {
         self.evaluate_ready::<T>(
             alloc,
@@ -339,7 +336,8 @@ impl<'b> OpenWorkspace<'b> {
 
     /// The cells of the program with those of the session.
     pub fn seen(&self) -> OverlaidCells<'_, 'b>
-        ensures { over_world result.names.now result.world.now ≡ copied_world self.now.world self.now.behind.scratch }
+        ensures { over_world result.names.now result.world.now ≡ copied_world self.now.workspace.world
+            self.now.workspace.behind.scratch }
     {
         OverlaidCells {
             world: &self.world,
@@ -349,7 +347,8 @@ impl<'b> OpenWorkspace<'b> {
 
     /// The workspace with all that evaluations made since it was opened. It takes no memory.
     pub fn keep(self) -> Workspace
-        ensures { result ≡ self.entry.behind }
+        ensures workspace { result.workspace ≡ self.entry.workspace.behind }
+        ensures names { result.names ≡ self.entry.names }
     {
         let OpenWorkspace {
             evaluator,
@@ -377,7 +376,8 @@ impl<'b> OpenWorkspace<'b> {
     }
     /// The workspace as it was opened. It takes no memory.
     pub fn forget(self) -> Workspace
-        ensures { result ≡ self.entry.before }
+        ensures workspace { result.workspace ≡ self.entry.workspace.before }
+        ensures names { result.names ≡ self.entry.names }
     {
         let OpenWorkspace {
             evaluator,

@@ -1,1 +1,2 @@
 pub mod BesideLemmas
+pub mod PlainLemmas

@@ -1,5 +1,8 @@
 //! Where a step leaves the program.
 
+ghost use Rattle.std.specs.Prelude.{◌≡◌};
+ghost use Rattle.stepping.specs.Beside.{is_plain};
+
 use cdp_text::position::Place;
 
 /// Where a step leaves the program, as far as rules ask for it.
@@ -14,4 +17,13 @@ pub struct Arrival {
     /// Where the step raised a throw that hadn't been travelling before it: whether no `try` with a `catch`, in any call, has
     /// the raise within its block.
     pub raised: Option<bool>,
+}
+
+impl Arrival {
+    /// Whether the step led to no `debugger` statement, and raised nothing.
+    pub fn is_plain(&self) -> bool
+        ensures { result ≡ is_plain self.now }
+    {
+        !self.debugger && !self.raised.is_some()
+    }
 }

@@ -1,7 +1,7 @@
 //! What a session asks for.
 
-ghost use Rattle.std.specs.Prelude.{◌≡◌};
-ghost use Rattle.stepping.specs.Rules.{no_rules, without_requests};
+ghost use Rattle.std.specs.Prelude.{◌≡◌, ◌||◌, is_some};
+ghost use Rattle.stepping.specs.Rules.{has_request, no_rules, without_requests};
 
 use cdp_text::position::Place;
 
@@ -75,5 +75,19 @@ impl Rules {
         self.pause = false;
         self.step = None;
         self.to = None;
+    }
+
+    /// Whether a pause, a step or a place to run to is asked for.
+    pub fn has_request(&self) -> bool
+        ensures { result ≡ has_request self.now }
+    {
+        self.pause || self.asks_to_go_on()
+    }
+
+    /// Whether a step or a place to run to is asked for.
+    fn asks_to_go_on(&self) -> bool
+        ensures { result ≡ (is_some self.now.step || is_some self.now.to) }
+    {
+        self.step.is_some() || self.to.is_some()
     }
 }

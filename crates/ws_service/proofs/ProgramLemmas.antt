@@ -21,7 +21,7 @@ use Rattle.cdp_host_turns.specs.Turns.{Acts, Finds, Prints, Steps, printed_by}
 use Rattle.cdp_host_turns.specs.declared.state.State.{State}
 use Rattle.cdp_host_turns.specs.declared.state.State.TheVariants as states
 use Rattle.ws_service.specs.Passing.{IsThereFor}
-use Rattle.ws_service.specs.Programs.{AreLeft, AreTurns, Counts, FindsDue, Finishes, GainsLines, HasReason, HasRun, IsDue, IsLast, IsRunOf, OnlyRuns, Output, Writes, end_at, end_in, may_cut, shuts_at}
+use Rattle.ws_service.specs.Programs.{AreLeft, AreTurns, Counts, FindsDue, Finishes, GainsLines, HasReason, HasRun, IsDue, IsGivenUp, IsLast, IsRunOf, OnlyRuns, Output, Writes, end_at, end_in, may_cut, shuts_at}
 use Rattle.ws_service.specs.Shutdowns.{HadNoTicket, ShutsDown, shut_entries}
 use Rattle.ws_service.specs.declared.program.RunEnd.{RunEnd}
 use Rattle.ws_service.specs.declared.program.RunEnd.TheVariants as ends
@@ -318,6 +318,18 @@ turn-run d moment p q old new entry texts end act there left prints found gained
   reason = reason;
   counts = counts;
 }
+
+-- the program was shut before its first turn, if a ticket was left for that
+pub given-up : (d : Debugging) (moment : Option ℕ) (p q : PassState Entry) (out : Output) (end : RunEnd)
+    → p.in_turn ≡ false → IsGivenUp d p q end → HasRun d moment p q out out (Some end)
+given-up d moment p q out end free (None, is, act) =
+    subst (λ (e : RunEnd). HasRun d moment p q out out (Some e)) (sym is)
+    (turn-run d moment p q out out Shut [] (Some (ends.Memory None)) act tt ([], tt, refl)
+    (prints-none d (p.seen ++ act.between)) (inl tt) (gains-same true out.content) tt refl)
+given-up d moment p q out end free (Some unshut, is, none) =
+    subst (λ (z : PassState Entry × RunEnd). HasRun d moment p z.0 out out (Some z.1))
+    (λ i. (sym none.0 i, sym is i))
+    (none-run d moment p out (Some (ends.Memory (Some unshut))) free refl none.1 refl)
 
 -- ---- a turn without steps
 

@@ -7,3 +7,4 @@ pub mod Serving
 pub mod Sessions
 pub mod Shutdowns
 pub mod Visits
+pub mod Works

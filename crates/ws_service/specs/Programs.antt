@@ -179,6 +179,10 @@ pub record HasRun (d : Debugging) (moment : Option ℕ) (p q : PassState Entry) 
   pub reason : HasReason d end q.seen
   pub counts : Counts end old.faults new.faults
 
+-- a run was given up before its first turn: the program was shut, if a ticket was left for that
+abbrev pub IsGivenUp : Debugging → PassState Entry → PassState Entry → RunEnd → Type 0
+IsGivenUp d p q end = (unshut : Option NotShut) × (end ≡ ends.Memory unshut) × ShutsDown d p q unshut
+
 -- texts were written; or not all of them, and the program was shut, if a ticket was left for that
 abbrev pub Puts : Debugging → PassState Entry → PassState Entry → Output → Output → List (List ℕ) → Option RunEnd
     → Type 0

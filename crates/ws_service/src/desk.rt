@@ -2,6 +2,7 @@
 
 ghost use Rattle.std.specs.Prelude.{◌≡◌, ◌<◌, ℕ, length, All, slice_index_or};
 ghost use denote.Param.Send.{IsSync};
+ghost use Rattle.ws_service.specs.Works.{AreDone};
 
 use crate::door::{DoorEnd, serve_door};
 use cdp_edge_server::{Bell, Door};
@@ -10,7 +11,7 @@ use std::sync::Wait;
 use std::thread::{Threads, for_each_mut};
 
 /// Work that a thread does, on what it owns.
-pub trait Work: Send {
+pub trait Work: Send + Drop {
     /// It may begin so.
     ghost can: { Self → Type 0 };
 
@@ -40,6 +41,16 @@ pub fn work_all<W: Work, R: Threads + Wait + Sync>(rt: &R, works: &mut [W])
             ensures { W.does work.entry.now work.exit.now }
         { work.work(rt) },
     );
+}
+
+/// The same of works that are handed over; they come back.
+pub fn all_done<W: Work, R: Threads + Wait + Sync>(rt: &R, mut works: Vec<W>) -> Vec<W>
+    requires some { 0 < length works.items }
+    requires ready { All (λ work. W.can work) works.items }
+    ensures { AreDone W.does works.items result.items }
+{
+    work_all(rt, works.as_mut_slice());
+    works
 }
 
 /// A worker: a pass of the lock, which serves a door, and how that ended, if it has.

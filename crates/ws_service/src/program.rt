@@ -3,7 +3,7 @@
 ghost use Rattle.std.specs.Prelude.{◌≡◌, List, Some, false};
 ghost use Rattle.cdp_host_isolation.specs.Histories.{Entry as AnyEntry};
 ghost use Rattle.ws_service.specs.Passing.{Goes};
-ghost use Rattle.ws_service.specs.Programs.{AreLeft, Counts, FindsDue, Finishes, HasReason, HasRun, Puts, Writes, end_at, end_in, may_cut};
+ghost use Rattle.ws_service.specs.Programs.{AreLeft, Counts, FindsDue, Finishes, HasReason, HasRun, IsGivenUp, Puts, Writes, end_at, end_in, may_cut};
 
 use crate::shutdown::{NotShut, shut_down};
 use cdp_edge::{Sink, SinkFault};
@@ -36,7 +36,8 @@ pub enum RunEnd {
         /// The ticket word.
         ticket: u64,
     },
-    /// No memory was left for the lines that the program printed. It was shut, if a ticket was left for that.
+    /// No memory was left for the lines that the program printed, or for a thread beside its run. It was shut, if a
+    /// ticket was left for that.
     Memory {
         /// Why the program was not shut, if it wasn't.
         unshut: Option<NotShut>,
@@ -169,4 +170,20 @@ pub fn run_program<H: Hosted<B>, B, D: Bell, O: Sink, C: Clock, R: Wait>(
         }
     }
     unreachable!()
+}
+
+/// Gives a run up before its first turn, where there is no memory for a thread beside it. The program is shut.
+pub(crate) fn give_up_program<H: Hosted<B>, B, D: Bell, R: Wait>(
+    rt: &R,
+    lock: &Lock<H, B>,
+    bell: &D,
+    p: &mut Worker<H, B>,
+) -> RunEnd
+    requires lock { p.old.lock ≡ lock.now }
+    requires free { p.old.in_turn ≡ false }
+    ensures { IsGivenUp H.debugs p.old p.new result }
+{
+    RunEnd::Memory {
+        unshut: shut_down(rt, lock, bell, p),
+    }
 }

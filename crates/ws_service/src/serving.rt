@@ -18,8 +18,10 @@ use std::alloc::Global;
 use std::sync::Wait;
 use std::thread::Threads;
 
-/// Runs the program to its end, and serves all doors beside it.
+/// Runs the program to its end, and serves all doors beside it, whose desks come back.
 fn serve_desks<
+    'l,
+    'b,
     H: Hosted<B> + Send,
     B: Send + Sync,
     D: Bell + Sync,
@@ -33,30 +35,30 @@ fn serve_desks<
     runner: &mut Runner<'_, '_, H, B, D>,
     out: &mut S,
     clock: &mut C,
-    desks: &mut [Desk<'_, '_, H, B, D, O>],
-) -> RunEnd
+    desks: Vec<Desk<'l, 'b, H, B, D, O>>,
+) -> (RunEnd, Vec<Desk<'l, 'b, H, B, D, O>>)
 where
     O::Link: Send,
     requires runner { (runner.old.pass.lock ≡ runner.old.lock.now) × (runner.old.pass.in_turn ≡ false) }
-    requires some { 0 < length desks.old }
-    requires lock { All (λ desk. desk.lock.now ≡ runner.old.lock.now) desks.old }
+    requires some { 0 < length desks.items }
+    requires lock { All (λ desk. desk.lock.now ≡ runner.old.lock.now) desks.items }
     requires desks { All (λ desk. IsAtFirst runner.old.lock.now desk.pass (record {
       faults = O.faults desk.door;
       asked = O.asked desk.door;
       served = O.served desk.door;
       is_out = O.is_out desk.door;
-    })) desks.old }
-    ensures runs { HasRun H.debugs (C.moment clock.old) runner.old.pass runner.new.pass (record { content = S.content out.old; faults = S.faults out.old }) (record { content = S.content out.new; faults = S.faults out.new }) (Some result) }
+    })) desks.items }
+    ensures runs { HasRun H.debugs (C.moment clock.old) runner.old.pass runner.new.pass (record { content = S.content out.old; faults = S.faults out.old }) (record { content = S.content out.new; faults = S.faults out.new }) (Some result.0) }
     ensures lock { runner.new.lock.now ≡ runner.old.lock.now }
-    ensures length { length desks.new ≡ length desks.old }
-    ensures numbers { map (λ desk. desk.pass.number) desks.new ≡ map (λ desk. desk.pass.number) desks.old }
-    ensures locks { All (λ desk. desk.pass.lock ≡ runner.old.lock.now) desks.new }
+    ensures length { length result.1.items ≡ length desks.entry.items }
+    ensures numbers { map (λ desk. desk.pass.number) result.1.items ≡ map (λ desk. desk.pass.number) desks.entry.items }
+    ensures locks { All (λ desk. desk.pass.lock ≡ runner.old.lock.now) result.1.items }
     ensures served { All (λ desk. HasServed H.debugs desk.pass (record {
       faults = O.faults desk.door;
       asked = O.asked desk.door;
       served = O.served desk.door;
       is_out = O.is_out desk.door;
-    }) desk.end) desks.new }
+    }) desk.end) result.1.items }
 {
     run_beside(rt, alloc, runner, out, clock, desks)
 }
@@ -77,7 +79,7 @@ pub fn serve_all<
     runner: &mut Runner<'_, '_, H, B, D>,
     out: &mut S,
     clock: &mut C,
-    mut desks: Vec<Desk<'_, '_, H, B, D, O>>,
+    desks: Vec<Desk<'_, '_, H, B, D, O>>,
     doors: &mut Vec<O>,
 ) -> Ends
 where
@@ -105,7 +107,7 @@ where
     ensures lock { runner.new.lock.now ≡ runner.old.lock.now }
     ensures last { IsLastPass runner.old.lock.now (length desks.entry.items) runner.new.pass }
 {
-    let run = serve_desks(rt, alloc, runner, out, clock, desks.as_mut_slice());
-    let ended = join_all(runner.lock, &mut runner.pass, desks, doors);
+    let (run, served) = serve_desks(rt, alloc, runner, out, clock, desks);
+    let ended = join_all(runner.lock, &mut runner.pass, served, doors);
     Ends { run, doors: ended }
 }

@@ -6,6 +6,7 @@ use Rattle.js_machine.specs.Machines.{IsKept}
 use Rattle.cdp_host.specs.Hosts.{machine_step}
 use Rattle.cdp_host.specs.Protocols.{protocol}
 use Rattle.cdp_host.proofs.AdvanceLemmas.{advance-made}
+use Rattle.cdp_host.proofs.KeepingLemmas.{stepped-indexed}
 use Rattle.cdp_host.proofs.PartLemmas.{HasRun, advance-printed, has-advanced, has-printed}
 use Rattle.cdp_host.proofs.advance.make_stretch.Goals as goal
 
@@ -93,3 +94,12 @@ returns-clause-fit c =
     (machine_step c.args.scripts.now c.take_printed.new.self c.run_until-steps.new.world values c.args.first)
     c.args.seats.now c.watch_machine-stopped.new.seats c.watch_machine-stopped.new.named
     c.watch_machine-stopped.ensures.behind).2
+
+pub returns-clause-indexed : goal.returns-clause-indexed
+returns-clause-indexed c =
+    let values = option_map (λ vs. vs.items) c.printed_values-values.result in
+    stepped-indexed c.args.scripts.now (is_some c.watch_machine-stopped.result) c.next_number-number.result c.args.moment
+    (machine_step c.args.scripts.now c.take_printed.new.self c.run_until-steps.new.world values c.args.first)
+    c.args.seats.now c.watch_machine-stopped.new.seats c.watch_machine-stopped.new.named
+    c.args.index.now c.forget_lost.new.index
+    c.watch_machine-stopped.ensures.behind c.forget_lost.ensures c.requires.indexed

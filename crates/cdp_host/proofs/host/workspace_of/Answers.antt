@@ -7,5 +7,5 @@ pub returns : goal.returns
 returns c =
     IfOk-weaker c.start.result _ _
     (λ w is. code-begun c.args.scripts.now (terms_view c.in_ok-terms.terms) (terms_view c.in_ok-placed.placed)
-    w c.in_ok-terms.ensures c.in_ok-placed.ensures is)
-    c.start.ensures
+    w.workspace c.in_ok-terms.ensures c.in_ok-placed.ensures is)
+    c.start.ensures.workspace

@@ -1,20 +1,14 @@
-use Rattle.std.proofs.Common.{rules, ◌≡◌, ℕ, ◌++◌, length, map, sym, ap, ◌∙◌}
-use Rattle.std.proofs.Math.Seq.{take-append_seam}
-use Rattle.std.proofs.lemmas.List.Elements.{All-same}
+use Rattle.std.proofs.Common.{rules, ◌++◌, length, map, sym, ap, ◌∙◌}
 use mathlib.Core.List.{map-map}
-use lib.ListN.{take, drop}
 use Rattle.ws_service.specs.Serving.{ServedDoor}
 use Rattle.ws_service.proofs.ServingLemmas.{answers-last, last-named, serving}
 use Rattle.ws_service.proofs.serving.serve_all.Goals as goal
 
 pub join_all-ended-requires-clause-lock : goal.join_all-ended-requires-clause-lock
 join_all-ended-requires-clause-lock g c =
-    let e = c.serve_desks-run.ensures in
-    let news = c.serve_desks-run.new.desks in
-    let many : c.args.desks.len ≡ length news = search rules in
-    let same = ap (λ (n : ℕ). take n (news ++ drop (length news) c.args.desks.items)) many ∙ take-append_seam news (drop (length news) c.args.desks.items) in (
+    let e = c.serve_desks-run.ensures in (
       e.runs.goes.same.0 ∙ ap (λ p. p.lock) c.requires.runner ∙ sym e.lock,
-      All-same (λ desk. desk.pass.lock ≡ c.serve_desks-run.new.runner.lock.now) _ news same (λ k desk within. e.locks k desk within ∙ sym e.lock),
+      λ k desk within. e.locks k desk within ∙ sym e.lock,
     )
 
 pub returns-clause-last : goal.returns-clause-last
@@ -22,10 +16,7 @@ returns-clause-last g c =
     let e = c.serve_desks-run.ensures in
     let j = c.join_all-ended.ensures in
     let n = length c.args.desks.items in
-    let news = c.serve_desks-run.new.desks in
-    let many : c.args.desks.len ≡ length news = search rules in
-    let same = ap (λ (n : ℕ). take n (news ++ drop (length news) c.args.desks.items)) many ∙ take-append_seam news (drop (length news) c.args.desks.items) in
-    let below = ap (map (λ desk. desk.pass.number)) same ∙ e.numbers ∙ ap (map (λ desk. desk.pass.number)) c.as_mut_slice.ensures.value ∙ c.requires.numbers in
+    let below = e.numbers ∙ c.requires.numbers in
     let some = c.join_all-ended.ensures.only in
     let all = answers-last c.args.runner.now.lock.now n c.args.runner.now.pass c.serve_desks-run.new.runner.pass c.join_all-ended.new.p _ c.requires.runner e.runs.goes.same below j.whole j.same.3 (some (search rules)) in (
       j.same.0 ∙ e.runs.goes.same.0 ∙ ap (λ p. p.lock) c.requires.runner,
@@ -43,17 +34,14 @@ returns-clause-serves g c =
     let p = c.args.runner.now.pass in
     let m = c.serve_desks-run.new.runner.pass in
     let q = c.join_all-ended.new.p in
-    let news = c.serve_desks-run.new.desks in
-    let many : c.args.desks.len ≡ length news = search rules in
-    let same = ap (λ (n : ℕ). take n (news ++ drop (length news) c.args.desks.items)) many ∙ take-append_seam news (drop (length news) c.args.desks.items) in
-    let ds = take c.args.desks.len (news ++ drop (length news) c.args.desks.items) in
-    let below = ap (map (λ desk. desk.pass.number)) same ∙ e.numbers ∙ ap (map (λ desk. desk.pass.number)) c.as_mut_slice.ensures.value ∙ c.requires.numbers in
+    let ds = c.serve_desks-run.result.1.items in
+    let below = e.numbers ∙ c.requires.numbers in
     let all = answers-last c.args.runner.now.lock.now n p m q _ c.requires.runner e.runs.goes.same below j.whole j.same.3 (j.only (search rules)) in (
       _,
       serving g.H.Hosted.debugs n (g.C.Clock.moment c.args.clock.now) p m q.seen
           (record { content = g.S.Sink.content c.args.out.now; faults = g.S.Sink.faults c.args.out.now })
           (record { content = g.S.Sink.content c.serve_desks-run.new.out; faults = g.S.Sink.faults c.serve_desks-run.new.out })
-          c.serve_desks-run.result (λ desk. desk.pass.number)
+          c.serve_desks-run.result.0 (λ desk. desk.pass.number)
           (λ desk. record {
             faults = g.O.Door.faults desk.door;
             asked = g.O.Door.asked desk.door;

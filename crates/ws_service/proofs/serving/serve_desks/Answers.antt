@@ -5,16 +5,18 @@ use Rattle.ws_service.proofs.serving.serve_desks.Goals as goal
 
 pub returns-clause-served : goal.returns-clause-served
 returns-clause-served g c = λ k desk within.
-    let before : k < length c.args.desks.now = subst (λ (n : ℕ). k < n) c.run_beside.ensures.length within in
+    let olds = c.args.desks.items in
+    let e = c.run_beside.ensures.works in
+    let before : k < length olds = subst (λ (n : ℕ). k < n) e.0 within in
     let first = c.requires.desks k desk before in
-    let done = c.run_beside.ensures.works k desk before in
+    let done = e.1 k desk before in
     record {
-      first = (slice_index_or c.args.desks.now k desk).pass;
+      first = (slice_index_or olds k desk).pass;
       unasked = _;
       end = done.0;
       tended = done.2;
       unstarted =
-          subst (λ lock. IsUnstarted lock (slice_index_or c.args.desks.now k desk).pass)
+          subst (λ lock. IsUnstarted lock (slice_index_or olds k desk).pass)
           (sym (done.2.tends.goes.same.0 ∙ first.pass.lock_is)) first.pass;
       is_new = first.is_new;
       is_end = done.1;
@@ -22,10 +24,12 @@ returns-clause-served g c = λ k desk within.
 
 pub returns-clause-numbers : goal.returns-clause-numbers
 returns-clause-numbers g c =
-    alike (λ desk. desk.pass.number) c.args.desks.now c.run_beside.new.works c.run_beside.ensures.length
-    (λ k desk before. (c.run_beside.ensures.works k desk before).2.tends.goes.same.1)
+    let e = c.run_beside.ensures.works in
+    alike (λ desk. desk.pass.number) c.args.desks.items c.run_beside.result.1.items e.0
+    (λ k desk before. (e.1 k desk before).2.tends.goes.same.1)
 
 pub returns-clause-locks : goal.returns-clause-locks
 returns-clause-locks g c = λ k desk within.
-    let before : k < length c.args.desks.now = subst (λ (n : ℕ). k < n) c.run_beside.ensures.length within in
-    (c.run_beside.ensures.works k desk before).2.tends.goes.same.0 ∙ (c.requires.desks k desk before).pass.lock_is
+    let e = c.run_beside.ensures.works in
+    let before : k < length c.args.desks.items = subst (λ (n : ℕ). k < n) e.0 within in
+    (e.1 k desk before).2.tends.goes.same.0 ∙ (c.requires.desks k desk before).pass.lock_is

@@ -1,11 +1,13 @@
-use Rattle.std.proofs.Common.{◌≡◌, [], ◌++◌, refl, ap, ◌∙◌, arith}
+use Rattle.std.proofs.Common.{◌≡◌, [], ◌++◌, refl, ap, sym, subst, ◌∙◌, arith}
 use Rattle.std.specs.Vec.{with_items}
 use Rattle.std.proofs.lemmas.List.{with_items_is}
 use Rattle.cdp_host_isolation.specs.Seats.{is_attached, some, waits_for_report}
 use Rattle.cdp_host.specs.Hosts.{NoneAttached, machine_run, meaning_with}
+use Rattle.cdp_host.specs.Indexing.{IsIndexOf}
 use Rattle.cdp_host.specs.Programs.{is_over}
 use Rattle.cdp_host.specs.Protocols.{protocol}
 use Rattle.cdp_host.proofs.AdvanceLemmas.{free-told, ready-parts}
+use Rattle.cdp_host.proofs.IndexLemmas.{gone-indexed}
 use Rattle.cdp_host.proofs.PartLemmas.{still-going}
 use Rattle.cdp_host.proofs.RunLemmas.{advanced, gone-fit}
 use Rattle.cdp_host.proofs.host.Host.advance.Goals as goal
@@ -27,6 +29,10 @@ make_stretch-requires-clause-all_told c =
     ∙ ap (λ h. some waits_for_report h.meaning.seats) c.self.view_is
     ∙ free-told now (ready-parts c.args.self.now.scripts now (c.requires.ready [])).0
 
+pub make_stretch-requires-clause-indexed : goal.make_stretch-requires-clause-indexed
+make_stretch-requires-clause-indexed c =
+    subst (λ seats. IsIndexOf seats c.self.inside.index) (sym c.as_mut_slice.ensures.value) c.self.invariant.indexed
+
 pub invariant_of-self-in-Err : goal.invariant_of-self-in-Err
 invariant_of-self-in-Err c =
     let a = c.self.inside in
@@ -42,6 +48,7 @@ invariant_of-self-in-Err c =
       room = λ works. absurd cc;
       alone = λ _. none;
       gone = ap (λ ss. some is_attached ss) c.restore.ensures.gone;
+      indexed = gone-indexed c.restore.new.seats.items c.new-in-Err.result none c.new-in-Err.ensures;
       fit = gone-fit (protocol a.scripts.now) c.restore.new.seats.items none;
     }
 

@@ -5,9 +5,10 @@ use Rattle.cdp_session.specs.Replies.{AnsweredText, answer_of}
 use Rattle.cdp_session.specs.Sessions.{Session}
 use Rattle.cdp_session.specs.Situations.{Situation}
 use Rattle.cdp_host.specs.Hosts.{AreLines, HostState, machine_standing, parts_standing}
+use Rattle.cdp_host.specs.Indexing.{IsIndexedAs}
 use Rattle.cdp_host.specs.Protocols.{situation}
 use Rattle.cdp_host.specs.Watching.{AnswersIn}
-use Rattle.cdp_host.proofs.CallLemmas.{answer-fit, answers-back, sound-seats, whose, works-at}
+use Rattle.cdp_host.proofs.CallLemmas.{answer-fit, answer-indexed, answers-back, sound-seats, whose, works-at}
 use Rattle.cdp_host.proofs.ViewLemmas.{seen_as}
 use Rattle.cdp_host.proofs.host.Host.answer.Goals as goal
 
@@ -28,6 +29,8 @@ invariant_of-self c =
     let held : is_attached (seat_of c.args.s a.seats.items) ≡ true = subst
     (λ o. is_attached (seat_of c.args.s o.meaning.seats) ≡ true) (sym c.self.view_is) c.requires in
     let it = whose (seat_of c.args.s a.seats.items) held in
+    let there : seat_of c.args.s c.as_mut_slice.result.now ≡ Attached it.0 =
+    ap (seat_of c.args.s) c.as_mut_slice.ensures.value ∙ it.1 in
     let rest = drop (length c.answer.new.seats) a.seats.items in
     let answer : AnsweredText = answer_of
     (record { scripts = a.scripts.now; paused = a.stop; standing = machine_standing a.scripts.now a.machine a.heap })
@@ -36,7 +39,7 @@ invariant_of-self c =
     AnswersIn c.answer.result (answer_of seen it.0 c.args.text.now) c.args.s c.as_mut_slice.result.now
     c.answer.new.seats in
     sound-seats a.scripts.now a.lines.items a.spots a.machine a.broken a.seats.items
-    (take a.seats.len (c.answer.new.seats ++ rest)) a.seats.len a.fallback a.fallen.items
+    (take a.seats.len (c.answer.new.seats ++ rest)) a.seats.len a.index c.answer.new.index a.fallback a.fallen.items
     c.self.invariant
     (works-at c.args.s a.broken a.seats.items c.self.invariant.alone held)
     (answer-fit a.scripts.now c.answer.result answer c.args.s a.seats.items
@@ -45,8 +48,14 @@ invariant_of-self c =
     a.seats.len c.args.s a.seats.items c.as_mut_slice.result.now c.answer.new.seats rest
     c.as_mut_slice.ensures.value (sym c.as_mut_slice.ensures.len)
     (subst B c.situation_of-situation.ensures.seen
-    (c.answer.ensures it.0 (ap (seat_of c.args.s) c.as_mut_slice.ensures.value ∙ it.1))))
+    (c.answer.ensures.answers it.0 there)))
     c.self.invariant.fit)
+    (answer-indexed c.answer.result answer a.seats.len c.args.s a.seats.items c.as_mut_slice.result.now
+    c.answer.new.seats rest a.index c.answer.new.index c.as_mut_slice.ensures.value (sym c.as_mut_slice.ensures.len)
+    (subst B c.situation_of-situation.ensures.seen (c.answer.ensures.answers it.0 there))
+    (c.answer.ensures.indexed it.0 there
+    (subst (λ seat. IsIndexedAs c.args.s seat a.index) it.1 (c.self.invariant.indexed.exact c.args.s)))
+    c.answer.ensures.others c.self.invariant.indexed)
 
 pub returns-clause-answers : goal.returns-clause-answers
 returns-clause-answers c =
@@ -70,7 +79,7 @@ returns-clause-answers c =
     a.seats.len c.args.s a.seats.items c.as_mut_slice.result.now c.answer.new.seats rest
     c.as_mut_slice.ensures.value (sym c.as_mut_slice.ensures.len)
     (subst B c.situation_of-situation.ensures.seen
-    (c.answer.ensures x (ap (seat_of c.args.s) c.as_mut_slice.ensures.value ∙ is))) in
+    (c.answer.ensures.answers x (ap (seat_of c.args.s) c.as_mut_slice.ensures.value ∙ is))) in
     subst A c.self.view_is here
 
 pub returns-clause-works : goal.returns-clause-works

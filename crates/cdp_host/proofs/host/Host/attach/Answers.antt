@@ -5,6 +5,7 @@ use Rattle.cdp_session.specs.Sessions.{Session, fresh}
 use Rattle.cdp_host_seats.specs.Fallbacks.{Fallback, HasRoom}
 use Rattle.cdp_host.specs.Hosts.{HostState, Leaves}
 use Rattle.cdp_host.proofs.CallLemmas.{attach-fit, attach-leaves, attach-stands, sound-more}
+use Rattle.cdp_host.proofs.IndexLemmas.{attached-indexed}
 use Rattle.cdp_host.proofs.ViewLemmas.{seen_as}
 use Rattle.cdp_host.proofs.host.Host.attach.Goals as goal
 
@@ -37,10 +38,12 @@ invariant_of-self-2 c =
     let a = c.self.inside in
     let P : ℕ → Type 0 = λ n. HasRoom n c.reserve.new.self in
     sound-more a.scripts.now a.lines.items a.spots a.machine a.broken a.seats.items c.push.new.self.items
-    a.seats.len c.push.new.self.len
+    a.seats.len c.push.new.self.len a.index a.index
     a.fallback c.reserve.new.self a.fallen.items c.self.invariant c.if-self.false
     (attach-fit a.scripts.now c.new-session.result _ _ a.seats.items c.push.new.self.items c.new-session.ensures
     c.in_ok-push.ensures.items c.self.invariant.fit)
+    (attached-indexed c.new-session.result a.seats.items c.push.new.self.items a.index
+    (ap (λ x. x.breakpoints.set) c.new-session.ensures) c.in_ok-push.ensures.items c.self.invariant.indexed)
     (subst P (ap (λ n. n + 1) c.len.ensures ∙ sym c.in_ok-push.ensures.len) c.in_ok-reserve.ensures.room)
     c.in_ok-reserve.ensures.same
 
@@ -55,7 +58,7 @@ returns-clause-leaves c =
     subst P (sym c.in_ok-reserve.ensures.same)
     (attach-leaves h c.args.self.now c.push.new.self.items c.new-session.result c.self.view_is
     (c.new-session.ensures
-    ∙ ap (λ n. f (n + 1) c.in_ok-workspace.workspace)
+    ∙ ap (λ n. f (n + 1) c.in_ok-workspace.workspace.workspace)
     (c.sessions-number.ensures ∙ sym (ap (λ o. length o.meaning.seats) c.self.view_is))
     ∙ ap (f (length a.seats.items + 1))
     c.in_ok-workspace.ensures)

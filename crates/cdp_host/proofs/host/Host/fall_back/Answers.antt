@@ -2,6 +2,7 @@ use Rattle.std.proofs.Common.{ap, ◌∙◌}
 use Rattle.cdp_host_isolation.specs.Seats.{is_attached, some}
 use Rattle.cdp_host.specs.Hosts.{NoneAttached}
 use Rattle.cdp_host.specs.Protocols.{protocol}
+use Rattle.cdp_host.proofs.IndexLemmas.{gone-indexed}
 use Rattle.cdp_host.proofs.RunLemmas.{gone-fit}
 use Rattle.cdp_host.proofs.host.Host.fall_back.Goals as goal
 
@@ -20,5 +21,6 @@ invariant_of-self c =
       room = λ works. absurd cc;
       alone = λ _. none;
       gone = ap (λ ss. some is_attached ss) c.restore.ensures.gone;
+      indexed = gone-indexed c.restore.new.seats.items c.new.result none c.new.ensures;
       fit = gone-fit (protocol a.scripts.now) c.restore.new.seats.items none;
     }

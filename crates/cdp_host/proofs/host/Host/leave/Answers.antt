@@ -3,8 +3,10 @@ use Rattle.cdp_host_isolation.specs.Seats.{is_attached, put, seat_of}
 use Rattle.cdp_host_isolation.specs.declared.seat.Seat.TheVariants.{Left}
 use Rattle.cdp_host_seats.proofs.PlacedLemmas.{put-back}
 use Rattle.cdp_host.specs.Hosts.{HostState}
+use Rattle.cdp_host.specs.Indexing.{IsIndexOf}
 use Rattle.cdp_host.specs.Protocols.{protocol}
 use Rattle.cdp_host.proofs.CallLemmas.{sound-seats, whose, works-at}
+use Rattle.cdp_host.proofs.IndexLemmas.{left-indexed}
 use Rattle.cdp_host.proofs.LeaveLemmas.{OnlySeats, leaves-left, stays-same}
 use Rattle.cdp_host_isolation.specs.Runs.{AllFit}
 use Rattle.cdp_host.proofs.ViewLemmas.{seen_as}
@@ -24,10 +26,12 @@ invariant_of-self c =
     put-back a.seats.len c.args.s Left a.seats.items news rest
     (sym c.as_mut_slice.ensures.len ∙ ap length c.as_mut_slice.ensures.value)
     (c.leave.ensures ∙ ap (put c.args.s Left) c.as_mut_slice.ensures.value) in
-    sound-seats a.scripts.now a.lines.items a.spots a.machine a.broken a.seats.items w a.seats.len a.fallback
+    sound-seats a.scripts.now a.lines.items a.spots a.machine a.broken a.seats.items w a.seats.len a.index
+    c.forget.new.self a.fallback
     a.fallen.items
     c.self.invariant (works-at c.args.s a.broken a.seats.items c.self.invariant.alone held)
     (subst (AllFit P) (sym back) (put-fits P c.args.s Left a.seats.items tt c.self.invariant.fit))
+    (subst (IsIndexOf w) (sym c.forget.ensures) (left-indexed c.args.s a.seats.items w a.index back c.self.invariant.indexed))
 
 pub settle-requires : goal.settle-requires
 settle-requires c =

@@ -19,5 +19,6 @@ invariant_of-self c =
       room = λ works. wider-room a.seats.len a.fallback c.prepare.new.self (was.room works) now.seats now.losses;
       alone = was.alone;
       gone = ap (λ f. some is_attached f.seats) now.made ∙ broken-alone c.as_slice.result.now;
+      indexed = was.indexed;
       fit = was.fit;
     }

@@ -6,6 +6,7 @@ use Rattle.cdp_host_isolation.specs.Seats.{each, reported, some, waits_for_repor
 use Rattle.cdp_host_isolation.specs.Standing.{fallen_in}
 use Rattle.cdp_host_seats.specs.Losses.{losses_from}
 use Rattle.cdp_host.specs.Protocols.{protocol}
+use Rattle.cdp_host.proofs.IndexLemmas.{reported-indexed}
 use Rattle.cdp_host.proofs.RunLemmas.{reported-fit, reported-none, settled-as}
 use Rattle.cdp_host.proofs.host.Host.report.Goals as goal
 
@@ -26,6 +27,9 @@ invariant_of-self c =
       room = c.self.invariant.room;
       alone = λ fails. absurd cc;
       gone = c.self.invariant.gone;
+      indexed =
+          reported-indexed a.seats.items (with_items a.seats c.report_all.new.seats).items a.index seats
+          c.self.invariant.indexed;
       fit =
           subst (λ ss. AllFit (protocol a.scripts.now) ss) (sym seats)
           (reported-fit (protocol a.scripts.now) a.seats.items c.self.invariant.fit);

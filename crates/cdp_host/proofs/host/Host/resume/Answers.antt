@@ -7,8 +7,10 @@ use Rattle.cdp_host_isolation.proofs.PassLemmas.{on-each}
 use Rattle.cdp_host_isolation.proofs.PassLoops.{over-all-length}
 use Rattle.cdp_host_seats.proofs.PlacedLemmas.{given-back}
 use Rattle.cdp_host.specs.Hosts.{HostState, meaning_with}
+use Rattle.cdp_host.specs.Indexing.{ForgetsLost}
 use Rattle.cdp_host.specs.Protocols.{protocol}
 use Rattle.cdp_host.proofs.CallLemmas.{sound-seats}
+use Rattle.cdp_host.proofs.KeepingLemmas.{resumed-indexed}
 use Rattle.cdp_host.proofs.LeaveLemmas.{resumed-is, unresumed-is}
 use Rattle.cdp_host.proofs.ViewLemmas.{seen_as}
 use Rattle.cdp_host.proofs.host.Host.resume.Goals as goal
@@ -23,10 +25,17 @@ invariant_of-self c =
     (sym c.as_mut_slice.ensures.len
     ∙ sym (over-all-length (HearsOn P) c.as_mut_slice.result.now news (c.resume_all.ensures a.scripts.now)))
     in
+    let w = take a.seats.len (news ++ rest) in
+    let over = subst (λ ss. OverAll (HearsOn P) a.seats.items ss) (sym back)
+    (subst (λ ss. OverAll (HearsOn P) ss news) c.as_mut_slice.ensures.value (c.resume_all.ensures a.scripts.now))
+    in
     sound-seats a.scripts.now a.lines.items a.spots a.machine a.broken a.seats.items
-    (take a.seats.len (news ++ rest)) a.seats.len a.fallback a.fallen.items
+    w a.seats.len a.index c.forget_lost.new.index a.fallback a.fallen.items
     c.self.invariant (ap (λ h. h.broken) c.self.view_is ∙ c.requires)
     (subst (AllFit P) (sym back) (on-each P c.as_mut_slice.result.now news (c.resume_all.ensures a.scripts.now)).1)
+    (resumed-indexed a.scripts.now a.seats.items w a.index c.forget_lost.new.index over
+    (subst (λ ss. ForgetsLost ss a.index c.forget_lost.new.index) c.as_slice.ensures.value c.forget_lost.ensures)
+    c.self.invariant.indexed)
 
 pub returns-then-is_some-clause-means : goal.returns-then-is_some-clause-means
 returns-then-is_some-clause-means c =

@@ -6,6 +6,7 @@ use Rattle.cdp_host_seats.specs.Losses.{owner_told}
 use Rattle.cdp_host_seats.proofs.PlacedLemmas.{put-back}
 use Rattle.cdp_host.specs.Hosts.{CarriesOn, HostState, NoneAttached}
 use Rattle.cdp_host.specs.Protocols.{protocol}
+use Rattle.cdp_host.proofs.IndexLemmas.{put-indexed, told-stands}
 use Rattle.cdp_host.proofs.LossLemmas.{loss-stands, put-gone, told-fits, told-gone}
 use Rattle.cdp_host.proofs.ViewLemmas.{seen_as}
 use Rattle.cdp_host.proofs.host.Host.tell_loss.Goals as goal
@@ -34,6 +35,9 @@ invariant_of-self c =
       quiet = c.self.invariant.quiet;
       room = c.self.invariant.room;
       gone = c.self.invariant.gone;
+      indexed =
+          put-indexed s (owner_told (seat_of s a.seats.items)) a.seats.items w a.index
+          (λ place. told-stands place (seat_of s a.seats.items)) back c.self.invariant.indexed;
       alone =
           λ fails. subst NoneAttached (sym back)
           (put-gone s (owner_told (seat_of s a.seats.items)) a.seats.items

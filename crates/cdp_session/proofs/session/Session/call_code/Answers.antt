@@ -19,13 +19,13 @@ returns-clause-made g c =
     let e = expression_source f.tree in
     let arguments = arguments_of c.args.arguments.now in
     let a = definition x.workspace.program s.standing.world x.workspace.scratch f c.args.receiver arguments in
-    let n = c.call-end.new.self in
+    let n = c.call-end.new.self.workspace in
     let result = c.answer_evaluation.result in
     let new = c.answer_evaluation.new.self in
     let to = called-from s.standing.world x.workspace c.args.receiver arguments f c.next_address-at.result
-    c.in_ok-prepared.prepared c.call-end.result c.in_ok-opened.opened n c.in_ok-opened.ensures.opened
-    c.next_address-at.ensures c.in_ok-prepared.ensures c.call-end.ensures in
-    made-answer s x c.args.showing.now e a c.call-end.result c.in_ok-opened.opened n result new
+    c.in_ok-prepared.prepared c.call-end.result c.in_ok-opened.opened.workspace n c.in_ok-opened.ensures.opened
+    c.next_address-at.ensures c.in_ok-prepared.ensures c.call-end.ensures.answer in
+    made-answer s x c.args.showing.now e a c.call-end.result c.in_ok-opened.opened.workspace n result new
     c.in_ok-opened.ensures.opened
     (sym c.is_memory.ensures ∙ c.if-is_memory.false) to
     (λ world from.
@@ -41,11 +41,11 @@ returns-clause-kept g c =
     let e = expression_source f.tree in
     let arguments = arguments_of c.args.arguments.now in
     let a = definition x.workspace.program s.standing.world x.workspace.scratch f c.args.receiver arguments in
-    let n = c.call-end.new.self in
+    let n = c.call-end.new.self.workspace in
     let to = called-from s.standing.world x.workspace c.args.receiver arguments f c.next_address-at.result
-    c.in_ok-prepared.prepared c.call-end.result c.in_ok-opened.opened n c.in_ok-opened.ensures.opened
-    c.next_address-at.ensures c.in_ok-prepared.ensures c.call-end.ensures in
-    kept-answer x s.standing.world e a c.call-end.result c.in_ok-opened.opened n c.answer_evaluation.result
+    c.in_ok-prepared.prepared c.call-end.result c.in_ok-opened.opened.workspace n c.in_ok-opened.ensures.opened
+    c.next_address-at.ensures c.in_ok-prepared.ensures c.call-end.ensures.answer in
+    kept-answer x s.standing.world e a c.call-end.result c.in_ok-opened.opened.workspace n c.answer_evaluation.result
     c.answer_evaluation.new.self c.in_ok-opened.ensures.opened
     (sym c.is_memory.ensures ∙ c.if-is_memory.false) to
     (subst (λ u. KeepsIfRefused c.answer_evaluation.result (with_workspace n.before u) c.answer_evaluation.new.self)

@@ -16,13 +16,13 @@ returns-clause-made g c =
     let ex = c.args.expression.now in
     let e = expression_source ex.tree in
     let a = definition x.workspace.program s.standing.world x.workspace.scratch c.args.scope c.args.receiver ex in
-    let n = c.evaluate-end.new.self in
+    let n = c.evaluate-end.new.self.workspace in
     let result = c.answer_evaluation.result in
     let new = c.answer_evaluation.new.self in
     let to = evaluated-from s.standing.world x.workspace c.args.scope c.args.receiver ex c.next_address-at.result
-    c.in_ok-prepared.prepared c.evaluate-end.result c.in_ok-opened.opened n c.in_ok-opened.ensures.opened
-    c.next_address-at.ensures c.in_ok-prepared.ensures c.evaluate-end.ensures in
-    made-answer s x c.args.showing.now e a c.evaluate-end.result c.in_ok-opened.opened n result new
+    c.in_ok-prepared.prepared c.evaluate-end.result c.in_ok-opened.opened.workspace n c.in_ok-opened.ensures.opened
+    c.next_address-at.ensures c.in_ok-prepared.ensures c.evaluate-end.ensures.answer in
+    made-answer s x c.args.showing.now e a c.evaluate-end.result c.in_ok-opened.opened.workspace n result new
     c.in_ok-opened.ensures.opened
     (sym c.is_memory.ensures ∙ c.if-is_memory.false) to
     (λ world from.
@@ -37,11 +37,12 @@ returns-clause-kept g c =
     let ex = c.args.expression.now in
     let e = expression_source ex.tree in
     let a = definition x.workspace.program s.standing.world x.workspace.scratch c.args.scope c.args.receiver ex in
-    let n = c.evaluate-end.new.self in
+    let n = c.evaluate-end.new.self.workspace in
     let to = evaluated-from s.standing.world x.workspace c.args.scope c.args.receiver ex c.next_address-at.result
-    c.in_ok-prepared.prepared c.evaluate-end.result c.in_ok-opened.opened n c.in_ok-opened.ensures.opened
-    c.next_address-at.ensures c.in_ok-prepared.ensures c.evaluate-end.ensures in
-    kept-answer x s.standing.world e a c.evaluate-end.result c.in_ok-opened.opened n c.answer_evaluation.result
+    c.in_ok-prepared.prepared c.evaluate-end.result c.in_ok-opened.opened.workspace n c.in_ok-opened.ensures.opened
+    c.next_address-at.ensures c.in_ok-prepared.ensures c.evaluate-end.ensures.answer in
+    kept-answer x s.standing.world e a c.evaluate-end.result c.in_ok-opened.opened.workspace n
+    c.answer_evaluation.result
     c.answer_evaluation.new.self c.in_ok-opened.ensures.opened
     (sym c.is_memory.ensures ∙ c.if-is_memory.false) to
     (subst (λ u. KeepsIfRefused c.answer_evaluation.result (with_workspace n.before u) c.answer_evaluation.new.self)

@@ -3,8 +3,9 @@ use Rattle.js_machine_terms.specs.Views.{term_view}
 use Rattle.js_machine_nodes.specs.Trees.{program_of}
 use Rattle.js_heap_memory.specs.Overlays.{next_of, over_world, space_after}
 use Rattle.pure_eval.specs.Adding.{kept_tree_at}
+use Rattle.pure_eval.specs.Held.{HeldOpenWorkspace}
 use Rattle.pure_eval.specs.Workspaces.{OpenWorkspace, opened_of}
-use Rattle.pure_eval.proofs.OpenLemmas.{open-on, evaluates-open, Evaluates}
+use Rattle.pure_eval.proofs.OpenLemmas.{open-on, evaluates-open, names-on, Evaluates}
 use Rattle.pure_eval.proofs.workspace.OpenWorkspace.evaluate_ready.Goals as goal
 
 pub invariant_of-self-2 : goal.invariant_of-self-2
@@ -19,13 +20,13 @@ invariant_of-self-2 g c =
     (r.ensures.code c.self.invariant.working.code)
     c.over.ensures.world c.over.ensures.known.0 c.next_address-self-inside.ensures
 
-pub returns : goal.returns
-returns g c =
+pub returns-clause-answer : goal.returns-clause-answer
+returns-clause-answer g c =
     let w = c.self.inside in
     let r = c.evaluate_ready-outcome in
     let new : OpenWorkspace = opened_of r.new.self w.scripts w.mark w.base.now c.over.result w.cells in
     let P : OpenWorkspace → Type 0 = λ old. Evaluates r.result.end c.args.work c.args.prepared.now old new in
-    subst P c.self.view_is
+    subst P (ap (λ (h : HeldOpenWorkspace). h.workspace) c.self.view_is)
     (evaluates-open r.result.end c.args.prepared.now c.args.work w.evaluator r.new.self w.scripts w.start w.mark
     w.base.now c.into_scratch-scratch.result r.result.scratch w.world c.over.result w.cells w.count
     c.number_of.result w.next
@@ -35,3 +36,11 @@ returns g c =
     (λ ts. c.into_scratch-scratch.ensures.space ts
     ∙ ap (λ o. space_after (over_world ts o)) c.replace-world.ensures.value)
     c.over.ensures.world r.ensures.answer)
+
+pub returns-clause-names : goal.returns-clause-names
+returns-clause-names g c =
+    let w = c.self.inside in
+    let r = c.evaluate_ready-outcome in
+    λ some. names-on r.result.end w.evaluator r.new.self w.scripts w.start some c.self.invariant.working
+    r.ensures.goes_on
+    ∙ ap (λ (h : HeldOpenWorkspace). h.names) c.self.view_is

@@ -1,5 +1,5 @@
-use Rattle.std.proofs.Common.{ap, ◌∙◌}
-use Rattle.pure_eval.specs.Workspaces.{OpenWorkspace}
+use Rattle.std.proofs.Common.{take, ap, ◌∙◌}
+use Rattle.pure_eval.specs.Held.{HeldOpenWorkspace}
 use Rattle.pure_eval.proofs.WorkspaceLemmas.{forgotten-is, forgotten-working}
 use Rattle.pure_eval.proofs.workspace.OpenWorkspace.forget.Goals as goal
 
@@ -9,10 +9,14 @@ invariant_of-result c =
     forgotten-working w.evaluator c.cut.new.self w.scripts w.start w.mark w.base.now w.world w.cells w.count w.next
     c.self.invariant c.cut.ensures.back
 
-pub returns : goal.returns
-returns c =
+pub returns-clause-workspace : goal.returns-clause-workspace
+returns-clause-workspace c =
     let w = c.self.inside in
     forgotten-is w.evaluator c.cut.new.self w.scripts w.start w.mark w.base.now c.into_scratch-scratch.result
     c.cut-2.new.self w.world w.cells w.count w.next c.self.invariant c.cut.ensures.back c.cut.ensures.names
     c.into_scratch-scratch.ensures.space c.cut-2.ensures.space
-    ∙ ap (λ (o : OpenWorkspace). o.before) c.self.view_is
+    ∙ ap (λ (h : HeldOpenWorkspace). h.workspace.before) c.self.view_is
+
+pub returns-clause-names : goal.returns-clause-names
+returns-clause-names c =
+    ap (take c.self.inside.start.names) c.cut.ensures.names ∙ ap (λ (h : HeldOpenWorkspace). h.names) c.self.view_is

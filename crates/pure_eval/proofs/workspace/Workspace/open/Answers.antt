@@ -1,8 +1,16 @@
-use Rattle.std.proofs.Common.{refl, ap, ◌∙◌}
+use Rattle.std.proofs.Common.{List, ℕ, refl, sym, ap, subst, ◌∙◌}
 use Rattle.js_heap_memory.specs.Heaps.{heap_world}
+use Rattle.pure_eval.specs.Held.{HeldWorkspace}
+use Rattle.pure_eval.specs.Working.{IsKnown}
 use Rattle.pure_eval.specs.Workspaces.{opened}
+use Rattle.pure_eval.proofs.KnownLemmas.{known-all}
 use Rattle.pure_eval.proofs.WorkspaceLemmas.{opened-is, open-is}
 use Rattle.pure_eval.proofs.workspace.Workspace.open.Goals as goal
+
+pub returns-then-not-is_known-clause-only : goal.returns-then-not-is_known-clause-only
+returns-then-not-is_known-clause-only c =
+    let P : List (List ℕ) → Type 0 = λ ns. IsKnown c.args.base.now c.args.names.now ns in
+    λ k. c.if-not-is_known.ensures.only (subst P (sym (ap (λ (h : HeldWorkspace). h.names) c.self.view_is)) k)
 
 pub invariant_of-result : goal.invariant_of-result
 invariant_of-result c =
@@ -12,10 +20,19 @@ invariant_of-result c =
     c.mark-mark.ensures.marked c.over-world.ensures.world c.over-world.ensures.known.0 c.mark-cells.ensures
     c.next_address-next.ensures c.number_of-count.ensures
 
-pub returns : goal.returns
-returns c =
+pub returns-clause-opened : goal.returns-clause-opened
+returns-clause-opened c =
     let w = c.self.inside in
     opened-is w.evaluator w.scripts c.mark-mark.result c.args.base.now w.scratch c.over-world.result c.mark-cells.result
     c.args.names.now c.mark-mark.ensures.marked
-    (c.if-not-is_known.ensures refl) c.goes_on.ensures c.over-world.ensures.world c.mark-cells.ensures
-    ∙ ap (opened (heap_world c.args.names.now c.args.base.now)) c.self.view_is
+    (known-all c.args.base.now c.args.names.now w.evaluator.names w.start.names (c.if-not-is_known.ensures.known refl))
+    c.goes_on.ensures c.over-world.ensures.world c.mark-cells.ensures
+    ∙ ap (λ (h : HeldWorkspace). opened (heap_world c.args.names.now c.args.base.now) h.workspace) c.self.view_is
+
+pub returns-clause-names : goal.returns-clause-names
+returns-clause-names c = ap (λ (h : HeldWorkspace). h.names) c.self.view_is
+
+pub returns-clause-known : goal.returns-clause-known
+returns-clause-known c =
+    let P : List (List ℕ) → Type 0 = λ ns. IsKnown c.args.base.now c.args.names.now ns in
+    λ e. subst P (ap (λ (h : HeldWorkspace). h.names) c.self.view_is) (c.if-not-is_known.ensures.known refl)
