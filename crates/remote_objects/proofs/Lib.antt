@@ -1,4 +1,6 @@
 pub mod DescribedLemmas
+pub mod DescriptorTextLemmas
+pub mod FrameTextLemmas
 pub mod GivenLemmas
 pub mod IdLemmas
 pub mod KeyLemmas
@@ -6,3 +8,4 @@ pub mod LevelLemmas
 pub mod MakingLemmas
 pub mod MemberLemmas
 pub mod PreviewLemmas
+pub mod RemoteTextLemmas

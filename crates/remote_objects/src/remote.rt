@@ -19,7 +19,7 @@ use object_groups::{HandleFault, Handles, Target};
 use std::alloc::{AllocError, Global};
 
 /// The number of a new handle on a target, in a group or in none; none where no handle can be made.
-fn handle_on(
+pub(crate) fn handle_on(
     target: Target,
     group: Option<&[u16]>,
     handles: &mut Handles,
@@ -106,7 +106,7 @@ impl<'w, W: World, S: FunctionSources> Describer<'w, W, S> {
     }
 
     /// An object with its handle and its preview, which makes none.
-    fn previewed_object(
+    pub(crate) fn previewed_object(
         &self,
         a: Addr,
         handles: &mut Handles,
