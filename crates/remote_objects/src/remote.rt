@@ -10,7 +10,6 @@ use crate::describer::Describer;
 use crate::detail::Detail;
 use crate::function_sources::FunctionSources;
 use crate::ids::object_id;
-use crate::members::plain_members;
 use cdp_json::parts::put_value;
 use cdp_json::value::{Json, Member, object, text};
 use js_heap::value::{Addr, Value};
@@ -67,21 +66,6 @@ fn with_handle_on(
     let number = handle_on(target, group, handles)?;
     put_id(alloc, session, number, &mut members)?;
     Ok(object(members))
-}
-
-/// A scope, as an object of its names.
-pub(crate) fn remote_scope(
-    alloc: Global,
-    session: u64,
-    group: Option<&[u16]>,
-    a: Addr,
-    handles: &mut Handles,
-) -> Result<Json, AllocError>
-    ensures made { IfOk result (λ j. json_view j ≡ (remotes.remote_scope session (option_copied group.entry) a handles.old).made) }
-    ensures handles { OnOk result (handles.new ≡ (remotes.remote_scope session (option_copied group.entry) a handles.old).handles) }
-{
-    let members = plain_members(alloc)?;
-    with_handle_on(alloc, session, group, Target::Scope(a), members, handles)
 }
 
 impl<'w, W: World, S: FunctionSources> Describer<'w, W, S> {
