@@ -1,8 +1,11 @@
 pub mod CommandLemmas
 pub mod CopyLemmas
+pub mod EnvelopeLemmas
 pub mod GivenLemmas
 pub mod MessageLemmas
 pub mod OrderLemmas
+pub mod PieceLemmas
+pub mod PlaceTextLemmas
 pub mod PlainLemmas
 pub mod ReadBackLemmas
 pub mod SafeLemmas

@@ -4,6 +4,7 @@ pub mod Calls
 pub mod CommandForm
 pub mod Commands
 pub mod Compact
+pub mod Envelopes
 pub mod Flags
 pub mod Json
 pub mod JsonCodes
@@ -14,6 +15,7 @@ pub mod Messages
 pub mod Methods
 pub mod Parameters
 pub mod Parts
+pub mod Pieces
 pub mod Plain
 pub mod ReadBack
 pub mod Refusals

@@ -1,6 +1,6 @@
 //! The compact text of a JSON value (RFC 8259): no blanks, keys in the order of their units.
 
-ghost use Rattle.std.specs.Prelude.{◌≡◌, ◌++◌, ◌∷◌, [], OnOk, string_bytes};
+ghost use Rattle.std.specs.Prelude.{◌≡◌, ◌++◌, ◌∷◌, [], OnErr, OnOk, string_bytes};
 ghost use Rattle.std.specs.Fmt.{signed_decimal};
 ghost use Rattle.json.specs.Print.{quoted};
 ghost use Rattle.cdp_json.specs.Compact.{string_text, list_text, object_text, members_text, with_commas, item_texts, comma_before};
@@ -100,10 +100,12 @@ fn put_key(out: &mut String, key: &[u16]) -> Result<(), AllocError>
     out.push(':')
 }
 
-/// Appends the text that units spell, in quotes and with its escapes.
+/// Appends the text that units spell, in quotes and with its escapes. Errors: there is no memory for it, and nothing is
+/// appended.
 #[tactic(auto, using(crate::proofs::PlainLemmas::plain_text))]
 pub(crate) fn put_string(out: &mut String, units: &[u16]) -> Result<(), AllocError>
-    ensures { OnOk result (string_bytes out.new ≡ string_bytes out.old ++ string_text units.now) }
+    ensures put { OnOk result (string_bytes out.new ≡ string_bytes out.old ++ string_text units.now) }
+    ensures kept { OnErr result (string_bytes out.new ≡ string_bytes out.old) }
 {
     if is_plain(units) {
         return put_plain(out, units);
@@ -112,9 +114,10 @@ pub(crate) fn put_string(out: &mut String, units: &[u16]) -> Result<(), AllocErr
     put_quoted(out, text.as_str())
 }
 
-/// Appends a text in quotes and with its escapes.
+/// Appends a text in quotes and with its escapes. Errors: there is no memory for it, and nothing is appended.
 pub(crate) fn put_quoted(out: &mut String, text: &str) -> Result<(), AllocError>
-    ensures { OnOk result (string_bytes out.new ≡ string_bytes out.old ++ quoted text.now) }
+    ensures put { OnOk result (string_bytes out.new ≡ string_bytes out.old ++ quoted text.now) }
+    ensures kept { OnErr result (string_bytes out.new ≡ string_bytes out.old) }
 {
     match serde_json::to_string(*out.allocator(), &text) {
         Ok(piece) => out.push_str(piece.as_str()),

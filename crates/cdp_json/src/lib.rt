@@ -8,6 +8,7 @@
 //!   reads just those
 //! - *refusal*: why a text gets no result: a code and a message, with the `id` where that was read
 //! - *compact*: written without blanks, the keys of each object in the order of their units
+//! - *pen*: a text that is written piece by piece; contracts see its bytes
 #![tactic(auto)]
 
 pub mod arguments;
@@ -15,6 +16,7 @@ mod calls;
 pub mod command;
 mod compact;
 mod copies;
+mod envelope;
 mod flags;
 mod key_order;
 pub mod laws;
@@ -24,6 +26,8 @@ pub mod method;
 mod parameters;
 pub mod params;
 pub mod parts;
+pub mod pen;
+mod place_text;
 mod plain;
 pub mod refusal;
 mod safe_values;
@@ -31,4 +35,6 @@ pub mod value;
 
 pub use command::read_command;
 pub use copies::copied;
+pub use envelope::{begin_event, begin_result, end_message};
 pub use message::{event_text, refusal_text, result_text};
+pub use place_text::write_location;

@@ -1,6 +1,6 @@
 //! Texts that are written as they are: ASCII without controls, `"` and `\`.
 
-ghost use Rattle.std.specs.Prelude.{◌≡◌, ◌++◌, ◌∷◌, [], ◌<◌, true, All, OnOk, string_bytes};
+ghost use Rattle.std.specs.Prelude.{◌≡◌, ◌+◌, ◌++◌, ◌∷◌, [], ◌<◌, ◌≤◌, true, length, All, OnErr, OnOk, string_bytes, string_capacity, string_len};
 ghost use Rattle.cdp_json.specs.Plain as spec;
 
 use std::alloc::AllocError;
@@ -19,25 +19,40 @@ pub(crate) fn is_plain(units: &[u16]) -> bool
     units.iter().all(|unit| is_plain_unit(*unit))
 }
 
-/// Appends units of ASCII, each as its byte.
-fn put_ascii(out: &mut String, units: &[u16]) -> Result<(), AllocError>
-    requires { All (λ unit. unit < 128) units.now }
-    ensures { OnOk result (string_bytes out.new ≡ string_bytes out.old ++ units.now) }
+/// Appends a character of ASCII, for which there is room.
+fn put_in_room(out: &mut String, unit: u16)
+    requires ascii { unit < 128 }
+    requires room { string_len out.old < string_capacity out.old }
+    ensures bytes { string_bytes out.new ≡ string_bytes out.old ++ unit ∷ [] }
+    ensures len { string_len out.new ≡ string_len out.old + 1 }
+    ensures capacity { string_capacity out.old ≤ string_capacity out.new }
 {
-    out.reserve(units.len())?;
-    for unit in units {
-        out.push(char::from(*unit as u8))?;
-    }
-    Ok(())
+    out.push(char::from(unit as u8)).unwrap();
 }
 
-/// Appends a plain text in quotes.
+/// Appends units of ASCII, each as its byte; there is room for them.
+fn put_ascii(out: &mut String, units: &[u16])
+    requires ascii { All (λ unit. unit < 128) units.now }
+    requires room { string_len out.old + length units.now ≤ string_capacity out.old }
+    ensures bytes { string_bytes out.new ≡ string_bytes out.old ++ units.now }
+    ensures len { string_len out.new ≡ string_len out.old + length units.now }
+    ensures capacity { string_capacity out.old ≤ string_capacity out.new }
+{
+    for unit in units {
+        put_in_room(out, *unit);
+    }
+}
+
+/// Appends a plain text in quotes. Errors: there is no memory for it, and nothing is appended.
 #[tactic(auto, using(crate::proofs::PlainLemmas::plain_is_ascii))]
 pub(crate) fn put_plain(out: &mut String, units: &[u16]) -> Result<(), AllocError>
     requires { spec.is_plain units.now ≡ true }
-    ensures { OnOk result (string_bytes out.new ≡ string_bytes out.old ++ 34 ∷ (units.now ++ 34 ∷ [])) }
+    ensures put { OnOk result (string_bytes out.new ≡ string_bytes out.old ++ 34 ∷ (units.now ++ 34 ∷ [])) }
+    ensures kept { OnErr result (string_bytes out.new ≡ string_bytes out.old) }
 {
-    out.push('"')?;
-    put_ascii(out, units)?;
-    out.push('"')
+    out.reserve(units.len() + 2)?;
+    put_in_room(out, 34);
+    put_ascii(out, units);
+    put_in_room(out, 34);
+    Ok(())
 }

@@ -1,8 +1,10 @@
 pub mod EvaluationLemmas
 pub mod OrderedLemmas
 pub mod OutboxLemmas
+pub mod PauseTextLemmas
 pub mod StopLemmas
 pub mod ConditionLemmas
 pub mod CallLemmas
+pub mod ReplyLemmas
 pub mod SendLemmas
 pub mod CountLemmas

@@ -1,6 +1,7 @@
 pub mod Situations
 pub mod Sessions
 pub mod Pauses
+pub mod PauseTexts
 pub mod Consoles
 pub mod Endings
 pub mod Objects

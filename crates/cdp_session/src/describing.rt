@@ -1,6 +1,6 @@
 //! Values of the program and of a session's evaluations, described to the session.
 
-ghost use Rattle.std.specs.Prelude.{◌≡◌, map, option_copied, IfOk, OnOk};
+ghost use Rattle.std.specs.Prelude.{◌≡◌, option_copied, string_bytes, IfOk, OnOk};
 ghost use Rattle.js_heap.specs.ScratchSpaces.{copied_world};
 ghost use Rattle.js_parser.specs.NodeTexts.{node_text};
 ghost use Rattle.cdp_json.specs.Views.{json_view};
@@ -9,9 +9,12 @@ ghost use Rattle.remote_objects.specs.Descriptors.{descriptors_with};
 ghost use Rattle.remote_objects.specs.Remote.{remote_with};
 ghost use Rattle.remote_objects.specs.Views.{sight_of};
 ghost use Rattle.cdp_session.specs.Evaluations.{described_over};
+ghost use Rattle.cdp_session.specs.Made.{spelt};
+ghost use Rattle.cdp_session_messages.specs.Results.{properties};
 
 use crate::objects::group_of;
 use crate::sources::EvaluatedTexts;
+use cdp_json::pen::Pen;
 use cdp_json::value::Json;
 use js_heap::value::Value;
 use js_heap_memory::overlay::Overlay;
@@ -43,9 +46,9 @@ fn describer_of<'o, 'b>(
     }
 }
 
-/// The properties of an object that the session of this number holds, with or without previews of their values. New handles
-/// are in its group, if it is in one.
-pub(crate) fn properties_of(
+/// The text of the result that lists the properties of an object that the session of this number holds, with or without
+/// previews of their values. New handles are in its group, if it is in one.
+pub(crate) fn properties_text(
     alloc: Global,
     opened: &OpenWorkspace<'_>,
     scripts: &[Script],
@@ -53,17 +56,17 @@ pub(crate) fn properties_of(
     object: &Handle,
     detail: Detail,
     handles: &mut Handles,
-) -> Result<Vec<Json>, AllocError>
-    ensures made { IfOk result (λ values. map json_view values.items ≡ (descriptors_with (sight_of node_text
-        (copied_world opened.now.workspace.world opened.now.workspace.behind.scratch) scripts.now session)
-        detail object.now.group object.now.target handles.old).made) }
-    ensures handles { OnOk result (handles.new ≡ (descriptors_with (sight_of node_text
-        (copied_world opened.now.workspace.world opened.now.workspace.behind.scratch) scripts.now session)
-        detail object.now.group object.now.target handles.old).handles) }
+) -> Result<String, AllocError>
+    ensures made { IfOk result (λ text. string_bytes text ≡ spelt (properties (descriptors_with (sight_of node_text (copied_world opened.now.workspace.world opened.now.workspace.behind.scratch) scripts.now session) detail object.now.group object.now.target handles.old).made)) }
+    ensures handles { OnOk result (handles.new ≡ (descriptors_with (sight_of node_text (copied_world opened.now.workspace.world opened.now.workspace.behind.scratch) scripts.now session) detail object.now.group object.now.target handles.old).handles) }
 {
     let sources = EvaluatedTexts;
     let describer = describer_of(alloc, opened, scripts, session, &sources);
-    describer.descriptors_with(object.target, detail, group_of(object), handles)
+    let mut pen = Pen::new(alloc);
+    pen.put("{\"result\":")?;
+    describer.write_descriptors(object.target, detail, group_of(object), handles, &mut pen)?;
+    pen.put("}")?;
+    Ok(pen.finish())
 }
 
 /// A value to which an evaluation came, described to the session of this number with or without a preview. Its handle is in

@@ -10,12 +10,21 @@ use cdp_json::value::Json;
 use remote_objects::ByValueFault;
 use std::alloc::AllocError;
 
+/// The result of a method that is done.
+#[derive(Drop)]
+pub(crate) enum Answer {
+    /// A value, which is still to be written.
+    Tree(Json),
+    /// A text that was written without a value.
+    Text(String),
+}
+
 /// What a method that is done leaves beside its session.
 #[derive(Drop)]
 pub(crate) struct Done {
     /// The events before the reply, in order.
     pub(crate) before: Vec<String>,
-    pub(crate) answer: Json,
+    pub(crate) answer: Answer,
     /// The event behind the reply, if there is one.
     pub(crate) event: Option<String>,
     pub(crate) asks: Asks,

@@ -31,6 +31,7 @@ mod objects;
 mod pausing;
 mod program;
 mod refusing;
+mod replies;
 mod rows;
 mod session;
 mod showing;

@@ -7,13 +7,13 @@ ghost use Rattle.cdp_json.specs.Views.{json_view};
 ghost use Rattle.cdp_json.specs.Parts as parts;
 ghost use Rattle.remote_objects.specs.Descriptors.{descriptors_with};
 ghost use Rattle.cdp_session.specs.Evaluations.{sight_with};
-ghost use Rattle.cdp_session.specs.Made.{made_fault, KeepsIfRefused, Makes};
+ghost use Rattle.cdp_session.specs.Made.{answer_text, made_fault, spelt, KeepsIfRefused, Makes};
 ghost use Rattle.cdp_session.specs.Rows as rows;
 ghost use Rattle.cdp_session.specs.Rows.{end_of, throws_of};
 
 use crate::asks::Asks;
-use crate::describing::properties_of;
-use crate::done::{Done, Fault};
+use crate::describing::properties_text;
+use crate::done::{Answer, Done, Fault};
 use crate::finding::find_script;
 use crate::pausing::describer;
 use crate::program::Program;
@@ -27,8 +27,8 @@ use cdp_json::parts::nothing;
 use cdp_json::refusal::Refusal;
 use cdp_json::value::Json;
 use cdp_session_messages::{
-    context_created_text, debugger_id, declared_names, properties, script_source, scripts_told,
-    set_at, set_by_url, spot_locations,
+    context_created_text, debugger_id, declared_names, script_source, scripts_told, set_at,
+    set_by_url, spot_locations,
 };
 use cdp_text::position::{Place, Pos};
 use cdp_text::units::Units;
@@ -75,13 +75,28 @@ fn fault_of(fault: AddFault) -> Fault
 /// Done, with this to answer.
 pub(crate) fn answering(alloc: Global, answer: Json) -> Done
     ensures before { result.before.items ≡ [] }
-    ensures answer { result.answer ≡ answer }
+    ensures answer { answer_text result.answer ≡ spelt (json_view answer) }
     ensures event { result.event ≡ None }
     ensures asks { result.asks ≡ Asks.Nothing }
 {
     Done {
         before: Vec::new(alloc),
-        answer,
+        answer: Answer::Tree(answer),
+        event: None,
+        asks: Asks::Nothing,
+    }
+}
+
+/// Done, with a result of this text.
+fn answering_text(alloc: Global, text: String) -> Done
+    ensures before { result.before.items ≡ [] }
+    ensures answer { answer_text result.answer ≡ string_bytes text }
+    ensures event { result.event ≡ None }
+    ensures asks { result.asks ≡ Asks.Nothing }
+{
+    Done {
+        before: Vec::new(alloc),
+        answer: Answer::Text(text),
         event: None,
         asks: Asks::Nothing,
     }
@@ -90,7 +105,7 @@ pub(crate) fn answering(alloc: Global, answer: Json) -> Done
 /// Done, with nothing to answer.
 fn done(alloc: Global) -> Done
     ensures before { result.before.items ≡ [] }
-    ensures answer { json_view result.answer ≡ parts.nothing }
+    ensures answer { answer_text result.answer ≡ spelt parts.nothing }
     ensures event { result.event ≡ None }
     ensures asks { result.asks ≡ Asks.Nothing }
 {
@@ -100,13 +115,13 @@ fn done(alloc: Global) -> Done
 /// Done, with nothing to answer, and this is asked of the program.
 fn asking(alloc: Global, asks: Asks) -> Done
     ensures before { result.before.items ≡ [] }
-    ensures answer { json_view result.answer ≡ parts.nothing }
+    ensures answer { answer_text result.answer ≡ spelt parts.nothing }
     ensures event { result.event ≡ None }
     ensures asks { result.asks ≡ asks }
 {
     Done {
         before: Vec::new(alloc),
-        answer: nothing(alloc),
+        answer: Answer::Tree(nothing(alloc)),
         event: None,
         asks,
     }
@@ -175,7 +190,7 @@ impl Session {
     {
         let before = scripts_told(self.alloc, situation.scripts, self.rules.enabled)?;
         let event = self.enabling_told(situation, situation.paused, self.rules.enabled)?;
-        let answer = debugger_id(self.alloc)?;
+        let answer = Answer::Tree(debugger_id(self.alloc)?);
         self.rules.enabled = true;
         Ok(Done {
             before,
@@ -432,7 +447,7 @@ impl Session {
         ensures kept { KeepsIfRefused result self.old self.new }
     {
         let opened = self.opened(situation)?;
-        let values = properties_of(
+        let text = properties_text(
             self.alloc,
             &opened,
             situation.scripts,
@@ -442,8 +457,7 @@ impl Session {
             &mut self.handles,
         )?;
         self.workspace = Some(opened.keep());
-        let answer = properties(self.alloc, values)?;
-        Ok(answering(self.alloc, answer))
+        Ok(answering_text(self.alloc, text))
     }
 
     /// `Runtime.releaseObject`
@@ -496,7 +510,7 @@ impl Session {
         self.runtime = true;
         Ok(Done {
             before,
-            answer: nothing(self.alloc),
+            answer: Answer::Tree(nothing(self.alloc)),
             event: None,
             asks: Asks::Nothing,
         })

@@ -26,12 +26,13 @@ use crate::ending::Ending;
 use crate::named::Named;
 use crate::program::Program;
 use crate::refusing::{wants_enabled, wants_pause};
+use crate::replies::reply_text;
 use crate::situation::Situation;
 use breakpoints::Breakpoints;
 use cdp_json::command::Reading;
 use cdp_json::params::Params;
 use cdp_json::refusal::Refusal;
-use cdp_json::{read_command, refusal_text, result_text};
+use cdp_json::{read_command, refusal_text};
 use cdp_session_messages::{
     Outbox, RESUMED_SIZE, SessionEnd, context_destroyed_text, resumed_text,
 };
@@ -509,7 +510,7 @@ impl Session {
             event,
             asks,
         } = done;
-        let text = result_text(self.alloc, id, &answer)?;
+        let text = reply_text(self.alloc, id, &answer)?;
         self.send_all(before)?;
         self.send(text)?;
         self.send_event(event)?;

@@ -1,2 +1,1 @@
-pub mod PauseLemmas
 pub mod OutboxSizes

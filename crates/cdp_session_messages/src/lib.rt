@@ -17,12 +17,10 @@ mod scripts;
 mod session_end;
 
 pub use ends::{context_destroyed_text, throw_details, throw_text, url_at};
-pub use events::{RESUMED_SIZE, context_created_text, paused_text, resumed_text};
+pub use events::{RESUMED_SIZE, context_created_text, resumed_text};
 pub use exceptions::{effect_object, syntax_result, thrown_result, value_result};
 pub use outbox::Outbox;
 pub use prints::print_text;
-pub use results::{
-    debugger_id, declared_names, properties, script_source, set_at, set_by_url, spot_locations,
-};
+pub use results::{debugger_id, declared_names, script_source, set_at, set_by_url, spot_locations};
 pub use scripts::scripts_told;
 pub use session_end::SessionEnd;

@@ -123,14 +123,7 @@ pub fn script_source(alloc: Global, source: &[u16]) -> Result<Json, AllocError>
     object_of_one(alloc, member(alloc, b"scriptSource", copy)?)
 }
 
-// ---- objects
-
-/// The result that lists properties.
-pub fn properties(alloc: Global, values: Vec<Json>) -> Result<Json, AllocError>
-    ensures { IfOk result (λ j. json_view j ≡ results.properties (map json_view values.items)) }
-{
-    object_of_one(alloc, member(alloc, b"result", list(values))?)
-}
+// ---- names
 
 /// The result that lists the names that scripts have declared.
 pub fn declared_names(alloc: Global, names: Vec<Json>) -> Result<Json, AllocError>

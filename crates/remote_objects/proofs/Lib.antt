@@ -1,8 +1,10 @@
 pub mod DescribedLemmas
+pub mod DescriptorTextLemmas
+pub mod FrameTextLemmas
 pub mod GivenLemmas
 pub mod IdLemmas
 pub mod KeyLemmas
 pub mod LevelLemmas
 pub mod MakingLemmas
-pub mod MemberLemmas
 pub mod PreviewLemmas
+pub mod RemoteTextLemmas

@@ -11,3 +11,4 @@ pub mod CallFrames
 pub mod Views
 pub mod Slots
 pub mod Laws
+pub mod Written

@@ -12,8 +12,10 @@
 
 mod by_value;
 mod describer;
+mod descriptor_text;
 mod descriptors;
 mod detail;
+mod frame_text;
 mod frames;
 mod function_sources;
 mod functions;
@@ -22,6 +24,7 @@ pub mod laws;
 mod members;
 mod previews;
 mod remote;
+mod remote_text;
 mod scope_names;
 mod slots;
 mod values;

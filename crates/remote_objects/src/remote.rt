@@ -10,7 +10,6 @@ use crate::describer::Describer;
 use crate::detail::Detail;
 use crate::function_sources::FunctionSources;
 use crate::ids::object_id;
-use crate::members::plain_members;
 use cdp_json::parts::put_value;
 use cdp_json::value::{Json, Member, object, text};
 use js_heap::value::{Addr, Value};
@@ -19,7 +18,7 @@ use object_groups::{HandleFault, Handles, Target};
 use std::alloc::{AllocError, Global};
 
 /// The number of a new handle on a target, in a group or in none; none where no handle can be made.
-fn handle_on(
+pub(crate) fn handle_on(
     target: Target,
     group: Option<&[u16]>,
     handles: &mut Handles,
@@ -69,21 +68,6 @@ fn with_handle_on(
     Ok(object(members))
 }
 
-/// A scope, as an object of its names.
-pub(crate) fn remote_scope(
-    alloc: Global,
-    session: u64,
-    group: Option<&[u16]>,
-    a: Addr,
-    handles: &mut Handles,
-) -> Result<Json, AllocError>
-    ensures made { IfOk result (λ j. json_view j ≡ (remotes.remote_scope session (option_copied group.entry) a handles.old).made) }
-    ensures handles { OnOk result (handles.new ≡ (remotes.remote_scope session (option_copied group.entry) a handles.old).handles) }
-{
-    let members = plain_members(alloc)?;
-    with_handle_on(alloc, session, group, Target::Scope(a), members, handles)
-}
-
 impl<'w, W: World, S: FunctionSources> Describer<'w, W, S> {
     /// A value as a remote object; its handle, if it is an object, is in this group or in none.
     pub fn remote(
@@ -106,7 +90,7 @@ impl<'w, W: World, S: FunctionSources> Describer<'w, W, S> {
     }
 
     /// An object with its handle and its preview, which makes none.
-    fn previewed_object(
+    pub(crate) fn previewed_object(
         &self,
         a: Addr,
         handles: &mut Handles,

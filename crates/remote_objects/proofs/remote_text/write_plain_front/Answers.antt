@@ -1,0 +1,6 @@
+use Rattle.cdp_json.proofs.PieceLemmas.{on-written, written-as}
+use Rattle.remote_objects.proofs.RemoteTextLemmas.{plain-front}
+use Rattle.remote_objects.proofs.remote_text.write_plain_front.Goals as goal
+
+pub returns : goal.returns
+returns c = on-written c.put.result c.put.ensures.put (λ e. written-as plain-front e)
