@@ -1,9 +1,9 @@
 -- Runs of quiet answers in a log.
-use Rattle.std.proofs.Common.{◌≡◌, ℕ, ◌+◌, List, [], ◌∷◌, ◌++◌, replicate, flat_map, refl, ap, sym, ◌∙◌, append_assoc, arith}
-use Rattle.std.proofs.lemmas.Grind.{common_steps, flat_map-append}
+use Rattle.std.proofs.Common.{◌≡◌, ℕ, ◌+◌, List, [], ◌∷◌, ◌++◌, replicate, flat_map, ap, sym, ◌∙◌, append_assoc}
+use Rattle.std.proofs.lemmas.Grind.{flat_map-append}
 use Rattle.std.proofs.lemmas.List.{replicate-append-replicate, append-nil}
 use Rattle.cdp_edge_server.specs.AnswerLog.{answers_of}
-use Rattle.cdp_edge_server.specs.Heard.{Heard, Quiet}
+use Rattle.cdp_edge_server.specs.Heard.{Quiet}
 use Rattle.cdp_edge_server.specs.declared.answer_log.LoggedAnswer.{LoggedAnswer}
 use Rattle.cdp_edge_server.specs.declared.answer_log.LoggedAnswer.TheVariants as answer
 

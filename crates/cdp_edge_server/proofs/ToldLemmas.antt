@@ -1,5 +1,5 @@
 -- What is told, by several calls in turn.
-use Rattle.std.proofs.Common.{◌≡◌, List, [], ◌++◌, Option, Some, None, Bool, false, refl, ap, append_assoc}
+use Rattle.std.proofs.Common.{◌≡◌, List, [], ◌++◌, Option, Some, None, refl, ap, append_assoc}
 use Rattle.std.proofs.lemmas.List.{append-nil}
 use Rattle.cdp_edge.specs.Outside.{IfTold}
 use Rattle.cdp_edge_server.specs.Contents.{adds, becomes}

@@ -1,5 +1,5 @@
 -- What a link in memory keeps of its answers.
-use Rattle.std.specs.Prelude.{◌<◌, ℕ, List, [], ◌∷◌, string_bytes, vec_len, vec_capacity, flat_map, replicate}
+use Rattle.std.specs.Prelude.{◌<◌, List, [], ◌∷◌, string_bytes, vec_len, vec_capacity, flat_map, replicate}
 use Rattle.cdp_edge_server.specs.Heard.{Heard, Text, Binary, TooBig, Quiet, Closed, Failed}
 use Rattle.cdp_edge_server.specs.declared.answer_log.AnswerLog.{AnswerLog}
 use Rattle.cdp_edge_server.specs.declared.answer_log.LoggedAnswer.{LoggedAnswer}

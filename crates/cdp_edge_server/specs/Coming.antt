@@ -1,5 +1,5 @@
 -- What is to come on a link, and what an answer takes of it.
-use Rattle.std.specs.Prelude.{◌≡◌, ◌⊎◌, ℕ, zero, suc, List, [], ◌∷◌, ◌++◌, Option, Some, None, Bool, true, false, map}
+use Rattle.std.specs.Prelude.{◌≡◌, ◌⊎◌, ℕ, zero, suc, List, [], ◌∷◌, ◌++◌, Option, Some, None, map}
 use Rattle.cdp_edge_server.specs.Heard as heard
 use Rattle.cdp_edge_server.specs.declared.link.Recv.{Recv}
 

@@ -1,6 +1,5 @@
 -- What a door's answers say.
 use Rattle.std.specs.Prelude.{◌≡◌, ◌+◌, ℕ, Option, Some, None, Bool, true}
-use Rattle.cdp_edge.specs.Outside.{IfTold}
 use Rattle.cdp_edge_server.specs.Contents.{Spoken, IsUnused, becomes}
 use Rattle.cdp_edge_server.specs.declared.door.DoorAnswer.{DoorAnswer}
 use Rattle.cdp_edge_server.specs.declared.door.DoorAnswer.TheVariants as answers

@@ -1,5 +1,5 @@
 -- A link in memory, and what its calls do to it.
-use Rattle.std.specs.Prelude.{Result, Ok, Err, ◌≡◌, ℕ, List, [], ◌∷◌, ◌++◌, Option, Some, None}
+use Rattle.std.specs.Prelude.{Result, Ok, Err, ℕ, List, [], ◌∷◌, ◌++◌, Option, Some}
 use Rattle.cdp_edge.specs.Outside.{one_more}
 use Rattle.cdp_edge_server.specs.Coming.{Coming}
 use Rattle.cdp_edge_server.specs.Contents.{Spoken}

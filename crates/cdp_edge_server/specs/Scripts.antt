@@ -1,5 +1,5 @@
 -- What a link in memory has to give.
-use Rattle.std.specs.Prelude.{◌≡◌, ◌-◌, ℕ, List, [], ◌∷◌, Bool, true, false, map, length, string_bytes, nat_lt, if◌then◌else◌}
+use Rattle.std.specs.Prelude.{◌≡◌, ◌-◌, ℕ, List, [], ◌∷◌, Bool, true, false, length, string_bytes, nat_lt, if◌then◌else◌}
 use Rattle.cdp_edge_server.specs.Coming.{Coming, Text, Binary, TooBig, Quiet, Closed, Hold}
 use Rattle.cdp_edge_server.specs.declared.script.Incoming.{Incoming}
 use Rattle.cdp_edge_server.specs.declared.script.Incoming.TheVariants as incoming

@@ -1,5 +1,5 @@
 -- Which sessions are asked for a stop: those that have a breakpoint at the place, where no other rule names one.
-use Rattle.std.proofs.Common.{◌≡◌, ℕ, suc, Bool, true, false, ◌&&◌, ◌||◌, List, [], ◌∷◌, Option, Some, None, nat_eq, refl, ap, sym, ◌∙◌, true≢false}
+use Rattle.std.proofs.Common.{◌≡◌, ℕ, suc, Bool, true, false, ◌&&◌, ◌||◌, List, [], ◌∷◌, Some, None, nat_eq, refl, ap, sym, ◌∙◌, true≢false}
 use Rattle.std.proofs.lemmas.Bool.{and_right, eqb-true, false≢true, or_from, or_parts, true_from_ne_false}
 use Rattle.std.specs.List.{list_any}
 use Rattle.cdp_text.specs.declared.position.Place.{Place}

@@ -1,11 +1,11 @@
 -- What a resume and a step leave of the places of a host's sessions: all but those of the sessions that they lose.
-use Rattle.std.proofs.Common.{◌≡◌, ℕ, zero, suc, Bool, true, false, not, ◌&&◌, List, [], ◌∷◌, if◌then◌else◌, refl, ap, sym, subst, ◌∙◌}
+use Rattle.std.proofs.Common.{◌≡◌, ℕ, zero, suc, Bool, true, false, ◌&&◌, List, [], ◌∷◌, if◌then◌else◌, refl, ap, sym, subst, ◌∙◌}
 use Rattle.std.proofs.lemmas.Bool.{and_right}
 use Rattle.std.specs.List.{list_any}
 use Rattle.cdp_text.specs.declared.position.Place.{Place}
 use Rattle.cdp_host_isolation.specs.Meanings.{resumed_seat, seat_behind, survives, told_of}
 use Rattle.cdp_host_isolation.specs.Passes.{Behind, HearsOn, Over, OverAll}
-use Rattle.cdp_host_isolation.specs.Seats.{fallen, lost_by, seat_in, seat_of, waits_for_report}
+use Rattle.cdp_host_isolation.specs.Seats.{fallen, lost_by, seat_in, seat_of}
 use Rattle.cdp_host_isolation.specs.Standing.{fell}
 use Rattle.cdp_host_isolation.specs.declared.seat.Loss.TheVariants.{Overrun}
 use Rattle.cdp_host_isolation.specs.declared.seat.Seat.{Seat}

@@ -1,5 +1,5 @@
 -- A session of a host becomes what it is by the events of a session.
-use Rattle.std.proofs.Common.{◌≡◌, ℕ, List, [], ◌∷◌, ◌++◌, Option, Some, None, refl, ap, sym, ◌∙◌}
+use Rattle.std.proofs.Common.{◌≡◌, ℕ, List, [], ◌∷◌, ◌++◌, Option, Some, None, refl, ap, ◌∙◌}
 use Rattle.js_heap.specs.declared.value.Value.{Value}
 use Rattle.js_tree.specs.declared.script.Script.{Script}
 use Rattle.cdp_session.specs.declared.ending.Ending.{Ending}

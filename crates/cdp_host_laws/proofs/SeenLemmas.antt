@@ -8,7 +8,7 @@ use Rattle.cdp_host_isolation.specs.Alone.{Alone, goes_on, one_step, passing, ru
 use Rattle.cdp_host_isolation.specs.declared.seat.Loss.TheVariants.{Overrun}
 use Rattle.cdp_host_isolation.specs.declared.seat.Seat.{Seat}
 use Rattle.cdp_host_isolation.specs.declared.seat.Seat.TheVariants.{Attached}
-use Rattle.cdp_host_laws.proofs.HeldLemmas.{Holds, KeepsAlways, KeepsOver, always-holds, goes-holds, held-at, held-choice, kept-holds, listed-holds, passing-holds, reported-holds, run-holds, step-holds, survivor-holds}
+use Rattle.cdp_host_laws.proofs.HeldLemmas.{Holds, KeepsOver, always-holds, goes-holds, held-at, held-choice, kept-holds, listed-holds, passing-holds, reported-holds, run-holds, step-holds, survivor-holds}
 
 -- the session of a seat shows this, if one is attached
 abbrev pub Shows : {X B : Type 0} → (X → B) → B → Seat X → Type 0

@@ -1,5 +1,5 @@
 -- How many objects and breakpoints a session may hold, and how far it counts (docs/PROTOCOL.md).
-use Rattle.std.specs.Prelude.{ℕ, ◌≤◌, ◌^◌, length}
+use Rattle.std.specs.Prelude.{◌≤◌, ◌^◌, length}
 use Rattle.breakpoints.specs.Breakpoints as breakpoints
 use Rattle.object_groups.specs.Handles as handles
 use Rattle.cdp_session.specs.Sessions.{Session}

@@ -4,11 +4,11 @@ use Rattle.std.specs.Option.{option_and_then, option_map_or}
 use Rattle.std.proofs.lemmas.Bool.{false≢true}
 use Rattle.cdp_text.specs.Lines.{lines_of}
 use Rattle.cdp_host_isolation.specs.Histories as histories
-use Rattle.cdp_host_isolation.specs.Histories.{Entry, handed_of, steps_made}
+use Rattle.cdp_host_isolation.specs.Histories.{Entry, handed_of}
 use Rattle.js_tree.specs.declared.script.Script.{Script}
 use Rattle.js_semantics.specs.Run.{Run as Program}
 use Rattle.cdp_host.specs.Histories.{IsHistory, Meaning, apply, begin}
-use Rattle.cdp_host.specs.Programs.{plain, printed_of, start}
+use Rattle.cdp_host.specs.Programs.{printed_of, start}
 use Rattle.cdp_host.specs.Protocols.{protocol}
 use Rattle.cdp_host.proofs.LawLemmas.{goes-plainly}
 use Rattle.cdp_host.proofs.ProtocolLemmas.{enabled-kept}

@@ -1,5 +1,5 @@
 -- The lines that are applied, and the one that is refused.
-use Rattle.std.proofs.Common.{◌≡◌, ◌≢◌, ◌⊎◌, inl, inr, ℕ, ◌+◌, Bool, true, false, if◌then◌else◌, List, [], ◌∷◌, ◌++◌, length, fold, Option, Some, None, refl, ap, sym, subst, ◌∙◌, arith}
+use Rattle.std.proofs.Common.{◌≡◌, inl, inr, ℕ, ◌+◌, Bool, true, false, if◌then◌else◌, List, [], ◌∷◌, length, Option, Some, None, refl, ap, sym, subst, ◌∙◌, arith}
 use Rattle.std.specs.Option.{option_and_then, option_map_or}
 use Rattle.std.proofs.lemmas.Option.{none-some, same_Some}
 use Rattle.cdp_host_isolation.specs.Histories.{Entry, Attach as Attached, Tell as Told, Take as Taken, Detach as Detached, Ran, Shut as ShutDown}
@@ -11,7 +11,7 @@ use Rattle.cdp_host.specs.Histories.{Meaning, apply}
 use Rattle.cdp_host.specs.Protocols.{protocol}
 use Rattle.debug_host_commands.specs.Applied.{MayStand, IsEntry, AreEntries, MayNotFollow, RefusesAt}
 use Rattle.debug_host_commands.specs.Journal.{behind_memory, entry_at, entry_of, entries, is_there, refused}
-use Rattle.cdp_journal.specs.Lines.{Line, Attach, Tell, Take, Detach, Run, Shut, is_memory, line_of, memory_text}
+use Rattle.cdp_journal.specs.Lines.{Line, Attach, Tell, Take, Detach, Run, Shut, is_memory, line_of}
 use Rattle.cdp_journal.proofs.LineLemmas.{choice-some, line-read, line-some}
 use Rattle.cdp_journal.proofs.WrittenLemmas.{memory-is, other-text}
 use Rattle.debug_host_commands.proofs.PlayLemmas.{memory-entry}

@@ -1,4 +1,4 @@
-use Rattle.std.proofs.Common.{rules, ◌+◌, refl, ap, sym, ◌∙◌, arith}
+use Rattle.std.proofs.Common.{rules, ◌+◌, ap, ◌∙◌, arith}
 use Rattle.breakpoints.specs.PlaceIndex.{without_session}
 use Rattle.cdp_host_isolation.specs.Seats.{waits_for_report}
 use Rattle.cdp_host.proofs.IndexLemmas.{forgets-done, forgets-more, forgets-none}

@@ -1,4 +1,3 @@
-use Rattle.std.proofs.Common.{sym, subst}
 use Rattle.cdp_host_turns.specs.Entries.{lost_for_memory}
 use Rattle.cdp_host_turns.proofs.calls.make_steps.Goals as goal
 

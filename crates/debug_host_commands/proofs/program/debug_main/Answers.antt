@@ -1,4 +1,4 @@
-use Rattle.std.proofs.Common.{[], inl, inr, refl, sym}
+use Rattle.std.proofs.Common.{inl, inr, refl, sym}
 use Rattle.cdp_edge.proofs.HandedLemmas.{hands_nothing}
 use Rattle.debug_host_options.specs.Held.{replay_held, run_held, send_held, serve_held}
 use Rattle.debug_host_commands.specs.declared.outcome.CommandEnd.TheVariants as ends

@@ -1,4 +1,4 @@
-use Rattle.std.proofs.Common.{Ok, Err, refl, sym, subst}
+use Rattle.std.proofs.Common.{Err, refl, sym, subst}
 use Rattle.cdp_host_turns.specs.Turns.{Takes}
 use Rattle.ws_service.specs.Sessions.{HandsOut, Talk}
 use Rattle.ws_service.specs.declared.served.Served.{Served}
