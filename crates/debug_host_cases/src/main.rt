@@ -1,6 +1,6 @@
 //! `debug_host_cases` plays the calls that folders list through the program's top call, over files in memory, and tells each that comes
-//! to another end than is written there, and how many they were. The folders stand in the one that it runs in, or in the one
-//! that its word names.
+//! to another end than is written there, and how many they were. The folders stand in the one that it runs in; one call more
+//! is then served over a socket. Or they stand in the folder that its word names.
 #![tactic(auto)]
 
 mod block;
@@ -8,25 +8,25 @@ mod clients;
 mod differences;
 mod folder;
 mod harbor;
+mod loopback;
 mod play;
 mod texts;
 
 use std::io;
-use std::rt::Env;
 
 fn main(rt: HostRuntime) -> io::Result<()> {
-    let root = root(&rt)?;
-    let mut count: usize = 0;
-    for folder in &folder::folders_in(&rt, root.as_str())? {
-        count = count.saturating_add(play::play_folder(&rt, root.as_str(), folder.as_str())?);
+    if let Some(root) = std::env::args(&rt)?.nth(1) {
+        return play_folders(&rt, root.as_str());
     }
-    println!(rt; "{count} calls")
+    play_folders(&rt, ".")?;
+    loopback::play(rt)
 }
 
-/// The folder in which the folders of cases stand.
-fn root(rt: &(impl Env + AllocGlobal)) -> io::Result<String> {
-    match std::env::args(rt)?.nth(1) {
-        Some(word) => Ok(word),
-        None => Ok(String::from_str(rt.alloc(), ".")?),
+/// Plays the folders of cases that stand in a folder.
+fn play_folders(rt: &HostRuntime, root: &str) -> io::Result<()> {
+    let mut count: usize = 0;
+    for folder in &folder::folders_in(rt, root)? {
+        count = count.saturating_add(play::play_folder(rt, root, folder.as_str())?);
     }
+    println!(rt; "{count} calls")
 }

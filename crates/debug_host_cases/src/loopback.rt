@@ -1,6 +1,5 @@
-//! `debug_host_loopback` serves a script over a socket of this machine, sends it the commands of a file by the client, and prints what
-//! the client printed, what the script printed, and how both ended.
-#![tactic(auto)]
+//! Serves a script over a socket of this machine, sends it the commands of a file by the client, and prints what the client
+//! printed, what the script printed, and how both ended.
 
 use cdp_edge::{FileShelf, MemSink};
 use cdp_edge_server::FixedClock;
@@ -25,7 +24,26 @@ struct Ended {
     output: MemSink,
 }
 
-fn main(rt: HostRuntime) -> io::Result<()> {
+/// Plays one server with one client over the loopback.
+///
+/// # Errors
+///
+/// Those of the system.
+pub(crate) fn play<
+    R: Threads
+        + Wait
+        + Sync
+        + Send
+        + Files
+        + Print
+        + Eprint
+        + Net<Listener = TcpListener, Stream = TcpStream>
+        + RandomSource
+        + Clock
+        + AllocGlobal
+        + Copy
+        + Drop,
+>(rt: R) -> io::Result<()> {
     let port = free_port(&rt)?;
     let (served, sent) = join(&rt, || serve(rt, port), || send_until_served(rt, port));
     let (Ok(served), Ok(sent)) = (served, sent) else {
@@ -94,7 +112,7 @@ fn serve<
         + Copy
         + Drop,
 >(rt: R, port: u16) -> Result<Ended, AllocError> {
-    let line = format!(in rt.alloc(); "serve --port {port} --sessions 1 --wait a.js")?;
+    let line = format!(in rt.alloc(); "serve --port {port} --sessions 1 --wait served.js")?;
     call(rt, line.as_str())
 }
 
@@ -113,7 +131,7 @@ fn send_until_served<
         + Copy
         + Drop,
 >(rt: R, port: u16) -> Result<Ended, AllocError> {
-    let line = format!(in rt.alloc(); "send --port {port} start.commands")?;
+    let line = format!(in rt.alloc(); "send --port {port} served.commands")?;
     for _ in 0..TRIES {
         let ended = call(rt, line.as_str())?;
         if ended.status != 7 {
