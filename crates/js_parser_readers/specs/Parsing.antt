@@ -14,7 +14,7 @@ use Rattle.js_tree.specs.Targets.{is_target}
 use Rattle.js_tree.specs.Height.{height, height_of_key}
 use Rattle.js_tree.specs.Views.{properties}
 use Rattle.js_parser_language.specs.Kinds.{is_kind}
-use Rattle.js_parser_readers.specs.Reading.{Fault, stuck, deep, Read, Reader, expect, expect_near, name_at, fresh_name, word_at, semicolon_at, elements, no_state, with_names}
+use Rattle.js_parser_readers.specs.Reading.{Fault, stuck, deep, Read, Reader, ◌>>=◌, expect, expect_near, name_at, fresh_name, word_at, semicolon_at, elements, no_state, with_names}
 use Rattle.js_parser_readers.specs.Classes as classes
 use Rattle.js_parser_readers.specs.Classes.{PrimaryStart, start, CallTail, dot, key, no_link, link, update_near, Prefix, deletes, a_unary, an_update, no_prefix, prefix, operator, Joint, question, assigns_by, no_joint, joint, ArrowStart, one_parameter, listed, no_arrow, arrow_head, KeyStart, key_start, AfterKey, after_key, is_shorthand, StatementStart, first, ends_return, ForHead, each, declares, plain_head, for_head}
 use Rattle.js_parser_readers.specs.Productions.{Below, more_assignments, names_before, parameters_at, items_at, braces, code_at, declarators_at, one_of, Piece, tok, a_name, the_name, an_assignment, an_expression, optional, arguments, ended, an_end, declared, a_statement, a_block, in_braces, code, seq, made}
