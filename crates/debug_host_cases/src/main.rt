@@ -13,6 +13,9 @@ mod play;
 mod texts;
 
 use std::io;
+use std::rt::Files;
+use std::sync::Wait;
+use std::thread::Threads;
 
 fn main(rt: HostRuntime) -> io::Result<()> {
     if let Some(root) = std::env::args(&rt)?.nth(1) {
@@ -23,7 +26,10 @@ fn main(rt: HostRuntime) -> io::Result<()> {
 }
 
 /// Plays the folders of cases that stand in a folder.
-fn play_folders(rt: &HostRuntime, root: &str) -> io::Result<()> {
+fn play_folders<R: Threads + Wait + Sync + Print + Files + AllocGlobal + Clone + Drop>(
+    rt: &R,
+    root: &str,
+) -> io::Result<()> {
     let mut count: usize = 0;
     for folder in &folder::folders_in(rt, root)? {
         count = count.saturating_add(play::play_folder(rt, root, folder.as_str())?);
