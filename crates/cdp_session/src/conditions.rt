@@ -245,8 +245,10 @@ fn ids_there<P: Program>(
     situation: &Situation<'_, P>,
     place: Place,
 ) -> Result<Vec<Units>, AllocError>
-    ensures ids { IfOk result (λ ids. ids.items ≡ map id_of (filter (conditions.is_met (seen P.standing situation.now).standing (unwrap_or workspace.old no_workspace)) (hits_at place breakpoints.now))) }
-    ensures kept { OnOk result (unwrap_or workspace.new no_workspace ≡ unwrap_or workspace.old no_workspace) }
+    ensures ids { IfOk result (λ ids. ids.items ≡ map id_of (filter
+        (conditions.is_met (seen P.standing situation.now).standing (workspace_in workspace.old))
+        (hits_at place breakpoints.now))) }
+    ensures kept { OnOk result (workspace_in workspace.new ≡ workspace_in workspace.old) }
 {
     if !breakpoints.is_hit(place) {
         return Ok(Vec::new(alloc));

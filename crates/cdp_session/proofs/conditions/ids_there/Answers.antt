@@ -1,15 +1,15 @@
-use Rattle.std.proofs.Common.{filter, map, unwrap_or, ap, sym, ◌∙◌}
+use Rattle.std.proofs.Common.{filter, map, ap, sym, ◌∙◌}
 use Rattle.breakpoints.specs.Breakpoints.{id_of}
 use Rattle.breakpoints.proofs.HitLemmas.{is_hit-none}
 use Rattle.cdp_session.specs.Conditions.{is_met}
-use Rattle.cdp_session.specs.Sessions.{no_workspace}
+use Rattle.cdp_session.specs.Sessions.{workspace_in}
 use Rattle.cdp_session.specs.Situations.{seen}
 use Rattle.cdp_session.proofs.conditions.ids_there.Goals as goal
 
 pub returns-then-not-is_hit-clause-ids : goal.returns-then-not-is_hit-clause-ids
 returns-then-not-is_hit-clause-ids g c =
     let s = (seen g.P.Program.standing c.args.situation.now).standing in
-    let w = unwrap_or c.args.workspace.now no_workspace in
+    let w = workspace_in c.args.workspace.now in
     c.new.ensures.items
     ∙ sym
     (ap (λ bs. map id_of (filter (is_met s w) bs))
