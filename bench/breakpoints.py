@@ -15,12 +15,11 @@ Callgrind is slow: all of it takes some ten minutes.
 """
 
 import argparse
-import json
 import os
 import re
-import subprocess
 import tempfile
 
+from counted import replayed, told
 from debugging import PROGRAM
 from measured import write
 
@@ -58,14 +57,6 @@ def script():
     return SCRIPT.replace("UNUSED", unused).replace("TURNS", str(TURNS))
 
 
-def told(session, number, method, params=None):
-    """The line of a journal that tells a session a command."""
-    command = {"id": number, "method": method}
-    if params is not None:
-        command["params"] = params
-    return "tell %d %s\n" % (session, json.dumps(command).replace("%", "%25"))
-
-
 def sets(session, number, line):
     return told(session, number, "Debugger.setBreakpointByUrl", {"lineNumber": line, "url": "a.js"})
 
@@ -98,11 +89,8 @@ def changes(count):
 
 def counted(program, folder, journal):
     """The instructions of the replay of a journal, in millions, and what it printed."""
-    write(folder, "journal", journal)
-    words = ["valgrind", "--tool=callgrind", "--callgrind-out-file=" + os.devnull, program, "replay", "journal", "a.js"]
-    done = subprocess.run(words, cwd=folder, capture_output=True, text=True)
-    assert done.returncode == 0, done.stderr
-    return int(re.search(r"Collected : (\d+)", done.stderr).group(1)) / 1e6, done.stdout
+    count, printed = replayed(program, folder, journal)
+    return count / 1e6, printed
 
 
 def run_of(program, folder, sessions, breakpoints):

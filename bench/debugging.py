@@ -55,12 +55,12 @@ def possible(start, end=None):
     return "Debugger.getPossibleBreakpoints", params
 
 
-def large_script():
-    """Functions of six lines with long names, about 1,000,000 units of at most 200,000 tokens."""
+def large_script(least=1000000):
+    """Functions of six lines with long names, so many units and a few more; 1,000,000 have at most 200,000 tokens."""
     parts = []
     units = 0
     number = 0
-    while units < 1000000:
+    while units < least:
         part = (f"function calculated_total_{number}(first_operand, second_operand) {{\n"
                 f"  let intermediate = first_operand + second_operand + {number};\n"
                 f"  if (intermediate > 1000) return intermediate - 1000;\n"

@@ -10,6 +10,7 @@ of their own, and once more with them in the program's thread.
 
 - *stops*: so many a second by the clock, of the whole of our process and of node's drill alone, behind a shorter one; each the
   best of N runs. Wanted: 50 times node's.
+- *counted*: the instructions of one stop, as valgrind's callgrind counts them for `drill`, whatever else runs.
 - *growth*: seconds by the clock, those of the processor, and the most memory, for more and more calls: as one drill, whose
   texts wait until the end, and replayed with a take behind each stop. Wanted: a time that grows with the calls, and with takes
   a memory that grows by the journal alone, which is held whole.
@@ -21,6 +22,7 @@ import os
 import subprocess
 import tempfile
 
+from counted import instructions
 from debugging import PROGRAM
 from measured import least, run, write
 
@@ -94,6 +96,13 @@ def has_drill(program, folder):
     return run(program, ["drill", "1"], folder).status == 0
 
 
+def counted(program, folder):
+    """The instructions of one stop of the drill: those of 1,000 less those of 500."""
+    many, _ = instructions(program, ["drill", "2000"], folder)
+    few, _ = instructions(program, ["drill", "1000"], folder)
+    return (many - few) / 500
+
+
 def of_node(node, calls, where):
     """The stops that node makes a second, by the clock and of the processor; None where there is no node."""
     command = [node, os.path.join(HERE, "drill_node.js"), str(calls)] + where
@@ -149,6 +158,8 @@ def main():
         written(folder, 10000, False)
         words = ["drill", "10000"] if drills else REPLAY
         beside_node(program, words, folder, 10000, asked.node, asked.times)
+        if drills:
+            print("counted: %d instructions a stop" % counted(program, folder))
         for calls in 1000, 10000:
             size = written(folder, calls, False)
             words, size = (["drill", str(calls)], 0) if drills else (REPLAY, size)

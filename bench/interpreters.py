@@ -6,8 +6,9 @@
 Runs `PROGRAMS` by `debug_host run`, and by `mujs`, `duk` and `node --jitless`, those of them that are installed (Debian's
 packages `mujs`, `duktape` and `nodejs`), in turn, with their output into a file. For each program it prints the least
 processor time of the rounds in milliseconds, its steps and how many millions of them are made in a second, and the time of
-`run` as a ratio to each other interpreter's. Says so where the outputs differ. It is no part of the gate; build the program
-first (`./debug_host`).
+`run` as a ratio to each other interpreter's. Says so where the outputs differ. The first programs are loops outside
+functions, where others look names up, too; the last five are in functions, where others have slots for them. It is no part
+of the gate; build the program first (`./debug_host`).
 """
 
 import os
@@ -65,6 +66,109 @@ let i = 0;
 while (i < 1000000) { console.log(i); i++; }
 """,
     "nothing": """
+""",
+    # In functions, where names have slots.
+    "heap sort": """
+function sift(a, from, end) {
+  let i = from;
+  let j = 0;
+  let t = 0;
+  while (2 * i + 1 < end) {
+    j = 2 * i + 1;
+    if (j + 1 < end && a[j] < a[j + 1]) j++;
+    if (a[i] >= a[j]) return;
+    t = a[i];
+    a[i] = a[j];
+    a[j] = t;
+    i = j;
+  }
+}
+function sort(a) {
+  let i = (a.length - a.length % 2) / 2;
+  let t = 0;
+  while (i > 0) { i--; sift(a, i, a.length); }
+  let end = a.length;
+  while (end > 1) { end--; t = a[0]; a[0] = a[end]; a[end] = t; sift(a, 0, end); }
+}
+function numbers(n) {
+  let a = [];
+  let x = 1;
+  while (a.length < n) { x = x * 16807 % 2147483647; a.push(x); }
+  return a;
+}
+let a = numbers(10000);
+sort(a);
+console.log(a[0], a[5000], a[9999]);
+""",
+    "texts": """
+function line(i) { return "item " + i + ": " + i * 7 % 1000 + ";"; }
+function build(n) {
+  let t = "";
+  let units = 0;
+  let i = 0;
+  while (i < n) {
+    t = t + line(i);
+    if (t.length > 500) { units = units + t.length; t = ""; }
+    i++;
+  }
+  return units + t.length;
+}
+console.log(build(40000));
+""",
+    "counters": """
+function counter() { let n = 0; return function(d) { n = n + d; return n; }; }
+function count(times) {
+  let a = counter();
+  let b = counter();
+  let i = 0;
+  while (i < times) { a(1); b(2); i++; }
+  return a(0) + b(0);
+}
+console.log(count(50000));
+""",
+    "recursion": """
+function fib(n) { if (n < 2) return n; return fib(n - 1) + fib(n - 2); }
+function ackermann(m, n) {
+  if (m === 0) return n + 1;
+  if (n === 0) return ackermann(m - 1, 1);
+  return ackermann(m - 1, ackermann(m, n - 1));
+}
+console.log(fib(22), ackermann(2, 200));
+""",
+    "shown": """
+function quoted(t) { return "<" + t + ">"; }
+function list(a) {
+  let t = "[";
+  let i = 0;
+  while (i < a.length) { if (i > 0) t = t + ","; t = t + shown(a[i]); i++; }
+  return t + "]";
+}
+function object(o) {
+  let t = "{";
+  let keys = Object.keys(o);
+  let i = 0;
+  while (i < keys.length) { if (i > 0) t = t + ","; t = t + quoted(keys[i]) + ":" + shown(o[keys[i]]); i++; }
+  return t + "}";
+}
+function shown(v) {
+  if (v === null) return "null";
+  if (Array.isArray(v)) return list(v);
+  if (typeof v === "object") return object(v);
+  if (typeof v === "string") return quoted(v);
+  return String(v);
+}
+function rows(n) {
+  let all = [];
+  while (all.length < n) all.push({ id: all.length, name: "n" + all.length, tags: ["a", "b", 1], next: null });
+  return all;
+}
+function repeat(times) {
+  let units = 0;
+  let i = 0;
+  while (i < times) { units = units + shown(rows(20)).length; i++; }
+  return units;
+}
+console.log(repeat(150));
 """,
 }
 

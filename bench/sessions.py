@@ -7,6 +7,9 @@ A loop of some 2,000,000 steps, over functions and branches, is replayed without
 debugger enabled and 100 breakpoints, and with 16 such sessions. The breakpoints stand at lines that are never run, once without
 conditions and once with them. Each figure is the least processor time of N runs (user and system, in seconds), less the same
 replay without the run. Wanted: 16 sessions take at most twice what one takes.
+
+*Attached* are 64 sessions that do nothing, to a script of some 213,000 units: their seconds and their memory in MiB,
+less those of the script without a session.
 """
 
 import argparse
@@ -15,7 +18,7 @@ import os
 import re
 import tempfile
 
-from debugging import PROGRAM
+from debugging import PROGRAM, large_script
 from measured import least, run, write
 
 TURNS = 60000
@@ -105,6 +108,18 @@ def loop(program, folder, sessions, lines, condition, times):
     return whole - before, before, steps
 
 
+def attached(program, folder, sessions, times):
+    """The units of a script, and the seconds and the memory of so many sessions of it that do nothing."""
+    text = large_script(213000)
+    write(folder, "a.js", text)
+    words = ["replay", "journal", "a.js"]
+    write(folder, "journal", "")
+    none = least(program, words, folder, times)
+    write(folder, "journal", "attach\n" * sessions)
+    some = least(program, words, folder, times)
+    return len(text), some.processor - none.processor, some.memory - none.memory
+
+
 def main():
     parser = argparse.ArgumentParser()
     parser.add_argument("--bin", default=PROGRAM)
@@ -124,6 +139,9 @@ def main():
                 "%s: %.3f s with one session, %.3f s with %d, %.2f times that (set in %.3f s)"
                 % (words, one, many, MANY, many / one, before)
             )
+        for sessions in 1, 64:
+            units, spent, memory = attached(program, folder, sessions, asked.times)
+            print("attached: %d sessions to %d units in %.3f s and %.1f MiB" % (sessions, units, spent, memory))
 
 
 if __name__ == "__main__":
