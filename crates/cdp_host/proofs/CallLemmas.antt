@@ -29,7 +29,7 @@ use Rattle.cdp_host.specs.Hosts.{CarriesOn, HostState, IsSound, Leaves, NoneAtta
 use Rattle.cdp_host.specs.Indexing.{IsIndexOf, IsIndexedAs}
 use Rattle.cdp_host.specs.Programs.{code_of}
 use Rattle.cdp_host.specs.Protocols.{protocol}
-use Rattle.cdp_host.specs.Watching.{AnswersIn}
+use Rattle.cdp_host.specs.Watching.{AnswersAs, AnswersIn}
 use Rattle.cdp_host.proofs.HistoryLemmas.{stands-call}
 use Rattle.cdp_host.proofs.IndexLemmas.{changed-indexed}
 use Rattle.cdp_host_isolation.proofs.RoomLemmas.{put-fits, append-fits}
@@ -144,6 +144,17 @@ answers-back (Err ends.Overrun) answer n s seats lent news rest same full is =
     (put-back n s Left lent news rest full is.0 ∙ ap (put s Left) same, is.1)
 answers-back (Err ends.Memory) answer n s seats lent news rest same full is =
     put-back n s Left lent news rest full is ∙ ap (put s Left) same
+
+-- what became of it in the seat of its session became of it in all seats
+pub answers-placed : (w : Result Asks SessionEnd) (answer : AnsweredText) (s : ℕ) (seats news : List (Seat Session))
+    (new : Seat Session)
+    → news ≡ put s new seats
+    → AnswersAs w answer new
+    → AnswersIn w answer s seats news
+answers-placed (Ok asks) answer s seats news new is one = (is ∙ ap (λ seat. put s seat seats) one.0, one.1, one.2)
+answers-placed (Err ends.Overrun) answer s seats news new is one =
+    (is ∙ ap (λ seat. put s seat seats) one.0, one.1)
+answers-placed (Err ends.Memory) answer s seats news new is one = is ∙ ap (λ seat. put s seat seats) one
 
 -- what became of it is another seat of that session
 answers-put : (w : Result Asks SessionEnd) (answer : AnsweredText) (s : ℕ) (seats news : List (Seat Session))

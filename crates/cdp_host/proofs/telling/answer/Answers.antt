@@ -2,8 +2,18 @@ use Rattle.std.proofs.Common.{◌≡◌, ap, subst, sym, ◌∙◌}
 use Rattle.cdp_host_isolation.specs.Seats.{seat_of}
 use Rattle.cdp_host_isolation.specs.declared.seat.Seat.TheVariants.{Attached, Left}
 use Rattle.cdp_host_isolation.proofs.SeatLemmas.{put-same}
+use Rattle.cdp_session.specs.Replies.{answer_of}
+use Rattle.cdp_session.specs.Situations.{seen}
 use Rattle.cdp_host.specs.Indexing.{IsIndexedAs}
+use Rattle.cdp_host.proofs.CallLemmas.{answers-placed}
 use Rattle.cdp_host.proofs.telling.answer.Goals as goal
+
+pub returns-in-Some-clause-answers : goal.returns-in-Some-clause-answers
+returns-in-Some-clause-answers g c = λ x at.
+    let is = c.in-Some.ensures.some in
+    answers-placed c.answer_seat.result
+    (answer_of (seen g.P.Program.standing c.args.situation.now) x c.args.text.now) c.args.s c.args.seats.now _
+    c.answer_seat.new.seat (is.puts c.answer_seat.new.seat) (c.answer_seat.ensures.answers x (is.is _ ∙ at))
 
 pub returns-in-Some-clause-indexed : goal.returns-in-Some-clause-indexed
 returns-in-Some-clause-indexed g c = λ x at old.
