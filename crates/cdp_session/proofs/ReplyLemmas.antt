@@ -1,5 +1,5 @@
 -- The texts of commands that are done, and of lists of properties.
-use Rattle.std.proofs.Common.{◌≡◌, ℕ, List, [], ◌∷◌, ◌++◌, codes, Option, refl, sym, ap, ◌∙◌}
+use Rattle.std.proofs.Common.{◌≡◌, ℕ, Bool, List, [], ◌∷◌, ◌++◌, codes, Option, refl, sym, ap, ◌∙◌}
 use Rattle.std.specs.Char.{encode_utf8}
 use Rattle.std.specs.Char.Utf16.{utf16_chars}
 use Rattle.json.specs.Print.{escape_byte}
@@ -16,11 +16,13 @@ use Rattle.cdp_json.proofs.PieceLemmas.{further, object-is}
 use Rattle.remote_objects.specs.Descriptors.{descriptors_with}
 use Rattle.remote_objects.specs.Sights.{Sight}
 use Rattle.remote_objects.specs.declared.detail.Detail.{Detail}
+use Rattle.cdp_session_messages.specs.Outboxes.{fits}
 use Rattle.cdp_session_messages.specs.Results.{properties}
 use Rattle.cdp_session.specs.Made.{DoesSo, RefusesSo, Written, done_texts, reply_text, spelt, written_of, written_row}
 use Rattle.cdp_session.specs.Replies.{AnsweredText, answer_by, outcome_by}
 use Rattle.cdp_session.specs.Rows.{Does, Refuses, Row}
 use Rattle.cdp_session.specs.Sessions.{Session, sent}
+use Rattle.cdp_session.specs.declared.asks.Asks.{Asks}
 use Rattle.cdp_session.specs.declared.done.Done.{Done as Held}
 
 -- ---- replies
@@ -53,6 +55,19 @@ answered id (Does done) d new x e =
     let tell : List ℕ → AnsweredText = λ t.
     record { session = sent (done.before ++ t ∷ done.events) done.session; asks = done.asks } in
     ap tell (sym (result-written id done.result)) ∙ ap (answered_by id) (does_same v (written_of d new) e)
+
+-- what a session keeps, has to send and asks of the program, where a command was done and its texts were sent
+module _ (id : ℕ) (r : Row) (d : Held) (new x : Session) (made : written_row r ≡ DoesSo (written_of d new)) where
+  pub answered-session : (now : Session) → now ≡ sent (done_texts id d) new
+      → now ≡ (answer_by x (outcome_by id r)).session
+  answered-session now told = told ∙ ap (λ (a : AnsweredText). a.session) (sym (answered id r d new x made))
+
+  pub answered-fits : (b : Bool) → fits (new.outbox ++ done_texts id d) ≡ b
+      → fits (answer_by x (outcome_by id r)).session.outbox ≡ b
+  answered-fits b e = ap (λ (a : AnsweredText). fits a.session.outbox) (answered id r d new x made) ∙ e
+
+  pub answered-asks : (asks : Asks) → asks ≡ d.asks → asks ≡ (answer_by x (outcome_by id r)).asks
+  answered-asks asks e = e ∙ ap (λ (a : AnsweredText). a.asks) (sym (answered id r d new x made))
 
 -- ---- lists of properties
 

@@ -9,7 +9,7 @@ use Rattle.cdp_session.proofs.describing.properties_text.Goals as goal
 pub returns : goal.returns
 returns c =
     let s = described_over c.describer_of-describer.result in
-    let o = c.args.opened.now in
+    let o = c.args.opened.now.workspace in
     let t = sight_of node_text (copied_world o.world o.behind.scratch) c.args.scripts.now c.args.session in
     let g = option_copied c.group_of.result in
     let object = c.args.object.now in
