@@ -78,7 +78,14 @@ acts d p m q entry t = record {
       ∙ ap (λ (k : ℕ). (p.seen ++ t.follows.0) ++ (k, entry) ∷ []) t.same.1;
   nothing = t.follows.2 p.number (answers-for p m t.same t.named);
   history = subst (IsHistory d) (sym t.seen) t.history;
-  same = (t.kept.0 ∙ t.same.0, t.kept.1 ∙ t.same.1, t.kept.2 ∙ t.same.2, t.kept.3 ∙ t.same.3, t.kept.4 ∙ t.same.4);
+  same = (
+    t.kept.0 ∙ t.same.0,
+    t.kept.1 ∙ t.same.1,
+    t.kept.2 ∙ t.same.2,
+    t.kept.3 ∙ t.same.3,
+    t.kept.4 ∙ t.same.4,
+    λ told. t.kept.5 (t.same.5 told),
+  );
   free = t.free;
   named = answers-for p m t.same t.named;
 }
@@ -192,7 +199,7 @@ midway m entry = record m { seen = m.seen ++ (m.number, entry) ∷ []; in_turn =
 pub first-turn : (d : Debugging) (p m : PassState Entry) (entry : Entry) → Follows p m → IsSamePass p m
     → has m.number m.numbers ≡ true → IsHistory d (m.seen ++ (m.number, entry) ∷ []) → Turn d p m (midway m entry) entry
 first-turn d p m entry follows same named history =
-    turn d p m (midway m entry) entry follows same named refl refl (refl, refl, refl, refl, refl) history
+    turn d p m (midway m entry) entry follows same named refl refl (refl, refl, refl, refl, refl, λ told. told) history
 
 pub second-turn : (d : Debugging) (m q : PassState Entry) (first entry : Entry) → has m.number m.numbers ≡ true
     → q.seen ≡ (m.seen ++ (m.number, first) ∷ []) ++ (m.number, entry) ∷ [] → q.in_turn ≡ false → IsSamePass m q
@@ -200,7 +207,8 @@ pub second-turn : (d : Debugging) (m q : PassState Entry) (first entry : Entry) 
     → Turn d (midway m first) (midway m first) q entry
 second-turn d m q first entry named seen free kept history =
     turn d (midway m first) (midway m first) q entry
-    ([], sym (append-nil (m.seen ++ (m.number, first) ∷ [])), λ x h. refl) (refl, refl, refl, refl, refl) named seen free kept
+    ([], sym (append-nil (m.seen ++ (m.number, first) ∷ [])), λ x h. refl)
+    (refl, refl, refl, refl, refl, λ told. told) named seen free kept
     history
 
 -- the pass owns its sessions still

@@ -4,7 +4,7 @@ use Rattle.cdp_host_isolation.specs.Histories.{Entry, Attach, Take, Detach, Ran,
 use Rattle.cdp_host_isolation.specs.Makers.{Owns, by, entries_of}
 use Rattle.cdp_host_isolation.specs.Stops.{plain}
 use Rattle.history_lock.specs.Histories.{has, limit}
-use Rattle.history_lock.specs.Passes.{PassState, IsSamePass}
+use Rattle.history_lock.specs.Passes.{PassState, IsSamePass, refused_pass}
 use Rattle.cdp_host_turns.specs.Debuggings.{Debugging, IsHistory, IsLongest, IsNew, handed, meaning}
 use Rattle.cdp_host_turns.specs.Entries.{told_entry}
 use Rattle.cdp_host_turns.specs.Presences.{IsGoneAs, IsThere, IsToldAs}
@@ -125,7 +125,8 @@ TellsAndTakes d s text p q answered.Memory = Tells d s text p q (Ok Memory)
 TellsAndTakes d s text p q (answered.Gone why) = Tells d s text p q (Err why)
 TellsAndTakes d s text p q (answered.GoneAfter why) =
     (m : PassState Entry) × Tells d s text p m (Ok Kept) × Takes d s m q (Err why)
-TellsAndTakes d s text p q (answered.SpentAfter spent) = Tells d s text p q (Ok Kept) × (spent.ticket ≡ limit)
+TellsAndTakes d s text p q (answered.SpentAfter spent) =
+    (m : PassState Entry) × Tells d s text p m (Ok Kept) × (q ≡ refused_pass m) × (spent.ticket ≡ limit)
 
 -- ---- turns of the program
 

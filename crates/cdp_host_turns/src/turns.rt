@@ -4,6 +4,7 @@ ghost use Rattle.std.specs.Prelude.{◌≡◌, ◌<◌, ◌^◌, IfOk, OnOk, IfE
 ghost use Rattle.cdp_host_isolation.specs.Histories.{Detach, Shut, Take};
 ghost use Rattle.cdp_host_isolation.specs.Makers.{Owns};
 ghost use Rattle.history_lock.specs.Histories.{limit};
+ghost use Rattle.history_lock.specs.Passes.{refused_pass};
 ghost use Rattle.cdp_host_turns.specs.States.{HasState, tells_over};
 ghost use Rattle.cdp_host_turns.specs.Turns.{Acts, Attaches, Finds, Runs, Takes, Tells, TellsAndTakes, unless_kept};
 
@@ -59,7 +60,7 @@ pub fn attach<H: Hosted<B>, B, R: Wait>(
     requires free { p.old.in_turn ≡ false }
     ensures attaches { IfOk result (λ attached. Attaches H.debugs p.old p.new attached) }
     ensures spent { IfErr result (λ e. e.ticket ≡ limit) }
-    ensures none { OnErr result (p.new ≡ p.old) }
+    ensures none { OnErr result (p.new ≡ refused_pass p.old) }
 {
     let mut turn = lock.enter(rt, p)?;
     let host = turn.state();
@@ -83,7 +84,7 @@ fn tell<H: Hosted<B>, B, L: Bell, R: Wait>(
     requires session { Owns p.old.number session p.old.seen }
     ensures tells { IfOk result (λ told. Tells H.debugs session (string_bytes text) p.old p.new told) }
     ensures spent { IfErr result (λ e. e.ticket ≡ limit) }
-    ensures none { OnErr result (p.new ≡ p.old) }
+    ensures none { OnErr result (p.new ≡ refused_pass p.old) }
 {
     let mut turn = lock.enter(rt, p)?;
     let host = turn.state();
@@ -108,7 +109,7 @@ pub fn take<H: Hosted<B>, B, L: Bell, R: Wait>(
     requires session { Owns p.old.number session p.old.seen }
     ensures takes { IfOk result (λ taken. Takes H.debugs session p.old p.new taken) }
     ensures spent { IfErr result (λ e. e.ticket ≡ limit) }
-    ensures none { OnErr result (p.new ≡ p.old) }
+    ensures none { OnErr result (p.new ≡ refused_pass p.old) }
 {
     let mut turn = lock.enter(rt, p)?;
     let host = turn.state();
@@ -149,7 +150,7 @@ fn tell_then_take<H: Hosted<B>, B, L: Bell, R: Wait>(
     requires session { Owns p.old.number session p.old.seen }
     ensures answers { IfOk result (λ answered. TellsAndTakes H.debugs session (string_bytes text) p.old p.new answered) }
     ensures spent { IfErr result (λ e. e.ticket ≡ limit) }
-    ensures none { OnErr result (p.new ≡ p.old) }
+    ensures none { OnErr result (p.new ≡ refused_pass p.old) }
 {
     let answer = tell(rt, lock, bell, p, session, text)?;
     if let Some(ended) = unless_kept(answer) {
@@ -177,7 +178,7 @@ pub fn tell_and_take<H: Hosted<B>, B, L: Bell, R: Wait>(
     requires session { Owns p.old.number session p.old.seen }
     ensures answers { IfOk result (λ answered. TellsAndTakes H.debugs session (string_bytes text) p.old p.new answered) }
     ensures spent { IfErr result (λ e. e.ticket ≡ limit) }
-    ensures none { OnErr result (p.new ≡ p.old) }
+    ensures none { OnErr result (p.new ≡ refused_pass p.old) }
 {
     let Some(mut turn) = lock.enter_twice(rt, p) else {
         return tell_then_take(rt, lock, bell, p, session, text);
@@ -217,7 +218,7 @@ pub fn detach<H: Hosted<B>, B, L: Bell, R: Wait>(
     requires session { Owns p.old.number session p.old.seen }
     ensures acts { OnOk result (Acts H.debugs p.old p.new (Detach session)) }
     ensures spent { IfErr result (λ e. e.ticket ≡ limit) }
-    ensures none { OnErr result (p.new ≡ p.old) }
+    ensures none { OnErr result (p.new ≡ refused_pass p.old) }
 {
     let mut turn = lock.enter(rt, p)?;
     let host = turn.state();
@@ -239,7 +240,7 @@ pub fn look<H: Hosted<B>, B, R: Wait>(
     requires free { p.old.in_turn ≡ false }
     ensures finds { IfOk result (λ state. Finds H.debugs (HasState H.debugs state) p.old p.new (Take 0)) }
     ensures spent { IfErr result (λ e. e.ticket ≡ limit) }
-    ensures none { OnErr result (p.new ≡ p.old) }
+    ensures none { OnErr result (p.new ≡ refused_pass p.old) }
 {
     let mut turn = lock.enter(rt, p)?;
     let state = turn.state().state();
@@ -258,7 +259,7 @@ pub fn shut<H: Hosted<B>, B, L: Bell, R: Wait>(
     requires free { p.old.in_turn ≡ false }
     ensures acts { OnOk result (Acts H.debugs p.old p.new Shut) }
     ensures spent { IfErr result (λ e. e.ticket ≡ limit) }
-    ensures none { OnErr result (p.new ≡ p.old) }
+    ensures none { OnErr result (p.new ≡ refused_pass p.old) }
 {
     let mut turn = lock.enter(rt, p)?;
     let host = turn.state();
@@ -292,7 +293,7 @@ pub fn run<H: Hosted<B>, B, L: Bell, R: Wait>(
     requires moment { moment < 2 ^ 53 }
     ensures runs { IfOk result (λ progress. Runs H.debugs 256 moment p.old p.new progress) }
     ensures spent { IfErr result (λ e. e.ticket ≡ limit) }
-    ensures none { OnErr result (p.new ≡ p.old) }
+    ensures none { OnErr result (p.new ≡ refused_pass p.old) }
 {
     let mut turn = lock.enter(rt, p)?;
     let host = turn.state();

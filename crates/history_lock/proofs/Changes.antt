@@ -19,6 +19,7 @@ module _ {E : Type 0} where
     own_seen = f.own_seen;
     other_seen = f.other_seen;
     waits = λ d. let x = f.waits d in let high = x.1 in (x.0, omega (arith, high, le));
+    refused = λ told. let h = f.refused told in omega (arith, h, le);
     turn = f.turn;
     whole = f.whole;
     own_whole = f.own_whole;
@@ -78,7 +79,7 @@ module _ {S E : Type 0} (stands : S → List (ℕ × E) → Type 0) (n : ℕ) wh
   -- One view changes, and with it the history and the words
   pub changed : (s : St) (before : ℕ) (past : List (ℕ × E)) (r : At before past s) (id : ℕ) (v w : View E) (served : ℕ) (log : List (ℕ × E)) (berths : List ℕ) (homes : List (Option (Opt S))) → get_elem? s.views id ≡ some v
       → served + total held (set s.views id w) ≤ limit
-      → length log ≤ served
+      → (length log ≤ served) × (served ≤ length log + length log)
       → ((j : ℕ) (u : View E) → j ≢ id → get_elem? s.views j ≡ some u → Fits n served (served + total held (set s.views id w)) log u)
       → Fits n served (served + total held (set s.views id w)) log w
       → Alone s.views id w

@@ -1,5 +1,5 @@
 -- Lists of entries, and of views.
-use Rattle.std.proofs.Common.{◌≡◌, ◌≢◌, ◌⊎◌, ℕ, zero, suc, ◌+◌, ◌≤◌, ◌==◌, List, [], ◌∷◌, ◌++◌, length, set, Bool, true, false, true≢false, if◌then◌else◌, refl, sym, ap, ◌∙◌, subst, ⊎_elim, inl, inr, arith, length-append, eq-eqb, ne_eqb}
+use Rattle.std.proofs.Common.{◌≡◌, ◌≢◌, ◌⊎◌, ℕ, zero, suc, ◌+◌, ◌≤◌, ◌==◌, List, [], ◌∷◌, ◌++◌, length, set, ◌||◌, Bool, true, false, true≢false, if◌then◌else◌, refl, sym, ap, ◌∙◌, subst, ⊎_elim, inl, inr, arith, length-append, eq-eqb, ne_eqb}
 use mathlib.Core.Option.{some, some-ne-none, some-injective}
 use mathlib.Core.Logic.{dite}
 use native.Mathlib.Decide.{ℕ_discrete}
@@ -97,6 +97,21 @@ pub not_true : (b : Bool) → (b ≡ true → ⊥) → b ≡ false
 not_true true h = absurd (h refl)
 not_true false h = refl
 
+-- a list that has no entry of any maker has none
+pub by_none_of_all : {E : Type 0} (es : List (ℕ × E)) → ((x : ℕ) → by x es ≡ []) → es ≡ []
+by_none_of_all [] none = refl
+by_none_of_all {E} (e ∷ es) none =
+    let more : by e.0 (e ∷ es) ≡ e.1 ∷ by e.0 es =
+    ap (λ (b : Bool). if b then e.1 ∷ by e.0 es else by e.0 es) (eq-eqb e.0 e.0 refl) in
+    absurd (cons_not_nil e.1 (by e.0 es) (sym more ∙ none e.0))
+  where
+    cons_not_nil : (a : E) (fs : List E) → a ∷ fs ≡ [] → ⊥
+    cons_not_nil a fs p = absurd (cc)
+
+pub or_true : (a b : Bool) → (a || b) ≡ true → (a ≡ true) ⊎ (b ≡ true)
+or_true true b h = inl refl
+or_true false b h = inr h
+
 pub has_append : (x : ℕ) (ks ls : List ℕ) → has x (ks ++ ls) ≡ true → (has x ks ≡ true) ⊎ (has x ls ≡ true)
 has_append x [] ls h = inr h
 has_append x (k ∷ ks) ls h = by_case (has x (ks ++ ls)) (has x ks) (has x ls) (k == x) (has_append x ks ls) h
@@ -136,6 +151,13 @@ module _ {V : Type 0} where
   pub total_snoc : (f : V → ℕ) (views : List V) (w : V) → total f (views ++ w ∷ []) ≡ total f views + f w
   total_snoc f [] w = omega arith
   total_snoc f (x ∷ xs) w = let t = total_snoc f xs w in omega (arith, t)
+
+  pub total_none : (f : V → ℕ) (views : List V) → ((j : ℕ) (u : V) → get_elem? views j ≡ some u → f u ≡ 0)
+      → total f views ≡ 0
+  total_none f [] none = refl
+  total_none f (x ∷ xs) none =
+      let a = none 0 x refl in
+      let b = total_none f xs (λ j u e. none (suc j) u e) in omega (arith, a, b)
 
   -- what holds of one view and of all the others holds of each
   pub each_set : (F : ℕ → V → Type 0) (views : List V) (id : ℕ) (w : V) → ((j : ℕ) (u : V) → j ≢ id → get_elem? views j ≡ some u → F j u) → F id w

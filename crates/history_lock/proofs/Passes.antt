@@ -10,13 +10,13 @@ use Rattle.atomic_table.proofs.Lists.{at_set, set_again, at_longer}
 use Rattle.history_lock.specs.declared.view.View.{View}
 use Rattle.history_lock.specs.Histories.{limit, has, by, Begins, longer}
 use Rattle.history_lock.specs.Passes.{LockId, PassState, initial_pass, initial_passes}
-use Rattle.history_lock.specs.Views.{IsSeated, IsOpening, shown, held, Reserved, term, plain, opening, nobody, thinned, newborn, opened, newly_opened, divided, split_off, joined}
+use Rattle.history_lock.specs.Views.{IsSeated, IsOpening, shown, held, Reserved, term, plain, opening, nobody, thinned, newborn, opened, newly_opened, divided, split_off, joined, refused_view}
 use Rattle.history_lock.specs.Rule.{total, Fits, Meets, KeptOf, IsOneHistory, Accounts, IsWithin, WasSplit}
-use Rattle.history_lock.specs.Steps.{Recalled}
-use Rattle.history_lock.proofs.Facts.{begins_same, begins_nil, begins_both, by_none, by_within, has_append, has_front, has_behind, has_one, has_same, total_set, total_snoc, each_set, each_snoc, set_there, set_other, set_swap, not_true}
+use Rattle.history_lock.specs.Steps.{Recalled, Refused}
+use Rattle.history_lock.proofs.Facts.{begins_same, begins_nil, begins_both, by_none, by_within, has_append, has_front, has_behind, has_one, has_same, or_true, total_set, total_snoc, each_set, each_snoc, set_there, set_other, set_swap, not_true}
 use Rattle.history_lock.proofs.Reserves.{nobody_reserves, thinned_within, newborn_within, parted, base_taken, base_not_kept, unopened_taken, unopened_not_kept, from_base, base_within}
 use Rattle.history_lock.proofs.Changes.{Alone, fits_later, meets_none, changed, stays_alone, accounts_set, holds_on}
-use Rattle.history_lock.proofs.Knowing.{only_initial}
+use Rattle.history_lock.proofs.Knowing.{only_initial, sees_spent}
 
 less : (a b : ℕ) → a < b → nat_lt a b ≡ true
 less a b h = grind (arith, nat_tests)
@@ -48,6 +48,7 @@ module _ {S E : Type 0} (stands : S → List (ℕ × E) → Type 0) (n : ℕ) wh
     own_seen = begins_nil log;
     other_seen = begins_nil log;
     waits = λ h. absurd (omega (arith, h));
+    refused = λ h. absurd (true≢false (sym h));
     turn = λ h. absurd (true≢false (sym h));
     whole = λ x h. subst (λ (y : ℕ). by y log ≡ by y seen) (has_one x k h) same;
     own_whole = λ x h. absurd (true≢false (sym h));
@@ -74,7 +75,7 @@ module _ {S E : Type 0} (stands : S → List (ℕ × E) → Type 0) (n : ℕ) wh
     record {
       words = (berths, refl);
       bound = omega arith;
-      few = omega arith;
+      few = (omega arith, omega arith);
       each = λ i v e. one (λ _ u. Fits n 0 0 [] u) (plain_fits 0 0 [] [] (n - 1) 0 n 1 (begins_same []) refl (le_refl n) (λ _ _. refl)) i v e;
       tickets = λ i j v w ei ej _. one (λ k _. k ≡ j) (one (λ l _. 0 ≡ l) refl j w ej) i v ei;
       apart = λ i j v w x' ei ej _ _. one (λ k _. k ≡ j) (one (λ l _. 0 ≡ l) refl j w ej) i v ei;
@@ -136,6 +137,7 @@ module _ {S E : Type 0} (stands : S → List (ℕ × E) → Type 0) (n : ℕ) wh
     own_seen = f.own_seen;
     other_seen = f.other_seen;
     waits = f.waits;
+    refused = f.refused;
     turn = f.turn;
     whole = f.whole;
     own_whole = f.own_whole;
@@ -256,6 +258,7 @@ module _ {S E : Type 0} (stands : S → List (ℕ × E) → Type 0) (n : ℕ) wh
     own_seen = f.seen;
     other_seen = g.seen;
     waits = λ h. absurd (omega (arith, h, off));
+    refused = λ h. ⊎_elim f.refused g.refused (or_true v.refused w.refused h);
     turn = λ h. absurd (true≢false (sym h ∙ free));
     whole = λ x h. ⊎_elim
         (λ a. sym (by_within x v.seen (longer v.seen w.seen) log (in_front v.seen w.seen log f.seen g.seen) (longer_begins v.seen w.seen log f.seen g.seen) (f.whole x a) ∙ sym (f.whole x a)))
@@ -278,6 +281,7 @@ module _ {S E : Type 0} (stands : S → List (ℕ × E) → Type 0) (n : ℕ) wh
     own_seen = begins_nil log;
     other_seen = begins_nil log;
     waits = λ h. absurd (omega (arith, h));
+    refused = λ h. absurd (true≢false (sym h));
     turn = λ h. absurd (true≢false (sym h));
     whole = λ x h. absurd (true≢false (sym h));
     own_whole = λ x h. absurd (true≢false (sym h));
@@ -380,9 +384,24 @@ module _ {S E : Type 0} (stands : S → List (ℕ × E) → Type 0) (n : ℕ) wh
 
   -- ---- what a pass may rely on
 
-  recalled : (s : St) (served : ℕ) (past : List (ℕ × E)) (r : At served past s) (acc : Accounts n s.views past) (slots found id : ℕ) (me : Me (Opt S) V) → get_elem? s.views id ≡ some me.0 → has me.0.number me.0.numbers ≡ true
+  -- a view that stays as it was
+  unchanged : (s : St) (served : ℕ) (past : List (ℕ × E)) (r : At served past s) (acc : Accounts n s.views past) (id : ℕ)
+      (v : V) → get_elem? s.views id ≡ some v
+      → Rule
+      record { words = (served + total held s.views) ∷ served ∷ r.words.0; homes = s.homes; views = set s.views id v }
+  unchanged s served past r acc id v at =
+      let t : ℕ = served + total held s.views in (
+        past,
+        served,
+        subst (λ vs. At served past record { words = t ∷ served ∷ r.words.0; homes = s.homes; views = vs })
+            (sym (set_again s.views id v at))
+            (subst (λ ws. At served past record { words = ws; homes = s.homes; views = s.views }) r.words.1 r),
+        subst (λ vs. Accounts n vs past) (sym (set_again s.views id v at)) acc,
+      )
+
+  recalled : (s : St) (served : ℕ) (past : List (ℕ × E)) (r : At served past s) (acc : Accounts n s.views past) (slots found id : ℕ) (me : Me (Opt S) V) → get_elem? s.views id ≡ some me.0 → has me.0.number me.0.numbers ≡ true → me.0.tickets ≡ 0
       → Recalled (step slots 0 0 0 none) me found me
-  recalled s served past r acc slots found id me at own =
+  recalled s served past r acc slots found id me at own off =
       let v : V = me.0 in
       let f = r.each id v at in
       let is : v.initial ≡ n = f.initial v.number own in (
@@ -397,6 +416,7 @@ module _ {S E : Type 0} (stands : S → List (ℕ × E) → Type 0) (n : ℕ) wh
         )),
         (λ x h. not_true (has x v.other_numbers) (f.disjoint x h)),
         only_initial stands n s served past r acc id v at own v.seen f.seen,
+        sees_spent stands n s served past r acc id v at own off,
       )
     where
       front : (xs ys seen log : List (ℕ × E)) → seen ≡ longer xs ys → Begins xs log → Begins ys log → Begins xs seen
@@ -405,9 +425,9 @@ module _ {S E : Type 0} (stands : S → List (ℕ × E) → Type 0) (n : ℕ) wh
       behind : (xs ys seen log : List (ℕ × E)) → seen ≡ longer xs ys → Begins xs log → Begins ys log → Begins ys seen
       behind xs ys seen log long b c = subst (λ l. Begins ys l) (sym long) (in_behind xs ys log b c)
 
-  pub recalls : (slots id : ℕ) (me : Me (Opt S) V) → has me.0.number me.0.numbers ≡ true
+  pub recalls : (slots id : ℕ) (me : Me (Opt S) V) → has me.0.number me.0.numbers ≡ true → me.0.tickets ≡ 0
       → Allows Rule slots id me 0 (λ x. x) (Recalled (step slots 0 0 0 none) me)
-  recalls slots id me own s kept_now _ at _ =
+  recalls slots id me own off s kept_now _ at _ =
       let past : List (ℕ × E) = kept_now.0 in
       let served : ℕ = kept_now.1 in
       let r = kept_now.2 in
@@ -419,14 +439,87 @@ module _ {S E : Type 0} (stands : S → List (ℕ × E) → Type 0) (n : ℕ) wh
         me.0,
         keeps,
         tt,
-        (
-          past,
-          served,
-          subst (λ vs. At served past record { words = t ∷ served ∷ r.words.0; homes = s.homes; views = vs }) (sym (set_again s.views id me.0 at)) (subst (λ ws. At served past record { words = ws; homes = s.homes; views = s.views }) r.words.1 r),
-          subst (λ vs. Accounts n vs past) (sym (set_again s.views id me.0 at)) kept_now.3,
-        ),
-        recalled s served past r kept_now.3 slots t id me at own,
+        unchanged s served past r kept_now.3 id me.0 at,
+        recalled s served past r kept_now.3 slots t id me at own off,
       )
+
+  -- ---- no ticket is left
+
+  refused_fits : (served t : ℕ) (log : List (ℕ × E)) (v : V) → Fits n served t log v → limit ≤ t
+      → Fits n served t log (refused_view v)
+  refused_fits served t log v f drawn = record {
+    seen = f.seen;
+    own_seen = f.own_seen;
+    other_seen = f.other_seen;
+    waits = f.waits;
+    refused = λ _. drawn;
+    turn = f.turn;
+    whole = f.whole;
+    own_whole = f.own_whole;
+    other_whole = f.other_whole;
+    own = f.own;
+    other = f.other;
+    disjoint = f.disjoint;
+    initial = f.initial;
+    named = f.named;
+    unused = f.unused;
+    beyond = f.beyond;
+  }
+
+  refused_at : (s : St) (served : ℕ) (past : List (ℕ × E)) (r : At served past s) (id : ℕ) (v : V)
+      → get_elem? s.views id ≡ some v → v.tickets ≡ 0 → v.in_turn ≡ false → limit ≤ served + total held s.views
+      → At served past
+      record { words = (served + total held s.views) ∷ served ∷ r.words.0; homes = s.homes; views = set s.views id (refused_view v) }
+  refused_at s served past r id v at off free drawn =
+      let w : V = refused_view v in
+      let t : ℕ = served + total held s.views in
+      let more = total_set held s.views id v w at in
+      let u : ℕ = served + total held (set s.views id w) in
+      let same : u ≡ t = omega (arith, more) in
+      let bound = r.bound in
+      subst
+      (λ (k : ℕ). At served past record { words = k ∷ served ∷ r.words.0; homes = s.homes; views = set s.views id w }) same
+      (changed stands n s served past r id v w served past r.words.0 s.homes at (omega (arith, same, bound)) r.few
+      (λ j y _ e. fits_later n served t u past y (omega (arith, same)) (r.each j y e))
+      (fits_later n served t u past w (omega (arith, same)) (refused_fits served t past v (r.each id v at) drawn))
+      (stays_alone stands n s served past r id v w at (λ j u _ _. meets_none w u off) (λ x h. h) (λ x h. h))
+      (holds_on stands n s served past r id v w at free free))
+
+  pub refuses : (slots id : ℕ) (me : Me (Opt S) V) → has me.0.number me.0.numbers ≡ true → me.0.tickets ≡ 0
+      → me.0.in_turn ≡ false → Allows Rule slots id me 0 (λ x. x) (Refused (step slots 0 0 0 none) me)
+  refuses slots id me own off free s kept_now _ at _ =
+      let past : List (ℕ × E) = kept_now.0 in
+      let served : ℕ = kept_now.1 in
+      let r = kept_now.2 in
+      let acc = kept_now.3 in
+      let t : ℕ = served + total held s.views in
+      let w : V = refused_view me.0 in
+      let Goal : List ℕ → Type 0 = λ ws. (u : V) × (a : Act (Opt S)) × Valid s.homes me.1 a
+      × Rule record { words = set ws 0 (get_or ws 0 0); homes = homes_after s.homes me.1 a; views = set s.views id u }
+      × Refused (step slots 0 0 0 none) me (get_or ws 0 0) (u, carried_after me.1 a) in
+      subst Goal (sym r.words.1) (dite (ℕ_discrete t limit)
+      (λ full. let new = refused_at s served past r id me.0 at off free (omega (arith, full)) in
+      let later : St = record { words = t ∷ served ∷ r.words.0; homes = s.homes; views = set s.views id w } in
+      let accounts : Accounts n (set s.views id w) past =
+      accounts_set n s.views id me.0 w past past at refl (omega arith) (λ within. within.1) acc in (
+        w,
+        keeps,
+        tt,
+        (past, served, new, accounts),
+        (
+          refl,
+          (λ _. refl),
+          (λ left. absurd (left full)),
+          sees_spent stands n later served past new accounts id w (set_there s.views id me.0 w at) own off,
+        ),
+      ))
+      (λ left. (
+        me.0,
+        keeps,
+        tt,
+        unchanged s served past r acc id me.0 at,
+        (refl, (λ full. absurd (left full)), (λ _. refl), sees_spent stands n s served past r acc id me.0 at own off),
+      )))
 
 -- ---- what the calls need of a pass's seat
 

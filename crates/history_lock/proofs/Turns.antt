@@ -37,6 +37,7 @@ module _ {S E : Type 0} (stands : S → List (ℕ × E) → Type 0) (n : ℕ) wh
     own_seen = f.own_seen;
     other_seen = f.other_seen;
     waits = λ _. (low, high);
+    refused = λ told. let h = f.refused told in omega (arith, h, high);
     turn = λ on. absurd (true≢false (sym on ∙ free));
     whole = f.whole;
     own_whole = f.own_whole;
@@ -153,6 +154,7 @@ module _ {S E : Type 0} (stands : S → List (ℕ × E) → Type 0) (n : ℕ) wh
     own_seen = f.own_seen;
     other_seen = f.other_seen;
     waits = f.waits;
+    refused = f.refused;
     turn = λ h. let o = on h in (o.0, o.1, refl);
     whole = λ x h. refl;
     own_whole = f.own_whole;
@@ -214,7 +216,7 @@ module _ {S E : Type 0} (stands : S → List (ℕ × E) → Type 0) (n : ℕ) wh
       let f = r.each id me.0 at in
       let d = f.waits draws in
       let d0 = d.0 in let d1 = d.1 in
-      let bound = r.bound in let few = r.few in
+      let bound = r.bound in let few = r.few.0 in
       let low : length past < limit = omega (arith, d0, d1, bound, few, draws) in
       let accounts : (b : Bool) → Accounts n (set s.views id (looked me.0 past b)) past = λ b. accounts_set n s.views id me.0 (looked me.0 past b) past past at refl (omega arith) (λ within. within.1) acc in
       subst Goal (sym r.words.1) (dite (ℕ_discrete served me.0.ticket)
@@ -272,6 +274,7 @@ module _ {S E : Type 0} (stands : S → List (ℕ × E) → Type 0) (n : ℕ) wh
         own_seen = begins_more u.own_seen past (made v.number es) f.own_seen;
         other_seen = begins_more u.other_seen past (made v.number es) f.other_seen;
         waits = λ du. let b = f.waits du in let b1 = b.1 in (after_turn s served past r id v at on j u ne eu du, omega (arith, is, b1));
+        refused = λ told. let h = f.refused told in omega (arith, is, h);
         turn = λ onu. let b = f.turn onu in absurd (ne (same_first s served past r j id u v eu at b.0 turn.0 (b.1 ∙ sym turn.1)));
         whole = λ x h. stays x h ∙ f.whole x h;
         own_whole = λ x h. stays x (f.own x h) ∙ f.own_whole x h;
@@ -285,9 +288,9 @@ module _ {S E : Type 0} (stands : S → List (ℕ × E) → Type 0) (n : ℕ) wh
         beyond = f.beyond;
       }
 
-  advanced_fits : (s : St) (served : ℕ) (past : List (ℕ × E)) (r : At served past s) (id : ℕ) (v : V) (es : List E) (after t : ℕ) → get_elem? s.views id ≡ some v → v.in_turn ≡ true
+  advanced_fits : (s : St) (served : ℕ) (past : List (ℕ × E)) (r : At served past s) (id : ℕ) (v : V) (es : List E) (after t : ℕ) → get_elem? s.views id ≡ some v → v.in_turn ≡ true → t ≡ served + total held s.views
       → Fits n after t (past ++ made v.number es) (advanced v es)
-  advanced_fits s served past r id v es after t at on =
+  advanced_fits s served past r id v es after t at on now =
       let f = r.each id v at in
       let turn = f.turn on in
       let log : List (ℕ × E) = past ++ made v.number es in
@@ -297,6 +300,7 @@ module _ {S E : Type 0} (stands : S → List (ℕ × E) → Type 0) (n : ℕ) wh
         own_seen = begins_nil log;
         other_seen = begins_nil log;
         waits = λ h. absurd (omega (arith, h));
+        refused = λ told. let h = f.refused told in omega (arith, now, h);
         turn = λ h. absurd (true≢false (sym h));
         whole = λ x h. ap (by x) (sym is);
         own_whole = λ x h. absurd (true≢false (sym h));
@@ -317,10 +321,10 @@ module _ {S E : Type 0} (stands : S → List (ℕ × E) → Type 0) (n : ℕ) wh
       let low = within.0 id v v.number at own in
       not_theirs past v.number es x (λ same. omega (arith, low, le, same)) ∙ within.1 x le
 
-  pub advances : (slots id : ℕ) (me : Me (Opt S) V) (k : ℕ) (y : S) (es ending : List E) → me.0.tickets ≡ k → me.0.in_turn ≡ true → me.1 ≡ (0, Some y) ∷ [] → ending ≡ es → length es ≤ k
+  pub advances : (slots id : ℕ) (me : Me (Opt S) V) (k : ℕ) (y : S) (es ending : List E) → me.0.tickets ≡ k → me.0.in_turn ≡ true → me.1 ≡ (0, Some y) ∷ [] → ending ≡ es → length es ≤ k → k ≤ length es + length es
       → stands y (me.0.seen ++ made me.0.number es)
       → Allows Rule slots id me 1 (λ i. (i + k) % 18446744073709551616) (Advanced ending (step slots 1 k 0 none) me)
-  advances slots id me k y es ending count on carries named many stood s kept_now _ at _ =
+  advances slots id me k y es ending count on carries named many two stood s kept_now _ at _ =
       let past : List (ℕ × E) = kept_now.0 in
       let served : ℕ = kept_now.1 in
       let r = kept_now.2 in
@@ -331,7 +335,7 @@ module _ {S E : Type 0} (stands : S → List (ℕ × E) → Type 0) (n : ℕ) wh
       let own = f.named turn.0 in
       let d = f.waits turn.0 in
       let d0 = d.0 in let d1 = d.1 in
-      let bound = r.bound in let few = r.few in
+      let bound = r.bound in let few = r.few.0 in let enough = r.few.1 in
       let low : served + k ≤ limit = omega (arith, d0, d1, bound, count) in
       let log : List (ℕ × E) = past ++ made v.number es in
       let after : ℕ = served + v.tickets in
@@ -346,9 +350,10 @@ module _ {S E : Type 0} (stands : S → List (ℕ × E) → Type 0) (n : ℕ) wh
       × Advanced ending (step slots 1 k 0 none) me (get_or ws 1 0) (w', carried_after me.1 a) in
       let new : At after log record { words = t ∷ after ∷ r.words.0; homes = some (Some y) ∷ []; views = set s.views id w } =
       subst (λ (i : ℕ). At after log record { words = i ∷ after ∷ r.words.0; homes = some (Some y) ∷ []; views = set s.views id w }) same
-      (changed stands n s served past r id v w after log r.words.0 (some (Some y) ∷ []) at (omega (arith, same, bound)) (omega (arith, longer_log, few, many, count))
+      (changed stands n s served past r id v w after log r.words.0 (some (Some y) ∷ []) at (omega (arith, same, bound))
+      (omega (arith, longer_log, few, many, count), omega (arith, longer_log, enough, two, count))
       (advanced_others s served past r id v es (after + total held (set s.views id w)) at on same)
-      (advanced_fits s served past r id v es after (after + total held (set s.views id w)) at on)
+      (advanced_fits s served past r id v es after (after + total held (set s.views id w)) at on same)
       (stays_alone stands n s served past r id v w at (λ j u _ _. meets_none w u refl) (λ x h. h) (λ x h. h))
       (inl (
         y,

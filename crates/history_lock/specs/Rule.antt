@@ -21,6 +21,8 @@ module _ {E : Type 0} where
     pub other_seen : Begins v.other_seen log
     -- its tickets are drawn and not served yet
     pub waits : 0 < v.tickets → (served ≤ v.ticket) × (v.ticket + v.tickets ≤ ticket)
+    -- where it was refused a ticket all are drawn
+    pub refused : v.refused ≡ true → limit ≤ ticket
     -- the turn is that of the ticket that is served, and all of the history is seen
     pub turn : v.in_turn ≡ true → (0 < v.tickets) × (v.ticket ≡ served) × (v.seen ≡ log)
     -- each entry with a number that it answers for is in its own list
@@ -64,8 +66,8 @@ module _ {S E : Type 0} (stands : S → List (ℕ × E) → Type 0) where
     -- the ticket word is the number of tickets drawn, the serving word that of tickets served; after them are the berths
     pub words : Begins ((served + total held s.views) ∷ served ∷ []) s.words
     pub bound : served + total held s.views ≤ limit
-    -- a ticket leaves at most one entry
-    pub few : length log ≤ served
+    -- a ticket leaves at most one entry, and two leave at least one
+    pub few : (length log ≤ served) × (served ≤ length log + length log)
     pub each : (i : ℕ) (v : View E) → get_elem? s.views i ≡ some v → Fits n served (served + total held s.views) log v
     -- tickets differ
     pub tickets : (i j : ℕ) (v w : View E) → get_elem? s.views i ≡ some v → get_elem? s.views j ≡ some w → Meets v w → i ≡ j

@@ -2,8 +2,8 @@
 use Rattle.std.specs.Prelude.{◌≡◌, ◌≢◌, ℕ, ◌+◌, ◌<◌, ◌≤◌, List, [], ◌∷◌, ◌++◌, length, true, false, Some, Option as Opt}
 use Rattle.atomic_table.specs.Table.{Me, Step}
 use Rattle.history_lock.specs.declared.view.View.{View}
-use Rattle.history_lock.specs.Histories.{limit, has, by, longer, Begins}
-use Rattle.history_lock.specs.Views.{drawn, looked, advanced}
+use Rattle.history_lock.specs.Histories.{IsSpent, limit, has, by, longer, Begins}
+use Rattle.history_lock.specs.Views.{drawn, looked, advanced, refused_view}
 
 module _ {E : Type 0} where
   -- a view has the same and more behind it, of which nothing is its own
@@ -13,6 +13,11 @@ module _ {E : Type 0} where
   -- without a split, what a pass that answers for the first n has seen is theirs
   abbrev pub OnlyInitial : View E → Type 0
   OnlyInitial v = ((x : ℕ) → x < v.initial → has x v.numbers ≡ true) → v.splits ≡ 0 → (x : ℕ) → v.initial ≤ x → by x v.seen ≡ []
+
+  -- without a split, a pass that answers for the first n, and was refused a ticket, has seen a history after which none is
+  -- left
+  abbrev pub KnowsSpent : View E → Type 0
+  KnowsSpent v = ((x : ℕ) → x < v.initial → has x v.numbers ≡ true) → v.splits ≡ 0 → v.refused ≡ true → IsSpent v.seen
 
 module _ {S E : Type 0} where
   -- so many tickets are drawn where the word was the number expected
@@ -26,6 +31,11 @@ module _ {S E : Type 0} where
   abbrev pub Advanced : List E → Step (Opt S) → Me (Opt S) (View E) → ℕ → Me (Opt S) (View E) → Type 0
   Advanced ending s v found w = (found + s.first ≤ limit) × (w.1 ≡ []) × ((es : List E) → ending ≡ es → w.0 ≡ advanced v.0 es) × OnlyInitial w.0
 
+  -- where all tickets are drawn the pass is refused one
+  abbrev pub Refused : Step (Opt S) → Me (Opt S) (View E) → ℕ → Me (Opt S) (View E) → Type 0
+  Refused s v found w = (w.1 ≡ v.1) × (found ≡ limit → w.0 ≡ refused_view v.0) × (found ≢ limit → w.0 ≡ v.0)
+      × KnowsSpent w.0
+
   -- a mark on a berth changes nothing that a pass knows or holds
   abbrev pub Marked : Step (Opt S) → Me (Opt S) (View E) → ℕ → Me (Opt S) (View E) → Type 0
   Marked s v found w = w ≡ v
@@ -38,7 +48,7 @@ module _ {S E : Type 0} where
       × ((x : ℕ) → has x v.0.own_numbers ≡ true → by x v.0.seen ≡ by x v.0.own_seen)
       × ((x : ℕ) → has x v.0.other_numbers ≡ true → by x v.0.seen ≡ by x v.0.other_seen))
       × ((x : ℕ) → has x v.0.own_numbers ≡ true → has x v.0.other_numbers ≡ false)
-      × OnlyInitial v.0
+      × OnlyInitial v.0 × KnowsSpent v.0
 
 module _ {S E : Type 0} (stands : S → List (ℕ × E) → Type 0) where
   -- the turn has come: all of the history is seen, and the slot has a state that stands for it

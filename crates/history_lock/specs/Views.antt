@@ -1,5 +1,5 @@
 -- What passes know, and how each kind of step changes it.
-use Rattle.std.specs.Prelude.{◌≡◌, ◌⊎◌, ℕ, zero, suc, ◌+◌, ◌-◌, ◌<◌, ◌≤◌, List, [], ◌∷◌, ◌++◌, Bool, true, false, MatchBool, None, Option as Opt}
+use Rattle.std.specs.Prelude.{◌≡◌, ◌⊎◌, ℕ, zero, suc, ◌+◌, ◌-◌, ◌<◌, ◌≤◌, List, [], ◌∷◌, ◌++◌, ◌||◌, Bool, true, false, MatchBool, None, Option as Opt}
 use Rattle.atomic_table.specs.Table.{Me}
 use Rattle.history_lock.specs.declared.view.View.{View}
 use Rattle.history_lock.specs.Histories.{has, longer, made}
@@ -21,7 +21,7 @@ module _ {E : Type 0} where
 
   -- a pass that answers for its own number alone, out of turn, with the numbers that it may give
   abbrev pub plain : ℕ → ℕ → List (ℕ × E) → ℕ → ℕ → ℕ → View E
-  plain initial number seen unopened base stride = record { number = number; numbers = number ∷ []; splits = 0; seen = seen; tickets = 0; ticket = 0; in_turn = false; initial = initial; unopened = unopened; base = base; stride = stride; own_numbers = []; own_seen = []; other_numbers = []; other_seen = [] }
+  plain initial number seen unopened base stride = record { number = number; numbers = number ∷ []; splits = 0; seen = seen; tickets = 0; ticket = 0; in_turn = false; refused = false; initial = initial; unopened = unopened; base = base; stride = stride; own_numbers = []; own_seen = []; other_numbers = []; other_seen = [] }
 
   -- the one that opens the others has the last number
   abbrev pub opening : ℕ → View E
@@ -29,7 +29,7 @@ module _ {E : Type 0} where
 
   -- a pass that was joined into another answers for nothing
   abbrev pub nobody : View E
-  nobody = record { number = 0; numbers = []; splits = 0; seen = []; tickets = 0; ticket = 0; in_turn = false; initial = 0; unopened = 0; base = 0; stride = 0; own_numbers = []; own_seen = []; other_numbers = []; other_seen = [] }
+  nobody = record { number = 0; numbers = []; splits = 0; seen = []; tickets = 0; ticket = 0; in_turn = false; refused = false; initial = 0; unopened = 0; base = 0; stride = 0; own_numbers = []; own_seen = []; other_numbers = []; other_seen = [] }
 
   -- a pass that keeps each second one of the numbers after its first
   abbrev pub thinned : View E → ℕ → ℕ → View E
@@ -67,13 +67,17 @@ module _ {E : Type 0} where
   abbrev pub advanced : View E → List E → View E
   advanced v entries = record v { seen = v.seen ++ made v.number entries; tickets = 0; in_turn = false; own_numbers = []; own_seen = []; other_numbers = []; other_seen = [] }
 
+  -- a pass that was refused a ticket
+  abbrev pub refused_view : View E → View E
+  refused_view v = record v { refused = true }
+
   -- two passes joined, with what each of them knew
   abbrev pub joined : View E → View E → View E
-  joined v w = record v { numbers = v.numbers ++ w.numbers; splits = v.splits + w.splits; seen = longer v.seen w.seen; own_numbers = v.numbers; own_seen = v.seen; other_numbers = w.numbers; other_seen = w.seen }
+  joined v w = record v { numbers = v.numbers ++ w.numbers; splits = v.splits + w.splits; seen = longer v.seen w.seen; refused = v.refused || w.refused; own_numbers = v.numbers; own_seen = v.seen; other_numbers = w.numbers; other_seen = w.seen }
 
   -- what contracts see of it
   abbrev pub shown : LockId → View E → PassState E
-  shown lock v = record { lock = lock; number = v.number; numbers = v.numbers; splits = v.splits; seen = v.seen; in_turn = v.in_turn; tickets = v.tickets; initial = v.initial }
+  shown lock v = record { lock = lock; number = v.number; numbers = v.numbers; splits = v.splits; seen = v.seen; in_turn = v.in_turn; tickets = v.tickets; refused = v.refused; initial = v.initial }
 
 module _ {S E : Type 0} where
   -- a pass between the calls: in turn it holds the slot, from which the state was taken

@@ -48,6 +48,15 @@ impl<S, E, X: LastEntry<E>> Play<Option<S>, View<E>> for Advances<X> {
     ghost then = { Advanced X.entries };
 }
 
+/// A look at the ticket word, by which a pass is refused a ticket where all are drawn.
+pub struct Refuses;
+
+impl<S, E> Play<Option<S>, View<E>> for Refuses {
+    ghost use Rattle.history_lock.specs.Steps.{Refused};
+
+    ghost then = { Refused };
+}
+
 /// A berth is marked, as somebody goes to sleep there, or its mark is taken away.
 pub struct Marks;
 

@@ -10,6 +10,8 @@
 //! - *stands*: the histories for which a state stands; a turn hands out a state that stands for what its pass has seen
 //! - *answers for*: a pass answers for its own number and for those of the passes that were joined into it, and has
 //!   seen all entries that have one of these numbers
+//! - *refused*: a turn was refused to the pass, or to one that was joined into it, since all 2^62 tickets were drawn; the
+//!   history of all passes has at least half as many entries then
 #![tactic(auto)]
 
 mod kinds;

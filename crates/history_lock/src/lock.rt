@@ -8,11 +8,13 @@
 ghost use Rattle.std.specs.Prelude.{◌≡◌, ◌≢◌, ◌≤◌, ◌<◌, ◌+◌, ◌++◌, ℕ, List, [], ◌∷◌, true, false, length, IfOk, IfErr, OnOk, OnErr, OnSome, IfSome, IfNone, Some, None, vec_len};
 ghost use Rattle.std.specs.Borrow.{Lends, sem};
 ghost use Rattle.history_lock.specs.Histories.{limit, has, by, longer, Begins};
-ghost use Rattle.history_lock.specs.Passes.{PassState, Follows, IsSamePass, IsNewNumber, HasInitialOnly, KeepsWhole, initial_pass, initial_passes, split_once, split_pass, joined_pass};
-ghost use Rattle.history_lock.specs.Views.{IsOpening, drawn, advanced};
-ghost use Rattle.history_lock.specs.Steps.{Looked, Comes, OnlyInitial};
+ghost use Rattle.history_lock.specs.Passes.{PassState, Follows, IsSamePass, IsNewNumber, HasInitialOnly, KeepsWhole, SeesSpent, initial_pass, initial_passes, refused_pass, split_once, split_pass, joined_pass};
+ghost use Rattle.history_lock.specs.Views.{IsOpening, drawn, advanced, refused_view};
+ghost use Rattle.history_lock.specs.Steps.{Looked, Comes, KnowsSpent, OnlyInitial};
 
-use crate::kinds::{Advances, Draws, Joins, LastEntry, Looks, Marks, Opens, Recalls, SplitsOff};
+use crate::kinds::{
+    Advances, Draws, Joins, LastEntry, Looks, Marks, Opens, Recalls, Refuses, SplitsOff,
+};
 use crate::rule::OneHistory;
 use crate::standing::Standing;
 use crate::view::View;
@@ -147,6 +149,24 @@ impl<S: Standing<E, B>, E, B> HistoryLock<S, E, B> {
         unreachable!()
     }
 
+    // Finds that all tickets are drawn, as they are where `draw` has no single one.
+    fn find_spent<R: Wait>(&self, rt: &R, seat: &mut Seat<Option<S>, View<E>>) -> u64
+        requires lock { seat.old.table_id ≡ self.now }
+        requires free { (seat.old.me.0.tickets ≡ 0) × (seat.old.me.0.in_turn ≡ false) × (has seat.old.me.0.number seat.old.me.0.numbers ≡ true) }
+        ensures same { (seat.new.table_id ≡ seat.old.table_id) × (seat.new.id ≡ seat.old.id) × (seat.new.me.1 ≡ seat.old.me.1) }
+        ensures spent { result ≡ limit }
+        ensures refused { seat.new.me.0 ≡ refused_view seat.old.me.0 }
+        ensures knows { KnowsSpent seat.new.me.0 }
+    {
+        for _ in rt.forever() {
+            let ticket = self.table.shared.load::<Refuses>(seat, TICKET);
+            if ticket == LIMIT {
+                return ticket;
+            }
+        }
+        unreachable!()
+    }
+
     // Looks at the ticket that is served. Where it is the pass's own, the seat then holds the slot.
     fn look(&self, seat: &mut Seat<Option<S>, View<E>>) -> u64
         requires lock { seat.old.table_id ≡ self.now }
@@ -256,7 +276,7 @@ impl<S: Standing<E, B>, E, B> HistoryLock<S, E, B> {
     // Ends the turn with the entry, and wakes the pass with the ticket after those of this one.
     fn advance<X: LastEntry<E>>(&self, seat: &mut Seat<Option<S>, View<E>>, tickets: u64, entry: &E)
         requires lock { seat.old.table_id ≡ self.now }
-        requires turn { (seat.old.me.0.tickets ≡ tickets) × (0 < tickets) × (seat.old.me.0.in_turn ≡ true) }
+        requires turn { (seat.old.me.0.tickets ≡ tickets) × (0 < tickets) × (tickets ≤ 2) × (seat.old.me.0.in_turn ≡ true) }
         requires ending { X.entries ≡ entry.now ∷ [] }
         requires stands { (state : S) × (seat.old.me.1 ≡ (0, Some state) ∷ []) × S.stands state (seat.old.me.0.seen ++ (seat.old.me.0.number, entry.now) ∷ []) }
         ensures same { (seat.new.table_id ≡ seat.old.table_id) × (seat.new.id ≡ seat.old.id) }
@@ -395,9 +415,28 @@ impl<S: Standing<E, B>, E, B> HistoryLock<S, E, B> {
         Some(Turn { state })
     }
 
+    // The pass is refused a ticket.
+    fn refuse<R: Wait>(&self, rt: &R, p: &mut Pass<S, E, B>) -> Spent
+        requires lock { p.old.lock ≡ self.now }
+        requires free { p.old.in_turn ≡ false }
+        ensures spent { result.ticket ≡ limit }
+        ensures refused { p.new ≡ refused_pass p.old }
+        ensures sees { SeesSpent p.new }
+        ensures named { has p.new.number p.new.numbers ≡ true }
+        ensures same { IsSamePass p.old p.new }
+    {
+        Spent {
+            ticket: self.find_spent(rt, &mut p.seat),
+        }
+    }
+
     /// Waits for a turn. The state stands for the history that the pass has then seen.
     ///
-    /// `Spent` comes where the ticket word is 2^62; then no ticket is drawn.
+    /// # Errors
+    ///
+    /// `Spent` where the ticket word is 2^62: all tickets are drawn, and the pass is refused one. Once a pass that was
+    /// refused one, or into which such a pass was joined, answers for all the numbers that the lock began with, it has
+    /// seen at least 2^61 entries.
     pub fn enter<R: Wait>(&self, rt: &R, p: &mut Pass<S, E, B>) -> Result<Turn<S>, Spent>
         requires lock { p.old.lock ≡ self.now }
         requires free { p.old.in_turn ≡ false }
@@ -408,12 +447,13 @@ impl<S: Standing<E, B>, E, B> HistoryLock<S, E, B> {
         ensures ticket { OnOk result (p.new.tickets ≡ 1) }
         ensures only { OnOk result (HasInitialOnly p.new) }
         ensures spent { IfErr result (λ e. e.ticket ≡ limit) }
-        ensures none { OnErr result (p.new ≡ p.old) }
+        ensures none { OnErr result (p.new ≡ refused_pass p.old) }
+        ensures sees { OnErr result (SeesSpent p.new) }
         ensures named { has p.new.number p.new.numbers ≡ true }
         ensures same { IsSamePass p.old p.new }
     {
         let Some(turn) = self.enter_with(rt, p, 1) else {
-            return Err(Spent { ticket: LIMIT });
+            return Err(self.refuse(rt, p));
         };
         Ok(turn)
     }
@@ -440,7 +480,7 @@ impl<S: Standing<E, B>, E, B> HistoryLock<S, E, B> {
     fn leave_with(&self, p: &mut Pass<S, E, B>, turn: Turn<S>, tickets: u64, entry: &E)
         requires lock { p.old.lock ≡ self.now }
         requires turn { p.old.in_turn ≡ true }
-        requires tickets { p.old.tickets ≡ tickets }
+        requires tickets { (p.old.tickets ≡ tickets) × (tickets ≤ 2) }
         requires stands { S.stands turn.state (p.old.seen ++ (p.old.number, entry.now) ∷ []) }
         ensures seen { p.new.seen ≡ p.old.seen ++ (p.old.number, entry.now) ∷ [] }
         ensures free { p.new.in_turn ≡ false }
@@ -519,6 +559,7 @@ impl<S: Standing<E, B>, E, B> HistoryLock<S, E, B> {
         ensures others { KeepsWhole other p.new.seen }
         ensures apart { (x : ℕ) → has x p.old.numbers ≡ true → has x other.numbers ≡ false }
         ensures only { HasInitialOnly p.new }
+        ensures sees { SeesSpent p.new }
     {
         let Pass { seat, beginning: _ } = other;
         self.table.shared.join_seat::<Joins>(&mut p.seat, seat);

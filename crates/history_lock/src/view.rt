@@ -13,6 +13,8 @@ pub struct View<E> {
     pub tickets: u64,
     pub ticket: u64,
     pub in_turn: bool,
+    /// Whether it was refused a ticket, since all were drawn.
+    pub refused: bool,
     /// How many passes the lock begins with, and the first of them that this one is still to open.
     pub initial: u64,
     pub unopened: u64,

@@ -55,6 +55,8 @@ returns-in-Err-clause-answers g c =
     let m = c.tell.new.p in
     let none : unless_kept c.in_ok-answer.answer ≡ None = search rules in
     let told = subst (Tells d s text p m) (is-kept c.in_ok-answer.answer none) c.in_ok-answer.ensures.tells in (
-      subst (λ (q : PassState Entry). Tells d s text p q (Ok Kept)) (sym c.in-Err.ensures.none) told,
+      m,
+      told,
+      c.in-Err.ensures.none,
       c.in-Err.ensures.spent,
     )

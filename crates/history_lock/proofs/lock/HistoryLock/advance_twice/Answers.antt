@@ -1,9 +1,9 @@
-use Rattle.std.proofs.Common.{[], ◌∷◌, ◌∙◌, le_refl, rules}
+use Rattle.std.proofs.Common.{[], ◌∷◌, ◌∙◌, arith, le_refl, rules}
 use Rattle.history_lock.proofs.Turns.{advances}
 use Rattle.history_lock.proofs.lock.HistoryLock.advance_twice.Goals as goal
 
 pub fetch_add-served-requires : goal.fetch_add-served-requires
-fetch_add-served-requires g c = (search rules, search rules, advances g.S.Standing.stands _ _ _ _ _ c.requires.stands.0 (c.args.first.now ∷ c.args.second.now ∷ []) _ c.requires.turn.0 c.requires.turn.1 c.requires.stands.1 c.requires.ending (le_refl 2) c.requires.stands.2)
+fetch_add-served-requires g c = (search rules, search rules, advances g.S.Standing.stands _ _ _ _ _ c.requires.stands.0 (c.args.first.now ∷ c.args.second.now ∷ []) _ c.requires.turn.0 c.requires.turn.1 c.requires.stands.1 c.requires.ending (le_refl 2) (omega arith) c.requires.stands.2)
 
 pub returns-clause-after : goal.returns-clause-after
 returns-clause-after g c =

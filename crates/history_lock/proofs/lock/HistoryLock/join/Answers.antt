@@ -13,7 +13,13 @@ load-requires g c =
     let v = c.p.inside.seat.me.0 in let w = c.other.inside.seat.me.0 in
     let is = ap (λ m. m.0) c.join_seat.ensures.2 in
     let own : has v.number v.numbers ≡ true = search rules in
-    (search rules, search rules, recalls g.S.Standing.stands _ _ _ _ (ap (λ (z : View g.row.E.Denot). has z.number z.numbers) is ∙ has_front v.number v.numbers w.numbers own))
+    let off : v.tickets ≡ 0 = search rules in (
+      search rules,
+      search rules,
+      recalls g.S.Standing.stands _ _ _ _
+          (ap (λ (z : View g.row.E.Denot). has z.number z.numbers) is ∙ has_front v.number v.numbers w.numbers own)
+          (ap (λ (z : View g.row.E.Denot). z.tickets) is ∙ off),
+    )
 
 pub invariant_of-p : goal.invariant_of-p
 invariant_of-p g c =

@@ -5,7 +5,7 @@ use Rattle.history_lock.proofs.Passes.{recalls, splits_off}
 use Rattle.history_lock.proofs.lock.HistoryLock.split.Goals as goal
 
 pub load-requires : goal.load-requires
-load-requires g c = (search rules, search rules, recalls g.S.Standing.stands _ _ _ _ (search rules))
+load-requires g c = (search rules, search rules, recalls g.S.Standing.stands _ _ _ _ (search rules) (search rules))
 
 pub split_seat-requires : goal.split_seat-requires
 split_seat-requires g c =
