@@ -24,7 +24,7 @@ let program = "";
 
 // ---- terms: a word, a list, or a word with its arguments, as `proofs/Shorthand.antt` names them
 
-const plain = (text) => /^[\x20-\x7e]+$/.test(text) && !/["\\]/.test(text);
+const plain = (text) => /^[\x20-\x7e]*$/.test(text) && !/["\\]/.test(text);
 const app = (f, ...args) => ({ f, args });
 
 function shownTerm(n, place) {
