@@ -120,23 +120,24 @@ client-at-end s served.Memory answers entries cut (inr e) = client-detached s en
 client-at-end s (served.Spent ticket) answers entries cut (is, inl e) = each-are IsOfClient entries [] e.0 tt
 client-at-end s (served.Spent ticket) answers entries cut (is, inr e) = client-told-last s answers entries e
 
-client-unattached : (d : Debugging) (h : List (ℕ × Entry)) (end : Served) (entries : List Entry)
-    → IsUnattached d h end entries → AreOfClients entries
-client-unattached d h served.Shut entries is = each-are IsOfClient entries (Take 0 ∷ []) is.0 (tt, tt)
-client-unattached d h served.Memory entries is = each-are IsOfClient entries (Take 0 ∷ []) is (tt, tt)
-client-unattached d h (served.Spent ticket) entries is = each-are IsOfClient entries [] is.1 tt
-client-unattached d h served.Closed entries is = absurd is
-client-unattached d h served.TooBig entries is = absurd is
-client-unattached d h served.Binary entries is = absurd is
-client-unattached d h served.Overrun entries is = absurd is
-client-unattached d h served.Over entries is = absurd is
-client-unattached d h served.Fault entries is = absurd is
+client-unattached : (d : Debugging) (h : List (ℕ × Entry)) (spent : Type 0) (end : Served) (entries : List Entry)
+    → IsUnattached d h spent end entries → AreOfClients entries
+client-unattached d h spent served.Shut entries is = each-are IsOfClient entries (Take 0 ∷ []) is.0 (tt, tt)
+client-unattached d h spent served.Memory entries is = each-are IsOfClient entries (Take 0 ∷ []) is (tt, tt)
+client-unattached d h spent (served.Spent ticket) entries is = each-are IsOfClient entries [] is.1 tt
+client-unattached d h spent served.Closed entries is = absurd is
+client-unattached d h spent served.TooBig entries is = absurd is
+client-unattached d h spent served.Binary entries is = absurd is
+client-unattached d h spent served.Overrun entries is = absurd is
+client-unattached d h spent served.Over entries is = absurd is
+client-unattached d h spent served.Fault entries is = absurd is
 
 -- what is done at a door leaves no others
-client-in-acts : (d : Debugging) (k : ℕ) (h : List (ℕ × Entry)) (acts : List DoorAct) → AreActs d k h acts
+client-in-acts : (d : Debugging) (k : ℕ) (h : List (ℕ × Entry)) (spent : Type 0) (acts : List DoorAct)
+    → AreActs d k h spent acts
     → AreOfClients (entries_of acts)
-client-in-acts d k h [] are = tt
-client-in-acts d k h (Visited visit ∷ acts) are =
+client-in-acts d k h spent [] are = tt
+client-in-acts d k h spent (Visited visit ∷ acts) are =
     let c = are.0.connection in
     let s = visit.session in (
       tt,
@@ -144,12 +145,12 @@ client-in-acts d k h (Visited visit ∷ acts) are =
           (each-are IsOfClient visit.entries (turns s c.front ++ c.rest) c.left
           (each-append IsOfClient (turns s c.front) c.rest (client-in-turns s c.front)
           (client-at-end s visit.end c.last c.rest visit.cut c.ends)))
-          (client-in-acts d k h acts are.1),
+          (client-in-acts d k h spent acts are.1),
     )
-client-in-acts d k h (Refused refusal ∷ acts) are =
+client-in-acts d k h spent (Refused refusal ∷ acts) are =
     each-append IsOfClient refusal.entries (entries_of acts)
-    (client-unattached d h refusal.end refusal.entries are.0.unattached) (client-in-acts d k h acts are.1)
-client-in-acts d k h (Looked ∷ acts) are = (tt, client-in-acts d k h acts are.1)
+    (client-unattached d h spent refusal.end refusal.entries are.0.unattached) (client-in-acts d k h spent acts are.1)
+client-in-acts d k h spent (Looked ∷ acts) are = (tt, client-in-acts d k h spent acts are.1)
 
 -- ---- what a door leaves
 
@@ -158,33 +159,35 @@ last-stepless : (unshut : Opt NotShut) → Each MakesNoSteps (shut_entries unshu
 last-stepless None = (tt, tt)
 last-stepless (Some unshut) = tt
 
-stepless-last : (d : Debugging) (k : ℕ) (h : List (ℕ × Entry)) (end : DoorEnd) (last : List Entry) (old new : ℕ)
-    → EndsDoor d k h end last old new → Each MakesNoSteps last
-stepless-last d k h (ends.Over state) last old new e = each-are MakesNoSteps last [] e.0 tt
-stepless-last d k h (ends.Fault unshut) last old new e =
+stepless-last : (d : Debugging) (k : ℕ) (h : List (ℕ × Entry)) (spent : Type 0) (end : DoorEnd) (last : List Entry)
+    (old new : ℕ) → EndsDoor d k h spent end last old new → Each MakesNoSteps last
+stepless-last d k h spent (ends.Over state) last old new e = each-are MakesNoSteps last [] e.0 tt
+stepless-last d k h spent (ends.Fault unshut) last old new e =
     each-are MakesNoSteps last (shut_entries unshut) e.0 (last-stepless unshut)
-stepless-last d k h (ends.Spent ticket) last old new e = each-are MakesNoSteps last [] e.0 tt
+stepless-last d k h spent (ends.Spent ticket) last old new e = each-are MakesNoSteps last [] e.0 tt
 
-shutless-last : (d : Debugging) (k : ℕ) (h : List (ℕ × Entry)) (end : DoorEnd) (last : List Entry) (old new : ℕ)
-    → has_failed (Some end) ≡ false → EndsDoor d k h end last old new → Each ShutsNothing last
-shutless-last d k h (ends.Over state) last old new well e = each-are ShutsNothing last [] e.0 tt
-shutless-last d k h (ends.Fault unshut) last old new well e = absurd cc
-shutless-last d k h (ends.Spent ticket) last old new well e = each-are ShutsNothing last [] e.0 tt
+shutless-last : (d : Debugging) (k : ℕ) (h : List (ℕ × Entry)) (spent : Type 0) (end : DoorEnd) (last : List Entry)
+    (old new : ℕ) → has_failed (Some end) ≡ false → EndsDoor d k h spent end last old new → Each ShutsNothing last
+shutless-last d k h spent (ends.Over state) last old new well e = each-are ShutsNothing last [] e.0 tt
+shutless-last d k h spent (ends.Fault unshut) last old new well e = absurd cc
+shutless-last d k h spent (ends.Spent ticket) last old new well e = each-are ShutsNothing last [] e.0 tt
 
 -- a door that was served leaves no entry that makes steps
-pub stepless-door : (d : Debugging) (k : ℕ) (h : List (ℕ × Entry)) (door : Tended) (ended : Opt DoorEnd)
-    → IsServedDoor d k h door ended → Each MakesNoSteps (by k h)
-stepless-door d k h door ended s =
+pub stepless-door : (d : Debugging) (k : ℕ) (h : List (ℕ × Entry)) (spent : Type 0) (door : Tended)
+    (ended : Opt DoorEnd)
+    → IsServedDoor d k h spent door ended → Each MakesNoSteps (by k h)
+stepless-door d k h spent door ended s =
     each-are MakesNoSteps (by k h) (entries_of s.acts ++ s.last) s.own
     (each-append MakesNoSteps (entries_of s.acts) s.last
-    (each-so IsOfClient MakesNoSteps stepless (entries_of s.acts) (client-in-acts d k h s.acts s.are))
-    (stepless-last d k s.ends.0 s.end s.last 0 door.faults s.ends.2))
+    (each-so IsOfClient MakesNoSteps stepless (entries_of s.acts) (client-in-acts d k h spent s.acts s.are))
+    (stepless-last d k s.ends.0 spent s.end s.last 0 door.faults s.ends.2))
 
 -- and where it didn't fail none that shuts the program
-pub shutless-door : (d : Debugging) (k : ℕ) (h : List (ℕ × Entry)) (door : Tended) (ended : Opt DoorEnd)
-    → has_failed ended ≡ false → IsServedDoor d k h door ended → Each ShutsNothing (by k h)
-shutless-door d k h door ended well s =
+pub shutless-door : (d : Debugging) (k : ℕ) (h : List (ℕ × Entry)) (spent : Type 0) (door : Tended)
+    (ended : Opt DoorEnd)
+    → has_failed ended ≡ false → IsServedDoor d k h spent door ended → Each ShutsNothing (by k h)
+shutless-door d k h spent door ended well s =
     each-are ShutsNothing (by k h) (entries_of s.acts ++ s.last) s.own
     (each-append ShutsNothing (entries_of s.acts) s.last
-    (each-so IsOfClient ShutsNothing shutless (entries_of s.acts) (client-in-acts d k h s.acts s.are))
-    (shutless-last d k s.ends.0 s.end s.last 0 door.faults (ap has_failed (sym s.is_end) ∙ well) s.ends.2))
+    (each-so IsOfClient ShutsNothing shutless (entries_of s.acts) (client-in-acts d k h spent s.acts s.are))
+    (shutless-last d k s.ends.0 spent s.end s.last 0 door.faults (ap has_failed (sym s.is_end) ∙ well) s.ends.2))

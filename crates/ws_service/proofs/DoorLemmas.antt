@@ -24,7 +24,7 @@ use Rattle.ws_service.specs.declared.door.DoorEnd.TheVariants as ends
 use Rattle.ws_service.specs.declared.served.Served.{Served}
 use Rattle.ws_service.specs.declared.served.Served.TheVariants as served
 use Rattle.ws_service.specs.declared.shutdown.NotShut.{NotShut}
-use Rattle.ws_service.proofs.VisitLemmas.{links-append, tends-last, tends-look, tends-none, tends-on, tends-refusal, tends-visit}
+use Rattle.ws_service.proofs.VisitLemmas.{links-append, tends-last, tends-look, tends-none, tends-on, tends-refusal, tends-refused, tends-visit}
 
 -- ---- what a link tells
 
@@ -103,8 +103,10 @@ looks-by d p q state false is found = (tends-look d p q found.0, found.0.history
 pub shuts-if : (d : Debugging) (p q : PassState Entry) (unshut : Option NotShut) → p.in_turn ≡ false
     → ShutsDown d p q unshut → Shuts d p q unshut
 shuts-if d p q None free act = (tends-last d p q Shut act tt (λ s. tt), tt)
-shuts-if d p q (Some unshut) free none =
-    (subst (λ z. Tends d p z [] []) (sym none.0) (tends-none d p free), none.1)
+shuts-if d p q (Some unshut) free none = (
+  subst (λ z. Tends d p z [] []) (sym none.0) (tends-refused d p p [] [] (tends-none d p free)),
+  (none.1, ap (λ z. z.refused) none.0),
+)
 
 -- ---- counts
 
@@ -177,12 +179,12 @@ tends-once d p m q acts old new (Some (ends.Fault unshut)) none a look links hom
 tends-once d p m q acts old new (Some (ends.Spent ticket)) none a look links home asks quiet = record {
   acts = acts;
   last = [];
-  tends = subst (λ z. Tends d p z acts []) (sym look.0) a;
+  tends = subst (λ z. Tends d p z acts []) (sym look.0) (tends-refused d p m acts [] a);
   links = links;
   home = home;
   asks = asks ∙ ap (λ (n : ℕ). asked_more (suc n) old.asked) (sym none);
   once = omega arith;
-  ends = (refl, quiet, look.1);
+  ends = (refl, quiet, look.1, ap (λ z. z.refused) look.0);
 }
 
 -- an answer without a link leaves the door as it was
@@ -297,6 +299,7 @@ tended-end d p m q old mid new end a b = record {
       ∙ questions-on end a.acts b.acts old.asked;
   once = once-on end a.acts b.acts b.once;
   ends =
-      subst (λ (z : ℕ × ℕ). EndsDoor d z.0 q.seen end b.last z.1 new.faults) (λ i. (a.tends.goes.same.1 i, a.quiet i))
+      subst (λ (z : ℕ × ℕ). EndsDoor d z.0 q.seen (q.refused ≡ true) end b.last z.1 new.faults)
+      (λ i. (a.tends.goes.same.1 i, a.quiet i))
       b.ends;
 }

@@ -1,5 +1,5 @@
 -- A door that was served stays so in every history that goes on without its maker.
-use Rattle.std.proofs.Common.{◌≡◌, ◌⊎◌, ◌<◌, inl, inr, ℕ, suc, List, All, [], ◌∷◌, ◌++◌, map, Bool, true, false, if◌then◌else◌, nat_lt, length, slice_index_or, Option as Opt, Some, None, refl, ap, sym, subst, ◌∙◌, append_assoc, arith}
+use Rattle.std.proofs.Common.{◌≡◌, ◌⊎◌, ◌<◌, inl, inr, ℕ, suc, List, All, [], ◌∷◌, ◌++◌, map, Bool, true, false, ◌||◌, if◌then◌else◌, nat_lt, length, slice_index_or, Option as Opt, Some, None, refl, ap, sym, subst, ◌∙◌, append_assoc, arith}
 use Rattle.std.proofs.lemmas.Bool.{ne_eqb}
 use Rattle.std.proofs.lemmas.List.Elements.{All-head, All-nil, All-push, All-tail, All-weaker}
 use mathlib.Core.Logic.{dite}
@@ -15,11 +15,14 @@ use Rattle.cdp_host_turns.specs.Debuggings.{Debugging, IsHistory}
 use Rattle.ws_service.specs.Doors.{EndsDoor, asked_more, questions}
 use Rattle.ws_service.specs.Joins.{AnswersForAll, AreAll, HasServed, IsServedDoor, joined_passes}
 use Rattle.ws_service.specs.Visits.{AreActs, AreNew, entries_of, links_of, sessions_of}
+use Rattle.ws_service.specs.Shutdowns.{HadNoTicket}
+use Rattle.ws_service.specs.declared.door.DoorEnd.TheVariants as ends
+use Rattle.ws_service.specs.declared.shutdown.NotShut.{NotShut}
 use Rattle.ws_service.specs.declared.door.DoorEnd.{DoorEnd}
 use Rattle.ws_service.specs.Passing.{FindsThere}
 use Rattle.ws_service.proofs.EntryLemmas.{there-over}
 use Rattle.ws_service.proofs.PassingLemmas.{begins-on, was-longer}
-use Rattle.ws_service.proofs.VisitLemmas.{acts-stay}
+use Rattle.ws_service.proofs.VisitLemmas.{acts-so, acts-stay}
 
 -- ---- one door
 
@@ -37,7 +40,7 @@ history-of d q door ended s =
 
 -- over what the pass has seen
 served-at : (d : Debugging) (q : PassState Entry) (door : Tended) (ended : Opt DoorEnd) → HasServed d q door ended
-    → IsServedDoor d q.number q.seen door ended
+    → IsServedDoor d q.number q.seen (q.refused ≡ true) door ended
 served-at d q door ended s =
     let t = s.tended in
     let k : s.first.number ≡ q.number = sym t.tends.goes.same.1 in
@@ -52,7 +55,7 @@ served-at d q door ended s =
       there =
           subst (λ (z : ℕ × List (ℕ × Entry)). FindsThere d z.0 z.1 q.seen) (λ i. (k i, s.unstarted.start i))
           t.tends.goes.there;
-      are = subst (λ (n : ℕ). AreActs d n q.seen t.acts) k t.tends.are;
+      are = subst (λ (n : ℕ). AreActs d n q.seen (q.refused ≡ true) t.acts) k t.tends.are;
       apart = subst (λ h. AreNew h (sessions_of t.acts)) s.unstarted.start t.tends.new;
       links = told-added s.unasked.served door.served (links_of t.acts) s.is_new.2 t.links;
       home = t.home;
@@ -61,16 +64,18 @@ served-at d q door ended s =
       ends = (
         q.seen,
         begins_same q.seen,
-        subst (λ (n : ℕ). EndsDoor d n q.seen s.end t.last 0 door.faults) k
-            (subst (λ (n : ℕ). EndsDoor d s.first.number q.seen s.end t.last n door.faults) s.is_new.0 t.ends),
+        subst (λ (n : ℕ). EndsDoor d n q.seen (q.refused ≡ true) s.end t.last 0 door.faults) k
+            (subst (λ (n : ℕ). EndsDoor d s.first.number q.seen (q.refused ≡ true) s.end t.last n door.faults)
+            s.is_new.0 t.ends),
       );
       is_end = s.is_end;
     }
 
 -- over a longer history without further entries of its maker
-served-longer : (d : Debugging) (k : ℕ) (h g : List (ℕ × Entry)) (door : Tended) (ended : Opt DoorEnd) → Begins h g
-    → by k g ≡ by k h → IsHistory d g → IsServedDoor d k h door ended → IsServedDoor d k g door ended
-served-longer d k h g door ended longer own is s = record {
+served-longer : (d : Debugging) (k : ℕ) (h g : List (ℕ × Entry)) (spent : Type 0) (door : Tended) (ended : Opt DoorEnd)
+    → Begins h g → by k g ≡ by k h → IsHistory d g → IsServedDoor d k h spent door ended
+    → IsServedDoor d k g spent door ended
+served-longer d k h g spent door ended longer own is s = record {
   acts = s.acts;
   last = s.last;
   end = s.end;
@@ -79,15 +84,45 @@ served-longer d k h g door ended longer own is s = record {
       subst (FindsThere d k []) (sym longer.1)
       (there-over d k [] h longer.0 (by_behind k h longer.0 g longer.1 own) s.there);
   are =
-      subst (λ l. AreActs d k l s.acts) (sym longer.1)
-      (acts-stay d k h longer.0 s.acts (subst (IsHistory d) longer.1 is)
+      subst (λ l. AreActs d k l spent s.acts) (sym longer.1)
+      (acts-stay d k h longer.0 spent s.acts (subst (IsHistory d) longer.1 is)
       (λ r owns. subst (TakesNone r) (sym (by_behind k h longer.0 g longer.1 own)) (All-nil (IsNoTake r))) s.are);
   apart = s.apart;
   links = s.links;
   home = s.home;
   asks = s.asks;
   once = s.once;
-  ends = was-longer (λ seen. EndsDoor d k seen s.end s.last 0 door.faults) h g longer s.ends;
+  ends = was-longer (λ seen. EndsDoor d k seen spent s.end s.last 0 door.faults) h g longer s.ends;
+  is_end = s.is_end;
+}
+
+-- where more is known of no ticket being left
+pub had-so : (spent more : Type 0) (unshut : Opt NotShut) → (spent → more) → HadNoTicket spent unshut
+    → HadNoTicket more unshut
+had-so spent more None on had = tt
+had-so spent more (Some unshut) on had = (had.0, on had.1)
+
+ends-so : (d : Debugging) (k : ℕ) (h : List (ℕ × Entry)) (spent more : Type 0) (end : DoorEnd) (last : List Entry)
+    (old new : ℕ) → (spent → more) → EndsDoor d k h spent end last old new → EndsDoor d k h more end last old new
+ends-so d k h spent more (ends.Over state) last old new on e = e
+ends-so d k h spent more (ends.Fault unshut) last old new on e = (e.0, had-so spent more unshut on e.1, e.2)
+ends-so d k h spent more (ends.Spent ticket) last old new on e = (e.0, e.1, e.2, on e.3)
+
+pub served-so : (d : Debugging) (k : ℕ) (h : List (ℕ × Entry)) (spent more : Type 0) (door : Tended)
+    (ended : Opt DoorEnd) → (spent → more) → IsServedDoor d k h spent door ended → IsServedDoor d k h more door ended
+served-so d k h spent more door ended on s = record {
+  acts = s.acts;
+  last = s.last;
+  end = s.end;
+  own = s.own;
+  there = s.there;
+  are = acts-so d k h spent more on s.acts s.are;
+  apart = s.apart;
+  links = s.links;
+  home = s.home;
+  asks = s.asks;
+  once = s.once;
+  ends = (s.ends.0, s.ends.1, ends-so d k s.ends.0 spent more s.end s.last 0 door.faults on s.ends.2);
   is_end = s.is_end;
 }
 
@@ -96,6 +131,10 @@ served-longer d k h g door ended longer own is s = record {
 either : {A : Type 0} (P : A → Type 0) (test : Bool) (x y : A) → P x → P y → P (if test then y else x)
 either P true x y a b = b
 either P false x y a b = a
+
+second-true : (a b : Bool) → b ≡ true → (a || b) ≡ true
+second-true true b is = refl
+second-true false b is = is
 
 joined-push : (p : PassState Entry) (passes : List (PassState Entry)) (q : PassState Entry)
     → joined_passes p (passes ++ q ∷ []) ≡ joined_pass (joined_passes p passes) q
@@ -148,9 +187,12 @@ pub record Joining {X : Type 0} (d : Debugging) (pass : X → PassState Entry) (
   pub history : IsHistory d q.seen
   pub longer : Begins p.seen q.seen
   pub own : KeepsWhole p q.seen
+  pub refused : p.refused ≡ true → q.refused ≡ true
   pub named : (x : ℕ) → has x p.numbers ≡ true → has x q.numbers ≡ true
   pub served :
-      All (λ x. IsServedDoor d (pass x).number q.seen (door x) (ended x) × (has (pass x).number q.numbers ≡ true))
+      All
+      (λ x. IsServedDoor d (pass x).number q.seen (q.refused ≡ true) (door x) (ended x)
+      × (has (pass x).number q.numbers ≡ true))
       desks
 
 module _ {X : Type 0} (d : Debugging) (pass : X → PassState Entry) (door : X → Tended) (ended : X → Opt DoorEnd) where
@@ -165,10 +207,12 @@ module _ {X : Type 0} (d : Debugging) (pass : X → PassState Entry) (door : X �
     history = is;
     longer = begins_same p.seen;
     own = λ x y. refl;
+    refused = λ told. told;
     named = λ x y. y;
     served =
         All-nil
-        (λ x. IsServedDoor d (pass x).number p.seen (door x) (ended x) × (has (pass x).number p.numbers ≡ true));
+        (λ x. IsServedDoor d (pass x).number p.seen (p.refused ≡ true) (door x) (ended x)
+        × (has (pass x).number p.numbers ≡ true));
   }
 
   number-named : (x : X) → HasServed d (pass x) (door x) (ended x) → has (pass x).number (pass x).numbers ≡ true
@@ -194,25 +238,39 @@ module _ {X : Type 0} (d : Debugging) (pass : X → PassState Entry) (door : X �
     history = history;
     longer = begins-on p.seen m.seen q.seen j.longer b;
     own = λ y at. own y (j.named y at) ∙ j.own y at;
+    refused = λ told. first-refused (j.refused told);
     named = λ y at. front y (j.named y at);
     served =
         All-push P desks x
         (All-weaker
-        (λ y. IsServedDoor d (pass y).number m.seen (door y) (ended y) × (has (pass y).number m.numbers ≡ true)) P
+        (λ y. IsServedDoor d (pass y).number m.seen (m.refused ≡ true) (door y) (ended y)
+        × (has (pass y).number m.numbers ≡ true)) P
         (λ y at. (
-          served-longer d (pass y).number m.seen q.seen (door y) (ended y) b (own (pass y).number at.1) history at.0,
+          served-so d (pass y).number q.seen (m.refused ≡ true) (q.refused ≡ true) (door y) (ended y) first-refused
+              (served-longer d (pass y).number m.seen q.seen (m.refused ≡ true) (door y) (ended y) b
+              (own (pass y).number at.1) history at.0),
           front (pass y).number at.1,
         ))
         desks j.served) (
-          served-longer d (pass x).number (pass x).seen q.seen (door x) (ended x) c
-              (others (pass x).number (number-named x s)) history (served-at d (pass x) (door x) (ended x) s),
+          served-so d (pass x).number q.seen ((pass x).refused ≡ true) (q.refused ≡ true) (door x) (ended x)
+              then-refused
+              (served-longer d (pass x).number (pass x).seen q.seen ((pass x).refused ≡ true) (door x) (ended x) c
+              (others (pass x).number (number-named x s)) history (served-at d (pass x) (door x) (ended x) s)),
           ap (λ z. has (pass x).number z.numbers) is
               ∙ has_behind (pass x).number m.numbers (pass x).numbers (number-named x s),
         );
   }
     where
       P : X → Type 0
-      P y = IsServedDoor d (pass y).number q.seen (door y) (ended y) × (has (pass y).number q.numbers ≡ true)
+      P y =
+          IsServedDoor d (pass y).number q.seen (q.refused ≡ true) (door y) (ended y)
+          × (has (pass y).number q.numbers ≡ true)
+
+      first-refused : m.refused ≡ true → q.refused ≡ true
+      first-refused told = ap (λ z. z.refused) is ∙ ap (λ (b : Bool). b || (pass x).refused) told
+
+      then-refused : (pass x).refused ≡ true → q.refused ≡ true
+      then-refused told = ap (λ z. z.refused) is ∙ second-true m.refused (pass x).refused told
 
       unsplit : q.splits ≡ p.splits
       unsplit =
@@ -231,10 +289,12 @@ module _ {X : Type 0} (d : Debugging) (pass : X → PassState Entry) (door : X �
 
   -- each door is served over the joined history
   pub served-in : (p q : PassState Entry) (desks : List X) → Joining d pass door ended p q desks
-      → All (λ x. IsServedDoor d (pass x).number q.seen (door x) (ended x)) desks
+      → All (λ x. IsServedDoor d (pass x).number q.seen (q.refused ≡ true) (door x) (ended x)) desks
   served-in p q desks j =
-      All-weaker (λ x. IsServedDoor d (pass x).number q.seen (door x) (ended x) × (has (pass x).number q.numbers ≡ true))
-      (λ x. IsServedDoor d (pass x).number q.seen (door x) (ended x)) (λ x at. at.0) desks j.served
+      All-weaker
+      (λ x. IsServedDoor d (pass x).number q.seen (q.refused ≡ true) (door x) (ended x)
+      × (has (pass x).number q.numbers ≡ true))
+      (λ x. IsServedDoor d (pass x).number q.seen (q.refused ≡ true) (door x) (ended x)) (λ x at. at.0) desks j.served
 
   -- where all passes of a lock were joined, the one that is left answers for all
   pub answers-for-all : (p q : PassState Entry) (desks : List X) → Joining d pass door ended p q desks
@@ -248,6 +308,7 @@ module _ {X : Type 0} (d : Debugging) (pass : X → PassState Entry) (door : X �
       covered y (inr desk) =
           among (λ z. has z q.numbers ≡ true) (λ x. (pass x).number) desks y
           (All-weaker
-          (λ x. IsServedDoor d (pass x).number q.seen (door x) (ended x) × (has (pass x).number q.numbers ≡ true))
+          (λ x. IsServedDoor d (pass x).number q.seen (q.refused ≡ true) (door x) (ended x)
+          × (has (pass x).number q.numbers ≡ true))
           (λ x. has (pass x).number q.numbers ≡ true) (λ x at. at.1) desks j.served)
           desk

@@ -1,11 +1,11 @@
 -- A pass goes on, turn after turn.
-use Rattle.std.proofs.Common.{◌≡◌, inr, ℕ, List, [], ◌∷◌, ◌++◌, false, refl, ap, sym, subst, ◌∙◌, append_assoc, append-nil}
+use Rattle.std.proofs.Common.{◌≡◌, inr, ℕ, List, [], ◌∷◌, ◌++◌, false, true, refl, ap, sym, subst, ◌∙◌, append_assoc, append-nil}
 use Rattle.cdp_host_isolation.specs.Histories.{Entry, Take}
 use Rattle.cdp_host_isolation.specs.Makers.{AreOwned, IsNoTake, Owns, by}
 use Rattle.cdp_host_isolation.proofs.MakerLemmas.{by-append, by-own, owned-front, owns-longer}
 use Rattle.cdp_host_isolation.proofs.OwnerLemmas.{handed-same, handed-stays}
 use Rattle.history_lock.specs.Histories.{Begins}
-use Rattle.history_lock.specs.Passes.{PassState, IsSamePass}
+use Rattle.history_lock.specs.Passes.{PassState, IsSamePass, refused_pass}
 use Rattle.cdp_host_turns.specs.Debuggings.{Debugging, handed}
 use Rattle.cdp_host_turns.specs.Turns.{Acts, Finds}
 use Rattle.cdp_host_turns.specs.Presences.{IsThere}
@@ -16,7 +16,7 @@ pub begins-on : {A : Type 0} (xs ys zs : List A) → Begins xs ys → Begins ys 
 begins-on xs ys zs a b = (a.0 ++ b.0, b.1 ∙ ap (λ l. l ++ b.0) a.1 ∙ append_assoc xs a.0 b.0)
 
 pub same-on : (p m q : PassState Entry) → IsSamePass p m → IsSamePass m q → IsSamePass p q
-same-on p m q a b = (b.0 ∙ a.0, b.1 ∙ a.1, b.2 ∙ a.2, b.3 ∙ a.3, b.4 ∙ a.4)
+same-on p m q a b = (b.0 ∙ a.0, b.1 ∙ a.1, b.2 ∙ a.2, b.3 ∙ a.3, b.4 ∙ a.4, λ told. b.5 (a.5 told))
 
 -- ---- turns
 
@@ -52,9 +52,21 @@ goes-none d p free = record {
   own = sym (append-nil (by p.number p.seen));
   longer = ([], sym (append-nil p.seen));
   history = λ h. h;
-  same = (refl, refl, refl, refl, refl);
+  same = (refl, refl, refl, refl, refl, λ told. told);
   free = free;
   there = there-none d p.number p.seen;
+}
+
+-- nor does a turn that the pass is refused
+pub goes-refused : (d : Debugging) (p q : PassState Entry) (entries : List Entry) → Goes d p q entries
+    → Goes d p (refused_pass q) entries
+goes-refused d p q entries a = record {
+  own = a.own;
+  longer = a.longer;
+  history = a.history;
+  same = (a.same.0, a.same.1, a.same.2, a.same.3, a.same.4, λ told. refl);
+  free = a.free;
+  there = a.there;
 }
 
 pub goes-on : (d : Debugging) (p m q : PassState Entry) (es fs : List Entry) → Goes d p m es → Goes d m q fs
@@ -136,6 +148,11 @@ pub serves-none : (d : Debugging) (s : ℕ) (p : PassState Entry) → p.in_turn 
     → Serves d s p p [] []
 serves-none d s p free owns =
     record { goes = goes-none d p free; handed_out = sym (append-nil (handed d s p.seen)); owns = owns }
+
+pub serves-refused : (d : Debugging) (s : ℕ) (p q : PassState Entry) (es : List Entry) (ts : List (List ℕ))
+    → Serves d s p q es ts → Serves d s p (refused_pass q) es ts
+serves-refused d s p q es ts a =
+    record { goes = goes-refused d p q es a.goes; handed_out = a.handed_out; owns = a.owns }
 
 pub serves-on : (d : Debugging) (s : ℕ) (p m q : PassState Entry) (es fs : List Entry) (ts us : List (List ℕ))
     → Serves d s p m es ts → Serves d s m q fs us → Serves d s p q (es ++ fs) (ts ++ us)

@@ -8,7 +8,7 @@ use Rattle.cdp_host_isolation.specs.Histories.{Entry, Attach, Tell, Take, Detach
 use Rattle.cdp_host_isolation.specs.Makers.{by, entries_of, entry_of}
 use Rattle.cdp_host_isolation.proofs.LongerLemmas.{call-program, whole-more}
 use Rattle.history_lock.specs.Histories.{Begins, limit}
-use Rattle.history_lock.specs.Passes.{PassState}
+use Rattle.history_lock.specs.Passes.{PassState, refused_pass}
 use Rattle.cdp_edge.specs.Outside.{GainsPrefix, IfTold, gains}
 use Rattle.cdp_edge.proofs.Gains.{GainsPrefix-behind, gains-nil, gains-next}
 use Rattle.cdp_edge.specs.declared.sink.SinkFault.{SinkFault}
@@ -27,7 +27,7 @@ use Rattle.ws_service.specs.declared.program.RunEnd.{RunEnd}
 use Rattle.ws_service.specs.declared.program.RunEnd.TheVariants as ends
 use Rattle.ws_service.specs.declared.shutdown.NotShut.{NotShut}
 use Rattle.ws_service.proofs.EntryLemmas.{Falls, alone, falls, none-at-all, none-between, same-entry}
-use Rattle.ws_service.proofs.PassingLemmas.{goes, goes-none, goes-on}
+use Rattle.ws_service.proofs.PassingLemmas.{goes, goes-none, goes-on, goes-refused}
 
 -- ---- the makers of runs
 
@@ -258,8 +258,8 @@ left-turns moment end es none turns = (es, turns, sym (append-nil es) ∙ ap (λ
 
 -- no turn
 pub none-run : (d : Debugging) (moment : Option ℕ) (p : PassState Entry) (out : Output) (end : Option RunEnd)
-    → p.in_turn ≡ false → shuts_at end ≡ [] → HasReason d end p.seen → Counts end out.faults out.faults
-    → HasRun d moment p p out out end
+    → p.in_turn ≡ false → shuts_at end ≡ [] → HasReason d end p.seen (p.refused ≡ true)
+    → Counts end out.faults out.faults → HasRun d moment p p out out end
 none-run d moment p out end free unshut reason counts = record {
   entries = [];
   goes = goes-none d p free;
@@ -270,12 +270,27 @@ none-run d moment p out end free unshut reason counts = record {
   counts = counts;
 }
 
+-- nor one that the pass was refused
+refused-run : (d : Debugging) (moment : Option ℕ) (p : PassState Entry) (out : Output) (end : Option RunEnd)
+    → p.in_turn ≡ false → shuts_at end ≡ [] → HasReason d end p.seen (true ≡ true)
+    → Counts end out.faults out.faults → HasRun d moment p (refused_pass p) out out end
+refused-run d moment p out end free unshut reason counts = record {
+  entries = [];
+  goes = goes-refused d p p [] (goes-none d p free);
+  left = left-turns moment end [] unshut tt;
+  due = due-none d p.number p.seen end;
+  writes = writes-none d p.number (may_cut end) p.seen out.content;
+  reason = reason;
+  counts = counts;
+}
+
 -- no ticket was left
-pub spent-run : (d : Debugging) (moment : Option ℕ) (p q : PassState Entry) (out : Output) (ticket : ℕ) → q ≡ p
-    → p.in_turn ≡ false → ticket ≡ limit → HasRun d moment p q out out (Some (ends.Spent ticket))
+pub spent-run : (d : Debugging) (moment : Option ℕ) (p q : PassState Entry) (out : Output) (ticket : ℕ)
+    → q ≡ refused_pass p → p.in_turn ≡ false → ticket ≡ limit
+    → HasRun d moment p q out out (Some (ends.Spent ticket))
 spent-run d moment p q out ticket same free spent =
     subst (λ (z : PassState Entry). HasRun d moment p z out out (Some (ends.Spent ticket))) (sym same)
-    (none-run d moment p out (Some (ends.Spent ticket)) free refl spent refl)
+    (refused-run d moment p out (Some (ends.Spent ticket)) free refl (spent, refl) refl)
 
 -- turns, and more of them
 run-on : (d : Debugging) (moment : Option ℕ) (p m q : PassState Entry) (old mid new : Output) (end : Option RunEnd)
@@ -308,7 +323,7 @@ turn-run : (d : Debugging) (moment : Option ℕ) (p q : PassState Entry) (old ne
     (texts : List (List ℕ)) (end : Option RunEnd) (act : Acts d p q entry) → IsThereFor d (p.seen ++ act.between) entry
     → AreLeft moment end (entry ∷ []) → Prints d (steps_of entry) texts (p.seen ++ act.between)
     → FindsAt d (p.seen ++ act.between) entry end → GainsLines (may_cut end) old.content new.content texts
-    → HasReason d end q.seen → Counts end old.faults new.faults → HasRun d moment p q old new end
+    → HasReason d end q.seen (q.refused ≡ true) → Counts end old.faults new.faults → HasRun d moment p q old new end
 turn-run d moment p q old new entry texts end act there left prints found gained reason counts = record {
   entries = entry ∷ [];
   goes = goes d p q entry act there;
@@ -329,7 +344,7 @@ given-up d moment p q out end free (None, is, act) =
 given-up d moment p q out end free (Some unshut, is, none) =
     subst (λ (z : PassState Entry × RunEnd). HasRun d moment p z.0 out out (Some z.1))
     (λ i. (sym none.0 i, sym is i))
-    (none-run d moment p out (Some (ends.Memory (Some unshut))) free refl none.1 refl)
+    (refused-run d moment p out (Some (ends.Memory (Some unshut))) free refl (none.1, refl) refl)
 
 -- ---- a turn without steps
 
@@ -374,7 +389,7 @@ counts-in states.Ready old new is = is
 
 -- what a state says of the end, of the history that was found
 reason-found : (d : Debugging) (p q : PassState Entry) (act : Acts d p q (Take 0)) (state : State)
-    → HasState d state (p.seen ++ act.between) → HasReason d (end_in state) q.seen
+    → HasState d state (p.seen ++ act.between) → HasReason d (end_in state) q.seen (q.refused ≡ true)
 reason-found d p q act states.Broken is = tt
 reason-found d p q act states.Shut is =
     (p.seen ++ act.between, ((p.number, Take 0) ∷ [], act.seen), is)
@@ -409,15 +424,15 @@ broken-run d moment at p q out lost told act =
 -- ---- a turn with steps
 
 -- what a state says of the end, of the history that a turn left
-reason-left : (d : Debugging) (state : State) (h : List (ℕ × Entry)) → HasState d state h
-    → HasReason d (end_in state) h
-reason-left d states.Broken h is = tt
-reason-left d states.Shut h is = (h, ([], sym (append-nil h)), is)
-reason-left d states.Threw h is = is.1
-reason-left d states.Ended h is = is.1
-reason-left d states.Paused h is = tt
-reason-left d states.Waiting h is = tt
-reason-left d states.Ready h is = tt
+reason-left : (d : Debugging) (state : State) (h : List (ℕ × Entry)) (spent : Type 0) → HasState d state h
+    → HasReason d (end_in state) h spent
+reason-left d states.Broken h spent is = tt
+reason-left d states.Shut h spent is = (h, ([], sym (append-nil h)), is)
+reason-left d states.Threw h spent is = is.1
+reason-left d states.Ended h spent is = is.1
+reason-left d states.Paused h spent is = tt
+reason-left d states.Waiting h spent is = tt
+reason-left d states.Ready h spent is = tt
 
 -- whose texts were written
 whole-run : (d : Debugging) (moment : Option ℕ) (at : ℕ) (p q : PassState Entry) (old new : Output)
@@ -429,7 +444,7 @@ whole-run d moment at p q old new texts state told made is gained quiet =
     turn-run d moment p q old new (Ran made.steps at made.lost) texts (end_in state) act tt
     (left-turns moment (end_in state) (Ran made.steps at made.lost ∷ []) (unshut-in state) (told, tt)) made.act.1
     (inl made.longest) (gains-whole (may_cut (end_in state)) old.content new.content texts gained)
-    (reason-left d state q.seen is) (counts-in state old.faults new.faults quiet)
+    (reason-left d state q.seen (q.refused ≡ true) is) (counts-in state old.faults new.faults quiet)
 
 -- whose texts weren't all written
 at-fault : (fault : SinkFault) (unshut : Option NotShut) → may_cut (Some (end_at fault unshut)) ≡ true
@@ -441,10 +456,10 @@ shuts-fault : (fault : SinkFault) (unshut : Option NotShut)
 shuts-fault sink.Failed unshut = refl
 shuts-fault sink.Memory unshut = refl
 
-reason-fault : (d : Debugging) (fault : SinkFault) (unshut : Option NotShut) (h : List (ℕ × Entry))
-    → HadNoTicket unshut → HasReason d (Some (end_at fault unshut)) h
-reason-fault d sink.Failed unshut h spent = spent
-reason-fault d sink.Memory unshut h spent = spent
+reason-fault : (d : Debugging) (fault : SinkFault) (unshut : Option NotShut) (h : List (ℕ × Entry)) (spent : Type 0)
+    → HadNoTicket spent unshut → HasReason d (Some (end_at fault unshut)) h spent
+reason-fault d sink.Failed unshut h spent had = had
+reason-fault d sink.Memory unshut h spent had = had
 
 gains-fault : (fault : SinkFault) (unshut : Option NotShut) (before after : List ℕ) (texts : List (List ℕ))
     → GainsPrefix before after (printed_lines texts)
@@ -452,18 +467,41 @@ gains-fault : (fault : SinkFault) (unshut : Option NotShut) (before after : List
 gains-fault fault unshut before after texts gained =
     subst (λ (cut : Bool). GainsLines cut before after texts) (sym (at-fault fault unshut)) gained
 
+-- what a turn left, before another that the pass was refused
+abbrev acts-refused : (d : Debugging) (p q : PassState Entry) (entry : Entry) → Acts d p q entry
+    → Acts d p (refused_pass q) entry
+acts-refused d p q entry a = record {
+  between = a.between;
+  seen = a.seen;
+  nothing = a.nothing;
+  history = a.history;
+  same = (a.same.0, a.same.1, a.same.2, a.same.3, a.same.4, λ told. refl);
+  free = a.free;
+  named = a.named;
+}
+
+steps-refused : (d : Debugging) (most moment : ℕ) (p q : PassState Entry) (texts : List (List ℕ))
+    → Steps d most moment p q texts → Steps d most moment p (refused_pass q) texts
+steps-refused d most moment p q texts a = record {
+  steps = a.steps;
+  lost = a.lost;
+  act = (acts-refused d p q (Ran a.steps moment a.lost) a.act.0, a.act.1);
+  longest = a.longest;
+}
+
 -- and no ticket was left for a shut
 unshut-run : (d : Debugging) (moment : Option ℕ) (at : ℕ) (p q : PassState Entry) (old new : Output)
-    (texts : List (List ℕ)) (fault : SinkFault) (unshut : NotShut) → unshut.ticket ≡ limit
+    (texts : List (List ℕ)) (fault : SinkFault) (unshut : NotShut) → unshut.ticket ≡ limit → q.refused ≡ true
     → IfTold moment (λ ms. at ≡ ms) → Steps d 256 at p q texts → GainsPrefix old.content new.content (printed_lines texts)
     → Counts (Some (end_at fault (Some unshut))) old.faults new.faults
     → HasRun d moment p q old new (Some (end_at fault (Some unshut)))
-unshut-run d moment at p q old new texts fault unshut spent told made gained counts =
+unshut-run d moment at p q old new texts fault unshut spent refused told made gained counts =
     let end = Some (end_at fault (Some unshut)) in
     let ran = Ran made.steps at made.lost in
     turn-run d moment p q old new ran texts end made.act.0 tt
     (left-turns moment end (ran ∷ []) (shuts-fault fault (Some unshut)) (told, tt)) made.act.1 (inl made.longest)
-    (gains-fault fault (Some unshut) old.content new.content texts gained) (reason-fault d fault (Some unshut) q.seen spent)
+    (gains-fault fault (Some unshut) old.content new.content texts gained)
+    (reason-fault d fault (Some unshut) q.seen (q.refused ≡ true) (spent, refused))
     counts
 
 -- or the program was shut
@@ -487,7 +525,7 @@ shut-run d moment at p m q old new texts fault told made act gained counts =
           writes-shut d p.number p m q act (may_cut end) old.content new.content first.same.1 first.longer
           (writes-turn d p m ran made.act.0 (may_cut end) old.content new.content texts made.act.1
           (gains-fault fault None old.content new.content texts gained));
-      reason = reason-fault d fault None q.seen tt;
+      reason = reason-fault d fault None q.seen (q.refused ≡ true) tt;
       counts = counts;
     }
 
@@ -498,7 +536,8 @@ cut-run : (d : Debugging) (moment : Option ℕ) (at : ℕ) (p m q : PassState En
     → HasRun d moment p q old new (Some (end_at fault unshut))
 cut-run d moment at p m q old new texts fault (Some unshut) told made none gained counts =
     subst (λ (z : PassState Entry). HasRun d moment p z old new (Some (end_at fault (Some unshut)))) (sym none.0)
-    (unshut-run d moment at p m old new texts fault unshut none.1 told made gained counts)
+    (unshut-run d moment at p (refused_pass m) old new texts fault unshut none.1 refl told
+    (steps-refused d 256 at p m texts made) gained counts)
 cut-run d moment at p m q old new texts fault None told made act gained counts =
     shut-run d moment at p m q old new texts fault told made act gained counts
 

@@ -10,8 +10,8 @@ use Rattle.cdp_host_isolation.specs.Histories.{Entry, Attach, Tell, Take, Detach
 use Rattle.cdp_host_isolation.specs.Makers.{by, entries_of as unmade, entry_of}
 use Rattle.cdp_host_isolation.proofs.LongerLemmas.{call-program, whole-more}
 use Rattle.cdp_host_isolation.proofs.MakerLemmas.{by-append}
-use Rattle.history_lock.specs.Histories.{Begins, has}
-use Rattle.history_lock.specs.Passes.{HasInitialOnly, IsSamePass, LockId, PassState, initial_pass, initial_passes}
+use Rattle.history_lock.specs.Histories.{Begins, IsSpent, has}
+use Rattle.history_lock.specs.Passes.{HasInitialOnly, IsSamePass, LockId, PassState, SeesSpent, initial_pass, initial_passes}
 use Rattle.history_lock.proofs.Facts.{by_behind, has_behind, has_front}
 use Rattle.cdp_edge.specs.Outside.{Rose, IfTold}
 use Rattle.cdp_edge_server.specs.Contents.{Tended, any_fault, lowered, raised}
@@ -27,7 +27,7 @@ use Rattle.ws_service.specs.declared.ends.DoorsEnd.TheVariants as all
 use Rattle.ws_service.specs.declared.program.RunEnd.{RunEnd}
 use Rattle.ws_service.specs.declared.program.RunEnd.TheVariants as ends
 use Rattle.ws_service.proofs.ClientLemmas.{Each, MakesNoSteps, ShutsNothing, each-append, each-are, shutless-door, stepless-door}
-use Rattle.ws_service.proofs.JoinLemmas.{among}
+use Rattle.ws_service.proofs.JoinLemmas.{among, had-so, served-so}
 use Rattle.ws_service.proofs.OutputLemmas.{writes-over}
 use Rattle.ws_service.proofs.EntryLemmas.{Falls, falls, none-between, same-tail}
 use Rattle.ws_service.proofs.ProgramLemmas.{none-made, only-after}
@@ -158,7 +158,7 @@ has-below (suc n) x lt = dite (ℕ_discrete n x)
     (λ other. has_front x (numbers_below n) (n ∷ []) (has-below n x (omega (arith, lt, other))))
 
 module _ {X : Type 0} (d : Debugging) (number : X → ℕ) (door : X → Tended) (ended : X → Opt DoorEnd) (n : ℕ)
-    (h : List (ℕ × Entry)) (desks : List X) where
+    (h : List (ℕ × Entry)) (spent : Type 0) (desks : List X) where
   -- what is so of the entries of each door, and of those of another number, is so of those of all but the program's
   besides : (P : Entry → Type 0) → map number desks ≡ numbers_below n → ((x : ℕ) → n < x → by x h ≡ [])
       → All (λ x. Each P (by (number x) h)) desks → (x : ℕ) → x ≢ n → Each P (by x h)
@@ -169,22 +169,23 @@ module _ {X : Type 0} (d : Debugging) (number : X → ℕ) (door : X → Tended)
 
   -- each entry that makes steps is the program's
   pub only-program : map number desks ≡ numbers_below n → ((x : ℕ) → n < x → by x h ≡ [])
-      → All (λ x. IsServedDoor d (number x) h (door x) (ended x)) desks → OnlyRuns n h
+      → All (λ x. IsServedDoor d (number x) h spent (door x) (ended x)) desks → OnlyRuns n h
   only-program numbers beyond served =
       only-runs n h
       (besides MakesNoSteps numbers beyond
-      (All-weaker (λ x. IsServedDoor d (number x) h (door x) (ended x)) (λ x. Each MakesNoSteps (by (number x) h))
-      (λ x s. stepless-door d (number x) h (door x) (ended x) s) desks served))
+      (All-weaker (λ x. IsServedDoor d (number x) h spent (door x) (ended x)) (λ x. Each MakesNoSteps (by (number x) h))
+      (λ x s. stepless-door d (number x) h spent (door x) (ended x) s) desks served))
 
   -- where no door failed, none of another than the program shuts it
   no-shut-besides : map number desks ≡ numbers_below n → ((x : ℕ) → n < x → by x h ≡ [])
-      → All (λ x. IsServedDoor d (number x) h (door x) (ended x)) desks
+      → All (λ x. IsServedDoor d (number x) h spent (door x) (ended x)) desks
       → any_door has_failed (map ended desks) ≡ false → (x : ℕ) → x ≢ n → Each ShutsNothing (by x h)
   no-shut-besides numbers beyond served well =
       besides ShutsNothing numbers beyond
-      (All-both (λ x. has_failed (ended x) ≡ false) (λ x. IsServedDoor d (number x) h (door x) (ended x))
+      (All-both (λ x. has_failed (ended x) ≡ false) (λ x. IsServedDoor d (number x) h spent (door x) (ended x))
       (λ x. Each ShutsNothing (by (number x) h))
-      (λ x good s. shutless-door d (number x) h (door x) (ended x) good s) desks (none-failed ended desks well) served)
+      (λ x good s. shutless-door d (number x) h spent (door x) (ended x) good s) desks (none-failed ended desks well)
+      served)
     where
       All-both : (P Q R : X → Type 0) → ((x : X) → P x → Q x → R x) → (xs : List X) → All P xs → All Q xs → All R xs
       All-both P Q R so xs first second = λ k x within. so _ (first k x within) (second k x within)
@@ -284,17 +285,29 @@ due-over d k old new more end nothing due = λ front rest entry begins is.
     (falls new more front rest (k, entry) is)
 
 -- what an end says stays so
-reason-over : (d : Debugging) (end : RunEnd) (h more : List (ℕ × Entry)) → steps_made (unmade more) ≡ 0
-    → HasReason d (Some end) h → HasReason d (Some end) (h ++ more)
-reason-over d ends.Ended h more none is =
+reason-over : (d : Debugging) (end : RunEnd) (h more : List (ℕ × Entry)) (spent : Type 0) → steps_made (unmade more) ≡ 0
+    → HasReason d (Some end) h spent → HasReason d (Some end) (h ++ more) spent
+reason-over d ends.Ended h more spent none is =
     subst (λ c. (d.protocol.is_over c ≡ true) × (d.has_thrown c ≡ false)) (sym (program-stays d h more none)) is
-reason-over d ends.Threw h more none is =
+reason-over d ends.Threw h more spent none is =
     subst (λ c. (d.protocol.is_over c ≡ true) × (d.has_thrown c ≡ true)) (sym (program-stays d h more none)) is
-reason-over d ends.Shut h more none is = (is.0, (is.1.0 ++ more, ap (λ l. l ++ more) is.1.1 ∙ append_assoc is.0 is.1.0 more), is.2)
-reason-over d ends.Broken h more none is = tt
-reason-over d (ends.WriteFault unshut) h more none is = is
-reason-over d (ends.Spent ticket) h more none is = is
-reason-over d (ends.Memory unshut) h more none is = is
+reason-over d ends.Shut h more spent none is =
+    (is.0, (is.1.0 ++ more, ap (λ l. l ++ more) is.1.1 ∙ append_assoc is.0 is.1.0 more), is.2)
+reason-over d ends.Broken h more spent none is = tt
+reason-over d (ends.WriteFault unshut) h more spent none is = is
+reason-over d (ends.Spent ticket) h more spent none is = is
+reason-over d (ends.Memory unshut) h more spent none is = is
+
+-- and where more is known of no ticket being left
+reason-so : (d : Debugging) (end : RunEnd) (h : List (ℕ × Entry)) (spent more : Type 0) → (spent → more)
+    → HasReason d (Some end) h spent → HasReason d (Some end) h more
+reason-so d ends.Ended h spent more on is = is
+reason-so d ends.Threw h spent more on is = is
+reason-so d ends.Shut h spent more on is = is
+reason-so d ends.Broken h spent more on is = tt
+reason-so d (ends.WriteFault unshut) h spent more on is = had-so spent more unshut on is
+reason-so d (ends.Spent ticket) h spent more on is = (is.0, on is.1)
+reason-so d (ends.Memory unshut) h spent more on is = had-so spent more unshut on is
 
 -- ---- all together
 
@@ -302,8 +315,9 @@ module _ (d : Debugging) (n : ℕ) (moment : Opt ℕ) (p m : PassState Entry) (h
     (end : RunEnd) where
   -- the run of the program, over the one history
   program-run : p.seen ≡ [] → p.number ≡ n → HasRun d moment p m old new (Some end) → Begins m.seen h
-      → by n h ≡ by n m.seen → OnlyRuns n h → IsProgramRun d n moment old new end h
-  program-run start number r longer own only = record {
+      → by n h ≡ by n m.seen → OnlyRuns n h → (m.refused ≡ true → IsSpent h)
+      → IsProgramRun d n moment old new end h
+  program-run start number r longer own only sees = record {
     left = subst (AreLeft moment (Some end)) (sym (own ∙ all-own)) r.left;
     due =
         subst (λ l. FindsDue d n [] l (Some end)) (sym longer.1)
@@ -313,9 +327,10 @@ module _ (d : Debugging) (n : ℕ) (moment : Opt ℕ) (p m : PassState Entry) (h
     prints = wrote.1;
     gains = wrote.2;
     reason =
-        subst (HasReason d (Some end)) (sym longer.1)
-        (reason-over d end m.seen longer.0
-        (none-after n m.seen longer.0 (subst (OnlyRuns n) longer.1 only) nothing) r.reason);
+        reason-so d end h (m.refused ≡ true) (IsSpent h) sees
+        (subst (λ l. HasReason d (Some end) l (m.refused ≡ true)) (sym longer.1)
+        (reason-over d end m.seen longer.0 (m.refused ≡ true)
+        (none-after n m.seen longer.0 (subst (OnlyRuns n) longer.1 only) nothing) r.reason));
     counts = r.counts;
   }
     where
@@ -356,15 +371,16 @@ module _ {X : Type 0} (d : Debugging) (n : ℕ) (moment : Opt ℕ) (p m : PassSt
 
   -- The run of the program and all doors, over the one history.
   pub serving : (together : DoorsEnd) → p.seen ≡ [] → p.number ≡ n → HasRun d moment p m old new (Some end)
-      → Begins m.seen h → by n h ≡ by n m.seen → IsHistory d h
-      → All (λ x. IsServedDoor d (number x) h (door x) (ended x)) desks → map number desks ≡ numbers_below n
+      → Begins m.seen h → by n h ≡ by n m.seen → IsHistory d h → (spent : Type 0) → (m.refused ≡ true → spent)
+      → (spent → IsSpent h) → All (λ x. IsServedDoor d (number x) h spent (door x) (ended x)) desks
+      → map number desks ≡ numbers_below n
       → ((x : ℕ) → n < x → by x h ≡ []) → IsEndOfDoors together (map ended desks)
       → IsServing d n moment old new (record { run = end; doors = together }) h (map served_of desks)
-  serving together start is_number r longer own is served numbers beyond are = record {
+  serving together start is_number r longer own is spent told sees known numbers beyond are = record {
     history = is;
     runs = run;
     served =
-        All-map (λ (s : ServedDoor). IsServedDoor d s.number h s.door s.end) served_of desks served;
+        All-map (λ (s : ServedDoor). IsServedDoor d s.number h (IsSpent h) s.door s.end) served_of desks served;
     numbers = map-map (λ (s : ServedDoor). s.number) served_of desks ∙ numbers;
     others = beyond;
     ended =
@@ -372,11 +388,17 @@ module _ {X : Type 0} (d : Debugging) (n : ℕ) (moment : Opt ℕ) (p m : PassSt
     shut = may-shut together (may_cut (Some end)) refl nothing are;
   }
     where
+      served : All (λ x. IsServedDoor d (number x) h (IsSpent h) (door x) (ended x)) desks
+      served =
+          All-weaker (λ x. IsServedDoor d (number x) h spent (door x) (ended x))
+          (λ x. IsServedDoor d (number x) h (IsSpent h) (door x) (ended x))
+          (λ x at. served-so d (number x) h spent (IsSpent h) (door x) (ended x) sees at) desks known
+
       only : OnlyRuns n h
-      only = only-program d number door ended n h desks numbers beyond served
+      only = only-program d number door ended n h (IsSpent h) desks numbers beyond served
 
       run : IsProgramRun d n moment old new end h
-      run = program-run d n moment p m h old new end start is_number r longer own only
+      run = program-run d n moment p m h old new end start is_number r longer own only (λ refused. sees (told refused))
 
       nothing : may_cut (Some end) ≡ false → any_door has_failed (map ended desks) ≡ false
           → has_shut (unmade h) ≡ false
@@ -384,7 +406,7 @@ module _ {X : Type 0} (d : Debugging) (n : ℕ) (moment : Opt ℕ) (p m : PassSt
           (λ same.
           subst (λ (y : ℕ). Each ShutsNothing (by y h)) (sym same)
           (run-shuts-nothing moment end (by n h) whole run.left))
-          (λ other. no-shut-besides d number door ended n h desks numbers beyond served well x other))
+          (λ other. no-shut-besides d number door ended n h (IsSpent h) desks numbers beyond served well x other))
 
 -- ---- the passes with which a lock begins
 
@@ -424,11 +446,11 @@ all-initial lock n p numbers is below =
 
 -- ---- faults of doors
 
-counted : (d : Debugging) (k : ℕ) (h : List (ℕ × Entry)) (end : DoorEnd) (last : List Entry) (faults : ℕ)
-    → has_failed (Some end) ≡ true → EndsDoor d k h end last 0 faults → 0 < faults
-counted d k h (one.Over state) last faults failed e = absurd cc
-counted d k h (one.Spent ticket) last faults failed e = absurd cc
-counted d k h (one.Fault unshut) last faults failed e = rose e.2
+counted : (d : Debugging) (k : ℕ) (h : List (ℕ × Entry)) (spent : Type 0) (end : DoorEnd) (last : List Entry)
+    (faults : ℕ) → has_failed (Some end) ≡ true → EndsDoor d k h spent end last 0 faults → 0 < faults
+counted d k h spent (one.Over state) last faults failed e = absurd cc
+counted d k h spent (one.Spent ticket) last faults failed e = absurd cc
+counted d k h spent (one.Fault unshut) last faults failed e = rose e.2
   where
     rose : Rose 0 faults → 0 < faults
     rose (inl lt) = lt
@@ -443,15 +465,16 @@ fault-later zero counts is = is
 fault-later (suc n) counts is = refl
 
 -- where a door failed, one of them counts a fault
-pub door-failed : (d : Debugging) (h : List (ℕ × Entry)) (served : List ServedDoor)
-    → All (λ (s : ServedDoor). IsServedDoor d s.number h s.door s.end) served
+pub door-failed : (d : Debugging) (h : List (ℕ × Entry)) (spent : Type 0) (served : List ServedDoor)
+    → All (λ (s : ServedDoor). IsServedDoor d s.number h spent s.door s.end) served
     → any_door has_failed (map (λ (s : ServedDoor). s.end) served) ≡ true
     → any_fault (map (λ (s : ServedDoor). s.door.faults) served) ≡ true
-door-failed d h [] each is = absurd cc
-door-failed d h (s ∷ served) each is =
+door-failed d h spent [] each is = absurd cc
+door-failed d h spent (s ∷ served) each is =
     here (has_failed s.end) refl
     (λ rest.
-    door-failed d h served (All-tail (λ (t : ServedDoor). IsServedDoor d t.number h t.door t.end) s served each) rest)
+    door-failed d h spent served
+    (All-tail (λ (t : ServedDoor). IsServedDoor d t.number h spent t.door t.end) s served each) rest)
   where
     counts : List ℕ
     counts = map (λ (t : ServedDoor). t.door.faults) served
@@ -459,16 +482,46 @@ door-failed d h (s ∷ served) each is =
     others : Bool
     others = any_door has_failed (map (λ (t : ServedDoor). t.end) served)
 
-    at : IsServedDoor d s.number h s.door s.end
-    at = All-head (λ (t : ServedDoor). IsServedDoor d t.number h t.door t.end) s served each
+    at : IsServedDoor d s.number h spent s.door s.end
+    at = All-head (λ (t : ServedDoor). IsServedDoor d t.number h spent t.door t.end) s served each
 
     here : (b : Bool) → has_failed s.end ≡ b → (others ≡ true → any_fault counts ≡ true)
         → any_fault (s.door.faults ∷ counts) ≡ true
     here true it rest =
         fault-first s.door.faults counts
-        (counted d s.number at.ends.0 at.end at.last s.door.faults (ap has_failed (sym at.is_end) ∙ it) at.ends.2)
+        (counted d s.number at.ends.0 spent at.end at.last s.door.faults (ap has_failed (sym at.is_end) ∙ it) at.ends.2)
     here false it rest =
         fault-later s.door.faults counts (rest (sym (ap (λ (x : Bool). x || others) it) ∙ is))
+
+-- ---- doors for which no ticket was left
+
+spent-at : (d : Debugging) (k : ℕ) (h : List (ℕ × Entry)) (spent : Type 0) (end : DoorEnd) (last : List Entry)
+    (faults : ℕ) → was_spent (Some end) ≡ true → EndsDoor d k h spent end last 0 faults → spent
+spent-at d k h spent (one.Over state) last faults was e = absurd cc
+spent-at d k h spent (one.Fault unshut) last faults was e = absurd cc
+spent-at d k h spent (one.Spent ticket) last faults was e = e.3
+
+-- what is so where no ticket was left is so where none was left for one of them
+pub spent-door : (d : Debugging) (h : List (ℕ × Entry)) (spent : Type 0) (served : List ServedDoor)
+    → All (λ (s : ServedDoor). IsServedDoor d s.number h spent s.door s.end) served
+    → any_door was_spent (map (λ (s : ServedDoor). s.end) served) ≡ true → spent
+spent-door d h spent [] each is = absurd cc
+spent-door d h spent (s ∷ served) each is =
+    here (was_spent s.end) refl
+    (λ rest.
+    spent-door d h spent served
+    (All-tail (λ (t : ServedDoor). IsServedDoor d t.number h spent t.door t.end) s served each) rest)
+  where
+    at : IsServedDoor d s.number h spent s.door s.end
+    at = All-head (λ (t : ServedDoor). IsServedDoor d t.number h spent t.door t.end) s served each
+
+    others : Bool
+    others = any_door was_spent (map (λ (t : ServedDoor). t.end) served)
+
+    here : (b : Bool) → was_spent s.end ≡ b → (others ≡ true → spent) → spent
+    here true it rest =
+        spent-at d s.number at.ends.0 spent at.end at.last s.door.faults (ap was_spent (sym at.is_end) ∙ it) at.ends.2
+    here false it rest = rest (sym (ap (λ (x : Bool). x || others) it) ∙ is)
 
 -- ---- the pass of the program, into which all others were joined
 
@@ -484,11 +537,12 @@ all-same p m numbers same are = (
 -- it answers for all, and no entry has a further number
 pub answers-last : (lock : LockId) (n : ℕ) (p m q : PassState Entry) (numbers : List ℕ)
     → p ≡ initial_pass lock (n + 1) n → IsSamePass p m → numbers ≡ numbers_below n
-    → (AreAll m numbers → AnswersForAll q) → q.initial ≡ m.initial → HasInitialOnly q
-    → AnswersForAll q × ((x : ℕ) → n < x → by x q.seen ≡ [])
-answers-last lock n p m q numbers is same below answers initial only = (
+    → (AreAll m numbers → AnswersForAll q) → q.initial ≡ m.initial → HasInitialOnly q → SeesSpent q
+    → AnswersForAll q × ((x : ℕ) → n < x → by x q.seen ≡ []) × (q.refused ≡ true → IsSpent q.seen)
+answers-last lock n p m q numbers is same below answers initial only sees = (
   all,
   λ x lt. only all.1 all.0 x (subst (λ (k : ℕ). k ≤ x) (sym first) (omega (arith, lt))),
+  sees all.1 all.0,
 )
   where
     all : AnswersForAll q

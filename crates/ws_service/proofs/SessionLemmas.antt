@@ -5,7 +5,7 @@ use Rattle.cdp_host_isolation.specs.Makers.{Owns, entries_of}
 use Rattle.cdp_host_isolation.specs.declared.seat.Loss.TheVariants.{Overrun, Memory}
 use Rattle.cdp_host_isolation.proofs.AloneLemmas.{alone}
 use Rattle.history_lock.specs.Histories.{Begins, limit}
-use Rattle.history_lock.specs.Passes.{PassState}
+use Rattle.history_lock.specs.Passes.{PassState, refused_pass}
 use Rattle.cdp_edge_server.specs.Contents.{adds}
 use Rattle.cdp_edge_server.specs.Heard as heard
 use Rattle.cdp_edge_server.specs.Heard.{Heard}
@@ -24,7 +24,7 @@ use Rattle.ws_service.specs.Passing.{Serves}
 use Rattle.ws_service.specs.Sessions.{Answers, EndsTaking, HandsOut, HasCause, HasOverrun, Hears, IsEnded, IsServed, Talk, Waits, WasOverIf, talks}
 use Rattle.ws_service.specs.declared.served.Served.{Served}
 use Rattle.ws_service.specs.declared.served.Served.TheVariants as served
-use Rattle.ws_service.proofs.PassingLemmas.{found-at, found-longer, found-was, goes, goes-on, serves, serves-none, serves-on, serves-take, still-owns, was-longer}
+use Rattle.ws_service.proofs.PassingLemmas.{found-at, found-longer, found-was, goes, goes-on, serves, serves-none, serves-on, serves-refused, serves-take, still-owns, was-longer}
 use Rattle.ws_service.proofs.ConnectionLemmas.{connection-after, ends-here, go-on-more, gone-at-text, memory-at-text, over-spent, overrun-at-text, sent-after, spent-at, taking-after-text, taking-alone, turns-more}
 use Rattle.ws_service.proofs.SendLemmas.{adds-none, adds-on}
 
@@ -43,17 +43,30 @@ overrun-longer d s h g b (inl lost) = inl (found-longer (IsGoneAs d s (gone.Lost
 overrun-longer d s h g b (inr over) =
     inr (over.0, found-longer (IsToldAs d s over.0 told.Overrun) (Tell s over.0) h g b over.1)
 
-pub cause-longer : (d : Debugging) (s : ℕ) (end : Served) (h g : List (ℕ × Entry)) → Begins h g → HasCause d s end h
-    → HasCause d s end g
-cause-longer d s served.Closed h g b c = tt
-cause-longer d s served.TooBig h g b c = tt
-cause-longer d s served.Binary h g b c = tt
-cause-longer d s served.Overrun h g b c = overrun-longer d s h g b c
-cause-longer d s served.Shut h g b c = found-longer (IsGoneAs d s gone.Shut) (Detach s) h g b c
-cause-longer d s served.Over h g b c = was-longer (IsOver d) h g b c
-cause-longer d s served.Fault h g b c = tt
-cause-longer d s (served.Spent ticket) h g b c = tt
-cause-longer d s served.Memory h g b c = tt
+pub cause-longer : (d : Debugging) (s : ℕ) (end : Served) (h g : List (ℕ × Entry)) (spent : Type 0) → Begins h g
+    → HasCause d s end h spent → HasCause d s end g spent
+cause-longer d s served.Closed h g spent b c = tt
+cause-longer d s served.TooBig h g spent b c = tt
+cause-longer d s served.Binary h g spent b c = tt
+cause-longer d s served.Overrun h g spent b c = overrun-longer d s h g b c
+cause-longer d s served.Shut h g spent b c = found-longer (IsGoneAs d s gone.Shut) (Detach s) h g b c
+cause-longer d s served.Over h g spent b c = was-longer (IsOver d) h g b c
+cause-longer d s served.Fault h g spent b c = tt
+cause-longer d s (served.Spent ticket) h g spent b c = c
+cause-longer d s served.Memory h g spent b c = tt
+
+-- where more is known of no ticket being left
+pub cause-so : (d : Debugging) (s : ℕ) (end : Served) (h : List (ℕ × Entry)) (spent more : Type 0) → (spent → more)
+    → HasCause d s end h spent → HasCause d s end h more
+cause-so d s served.Closed h spent more on c = tt
+cause-so d s served.TooBig h spent more on c = tt
+cause-so d s served.Binary h spent more on c = tt
+cause-so d s served.Overrun h spent more on c = c
+cause-so d s served.Shut h spent more on c = c
+cause-so d s served.Over h spent more on c = c
+cause-so d s served.Fault h spent more on c = tt
+cause-so d s (served.Spent ticket) h spent more on c = on c
+cause-so d s served.Memory h spent more on c = tt
 
 -- ---- a session that is gone
 
@@ -63,7 +76,7 @@ gone-serves : (d : Debugging) (s : ℕ) (p q : PassState Entry) (why : Gone) →
 gone-serves d s p q why f owns = serves d s p q (Detach s) f.0 tt owns tt
 
 gone-cause : (d : Debugging) (s : ℕ) (p q : PassState Entry) (why : Gone) → Leaves d s p q why
-    → HasCause d s (end_of why) q.seen
+    → HasCause d s (end_of why) q.seen (q.refused ≡ true)
 gone-cause d s p q (gone.Lost Overrun) f = inl (found-at d (IsGoneAs d s (gone.Lost Overrun)) p q (Detach s) f)
 gone-cause d s p q (gone.Lost Memory) f = tt
 gone-cause d s p q gone.Shut f = found-at d (IsGoneAs d s gone.Shut) p q (Detach s) f
@@ -80,18 +93,20 @@ pub hands-gone : (d : Debugging) (s : ℕ) (p q : PassState Entry) (old new : Ta
 hands-gone d s p q old new why l owns same =
     (Detach s ∷ [], [], [], false, gone-serves d s p q why l owns, same ∙ talks-none old, refl, gone-taking s why, gone-cause d s p q why l)
 
-pub hands-spent : (d : Debugging) (s ticket : ℕ) (p q : PassState Entry) (old new : Talk) → ticket ≡ limit → q ≡ p
-    → p.in_turn ≡ false → Owns p.number s p.seen → new ≡ old → HandsOut d s p q old new (Err (served.Spent ticket))
+pub hands-spent : (d : Debugging) (s ticket : ℕ) (p q : PassState Entry) (old new : Talk) → ticket ≡ limit
+    → q ≡ refused_pass p → p.in_turn ≡ false → Owns p.number s p.seen → new ≡ old
+    → HandsOut d s p q old new (Err (served.Spent ticket))
 hands-spent d s ticket p q old new is stays free owns same = (
   [],
   [],
   [],
   false,
-  subst (λ (r : PassState Entry). Serves d s p r [] []) (sym stays) (serves-none d s p free owns),
+  subst (λ (r : PassState Entry). Serves d s p r [] []) (sym stays)
+      (serves-refused d s p p [] [] (serves-none d s p free owns)),
   same ∙ talks-none old,
   refl,
   (is, inl (refl, refl)),
-  tt,
+  ap (λ (r : PassState Entry). r.refused) stays,
 )
 
 over-was : (d : Debugging) (s : ℕ) (p q : PassState Entry) (b : Bool) → Finds d (IsTakenAs d s b) p q (Take s)
@@ -157,11 +172,12 @@ hands-some d s p m q old new taken part fault end t owns answers begins sent (in
       texts,
       part,
       true,
-      subst (λ (r : PassState Entry). Serves d s p r (Take s ∷ []) texts) (sym stays) first,
+      subst (λ (r : PassState Entry). Serves d s p r (Take s ∷ []) texts) (sym stays)
+          (serves-refused d s p m (Take s ∷ []) texts first),
       (λ i. record { answers = (answers ∙ adds-none old.answers) i; sent = sent i }),
       begins,
       (at, inr (refl, refl)),
-      tt,
+      ap (λ (r : PassState Entry). r.refused) stays,
     )
 
 -- the pass owns the session still
@@ -240,18 +256,20 @@ pub answers-gone : (d : Debugging) (s : ℕ) (p q : PassState Entry) (text : Lis
 answers-gone d s p q text old new why l owns same =
     (Detach s ∷ [], [], [], false, gone-serves d s p q why l owns, gone-at-text s text why, same ∙ talks-none old, refl, gone-cause d s p q why l)
 
-pub answers-spent : (d : Debugging) (s ticket : ℕ) (p q : PassState Entry) (text : List ℕ) (old new : Talk) → ticket ≡ limit → q ≡ p
-    → p.in_turn ≡ false → Owns p.number s p.seen → new ≡ old → Answers d s p q text old new (Some (served.Spent ticket))
+pub answers-spent : (d : Debugging) (s ticket : ℕ) (p q : PassState Entry) (text : List ℕ) (old new : Talk)
+    → ticket ≡ limit → q ≡ refused_pass p → p.in_turn ≡ false → Owns p.number s p.seen → new ≡ old
+    → Answers d s p q text old new (Some (served.Spent ticket))
 answers-spent d s ticket p q text old new is stays free owns same = (
   [],
   [],
   [],
   false,
-  subst (λ (r : PassState Entry). Serves d s p r [] []) (sym stays) (serves-none d s p free owns),
+  subst (λ (r : PassState Entry). Serves d s p r [] []) (sym stays)
+      (serves-refused d s p p [] [] (serves-none d s p free owns)),
   spent-at s ticket (heard.Text text) false is,
   same ∙ talks-none old,
   refl,
-  tt,
+  ap (λ (r : PassState Entry). r.refused) stays,
 )
 
 -- the session was gone after it, before its texts were handed out
@@ -263,12 +281,12 @@ answers-gone-after d s p m q text old new why f l owns same =
     (hands-gone d s m q old new why l (owns-told d s p m text f owns) same)
 
 -- or no ticket was left for that
-pub answers-spent-after : (d : Debugging) (s ticket : ℕ) (p q : PassState Entry) (text : List ℕ) (old new : Talk)
-    → Keeps d s p q text → ticket ≡ limit → Owns p.number s p.seen → new ≡ old
+pub answers-spent-after : (d : Debugging) (s ticket : ℕ) (p m q : PassState Entry) (text : List ℕ) (old new : Talk)
+    → Keeps d s p m text → q ≡ refused_pass m → ticket ≡ limit → Owns p.number s p.seen → new ≡ old
     → Answers d s p q text old new (Some (served.Spent ticket))
-answers-spent-after d s ticket p q text old new f is owns same =
-    answers-end d s p q q text old new (served.Spent ticket) f owns
-    (hands-spent d s ticket q q old new is refl f.0.free (owns-told d s p q text f owns) same)
+answers-spent-after d s ticket p m q text old new f stays is owns same =
+    answers-end d s p m q text old new (served.Spent ticket) f owns
+    (hands-spent d s ticket m q old new is stays f.0.free (owns-told d s p m text f owns) same)
 
 -- ---- nothing is told
 
@@ -298,11 +316,12 @@ waits-over d s p m q old new end h (inr (ticket, is, at, stays)) =
       h.0,
       h.0,
       false,
-      subst (λ (r : PassState Entry). Serves d s p r (Take s ∷ []) h.0) (sym stays) h.1,
+      subst (λ (r : PassState Entry). Serves d s p r (Take s ∷ []) h.0) (sym stays)
+          (serves-refused d s p m (Take s ∷ []) h.0 h.1),
       over-spent s ticket at,
       h.2,
       refl,
-      tt,
+      ap (λ (r : PassState Entry). r.refused) stays,
     )
 
 -- ---- an answer is heard
@@ -328,7 +347,8 @@ hears-nothing d s p q old mid new (Some end) is h =
 
 -- the session ends at an answer, or at none
 pub hears-last : (d : Debugging) (s : ℕ) (p q : PassState Entry) (answers : List Heard) (old new : Talk) (end result : Served)
-    → new ≡ talks old answers [] → Ends s end answers (Detach s ∷ []) false → HasCause d s end q.seen
+    → new ≡ talks old answers [] → Ends s end answers (Detach s ∷ []) false
+    → HasCause d s end q.seen (q.refused ≡ true)
     → ((answers ≡ []) ⊎ ((answer : Heard) × (answers ≡ answer ∷ []))) → p.in_turn ≡ false → Owns p.number s p.seen
     → IsEnded d s p q end result → Hears d s p q old new (Some result)
 hears-last d s p q answers old new end result is ends cause few free owns (inl e) =
@@ -341,11 +361,12 @@ hears-last d s p q answers old new end result is ends cause few free owns (inr (
       [],
       [],
       false,
-      subst (λ (r : PassState Entry). Serves d s p r [] []) (sym stays) (serves-none d s p free owns),
+      subst (λ (r : PassState Entry). Serves d s p r [] []) (sym stays)
+          (serves-refused d s p p [] [] (serves-none d s p free owns)),
       ends-here s (served.Spent ticket) answers [] false (at, inl (refl, few)),
       is,
       refl,
-      tt,
+      ap (λ (r : PassState Entry). r.refused) stays,
     )
 
 -- ---- answer after answer

@@ -1,5 +1,5 @@
 -- What a pass did at a door stays so over each longer history.
-use Rattle.std.proofs.Common.{◌≡◌, ◌≢◌, ◌⊎◌, inl, inr, ℕ, List, All, [], ◌∷◌, ◌++◌, Bool, false, refl, ap, sym, subst, ◌∙◌, append_assoc, append-nil}
+use Rattle.std.proofs.Common.{◌≡◌, ◌≢◌, ◌⊎◌, inl, inr, ℕ, List, All, [], ◌∷◌, ◌++◌, Bool, false, true, refl, ap, sym, subst, ◌∙◌, append_assoc, append-nil}
 use Rattle.std.proofs.lemmas.List.{append_cancel_left, map-append}
 use Rattle.std.proofs.lemmas.List.Elements.{All-append, All-cons, All-nil}
 use Rattle.cdp_host_isolation.specs.Protocols.{Protocol}
@@ -9,7 +9,7 @@ use Rattle.cdp_host_isolation.specs.Makers.{IsNoTake, Owns, TakesNone, by, entri
 use Rattle.cdp_host_isolation.proofs.MakerLemmas.{by-append, owned-front, owns-longer}
 use Rattle.cdp_host_isolation.proofs.OwnerLemmas.{handed-keeps}
 use Rattle.history_lock.specs.Histories.{Begins}
-use Rattle.history_lock.specs.Passes.{PassState}
+use Rattle.history_lock.specs.Passes.{PassState, refused_pass}
 use Rattle.cdp_edge_server.specs.Heard as heard
 use Rattle.cdp_edge_server.specs.Heard.{Heard}
 use Rattle.cdp_host_turns.specs.Debuggings.{Debugging, IsHistory, sent_alone}
@@ -18,12 +18,12 @@ use Rattle.cdp_host_turns.specs.Turns.{Acts}
 use Rattle.ws_service.specs.Connections.{Connection, Ends, IsCutOff, IsToldLast, SentOf, turns, turns_at}
 use Rattle.ws_service.specs.Passing.{Goes, IsThereFor}
 use Rattle.ws_service.specs.Sessions.{IsRefused, Session}
-use Rattle.ws_service.specs.Visits.{AreActs, AreNew, DoorAct, IsAct, IsUnattached, IsVisit, Looked, Refused, Speaks, Tends, Visit, Visited, entries_at, entries_of, link_at, links_of, sessions_of}
+use Rattle.ws_service.specs.Visits.{AreActs, AreNew, DoorAct, IsAct, IsRefusal, IsUnattached, IsVisit, Looked, Refused, Speaks, Tends, Visit, Visited, entries_at, entries_of, link_at, links_of, sessions_of}
 use Rattle.ws_service.specs.declared.served.Served.{Served}
 use Rattle.ws_service.specs.declared.served.Served.TheVariants as served
 use Rattle.cdp_edge_server.specs.Contents.{Spoken}
-use Rattle.ws_service.proofs.PassingLemmas.{goes, goes-none, goes-on, was-longer}
-use Rattle.ws_service.proofs.SessionLemmas.{cause-longer, handed-alone}
+use Rattle.ws_service.proofs.PassingLemmas.{goes, goes-none, goes-on, goes-refused, was-longer}
+use Rattle.ws_service.proofs.SessionLemmas.{cause-longer, cause-so, handed-alone}
 
 -- ---- the same over a longer history
 
@@ -49,44 +49,78 @@ alone-stays d k s h g owns is none =
     ∙ handed-keeps d.protocol k s d.program d.wait h g owns is.owned none
     ∙ handed-alone d s h (history-front d h g is)
 
-visit-stays : (d : Debugging) (k : ℕ) (h g : List (ℕ × Entry)) (visit : Visit) → IsHistory d (h ++ g)
-    → ((s : ℕ) → Owns k s h → TakesNone s (by k g)) → IsVisit d k h visit → IsVisit d k (h ++ g) visit
-visit-stays d k h g visit is none a = record {
+visit-stays : (d : Debugging) (k : ℕ) (h g : List (ℕ × Entry)) (spent : Type 0) (visit : Visit)
+    → IsHistory d (h ++ g) → ((s : ℕ) → Owns k s h → TakesNone s (by k g)) → IsVisit d k h spent visit
+    → IsVisit d k (h ++ g) spent visit
+visit-stays d k h g spent visit is none a = record {
   connection = a.connection;
   owns = owns-longer k visit.session h g a.owns;
   sent =
       subst (SentOf visit.cut visit.texts)
       (sym (alone-stays d k visit.session h g a.owns is (none visit.session a.owns))) a.sent;
-  cause = cause-longer d visit.session visit.end h (h ++ g) (g, refl) a.cause;
+  cause = cause-longer d visit.session visit.end h (h ++ g) spent (g, refl) a.cause;
   speaks = a.speaks;
 }
 
-unattached-stays : (d : Debugging) (end : Served) (entries : List Entry) (h g : List (ℕ × Entry)) → Begins h g
-    → IsUnattached d h end entries → IsUnattached d g end entries
-unattached-stays d served.Shut entries h g longer is = (is.0, was-longer (IsShut d) h g longer is.1)
-unattached-stays d served.Memory entries h g longer is = is
-unattached-stays d (served.Spent ticket) entries h g longer is = is
-unattached-stays d served.Closed entries h g longer is = absurd is
-unattached-stays d served.TooBig entries h g longer is = absurd is
-unattached-stays d served.Binary entries h g longer is = absurd is
-unattached-stays d served.Overrun entries h g longer is = absurd is
-unattached-stays d served.Over entries h g longer is = absurd is
-unattached-stays d served.Fault entries h g longer is = absurd is
+unattached-stays : (d : Debugging) (end : Served) (entries : List Entry) (h g : List (ℕ × Entry)) (spent : Type 0)
+    → Begins h g → IsUnattached d h spent end entries → IsUnattached d g spent end entries
+unattached-stays d served.Shut entries h g spent longer is = (is.0, was-longer (IsShut d) h g longer is.1)
+unattached-stays d served.Memory entries h g spent longer is = is
+unattached-stays d (served.Spent ticket) entries h g spent longer is = is
+unattached-stays d served.Closed entries h g spent longer is = absurd is
+unattached-stays d served.TooBig entries h g spent longer is = absurd is
+unattached-stays d served.Binary entries h g spent longer is = absurd is
+unattached-stays d served.Overrun entries h g spent longer is = absurd is
+unattached-stays d served.Over entries h g spent longer is = absurd is
+unattached-stays d served.Fault entries h g spent longer is = absurd is
 
-act-stays : (d : Debugging) (k : ℕ) (h g : List (ℕ × Entry)) (act : DoorAct) → IsHistory d (h ++ g)
-    → ((s : ℕ) → Owns k s h → TakesNone s (by k g)) → IsAct d k h act → IsAct d k (h ++ g) act
-act-stays d k h g (Visited visit) is none a = visit-stays d k h g visit is none a
-act-stays d k h g (Refused refusal) is none a = record {
-  unattached = unattached-stays d refusal.end refusal.entries h (h ++ g) (g, refl) a.unattached;
+act-stays : (d : Debugging) (k : ℕ) (h g : List (ℕ × Entry)) (spent : Type 0) (act : DoorAct) → IsHistory d (h ++ g)
+    → ((s : ℕ) → Owns k s h → TakesNone s (by k g)) → IsAct d k h spent act → IsAct d k (h ++ g) spent act
+act-stays d k h g spent (Visited visit) is none a = visit-stays d k h g spent visit is none a
+act-stays d k h g spent (Refused refusal) is none a = record {
+  unattached = unattached-stays d refusal.end refusal.entries h (h ++ g) spent (g, refl) a.unattached;
   speaks = a.speaks;
 }
-act-stays d k h g Looked is none a = tt
+act-stays d k h g spent Looked is none a = tt
 
 -- each act stays so, where the pass takes no text of the sessions that it owned
-pub acts-stay : (d : Debugging) (k : ℕ) (h g : List (ℕ × Entry)) (acts : List DoorAct) → IsHistory d (h ++ g)
-    → ((s : ℕ) → Owns k s h → TakesNone s (by k g)) → AreActs d k h acts → AreActs d k (h ++ g) acts
-acts-stay d k h g [] is none a = tt
-acts-stay d k h g (act ∷ acts) is none a = (act-stays d k h g act is none a.0, acts-stay d k h g acts is none a.1)
+pub acts-stay : (d : Debugging) (k : ℕ) (h g : List (ℕ × Entry)) (spent : Type 0) (acts : List DoorAct)
+    → IsHistory d (h ++ g) → ((s : ℕ) → Owns k s h → TakesNone s (by k g)) → AreActs d k h spent acts
+    → AreActs d k (h ++ g) spent acts
+acts-stay d k h g spent [] is none a = tt
+acts-stay d k h g spent (act ∷ acts) is none a =
+    (act-stays d k h g spent act is none a.0, acts-stay d k h g spent acts is none a.1)
+
+-- ---- the same where more is known of no ticket being left
+
+module _ (d : Debugging) (k : ℕ) (h : List (ℕ × Entry)) (spent more : Type 0) (on : spent → more) where
+  unattached-so : (end : Served) (entries : List Entry) → IsUnattached d h spent end entries
+      → IsUnattached d h more end entries
+  unattached-so served.Shut entries is = is
+  unattached-so served.Memory entries is = is
+  unattached-so (served.Spent ticket) entries is = (is.0, is.1, on is.2)
+  unattached-so served.Closed entries is = absurd is
+  unattached-so served.TooBig entries is = absurd is
+  unattached-so served.Binary entries is = absurd is
+  unattached-so served.Overrun entries is = absurd is
+  unattached-so served.Over entries is = absurd is
+  unattached-so served.Fault entries is = absurd is
+
+  act-so : (act : DoorAct) → IsAct d k h spent act → IsAct d k h more act
+  act-so (Visited visit) a = record {
+    connection = a.connection;
+    owns = a.owns;
+    sent = a.sent;
+    cause = cause-so d visit.session visit.end h spent more on a.cause;
+    speaks = a.speaks;
+  }
+  act-so (Refused refusal) a =
+      record { unattached = unattached-so refusal.end refusal.entries a.unattached; speaks = a.speaks }
+  act-so Looked a = tt
+
+  pub acts-so : (acts : List DoorAct) → AreActs d k h spent acts → AreActs d k h more acts
+  acts-so [] a = tt
+  acts-so (act ∷ acts) a = (act-so act a.0, acts-so acts a.1)
 
 -- ---- more acts
 
@@ -101,10 +135,10 @@ links-append [] ys = refl
 links-append (act ∷ xs) ys =
     ap (λ l. link_at act ++ l) (links-append xs ys) ∙ sym (append_assoc (link_at act) (links_of xs) (links_of ys))
 
-are-append : (d : Debugging) (k : ℕ) (h : List (ℕ × Entry)) (xs ys : List DoorAct) → AreActs d k h xs → AreActs d k h ys
-    → AreActs d k h (xs ++ ys)
-are-append d k h [] ys a b = b
-are-append d k h (act ∷ xs) ys a b = (a.0, are-append d k h xs ys a.1 b)
+are-append : (d : Debugging) (k : ℕ) (h : List (ℕ × Entry)) (spent : Type 0) (xs ys : List DoorAct)
+    → AreActs d k h spent xs → AreActs d k h spent ys → AreActs d k h spent (xs ++ ys)
+are-append d k h spent [] ys a b = b
+are-append d k h spent (act ∷ xs) ys a b = (a.0, are-append d k h spent xs ys a.1 b)
 
 sessions-append : (xs ys : List DoorAct) → sessions_of (xs ++ ys) ≡ sessions_of xs ++ sessions_of ys
 sessions-append [] ys = refl
@@ -129,18 +163,19 @@ new-apart k s h (r ∷ sessions) owns are =
     All-cons (λ r. r ≢ s) r sessions (λ is. are.0 k (subst (λ (z : ℕ). Owns k z h) (sym is) owns))
     (new-apart k s h sessions owns are.2)
 
-new-on : (d : Debugging) (k : ℕ) (h g : List (ℕ × Entry)) (xs ys : List DoorAct) → Begins h g → AreActs d k g xs
+new-on : (d : Debugging) (k : ℕ) (h g : List (ℕ × Entry)) (spent : Type 0) (xs ys : List DoorAct) → Begins h g
+    → AreActs d k g spent xs
     → AreNew h (sessions_of xs) → AreNew g (sessions_of ys) → AreNew h (sessions_of (xs ++ ys))
-new-on d k h g [] ys longer are new more = new-before h g (sessions_of ys) longer more
-new-on d k h g (Visited visit ∷ xs) ys longer are new more = (
+new-on d k h g spent [] ys longer are new more = new-before h g (sessions_of ys) longer more
+new-on d k h g spent (Visited visit ∷ xs) ys longer are new more = (
   new.0,
   subst (All (λ r. r ≢ visit.session)) (sym (sessions-append xs ys))
       (All-append (λ r. r ≢ visit.session) (sessions_of xs) (sessions_of ys) new.1
       (new-apart k visit.session g (sessions_of ys) are.0.owns more)),
-  new-on d k h g xs ys longer are.1 new.2 more,
+  new-on d k h g spent xs ys longer are.1 new.2 more,
 )
-new-on d k h g (Refused refusal ∷ xs) ys longer are new more = new-on d k h g xs ys longer are.1 new more
-new-on d k h g (Looked ∷ xs) ys longer are new more = new-on d k h g xs ys longer are.1 new more
+new-on d k h g spent (Refused refusal ∷ xs) ys longer are new more = new-on d k h g spent xs ys longer are.1 new more
+new-on d k h g spent (Looked ∷ xs) ys longer are new more = new-on d k h g spent xs ys longer are.1 new more
 
 -- the pass's own entries of what is new are those that it left
 own-rest : (k : ℕ) (h g q : List (ℕ × Entry)) (entries : List Entry) → q ≡ h ++ g → by k q ≡ by k h ++ entries
@@ -150,8 +185,9 @@ own-rest k h g q entries seen own =
 
 -- what was done before stays so, by what is done then
 kept : (d : Debugging) (p m q : PassState Entry) (xs ys : List DoorAct) (last : List Entry)
-    → (xs ≡ []) ⊎ IsHistory d q.seen → Tends d p m xs [] → Tends d m q ys last → AreActs d p.number q.seen xs
-kept d p m q xs ys last (inl none) a b = subst (AreActs d p.number q.seen) (sym none) tt
+    → (xs ≡ []) ⊎ IsHistory d q.seen → Tends d p m xs [] → Tends d m q ys last
+    → AreActs d p.number q.seen (q.refused ≡ true) xs
+kept d p m q xs ys last (inl none) a b = subst (AreActs d p.number q.seen (q.refused ≡ true)) (sym none) tt
 kept d p m q xs ys last (inr is) a b =
     let g = b.goes.longer.0 in
     let more = entries_of ys ++ last in
@@ -160,9 +196,10 @@ kept d p m q xs ys last (inr is) a b =
     let others : (s : ℕ) → Owns p.number s m.seen → TakesNone s more =
     subst (λ (k : ℕ). (s : ℕ) → Owns k s m.seen → TakesNone s more) a.goes.same.1 b.others in
     let rest : by p.number g ≡ more = own-rest p.number m.seen g q.seen more b.goes.longer.1 own in
-    subst (λ h. AreActs d p.number h xs) (sym b.goes.longer.1)
-    (acts-stay d p.number m.seen g xs (subst (IsHistory d) b.goes.longer.1 is)
-    (λ s owns. subst (TakesNone s) (sym rest) (others s owns)) a.are)
+    subst (λ h. AreActs d p.number h (q.refused ≡ true) xs) (sym b.goes.longer.1)
+    (acts-so d p.number (m.seen ++ g) (m.refused ≡ true) (q.refused ≡ true) b.goes.same.5 xs
+    (acts-stay d p.number m.seen g (m.refused ≡ true) xs (subst (IsHistory d) b.goes.longer.1 is)
+    (λ s owns. subst (TakesNone s) (sym rest) (others s owns)) a.are))
 
 entries-on : (xs ys : List DoorAct) (last : List Entry)
     → (entries_of xs ++ []) ++ (entries_of ys ++ last) ≡ entries_of (xs ++ ys) ++ last
@@ -188,9 +225,9 @@ tends-on d p m q xs ys last is a b = record {
       subst (Goes d p q) (entries-on xs ys last)
       (goes-on d p m q (entries_of xs ++ []) (entries_of ys ++ last) a.goes b.goes);
   are =
-      are-append d p.number q.seen xs ys (kept d p m q xs ys last is a b)
-      (subst (λ (k : ℕ). AreActs d k q.seen ys) a.goes.same.1 b.are);
-  new = new-on d p.number p.seen m.seen xs ys a.goes.longer a.are a.new b.new;
+      are-append d p.number q.seen (q.refused ≡ true) xs ys (kept d p m q xs ys last is a b)
+      (subst (λ (k : ℕ). AreActs d k q.seen (q.refused ≡ true) ys) a.goes.same.1 b.are);
+  new = new-on d p.number p.seen m.seen (m.refused ≡ true) xs ys a.goes.longer a.are a.new b.new;
   others = λ s owns. subst (TakesNone s) (entries-on xs ys last) (others-on d p m q xs ys last s a b owns);
 }
 
@@ -199,6 +236,16 @@ tends-on d p m q xs ys last is a b = record {
 pub tends-none : (d : Debugging) (p : PassState Entry) → p.in_turn ≡ false → Tends d p p [] []
 tends-none d p free =
     record { goes = goes-none d p free; are = tt; new = tt; others = λ s owns. All-nil (IsNoTake s) }
+
+-- a turn that the pass is refused adds nothing
+pub tends-refused : (d : Debugging) (p q : PassState Entry) (acts : List DoorAct) (last : List Entry)
+    → Tends d p q acts last → Tends d p (refused_pass q) acts last
+tends-refused d p q acts last a = record {
+  goes = goes-refused d p q (entries_of acts ++ last) a.goes;
+  are = acts-so d p.number q.seen (q.refused ≡ true) (true ≡ true) (λ told. refl) acts a.are;
+  new = a.new;
+  others = a.others;
+}
 
 -- a session that is owned isn't nobody
 nobody : (k s : ℕ) (h : List (ℕ × Entry)) → Owns k s h → 0 ≢ s
@@ -323,7 +370,7 @@ tends-visit d s p q end answers texts link a speaks = record {
 }
 
 refusal : (d : Debugging) (p q : PassState Entry) (end : Served) (link : Spoken) (entries : List Entry)
-    → Goes d p q entries → Speaks link [] [] end → IsUnattached d q.seen end entries
+    → Goes d p q entries → Speaks link [] [] end → IsUnattached d q.seen (q.refused ≡ true) end entries
     → ((s : ℕ) → Owns p.number s p.seen → TakesNone s entries)
     → Tends d p q (Refused (record { entries = entries; end = end; link = link }) ∷ []) []
 refusal d p q end link entries goes speaks unattached others = record {
@@ -348,8 +395,9 @@ tends-refusal d p q served.Memory link free is speaks = (
 )
 tends-refusal d p q (served.Spent ticket) link free is speaks = (
   [],
-  refusal d p q (served.Spent ticket) link [] (subst (λ z. Goes d p z []) (sym is.1) (goes-none d p free)) speaks
-      (is.0, refl) (λ s owns. All-nil (IsNoTake s)),
+  refusal d p q (served.Spent ticket) link []
+      (subst (λ z. Goes d p z []) (sym is.1) (goes-refused d p p [] (goes-none d p free))) speaks
+      (is.0, refl, ap (λ z. z.refused) is.1) (λ s owns. All-nil (IsNoTake s)),
 )
 tends-refusal d p q served.Closed link free is speaks = absurd is
 tends-refusal d p q served.TooBig link free is speaks = absurd is

@@ -3,7 +3,7 @@ use Rattle.std.specs.Prelude.{◌≡◌, ◌≤◌, ◌⊎◌, ℕ, zero, suc, L
 use Rattle.cdp_host_isolation.specs.Histories.{Entry, Take}
 use Rattle.cdp_edge.specs.Outside.{Rose, IfTold, one_more}
 use Rattle.history_lock.specs.Histories.{limit}
-use Rattle.history_lock.specs.Passes.{PassState}
+use Rattle.history_lock.specs.Passes.{PassState, refused_pass}
 use Rattle.cdp_edge_server.specs.Contents.{Spoken, Tended, adds}
 use Rattle.cdp_host_turns.specs.Debuggings.{Debugging, IsHistory}
 use Rattle.cdp_host_turns.specs.States.{HasState}
@@ -42,11 +42,12 @@ questions (ends.Fault unshut) acts = suc (looks_of acts)
 questions (ends.Spent ticket) acts = suc (looks_of acts)
 
 -- How serving a door ended, and what of the door's faults: it found the program over; or the door failed, and the
--- program was shut, if a ticket was left for that; or no ticket was left.
-abbrev pub EndsDoor : Debugging → ℕ → List (ℕ × Entry) → DoorEnd → List Entry → ℕ → ℕ → Type 0
-EndsDoor d k h (ends.Over state) last old new = (last ≡ []) × (new ≡ old) × FindsOver d k h state
-EndsDoor d k h (ends.Fault unshut) last old new = (last ≡ shut_entries unshut) × HadNoTicket unshut × Rose old new
-EndsDoor d k h (ends.Spent ticket) last old new = (last ≡ []) × (new ≡ old) × (ticket ≡ limit)
+-- program was shut, if a ticket was left for that; or no ticket was left. Where none was left this is so.
+abbrev pub EndsDoor : Debugging → ℕ → List (ℕ × Entry) → Type 0 → DoorEnd → List Entry → ℕ → ℕ → Type 0
+EndsDoor d k h spent (ends.Over state) last old new = (last ≡ []) × (new ≡ old) × FindsOver d k h state
+EndsDoor d k h spent (ends.Fault unshut) last old new =
+    (last ≡ shut_entries unshut) × HadNoTicket spent unshut × Rose old new
+EndsDoor d k h spent (ends.Spent ticket) last old new = (last ≡ []) × (new ≡ old) × (ticket ≡ limit) × spent
 
 -- How a pass served a door: what it did, that the door took back just the links of that, in order, and has none out,
 -- how often it was asked, and how this ended.
@@ -58,7 +59,7 @@ pub record IsTended (d : Debugging) (p q : PassState Entry) (old new : Tended) (
   pub home : IfTold new.is_out (λ out. out ≡ false)
   pub asks : new.asked ≡ asked_more (questions end acts) old.asked
   pub once : 1 ≤ questions end acts
-  pub ends : EndsDoor d p.number q.seen end last old.faults new.faults
+  pub ends : EndsDoor d p.number q.seen (q.refused ≡ true) end last old.faults new.faults
 
 -- ---- parts of it
 
@@ -74,11 +75,11 @@ Looks d p q None = Tends d p q (Looked ∷ []) [] × IsHistory d q.seen
 Looks d p q (Some (ends.Over state)) =
     Tends d p q (Looked ∷ []) [] × IsHistory d q.seen × FindsOver d p.number q.seen state
 Looks d p q (Some (ends.Fault unshut)) = ⊥
-Looks d p q (Some (ends.Spent ticket)) = (q ≡ p) × (ticket ≡ limit)
+Looks d p q (Some (ends.Spent ticket)) = (q ≡ refused_pass p) × (ticket ≡ limit)
 
 -- the program was shut, if a ticket was left for that
 abbrev pub Shuts : Debugging → PassState Entry → PassState Entry → Option NotShut → Type 0
-Shuts d p q unshut = Tends d p q [] (shut_entries unshut) × HadNoTicket unshut
+Shuts d p q unshut = Tends d p q [] (shut_entries unshut) × HadNoTicket (q.refused ≡ true) unshut
 
 -- the door was asked so often and served so long, and serving it goes on
 pub record IsTendedOn (d : Debugging) (p q : PassState Entry) (old new : Tended) : Type 0 where

@@ -38,21 +38,21 @@ pub record HasServed (d : Debugging) (q : PassState Entry) (door : Tended)
 -- A door that was new was served by this maker, over a history: the maker's entries there are exactly those of what it
 -- did, each text that a session was told, and each taking of its texts, found it there; each act is so over the whole
 -- history, and each link that was served had a session of its own. The door took back just these links, in order, has
--- none out, and was asked so often. Serving it ended so, at some time.
-pub record IsServedDoor (d : Debugging) (k : ℕ) (h : List (ℕ × Entry)) (door : Tended)
+-- none out, and was asked so often. Serving it ended so, at some time. Where no ticket was left this is so.
+pub record IsServedDoor (d : Debugging) (k : ℕ) (h : List (ℕ × Entry)) (spent : Type 0) (door : Tended)
     (ended : Option DoorEnd) : Type 0 where
   pub acts : List DoorAct
   pub last : List Entry
   pub end : DoorEnd
   pub own : by k h ≡ entries_of acts ++ last
   pub there : FindsThere d k [] h
-  pub are : AreActs d k h acts
+  pub are : AreActs d k h spent acts
   pub apart : AreNew [] (sessions_of acts)
   pub links : IfTold door.served (λ links. links ≡ links_of acts)
   pub home : IfTold door.is_out (λ out. out ≡ false)
   pub asks : door.asked ≡ asked_more (questions end acts) 0
   pub once : 1 ≤ questions end acts
-  pub ends : Was (λ seen. EndsDoor d k seen end last 0 door.faults) h
+  pub ends : Was (λ seen. EndsDoor d k seen spent end last 0 door.faults) h
   pub is_end : ended ≡ Some end
 
 -- a pass answers for all passes with which its lock began, and none was split off any of these

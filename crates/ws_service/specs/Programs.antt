@@ -59,17 +59,17 @@ shuts_at (Some (ends.WriteFault unshut)) = shut_entries unshut
 shuts_at (Some (ends.Spent ticket)) = []
 shuts_at (Some (ends.Memory unshut)) = shut_entries unshut
 
--- what an end says: the program has ended, by a throw or not; it was shut at some time; or no ticket is left, be it for
--- a shut
-abbrev pub HasReason : Debugging → Option RunEnd → List (ℕ × Entry) → Type 0
-HasReason d None h = Unit {0}
-HasReason d (Some ends.Ended) h = HasEnded d h
-HasReason d (Some ends.Threw) h = HasThrown d h
-HasReason d (Some ends.Shut) h = Was (IsShut d) h
-HasReason d (Some ends.Broken) h = Unit {0}
-HasReason d (Some (ends.WriteFault unshut)) h = HadNoTicket unshut
-HasReason d (Some (ends.Spent ticket)) h = ticket ≡ limit
-HasReason d (Some (ends.Memory unshut)) h = HadNoTicket unshut
+-- what an end says: the program has ended, by a throw or not; it was shut at some time; or no ticket was left, be it
+-- for a shut, of which this is so
+abbrev pub HasReason : Debugging → Option RunEnd → List (ℕ × Entry) → Type 0 → Type 0
+HasReason d None h spent = Unit {0}
+HasReason d (Some ends.Ended) h spent = HasEnded d h
+HasReason d (Some ends.Threw) h spent = HasThrown d h
+HasReason d (Some ends.Shut) h spent = Was (IsShut d) h
+HasReason d (Some ends.Broken) h spent = Unit {0}
+HasReason d (Some (ends.WriteFault unshut)) h spent = HadNoTicket spent unshut
+HasReason d (Some (ends.Spent ticket)) h spent = (ticket ≡ limit) × spent
+HasReason d (Some (ends.Memory unshut)) h spent = HadNoTicket spent unshut
 
 -- ---- entries
 
@@ -176,7 +176,7 @@ pub record HasRun (d : Debugging) (moment : Option ℕ) (p q : PassState Entry) 
   pub left : AreLeft moment end entries
   pub due : FindsDue d p.number p.seen q.seen end
   pub writes : Writes d p.number (may_cut end) p.seen q.seen old.content new.content
-  pub reason : HasReason d end q.seen
+  pub reason : HasReason d end q.seen (q.refused ≡ true)
   pub counts : Counts end old.faults new.faults
 
 -- a run was given up before its first turn: the program was shut, if a ticket was left for that

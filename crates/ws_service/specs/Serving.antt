@@ -2,6 +2,7 @@
 use Rattle.std.specs.Prelude.{◌≡◌, ◌⊎◌, ◌<◌, ◌||◌, ℕ, zero, suc, List, [], ◌∷◌, ◌++◌, map, All, Bool, true, false, Option, Some, None}
 use Rattle.cdp_host_isolation.specs.Histories.{Entry, Attach, Tell, Take, Detach, Ran, Shut}
 use Rattle.cdp_host_isolation.specs.Makers.{by, entries_of}
+use Rattle.history_lock.specs.Histories.{IsSpent}
 use Rattle.cdp_edge_server.specs.Contents.{Tended, adds}
 use Rattle.ws_service_devtools.specs.Links.{seen}
 use Rattle.cdp_host_turns.specs.Debuggings.{Debugging, IsHistory}
@@ -92,7 +93,7 @@ pub record IsProgramRun (d : Debugging) (k : ℕ) (moment : Option ℕ) (old new
   pub texts : List (List ℕ)
   pub prints : PrintsOn d [] h texts
   pub gains : GainsLines (may_cut (Some end)) old.content new.content texts
-  pub reason : HasReason d (Some end) h
+  pub reason : HasReason d (Some end) h (IsSpent h)
   pub counts : Counts (Some end) old.faults new.faults
 
 -- a door that was served: the number of the pass that served it, what it tells now, and how that ended
@@ -103,12 +104,13 @@ pub record ServedDoor : Type 0 where
 
 -- So many doors were served beside the program, to the end, and these came back. Over the one history, each entry is the
 -- program's, whose pass has the number behind theirs, or that of the pass of a door; the program ran and each door was
--- served as is said of them; it was shut only where its output couldn't be written or a door failed.
+-- served as is said of them, and no ticket was left for a turn only where none is left after that history; the program
+-- was shut only where its output couldn't be written or a door failed.
 pub record IsServing (d : Debugging) (n : ℕ) (moment : Option ℕ) (old new : Output) (ends : Ends)
     (h : List (ℕ × Entry)) (doors : List ServedDoor) : Type 0 where
   pub history : IsHistory d h
   pub runs : IsProgramRun d n moment old new ends.run h
-  pub served : All (λ (door : ServedDoor). IsServedDoor d door.number h door.door door.end) doors
+  pub served : All (λ (door : ServedDoor). IsServedDoor d door.number h (IsSpent h) door.door door.end) doors
   pub numbers : map (λ (door : ServedDoor). door.number) doors ≡ numbers_below n
   pub others : (x : ℕ) → n < x → by x h ≡ []
   pub ended : IsEndOfDoors ends.doors (map (λ (door : ServedDoor). door.end) doors)

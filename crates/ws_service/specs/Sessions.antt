@@ -3,7 +3,7 @@ use Rattle.std.specs.Prelude.{◌≡◌, ◌⊎◌, ℕ, List, [], ◌∷◌, Bo
 use Rattle.cdp_host_isolation.specs.Histories.{Entry, Attach, Tell, Take, Detach}
 use Rattle.cdp_host_isolation.specs.Makers.{Owns}
 use Rattle.history_lock.specs.Histories.{limit}
-use Rattle.history_lock.specs.Passes.{PassState}
+use Rattle.history_lock.specs.Passes.{PassState, refused_pass}
 use Rattle.cdp_edge_server.specs.Contents.{adds, becomes}
 use Rattle.cdp_edge_server.specs.Heard as heard
 use Rattle.cdp_edge_server.specs.Heard.{Heard}
@@ -26,17 +26,17 @@ HasOverrun d s h =
     ⊎ ((text : List ℕ) × FoundAt (IsToldAs d s text told.Overrun) (Tell s text) h)
 
 -- What an end says of a session and its program: that the session overran; that the program had been shut at its
--- detach, when it wasn't lost; or that the program has ended.
-abbrev pub HasCause : Debugging → ℕ → Served → List (ℕ × Entry) → Type 0
-HasCause d s served.Closed h = Unit {0}
-HasCause d s served.TooBig h = Unit {0}
-HasCause d s served.Binary h = Unit {0}
-HasCause d s served.Overrun h = HasOverrun d s h
-HasCause d s served.Shut h = FoundAt (IsGoneAs d s gone.Shut) (Detach s) h
-HasCause d s served.Over h = Was (IsOver d) h
-HasCause d s served.Fault h = Unit {0}
-HasCause d s (served.Spent ticket) h = Unit {0}
-HasCause d s served.Memory h = Unit {0}
+-- detach, when it wasn't lost; that the program has ended; or that no ticket was left, of which this is so.
+abbrev pub HasCause : Debugging → ℕ → Served → List (ℕ × Entry) → Type 0 → Type 0
+HasCause d s served.Closed h spent = Unit {0}
+HasCause d s served.TooBig h spent = Unit {0}
+HasCause d s served.Binary h spent = Unit {0}
+HasCause d s served.Overrun h spent = HasOverrun d s h
+HasCause d s served.Shut h spent = FoundAt (IsGoneAs d s gone.Shut) (Detach s) h
+HasCause d s served.Over h spent = Was (IsOver d) h
+HasCause d s served.Fault h spent = Unit {0}
+HasCause d s (served.Spent ticket) h spent = spent
+HasCause d s served.Memory h spent = Unit {0}
 
 -- ---- a link of a session
 
@@ -51,13 +51,13 @@ pub record Session (d : Debugging) (s : ℕ) (p q : PassState Entry) (end : Serv
   pub sent : SentOf cut texts (sent_alone d s q.seen)
   pub owns : Owns p.number s q.seen
   pub new : IsNew s p.seen
-  pub cause : HasCause d s end q.seen
+  pub cause : HasCause d s end q.seen (q.refused ≡ true)
 
--- no session was attached: at most nobody's texts were taken
+-- no session was attached: at most nobody's texts were taken, or the pass was refused a ticket
 abbrev pub IsRefused : Debugging → PassState Entry → PassState Entry → Served → Type 0
 IsRefused d p q served.Shut = Goes d p q (Take 0 ∷ []) × Was (IsShut d) q.seen
 IsRefused d p q served.Memory = Goes d p q (Take 0 ∷ [])
-IsRefused d p q (served.Spent ticket) = (ticket ≡ limit) × (q ≡ p)
+IsRefused d p q (served.Spent ticket) = (ticket ≡ limit) × (q ≡ refused_pass p)
 IsRefused d p q served.Closed = ⊥
 IsRefused d p q served.TooBig = ⊥
 IsRefused d p q served.Binary = ⊥
@@ -111,13 +111,15 @@ HandsOut d s p q old new (Ok is_over) =
     (texts : List (List ℕ)) × Serves d s p q (Take s ∷ []) texts × (new ≡ talks old [] texts) × WasOverIf d is_over q.seen
 HandsOut d s p q old new (Err end) =
     (entries : List Entry) × (texts sent : List (List ℕ)) × (cut : Bool) × Serves d s p q entries texts
-    × (new ≡ talks old [] sent) × SentOf cut sent texts × EndsTaking s end entries cut × HasCause d s end q.seen
+    × (new ≡ talks old [] sent) × SentOf cut sent texts × EndsTaking s end entries cut
+    × HasCause d s end q.seen (q.refused ≡ true)
 
 -- a session ended after these answers of its link, the last ones: what it left, and what was handed out and sent
 abbrev pub EndsAfter : Debugging → ℕ → PassState Entry → PassState Entry → List Heard → Talk → Talk → Served → Type 0
 EndsAfter d s p q answers old new end =
     (entries : List Entry) × (texts sent : List (List ℕ)) × (cut : Bool) × Serves d s p q entries texts
-    × Connection s end answers entries cut × (new ≡ talks old [] sent) × SentOf cut sent texts × HasCause d s end q.seen
+    × Connection s end answers entries cut × (new ≡ talks old [] sent) × SentOf cut sent texts
+    × HasCause d s end q.seen (q.refused ≡ true)
 
 -- a session was told a text, and what waits for it was sent: it goes on, or ends
 abbrev pub Answers : Debugging → ℕ → PassState Entry → PassState Entry → List ℕ → Talk → Talk → Option Served → Type 0
@@ -138,10 +140,10 @@ Hears d s p q old new None =
 Hears d s p q old new (Some end) =
     (answers : List Heard) × (entries : List Entry) × (texts sent : List (List ℕ)) × (cut : Bool)
     × Serves d s p q entries texts × Connection s end answers entries cut × (new ≡ talks old answers sent)
-    × SentOf cut sent texts × HasCause d s end q.seen
+    × SentOf cut sent texts × HasCause d s end q.seen (q.refused ≡ true)
 
--- a session ends so: it was detached; or no ticket was left, and nothing was done
+-- a session ends so: it was detached; or no ticket was left, and the pass was refused one
 abbrev pub IsEnded : Debugging → ℕ → PassState Entry → PassState Entry → Served → Served → Type 0
 IsEnded d s p q end result =
     ((result ≡ end) × Serves d s p q (Detach s ∷ []) [])
-    ⊎ ((ticket : ℕ) × (result ≡ served.Spent ticket) × (ticket ≡ limit) × (q ≡ p))
+    ⊎ ((ticket : ℕ) × (result ≡ served.Spent ticket) × (ticket ≡ limit) × (q ≡ refused_pass p))

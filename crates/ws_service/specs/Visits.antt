@@ -1,5 +1,5 @@
 -- What a pass does at a door: links that it serves, and looks of its own.
-use Rattle.std.specs.Prelude.{◌≡◌, ◌≢◌, ◌<◌, ◌⊎◌, ℕ, suc, List, [], ◌∷◌, ◌++◌, All, Bool, None}
+use Rattle.std.specs.Prelude.{◌≡◌, ◌≢◌, ◌<◌, ◌⊎◌, ℕ, suc, List, [], ◌∷◌, ◌++◌, All, Bool, true, None}
 use Rattle.cdp_host_isolation.specs.Histories.{Entry, Attach, Take}
 use Rattle.cdp_host_isolation.specs.Makers.{Owns, TakesNone}
 use Rattle.cdp_edge.specs.Outside.{IfTold}
@@ -92,40 +92,40 @@ pub record Speaks (link : Spoken) (heard : List Heard) (texts : List (List ℕ))
 -- A visit over a history: the session is this maker's, its entries and its link's answers are a connection's, and its
 -- link was sent exactly what the session would be sent with no other session there, or a first part of it where a send
 -- was cut.
-pub record IsVisit (d : Debugging) (k : ℕ) (h : List (ℕ × Entry)) (visit : Visit) : Type 0 where
+pub record IsVisit (d : Debugging) (k : ℕ) (h : List (ℕ × Entry)) (spent : Type 0) (visit : Visit) : Type 0 where
   pub connection : Connection visit.session visit.end visit.answers visit.entries visit.cut
   pub owns : Owns k visit.session h
   pub sent : SentOf visit.cut visit.texts (sent_alone d visit.session h)
-  pub cause : HasCause d visit.session visit.end h
+  pub cause : HasCause d visit.session visit.end h spent
   pub speaks : Speaks visit.link visit.answers visit.texts visit.end
 
--- no session was attached: the program was shut, there was no memory, or no ticket was left
-abbrev pub IsUnattached : Debugging → List (ℕ × Entry) → Served → List Entry → Type 0
-IsUnattached d h served.Shut entries = (entries ≡ Take 0 ∷ []) × Was (IsShut d) h
-IsUnattached d h served.Memory entries = entries ≡ Take 0 ∷ []
-IsUnattached d h (served.Spent ticket) entries = (ticket ≡ limit) × (entries ≡ [])
-IsUnattached d h served.Closed entries = ⊥
-IsUnattached d h served.TooBig entries = ⊥
-IsUnattached d h served.Binary entries = ⊥
-IsUnattached d h served.Overrun entries = ⊥
-IsUnattached d h served.Over entries = ⊥
-IsUnattached d h served.Fault entries = ⊥
+-- no session was attached: the program was shut, there was no memory, or no ticket was left, of which this is so
+abbrev pub IsUnattached : Debugging → List (ℕ × Entry) → Type 0 → Served → List Entry → Type 0
+IsUnattached d h spent served.Shut entries = (entries ≡ Take 0 ∷ []) × Was (IsShut d) h
+IsUnattached d h spent served.Memory entries = entries ≡ Take 0 ∷ []
+IsUnattached d h spent (served.Spent ticket) entries = (ticket ≡ limit) × (entries ≡ []) × spent
+IsUnattached d h spent served.Closed entries = ⊥
+IsUnattached d h spent served.TooBig entries = ⊥
+IsUnattached d h spent served.Binary entries = ⊥
+IsUnattached d h spent served.Overrun entries = ⊥
+IsUnattached d h spent served.Over entries = ⊥
+IsUnattached d h spent served.Fault entries = ⊥
 
 -- a refusal over a history: its link gave no answer and was sent nothing
-pub record IsRefusal (d : Debugging) (h : List (ℕ × Entry)) (refusal : RefusedLink) : Type 0 where
-  pub unattached : IsUnattached d h refusal.end refusal.entries
+pub record IsRefusal (d : Debugging) (h : List (ℕ × Entry)) (spent : Type 0) (refusal : RefusedLink) : Type 0 where
+  pub unattached : IsUnattached d h spent refusal.end refusal.entries
   pub speaks : Speaks refusal.link [] [] refusal.end
 
--- an act over a history
-abbrev pub IsAct : Debugging → ℕ → List (ℕ × Entry) → DoorAct → Type 0
-IsAct d k h (Visited visit) = IsVisit d k h visit
-IsAct d k h (Refused refusal) = IsRefusal d h refusal
-IsAct d k h Looked = Unit {0}
+-- an act over a history, and this is so where no ticket was left
+abbrev pub IsAct : Debugging → ℕ → List (ℕ × Entry) → Type 0 → DoorAct → Type 0
+IsAct d k h spent (Visited visit) = IsVisit d k h spent visit
+IsAct d k h spent (Refused refusal) = IsRefusal d h spent refusal
+IsAct d k h spent Looked = Unit {0}
 
 -- each of these is an act over a history
-abbrev pub AreActs : Debugging → ℕ → List (ℕ × Entry) → List DoorAct → Type 0
-AreActs d k h [] = Unit {0}
-AreActs d k h (act ∷ acts) = IsAct d k h act × AreActs d k h acts
+abbrev pub AreActs : Debugging → ℕ → List (ℕ × Entry) → Type 0 → List DoorAct → Type 0
+AreActs d k h spent [] = Unit {0}
+AreActs d k h spent (act ∷ acts) = IsAct d k h spent act × AreActs d k h spent acts
 
 -- nobody had attached these sessions in a history, and no two of them are one
 abbrev pub AreNew : List (ℕ × Entry) → List ℕ → Type 0
@@ -133,10 +133,10 @@ AreNew h [] = Unit {0}
 AreNew h (s ∷ sessions) = IsNew s h × All (λ r. r ≢ s) sessions × AreNew h sessions
 
 -- A pass did these acts, and left these entries last: its own entries are exactly theirs, each act is so over the whole
--- history that it has seen now, each link that was served has a new session of its own, and no text was taken of a
--- session that the pass owned before.
+-- history that it has seen now, and it was refused a ticket where an act found none left, each link that was served has a
+-- new session of its own, and no text was taken of a session that the pass owned before.
 pub record Tends (d : Debugging) (p q : PassState Entry) (acts : List DoorAct) (last : List Entry) : Type 0 where
   pub goes : Goes d p q (entries_of acts ++ last)
-  pub are : AreActs d p.number q.seen acts
+  pub are : AreActs d p.number q.seen (q.refused ≡ true) acts
   pub new : AreNew p.seen (sessions_of acts)
   pub others : (s : ℕ) → Owns p.number s p.seen → TakesNone s (entries_of acts ++ last)

@@ -1,8 +1,8 @@
 //! The passes of all desks are joined into one, whose list is the history, and the doors are handed back.
 
-ghost use Rattle.std.specs.Prelude.{◌≡◌, ◌+◌, ◌<◌, ◌≤◌, ◌++◌, length, map, All, vec_capacity, vec_len, false};
+ghost use Rattle.std.specs.Prelude.{◌≡◌, ◌+◌, ◌<◌, ◌≤◌, ◌++◌, length, map, All, vec_capacity, vec_len, false, true};
 ghost use Rattle.history_lock.specs.Histories.{Begins};
-ghost use Rattle.history_lock.specs.Passes.{HasInitialOnly, KeepsWhole, joined_pass};
+ghost use Rattle.history_lock.specs.Passes.{HasInitialOnly, KeepsWhole, SeesSpent, joined_pass};
 ghost use Rattle.cdp_host_turns.specs.Debuggings.{IsHistory};
 ghost use Rattle.ws_service.specs.Joins.{AnswersForAll, AreAll, HasServed, IsServedDoor, joined_passes};
 ghost use Rattle.ws_service.specs.Serving.{IsEndOfDoors};
@@ -26,6 +26,7 @@ fn join_desk<H: Hosted<B>, B, D: Bell, O: Door>(
     ensures own { KeepsWhole p.old p.new.seen }
     ensures others { KeepsWhole desk.entry.pass p.new.seen }
     ensures only { HasInitialOnly p.new }
+    ensures sees { SeesSpent p.new }
 {
     let Desk {
         lock: _,
@@ -62,13 +63,15 @@ pub fn join_all<H: Hosted<B>, B, D: Bell, O: Door>(
     ensures history { IsHistory H.debugs p.new.seen }
     ensures longer { Begins p.old.seen p.new.seen }
     ensures own { KeepsWhole p.old p.new.seen }
-    ensures served { All (λ desk. IsServedDoor H.debugs desk.pass.number p.new.seen (record {
+    ensures served { All (λ desk. IsServedDoor H.debugs desk.pass.number p.new.seen (p.new.refused ≡ true) (record {
       faults = O.faults desk.door;
       asked = O.asked desk.door;
       served = O.served desk.door;
       is_out = O.is_out desk.door;
     }) desk.end) desks.entry.items }
+    ensures refused { p.old.refused ≡ true → p.new.refused ≡ true }
     ensures only { 0 < length desks.entry.items → HasInitialOnly p.new }
+    ensures sees { 0 < length desks.entry.items → SeesSpent p.new }
     ensures same { (p.new.lock ≡ p.old.lock) × (p.new.in_turn ≡ false) × (p.new.number ≡ p.old.number) × (p.new.initial ≡ p.old.initial) }
     ensures whole { AreAll p.old (map (λ desk. desk.pass.number) desks.entry.items) → AnswersForAll p.new }
     ensures ended { IsEndOfDoors result (map (λ desk. desk.end) desks.entry.items) }

@@ -1,6 +1,6 @@
 //! Runs the program, turn after turn, and writes what it prints.
 
-ghost use Rattle.std.specs.Prelude.{◌≡◌, List, Some, false};
+ghost use Rattle.std.specs.Prelude.{◌≡◌, List, Some, false, true};
 ghost use Rattle.cdp_host_isolation.specs.Histories.{Entry as AnyEntry};
 ghost use Rattle.ws_service.specs.Passing.{Goes};
 ghost use Rattle.ws_service.specs.Programs.{AreLeft, Counts, FindsDue, Finishes, HasReason, HasRun, IsGivenUp, Puts, Writes, end_at, end_in, may_cut};
@@ -161,7 +161,7 @@ pub fn run_program<H: Hosted<B>, B, D: Bell, O: Sink, C: Clock, R: Wait>(
     ensures due { FindsDue H.debugs p.old.number p.old.seen p.new.seen (Some result) }
     // Where nobody else makes steps, the sink took exactly what the steps print, or a first part of it.
     ensures writes { Writes H.debugs p.old.number (may_cut (Some result)) p.old.seen p.new.seen (O.content out.old) (O.content out.new) }
-    ensures reason { HasReason H.debugs (Some result) p.new.seen }
+    ensures reason { HasReason H.debugs (Some result) p.new.seen (p.new.refused ≡ true) }
     ensures count { Counts (Some result) (O.faults out.old) (O.faults out.new) }
 {
     for _ in rt.forever() {

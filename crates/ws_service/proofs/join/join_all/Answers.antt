@@ -45,6 +45,7 @@ loop-desk-preserved g c =
       subst (λ (z : DoorsEnd × List (Option DoorEnd)). IsEndOfDoors z.0 z.1)
           (λ i. (sym c.with_door-ends.ensures i, sym (map-push (λ x. x.end) c.loop-desk.yielded desk) i))
           (ends-push (map (λ x. x.end) c.loop-desk.yielded) c.loop-desk.ends desk.end i.5),
+      λ _. j.sees,
     )
 
 pub returns-clause-doors : goal.returns-clause-doors
@@ -75,6 +76,18 @@ returns-clause-only g c =
     c.loop-desk.yielded c.loop-desk.desk-iterator c.loop-desk.yielded_by c.next.result c.next.new.self
     c.in-None.is c.next.ensures.steps in
     λ some. c.loop-desk.invariant.4 (subst (λ (n : ℕ). 0 < n) (sym e.1) some)
+
+pub returns-clause-sees : goal.returns-clause-sees
+returns-clause-sees g c =
+    let e = YieldsList-end
+    (YieldsList-from_vec c.args.desks.items c.into_iter-desk-iterator.ensures.into_iter_gives.0
+    (c.into_iter-desk-iterator.ensures.into_iter_gives.1 ∙ c.args.desks.ok.0))
+    c.loop-desk.yielded c.loop-desk.desk-iterator c.loop-desk.yielded_by c.next.result c.next.new.self
+    c.in-None.is c.next.ensures.steps in
+    λ some. c.loop-desk.invariant.6 (subst (λ (n : ℕ). 0 < n) (sym e.1) some)
+
+pub returns-clause-refused : goal.returns-clause-refused
+returns-clause-refused g c = c.loop-desk.invariant.0.refused
 
 pub returns-clause-same : goal.returns-clause-same
 returns-clause-same g c =

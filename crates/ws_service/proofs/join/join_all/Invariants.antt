@@ -1,5 +1,5 @@
 use Rattle.std.proofs.Common.{◌≡◌, ◌+◌, ◌<◌, ◌++◌, length, map, vec_capacity, vec_len}
-use Rattle.history_lock.specs.Passes.{HasInitialOnly}
+use Rattle.history_lock.specs.Passes.{HasInitialOnly, SeesSpent}
 use Rattle.ws_service.specs.Serving.{IsEndOfDoors}
 use Rattle.ws_service.proofs.JoinLemmas.{Joining}
 use Rattle.ws_service.proofs.join.join_all.Given as goal
@@ -19,3 +19,4 @@ invariant-loop-desk g l =
     × (vec_capacity l.doors ≡ vec_capacity l.fn.doors)
     × (0 < length l.yielded → HasInitialOnly l.p)
     × IsEndOfDoors l.ends (map (λ desk. desk.end) l.yielded)
+    × (0 < length l.yielded → SeesSpent l.p)

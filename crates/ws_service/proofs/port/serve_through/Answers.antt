@@ -132,7 +132,7 @@ returns-clause-serves g c =
 pub returns-clause-door : goal.returns-clause-door
 returns-clause-door g c = λ failed.
     let w = returns-clause-serves g c in
-    let any = door-failed g.H.Hosted.debugs c.serve_all-ends.new.runner.pass.seen w.0 w.1.served
+    let any = door-failed g.H.Hosted.debugs c.serve_all-ends.new.runner.pass.seen _ w.0 w.1.served
     (subst (λ e. IsEndOfDoors e (map (λ (s : ServedDoor). s.end) w.0)) failed w.1.ended) in
     subst
     (λ (b : Bool). RisesAt b (g.P.Harbor.faults c.args.harbor.now) (g.P.Harbor.faults c.shut.new.self)) any w.3

@@ -1,4 +1,4 @@
-use Rattle.std.proofs.Common.{rules, ◌++◌, length, map, sym, ap, ◌∙◌}
+use Rattle.std.proofs.Common.{rules, ◌≡◌, true, ◌++◌, length, map, sym, ap, ◌∙◌}
 use mathlib.Core.List.{map-map}
 use Rattle.ws_service.specs.Serving.{ServedDoor}
 use Rattle.ws_service.proofs.ServingLemmas.{answers-last, last-named, serving}
@@ -18,7 +18,9 @@ returns-clause-last g c =
     let n = length c.args.desks.items in
     let below = e.numbers ∙ c.requires.numbers in
     let some = c.join_all-ended.ensures.only in
-    let all = answers-last c.args.runner.now.lock.now n c.args.runner.now.pass c.serve_desks-run.new.runner.pass c.join_all-ended.new.p _ c.requires.runner e.runs.goes.same below j.whole j.same.3 (some (search rules)) in (
+    let all = answers-last c.args.runner.now.lock.now n c.args.runner.now.pass c.serve_desks-run.new.runner.pass
+    c.join_all-ended.new.p _ c.requires.runner e.runs.goes.same below j.whole j.same.3 (some (search rules))
+    (j.sees (search rules)) in (
       j.same.0 ∙ e.runs.goes.same.0 ∙ ap (λ p. p.lock) c.requires.runner,
       j.same.1,
       j.same.2 ∙ e.runs.goes.same.1 ∙ ap (λ p. p.number) c.requires.runner,
@@ -36,7 +38,8 @@ returns-clause-serves g c =
     let q = c.join_all-ended.new.p in
     let ds = c.serve_desks-run.result.1.items in
     let below = e.numbers ∙ c.requires.numbers in
-    let all = answers-last c.args.runner.now.lock.now n p m q _ c.requires.runner e.runs.goes.same below j.whole j.same.3 (j.only (search rules)) in (
+    let all = answers-last c.args.runner.now.lock.now n p m q _ c.requires.runner e.runs.goes.same below j.whole j.same.3
+    (j.only (search rules)) (j.sees (search rules)) in (
       _,
       serving g.H.Hosted.debugs n (g.C.Clock.moment c.args.clock.now) p m q.seen
           (record { content = g.S.Sink.content c.args.out.now; faults = g.S.Sink.faults c.args.out.now })
@@ -50,8 +53,8 @@ returns-clause-serves g c =
           })
           (λ desk. desk.end) _ c.join_all-ended.result (ap (λ z. z.seen) c.requires.runner)
           (ap (λ z. z.number) c.requires.runner) e.runs j.longer
-          (j.own n (last-named c.args.runner.now.lock.now n p m c.requires.runner e.runs.goes.same)) j.history j.served
-          below all.1 j.ended,
+          (j.own n (last-named c.args.runner.now.lock.now n p m c.requires.runner e.runs.goes.same)) j.history
+          (q.refused ≡ true) j.refused all.2 j.served below all.1 j.ended,
       ap
           (map (λ door. record {
             faults = g.O.Door.faults door;

@@ -74,7 +74,8 @@ returns-in-Ok-SpentAfter-clause-answers g c =
     let p = c.args.p.now in let m = c.tell_and_take.new.p in
     let old : Talk = record { answers = g.L.Link.answers c.args.link.now; sent = g.L.Link.sent c.args.link.now } in
     let a = subst (TellsAndTakes d s text p m) c.in-Ok-SpentAfter.field-0-is c.in-Ok-SpentAfter.ensures.answers in
-    answers-spent-after d s c.in-Ok-SpentAfter.field-0-0.ticket p m text old old a.0 a.1 c.requires.session refl
+    answers-spent-after d s c.in-Ok-SpentAfter.field-0-0.ticket p a.0 m text old old a.1 a.2 a.3 c.requires.session
+    refl
 
 pub returns-in-Err-clause-answers : goal.returns-in-Err-clause-answers
 returns-in-Err-clause-answers g c =
