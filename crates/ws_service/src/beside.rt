@@ -29,7 +29,16 @@ pub struct Runner<'l, 'b, H: Hosted<B>, B, D: Bell> {
 
 // ---- a task, and works beside it
 
-/// What a thread does itself while works are done beside it.
+/// Whether a thread could be made for the works beside a task.
+#[derive(Clone, Copy)]
+enum Start {
+    /// They are done at the same time.
+    Made,
+    /// They are done afterwards.
+    Refused,
+}
+
+/// What a thread does itself, with works beside it.
 trait Task: Drop {
     /// What comes of it.
     type Output;
@@ -41,12 +50,7 @@ trait Task: Drop {
     ghost gives: { Self → Self.Output → Type 0 };
 
     /// Does it.
-    fn run<R: Wait>(self, rt: &R) -> Self::Output
-        requires { can self }
-        ensures { gives self result };
-
-    /// Gives it up before it has begun, since nothing can be done beside it.
-    fn give_up<R: Wait>(self, rt: &R) -> Self::Output
+    fn run(self, start: Start) -> Self::Output
         requires { can self }
         ensures { gives self result };
 }
@@ -62,7 +66,7 @@ impl<W: Work> Promise<Vec<W>> for Begun<W> {
 }
 
 /// Does a task, and all works beside it, in threads of their own. Where no thread can be made for the works, the task is
-/// given up, and they are done after that.
+/// told so, and they are done after it.
 fn beside<T: Task<Output = A>, A, W: Work, R: Threads + Wait + Sync>(
     rt: &R,
     task: T,
@@ -91,11 +95,11 @@ fn beside<T: Task<Output = A>, A, W: Work, R: Threads + Wait + Sync>(
             );
             match started {
                 Ok(workers) => {
-                    let given = task.run(rt);
+                    let given = task.run(Start::Made);
                     (given, workers.join(rt))
                 }
                 Err(refused) => {
-                    let given = task.give_up(rt);
+                    let given = task.run(Start::Refused);
                     (given, (refused.value)())
                 }
             }
@@ -103,87 +107,27 @@ fn beside<T: Task<Output = A>, A, W: Work, R: Threads + Wait + Sync>(
     )
 }
 
-// ---- the program as a task
+// ---- a closure as a task
 
-/// A run of a program that is to be made.
+/// A closure that is lent, as a task.
 #[derive(Drop)]
-struct Running<'a, 'l, 'b, H: Hosted<B>, B, D: Bell, O: Sink, C: Clock> {
-    alloc: Global,
-    runner: &'a mut Runner<'l, 'b, H, B, D>,
-    out: &'a mut O,
-    clock: &'a mut C,
+struct Lent<'a, F> {
+    f: &'a mut F,
 }
 
-/// How it ended, with what it was lent.
-#[derive(Drop)]
-struct Ran<'a, 'l, 'b, H: Hosted<B>, B, D: Bell, O: Sink, C: Clock> {
-    runner: &'a mut Runner<'l, 'b, H, B, D>,
-    out: &'a mut O,
-    clock: &'a mut C,
-    end: RunEnd,
-}
+impl<'a, F: FnMut(Start) -> A, A> Task for Lent<'a, F> {
+    type Output = (&'a mut F, A);
 
-impl<
-    'a,
-    'l,
-    'b,
-    H: Hosted<B> + Send,
-    B: Send + Sync,
-    D: Bell + Sync,
-    O: Sink + Send,
-    C: Clock + Send,
-> Task for Running<'a, 'l, 'b, H, B, D, O, C> {
-    type Output = Ran<'a, 'l, 'b, H, B, D, O, C>;
+    ghost use Rattle.std.specs.Prelude.{◌≡◌};
 
-    ghost use Rattle.std.specs.Prelude.{◌≡◌, Some, false};
-    ghost use Rattle.ws_service.specs.Programs.{HasRun};
+    ghost can = { λ t. (start : _) → F.pre t.f.now start };
 
-    ghost can = { λ t. (t.runner.now.pass.lock ≡ t.runner.now.lock.now) × (t.runner.now.pass.in_turn ≡ false) };
+    ghost gives = { λ t r. (r.0.ghost_name ≡ t.f.ghost_name) × ((start : _) × F.step t.f.now start r.1 r.0.now) };
 
-    ghost gives = { λ t r. (r.runner.ghost_name ≡ t.runner.ghost_name) × (r.out.ghost_name ≡ t.out.ghost_name)
-        × (r.clock.ghost_name ≡ t.clock.ghost_name) × (r.runner.now.lock.now ≡ t.runner.now.lock.now)
-        × HasRun H.debugs (C.moment t.clock.now) t.runner.now.pass r.runner.now.pass
-        (record { content = O.content t.out.now; faults = O.faults t.out.now })
-        (record { content = O.content r.out.now; faults = O.faults r.out.now }) (Some r.end) };
-
-    fn run<R: Wait>(self, rt: &R) -> Ran<'a, 'l, 'b, H, B, D, O, C> {
-        let Running {
-            alloc,
-            runner,
-            out,
-            clock,
-        } = self;
-        let end = run_program(
-            rt,
-            alloc,
-            runner.lock,
-            runner.bell,
-            &mut runner.pass,
-            out,
-            clock,
-        );
-        Ran {
-            runner,
-            out,
-            clock,
-            end,
-        }
-    }
-
-    fn give_up<R: Wait>(self, rt: &R) -> Ran<'a, 'l, 'b, H, B, D, O, C> {
-        let Running {
-            alloc: _,
-            runner,
-            out,
-            clock,
-        } = self;
-        let end = give_up_program(rt, runner.lock, runner.bell, &mut runner.pass);
-        Ran {
-            runner,
-            out,
-            clock,
-            end,
-        }
+    fn run(self, start: Start) -> (&'a mut F, A) {
+        let Lent { f } = self;
+        let given = f(start);
+        (f, given)
     }
 }
 
@@ -191,6 +135,24 @@ impl<
 fn take_back<T>(x: &mut T)
     ensures { x.new ≡ x.old }
 {}
+
+/// Calls a closure, and does all works beside it, which come back. Where no thread can be made for the works, the closure
+/// is told so, and they are done after it.
+fn beside_mut<F: FnMut(Start) -> A, A, W: Work, R: Threads + Wait + Sync>(
+    rt: &R,
+    f: &mut F,
+    works: Vec<W>,
+) -> (A, Vec<W>)
+    requires can { (start : _) → F.pre f.old start }
+    requires some { 0 < length works.items }
+    requires ready { All (λ work. W.can work) works.items }
+    ensures step { (start : _) × F.step f.old start result.0 f.new }
+    ensures works { AreDone W.does works.items result.1.items }
+{
+    let ((f, given), works) = beside(rt, Lent { f }, works);
+    take_back(f);
+    (given, works)
+}
 
 /// Runs a program to its end, and does all works beside it, which come back. Where no thread can be made for the works,
 /// the program is shut before its first turn, as where there is no memory for its lines.
@@ -220,21 +182,26 @@ pub fn run_beside<
     // Each work was done, in its place.
     ensures works { AreDone W.does works.items result.1.items }
 {
-    let running = Running {
-        alloc,
-        runner,
-        out,
-        clock,
-    };
-    let (ran, works) = beside(rt, running, works);
-    let Ran {
-        runner,
-        out,
-        clock,
-        end,
-    } = ran;
-    take_back(runner);
-    take_back(out);
-    take_back(clock);
-    (end, works)
+    beside_mut(
+        rt,
+        &mut |start: Start| -> RunEnd
+            requires { (runner.now.pass.lock ≡ runner.now.lock.now) × (runner.now.pass.in_turn ≡ false) }
+            ensures lock { runner.exit.now.lock.now ≡ runner.entry.now.lock.now }
+            ensures runs { HasRun H.debugs (C.moment clock.entry.now) runner.entry.now.pass runner.exit.now.pass (record { content = O.content out.entry.now; faults = O.faults out.entry.now }) (record { content = O.content out.exit.now; faults = O.faults out.exit.now }) (Some result) }
+        {
+            match start {
+                Start::Made => run_program(
+                    rt,
+                    alloc,
+                    runner.lock,
+                    runner.bell,
+                    &mut runner.pass,
+                    out,
+                    clock,
+                ),
+                Start::Refused => give_up_program(rt, runner.lock, runner.bell, &mut runner.pass),
+            }
+        },
+        works,
+    )
 }

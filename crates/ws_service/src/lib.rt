@@ -8,7 +8,7 @@
 //! - `Goes`: the entries that a pass left by some turns; `Was`: at some time a history was so; `FoundAt`: an entry came when
 //!   what was before it was so
 //! - *act*: what a pass does at a door: it serves a link that arrived (`Visit`), or looks whether the program is over
-//! - `Work`: what a thread does to what it owns; `Task`: what the caller does meanwhile, unless no thread can be made
+//! - `Work`: what a thread does to what it owns; `AreDone`: works were done, each in its place
 //! - `IsServedDoor`: a door that was served, over the one history of all passes
 //! - `IsServing`: the program and all doors of a port, over that history
 #![tactic(auto)]
