@@ -48,7 +48,7 @@ invariant_of-self-in-Err c =
       room = λ works. absurd cc;
       alone = λ _. none;
       gone = ap (λ ss. some is_attached ss) c.restore.ensures.gone;
-      indexed = gone-indexed c.restore.new.seats.items c.new-in-Err.result none c.new-in-Err.ensures;
+      indexed = gone-indexed c.restore.new.seats.items c.new.result none c.new.ensures;
       fit = gone-fit (protocol a.scripts.now) c.restore.new.seats.items none;
     }
 
