@@ -17,12 +17,13 @@ use Rattle.cdp_host_isolation.specs.Stops.{plain as plain_from}
 use Rattle.cdp_host_isolation.specs.declared.seat.Seat.{Seat}
 use Rattle.cdp_host_isolation.specs.declared.seat.Seat.TheVariants as seats
 use Rattle.cdp_host_isolation.proofs.AloneLemmas.{alone}
-use Rattle.cdp_host_isolation.proofs.MakerLemmas.{by-append, by-own}
+use Rattle.cdp_host_isolation.proofs.MakerLemmas.{by-append}
 use Rattle.cdp_host_isolation.proofs.StopLemmas.{stops-exactly}
 use Rattle.cdp_edge.specs.Blame.{Blames, Faults, Read, Store}
 use Rattle.cdp_edge.specs.Outside.{GainsPrefix, NamedFile, Rose, Given, gains}
-use Rattle.history_lock.specs.Histories.{has}
-use Rattle.history_lock.specs.Passes.{Follows, HasInitialOnly, IsSamePass, LockId, PassState, initial_pass, initial_passes}
+use Rattle.history_lock.specs.Histories.{IsSpent, has}
+use Rattle.history_lock.specs.Passes.{Follows, HasInitialOnly, IsSamePass, LockId, PassState, SeesSpent, initial_pass, initial_passes, refused_pass}
+use Rattle.history_lock.proofs.Facts.{by_none_of_all}
 use Rattle.js_tree.specs.declared.script.Script.{Script}
 use Rattle.js_semantics.specs.Run.{Run, running, over}
 use Rattle.js_semantics.specs.Run as finishes
@@ -49,8 +50,9 @@ use Rattle.ws_service.specs.declared.program.RunEnd.TheVariants as runs
 use Rattle.debug_host_commands.specs.Files.{HoldsProgram, HoldsSources, IsNamed, IsReachedIn, IsRefusedIn}
 use Rattle.debug_host_commands.specs.RunCauses.{BecauseSources, RunsInPart, RunsToThrow}
 use Rattle.debug_host_commands.specs.ServeCauses.{BecauseServe, BecauseServed, Harbored, HasFinished, IsEndOf, IsOpened, IsShutEnd, IsUnserved, MayServe, ServesNothing, ServesPort, ServesStored, ServesToEnd, ServesWhole, ShowsThrow, clients_of, outcome_of_serving, thrown_end}
-use Rattle.debug_host_commands.specs.Stored.{HasStored, OrJournal, Shelved, after_storing}
+use Rattle.debug_host_commands.specs.Stored.{HasStored, OrJournal, Shelved, after_storing, is_program_end}
 use Rattle.debug_host_commands.specs.declared.storing.Storing.{Storing}
+use Rattle.debug_host_commands.specs.declared.storing.Storing.TheVariants as storings
 use Rattle.debug_host_script_files.specs.declared.fault.TextFault.{TextFault}
 use Rattle.debug_host_commands.specs.Status.{ForServe, GivenServe, said, status_of, uncaught_said, unread_said, unstored_said, Says, refusal_said}
 use Rattle.debug_host_options.specs.Requests.{Request, Serve, ServeWords}
@@ -63,6 +65,7 @@ use Rattle.debug_host_commands.proofs.RunLemmas.{some_handed}
 use Rattle.debug_host_commands.proofs.EndLemmas.{done_only}
 use Rattle.cdp_edge.proofs.HandedLemmas.{given_as}
 use Rattle.ws_service.proofs.EntryLemmas.{same-tail}
+use Rattle.ws_service.proofs.ServingLemmas.{spent-door}
 
 -- ---- shuts
 
@@ -257,7 +260,7 @@ module _ (scripts : List Script) (input : List (List ℕ)) (wait : Bool) (n : �
   at-shut runs.Threw doors.Spent may = spent-stands _ may
 
   shut-end : (run : RunEnd) (together : DoorsEnd) (end : CommandEnd) (r : Run)
-      → IsEndOf end (record { run = run; doors = together }) r → MayHaveShut (record { run = run; doors = together })
+      → IsEndOf end (record { run = run; doors = together }) r h → MayHaveShut (record { run = run; doors = together })
       → IsShutEnd end
   shut-end run together end r (inl is) may = subst AtShut is (at-shut run together may)
   shut-end run together end r (inr shown) may = absurd (subst AtShut shown.0 (at-shut run together may))
@@ -265,7 +268,7 @@ module _ (scripts : List Script) (input : List (List ℕ)) (wait : Bool) (n : �
   pub served-port : (run : RunEnd) (together : DoorsEnd) (end : CommandEnd) (clients : Clients)
       (before after : Opt (List Tended)) → Is run together
       → AreKept (seen_by clients) before after (map (λ (door : ServedDoor). door.door) served)
-      → IsEndOf end (record { run = run; doors = together }) (whole scripts input wait (entries_of h)).program
+      → IsEndOf end (record { run = run; doors = together }) (whole scripts input wait (entries_of h)).program h
       → ServesPort scripts input wait n clients moment old new before after end
   served-port run together end clients before after s kept is_end = record {
     history = h;
@@ -279,12 +282,56 @@ module _ (scripts : List Script) (input : List (List ℕ)) (wait : Bool) (n : �
     alone = λ r. alone (protocol scripts) r (start scripts input) wait (entries_of h) s.history.fits;
   }
 
+  -- no ticket was left for the program or a door only where the history leaves none
+  abbrev AtSpent : Opt CommandEnd → Type 0
+  AtSpent None = Unit {0}
+  AtSpent (Some end) = end ≡ ends.TicketsSpent → IsSpent h
+
+  at-spent : (run : RunEnd) (together : DoorsEnd) → Is run together → AtSpent (outcome_of_serving run together)
+  at-spent runs.Broken together s = λ is. absurd cc
+  at-spent (runs.Memory unshut) together s = λ is. absurd cc
+  at-spent (runs.WriteFault unshut) together s = λ is. absurd cc
+  at-spent runs.Shut together s = λ is. absurd cc
+  at-spent (runs.Spent ticket) doors.Over s = λ is. s.runs.reason.1
+  at-spent (runs.Spent ticket) doors.Failed s = λ is. absurd cc
+  at-spent (runs.Spent ticket) doors.Spent s = λ is. s.runs.reason.1
+  at-spent runs.Ended doors.Over s = λ is. absurd cc
+  at-spent runs.Ended doors.Failed s = λ is. absurd cc
+  at-spent runs.Ended doors.Spent s = λ is.
+      spent-door (debugging scripts input wait) h (IsSpent h) served s.served s.ended.1
+  at-spent runs.Threw doors.Over s = tt
+  at-spent runs.Threw doors.Failed s = λ is. absurd cc
+  at-spent runs.Threw doors.Spent s = λ is.
+      spent-door (debugging scripts input wait) h (IsSpent h) served s.served s.ended.1
+
+  spent-end : (run : RunEnd) (together : DoorsEnd) (end : CommandEnd) (r : Run) → Is run together
+      → IsEndOf end (record { run = run; doors = together }) r h → end ≡ ends.TicketsSpent → IsSpent h
+  spent-end run together end r s (inl decided) is = subst AtSpent decided (at-spent run together s) is
+  spent-end run together end r s (inr shown) is = subst (λ (e : CommandEnd). ShowsThrow e r h) is shown.1
+
+  -- nor for the turn that stores the journal
+  spent-stored-so : (first : CommandEnd) (storing : Storing) (journal : Opt (List ℕ)) (was now : Shelved)
+      → after_storing first storing ≡ ends.TicketsSpent
+      → HasStored storing (debugging scripts input wait) h journal was now → (first ≡ ends.TicketsSpent → IsSpent h)
+      → IsSpent h
+  spent-stored-so first storings.Done journal was now is stored decided = decided is
+  spent-stored-so first storings.Memory journal was now is stored decided = absurd cc
+  spent-stored-so first (storings.Failed name) journal was now is stored decided =
+      decided (unless-first (is_program_end first) is)
+    where
+      unless-first : (b : Bool) → (if b then ends.CannotStore name else first) ≡ ends.TicketsSpent
+          → first ≡ ends.TicketsSpent
+      unless-first true at = absurd cc
+      unless-first false at = at
+  spent-stored-so first storings.Spent None was now is stored decided = let none = stored.0 in absurd cc
+  spent-stored-so first storings.Spent (Some name) was now is stored decided = stored.1
+
   -- and what became of its journal
   pub served-stored : (run : RunEnd) (together : DoorsEnd) (first : CommandEnd) (clients : Clients)
       (journal : Opt (List ℕ)) (storing : Storing) (before after : Opt (List Tended)) (was now : Shelved)
       (end : CommandEnd) → Is run together
       → AreKept (seen_by clients) before after (map (λ (door : ServedDoor). door.door) served)
-      → IsEndOf first (record { run = run; doors = together }) (whole scripts input wait (entries_of h)).program
+      → IsEndOf first (record { run = run; doors = together }) (whole scripts input wait (entries_of h)).program h
       → HasStored storing (debugging scripts input wait) h journal was now
       → end ≡ after_storing first storing
       → ServesStored scripts input wait n clients journal moment old new before after was now end
@@ -295,6 +342,9 @@ module _ (scripts : List Script) (input : List (List ℕ)) (wait : Bool) (n : �
     storing = storing;
     stored = stored;
     is = is;
+    spent = λ at.
+        spent-stored-so first storing journal was now (sym is ∙ at) stored
+        (spent-end run together first (whole scripts input wait (entries_of h)).program s is_end);
   }
 
   -- the output is a first part of the plain one
@@ -345,7 +395,7 @@ module _ (scripts : List Script) (input : List (List ℕ)) (wait : Bool) (n : �
   module _ (port : ℕ) (before after : Harbored) (opened : IsOpened port n before after) where
     -- how a program that ended by a throw is shown
     pub because-thrown : (end : CommandEnd) → Is runs.Threw doors.Over
-        → ShowsThrow end (whole scripts input wait (entries_of h)).program
+        → ShowsThrow end (whole scripts input wait (entries_of h)).program h
         → BecauseServed end scripts input port n old new before after
     because-thrown (ends.Threw text) s shown = (s.runs.counts, opened, threw doors.Over (string_bytes text) s shown)
     because-thrown ends.ThrewUnshown s shown =
@@ -409,16 +459,15 @@ undecided runs.Ended doors.Spent none = absurd cc
 
 -- ---- the last turn
 
-none-at-all : (l : List (ℕ × Entry)) → ((x : ℕ) → by x l ≡ []) → l ≡ []
-none-at-all [] none = refl
-none-at-all (made ∷ l) none =
-    let here : made.1 ∷ by made.0 l ≡ [] = sym (by-own made.0 made.1 l) ∙ none made.0 in absurd cc
+-- a pass that answers for all and is refused a ticket has seen a history after which none is left
+pub refused_all : (p q : PassState Entry) → AnswersForAll p → q ≡ refused_pass p → SeesSpent q → IsSpent p.seen
+refused_all p q all is sees = subst SeesSpent is sees all.1 all.0 refl
 
 -- a pass that answers for all finds nothing new at its turn
 pub finds-all : (p m : PassState Entry) → AnswersForAll p → Follows p m → IsSamePass p m → HasInitialOnly m
     → m.seen ≡ p.seen
 finds-all p m all follows same only =
-    follows.1 ∙ ap (λ l. p.seen ++ l) (none-at-all follows.0 each) ∙ append-nil p.seen
+    follows.1 ∙ ap (λ l. p.seen ++ l) (by_none_of_all follows.0 each) ∙ append-nil p.seen
   where
     beyond : (x : ℕ) → m.initial ≤ x → by x m.seen ≡ []
     beyond =
@@ -490,11 +539,11 @@ pub shown-so : (scripts : List Script) (input : List (List ℕ)) (wait : Bool) (
     → OnOk answer (host.broken ≡ false)
     → IfOk answer (λ text. (taken : List (List ℕ)) → option_map string_bytes text
     ≡ uncaught_text (meaning_with host taken).program)
-    → ShowsThrow (thrown_end answer) (whole scripts input wait history).program
-shown-so scripts input wait host history (Ok (Some text)) stands works is =
+    → (h : List (ℕ × Entry)) → ShowsThrow (thrown_end answer) (whole scripts input wait history).program h
+shown-so scripts input wait host history (Ok (Some text)) stands works is h =
     host-program scripts input wait host history (Some (string_bytes text)) stands works is
-shown-so scripts input wait host history (Ok None) stands works is = tt
-shown-so scripts input wait host history (Err error) stands works is = tt
+shown-so scripts input wait host history (Ok None) stands works is h = tt
+shown-so scripts input wait host history (Err error) stands works is h = tt
 
 -- ---- before a port is opened
 

@@ -8,6 +8,7 @@ use Rattle.cdp_edge_server.specs.Contents.{Tended}
 use Rattle.cdp_host_isolation.specs.Histories.{Entry}
 use Rattle.cdp_host_isolation.specs.Makers.{entries_of}
 use Rattle.cdp_host_isolation.specs.Meanings.{begin}
+use Rattle.history_lock.specs.Histories.{IsSpent}
 use Rattle.cdp_host_turns.specs.Debuggings.{Debugging}
 use Rattle.cdp_host_record.specs.Recordings.{Held, RecordsIf}
 use Rattle.cdp_host_record.proofs.HeldLemmas.{held-cut, held-whole}
@@ -58,7 +59,7 @@ stored-told storings.Done d h (Some name) old new stored = ap (λ (s : Shelved).
 stored-told storings.Memory d h (Some name) old new (inl same) = ap (λ (s : Shelved). s.faults) same
 stored-told storings.Memory d h (Some name) old new (inr (bytes, is, cut)) = ap (λ (s : Shelved). s.faults) is
 stored-told (storings.Failed named) d h (Some name) old new stored = (stored.0, stored.1.faults)
-stored-told storings.Spent d h (Some name) old new stored = ap (λ (s : Shelved). s.faults) stored
+stored-told storings.Spent d h (Some name) old new stored = ap (λ (s : Shelved). s.faults) stored.0
 
 done-told : (journal : Option (List ℕ)) (before after : Faults) → after ≡ before
     → StoreFaults storings.Done journal before after
@@ -80,9 +81,9 @@ unstored end journal faults now_faults scripts input port sessions old new befor
 
 -- where no turn is left nothing is stored, and no fault is told
 pub spent-stored : (d : Debugging) (h : List (ℕ × Entry)) (journal : Option (List ℕ)) (old : Shelved)
-    → HasStored (spent_if journal) d h journal old old
-spent-stored d h None old = (refl, refl)
-spent-stored d h (Some name) old = refl
+    → IsSpent h → HasStored (spent_if journal) d h journal old old
+spent-stored d h None old spent = (refl, refl)
+spent-stored d h (Some name) old spent = (refl, spent)
 
 -- ---- how a server ends
 

@@ -16,8 +16,7 @@ use Rattle.cdp_edge_printing.specs.Printing.{printed_lines}
 use Rattle.cdp_edge_server.specs.Contents.{Calls, Tended, called}
 use Rattle.cdp_edge_server.specs.declared.harbor.HarborFault.{HarborFault}
 use Rattle.cdp_edge_server.specs.declared.harbor.HarborFault.TheVariants as harbor
-use Rattle.history_lock.specs.Histories.{limit}
-use Rattle.history_lock.specs.declared.lock.Spent.{Spent}
+use Rattle.history_lock.specs.Histories.{IsSpent}
 use Rattle.cdp_host_record.specs.Records.{recorded}
 use Rattle.cdp_host.specs.Debugged.{debugging}
 use Rattle.cdp_host.specs.Histories.{begin, sent_alone, sent_to, view, whole}
@@ -70,23 +69,19 @@ thrown_end (Ok (Some text)) = ends.Threw text
 thrown_end (Ok None) = ends.ThrewUnshown
 thrown_end (Err error) = ends.ThrewUnshown
 
--- no ticket was left for a turn, as the lock tells
-abbrev pub HadNoTurn : Type 0
-HadNoTurn = (spent : Spent) × (spent.ticket ≡ limit)
-
 -- how a program ended by a throw is shown: by the text of its value; or no memory was left for that; or no ticket was
--- left for the turn that shows it
-abbrev pub ShowsThrow : CommandEnd → Run → Type 0
-ShowsThrow (ends.Threw text) r = uncaught_text r ≡ Some (string_bytes text)
-ShowsThrow ends.ThrewUnshown r = Unit {0}
-ShowsThrow ends.TicketsSpent r = HadNoTurn
-ShowsThrow end r = ⊥
+-- left after this history for the turn that shows it
+abbrev pub ShowsThrow : CommandEnd → Run → List (ℕ × Entry) → Type 0
+ShowsThrow (ends.Threw text) r h = uncaught_text r ≡ Some (string_bytes text)
+ShowsThrow ends.ThrewUnshown r h = Unit {0}
+ShowsThrow ends.TicketsSpent r h = IsSpent h
+ShowsThrow end r h = ⊥
 
 -- a port that was served ended so, which the program and its doors decide, or how a throw that ended the program is shown
-abbrev pub IsEndOf : CommandEnd → Ends → Run → Type 0
-IsEndOf end ended r =
+abbrev pub IsEndOf : CommandEnd → Ends → Run → List (ℕ × Entry) → Type 0
+IsEndOf end ended r h =
     (outcome_of_serving ended.run ended.doors ≡ Some end)
-    ⊎ ((outcome_of_serving ended.run ended.doors ≡ None) × ShowsThrow end r)
+    ⊎ ((outcome_of_serving ended.run ended.doors ≡ None) × ShowsThrow end r h)
 
 -- the ends at which a program may have been shut: no memory was left, or its output couldn't be written, or a door failed
 abbrev pub IsShutEnd : CommandEnd → Type 0
@@ -146,7 +141,7 @@ pub record ServesPort (scripts : List Script) (input : List (List ℕ)) (wait : 
   pub doors : List ServedDoor
   pub ended : Ends
   pub serving : IsServing (debugging scripts input wait) sessions moment old new ended history doors
-  pub is_end : IsEndOf end ended (whole scripts input wait (entries_of history)).program
+  pub is_end : IsEndOf end ended (whole scripts input wait (entries_of history)).program history
   pub shut : has_shut (entries_of history) ≡ true → IsShutEnd end
   pub kept : AreKept (seen_by clients) before after (map (λ (door : ServedDoor). door.door) doors)
   pub exactly : AllStopExactly (protocol scripts) (start scripts input) 0 (begin scripts input wait) (entries_of history)
@@ -154,7 +149,7 @@ pub record ServesPort (scripts : List Script) (input : List (List ℕ)) (wait : 
       ≡ sent_alone scripts input wait s (view scripts input wait s (entries_of history))
 
 -- A port was served so, with a journal under this name, if there is one. It ended as the program and its doors decide,
--- or by what became of the journal of its history.
+-- or by what became of the journal of its history. It ended for want of a ticket only where that history leaves none.
 pub record ServesStored (scripts : List Script) (input : List (List ℕ)) (wait : Bool) (sessions : ℕ) (clients : Clients)
     (journal : Option (List ℕ)) (moment : Option ℕ) (old new : Output) (before after : Option (List Tended))
     (was now : Shelved) (end : CommandEnd) : Type 0 where
@@ -163,6 +158,7 @@ pub record ServesStored (scripts : List Script) (input : List (List ℕ)) (wait 
   pub storing : Storing
   pub stored : HasStored storing (debugging scripts input wait) port.history journal was now
   pub is : end ≡ after_storing served storing
+  pub spent : end ≡ ends.TicketsSpent → IsSpent port.history
 
 -- a port was served for the scripts and the input that the files hold, and that ended so
 pub record Serves (given : List NamedFile) (request : ServeWords) (moment : Option ℕ) (old new : Output)

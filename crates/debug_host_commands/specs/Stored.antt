@@ -6,6 +6,7 @@ use Rattle.cdp_edge.specs.Outside.{NamedFile, with_file}
 use Rattle.cdp_host_isolation.specs.Histories.{Entry}
 use Rattle.cdp_host_isolation.specs.Makers.{entries_of}
 use Rattle.cdp_host_isolation.specs.Meanings.{begin}
+use Rattle.history_lock.specs.Histories.{IsSpent}
 use Rattle.cdp_host_turns.specs.Debuggings.{Debugging}
 use Rattle.cdp_host_record.specs.Records.{recorded}
 use Rattle.cdp_host_record.specs.Recordings.{Held, IsCutShort, is_lost}
@@ -60,7 +61,8 @@ StoresLines storings.Spent name held old new = ⊥
 
 -- What became of the journal of a history, if one is asked for under a name. It was stored: the record of that history,
 -- byte for byte. Or memory was wanting: to store it, and nothing was stored; or before that for one of its lines, and a
--- record was stored that is cut short there. Or its store failed. Or no turn was left to store it.
+-- record was stored that is cut short there. Or its store failed. Or no ticket was left after that history for the turn
+-- that stores it.
 abbrev pub HasStored : Storing → Debugging → List (ℕ × Entry) → Option (List ℕ) → Shelved → Shelved → Type 0
 HasStored storing d h None old new = (storing ≡ storings.Done) × (new ≡ old)
 HasStored storings.Done d h (Some name) old new = new ≡ with_stored name (recorded d h) old
@@ -70,7 +72,7 @@ HasStored storings.Memory d h (Some name) old new =
     × (new ≡ with_stored name bytes old)
     × IsCutShort d.protocol (begin d.program d.wait) (entries_of h) bytes)
 HasStored (storings.Failed named) d h (Some name) old new = (named.now ≡ name) × FailsToStore name old new
-HasStored storings.Spent d h (Some name) old new = new ≡ old
+HasStored storings.Spent d h (Some name) old new = (new ≡ old) × IsSpent h
 
 -- the faults of a shelf before and after that: they are as they were, unless the store failed
 abbrev pub StoreFaults : Storing → Option (List ℕ) → Faults → Faults → Type 0

@@ -1,9 +1,9 @@
 //! The command `serve`, from its files to its end.
 
-ghost use Rattle.std.specs.Prelude.{◌≡◌, ◌⊎◌, ◌+◌, ◌<◌, ◌≤◌, [], length, IfErr, IfOk, OnErr, false};
+ghost use Rattle.std.specs.Prelude.{◌≡◌, ◌⊎◌, ◌+◌, ◌<◌, ◌≤◌, [], length, IfOk, OnErr, false};
 ghost use Rattle.cdp_host_isolation.specs.Makers.{entries_of};
 ghost use Rattle.cdp_edge.specs.Outside.{Given, HandsIn};
-ghost use Rattle.history_lock.specs.Histories.{limit};
+ghost use Rattle.history_lock.specs.Histories.{IsSpent};
 ghost use Rattle.history_lock.specs.Passes.{initial_pass, initial_passes};
 ghost use Rattle.cdp_edge_server.specs.Contents.{called};
 ghost use Rattle.cdp_host.specs.Debugged.{debugging};
@@ -105,6 +105,7 @@ fn thrown_end(text: Result<Option<String>, AllocError>) -> CommandEnd<'static>
 /// # Errors
 ///
 /// No ticket is left for a turn; nothing was stored.
+#[tactic(auto, using(crate::proofs::ServeLemmas::refused_all))]
 fn take_last_turn<'p, 'w, B: Beginning, R: Wait, F: Shelf>(
     rt: &R,
     lock: &Lock<Recorded<Host<'p>>, B>,
@@ -116,11 +117,11 @@ fn take_last_turn<'p, 'w, B: Beginning, R: Wait, F: Shelf>(
     requires free { p.old.in_turn ≡ false }
     requires all { AnswersForAll p.old }
     ensures shows { IfOk result (λ shown. ShowsThrow shown.0
-        (whole B.scripts B.input B.wait (entries_of p.old.seen)).program) }
+        (whole B.scripts B.input B.wait (entries_of p.old.seen)).program p.old.seen) }
     ensures stores { IfOk result (λ shown. HasStored shown.1 (debugging B.scripts B.input B.wait) p.old.seen
         (text_held journal.entry) (record { files = F.stored shelf.old; faults = F.faults shelf.old })
         (record { files = F.stored shelf.new; faults = F.faults shelf.new })) }
-    ensures spent { IfErr result (λ e. e.ticket ≡ limit) }
+    ensures spent { OnErr result (IsSpent p.old.seen) }
     ensures untouched { OnErr result (shelf.new ≡ shelf.old) }
     ensures handed { F.handed shelf.new ≡ F.handed shelf.old }
 {
@@ -145,7 +146,7 @@ fn last_turn<'p, 'w, B: Beginning, R: Wait, F: Shelf>(
     requires lock { p.old.lock ≡ lock.now }
     requires free { p.old.in_turn ≡ false }
     requires all { AnswersForAll p.old }
-    ensures shows { ShowsThrow result.0 (whole B.scripts B.input B.wait (entries_of p.old.seen)).program }
+    ensures shows { ShowsThrow result.0 (whole B.scripts B.input B.wait (entries_of p.old.seen)).program p.old.seen }
     ensures stores { HasStored result.1 (debugging B.scripts B.input B.wait) p.old.seen (text_held journal.entry) (record { files = F.stored shelf.old; faults = F.faults shelf.old }) (record { files = F.stored shelf.new; faults = F.faults shelf.new }) }
     ensures handed { F.handed shelf.new ≡ F.handed shelf.old }
 {

@@ -6,7 +6,7 @@ use Rattle.debug_host_commands.proofs.StoredLemmas.{spent-stored}
 use Rattle.debug_host_commands.proofs.serve.last_turn.Goals as goal
 
 pub returns-in-Err-clause-shows : goal.returns-in-Err-clause-shows
-returns-in-Err-clause-shows g c = (c.in-Err.field-0, c.in-Err.ensures.spent)
+returns-in-Err-clause-shows g c = c.in-Err.ensures.spent
 
 pub returns-in-Err-clause-stores : goal.returns-in-Err-clause-stores
 returns-in-Err-clause-stores g c =
@@ -20,4 +20,4 @@ returns-in-Err-clause-stores g c =
     (record { files = g.F.Shelf.stored x; faults = g.F.Shelf.faults x }))
     (sym c.in-Err.ensures.untouched)
     (subst (λ storing. HasStored storing d c.args.p.now.seen journal was was) (sym c.spent_if.ensures)
-    (spent-stored d c.args.p.now.seen journal was))
+    (spent-stored d c.args.p.now.seen journal was c.in-Err.ensures.spent))

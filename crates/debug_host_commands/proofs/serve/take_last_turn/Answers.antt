@@ -35,7 +35,7 @@ returns-clause-shows g c =
     rw c.thrown_end.ensures
     (shown-so b.scripts b.input b.wait host (entries_of p.seen) c.uncaught_text-text.result
     (subst (λ l. StandsFor b.scripts b.input b.wait host (entries_of l)) same stands.stands)
-    c.uncaught_text-text.ensures.works c.uncaught_text-text.ensures.text)
+    c.uncaught_text-text.ensures.works c.uncaught_text-text.ensures.text p.seen)
 
 pub returns-clause-stores : goal.returns-clause-stores
 returns-clause-stores g c =
