@@ -63,7 +63,7 @@ pub fine-when : {A : Type 0} (b : Bool) (what : Counted) (t : Tried A) (P : A �
 fine-when true what t P h = h refl
 fine-when false what t P h = tt
 
-more-than : (m n : ℕ) → nat_lt m n ≡ true → m < n
+pub more-than : (m n : ℕ) → nat_lt m n ≡ true → m < n
 more-than m n e = grind (arith, nat_tests)
 
 pub no-more-than : (m n : ℕ) → nat_le m n ≡ true → m ≤ n

@@ -1,3 +1,5 @@
 pub mod CellLemmas
+pub mod CallLemmas
+pub mod CallLaws
 pub mod StepLemmas
 pub mod AnswerLemmas

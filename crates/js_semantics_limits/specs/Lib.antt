@@ -1,1 +1,2 @@
+pub mod ActiveCalls
 pub mod Balances
