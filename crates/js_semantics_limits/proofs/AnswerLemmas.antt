@@ -1,6 +1,7 @@
--- An evaluation has as many units behind it as before.
-use Rattle.std.proofs.Common.{◌≡◌, ℕ, ◌+◌, ◌-◌, ◌≤◌, List, [], ◌∷◌, ◌++◌, length, refl, subst, ◌∙◌, arith}
+-- An evaluation balances, beside the cell of the source that it keeps.
+use Rattle.std.proofs.Common.{ℕ, ◌-◌, ◌≤◌, List, [], ◌∷◌, ◌++◌, length, subst, ◌∙◌, arith}
 use Rattle.std.specs.Prelude.{nat_le}
+use Rattle.std.proofs.lemmas.List.{length_push}
 use Rattle.js_heap.specs.declared.value.Addr.TheVariants.{Scratch}
 use Rattle.js_heap.specs.declared.value.Addr.{Addr}
 use Rattle.js_heap.specs.declared.value.Value.{Value}
@@ -21,178 +22,190 @@ use Rattle.js_semantics.specs.Run.{ended, threw, by_effect, by_full, Run, runnin
 use Rattle.js_semantics.specs.State.{State}
 use Rattle.js_semantics.specs.Terms.{Term}
 use Rattle.js_semantics.proofs.FollowLemmas.{run_of-state}
-use Rattle.js_semantics_limits.specs.Balances.{AnswerBalances, Balances, all_units}
-use Rattle.js_semantics_limits.proofs.CellLemmas.{fine-when, making-balances, no-more-than, units-push}
+use Rattle.js_semantics_limits.specs.Balances.{AnswerBalances, Balances, KeepsSource}
+use Rattle.js_semantics_limits.proofs.CellLemmas.{balances-same, balances-then, fine-when, making-balances, no-more-than, units-push}
 use Rattle.js_semantics_limits.proofs.StepLemmas.{steps-balance}
-
--- one world has as many units as another
-abbrev Even : World → World → Type 0
-Even w v = all_units v ≡ all_units w
 
 -- ---- what is made before the first step
 
-fine-even : {B : Type 0} (w v : World) (t : Tried B)
-    → Even w v
-    → AfterFine t (λ b u. Even v u)
-    → AfterFine t (λ b u. Even w u)
-fine-even w v (fine b u) h k = k ∙ h
-fine-even w v effect h k = tt
-fine-even w v (full what) h k = tt
+fine-balances : {B : Type 0} (w v : World) (t : Tried B)
+    → Balances w v
+    → AfterFine t (λ b u. Balances v u)
+    → AfterFine t (λ b u. Balances w u)
+fine-balances w v (fine b u) h k = balances-then w v u h k
+fine-balances w v effect h k = tt
+fine-balances w v (full what) h k = tt
 
-then-even : {A B : Type 0} (w : World) (t : Tried A) (k : A → World → Tried B)
-    → AfterFine t (λ a v. Even w v)
-    → ((a : A) (v : World) → AfterFine (k a v) (λ b u. Even v u))
-    → AfterFine (after_try t k) (λ b u. Even w u)
-then-even w (fine a v) k h rest = fine-even w v (k a v) h (rest a v)
-then-even w effect k h rest = tt
-then-even w (full what) k h rest = tt
-
-only-units : {A : Type 0} (w : World) (t : Tried A)
+then-balances : {A B : Type 0} (w : World) (t : Tried A) (k : A → World → Tried B)
     → AfterFine t (λ a v. Balances w v)
-    → AfterFine t (λ a v. Even w v)
-only-units w (fine a v) h = h.units
-only-units w effect h = tt
-only-units w (full what) h = tt
+    → ((a : A) (v : World) → AfterFine (k a v) (λ b u. Balances v u))
+    → AfterFine (after_try t k) (λ b u. Balances w u)
+then-balances w (fine a v) k h rest = fine-balances w v (k a v) h (rest a v)
+then-balances w effect k h rest = tt
+then-balances w (full what) k h rest = tt
 
-made-even : (w : World) (c : Cell) → AfterFine (make_cell w c) (λ a v. Even w v)
-made-even w c = only-units w (make_cell w c) (making-balances w c)
-
--- a source takes its units and no cell
-source-even : (w : World) (us : List ℕ)
+-- a source takes its units, and a cell for which no room is taken
+source-kept : (w : World) (us : List ℕ)
     → length us ≤ w.room.units
-    → Even w (record w {
+    → KeepsSource w (record w {
       scratch = w.scratch ++ cells.Text us ∷ [];
       room = record { cells = w.room.cells; units = w.room.units - length us };
     })
-source-even w us enough =
+source-kept w us enough =
+    let longer = length_push w.scratch (cells.Text us) in
     let heavier = units-push w.scratch (cells.Text us) in
-    omega (arith, enough, heavier)
+    record { cells = omega (arith, longer); units = omega (arith, enough, heavier) }
 
-kept-even : (w : World) (us : List ℕ) → AfterFine (keep_source w us) (λ a v. Even w v)
-kept-even w us =
+kept-keeps : (w : World) (us : List ℕ) → AfterFine (keep_source w us) (λ a v. KeepsSource w v)
+kept-keeps w us =
     let r : Room = record { cells = w.room.cells; units = w.room.units - length us } in
     let v : World = record w { scratch = w.scratch ++ cells.Text us ∷ []; room = r } in
-    let P : Addr → World → Type 0 = λ a u. Even w u in
+    let P : Addr → World → Type 0 = λ a u. KeepsSource w u in
     fine-when (nat_le (length us) w.room.units) counted.Units (fine (Scratch (length w.scratch)) v) P
-    (λ enough. source-even w us (no-more-than (length us) w.room.units enough))
+    (λ enough. source-kept w us (no-more-than (length us) w.room.units enough))
 
-literals-even : (w : World) (ts : List (List ℕ)) → AfterFine (make_literals w ts) (λ u v. Even w v)
-literals-even w [] = refl
-literals-even w (us ∷ ts) =
-    then-even w (make_cell w (cells.Text us)) (λ a v. make_literals v ts) (made-even w (cells.Text us))
-    (λ a v. literals-even v ts)
+keeps-then : (w u v : World) → KeepsSource w u → Balances u v → KeepsSource w v
+keeps-then w u v first second =
+    record { cells = second.cells ∙ first.cells; units = second.units ∙ first.units }
 
-second-even : {A B : Type 0} (w : World) (t : Tried A) (u : Tried B)
-    → AfterFine u (λ b v. Even w v)
-    → AfterFine (after_try t (λ a v. u)) (λ b v. Even w v)
-second-even w (fine a v) u h = h
-second-even w effect u h = tt
-second-even w (full what) u h = tt
+fine-keeps : {B : Type 0} (w v : World) (t : Tried B)
+    → KeepsSource w v
+    → AfterFine t (λ b u. Balances v u)
+    → AfterFine t (λ b u. KeepsSource w u)
+fine-keeps w v (fine b u) h k = keeps-then w v u h k
+fine-keeps w v effect h k = tt
+fine-keeps w v (full what) h k = tt
 
-placed-even : (w : World) (ts us : List (List ℕ)) → AfterFine (place_literals w ts us) (λ u v. Even w v)
-placed-even w ts us = second-even w (make_literals w ts) (make_literals w us) (literals-even w us)
+then-keeps : {A B : Type 0} (w : World) (t : Tried A) (k : A → World → Tried B)
+    → AfterFine t (λ a v. KeepsSource w v)
+    → ((a : A) (v : World) → AfterFine (k a v) (λ b u. Balances v u))
+    → AfterFine (after_try t k) (λ b u. KeepsSource w u)
+then-keeps w (fine a v) k h rest = fine-keeps w v (k a v) h (rest a v)
+then-keeps w effect k h rest = tt
+then-keeps w (full what) k h rest = tt
 
-object-even : (w : World) (c : Cell) → AfterFine (object_value (make_cell w c)) (λ x v. Even w v)
-object-even w c =
-    then-even w (make_cell w c) (λ a v. fine (values.Object a) v) (made-even w c) (λ a v. refl)
+literals-balances : (w : World) (ts : List (List ℕ)) → AfterFine (make_literals w ts) (λ u v. Balances w v)
+literals-balances w [] = balances-same w
+literals-balances w (us ∷ ts) =
+    then-balances w (make_cell w (cells.Text us)) (λ a v. make_literals v ts) (making-balances w (cells.Text us))
+    (λ a v. literals-balances v ts)
+
+second-balances : {A B : Type 0} (w : World) (t : Tried A) (u : Tried B)
+    → AfterFine u (λ b v. Balances w v)
+    → AfterFine (after_try t (λ a v. u)) (λ b v. Balances w v)
+second-balances w (fine a v) u h = h
+second-balances w effect u h = tt
+second-balances w (full what) u h = tt
+
+placed-balances : (w : World) (ts us : List (List ℕ)) → AfterFine (place_literals w ts us) (λ u v. Balances w v)
+placed-balances w ts us = second-balances w (make_literals w ts) (make_literals w us) (literals-balances w us)
+
+object-balances : (w : World) (c : Cell) → AfterFine (object_value (make_cell w c)) (λ x v. Balances w v)
+object-balances w c =
+    then-balances w (make_cell w c) (λ a v. fine (values.Object a) v) (making-balances w c) (λ a v. balances-same v)
 
 mutual
-  json-even : (w : World) (j : Json) → AfterFine (make_json w j) (λ x v. Even w v)
-  json-even w json_null = refl
-  json-even w (json_bool b) = refl
-  json-even w (json_number z) = refl
-  json-even w (json_string us) =
-      then-even w (make_cell w (cells.Text us)) (λ a v. fine (values.Text a) v) (made-even w (cells.Text us))
-      (λ a v. refl)
-  json-even w (json_array js) =
-      then-even w (make_jsons w js) (λ xs v. object_value (make_cell v (cells.Array xs))) (jsons-even w js)
-      (λ xs v. object-even v (cells.Array xs))
-  json-even w (json_object ms) =
-      then-even w (make_members w [] ms) (λ ps v. object_value (make_cell v (cells.Object ps)))
-      (members-even w [] ms) (λ ps v. object-even v (cells.Object ps))
+  json-balances : (w : World) (j : Json) → AfterFine (make_json w j) (λ x v. Balances w v)
+  json-balances w json_null = balances-same w
+  json-balances w (json_bool b) = balances-same w
+  json-balances w (json_number z) = balances-same w
+  json-balances w (json_string us) =
+      then-balances w (make_cell w (cells.Text us)) (λ a v. fine (values.Text a) v) (making-balances w (cells.Text us))
+      (λ a v. balances-same v)
+  json-balances w (json_array js) =
+      then-balances w (make_jsons w js) (λ xs v. object_value (make_cell v (cells.Array xs))) (jsons-balances w js)
+      (λ xs v. object-balances v (cells.Array xs))
+  json-balances w (json_object ms) =
+      then-balances w (make_members w [] ms) (λ ps v. object_value (make_cell v (cells.Object ps)))
+      (members-balances w [] ms) (λ ps v. object-balances v (cells.Object ps))
 
-  jsons-even : (w : World) (js : Jsons) → AfterFine (make_jsons w js) (λ x v. Even w v)
-  jsons-even w no_jsons = refl
-  jsons-even w (a_json j js) =
-      then-even w (make_json w j) (λ x v. after_try (make_jsons v js) (λ xs u. fine (x ∷ xs) u)) (json-even w j)
-      (λ x v. then-even v (make_jsons v js) (λ xs u. fine (x ∷ xs) u) (jsons-even v js) (λ xs u. refl))
+  jsons-balances : (w : World) (js : Jsons) → AfterFine (make_jsons w js) (λ x v. Balances w v)
+  jsons-balances w no_jsons = balances-same w
+  jsons-balances w (a_json j js) =
+      then-balances w (make_json w j) (λ x v. after_try (make_jsons v js) (λ xs u. fine (x ∷ xs) u)) (json-balances w j)
+      (λ x v. then-balances v (make_jsons v js) (λ xs u. fine (x ∷ xs) u) (jsons-balances v js)
+      (λ xs u. balances-same u))
 
-  members-even : (w : World) (ps : List Property) (ms : Members) → AfterFine (make_members w ps ms) (λ x v. Even w v)
-  members-even w ps no_members = refl
-  members-even w ps (a_member key j ms) =
-      then-even w (make_json w j) (λ x v. make_members v (put_property ps key x) ms) (json-even w j)
-      (λ x v. members-even v (put_property ps key x) ms)
+  members-balances : (w : World) (ps : List Property) (ms : Members)
+      → AfterFine (make_members w ps ms) (λ x v. Balances w v)
+  members-balances w ps no_members = balances-same w
+  members-balances w ps (a_member key j ms) =
+      then-balances w (make_json w j) (λ x v. make_members v (put_property ps key x) ms) (json-balances w j)
+      (λ x v. members-balances v (put_property ps key x) ms)
 
-argument-even : (w : World) (a : Argument) → AfterFine (make_argument w a) (λ x v. Even w v)
-argument-even w (given x) = refl
-argument-even w (made_of j) = json-even w j
+argument-balances : (w : World) (a : Argument) → AfterFine (make_argument w a) (λ x v. Balances w v)
+argument-balances w (given x) = balances-same w
+argument-balances w (made_of j) = json-balances w j
 
-arguments-even : (w : World) (as_given : List Argument) → AfterFine (make_arguments w as_given) (λ x v. Even w v)
-arguments-even w [] = refl
-arguments-even w (a ∷ rest) =
-    then-even w (make_argument w a) (λ x v. after_try (make_arguments v rest) (λ xs u. fine (x ∷ xs) u))
-    (argument-even w a)
-    (λ x v. then-even v (make_arguments v rest) (λ xs u. fine (x ∷ xs) u) (arguments-even v rest) (λ xs u. refl))
+arguments-balances : (w : World) (as_given : List Argument)
+    → AfterFine (make_arguments w as_given) (λ x v. Balances w v)
+arguments-balances w [] = balances-same w
+arguments-balances w (a ∷ rest) =
+    then-balances w (make_argument w a) (λ x v. after_try (make_arguments v rest) (λ xs u. fine (x ∷ xs) u))
+    (argument-balances w a)
+    (λ x v. then-balances v (make_arguments v rest) (λ xs u. fine (x ∷ xs) u) (arguments-balances v rest)
+    (λ xs u. balances-same u))
 
-prepared-even : (w : World) (x : ScratchSpace) (source : List ℕ) (order : List (List ℕ)) (e : MadeExpression)
-    → AfterFine (prepared w x source order e) (λ u v. Even (copied_world w x) v)
-prepared-even w x source order e =
+prepared-balances : (w : World) (x : ScratchSpace) (source : List ℕ) (order : List (List ℕ)) (e : MadeExpression)
+    → AfterFine (prepared w x source order e) (λ u v. KeepsSource (copied_world w x) v)
+prepared-balances w x source order e =
     let c : World = copied_world w x in
-    then-even c (keep_source c source)
+    then-keeps c (keep_source c source)
     (λ at v. after_try (place_literals v order (literals (kept_term at e))) (λ u z. fine (kept_tree at e) z))
-    (kept-even c source)
-    (λ at v. then-even v (place_literals v order (literals (kept_term at e))) (λ u z. fine (kept_tree at e) z)
-    (placed-even v order (literals (kept_term at e))) (λ u z. refl))
+    (kept-keeps c source)
+    (λ at v. then-balances v (place_literals v order (literals (kept_term at e))) (λ u z. fine (kept_tree at e) z)
+    (placed-balances v order (literals (kept_term at e))) (λ u z. balances-same z))
 
 -- ---- the steps
 
-run-even : (w : World) (x : ScratchSpace) (r : Run)
-    → Even (copied_world w x) (state_of r).world
+run-balances : (w : World) (x : ScratchSpace) (r : Run)
+    → KeepsSource (copied_world w x) (state_of r).world
     → AnswerBalances w x (answer_of r)
-run-even w x (running t s) h = tt
-run-even w x (over (ended v) s) h = h
-run-even w x (over (threw v place) s) h = h
-run-even w x (over by_effect s) h = tt
-run-even w x (over (by_full what) s) h = tt
+run-balances w x (running t s) h = tt
+run-balances w x (over (ended v) s) h = h
+run-balances w x (over (threw v place) s) h = h
+run-balances w x (over by_effect s) h = tt
+run-balances w x (over (by_full what) s) h = tt
 
-evaluated-even : (p : Program) (scope : Addr) (receiver : Value) (w : World) (x : ScratchSpace) (v : World) (t : Term)
-    → Even (copied_world w x) v
+evaluated-balances : (p : Program) (scope : Addr) (receiver : Value) (w : World) (x : ScratchSpace) (v : World)
+    (t : Term)
+    → KeepsSource (copied_world w x) v
     → AnswerBalances w x (evaluated p scope receiver v t)
-evaluated-even p scope receiver w x v t h =
+evaluated-balances p scope receiver w x v t h =
     let s : State = evaluation_state v receiver in
     let r : Run = run_of t s in
     let q : Run = steps_in budget p scope r in
     let b : Balances (state_of r).world (state_of q).world = steps-balance budget p scope r in
     let from : Balances s.world (state_of q).world =
     subst (λ (z : State). Balances z.world (state_of q).world) (run_of-state t s) b in
-    run-even w x q (from.units ∙ h)
+    run-balances w x q (keeps-then (copied_world w x) v (state_of q).world h from)
 
-answered-even : (w : World) (x : ScratchSpace) (t : Tried Term) (k : World → Term → Answer)
-    → AfterFine t (λ u v. Even (copied_world w x) v)
-    → ((v : World) (u : Term) → Even (copied_world w x) v → AnswerBalances w x (k v u))
+answered-balances : (w : World) (x : ScratchSpace) (t : Tried Term) (k : World → Term → Answer)
+    → AfterFine t (λ u v. KeepsSource (copied_world w x) v)
+    → ((v : World) (u : Term) → KeepsSource (copied_world w x) v → AnswerBalances w x (k v u))
     → AnswerBalances w x (answered t k)
-answered-even w x (fine u v) k h rest = rest v u h
-answered-even w x effect k h rest = tt
-answered-even w x (full what) k h rest = tt
+answered-balances w x (fine u v) k h rest = rest v u h
+answered-balances w x effect k h rest = tt
+answered-balances w x (full what) k h rest = tt
 
-pub evaluate-even : (p : Program) (w : World) (x : ScratchSpace) (scope : Addr) (receiver : Value) (source : List ℕ)
+pub evaluate-balances : (p : Program) (w : World) (x : ScratchSpace) (scope : Addr) (receiver : Value) (source : List ℕ)
     (order : List (List ℕ)) (e : MadeExpression)
     → AnswerBalances w x (evaluate p w x scope receiver source order e)
-evaluate-even p w x scope receiver source order e =
-    answered-even w x (prepared w x source order e) (evaluated (with_source p x e) scope receiver)
-    (prepared-even w x source order e)
-    (λ v u h. evaluated-even (with_source p x e) scope receiver w x v u h)
+evaluate-balances p w x scope receiver source order e =
+    answered-balances w x (prepared w x source order e) (evaluated (with_source p x e) scope receiver)
+    (prepared-balances w x source order e)
+    (λ v u h. evaluated-balances (with_source p x e) scope receiver w x v u h)
 
-pub call-even : (p : Program) (w : World) (x : ScratchSpace) (source : List ℕ) (order : List (List ℕ))
+pub call-balances : (p : Program) (w : World) (x : ScratchSpace) (source : List ℕ) (order : List (List ℕ))
     (callee : MadeExpression) (receiver : Value) (args : List Argument)
     → AnswerBalances w x (evaluate_call p w x source order callee receiver args)
-call-even p w x source order callee receiver args =
+call-balances p w x source order callee receiver args =
     let c : World = copied_world w x in
-    answered-even w x (with_arguments receiver args (prepared w x source order callee))
+    answered-balances w x (with_arguments receiver args (prepared w x source order callee))
     (evaluated (with_source p x callee) script_scope values.Undefined)
-    (then-even c (prepared w x source order callee)
+    (then-keeps c (prepared w x source order callee)
     (λ f v. after_try (make_arguments v args) (λ vs u. fine (call_with_values receiver f vs) u))
-    (prepared-even w x source order callee)
-    (λ f v. then-even v (make_arguments v args) (λ vs u. fine (call_with_values receiver f vs) u)
-    (arguments-even v args) (λ vs u. refl)))
-    (λ v u h. evaluated-even (with_source p x callee) script_scope values.Undefined w x v u h)
+    (prepared-balances w x source order callee)
+    (λ f v. then-balances v (make_arguments v args) (λ vs u. fine (call_with_values receiver f vs) u)
+    (arguments-balances v args) (λ vs u. balances-same u)))
+    (λ v u h. evaluated-balances (with_source p x callee) script_scope values.Undefined w x v u h)

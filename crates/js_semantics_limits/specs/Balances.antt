@@ -37,10 +37,16 @@ pub record IsWithinRoom (literals : List (List ℕ)) (r : Run) : Type 0 where
   pub units : units_in (state_of r).world.base ≤ units_in (first_world literals).base + 67108864
   pub balances : Balances (first_world literals) (state_of r).world
 
--- the world behind an evaluation has as many units as the copied world with the cells of its session
+-- One world has as much of both as another, beside the one cell in which a source is kept: for that no room is taken,
+-- though its units are.
+pub record KeepsSource (w v : World) : Type 0 where
+  pub cells : all_cells v ≡ all_cells w + 1
+  pub units : all_units v ≡ all_units w
+
+-- the world behind an evaluation is such beside the copied world with the cells of its session
 abbrev pub AnswerBalances : World → ScratchSpace → Answer → Type 0
-AnswerBalances w x (a_result v after) = all_units after ≡ all_units (copied_world w x)
-AnswerBalances w x (a_throw v after) = all_units after ≡ all_units (copied_world w x)
+AnswerBalances w x (a_result v after) = KeepsSource (copied_world w x) after
+AnswerBalances w x (a_throw v after) = KeepsSource (copied_world w x) after
 AnswerBalances w x an_effect = Unit {0}
 AnswerBalances w x (is_full_of what) = Unit {0}
 AnswerBalances w x spent = Unit {0}

@@ -37,8 +37,8 @@ pub fn a_program_stays_within_its_room()
         → IsWithinRoom (literals_of scripts) (plain k scripts input) }
 {}
 
-/// An evaluation leaves as many units as before, those that its session's cells and kept sources take and those that they
-/// may still take together. So does a call of a function.
+/// An evaluation leaves as many cells and units as before, those that its session has and those that may still be made
+/// taken together, and one cell more, in which its source is kept. So does a call of a function.
 pub fn an_evaluation_balances()
     ensures evaluated { (p : Program) (w : World) (x : ScratchSpace) (scope : Addr) (receiver : Value) (source : List ℕ)
         (order : List (List ℕ)) (e : MadeExpression)
