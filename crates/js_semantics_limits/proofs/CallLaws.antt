@@ -1,6 +1,6 @@
 -- At most 1,000 calls are active in a program's run, and in an evaluation.
-use Rattle.std.proofs.Common.{◌≡◌, ℕ, zero, suc, ◌+◌, ◌<◌, ◌≤◌, Bool, true, false, List, [], ◌∷◌, length, refl, arith, if◌then◌else◌}
-use Rattle.std.specs.Prelude.{Option, Some, codes, nat_le, nat_lt}
+use Rattle.std.proofs.Common.{◌≡◌, ℕ, ◌+◌, ◌<◌, ◌≤◌, Bool, true, false, List, [], ◌∷◌, length, refl, arith, if◌then◌else◌}
+use Rattle.std.specs.Prelude.{Some, codes, nat_le, nat_lt}
 use Rattle.std.proofs.lemmas.Bool.Decides.{nat_tests}
 use Rattle.js_tree.specs.declared.tree.Expr.{Expr}
 use Rattle.js_tree.specs.declared.script.Script.{Script}
@@ -19,7 +19,6 @@ use Rattle.js_heap.specs.Worlds.{AfterFine}
 use Rattle.js_semantics.specs.Evaluation.{Argument, after_try, call_with_values, evaluation_state, kept_term, kept_tree, make_arguments, next_kept, place_literals, prepared, with_arguments, with_source}
 use Rattle.js_semantics.specs.Functions.{Program, FunctionCode, call_code, called_this, entered, frame_limit}
 use Rattle.js_semantics.specs.Literals.{source_literals}
-use Rattle.js_semantics.specs.Makers.{LoweringContext, MadeExpression}
 use Rattle.js_semantics.specs.Run.{all_with_literals, first_state, literals, literals_of, placed_scripts, plain, program_from, program_of, with_literals}
 use Rattle.js_semantics.specs.Sources.{expression_source, terms_of_scripts}
 use Rattle.js_semantics.specs.State.{Action, State, fail}

@@ -13,7 +13,7 @@ use Rattle.js_heap.specs.declared.cell.Cell.TheVariants as cells
 use Rattle.js_heap.specs.declared.change.Counted.{Counted}
 use Rattle.js_heap.specs.BuiltIns.{script_scope}
 use Rattle.js_heap.specs.World.{World, Tried, fine, effect, full, read_cell, make_cell, write_cell, is_evaluation}
-use Rattle.js_semantics.specs.Terms.{Term, done, standing, part, Terms, end, more, one, is_done, all_done, finished, settled, settle}
+use Rattle.js_semantics.specs.Terms.{Term, done, standing, part, Terms, end, more, is_done, all_done, finished, settle}
 use Rattle.js_semantics.specs.declared.form.Source.{Source}
 use Rattle.js_semantics.specs.declared.form.Source.TheVariants.{Script as script_source, Kept as kept_source}
 use Rattle.js_semantics.specs.declared.form.Mark.{Mark}
@@ -21,7 +21,7 @@ use Rattle.js_semantics.specs.declared.form.Completion.{Completion}
 use Rattle.js_semantics.specs.declared.form.Completion.TheVariants.{Throws as throws, Returns as returns, Breaks as breaks, Continues as continues}
 use Rattle.js_semantics.specs.declared.form.Form.{Form}
 use Rattle.js_semantics.specs.declared.form.Form.TheVariants.{Script as script, Frame as frame, Call as call, Function as function}
-use Rattle.js_semantics.specs.State.{Frame, State, Move, goes, travels, has_effect, is_full, inside, Action, go, raise, leave, make, write, print, take_line, set_here, push_frame, pop_frame, fail, with_world, with_here, moved_frames, rest_of, first_line, other_lines, after, raised_at, perform}
+use Rattle.js_semantics.specs.State.{Frame, State, Move, goes, travels, has_effect, is_full, inside, Action, go, raise, leave, make, write, print, take_line, set_here, push_frame, pop_frame, fail, with_world, with_here, rest_of, first_line, other_lines, after, raised_at, perform}
 use Rattle.js_semantics.specs.BuiltIns.{built_in_call}
 use Rattle.js_semantics.specs.Functions.{Program, FunctionCode, function_at, with_functions, with_names, too_deep, called_this, frame_entered, entered, frame_limit, call_code, call_cell, call_value, call_row}
 use Rattle.js_semantics.specs.Rows.{script_row, row, taken}
