@@ -18,6 +18,9 @@ use Rattle.js_semantics.specs.Laws.{AnswerKeeps}
 use Rattle.js_semantics.specs.Literals.{expression_literals}
 use Rattle.js_semantics.specs.Makers.{MadeExpression as Source}
 use Rattle.js_semantics.proofs.EvaluationLemmas.{call-keeps, evaluate-keeps}
+use Rattle.js_semantics_limits.specs.Balances.{AnswerBalances}
+use Rattle.js_semantics_limits.proofs.AnswerLemmas.{call-balances, evaluate-balances}
+use Rattle.pure_eval.specs.Workspaces.{with_evaluated}
 use Rattle.object_groups.specs.declared.fault.HandleFault.{HandleFault}
 use Rattle.object_groups.specs.declared.handle.Target.TheVariants as targets
 use Rattle.object_groups.specs.Handles.{HeldHandles, fault_of}
@@ -43,6 +46,7 @@ use Rattle.cdp_session.specs.Situations.{Situation}
 use Rattle.cdp_session.specs.declared.asks.Asks.TheVariants.{Nothing}
 use Rattle.cdp_session_laws.specs.Effects.{IsOnlyEvaluation, OnlyEvaluates}
 use Rattle.cdp_session_laws.proofs.CountLemmas.{counts-on}
+use Rattle.cdp_session_laws.proofs.ScratchLemmas.{IsBalanced, evaluated-balanced}
 use Rattle.cdp_session_laws.proofs.GrowLemmas.{Grows, grows-same}
 use Rattle.cdp_session_laws.proofs.DescriptionLemmas.{GrowsIf, grows-described}
 
@@ -94,11 +98,12 @@ kept-made s how v h m is there =
 
 -- ---- rows
 
--- what a row leaves that only evaluates, with the handles that it adds, and its count of exceptions
+-- what a row leaves that only evaluates, with the handles that it adds, its count of exceptions, and what it keeps
 pub record Evaluated (x y : Session) : Type 0 where
   pub only : OnlyEvaluates x y
   pub grows : Grows x.handles y.handles
   pub counts : x.exceptions ≤ 2 ^ 62 → y.exceptions ≤ 2 ^ 62
+  pub fits : IsBalanced x.workspace → IsBalanced y.workspace
 
 -- it is refused, or it leaves that, sends nothing besides and asks nothing
 abbrev pub Evaluation : Session → Row → Type 0
@@ -121,8 +126,9 @@ behind : (b : Bool) (e : Source) (w : World) (x : Session) (h : HeldHandles)
     → Grows x.handles h
     → take (length x.workspace.scratch.cells) w.scratch ≡ x.workspace.scratch.cells
     → (b ≡ true → h.made ≡ x.handles.made + 1)
+    → (IsBalanced x.workspace → IsBalanced (with_evaluated e w x.workspace))
     → Evaluated x (with_handles h (kept_by b e w x))
-behind true e w x h g front more = record {
+behind true e w x h g front more grown = record {
   only = record {
     number = refl;
     rules = refl;
@@ -136,8 +142,9 @@ behind true e w x h g front more = record {
   };
   grows = g;
   counts = λ le. le;
+  fits = grown;
 }
-behind false e w x h g front more = record {
+behind false e w x h g front more grown = record {
   only = record {
     number = refl;
     rules = refl;
@@ -151,6 +158,7 @@ behind false e w x h g front more = record {
   };
   grows = g;
   counts = λ le. le;
+  fits = λ q. q;
 }
 
 -- one exception more
@@ -169,6 +177,7 @@ excepted x y e = record {
   };
   grows = e.grows;
   counts = λ le. counts-on (2 ^ 62) y.exceptions (nat_lt y.exceptions (2 ^ 62)) refl (e.counts le);
+  fits = e.fits;
 }
 
 -- nothing was made
@@ -187,6 +196,7 @@ as-before x = record {
   };
   grows = grows-same x.handles;
   counts = λ le. le;
+  fits = λ q. q;
 }
 
 -- ---- answers
@@ -195,20 +205,22 @@ a-value : (x : Session) (b : Bool) (e : Source) (w : World) (result : Json → J
     → take (length x.workspace.scratch.cells) w.scratch ≡ x.workspace.scratch.cells
     → GrowsIf x.handles o
     → ((m : Made Json) → b ≡ true → o ≡ Some m → m.handles.made ≡ x.handles.made + 1)
+    → (IsBalanced x.workspace → IsBalanced (with_evaluated e w x.workspace))
     → Evaluation x (row_of (answered_by result as_it_is (kept_by b e w x) o))
-a-value x b e w result None front g more = tt
-a-value x b e w result (Some m) front g more =
-    (behind b e w x m.handles g front (λ is. more m is refl), refl, refl, refl)
+a-value x b e w result None front g more grown = tt
+a-value x b e w result (Some m) front g more grown =
+    (behind b e w x m.handles g front (λ is. more m is refl) grown, refl, refl, refl)
 
 a-thrown : (x : Session) (b : Bool) (e : Source) (w : World) (result : Json → Json) (o : Option (Made Json))
     → take (length x.workspace.scratch.cells) w.scratch ≡ x.workspace.scratch.cells
     → GrowsIf x.handles o
     → ((m : Made Json) → b ≡ true → o ≡ Some m → m.handles.made ≡ x.handles.made + 1)
+    → (IsBalanced x.workspace → IsBalanced (with_evaluated e w x.workspace))
     → Evaluation x (row_of (answered_by result with_exception (kept_by b e w x) o))
-a-thrown x b e w result None front g more = tt
-a-thrown x b e w result (Some m) front g more = (
+a-thrown x b e w result None front g more grown = tt
+a-thrown x b e w result (Some m) front g more grown = (
   excepted x (with_handles m.handles (kept_by b e w x))
-      (behind b e w x m.handles g front (λ is. more m is refl)),
+      (behind b e w x m.handles g front (λ is. more m is refl) grown),
   refl,
   refl,
   refl,
@@ -216,18 +228,21 @@ a-thrown x b e w result (Some m) front g more = (
 
 pub an-answer : (s : Situation) (x : Session) (how : _) (e : Source) (a : Answer)
     → AnswerKeeps s.standing.world x.workspace.scratch a
+    → AnswerBalances s.standing.world x.workspace.scratch a
     → Evaluation x (row_of (outcome_of_answer s x how e a))
-an-answer s x how e (a_result v w) k =
+an-answer s x how e (a_result v w) k q =
     a-value x (keeps how v x.handles) e w value_result (described s x how v w) k.earlier
     (grows-described (sight_with s x (space_after w)) how v x.handles)
     (λ m is there. kept-made (sight_with s x (space_after w)) how v x.handles m is there)
-an-answer s x how e (a_throw v w) k =
+    (evaluated-balanced x.workspace e s.standing.world w q k.program)
+an-answer s x how e (a_throw v w) k q =
     a-thrown x (keeps how v x.handles) e w (thrown_result (with_exception x).exceptions) (described s x how v w)
     k.earlier (grows-described (sight_with s x (space_after w)) how v x.handles)
     (λ m is there. kept-made (sight_with s x (space_after w)) how v x.handles m is there)
-an-answer s x how e an_effect k = (excepted x x (as-before x), refl, refl, refl)
-an-answer s x how e (is_full_of what) k = tt
-an-answer s x how e spent k = tt
+    (evaluated-balanced x.workspace e s.standing.world w q k.program)
+an-answer s x how e an_effect k q = (excepted x x (as-before x), refl, refl, refl)
+an-answer s x how e (is_full_of what) k q = tt
+an-answer s x how e spent k q = tt
 
 a-tree : (s : Situation) (x : Session) (scope : Addr) (receiver : Value) (how : _) (source : List ℕ)
     (o : Option Expression)
@@ -236,6 +251,8 @@ a-tree s x scope receiver how source None = (excepted x x (as-before x), refl, r
 a-tree s x scope receiver how source (Some e) =
     an-answer s x how (numbered_made e) (answer_in s x scope receiver source e)
     (evaluate-keeps x.workspace.program s.standing.world x.workspace.scratch scope receiver source
+    (expression_literals e) (numbered_made e))
+    (evaluate-balances x.workspace.program s.standing.world x.workspace.scratch scope receiver source
     (expression_literals e) (numbered_made e))
 
 if-pure : (x : Session) (b : Bool) (first second : Evaluates)
@@ -264,6 +281,8 @@ a-function s x receiver args how source None = (excepted x x (as-before x), refl
 a-function s x receiver args how source (Some f) =
     an-answer s x how (numbered_made f) (answer_to s x receiver args source f)
     (call-keeps x.workspace.program s.standing.world x.workspace.scratch source (expression_literals f)
+    (numbered_made f) receiver args)
+    (call-balances x.workspace.program s.standing.world x.workspace.scratch source (expression_literals f)
     (numbered_made f) receiver args)
 
 pub a-call : (s : Situation) (x : Session) (call : FunctionCall) (o : Option Value) (p : Option (List Argument))

@@ -33,8 +33,8 @@ use Rattle.cdp_session_laws.proofs.RowLemmas.{Adds, Leaves, adds, adds-none, com
 by-row : (x : Session) (id : ℕ) (r : Row) (stays : Handle → Bool)
     → Leaves stays x (session_by x r)
     → Leaves stays x (answer_by x (outcome_by id r)).session
-by-row x id (Refuses why) stays l = record { number = l.number; fate = l.fate; cells = l.cells }
-by-row x id (Does done) stays l = record { number = l.number; fate = l.fate; cells = l.cells }
+by-row x id (Refuses why) stays l = record { number = l.number; fate = l.fate; cells = l.cells; fits = l.fits }
+by-row x id (Does done) stays l = record { number = l.number; fate = l.fate; cells = l.cells; fits = l.fits }
 
 by-reading : (s : Situation) (x : Session) (r : Reading)
     → IsOrdered x.handles
@@ -59,7 +59,7 @@ finishing : (s : Situation) (e : Ending) (moment : ℕ) (x : Session) (b : Bool)
     → Adds x (if b then end_told s e moment x else x)
 finishing s e moment x true =
     let a = ending s e moment x in
-    record { number = a.number; grows = a.grows; cells = a.cells }
+    record { number = a.number; grows = a.grows; cells = a.cells; fits = a.fits }
 finishing s e moment x false = adds-none x
 
 stopping : (s : Situation) (number : ℕ) (a : Arrival) (x : Session) (b : Bool)
@@ -80,7 +80,7 @@ event-leaves (Stopped s number a) x o =
     (adds x _ refl (stopping s number a x x.rules.enabled) refl)
 event-leaves Resumed x o =
     let l = leaves-holding (is_outside backtrace) x o in
-    record { number = l.number; fate = l.fate; cells = l.cells }
+    record { number = l.number; fate = l.fate; cells = l.cells; fits = l.fits }
 event-leaves HandedOut x o = leaves-adds x (after_event HandedOut x) o (adds x _ refl (grows-same x.handles) refl)
 
 -- ---- sessions that lived

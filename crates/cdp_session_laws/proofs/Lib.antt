@@ -1,6 +1,7 @@
 pub mod CountLemmas
 pub mod GrowLemmas
 pub mod DescriptionLemmas
+pub mod ScratchLemmas
 pub mod EvaluatingLemmas
 pub mod RowLemmas
 pub mod EventLemmas

@@ -17,7 +17,8 @@ use Rattle.breakpoints.specs.declared.fault.AddFault.TheVariants as faults
 use Rattle.breakpoints.specs.Breakpoints.{HeldBreakpoints, breakpoint_of, fault_of, has_another_id, has_id, most}
 use Rattle.breakpoints.specs.Ids.{place_id, url_id}
 use Rattle.breakpoints.specs.Resolving.{resolved_at, resolved_by_url, resolved_in}
-use Rattle.pure_eval.specs.Workspaces.{Workspace}
+use Rattle.js_semantics.specs.Functions.{Program}
+use Rattle.pure_eval.specs.Workspaces.{Workspace, begun}
 use Rattle.cdp_json.specs.Json.{Json}
 use Rattle.cdp_json.specs.Commands.{reading_of}
 use Rattle.cdp_json.specs.declared.command.Reading.{Reading}
@@ -41,11 +42,12 @@ use Rattle.cdp_session.specs.declared.ending.Ending.TheVariants as endings
 use Rattle.cdp_session.specs.declared.situation.Pause.{Pause}
 use Rattle.cdp_session_laws.specs.Events.{Event, Texted, Printed, Ended, Stopped, Resumed, HandedOut, after_all, after_event, lived}
 use Rattle.cdp_session_laws.specs.Handles.{IsOrdered}
-use Rattle.cdp_session_laws.specs.Limits.{HasFew, IsWithinLimits}
+use Rattle.cdp_session_laws.specs.Limits.{HasFew, IsWithinLimits, IsWithinScratch}
 use Rattle.cdp_session_laws.proofs.CountLemmas.{below-last, counts-on, filter-within, none-within, push-within}
 use Rattle.cdp_session_laws.proofs.EvaluatingLemmas.{Evaluation, a-call, an-evaluation, in-frame}
 use Rattle.cdp_session_laws.proofs.EventLemmas.{event-leaves}
 use Rattle.cdp_session_laws.proofs.RowLemmas.{session_by}
+use Rattle.cdp_session_laws.proofs.ScratchLemmas.{IsBalanced, balanced-within, begun-balanced}
 
 -- ---- breakpoints and exceptions
 
@@ -266,3 +268,21 @@ within-limits number workspace events =
       breakpoints = none-within 1000;
       exceptions = none-within (2 ^ 62);
     })
+
+-- ---- what evaluations keep
+
+balanced-after : (es : List Event) (x : Session)
+    → IsOrdered x.handles
+    → IsBalanced x.workspace
+    → IsBalanced (after_all es x).workspace
+balanced-after [] x ordered balanced = balanced
+balanced-after (e ∷ es) x ordered balanced =
+    let leaves = event-leaves e x ordered in
+    balanced-after es (after_event e x) leaves.fate.ordered (leaves.fits balanced)
+
+pub within-scratch : (number : ℕ) (scripts : Program) (events : List Event)
+    → IsWithinScratch (lived number (begun scripts) events).workspace
+within-scratch number scripts events =
+    balanced-within (lived number (begun scripts) events).workspace
+    (balanced-after events (fresh number (begun scripts)) (record { below = tt; ascending = tt })
+    (begun-balanced scripts))

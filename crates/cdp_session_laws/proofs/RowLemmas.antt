@@ -37,6 +37,7 @@ use Rattle.cdp_session_laws.specs.Handles.{IsOrdered, is_of, releases}
 use Rattle.cdp_session_laws.proofs.GrowLemmas.{Fate, Grows, all_stay, fate-filter, fate-grows, found-number, grows-same}
 use Rattle.cdp_session_laws.proofs.DescriptionLemmas.{grows-descriptors, grows-enabling}
 use Rattle.cdp_session_laws.proofs.EvaluatingLemmas.{Evaluation, a-call, an-evaluation, in-frame}
+use Rattle.cdp_session_laws.proofs.ScratchLemmas.{IsBalanced, chosen-balanced}
 
 -- ---- sessions
 
@@ -46,17 +47,19 @@ CellsStay x y =
     (take (length x.workspace.scratch.cells) y.workspace.scratch.cells ≡ x.workspace.scratch.cells)
     ⊎ (list_any is_on_scratch y.handles.held ≡ false)
 
--- a session has the number of another and what is left of its handles
+-- a session has the number of another and what is left of its handles, and what its evaluations keep fits as before
 pub record Leaves (stays : Handle → Bool) (x y : Session) : Type 0 where
   pub number : y.number ≡ x.number
   pub fate : Fate stays x.handles y.handles
   pub cells : CellsStay x y
+  pub fits : IsBalanced x.workspace → IsBalanced y.workspace
 
 -- a session has the number of another and more handles, and the cells of its evaluations and more
 pub record Adds (x y : Session) : Type 0 where
   pub number : y.number ≡ x.number
   pub grows : Grows x.handles y.handles
   pub cells : take (length x.workspace.scratch.cells) y.workspace.scratch.cells ≡ x.workspace.scratch.cells
+  pub fits : IsBalanced x.workspace → IsBalanced y.workspace
 
 -- a session that has more handles and is the same else
 pub adds : (x y : Session)
@@ -69,6 +72,7 @@ adds x y number grows same = record {
   grows = grows;
   cells = ap (λ (w : Workspace). take (length x.workspace.scratch.cells) w.scratch.cells) same
       ∙ take-length x.workspace.scratch.cells;
+  fits = λ h. subst IsBalanced (sym same) h;
 }
 
 pub adds-none : (x : Session) → Adds x x
@@ -76,7 +80,12 @@ adds-none x = adds x x refl (grows-same x.handles) refl
 
 pub leaves-adds : (x y : Session) → IsOrdered x.handles → Adds x y → Leaves all_stay x y
 leaves-adds x y o a =
-    record { number = a.number; fate = fate-grows x.handles y.handles o a.grows; cells = inl a.cells }
+    record {
+      number = a.number;
+      fate = fate-grows x.handles y.handles o a.grows;
+      cells = inl a.cells;
+      fits = a.fits;
+    }
 
 -- where no handle is left on a cell of an evaluation, the cells are given up
 holding-cells : (x : Session) (h : HeldHandles) (b : Bool)
@@ -97,6 +106,7 @@ leaves-holding stays x o = record {
   fate = fate-filter stays x.handles o;
   cells = holding-cells x (record x.handles { held = filter stays x.handles.held })
       (list_any is_on_scratch (filter stays x.handles.held)) refl;
+  fits = chosen-balanced (list_any is_on_scratch (filter stays x.handles.held)) x.workspace;
 }
 
 -- ---- rows
@@ -161,7 +171,7 @@ properties-made s x preview (Some h) =
 same-only : (x : Session) (r : Row) → Evaluation x r → Same x r
 same-only x (Refuses why) e = adds-none x
 same-only x (Does done) e =
-    record { number = e.0.only.number; grows = e.0.grows; cells = e.0.only.cells }
+    record { number = e.0.only.number; grows = e.0.grows; cells = e.0.only.cells; fits = e.0.fits }
 
 -- ---- releases
 
@@ -181,6 +191,7 @@ releases-found x n None ordered is = record {
   fate = subst (λ hs. Fate (has_another_number n) x.handles (record x.handles { held = hs }))
       (nothing-out n x.handles is) (fate-filter (has_another_number n) x.handles ordered);
   cells = inl (take-length x.workspace.scratch.cells);
+  fits = λ h. h;
 }
 releases-found x n (Some h) ordered is =
     subst (λ m. Leaves (has_another_number n) x
@@ -211,7 +222,7 @@ comes s x params.DebuggerEnable o =
     (adds x _ refl (grows-enabling s s.paused x.rules.enabled x) refl)
 comes s x params.DebuggerDisable o =
     let l = leaves-holding (is_outside backtrace) x o in
-    record { number = l.number; fate = l.fate; cells = l.cells }
+    record { number = l.number; fate = l.fate; cells = l.cells; fits = l.fits }
 comes s x params.Pause o = quiet s x params.Pause o (asks-pause s x (is_some s.paused))
 comes s x params.Resume o = quiet s x params.Resume o (adds x _ refl (grows-same x.handles) refl)
 comes s x params.StepInto o = quiet s x params.StepInto o (a-step x kinds.Into s.paused)
