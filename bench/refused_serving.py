@@ -1,10 +1,10 @@
 #!/usr/bin/env python3
 """Refuses memory to a served program that two clients debug, one allocation after another, and looks at what each was sent.
 
-    python3 bench/refused_serving.py [--bin PROGRAM] [--each N] [--cc CC]
+    python3 bench/refused_serving.py [--bin PROGRAM] [--first M] [--each N] [--cc CC]
 
 The first client sets a breakpoint, looks and goes on; the second one asks, and lets the program begin. Where that one is lost
-before it does, a third one does it. Each of the first N allocations of the host (2,000) is refused by itself, which wants a
+before it does, a third one does it. Each of the allocations of the host from the M-th (1) to the N-th (2,000) is refused by itself, which wants a
 C compiler and a program that is linked dynamically. Moments are taken out of what is sent.
 
 Wanted: the status is 0 and the output whole, or it is 1 with the line `debug_host: out of memory` and a first part of the
@@ -181,6 +181,7 @@ class Tally:
 def main():
     parser = argparse.ArgumentParser()
     parser.add_argument("--bin", default=PROGRAM)
+    parser.add_argument("--first", type=int, default=1)
     parser.add_argument("--each", type=int, default=2000)
     parser.add_argument("--cc", default="cc")
     asked = parser.parse_args()
@@ -190,9 +191,9 @@ def main():
         if library is None:
             return
         tally = Tally(asked.bin, folder)
-        for number in range(1, asked.each + 1):
+        for number in range(asked.first, asked.each + 1):
             tally.add(number, *play(asked.bin, folder, {"LD_PRELOAD": library, "REFUSED": str(number)}))
-        tally.told(asked.each)
+        tally.told(asked.each + 1 - asked.first)
     sys.exit(tally.other > 0)
 
 
