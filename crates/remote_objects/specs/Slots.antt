@@ -3,9 +3,8 @@ use Rattle.std.specs.Prelude.{ℕ, List, Bool, true, not}
 use Rattle.js_heap.specs.declared.value.Value.{Value}
 use Rattle.js_heap_memory.specs.Names.{name_of}
 use Rattle.js_heap_memory.specs.declared.stored.Slot.{Slot as StoredSlot}
-use Rattle.cdp_json.specs.Json.{Json}
 use Rattle.remote_objects.specs.declared.slots.Flags.{Flags}
-use Rattle.remote_objects.specs.Descriptors.{Content, a_value, a_text, FlaggedProperty, descriptor_of, binding_slots}
+use Rattle.remote_objects.specs.Descriptors.{Content, a_value, a_text, FlaggedProperty, binding_slots}
 
 -- a property of this name and content with its flags
 abbrev pub slot_with : List ℕ → Content → Flags → FlaggedProperty
@@ -17,10 +16,6 @@ slot_with name content flags =
       enumerable = flags.enumerable;
       configurable = flags.configurable;
     }
-
--- what a property is described as, whatever it holds is described as
-abbrev pub described : List ℕ → Flags → Json → Json
-described name flags value = descriptor_of (slot_with name (a_text name) flags) value
 
 -- the slot of a property that holds a value
 abbrev pub value_slot : List ℕ → Value → Flags → FlaggedProperty

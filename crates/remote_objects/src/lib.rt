@@ -13,7 +13,6 @@
 mod by_value;
 mod describer;
 mod descriptor_text;
-mod descriptors;
 mod detail;
 mod frame_text;
 mod frames;
