@@ -1,5 +1,7 @@
 -- How a machine stands that is lent: its cells, the throw that stands, and its frames.
-use Rattle.std.proofs.Common.{◌≡◌, ℕ, List, [], true, is_some, Option, Some, None, refl, ap, subst, ◌∙◌}
+use Rattle.std.proofs.Common.{◌≡◌, ℕ, List, [], true, is_some, Option, Some, None, refl, ap, sym, subst, ◌∙◌}
+use Rattle.std.specs.Prelude.{option_to_list}
+use Rattle.std.specs.Iterator.{YieldsFirstBy}
 use Rattle.std.specs.Option.{option_map}
 use Rattle.js_tree.specs.declared.script.Script.{Script}
 use Rattle.js_heap.specs.declared.value.Addr.{Addr}
@@ -22,7 +24,11 @@ use Rattle.js_machine.specs.declared.end.End.{End}
 use Rattle.js_machine.specs.declared.end.End.TheVariants as ends
 use Rattle.js_machine.specs.Machines.{Machine, term_of, state_of, run_by, IsKept}
 use Rattle.js_machine.specs.Standing.{until_end}
+use Rattle.frames_scopes_types.specs.Frames.{ShownFrame}
+use Rattle.frames_scopes.specs.declared.frames.FrameView.{FrameView}
 use Rattle.frames_scopes.specs.Frames.{walk}
+use Rattle.frames_scopes.specs.FrameViews.{frame_shown}
+use Rattle.cdp_session.specs.Conditions.{top_of}
 use Rattle.cdp_host.specs.Programs.{is_over}
 use Rattle.cdp_host.specs.Standings.{frames_of, value_of, thrown_of, standing_of}
 use Rattle.cdp_host.specs.Hosts.{machine_run, machine_standing}
@@ -116,6 +122,13 @@ standing-going scripts m h e is =
     let s : State = state_of m (heap_world m.names h) [] in
     let k : run_by m.ended t s ≡ run_of t s = ap (λ o. run_by o t s) e in
     ap (frames_of scripts) k ∙ going_frames scripts t s (subst IsRunning k is)
+
+-- what is evaluated in the first of some frames is evaluated in the top one
+pub top-first : (walked left : List ShownFrame) (first : Option FrameView)
+    → YieldsFirstBy frame_shown (λ fs. fs) walked first left
+    → top_of (option_to_list (option_map frame_shown first)) ≡ top_of walked
+top-first walked left None none = ap top_of (sym none.0)
+top-first walked left (Some f) is = ap top_of (sym is)
 
 -- the walk over the parts of a machine is the walk over it
 pub walk-parts : (scripts : List Script) (m : Machine) (h : Heap) (names : List (List ℕ)) (table : NodeTable)

@@ -1,19 +1,25 @@
 //! The program of a host, lent to its session where it stands still.
 
-ghost use Rattle.std.specs.Prelude.{◌≡◌, ℕ, List, [], map, IfOk, None, option_map};
+ghost use Rattle.std.specs.Prelude.{◌≡◌, ◌∷◌, ℕ, List, [], map, IfOk, None, option_map, option_to_list};
 ghost use Rattle.js_heap.specs.BuiltIns.{script_scope};
 ghost use Rattle.js_machine_inspection.specs.Catchers.{standing_throw};
 ghost use Rattle.js_machine.specs.Machines.{IsKept, state_of, term_of};
 ghost use Rattle.js_heap_memory.specs.Heaps.{Heap, heap_world};
+ghost use Rattle.js_machine_actions.specs.Contexts as contexts;
+ghost use Rattle.js_machine_engine.specs.Points.{term_at};
 ghost use Rattle.frames_scopes_types.specs.Views.{frame_of};
 ghost use Rattle.frames_scopes.specs.Frames.{walk};
+ghost use Rattle.frames_scopes.specs.FrameViews.{frame_shown};
+ghost use Rattle.frames_scopes.specs.Standings.{CanWalk};
+ghost use Rattle.cdp_session.specs.Conditions.{top_of};
+ghost use Rattle.cdp_session.specs.Evaluations.{innermost};
 ghost use Rattle.cdp_host.specs.Hosts.{AreLines, machine_run};
 ghost use Rattle.cdp_host.specs.Programs.{is_over};
 ghost use Rattle.cdp_host.specs.Standings.{value_of, IsKept-prop};
 
-use cdp_session::{Program, ProgramCells};
+use cdp_session::{Program, ProgramCells, Top};
 use cdp_text::line_table::LineTable;
-use frames_scopes::StandingMachine;
+use frames_scopes::{FrameView, Scopes, StandingMachine};
 use frames_scopes_types::CallFrame;
 use js_heap::built_in::script_scope;
 use js_heap::value::{Addr, Value};
@@ -56,13 +62,53 @@ pub(crate) fn is_over(machine: &Machine) -> bool
     }
 }
 
+// ---- the top frame
+
+/// The innermost of the scopes of a frame.
+fn innermost(scopes: Scopes<'_>) -> Addr
+    ensures { result ≡ innermost scopes.entry }
+{
+    let mut scopes = scopes;
+    match scopes.next() {
+        Some(scope) => scope.bindings,
+        None => script_scope(),
+    }
+}
+
+/// In what is evaluated in a frame.
+fn top_at(frame: FrameView<'_>) -> Top
+    ensures { result ≡ top_of (frame_shown frame.entry ∷ []) }
+{
+    let FrameView { this, scopes, .. } = frame;
+    Top {
+        scope: innermost(scopes),
+        this,
+    }
+}
+
+/// In what is evaluated in the top frame, if there is one.
+fn top_of(frame: Option<FrameView<'_>>) -> Top
+    ensures { result ≡ top_of (option_to_list (option_map frame_shown frame.entry)) }
+{
+    match frame {
+        Some(frame) => top_at(frame),
+        None => Top {
+            scope: script_scope(),
+            this: Value::Undefined,
+        },
+    }
+}
+
+// ---- frames
+
 impl<'m> Debuggee<'m> {
-    /// The active frames of a machine whose run hasn't ended.
-    fn walked(&self, alloc: Global) -> Result<Vec<CallFrame<'m>>, AllocError>
+    /// What the frames are walked over of a machine whose run hasn't ended.
+    fn walker(&self) -> StandingMachine<'m>
         requires { self.now.machine.now.ended ≡ None }
-        ensures { IfOk result (λ frames. map frame_of frames.items ≡ walk self.now.scripts.now script_scope (term_of self.now.machine.now) (state_of self.now.machine.now (heap_world self.now.machine.now.names self.now.heap.now) [])) }
+        ensures whole { CanWalk result.table.now result.root result.stack.now result.point result.scripts.now result.lines.now }
+        ensures walk { walk result.scripts.now result.root (term_at result.names.now result.table.now result.stack.now result.point) (contexts.state_of (heap_world result.names.now result.heap.now) result.context.now []) ≡ walk self.now.scripts.now script_scope (term_of self.now.machine.now) (state_of self.now.machine.now (heap_world self.now.machine.now.names self.now.heap.now) []) }
     {
-        let standing = StandingMachine {
+        StandingMachine {
             table: self.machine.table(),
             names: self.machine.names(),
             scripts: self.scripts,
@@ -72,8 +118,24 @@ impl<'m> Debuggee<'m> {
             context: self.machine.context(),
             stack: self.machine.stack(),
             point: self.machine.point(),
-        };
-        standing.call_frames(alloc)
+        }
+    }
+
+    /// The active frames of a machine whose run hasn't ended.
+    fn walked(&self, alloc: Global) -> Result<Vec<CallFrame<'m>>, AllocError>
+        requires { self.now.machine.now.ended ≡ None }
+        ensures { IfOk result (λ frames. map frame_of frames.items ≡ walk self.now.scripts.now script_scope (term_of self.now.machine.now) (state_of self.now.machine.now (heap_world self.now.machine.now.names self.now.heap.now) [])) }
+    {
+        self.walker().call_frames(alloc)
+    }
+
+    /// In what is evaluated in the top frame of a machine whose run hasn't ended: no other frame is walked over.
+    fn walked_top(&self) -> Top
+        requires { self.now.machine.now.ended ≡ None }
+        ensures { result ≡ top_of (walk self.now.scripts.now script_scope (term_of self.now.machine.now) (state_of self.now.machine.now (heap_world self.now.machine.now.names self.now.heap.now) [])) }
+    {
+        let mut frames = self.walker().frames();
+        top_of(frames.next())
     }
 }
 
@@ -95,6 +157,16 @@ impl Program for Debuggee<'_> {
             None => match self.machine.end() {
                 Some(_) => Ok(Vec::new(alloc)),
                 None => self.walked(alloc),
+            },
+        }
+    }
+
+    fn top(&self) -> Top {
+        match self.machine.finished() {
+            Some(_) => top_of(None),
+            None => match self.machine.end() {
+                Some(_) => top_of(None),
+                None => self.walked_top(),
             },
         }
     }

@@ -14,14 +14,14 @@ use Rattle.js_tree.specs.Views.{expression_view}
 use Rattle.js_tree.specs.declared.script.Expression.{Expression}
 use Rattle.breakpoints.specs.Breakpoints.{id_of}
 use Rattle.breakpoints.specs.declared.breakpoint.Breakpoint.{Breakpoint}
-use Rattle.frames_scopes_types.specs.Frames.{ShownFrame}
 use Rattle.pure_eval.specs.Preparing.{IsPrepared}
 use Rattle.pure_eval.specs.Workspaces.{OpenWorkspace, Workspace, opened, EvaluatesTo}
 use Rattle.pure_eval.specs.declared.evaluated.Evaluated.{Evaluated}
 use Rattle.pure_eval.specs.declared.prepared.PreparedSource.{PreparedSource}
-use Rattle.cdp_session.specs.Conditions.{IsParsed, IsParsedTo, comes_true, expression_holds, holds, is_met, top_scope, top_this, tree_holds}
+use Rattle.cdp_session.specs.Conditions.{IsParsed, IsParsedTo, comes_true, expression_holds, holds, is_met, top_of, top_scope, top_this, tree_holds}
 use Rattle.pure_eval.specs.Answering.{is_memory}
 use Rattle.cdp_session.specs.Situations.{Standing}
+use Rattle.cdp_session.specs.declared.top.Top.{Top}
 use Rattle.cdp_session.proofs.EvaluationLemmas.{evaluated-from, stays}
 
 -- ---- texts
@@ -64,25 +64,23 @@ none-holds s w text now o p is same = none_holds s w text (subst (IsParsed text)
 -- ---- evaluations
 
 -- what was opened, was evaluated in the top frame and is true exactly where the definition's answer is
-pub holds-at : (s : Standing) (w : Workspace) (fs : List ShownFrame) (scope : Addr) (this : Value) (ex : Expression)
-    (at : Addr) (p : PreparedSource) (end : Evaluated) (o n : OpenWorkspace) (told : Bool)
+pub holds-at : (s : Standing) (w : Workspace) (t : Top) (ex : Expression) (at : Addr) (p : PreparedSource) (end : Evaluated)
+    (o n : OpenWorkspace) (told : Bool)
     → o ≡ opened s.world w → at ≡ next_kept o.behind.scratch → IsPrepared at ex p
     → ((e : Expression)
     → IsPrepared (next_kept o.behind.scratch) e p
-    → EvaluatesTo (definition o.behind.program o.world o.behind.scratch scope this e) (expression_source e.tree)
+    → EvaluatesTo (definition o.behind.program o.world o.behind.scratch t.scope t.this e) (expression_source e.tree)
     end o n)
     → ((base : World) (x : Workspace) (a : Answer) (e : Source)
     → EvaluatesTo a e end (opened base x) n
     → told ≡ comes_true base a)
-    → fs ≡ s.frames → scope ≡ top_scope fs → this ≡ top_this fs → told ≡ expression_holds s w ex
-holds-at s w fs scope this ex at p end o n told is place ready says value frames scope_is this_is =
-    let a : Answer = definition w.program s.world w.scratch scope this ex in
+    → t ≡ top_of s.frames → told ≡ expression_holds s w ex
+holds-at s w t ex at p end o n told is place ready says value top =
+    let a : Answer = definition w.program s.world w.scratch t.scope t.this ex in
     let to : EvaluatesTo a (expression_source ex.tree)
-    end o n = evaluated-from s.world w scope this ex at p end o n is place ready says in
+    end o n = evaluated-from s.world w t.scope t.this ex at p end o n is place ready says in
     value s.world w a (expression_source ex.tree) (subst (λ k. EvaluatesTo a (expression_source ex.tree) end k n) is to)
-    ∙ ap (λ k. comes_true s.world (definition w.program s.world w.scratch k this ex)) (scope_is ∙ ap top_scope frames)
-    ∙ ap (λ k. comes_true s.world (definition w.program s.world w.scratch (top_scope s.frames) k ex))
-    (this_is ∙ ap top_this frames)
+    ∙ ap (λ k. comes_true s.world (definition w.program s.world w.scratch k.scope k.this ex)) top
 
 -- and as it was opened it is forgotten
 pub forgets : (s : Standing) (w : Workspace) (scope : Addr) (this : Value) (ex : Expression) (at : Addr) (p : PreparedSource)

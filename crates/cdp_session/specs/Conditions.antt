@@ -25,6 +25,7 @@ use Rattle.frames_scopes_types.specs.Frames.{ShownFrame}
 use Rattle.pure_eval.specs.Workspaces.{Workspace}
 use Rattle.cdp_session.specs.Evaluations.{innermost}
 use Rattle.cdp_session.specs.Situations.{Standing}
+use Rattle.cdp_session.specs.declared.top.Top.{Top}
 
 -- ---- where a condition is evaluated
 
@@ -38,6 +39,10 @@ top_scope (f ∷ fs) = innermost f.scopes
 abbrev pub top_this : List ShownFrame → Value
 top_this [] = values.Undefined
 top_this (f ∷ fs) = f.receiver
+
+-- both
+abbrev pub top_of : List ShownFrame → Top
+top_of frames = record { scope = top_scope frames; this = top_this frames }
 
 -- ---- what it comes to
 

@@ -3,7 +3,6 @@
 
 ghost use Rattle.std.specs.Prelude.{◌≡◌, false, filter, map, slice_get, IfOk, IfSome, OnOk, Some};
 ghost use Rattle.breakpoints.specs.Breakpoints.{hits_at, id_of};
-ghost use Rattle.frames_scopes_types.specs.Views.{frame_of};
 ghost use Rattle.js_heap.specs.World.{World};
 ghost use Rattle.js_semantics.specs.Evaluation.{Answer};
 ghost use Rattle.js_semantics.specs.Makers.{MadeExpression as Source};
@@ -14,15 +13,13 @@ ghost use Rattle.pure_eval.specs.Answering.{is_memory};
 ghost use Rattle.cdp_session.specs.Sessions.{workspace_in};
 ghost use Rattle.cdp_session.specs.Situations.{seen};
 
-use crate::evaluating::{innermost, open};
+use crate::evaluating::open;
 use crate::program::Program;
 use crate::situation::Situation;
+use crate::top::Top;
 use breakpoints::Breakpoints;
 use cdp_text::position::Place;
 use cdp_text::units::Units;
-use frames_scopes_types::CallFrame;
-use js_heap::built_in::script_scope;
-use js_heap::value::{Addr, Value};
 use js_heap_operators::values::is_truthy;
 use js_machine_actions::seen::NamedWorld;
 use js_machine_rows::table::StepTable;
@@ -108,26 +105,6 @@ fn find_or_parse(
 
 // ---- evaluations
 
-/// The innermost scope of the top frame.
-fn top_scope(frames: &[CallFrame<'_>]) -> Addr
-    ensures { result ≡ conditions.top_scope (map frame_of frames.now) }
-{
-    match frames.first() {
-        Some(frame) => innermost(frame.scopes.as_slice()),
-        None => script_scope(),
-    }
-}
-
-/// The `this` of the top frame.
-fn top_this(frames: &[CallFrame<'_>]) -> Value
-    ensures { result ≡ conditions.top_this (map frame_of frames.now) }
-{
-    match frames.first() {
-        Some(frame) => frame.this,
-        None => Value::Undefined,
-    }
-}
-
 /// Whether an evaluation came to a value that counts as true.
 fn comes_true(opened: &OpenWorkspace<'_>, end: Evaluated) -> Result<bool, AllocError>
     ensures value { IfOk result (λ is. (base : World) (w : Kept) (a : Answer) (e : Source)
@@ -160,9 +137,7 @@ fn holds_at_top<P: Program>(
         (workspace_in workspace.old) expression.now) }
     ensures kept { OnOk result (workspace_in workspace.new ≡ workspace_in workspace.old) }
 {
-    let frames = situation.program.call_frames(alloc)?;
-    let scope = top_scope(frames.as_slice());
-    let this = top_this(frames.as_slice());
+    let Top { scope, this } = situation.program.top();
     let mut opened = open(workspace, situation)?;
     let at = opened.next_address();
     let prepared = situation.program.prepared(alloc, at, expression)?;

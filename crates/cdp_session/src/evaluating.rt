@@ -118,7 +118,7 @@ pub(crate) fn open<'p, P: Program>(
 // ---- frames
 
 /// The innermost of the scopes of a frame.
-pub(crate) fn innermost(scopes: &[Scope<'_>]) -> Addr
+fn innermost(scopes: &[Scope<'_>]) -> Addr
     ensures { result ≡ evaluations.innermost (map scope_of scopes.now) }
 {
     match scopes.first() {

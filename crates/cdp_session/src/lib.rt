@@ -37,6 +37,7 @@ mod session;
 mod showing;
 mod situation;
 mod sources;
+mod top;
 
 pub use asks::Asks;
 pub use ending::Ending;
@@ -44,3 +45,4 @@ pub use named::Named;
 pub use program::{Program, ProgramCells};
 pub use session::Session;
 pub use situation::{Pause, Situation};
+pub use top::Top;

@@ -2,6 +2,7 @@
 //!
 //! A session asks it through a trait: it stands beside the machine, not on it.
 
+use crate::top::Top;
 use frames_scopes_types::CallFrame;
 use js_heap::value::{Addr, Value};
 use js_heap_memory::heap::BaseHeap;
@@ -23,6 +24,7 @@ pub struct ProgramCells<'p> {
 pub trait Program {
     ghost use Rattle.std.specs.Prelude.{◌≡◌, map, IfOk};
     ghost use Rattle.frames_scopes_types.specs.Views.{frame_of};
+    ghost use Rattle.cdp_session.specs.Conditions.{top_of};
     ghost use Rattle.cdp_session.specs.Situations.{Standing};
     ghost use Rattle.js_heap_memory.specs.Heaps.{heap_world};
     ghost use Rattle.pure_eval.specs.Preparing.{IsPrepared, IsPreparedFunction};
@@ -40,6 +42,10 @@ pub trait Program {
     /// There is no memory for them.
     fn call_frames(&self, alloc: Global) -> Result<Vec<CallFrame<'_>>, AllocError>
         ensures { IfOk result (λ frames. map frame_of frames.items ≡ (standing self.now).frames) };
+
+    /// In what its top frame is evaluated. Takes no memory.
+    fn top(&self) -> Top
+        ensures { result ≡ top_of (standing self.now).frames };
 
     /// The value of a throw that stands, if one does. Takes no memory.
     fn thrown(&self) -> Option<Value>
