@@ -18,7 +18,7 @@ use Rattle.pure_eval.specs.Preparing.{IsPrepared}
 use Rattle.pure_eval.specs.Workspaces.{OpenWorkspace, Workspace, opened, EvaluatesTo}
 use Rattle.pure_eval.specs.declared.evaluated.Evaluated.{Evaluated}
 use Rattle.pure_eval.specs.declared.prepared.PreparedSource.{PreparedSource}
-use Rattle.cdp_session.specs.Conditions.{IsParsed, IsParsedTo, comes_true, expression_holds, holds, is_met, top_of, top_scope, top_this, tree_holds}
+use Rattle.cdp_session.specs.Conditions.{IsParsed, IsParsedTo, comes_true, expression_holds, holds, is_met, parsed_holds, top_of, top_scope, top_this, tree_holds}
 use Rattle.pure_eval.specs.Answering.{is_memory}
 use Rattle.cdp_session.specs.Situations.{Standing}
 use Rattle.cdp_session.specs.declared.top.Top.{Top}
@@ -27,11 +27,11 @@ use Rattle.cdp_session.proofs.EvaluationLemmas.{evaluated-from, stays}
 -- ---- texts
 
 -- a condition holds where the expression to which it was parsed does
-parsed_holds : (s : Standing) (w : Workspace) (text : List ℕ) (e : Expression)
+expression-as : (s : Standing) (w : Workspace) (text : List ℕ) (e : Expression)
     → IsParsedTo text e
     → expression_holds s w e ≡ holds s w text
 unfolding holds
-parsed_holds s w text e p =
+expression-as s w text e p =
     let f : List ℕ
     → Source
     → Bool = λ t m. comes_true s.world
@@ -42,24 +42,22 @@ parsed_holds s w text e p =
     ∙ ap (f text) (sym made)
     ∙ sym (ap (tree_holds s w text) p.tree)
 
-pub some-holds : (s : Standing) (w : Workspace) (text now : List ℕ) (o : Option Expression) (e : Expression)
-    → IsParsed text o
-    → o ≡ Some e
-    → text ≡ now
-    → expression_holds s w e ≡ holds s w now
-some-holds s w text now o e p is same = parsed_holds s w text e (subst (IsParsed text) is p) ∙ ap (holds s w) same
-
 none_holds : (s : Standing) (w : Workspace) (text : List ℕ) → expression_of text ≡ None → false ≡ holds s w text
 unfolding holds
 none_holds s w text none = sym (ap (tree_holds s w text) none)
 
--- where it is no expression it never holds
-pub none-holds : (s : Standing) (w : Workspace) (text now : List ℕ) (o : Option Expression)
+by_parsing : (s : Standing) (w : Workspace) (text : List ℕ) (o : Option Expression)
     → IsParsed text o
-    → o ≡ None
+    → parsed_holds s w o ≡ holds s w text
+by_parsing s w text None p = none_holds s w text p
+by_parsing s w text (Some e) p = expression-as s w text e p
+
+-- a condition holds where that to which it was parsed does
+pub parsed-as : (s : Standing) (w : Workspace) (text now : List ℕ) (o : Option Expression)
+    → IsParsed text o
     → text ≡ now
-    → false ≡ holds s w now
-none-holds s w text now o p is same = none_holds s w text (subst (IsParsed text) is p) ∙ ap (holds s w) same
+    → parsed_holds s w o ≡ holds s w now
+parsed-as s w text now o p same = by_parsing s w text o p ∙ ap (holds s w) same
 
 -- ---- evaluations
 

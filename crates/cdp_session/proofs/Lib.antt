@@ -4,6 +4,7 @@ pub mod OutboxLemmas
 pub mod PauseTextLemmas
 pub mod StopLemmas
 pub mod ConditionLemmas
+pub mod ReadyLemmas
 pub mod CallLemmas
 pub mod ReplyLemmas
 pub mod SendLemmas

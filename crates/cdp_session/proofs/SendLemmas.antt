@@ -17,6 +17,11 @@ use Rattle.js_tree.proofs.node.Spans.TheSendSync as spans
 use Rattle.js_tree.proofs.tree.ArrowParameters.TheSendSync as arrow
 use Rattle.js_tree.proofs.tree.Expr.TheLaws.TheKnot as tree
 use Rattle.js_tree.specs.contracts.script.Expression as expression
+use Rattle.js_heap.proofs.value.Addr.TheSendSync as address
+use Rattle.js_heap.proofs.value.Value.TheSendSync as value
+use Rattle.js_semantics.proofs.form.Form.TheSendSync as form
+use Rattle.js_semantics.proofs.form.SourceMark.TheSendSync as mark
+use Rattle.js_machine_terms.proofs.term.Term.TheLaws.TheKnot as term
 use Rattle.breakpoints.proofs.breakpoints.Breakpoints.TheSendSync as breakpoints
 use Rattle.object_groups.proofs.handles.Handles.TheSendSync as handles
 use Rattle.pure_eval.proofs.workspace.Workspace.TheSendSync as workspace
@@ -24,10 +29,13 @@ use Rattle.cdp_session_messages.proofs.outbox.Outbox.TheSendSync as outbox
 use Rattle.stepping.proofs.rules.Rules.TheSendSync as rules
 use Rattle.cdp_session.specs.contracts.conditions.Condition as condition
 use Rattle.cdp_session.specs.contracts.conditions.Condition.TheInside as condition_inside
+use Rattle.cdp_session.specs.contracts.ready.Ready as ready
+use Rattle.cdp_session.specs.contracts.ready.ReadyExpression as ready_expression
+use Rattle.cdp_session.specs.contracts.ready.ReadyExpression.TheInside as ready_inside
 use Rattle.cdp_session.specs.contracts.session.Session as session
 use Rattle.cdp_session.specs.contracts.session.Session.TheInside as session_inside
 
-expression-send : IsSend expression.the_row
+expression-send : IsSend (expression.the_field).row
 expression-send = search (
   units.the_send,
   options.the_field_send,
@@ -46,11 +54,33 @@ expression-send = search (
   sendable,
 ) depth 60 fits 20000
 
+ready-send : IsSend ready.the_row
+ready-send = search (
+  units.the_send,
+  vectors.the_send,
+  address.the_field_send,
+  value.the_field_send,
+  form.the_field_send,
+  mark.the_field_send,
+  crosses,
+  term.crosses,
+  sendable,
+) depth 60 fits 20000
+
+ready-parts : IsSend ready_inside.the_row
+ready-parts =
+    recorded_send ready_inside.the_field.row _ _ ready_inside.the_type.to_one
+    (struct_send (shape ready_inside.the_type)
+    (expression-send, (search (ready-send, options.the_field_send, crosses, sendable) depth 30, tt)))
+
+ready-expression-send : IsSend ready_expression.the_row
+ready-expression-send = view_send _ _ _ _ _ ready-parts
+
 condition-parts : IsSend condition_inside.the_row
 condition-parts =
     recorded_send condition_inside.the_field.row _ _ condition_inside.the_type.to_one
     (struct_send (shape condition_inside.the_type)
-    (units.the_send, (search (expression-send, options.the_field_send, crosses, sendable) depth 30, tt)))
+    (units.the_send, (search (ready-expression-send, crosses, sendable) depth 30, tt)))
 
 condition-send : IsSend condition.the_row
 condition-send = view_send _ _ _ _ _ condition-parts

@@ -22,9 +22,11 @@ use Rattle.breakpoints.specs.Breakpoints as breakpoints
 use Rattle.breakpoints.specs.Breakpoints.{hits_at}
 use Rattle.breakpoints.specs.declared.breakpoint.Breakpoint.{Breakpoint}
 use Rattle.frames_scopes_types.specs.Frames.{ShownFrame}
+use Rattle.pure_eval.specs.Preparing.{IsPrepared}
 use Rattle.pure_eval.specs.Workspaces.{Workspace}
 use Rattle.cdp_session.specs.Evaluations.{innermost}
 use Rattle.cdp_session.specs.Situations.{Standing}
+use Rattle.cdp_session.specs.declared.ready.Ready.{Ready}
 use Rattle.cdp_session.specs.declared.top.Top.{Top}
 
 -- ---- where a condition is evaluated
@@ -62,6 +64,11 @@ answer_at_top s w source e =
 abbrev pub expression_holds : Standing → Workspace → Expression → Bool
 expression_holds s w e =
     comes_true s.world (evaluate_expression w.program s.world w.scratch (top_scope s.frames) (top_this s.frames) e)
+
+-- a text that was parsed to this does; one that is no expression doesn't
+abbrev pub parsed_holds : Standing → Workspace → Option Expression → Bool
+parsed_holds s w None = false
+parsed_holds s w (Some e) = expression_holds s w e
 
 -- by the tree of its text: a text that is no expression never holds
 abbrev pub tree_holds : Standing → Workspace → List ℕ → Option trees.Expression → Bool
@@ -106,3 +113,10 @@ pub record IsParsedTo (source : List ℕ) (e : Expression) : Type 0 where
 abbrev pub IsParsed : List ℕ → Option Expression → Type 0
 IsParsed source None = expression_of source ≡ None
 IsParsed source (Some e) = IsParsedTo source e
+
+-- ---- expressions that were made ready
+
+-- what is kept of an expression, if anything is, is that expression, ready at the address for which it is kept
+abbrev pub IsKeptReady : Expression → Option Ready → Type 0
+IsKeptReady e None = Unit {0}
+IsKeptReady e (Some r) = IsPrepared r.at e r.source

@@ -8,13 +8,14 @@ ghost use Rattle.js_semantics.specs.Evaluation.{Answer};
 ghost use Rattle.js_semantics.specs.Makers.{MadeExpression as Source};
 ghost use Rattle.pure_eval.specs.Workspaces.{opened as just_opened, EvaluatesTo, Workspace as Kept};
 ghost use Rattle.cdp_session.specs.Conditions as conditions;
-ghost use Rattle.cdp_session.specs.Conditions.{IsParsed, expression_holds, hits};
+ghost use Rattle.cdp_session.specs.Conditions.{IsParsed, expression_holds, hits, parsed_holds};
 ghost use Rattle.pure_eval.specs.Answering.{is_memory};
 ghost use Rattle.cdp_session.specs.Sessions.{workspace_in};
 ghost use Rattle.cdp_session.specs.Situations.{seen};
 
 use crate::evaluating::open;
 use crate::program::Program;
+use crate::ready::ReadyExpression;
 use crate::situation::Situation;
 use crate::top::Top;
 use breakpoints::Breakpoints;
@@ -25,16 +26,15 @@ use js_machine_actions::seen::NamedWorld;
 use js_machine_rows::table::StepTable;
 use js_parser::node_text::lacks_memory;
 use js_parser::parse::parse_expression;
-use js_tree::script::Expression;
 use pure_eval::{Evaluated, OpenWorkspace, Workspace};
 use std::alloc::{AllocError, Global};
 use std::marker::Model;
 
-/// A condition that was parsed: its text, and the expression that it is, if it is one.
+/// A condition that was parsed: its text, and the expression that it is, if it is one. Contracts see the text.
 #[derive(Drop)]
 pub(crate) struct Condition {
     text: Units,
-    expression: Option<Expression>,
+    expression: Option<ReadyExpression>,
 }
 
 impl Model for Condition {
@@ -49,11 +49,11 @@ impl Model for Condition {
 }
 
 /// The expression that a text is; none where the parser refuses it.
-fn expression_of(alloc: Global, text: &Units) -> Result<Option<Expression>, AllocError>
+fn expression_of(alloc: Global, text: &Units) -> Result<Option<ReadyExpression>, AllocError>
     ensures { IfOk result (λ expression. IsParsed text.now expression) }
 {
     match parse_expression(alloc, text.as_slice()) {
-        Ok(expression) => Ok(Some(expression)),
+        Ok(expression) => Ok(Some(ReadyExpression::new(expression))),
         Err(fault) => {
             if lacks_memory(fault) {
                 Err(AllocError)
@@ -126,43 +126,62 @@ fn comes_true(opened: &OpenWorkspace<'_>, end: Evaluated) -> Result<bool, AllocE
     }
 }
 
-/// Whether an expression comes to a value that counts as true in the top frame of the program. Nothing of its evaluation is kept.
+/// Whether an expression comes to a value that counts as true in the top frame of the program. Nothing of its evaluation is kept
+/// but what it was made ready as.
 fn holds_at_top<P: Program>(
     alloc: Global,
     workspace: &mut Option<Workspace>,
     situation: &Situation<'_, P>,
-    expression: &Expression,
+    expression: &mut ReadyExpression,
 ) -> Result<bool, AllocError>
     ensures holds { IfOk result (λ is. is ≡ expression_holds (seen P.standing situation.now).standing
-        (workspace_in workspace.old) expression.now) }
+        (workspace_in workspace.old) expression.old) }
     ensures kept { OnOk result (workspace_in workspace.new ≡ workspace_in workspace.old) }
+    ensures same { expression.new ≡ expression.old }
 {
     let Top { scope, this } = situation.program.top();
     let mut opened = open(workspace, situation)?;
     let at = opened.next_address();
-    let prepared = situation.program.prepared(alloc, at, expression)?;
+    let prepared = expression.prepared(alloc, situation.program, at)?;
     let end = opened.evaluate::<StepTable>(alloc, scope, this, &prepared);
+    expression.keep(at, prepared);
     let holds = comes_true(&opened, end)?;
     *workspace = Some(opened.forget());
     Ok(holds)
 }
 
+/// Whether the expression to which a condition was parsed, if it is one, comes to such a value.
+fn parsed_holds<P: Program>(
+    alloc: Global,
+    workspace: &mut Option<Workspace>,
+    situation: &Situation<'_, P>,
+    expression: &mut Option<ReadyExpression>,
+) -> Result<bool, AllocError>
+    ensures holds { IfOk result (λ is. is ≡ parsed_holds (seen P.standing situation.now).standing
+        (workspace_in workspace.old) expression.old) }
+    ensures kept { OnOk result (workspace_in workspace.new ≡ workspace_in workspace.old) }
+    ensures same { expression.new ≡ expression.old }
+{
+    match expression {
+        Some(expression) => holds_at_top(alloc, workspace, situation, expression),
+        None => Ok(false),
+    }
+}
+
 impl Condition {
-    /// Whether the condition holds where the program stands. Nothing of its evaluation is kept.
+    /// Whether the condition holds where the program stands.
     fn holds<P: Program>(
-        &self,
+        &mut self,
         alloc: Global,
         workspace: &mut Option<Workspace>,
         situation: &Situation<'_, P>,
     ) -> Result<bool, AllocError>
         ensures holds { IfOk result (λ is. is ≡ conditions.holds (seen P.standing situation.now).standing
-            (workspace_in workspace.old) self.now) }
+            (workspace_in workspace.old) self.old) }
         ensures kept { OnOk result (workspace_in workspace.new ≡ workspace_in workspace.old) }
+        ensures same { self.new ≡ self.old }
     {
-        match &self.expression {
-            Some(expression) => holds_at_top(alloc, workspace, situation, expression),
-            None => Ok(false),
-        }
+        parsed_holds(alloc, workspace, situation, &mut self.expression)
     }
 }
 
@@ -182,7 +201,7 @@ fn is_met<P: Program>(
         return Ok(true);
     };
     let at = find_or_parse(alloc, parsed, text)?;
-    match parsed.as_slice().get(at) {
+    match parsed.as_mut_slice().get_mut(at) {
         Some(condition) => condition.holds(alloc, workspace, situation),
         None => Err(AllocError),
     }

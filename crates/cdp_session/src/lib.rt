@@ -30,6 +30,7 @@ mod named;
 mod objects;
 mod pausing;
 mod program;
+mod ready;
 mod refusing;
 mod replies;
 mod rows;

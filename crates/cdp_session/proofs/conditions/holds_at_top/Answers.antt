@@ -10,7 +10,7 @@ returns-clause-holds g c =
     let w = workspace_in c.args.workspace.now in
     holds-at s w c.top-scope.result c.args.expression.now c.next_address-at.result c.in_ok-prepared.prepared
     c.evaluate-end.result c.in_ok-opened.opened.workspace c.evaluate-end.new.self.workspace c.in_ok-holds.holds
-    c.in_ok-opened.ensures.opened c.next_address-at.ensures c.in_ok-prepared.ensures c.evaluate-end.ensures.answer
+    c.in_ok-opened.ensures.opened c.next_address-at.ensures c.in_ok-prepared.ensures.ready c.evaluate-end.ensures.answer
     c.in_ok-holds.ensures.value c.top-scope.ensures
 
 pub returns-clause-kept : goal.returns-clause-kept
@@ -21,5 +21,5 @@ returns-clause-kept g c =
     c.forget.ensures.workspace
     ∙ forgets s w t.scope t.this c.args.expression.now c.next_address-at.result c.in_ok-prepared.prepared
     c.evaluate-end.result c.in_ok-opened.opened.workspace c.evaluate-end.new.self.workspace
-    c.in_ok-opened.ensures.opened c.next_address-at.ensures c.in_ok-prepared.ensures c.evaluate-end.ensures.answer
+    c.in_ok-opened.ensures.opened c.next_address-at.ensures c.in_ok-prepared.ensures.ready c.evaluate-end.ensures.answer
     c.in_ok-holds.ensures.memory
