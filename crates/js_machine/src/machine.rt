@@ -28,6 +28,7 @@ use js_heap_memory::names::NameTable;
 use js_heap_memory::world::World;
 use js_machine_actions::context::Context;
 use js_machine_compiler::scripts::ScriptCode;
+use js_machine_engine::code::RunningCode;
 use js_machine_engine::run::{StopTest, StoppedRun, Why, step_until};
 use js_machine_engine::settling::uncover;
 use js_machine_engine::stack::Stack;
@@ -158,10 +159,12 @@ impl Machine {
         ensures run { IsKept self.new.ended → (taken : List (List ℕ)) → run_at self.new (W.world self.new.names world.new) taken ≡ step_in (program_of self.old) script_scope (run_at self.old (W.world self.old.names world.old) taken) }
     {
         let stepped = step::<StepTable, W>(
-            self.alloc,
-            &self.table,
-            &self.names,
-            script_scope(),
+            &RunningCode {
+                alloc: self.alloc,
+                table: &self.table,
+                names: &self.names,
+                root: script_scope(),
+            },
             &mut self.context,
             world,
             &mut self.stack,
@@ -194,10 +197,12 @@ impl Machine {
         ensures code { HasSameCode self.old self.new }
     {
         let ran = step_until::<StepTable, W, H>(
-            self.alloc,
-            &self.table,
-            &self.names,
-            script_scope(),
+            &RunningCode {
+                alloc: self.alloc,
+                table: &self.table,
+                names: &self.names,
+                root: script_scope(),
+            },
             &mut self.context,
             world,
             &mut self.stack,

@@ -14,13 +14,14 @@ ghost use Rattle.js_machine_engine.specs.Following.{innermost};
 ghost use Rattle.js_machine_engine.specs.Stepping.{Says, Raises, TellsWithin, IfGoesOn, StandsIn};
 
 use crate::answer::{Demand, went_of};
+use crate::code::RunningCode;
 use crate::following::follow;
 use crate::reduced::Reduced;
 use crate::settling::give;
 use crate::stack::Stack;
 use crate::stepped::Stepped;
 use crate::task::Point;
-use js_heap::value::{Addr, Value};
+use js_heap::value::Value;
 use js_machine_actions::context::Context;
 use js_machine_nodes::table::NodeTable;
 use std::alloc::{AllocError, Global};
@@ -77,30 +78,27 @@ fn print_row(alloc: Global, table: &NodeTable, stack: &mut Stack, point: &mut Po
     print(table, stack, point, printed)
 }
 
-/// What a step comes to whose row gave this answer for the innermost task; around all tasks is the scope `root`. Of an answer
-/// that travels it is no call.
+/// What a step comes to whose row gave this answer for the innermost task. Of an answer that travels it is no call.
 #[inline(always)]
 pub fn conclude(
-    alloc: Global,
-    table: &NodeTable,
-    root: Addr,
+    code: &RunningCode<'_, '_>,
     context: &Context,
     stack: &mut Stack,
     point: &mut Point,
     reduced: Reduced,
     answer: Demand,
 ) -> Stepped
-    requires { IsTable table.now }
-    ensures told { (ts : List (List ℕ)) (m : Move Term) (w : AnyWorld) (taken : List (List ℕ)) → Says ts table.now (innermost stack.old) m reduced answer (state_of w context.now taken) → TellsWithin ts table.now root (outer_of stack.old) m result stack.new point.new (state_of w context.now taken) }
-    ensures stands { IfGoesOn result (InScopes table.now root stack.old → StandsIn table.now root stack.new point.new) }
+    requires { IsTable code.now.table.now }
+    ensures told { (ts : List (List ℕ)) (m : Move Term) (w : AnyWorld) (taken : List (List ℕ)) → Says ts code.now.table.now (innermost stack.old) m reduced answer (state_of w context.now taken) → TellsWithin ts code.now.table.now code.now.root (outer_of stack.old) m result stack.new point.new (state_of w context.now taken) }
+    ensures stands { IfGoesOn result (InScopes code.now.table.now code.now.root stack.old → StandsIn code.now.table.now code.now.root stack.new point.new) }
 {
     match answer {
-        Demand::Follows => went_of(follow(table, root, stack, point, reduced)),
+        Demand::Follows => went_of(follow(code.table, code.root, stack, point, reduced)),
         Demand::Raises(value) => {
             stack.pop();
             raise(context, point, value)
         }
-        Demand::Prints => print_row(alloc, table, stack, point),
+        Demand::Prints => print_row(code.alloc, code.table, stack, point),
         Demand::Effect => Stepped::Effect,
         Demand::Full(what) => Stepped::Full(what),
         Demand::Travels(_) => Stepped::Memory,

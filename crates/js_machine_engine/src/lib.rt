@@ -2,6 +2,7 @@
 //!
 //! Words of its own, which stand in `specs/`:
 //!
+//! - `RunningCode` is what all steps of a run read: the nodes and the names, and the scope around all tasks.
 //! - A task is a form of which a part is being reduced; a gap is the place of that part. `gaps_of` are the forms around what is about to be
 //!   reduced, from the innermost one, and `plugged` and `resettled` put a term into them.
 //! - A point is where a machine stands: at a row (all parts of the innermost task have their values), at a leaf (a node without parts), at
@@ -16,6 +17,7 @@
 
 mod answer;
 mod closing;
+pub mod code;
 mod concluding;
 mod finish;
 mod following;

@@ -1,13 +1,11 @@
 //! What a machine asks of a table of steps.
 
+use crate::code::RunningCode;
 use crate::reduced::Reduced;
 use crate::task::{Extra, Redex};
 use js_heap::value::Value;
-use js_heap_memory::names::NameTable;
 use js_heap_memory::world::World;
 use js_machine_actions::context::Context;
-use js_machine_nodes::table::NodeTable;
-use std::alloc::Global;
 
 /// A table of steps: one row for each form, over any world.
 pub trait Rows {
@@ -21,28 +19,24 @@ pub trait Rows {
 
     /// The row of what is about to be reduced, with the values of its parts.
     fn reduce<W: World>(
-        alloc: Global,
-        table: &NodeTable,
-        names: &NameTable,
+        code: &RunningCode<'_, '_>,
         context: &mut Context,
         world: &mut W,
         form: Redex,
         values: &[Value],
         extra: Option<Extra>,
     ) -> Reduced
-        requires { HasFunctions table.now }
-        ensures { (outer : AnyAddr) (taken : List (List ℕ)) → RowOf names.now table.now (redex form values.now extra) outer (state_of (W.world names.now world.old) context.old taken) result (state_of (W.world names.now world.new) context.new taken) };
+        requires { HasFunctions code.now.table.now }
+        ensures { (outer : AnyAddr) (taken : List (List ℕ)) → RowOf code.now.names.now code.now.table.now (redex form values.now extra) outer (state_of (W.world code.now.names.now world.old) context.old taken) result (state_of (W.world code.now.names.now world.new) context.new taken) };
 
     /// What a `try` with a `catch` makes of a throw that reaches it.
     fn catch<W: World>(
-        alloc: Global,
-        table: &NodeTable,
-        names: &NameTable,
+        code: &RunningCode<'_, '_>,
         context: &Context,
         world: &mut W,
         form: Redex,
         thrown: Value,
     ) -> Reduced
         requires { IsCatching form.op }
-        ensures { (outer : AnyAddr) (place : AnySpot) (values : List AnyValue) (taken : List (List ℕ)) → CatchOf names.now table.now (redex form values None) outer thrown place (state_of (W.world names.now world.old) context.now taken) result (state_of (W.world names.now world.new) context.now taken) };
+        ensures { (outer : AnyAddr) (place : AnySpot) (values : List AnyValue) (taken : List (List ℕ)) → CatchOf code.now.names.now code.now.table.now (redex form values None) outer thrown place (state_of (W.world code.now.names.now world.old) context.now taken) result (state_of (W.world code.now.names.now world.new) context.now taken) };
 }

@@ -11,18 +11,17 @@ ghost use Rattle.js_machine_engine.specs.Running.{why_of, RunsTo, RunsFor, Count
 ghost use Rattle.js_machine_engine.specs.Stepping.{StandsIn};
 ghost use Rattle.js_machine_engine.specs.Prints.{PrintsAs, IsSilent, last_printed};
 
+use crate::code::RunningCode;
 use crate::rows::Rows;
 use crate::stack::Stack;
 use crate::step::step;
 use crate::stepped::{Finish, Stepped};
 use crate::task::Point;
 use js_heap::change::Counted;
-use js_heap::value::{Addr, Value};
-use js_heap_memory::names::NameTable;
+use js_heap::value::Value;
 use js_heap_memory::world::World;
 use js_machine_actions::context::Context;
 use js_machine_nodes::table::NodeTable;
-use std::alloc::Global;
 
 /// Who is asked after each step that goes on whether the run stops there.
 ///
@@ -119,10 +118,7 @@ fn stops_at<H: StopTest>(
 
 /// Steps until the host asks for a stop, until a raise, a print or the end, or until so many.
 pub fn step_until<T: Rows, W: World, H: StopTest>(
-    alloc: Global,
-    table: &NodeTable,
-    names: &NameTable,
-    root: Addr,
+    code: &RunningCode<'_, '_>,
     context: &mut Context,
     world: &mut W,
     stack: &mut Stack,
@@ -130,21 +126,21 @@ pub fn step_until<T: Rows, W: World, H: StopTest>(
     most: u64,
     host: &H,
 ) -> StoppedRun
-    requires table { IsTable table.now }
-    requires functions { HasFunctions table.now }
-    requires stands { StandsIn table.now root stack.old point.old }
-    ensures told { (taken : List (List ℕ)) → RunsTo (steps_in result.steps (program_of names.now table.now) root (run_of (term_at names.now table.now stack.old point.old) (state_of (W.world names.now world.old) context.old taken))) result.why (term_at names.now table.now stack.new point.new) (state_of (W.world names.now world.new) context.new taken) }
+    requires table { IsTable code.now.table.now }
+    requires functions { HasFunctions code.now.table.now }
+    requires stands { StandsIn code.now.table.now code.now.root stack.old point.old }
+    ensures told { (taken : List (List ℕ)) → RunsTo (steps_in result.steps (program_of code.now.names.now code.now.table.now) code.now.root (run_of (term_at code.now.names.now code.now.table.now stack.old point.old) (state_of (W.world code.now.names.now world.old) context.old taken))) result.why (term_at code.now.names.now code.now.table.now stack.new point.new) (state_of (W.world code.now.names.now world.new) context.new taken) }
     // Each of the steps is one of a run that isn't over.
-    ensures left { (taken : List (List ℕ)) → RunsFor result.steps (program_of names.now table.now) root (run_of (term_at names.now table.now stack.old point.old) (state_of (W.world names.now world.old) context.old taken)) }
-    ensures stands { IfGoes result.why (StandsIn table.now root stack.new point.new) }
+    ensures left { (taken : List (List ℕ)) → RunsFor result.steps (program_of code.now.names.now code.now.table.now) code.now.root (run_of (term_at code.now.names.now code.now.table.now stack.old point.old) (state_of (W.world code.now.names.now world.old) context.old taken)) }
+    ensures stands { IfGoes result.why (StandsIn code.now.table.now code.now.root stack.new point.new) }
     ensures within { result.steps ≤ most }
     ensures counted { CountsAs result.why result.steps most }
     // The host asked for a stop behind the last step, if that is the reason, and behind none before.
-    ensures asked { (taken : List (List ℕ)) → IsAsked (H.stops host.now) result.why (steps_in result.steps (program_of names.now table.now) root (run_of (term_at names.now table.now stack.old point.old) (state_of (W.world names.now world.old) context.old taken))) }
-    ensures passed { (taken : List (List ℕ)) → HasPassed (H.stops host.now) (passed_steps result.why result.steps) (program_of names.now table.now) root (run_of (term_at names.now table.now stack.old point.old) (state_of (W.world names.now world.old) context.old taken)) }
+    ensures asked { (taken : List (List ℕ)) → IsAsked (H.stops host.now) result.why (steps_in result.steps (program_of code.now.names.now code.now.table.now) code.now.root (run_of (term_at code.now.names.now code.now.table.now stack.old point.old) (state_of (W.world code.now.names.now world.old) context.old taken))) }
+    ensures passed { (taken : List (List ℕ)) → HasPassed (H.stops host.now) (passed_steps result.why result.steps) (program_of code.now.names.now code.now.table.now) code.now.root (run_of (term_at code.now.names.now code.now.table.now stack.old point.old) (state_of (W.world code.now.names.now world.old) context.old taken)) }
     // The last step printed these values, if they are the reason, and nothing otherwise; no step before it printed.
-    ensures values { (taken : List (List ℕ)) → PrintsAs result.why (last_printed result.steps (program_of names.now table.now) root (run_of (term_at names.now table.now stack.old point.old) (state_of (W.world names.now world.old) context.old taken))) }
-    ensures silent { (taken : List (List ℕ)) → IsSilent (result.steps - 1) (program_of names.now table.now) root (run_of (term_at names.now table.now stack.old point.old) (state_of (W.world names.now world.old) context.old taken)) }
+    ensures values { (taken : List (List ℕ)) → PrintsAs result.why (last_printed result.steps (program_of code.now.names.now code.now.table.now) code.now.root (run_of (term_at code.now.names.now code.now.table.now stack.old point.old) (state_of (W.world code.now.names.now world.old) context.old taken))) }
+    ensures silent { (taken : List (List ℕ)) → IsSilent (result.steps - 1) (program_of code.now.names.now code.now.table.now) code.now.root (run_of (term_at code.now.names.now code.now.table.now stack.old point.old) (state_of (W.world code.now.names.now world.old) context.old taken)) }
 {
     for steps in 0..most {
         if let Point::Done(value) = *point {
@@ -153,14 +149,14 @@ pub fn step_until<T: Rows, W: World, H: StopTest>(
                 why: Why::Over(Finish::Ended(value)),
             };
         }
-        let stepped = step::<T, W>(alloc, table, names, root, context, world, stack, point);
+        let stepped = step::<T, W>(code, context, world, stack, point);
         if is_stop(&stepped) {
             return StoppedRun {
                 steps: steps + 1,
                 why: why_of(stepped),
             };
         }
-        if stops_at(host, table, context, stack, *point) {
+        if stops_at(host, code.table, context, stack, *point) {
             return StoppedRun {
                 steps: steps + 1,
                 why: Why::Asked,

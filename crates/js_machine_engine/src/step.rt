@@ -17,6 +17,7 @@ ghost use Rattle.js_machine_engine.specs.Stepping.{demand_of, Says, Tells, Tells
 ghost use Rattle.js_machine_engine.specs.declared.task.Point.TheVariants as points;
 
 use crate::answer::{Demand, demand_of, went_of};
+use crate::code::RunningCode;
 use crate::concluding::{conclude, print, raise};
 use crate::following::parts::follow_value;
 use crate::leaf::follow_leaf;
@@ -27,13 +28,10 @@ use crate::stack::Stack;
 use crate::stepped::Stepped;
 use crate::task::{Extra, Point, Redex};
 use crate::travelling::travel;
-use js_heap::value::{Addr, Value};
-use js_heap_memory::names::NameTable;
+use js_heap::value::Value;
 use js_heap_memory::world::World;
 use js_machine_actions::context::Context;
-use js_machine_nodes::table::NodeTable;
 use js_semantics::form::Completion;
-use std::alloc::Global;
 
 /// The completion that a `finally` kept, if there is one.
 fn kept_of(extra: Option<Extra>) -> Option<Completion>
@@ -47,81 +45,64 @@ fn kept_of(extra: Option<Extra>) -> Option<Completion>
 
 /// The completion travels on that the innermost task kept, which is left.
 fn resume<T: Rows, W: World>(
-    alloc: Global,
-    table: &NodeTable,
-    names: &NameTable,
-    root: Addr,
+    code: &RunningCode<'_, '_>,
     context: &mut Context,
     world: &mut W,
     stack: &mut Stack,
     point: &mut Point,
 ) -> Stepped
-    requires table { IsTable table.now }
-    requires scoped { InScopes table.now root stack.old }
-    ensures told { (taken : List (List ℕ)) → TellsWithin names.now table.now root (outer_of stack.old) (resumed (kept_of (innermost stack.old).extra) (state_of (W.world names.now world.old) context.old taken)) result stack.new point.new (state_of (W.world names.now world.new) context.new taken) }
-    ensures stands { IfGoesOn result (StandsIn table.now root stack.new point.new) }
+    requires table { IsTable code.now.table.now }
+    requires scoped { InScopes code.now.table.now code.now.root stack.old }
+    ensures told { (taken : List (List ℕ)) → TellsWithin code.now.names.now code.now.table.now code.now.root (outer_of stack.old) (resumed (kept_of (innermost stack.old).extra) (state_of (W.world code.now.names.now world.old) context.old taken)) result stack.new point.new (state_of (W.world code.now.names.now world.new) context.new taken) }
+    ensures stands { IfGoesOn result (StandsIn code.now.table.now code.now.root stack.new point.new) }
 {
     let kept = kept_of(stack.extra());
     stack.pop();
     match kept {
-        Some(completion) => {
-            travel::<T, W>(
-                alloc, table, names, root, context, world, stack, point, completion,
-            )
-        }
-        None => went_of(give(table, stack, point, Value::Undefined)),
+        Some(completion) => { travel::<T, W>(code, context, world, stack, point, completion) }
+        None => went_of(give(code.table, stack, point, Value::Undefined)),
     }
 }
 
 /// What a step comes to whose row gave this answer for the innermost task.
 fn leave_row<T: Rows, W: World>(
-    alloc: Global,
-    table: &NodeTable,
-    names: &NameTable,
-    root: Addr,
+    code: &RunningCode<'_, '_>,
     context: &mut Context,
     world: &mut W,
     stack: &mut Stack,
     point: &mut Point,
     reduced: Reduced,
 ) -> Stepped
-    requires table { IsTable table.now }
-    requires scoped { InScopes table.now root stack.old }
-    ensures told { (taken : List (List ℕ)) (m : Move Term) → Says names.now table.now (innermost stack.old) m reduced (demand_of reduced) (state_of (W.world names.now world.old) context.old taken) → TellsWithin names.now table.now root (outer_of stack.old) m result stack.new point.new (state_of (W.world names.now world.new) context.new taken) }
-    ensures stands { IfGoesOn result (StandsIn table.now root stack.new point.new) }
+    requires table { IsTable code.now.table.now }
+    requires scoped { InScopes code.now.table.now code.now.root stack.old }
+    ensures told { (taken : List (List ℕ)) (m : Move Term) → Says code.now.names.now code.now.table.now (innermost stack.old) m reduced (demand_of reduced) (state_of (W.world code.now.names.now world.old) context.old taken) → TellsWithin code.now.names.now code.now.table.now code.now.root (outer_of stack.old) m result stack.new point.new (state_of (W.world code.now.names.now world.new) context.new taken) }
+    ensures stands { IfGoesOn result (StandsIn code.now.table.now code.now.root stack.new point.new) }
 {
     match demand_of(reduced) {
         Demand::Travels(completion) => {
             stack.pop();
-            travel::<T, W>(
-                alloc, table, names, root, context, world, stack, point, completion,
-            )
+            travel::<T, W>(code, context, world, stack, point, completion)
         }
-        Demand::Resumes => {
-            resume::<T, W>(alloc, table, names, root, context, world, stack, point)
-        }
-        answer => conclude(alloc, table, root, context, stack, point, reduced, answer),
+        Demand::Resumes => { resume::<T, W>(code, context, world, stack, point) }
+        answer => conclude(code, context, stack, point, reduced, answer),
     }
 }
 
 /// The step of the innermost task, whose parts have their values.
 #[inline(always)]
 fn step_row<T: Rows, W: World>(
-    alloc: Global,
-    table: &NodeTable,
-    names: &NameTable,
-    root: Addr,
+    code: &RunningCode<'_, '_>,
     context: &mut Context,
     world: &mut W,
     stack: &mut Stack,
     point: &mut Point,
 ) -> Stepped
-    requires table { IsTable table.now }
-    requires functions { HasFunctions table.now }
-    requires scoped { InScopes table.now root stack.old }
+    requires table { IsTable code.now.table.now }
+    requires functions { HasFunctions code.now.table.now }
+    requires scoped { InScopes code.now.table.now code.now.root stack.old }
     requires row { IsAtRow stack.old }
-    ensures told { (taken : List (List ℕ)) → Steps names.now table.now root stack.old points.Row (state_of (W.world names.now world.old) context.old taken) result stack.new point.new (state_of (W.world names.now world.new) context.new taken) }
-    ensures stands { IfGoesOn result (StandsIn table.now root stack.new point.new) }
+    ensures told { (taken : List (List ℕ)) → Steps code.now.names.now code.now.table.now code.now.root stack.old points.Row (state_of (W.world code.now.names.now world.old) context.old taken) result stack.new point.new (state_of (W.world code.now.names.now world.new) context.new taken) }
+    ensures stands { IfGoesOn result (StandsIn code.now.table.now code.now.root stack.new point.new) }
 {
     let Some(task) = stack.last() else {
         return Stepped::Memory;
@@ -134,30 +115,16 @@ fn step_row<T: Rows, W: World>(
         inner: task.inner,
     };
     let extra = stack.extra();
-    let reduced = T::reduce(
-        alloc,
-        table,
-        names,
-        context,
-        world,
-        form,
-        stack.values(),
-        extra,
-    );
+    let reduced = T::reduce(code, context, world, form, stack.values(), extra);
     match reduced {
-        Reduced::Gives(value) => went_of(follow_value(table, root, stack, point, value)),
-        _ => leave_row::<T, W>(
-            alloc, table, names, root, context, world, stack, point, reduced,
-        ),
+        Reduced::Gives(value) => went_of(follow_value(code.table, code.root, stack, point, value)),
+        _ => leave_row::<T, W>(code, context, world, stack, point, reduced),
     }
 }
 
 /// What a step comes to whose row gave this answer for a node without parts.
 fn leave_leaf<T: Rows, W: World>(
-    alloc: Global,
-    table: &NodeTable,
-    names: &NameTable,
-    root: Addr,
+    code: &RunningCode<'_, '_>,
     context: &mut Context,
     world: &mut W,
     stack: &mut Stack,
@@ -165,23 +132,21 @@ fn leave_leaf<T: Rows, W: World>(
     form: Redex,
     reduced: Reduced,
 ) -> Stepped
-    requires table { IsTable table.now }
-    requires scoped { InScopes table.now root stack.old }
+    requires table { IsTable code.now.table.now }
+    requires scoped { InScopes code.now.table.now code.now.root stack.old }
     requires owns { has_extra form.op form.info ≡ false }
-    requires inner { (ts : List (List ℕ)) → scope_in (task_form ts table.now (redex form [] None)) (scope_of root stack.old) ≡ form.inner }
-    ensures told { (taken : List (List ℕ)) (m : Move Term) → Says names.now table.now (redex form [] None) m reduced (demand_of reduced) (state_of (W.world names.now world.old) context.old taken) → TellsWithin names.now table.now root stack.old m result stack.new point.new (state_of (W.world names.now world.new) context.new taken) }
-    ensures stands { IfGoesOn result (StandsIn table.now root stack.new point.new) }
+    requires inner { (ts : List (List ℕ)) → scope_in (task_form ts code.now.table.now (redex form [] None)) (scope_of code.now.root stack.old) ≡ form.inner }
+    ensures told { (taken : List (List ℕ)) (m : Move Term) → Says code.now.names.now code.now.table.now (redex form [] None) m reduced (demand_of reduced) (state_of (W.world code.now.names.now world.old) context.old taken) → TellsWithin code.now.names.now code.now.table.now code.now.root stack.old m result stack.new point.new (state_of (W.world code.now.names.now world.new) context.new taken) }
+    ensures stands { IfGoesOn result (StandsIn code.now.table.now code.now.root stack.new point.new) }
 {
     match demand_of(reduced) {
-        Demand::Follows => went_of(follow_leaf(table, root, stack, point, form, reduced)),
+        Demand::Follows => went_of(follow_leaf(code.table, code.root, stack, point, form, reduced)),
         Demand::Raises(value) => raise(context, point, value),
         Demand::Travels(completion) => {
-            travel::<T, W>(
-                alloc, table, names, root, context, world, stack, point, completion,
-            )
+            travel::<T, W>(code, context, world, stack, point, completion)
         }
-        Demand::Resumes => went_of(give(table, stack, point, Value::Undefined)),
-        Demand::Prints => print(table, stack, point, Vec::new(alloc)),
+        Demand::Resumes => went_of(give(code.table, stack, point, Value::Undefined)),
+        Demand::Prints => print(code.table, stack, point, Vec::new(code.alloc)),
         Demand::Effect => Stepped::Effect,
         Demand::Full(what) => Stepped::Full(what),
         Demand::Memory => Stepped::Memory,
@@ -191,24 +156,21 @@ fn leave_leaf<T: Rows, W: World>(
 /// The step of a node without parts.
 #[inline(always)]
 fn step_leaf<T: Rows, W: World>(
-    alloc: Global,
-    table: &NodeTable,
-    names: &NameTable,
-    root: Addr,
+    code: &RunningCode<'_, '_>,
     context: &mut Context,
     world: &mut W,
     stack: &mut Stack,
     point: &mut Point,
     n: u32,
 ) -> Stepped
-    requires table { IsTable table.now }
-    requires functions { HasFunctions table.now }
-    requires scoped { InScopes table.now root stack.old }
-    requires leaf { IsLeafAt (slice_get table.now.nodes.items n) }
-    ensures told { (taken : List (List ℕ)) → Steps names.now table.now root stack.old (points.Leaf n) (state_of (W.world names.now world.old) context.old taken) result stack.new point.new (state_of (W.world names.now world.new) context.new taken) }
-    ensures stands { IfGoesOn result (StandsIn table.now root stack.new point.new) }
+    requires table { IsTable code.now.table.now }
+    requires functions { HasFunctions code.now.table.now }
+    requires scoped { InScopes code.now.table.now code.now.root stack.old }
+    requires leaf { IsLeafAt (slice_get code.now.table.now.nodes.items n) }
+    ensures told { (taken : List (List ℕ)) → Steps code.now.names.now code.now.table.now code.now.root stack.old (points.Leaf n) (state_of (W.world code.now.names.now world.old) context.old taken) result stack.new point.new (state_of (W.world code.now.names.now world.new) context.new taken) }
+    ensures stands { IfGoesOn result (StandsIn code.now.table.now code.now.root stack.new point.new) }
 {
-    let Some(node) = table.node(n) else {
+    let Some(node) = code.table.node(n) else {
         return Stepped::Memory;
     };
     let form = Redex {
@@ -216,48 +178,39 @@ fn step_leaf<T: Rows, W: World>(
         info: node.info,
         mid: node.mid,
         end: node.end,
-        inner: stack.scope(root),
+        inner: stack.scope(code.root),
     };
-    let reduced = T::reduce(alloc, table, names, context, world, form, &[], None);
+    let reduced = T::reduce(code, context, world, form, &[], None);
     match reduced {
-        Reduced::Gives(value) => went_of(give(table, stack, point, value)),
-        Reduced::Uncovers(node) => went_of(uncover(table, root, stack, point, node)),
-        _ => leave_leaf::<T, W>(
-            alloc, table, names, root, context, world, stack, point, form, reduced,
-        ),
+        Reduced::Gives(value) => went_of(give(code.table, stack, point, value)),
+        Reduced::Uncovers(node) => went_of(uncover(code.table, code.root, stack, point, node)),
+        _ => leave_leaf::<T, W>(code, context, world, stack, point, form, reduced),
     }
 }
 
-/// One step of the residual term that the tasks and the point are, in a world and a context; around all tasks is the scope
-/// `root`. The table has the term's nodes, and `T` the rows of its forms.
+/// One step of the residual term that the tasks and the point are, in a world and a context. The code's table has the term's
+/// nodes, and `T` the rows of its forms.
 #[inline(always)]
 pub fn step<T: Rows, W: World>(
-    alloc: Global,
-    table: &NodeTable,
-    names: &NameTable,
-    root: Addr,
+    code: &RunningCode<'_, '_>,
     context: &mut Context,
     world: &mut W,
     stack: &mut Stack,
     point: &mut Point,
 ) -> Stepped
-    requires table { IsTable table.now }
-    requires functions { HasFunctions table.now }
-    requires stands { StandsIn table.now root stack.old point.old }
+    requires table { IsTable code.now.table.now }
+    requires functions { HasFunctions code.now.table.now }
+    requires stands { StandsIn code.now.table.now code.now.root stack.old point.old }
     requires going { IsGoing point.old }
-    ensures told { (taken : List (List ℕ)) → Tells (next (program_of names.now table.now) root (term_at names.now table.now stack.old point.old) (state_of (W.world names.now world.old) context.old taken)) result (term_at names.now table.now stack.new point.new) (state_of (W.world names.now world.new) context.new taken) }
-    ensures stands { IfGoesOn result (StandsIn table.now root stack.new point.new) }
+    ensures told { (taken : List (List ℕ)) → Tells (next (program_of code.now.names.now code.now.table.now) code.now.root (term_at code.now.names.now code.now.table.now stack.old point.old) (state_of (W.world code.now.names.now world.old) context.old taken)) result (term_at code.now.names.now code.now.table.now stack.new point.new) (state_of (W.world code.now.names.now world.new) context.new taken) }
+    ensures stands { IfGoesOn result (StandsIn code.now.table.now code.now.root stack.new point.new) }
 {
     match *point {
-        Point::Row => step_row::<T, W>(alloc, table, names, root, context, world, stack, point),
-        Point::Leaf(n) => {
-            step_leaf::<T, W>(alloc, table, names, root, context, world, stack, point, n)
-        }
+        Point::Row => step_row::<T, W>(code, context, world, stack, point),
+        Point::Leaf(n) => { step_leaf::<T, W>(code, context, world, stack, point, n) }
         Point::Stands(value, place) => {
             let thrown = Completion::Throws(value, place);
-            travel::<T, W>(
-                alloc, table, names, root, context, world, stack, point, thrown,
-            )
+            travel::<T, W>(code, context, world, stack, point, thrown)
         }
         Point::Done(_) => Stepped::Memory,
     }

@@ -17,6 +17,7 @@ ghost use Rattle.js_machine_engine.specs.Passing.{TakesSo};
 ghost use Rattle.js_machine_engine.specs.Stepping.{TellsWithin, IfGoesOn, StandsIn};
 
 use crate::answer::{demand_of, finished_by, went_of};
+use crate::code::RunningCode;
 use crate::concluding::conclude;
 use crate::following::parts::follow_value;
 use crate::passing::{Taking, pass_outward};
@@ -25,14 +26,13 @@ use crate::settling::{proceed, settle_row};
 use crate::stack::Stack;
 use crate::stepped::Stepped;
 use crate::task::{Extra, Point, Redex};
-use js_heap::value::{Addr, Value};
-use js_heap_memory::names::NameTable;
+use js_heap::value::Value;
 use js_heap_memory::world::World;
 use js_machine_actions::context::Context;
 use js_machine_nodes::op::Op;
 use js_machine_nodes::table::NodeTable;
 use js_semantics::form::Completion;
-use std::alloc::{AllocError, Global};
+use std::alloc::AllocError;
 
 /// The `finally` of the innermost task runs, and keeps the completion (ECMA-262, 14.15.3).
 fn keep(
@@ -81,10 +81,7 @@ fn end_turn(table: &NodeTable, stack: &mut Stack, point: &mut Point) -> Result<(
 
 /// The `catch` of the innermost task takes a throw.
 fn catch_throw<T: Rows, W: World>(
-    alloc: Global,
-    table: &NodeTable,
-    names: &NameTable,
-    root: Addr,
+    code: &RunningCode<'_, '_>,
     context: &Context,
     world: &mut W,
     stack: &mut Stack,
@@ -92,11 +89,11 @@ fn catch_throw<T: Rows, W: World>(
     completion: Completion,
     thrown: Value,
 ) -> Stepped
-    requires table { IsTable table.now }
-    requires scoped { InScopes table.now root stack.old }
-    requires takes { TakesSo table.now stack.old completion (Some (takings.Catches thrown)) }
-    ensures told { (taken : List (List ℕ)) → TellsWithin names.now table.now root stack.old (travels completion (state_of (W.world names.now world.old) context.now taken)) result stack.new point.new (state_of (W.world names.now world.new) context.now taken) }
-    ensures stands { IfGoesOn result (StandsIn table.now root stack.new point.new) }
+    requires table { IsTable code.now.table.now }
+    requires scoped { InScopes code.now.table.now code.now.root stack.old }
+    requires takes { TakesSo code.now.table.now stack.old completion (Some (takings.Catches thrown)) }
+    ensures told { (taken : List (List ℕ)) → TellsWithin code.now.names.now code.now.table.now code.now.root stack.old (travels completion (state_of (W.world code.now.names.now world.old) context.now taken)) result stack.new point.new (state_of (W.world code.now.names.now world.new) context.now taken) }
+    ensures stands { IfGoesOn result (StandsIn code.now.table.now code.now.root stack.new point.new) }
 {
     let Some(task) = stack.last() else {
         return Stepped::Memory;
@@ -109,25 +106,13 @@ fn catch_throw<T: Rows, W: World>(
         end: task.end,
         inner: task.inner,
     };
-    let reduced = T::catch(alloc, table, names, context, world, form, thrown);
-    conclude(
-        alloc,
-        table,
-        root,
-        context,
-        stack,
-        point,
-        reduced,
-        demand_of(reduced),
-    )
+    let reduced = T::catch(code, context, world, form, thrown);
+    conclude(code, context, stack, point, reduced, demand_of(reduced))
 }
 
 /// What the innermost task makes of a completion that it takes so.
 fn take<T: Rows, W: World>(
-    alloc: Global,
-    table: &NodeTable,
-    names: &NameTable,
-    root: Addr,
+    code: &RunningCode<'_, '_>,
     context: &mut Context,
     world: &mut W,
     stack: &mut Stack,
@@ -135,48 +120,48 @@ fn take<T: Rows, W: World>(
     completion: Completion,
     taking: Taking,
 ) -> Stepped
-    requires table { IsTable table.now }
-    requires scoped { InScopes table.now root stack.old }
-    requires takes { TakesSo table.now stack.old completion (Some taking) }
-    ensures told { (taken : List (List ℕ)) → TellsWithin names.now table.now root stack.old (travels completion (state_of (W.world names.now world.old) context.old taken)) result stack.new point.new (state_of (W.world names.now world.new) context.new taken) }
-    ensures stands { IfGoesOn result (StandsIn table.now root stack.new point.new) }
+    requires table { IsTable code.now.table.now }
+    requires scoped { InScopes code.now.table.now code.now.root stack.old }
+    requires takes { TakesSo code.now.table.now stack.old completion (Some taking) }
+    ensures told { (taken : List (List ℕ)) → TellsWithin code.now.names.now code.now.table.now code.now.root stack.old (travels completion (state_of (W.world code.now.names.now world.old) context.old taken)) result stack.new point.new (state_of (W.world code.now.names.now world.new) context.new taken) }
+    ensures stands { IfGoesOn result (StandsIn code.now.table.now code.now.root stack.new point.new) }
 {
     match taking {
         Taking::Returns(value) => {
             context.pop_frame();
-            went_of(follow_value(table, root, stack, point, value))
+            went_of(follow_value(code.table, code.root, stack, point, value))
         }
-        Taking::Breaks => went_of(follow_value(table, root, stack, point, Value::Undefined)),
-        Taking::Turns => went_of(end_turn(table, stack, point)),
-        Taking::Keeps => went_of(keep(table, stack, point, completion)),
+        Taking::Breaks => went_of(follow_value(
+            code.table,
+            code.root,
+            stack,
+            point,
+            Value::Undefined,
+        )),
+        Taking::Turns => went_of(end_turn(code.table, stack, point)),
+        Taking::Keeps => went_of(keep(code.table, stack, point, completion)),
         Taking::Catches(thrown) => catch_throw::<T, W>(
-            alloc, table, names, root, context, world, stack, point, completion, thrown,
+            code, context, world, stack, point, completion, thrown,
         ),
     }
 }
 
-/// A completion travels outward from the innermost gap, to the form that takes it or out of the run; around all tasks is the
-/// scope `root`.
+/// A completion travels outward from the innermost gap, to the form that takes it or out of the run.
 pub fn travel<T: Rows, W: World>(
-    alloc: Global,
-    table: &NodeTable,
-    names: &NameTable,
-    root: Addr,
+    code: &RunningCode<'_, '_>,
     context: &mut Context,
     world: &mut W,
     stack: &mut Stack,
     point: &mut Point,
     completion: Completion,
 ) -> Stepped
-    requires table { IsTable table.now }
-    requires scoped { InScopes table.now root stack.old }
-    ensures told { (taken : List (List ℕ)) → TellsWithin names.now table.now root stack.old (travels completion (state_of (W.world names.now world.old) context.old taken)) result stack.new point.new (state_of (W.world names.now world.new) context.new taken) }
-    ensures stands { IfGoesOn result (StandsIn table.now root stack.new point.new) }
+    requires table { IsTable code.now.table.now }
+    requires scoped { InScopes code.now.table.now code.now.root stack.old }
+    ensures told { (taken : List (List ℕ)) → TellsWithin code.now.names.now code.now.table.now code.now.root stack.old (travels completion (state_of (W.world code.now.names.now world.old) context.old taken)) result stack.new point.new (state_of (W.world code.now.names.now world.new) context.new taken) }
+    ensures stands { IfGoesOn result (StandsIn code.now.table.now code.now.root stack.new point.new) }
 {
-    match pass_outward(table, context, stack, completion) {
+    match pass_outward(code.table, context, stack, completion) {
         None => Stepped::Over(finished_by(completion)),
-        Some(taking) => take::<T, W>(
-            alloc, table, names, root, context, world, stack, point, completion, taking,
-        ),
+        Some(taking) => take::<T, W>(code, context, world, stack, point, completion, taking),
     }
 }

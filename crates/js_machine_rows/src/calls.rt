@@ -30,9 +30,9 @@ use js_machine_actions::errors::fail_with;
 use js_machine_actions::frame::Frame;
 use js_machine_actions::functions::{copy_of_name, new_scope};
 use js_machine_actions::shown::logged;
+use js_machine_engine::code::RunningCode;
 use js_machine_engine::reduced::Reduced;
 use js_machine_nodes::node::FunctionEntry;
-use js_machine_nodes::table::NodeTable;
 use js_semantics::bounds::MOST_FRAMES;
 use js_semantics::form::{Mark, Source};
 use std::alloc::{AllocError, Global};
@@ -82,9 +82,7 @@ fn too_deep<W: World>(alloc: Global, world: &mut W, names: &NameTable) -> Action
 
 /// The scope of a call, with the functions that the body declares (ECMA-262, 10.2.11).
 fn call_scope<W: World>(
-    alloc: Global,
-    table: &NodeTable,
-    names: &NameTable,
+    code: &RunningCode<'_, '_>,
     world: &mut W,
     place: CodePlace,
     entry: &FunctionEntry,
@@ -92,23 +90,23 @@ fn call_scope<W: World>(
     outer: Addr,
     arguments: &[Value],
 ) -> Result<Addr, ActionEnd>
-    ensures { Yields (call_scope (entry_code names.now table.now place entry.now) (name_text names.now name) outer arguments.now) (W.world names.now world.old) result (W.world names.now world.new) }
+    ensures { Yields (call_scope (entry_code code.now.names.now code.now.table.now place entry.now) (name_text code.now.names.now name) outer arguments.now) (W.world code.now.names.now world.old) result (W.world code.now.names.now world.new) }
 {
     let slots = call_slots(
-        alloc,
+        code.alloc,
         entry.parameters.as_slice(),
         arguments,
         entry.names.slice(),
     )?;
     let own = new_scope(
         world,
-        names,
+        code.names,
         ScopeKind::Function,
         name,
         outer,
         Slots::from_vec(slots),
     )?;
-    with_functions(alloc, world, names, table, own, place.first, place.end)?;
+    with_functions(code, world, own, place.first, place.end)?;
     Ok(own)
 }
 
@@ -170,17 +168,15 @@ fn enter_frame(
 
 /// Enters a function: its scope, the functions that it declares, then its frame (10.2.1).
 fn enter<W: World>(
-    alloc: Global,
-    table: &NodeTable,
-    names: &NameTable,
+    code: &RunningCode<'_, '_>,
     context: &mut Context,
     world: &mut W,
     place: CodePlace,
-    code: &FunctionEntry,
+    compiled: &FunctionEntry,
     entry: EnteredFunction,
     arguments: &[Value],
 ) -> Reduced
-    ensures { ActsAlways names.now table.now (λ s. entered (entry_code names.now table.now place code.now) entry.source entry.function (name_text names.now entry.name) entry.outer entry.receiver arguments.now) (W.world names.now world.old) context.old result (W.world names.now world.new) context.new }
+    ensures { ActsAlways code.now.names.now code.now.table.now (λ s. entered (entry_code code.now.names.now code.now.table.now place compiled.now) entry.source entry.function (name_text code.now.names.now entry.name) entry.outer entry.receiver arguments.now) (W.world code.now.names.now world.old) context.old result (W.world code.now.names.now world.new) context.new }
 {
     let EnteredFunction {
         source,
@@ -189,11 +185,15 @@ fn enter<W: World>(
         outer,
         receiver,
     } = entry;
-    match call_scope(
-        alloc, table, names, world, place, code, name, outer, arguments,
-    ) {
+    match call_scope(code, world, place, compiled, name, outer, arguments) {
         Ok(own) => enter_frame(
-            context, code.node, place.body, source, function, receiver, own,
+            context,
+            compiled.node,
+            place.body,
+            source,
+            function,
+            receiver,
+            own,
         ),
         Err(stop) => stopped(stop),
     }
@@ -209,32 +209,26 @@ fn called_this(is_arrow: bool, made: Value, given: Value) -> Value
 
 /// Calls a function of a source whose code is there; the limit of [`MOST_FRAMES`] frames comes before that of the world.
 fn call_entry<W: World>(
-    alloc: Global,
-    table: &NodeTable,
-    names: &NameTable,
+    code: &RunningCode<'_, '_>,
     context: &mut Context,
     world: &mut W,
     place: CodePlace,
-    code: &FunctionEntry,
+    compiled: &FunctionEntry,
     entry: EnteredFunction,
     arguments: &[Value],
 ) -> Reduced
-    ensures { ActsAlways names.now table.now (λ s. entered_within s (entry_code names.now table.now place code.now) entry.source entry.function (name_text names.now entry.name) entry.outer entry.receiver arguments.now) (W.world names.now world.old) context.old result (W.world names.now world.new) context.new }
+    ensures { ActsAlways code.now.names.now code.now.table.now (λ s. entered_within s (entry_code code.now.names.now code.now.table.now place compiled.now) entry.source entry.function (name_text code.now.names.now entry.name) entry.outer entry.receiver arguments.now) (W.world code.now.names.now world.old) context.old result (W.world code.now.names.now world.new) context.new }
 {
     if context.frame_count() < MOST_FRAMES {
-        enter(
-            alloc, table, names, context, world, place, code, entry, arguments,
-        )
+        enter(code, context, world, place, compiled, entry, arguments)
     } else {
-        stopped(too_deep(alloc, world, names))
+        stopped(too_deep(code.alloc, world, code.names))
     }
 }
 
 /// Calls a function of a source.
 fn call_code<W: World>(
-    alloc: Global,
-    table: &NodeTable,
-    names: &NameTable,
+    code: &RunningCode<'_, '_>,
     context: &mut Context,
     world: &mut W,
     place: Option<CodePlace>,
@@ -244,7 +238,7 @@ fn call_code<W: World>(
     receiver: Value,
     arguments: &[Value],
 ) -> Reduced
-    ensures { ActsAlways names.now table.now (λ s. call_code s (code_at names.now table.now place) source function (name_text names.now callee.name) callee.outer callee.this receiver arguments.now) (W.world names.now world.old) context.old result (W.world names.now world.new) context.new }
+    ensures { ActsAlways code.now.names.now code.now.table.now (λ s. call_code s (code_at code.now.names.now code.now.table.now place) source function (name_text code.now.names.now callee.name) callee.outer callee.this receiver arguments.now) (W.world code.now.names.now world.old) context.old result (W.world code.now.names.now world.new) context.new }
 {
     let Callee {
         name,
@@ -253,10 +247,10 @@ fn call_code<W: World>(
         ..
     } = callee;
     match place {
-        Some(place) => match function_entry(table, place.number) {
-            Some(code) => match outer {
+        Some(place) => match function_entry(code.table, place.number) {
+            Some(compiled) => match outer {
                 Some(outer) => {
-                    let receiver = called_this(code.is_arrow, this, receiver);
+                    let receiver = called_this(compiled.is_arrow, this, receiver);
                     let entry = EnteredFunction {
                         source,
                         function,
@@ -264,15 +258,13 @@ fn call_code<W: World>(
                         outer,
                         receiver,
                     };
-                    call_entry(
-                        alloc, table, names, context, world, place, code, entry, arguments,
-                    )
+                    call_entry(code, context, world, place, compiled, entry, arguments)
                 }
-                None => stopped(not_a_function(alloc, world, names)),
+                None => stopped(not_a_function(code.alloc, world, code.names)),
             },
-            None => stopped(not_a_function(alloc, world, names)),
+            None => stopped(not_a_function(code.alloc, world, code.names)),
         },
-        None => stopped(not_a_function(alloc, world, names)),
+        None => stopped(not_a_function(code.alloc, world, code.names)),
     }
 }
 
@@ -330,9 +322,7 @@ fn call_built_in<W: World>(
 
 /// Calls a function by what its cell says.
 fn call_callee<W: World>(
-    alloc: Global,
-    table: &NodeTable,
-    names: &NameTable,
+    code: &RunningCode<'_, '_>,
     context: &mut Context,
     world: &mut W,
     function: Addr,
@@ -340,25 +330,27 @@ fn call_callee<W: World>(
     receiver: Value,
     arguments: &[Value],
 ) -> Reduced
-    requires { HasFunctions table.now }
-    ensures { ActsIn names.now table.now arguments.now (λ s. callee_called (program_of names.now table.now) s function (view_of names.now callee) receiver arguments.now) (W.world names.now world.old) context.old result (W.world names.now world.new) context.new }
+    requires { HasFunctions code.now.table.now }
+    ensures { ActsIn code.now.names.now code.now.table.now arguments.now (λ s. callee_called (program_of code.now.names.now code.now.table.now) s function (view_of code.now.names.now callee) receiver arguments.now) (W.world code.now.names.now world.old) context.old result (W.world code.now.names.now world.new) context.new }
 {
     match callee.code {
-        Code::BuiltIn(f) => { call_built_in(alloc, names, context, world, f, receiver, arguments) }
+        Code::BuiltIn(f) => {
+            call_built_in(
+                code.alloc, code.names, context, world, f, receiver, arguments,
+            )
+        }
         Code::Script { number, node } => {
             let source = Source::Script(number);
-            let place = function_at(table, source, node);
+            let place = function_at(code.table, source, node);
             call_code(
-                alloc, table, names, context, world, place, source, function, callee, receiver,
-                arguments,
+                code, context, world, place, source, function, callee, receiver, arguments,
             )
         }
         Code::Kept { at, node } => {
             let source = Source::Kept(at);
-            let place = function_at(table, source, node);
+            let place = function_at(code.table, source, node);
             call_code(
-                alloc, table, names, context, world, place, source, function, callee, receiver,
-                arguments,
+                code, context, world, place, source, function, callee, receiver, arguments,
             )
         }
     }
@@ -366,67 +358,59 @@ fn call_callee<W: World>(
 
 /// Calls the function at an address (10.2.1, 10.3.1).
 fn call_at<W: World>(
-    alloc: Global,
-    table: &NodeTable,
-    names: &NameTable,
+    code: &RunningCode<'_, '_>,
     context: &mut Context,
     world: &mut W,
     function: Addr,
     receiver: Value,
     arguments: &[Value],
 ) -> Reduced
-    requires { HasFunctions table.now }
-    ensures { ActsIn names.now table.now arguments.now (λ s. call_cell (program_of names.now table.now) s function (read_cell (W.world names.now world.old) function) receiver arguments.now) (W.world names.now world.old) context.old result (W.world names.now world.new) context.new }
+    requires { HasFunctions code.now.table.now }
+    ensures { ActsIn code.now.names.now code.now.table.now arguments.now (λ s. call_cell (program_of code.now.names.now code.now.table.now) s function (read_cell (W.world code.now.names.now world.old) function) receiver arguments.now) (W.world code.now.names.now world.old) context.old result (W.world code.now.names.now world.new) context.new }
 {
-    match callee_of(alloc, world.find(function)) {
+    match callee_of(code.alloc, world.find(function)) {
         Ok(Some(callee)) => call_callee(
-            alloc, table, names, context, world, function, callee, receiver, arguments,
+            code, context, world, function, callee, receiver, arguments,
         ),
-        Ok(None) => stopped(not_a_function(alloc, world, names)),
+        Ok(None) => stopped(not_a_function(code.alloc, world, code.names)),
         Err(_) => Reduced::Memory,
     }
 }
 
 /// Calls a value.
 fn call_value<W: World>(
-    alloc: Global,
-    table: &NodeTable,
-    names: &NameTable,
+    code: &RunningCode<'_, '_>,
     context: &mut Context,
     world: &mut W,
     callee: Value,
     receiver: Value,
     arguments: &[Value],
 ) -> Reduced
-    requires { HasFunctions table.now }
-    ensures { ActsIn names.now table.now arguments.now (λ s. call_value (program_of names.now table.now) s callee receiver arguments.now) (W.world names.now world.old) context.old result (W.world names.now world.new) context.new }
+    requires { HasFunctions code.now.table.now }
+    ensures { ActsIn code.now.names.now code.now.table.now arguments.now (λ s. call_value (program_of code.now.names.now code.now.table.now) s callee receiver arguments.now) (W.world code.now.names.now world.old) context.old result (W.world code.now.names.now world.new) context.new }
 {
     match callee {
-        Value::Object(a) => call_at(alloc, table, names, context, world, a, receiver, arguments),
-        _ => stopped(not_a_function(alloc, world, names)),
+        Value::Object(a) => call_at(code, context, world, a, receiver, arguments),
+        _ => stopped(not_a_function(code.alloc, world, code.names)),
     }
 }
 
 /// A call with its values: its `this`, its callee and its arguments (13.3.6). Its place is the frame's from now on, also where
 /// it raises.
 pub fn call<W: World>(
-    alloc: Global,
-    table: &NodeTable,
-    names: &NameTable,
+    code: &RunningCode<'_, '_>,
     context: &mut Context,
     world: &mut W,
     place: Mark,
     values: &[Value],
 ) -> Reduced
-    requires { HasFunctions table.now }
-    ensures { ActsOf names.now table.now values.now (λ s. call_row (program_of names.now table.now) s place values.now) (W.world names.now world.old) context.old result (W.world names.now world.new) context.new }
+    requires { HasFunctions code.now.table.now }
+    ensures { ActsOf code.now.names.now code.now.table.now values.now (λ s. call_row (program_of code.now.names.now code.now.table.now) s place values.now) (W.world code.now.names.now world.old) context.old result (W.world code.now.names.now world.new) context.new }
 {
     match values {
         [receiver, callee, arguments @ ..] => {
             context.set_here(place);
-            call_value(
-                alloc, table, names, context, world, *callee, *receiver, arguments,
-            )
+            call_value(code, context, world, *callee, *receiver, arguments)
         }
         _ => Reduced::Memory,
     }

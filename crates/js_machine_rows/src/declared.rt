@@ -16,6 +16,7 @@ use js_heap_memory::names::NameTable;
 use js_heap_memory::world::World;
 use js_machine_actions::action_end::ActionEnd;
 use js_machine_actions::functions::declared_function;
+use js_machine_engine::code::RunningCode;
 use js_machine_nodes::node::FunctionEntry;
 use js_machine_nodes::op::Op;
 use js_machine_nodes::table::NodeTable;
@@ -65,17 +66,15 @@ fn entry_of_part(table: &NodeTable, part: u32) -> Option<&FunctionEntry>
 
 /// Makes the function that a part is, if it is one.
 fn with_function<W: World>(
-    alloc: Global,
+    code: &RunningCode<'_, '_>,
     world: &mut W,
-    names: &NameTable,
-    table: &NodeTable,
     scope: Addr,
     part: u32,
 ) -> Result<(), ActionEnd>
-    ensures { Passes (with_functions scope (one (tree names.now table.now part))) (W.world names.now world.old) result (W.world names.now world.new) }
+    ensures { Passes (with_functions scope (one (tree code.now.names.now code.now.table.now part))) (W.world code.now.names.now world.old) result (W.world code.now.names.now world.new) }
 {
-    match entry_of_part(table, part) {
-        Some(entry) => declare_entry(alloc, world, names, scope, entry),
+    match entry_of_part(code.table, part) {
+        Some(entry) => declare_entry(code.alloc, world, code.names, scope, entry),
         None => Ok(()),
     }
 }
@@ -83,19 +82,17 @@ fn with_function<W: World>(
 /// Makes the functions among the parts from a place of the table's list up to another, in order, each the value of its name
 /// (14.2.3, 10.2.11).
 pub fn with_functions<W: World>(
-    alloc: Global,
+    code: &RunningCode<'_, '_>,
     world: &mut W,
-    names: &NameTable,
-    table: &NodeTable,
     scope: Addr,
     from: u32,
     to: u32,
 ) -> Result<(), ActionEnd>
-    ensures { Passes (with_functions scope (trees names.now table.now from to)) (W.world names.now world.old) result (W.world names.now world.new) }
+    ensures { Passes (with_functions scope (trees code.now.names.now code.now.table.now from to)) (W.world code.now.names.now world.old) result (W.world code.now.names.now world.new) }
 {
-    let parts = parts_between(table, from, to);
+    let parts = parts_between(code.table, from, to);
     for part in parts {
-        with_function(alloc, world, names, table, scope, *part)?;
+        with_function(code, world, scope, *part)?;
     }
     Ok(())
 }

@@ -41,6 +41,7 @@ use js_machine_actions::functions::{make_function, named_function};
 use js_machine_actions::lists::last_of;
 use js_machine_actions::objects::object_or_fail;
 use js_machine_actions::seen::NamedWorld;
+use js_machine_engine::code::RunningCode;
 use js_machine_engine::reduced::Reduced;
 use js_machine_engine::task::Redex;
 use js_machine_nodes::node::{FunctionEntry, MemberEntry};
@@ -176,17 +177,15 @@ fn function_with<W: World>(
 
 /// A function expression or an arrow (15.2.5, 15.3.4).
 pub fn function<W: World>(
-    alloc: Global,
-    table: &NodeTable,
-    names: &NameTable,
+    code: &RunningCode<'_, '_>,
     context: &Context,
     world: &mut W,
     form: Redex,
 ) -> Reduced
-    ensures { OfEntry (slice_get table.now.functions.items form.info) result (λ entry. RepliesWith names.now (function_row (state_of (W.world names.now world.old) context.now []) form.inner (function_of names.now entry)) (W.world names.now world.old) context.now result (W.world names.now world.new) context.now) }
+    ensures { OfEntry (slice_get code.now.table.now.functions.items form.info) result (λ entry. RepliesWith code.now.names.now (function_row (state_of (W.world code.now.names.now world.old) context.now []) form.inner (function_of code.now.names.now entry)) (W.world code.now.names.now world.old) context.now result (W.world code.now.names.now world.new) context.now) }
 {
-    match function_entry(table, form.info) {
-        Some(entry) => function_with(alloc, names, context, world, form.inner, entry),
+    match function_entry(code.table, form.info) {
+        Some(entry) => function_with(code.alloc, code.names, context, world, form.inner, entry),
         None => Reduced::Memory,
     }
 }
@@ -306,20 +305,18 @@ fn before_method<W: World>(
 
 /// An object literal before a part of this kind.
 fn before_form<W: World>(
-    alloc: Global,
-    table: &NodeTable,
-    names: &NameTable,
+    code: &RunningCode<'_, '_>,
     world: &mut W,
     scope: Addr,
     op: Op,
     info: u32,
     values: &[Value],
 ) -> Reduced
-    ensures { (e : AnyWide) (ms : List AnyMember) (now later rest : AnyTerms) → AddsTo names.now table.now e ms values.now now rest → DoesIn names.now table.now e (object_row (W.world names.now world.old) scope ms values.now (more (part (form_of names.now table.now op info) now later) rest)) (W.world names.now world.old) result (W.world names.now world.new) }
+    ensures { (e : AnyWide) (ms : List AnyMember) (now later rest : AnyTerms) → AddsTo code.now.names.now code.now.table.now e ms values.now now rest → DoesIn code.now.names.now code.now.table.now e (object_row (W.world code.now.names.now world.old) scope ms values.now (more (part (form_of code.now.names.now code.now.table.now op info) now later) rest)) (W.world code.now.names.now world.old) result (W.world code.now.names.now world.new) }
 {
     match op {
-        Op::Method => match function_entry(table, info) {
-            Some(entry) => before_method(alloc, names, world, scope, entry, values),
+        Op::Method => match function_entry(code.table, info) {
+            Some(entry) => before_method(code.alloc, code.names, world, scope, entry, values),
             None => Reduced::Gives(Value::Undefined),
         },
         _ => Reduced::Gives(Value::Undefined),
@@ -328,40 +325,34 @@ fn before_form<W: World>(
 
 /// An object literal before a part.
 fn before_part<W: World>(
-    alloc: Global,
-    table: &NodeTable,
-    names: &NameTable,
+    code: &RunningCode<'_, '_>,
     world: &mut W,
     scope: Addr,
     part: u32,
     values: &[Value],
 ) -> Reduced
-    ensures { (e : AnyWide) (ms : List AnyMember) (rest : AnyTerms) → AddsTo names.now table.now e ms values.now (now_of (tree names.now table.now part)) rest → DoesIn names.now table.now e (object_row (W.world names.now world.old) scope ms values.now (more (tree names.now table.now part) rest)) (W.world names.now world.old) result (W.world names.now world.new) }
+    ensures { (e : AnyWide) (ms : List AnyMember) (rest : AnyTerms) → AddsTo code.now.names.now code.now.table.now e ms values.now (now_of (tree code.now.names.now code.now.table.now part)) rest → DoesIn code.now.names.now code.now.table.now e (object_row (W.world code.now.names.now world.old) scope ms values.now (more (tree code.now.names.now code.now.table.now part) rest)) (W.world code.now.names.now world.old) result (W.world code.now.names.now world.new) }
 {
-    match table.node(part) {
-        Some(node) => before_form(
-            alloc, table, names, world, scope, node.op, node.info, values,
-        ),
+    match code.table.node(part) {
+        Some(node) => before_form(code, world, scope, node.op, node.info, values),
         None => Reduced::Gives(Value::Undefined),
     }
 }
 
 /// An object literal before its next part; where none is left, the object with these values.
 fn object_with<W: World>(
-    alloc: Global,
-    table: &NodeTable,
-    names: &NameTable,
+    code: &RunningCode<'_, '_>,
     world: &mut W,
     form: Redex,
     from: u32,
     members: &[MemberEntry],
     values: &[Value],
 ) -> Reduced
-    ensures { (e : AnyWide) → IsLiteralOf names.now table.now e (members_of names.now members.now) values.now (trees names.now table.now from form.end) → DoesIn names.now table.now e (object_row (W.world names.now world.old) form.inner (members_of names.now members.now) values.now (trees names.now table.now from form.end)) (W.world names.now world.old) result (W.world names.now world.new) }
+    ensures { (e : AnyWide) → IsLiteralOf code.now.names.now code.now.table.now e (members_of code.now.names.now members.now) values.now (trees code.now.names.now code.now.table.now from form.end) → DoesIn code.now.names.now code.now.table.now e (object_row (W.world code.now.names.now world.old) form.inner (members_of code.now.names.now members.now) values.now (trees code.now.names.now code.now.table.now from form.end)) (W.world code.now.names.now world.old) result (W.world code.now.names.now world.new) }
 {
-    match part_at(table, from, form.end, 0) {
-        Some(part) => before_part(alloc, table, names, world, form.inner, part, values),
-        None => replied(object_of(alloc, names, world, members, values)),
+    match part_at(code.table, from, form.end, 0) {
+        Some(part) => before_part(code, world, form.inner, part, values),
+        None => replied(object_of(code.alloc, code.names, world, members, values)),
     }
 }
 
@@ -378,18 +369,16 @@ fn members_entry(table: &NodeTable, number: u32) -> Option<&[MemberEntry]>
 /// An object literal of values, or before the next method with a computed key (13.2.5.4); its kept parts stand from a place
 /// of the table's list on.
 pub fn object<W: World>(
-    alloc: Global,
-    table: &NodeTable,
-    names: &NameTable,
+    code: &RunningCode<'_, '_>,
     world: &mut W,
     form: Redex,
     from: u32,
     values: &[Value],
 ) -> Reduced
-    ensures { OfEntry (members_at table.now form.info) result (λ members. (e : AnyWide) → IsLiteralOf names.now table.now e (members_of names.now members) values.now (trees names.now table.now from form.end) → DoesIn names.now table.now e (object_row (W.world names.now world.old) form.inner (members_of names.now members) values.now (trees names.now table.now from form.end)) (W.world names.now world.old) result (W.world names.now world.new)) }
+    ensures { OfEntry (members_at code.now.table.now form.info) result (λ members. (e : AnyWide) → IsLiteralOf code.now.names.now code.now.table.now e (members_of code.now.names.now members) values.now (trees code.now.names.now code.now.table.now from form.end) → DoesIn code.now.names.now code.now.table.now e (object_row (W.world code.now.names.now world.old) form.inner (members_of code.now.names.now members) values.now (trees code.now.names.now code.now.table.now from form.end)) (W.world code.now.names.now world.old) result (W.world code.now.names.now world.new)) }
 {
-    match members_entry(table, form.info) {
-        Some(members) => object_with(alloc, table, names, world, form, from, members, values),
+    match members_entry(code.table, form.info) {
+        Some(members) => object_with(code, world, form, from, members, values),
         None => Reduced::Memory,
     }
 }

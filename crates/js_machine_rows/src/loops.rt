@@ -34,10 +34,10 @@ use js_machine_actions::errors::fail_with;
 use js_machine_actions::functions::copied;
 use js_machine_actions::lists::is_array;
 use js_machine_actions::seen::NamedWorld;
+use js_machine_engine::code::RunningCode;
 use js_machine_engine::reduced::Reduced;
 use js_machine_engine::task::Redex;
 use js_machine_nodes::node::{ForEntry, ForOfEntry};
-use js_machine_nodes::table::NodeTable;
 use js_semantics::form::Mark;
 use std::alloc::Global;
 
@@ -146,17 +146,15 @@ fn enter_for_with<W: World>(
 
 /// Entering a `for` with names makes their scope (14.7.4.2).
 pub fn enter_for<W: World>(
-    alloc: Global,
-    table: &NodeTable,
-    names: &NameTable,
+    code: &RunningCode<'_, '_>,
     context: &mut Context,
     world: &mut W,
     form: Redex,
 ) -> Reduced
-    ensures { OfEntry (slice_get table.now.fors.items form.info) result (λ entry. (t : AnyTable) (e : AnyWide) → DoesWith names.now t e (enter_for_row form.inner entry.node entry.constant (bindings names.now entry.names) (later_of names.now t e)) (W.world names.now world.old) context.old result (W.world names.now world.new) context.new) }
+    ensures { OfEntry (slice_get code.now.table.now.fors.items form.info) result (λ entry. (t : AnyTable) (e : AnyWide) → DoesWith code.now.names.now t e (enter_for_row form.inner entry.node entry.constant (bindings code.now.names.now entry.names) (later_of code.now.names.now t e)) (W.world code.now.names.now world.old) context.old result (W.world code.now.names.now world.new) context.new) }
 {
-    match for_entry(table, form.info) {
-        Some(entry) => enter_for_with(alloc, names, context, world, form.inner, entry),
+    match for_entry(code.table, form.info) {
+        Some(entry) => enter_for_with(code.alloc, code.names, context, world, form.inner, entry),
         None => Reduced::Memory,
     }
 }
@@ -175,24 +173,22 @@ fn lists_in(outcome: Result<Addr, ActionEnd>) -> Reduced
 
 /// Entering the `for .. of` of an entry.
 fn enter_for_of_with<W: World>(
-    alloc: Global,
-    table: &NodeTable,
-    names: &NameTable,
+    code: &RunningCode<'_, '_>,
     context: &mut Context,
     world: &mut W,
     form: Redex,
     entry: ForOfEntry,
 ) -> Reduced
-    requires { Some entry ≡ slice_get table.now.for_ofs.items form.info }
-    ensures { (values : List AnyValue) → DoesWith names.now table.now (redex form values None) (enter_for_of_row form.inner entry.node (binding_at names.now entry.slot) (trees names.now table.now form.mid form.end)) (W.world names.now world.old) context.old result (W.world names.now world.new) context.new }
+    requires { Some entry ≡ slice_get code.now.table.now.for_ofs.items form.info }
+    ensures { (values : List AnyValue) → DoesWith code.now.names.now code.now.table.now (redex form values None) (enter_for_of_row form.inner entry.node (binding_at code.now.names.now entry.slot) (trees code.now.names.now code.now.table.now form.mid form.end)) (W.world code.now.names.now world.old) context.old result (W.world code.now.names.now world.new) context.new }
 {
-    let Some(_) = part_at(table, form.mid, form.end, 0) else {
+    let Some(_) = part_at(code.table, form.mid, form.end, 0) else {
         return Reduced::Gives(Value::Undefined);
     };
     context.set_here(Mark::Start(entry.node));
     let own = nameless_scope(
-        alloc,
-        names,
+        code.alloc,
+        code.names,
         world,
         ScopeKind::Block,
         form.inner,
@@ -203,42 +199,38 @@ fn enter_for_of_with<W: World>(
 
 /// Entering a `for .. of` makes a scope in which its list is evaluated (14.7.5.6).
 pub fn enter_for_of<W: World>(
-    alloc: Global,
-    table: &NodeTable,
-    names: &NameTable,
+    code: &RunningCode<'_, '_>,
     context: &mut Context,
     world: &mut W,
     form: Redex,
 ) -> Reduced
-    ensures { OfEntry (slice_get table.now.for_ofs.items form.info) result (λ entry. (values : List AnyValue) → DoesWith names.now table.now (redex form values None) (enter_for_of_row form.inner entry.node (binding_at names.now entry.slot) (trees names.now table.now form.mid form.end)) (W.world names.now world.old) context.old result (W.world names.now world.new) context.new) }
+    ensures { OfEntry (slice_get code.now.table.now.for_ofs.items form.info) result (λ entry. (values : List AnyValue) → DoesWith code.now.names.now code.now.table.now (redex form values None) (enter_for_of_row form.inner entry.node (binding_at code.now.names.now entry.slot) (trees code.now.names.now code.now.table.now form.mid form.end)) (W.world code.now.names.now world.old) context.old result (W.world code.now.names.now world.new) context.new) }
 {
-    match table.for_of(form.info) {
-        Some(entry) => enter_for_of_with(alloc, table, names, context, world, form, entry),
+    match code.table.for_of(form.info) {
+        Some(entry) => enter_for_of_with(code, context, world, form, entry),
         None => Reduced::Memory,
     }
 }
 
 /// The `for .. of` of an entry with the value that it goes over; a TypeError where that is no array.
 fn list_with<W: World>(
-    alloc: Global,
-    table: &NodeTable,
-    names: &NameTable,
+    code: &RunningCode<'_, '_>,
     world: &mut W,
     form: Redex,
     entry: ForOfEntry,
     values: &[Value],
 ) -> Reduced
-    requires { Some entry ≡ slice_get table.now.for_ofs.items form.info }
-    ensures { (e : AnyWide) → e.info ≡ form.info → DoesIn names.now table.now e (list_row (W.world names.now world.old) (binding_at names.now entry.slot) (only values.now) (later_of names.now table.now e)) (W.world names.now world.old) result (W.world names.now world.new) }
+    requires { Some entry ≡ slice_get code.now.table.now.for_ofs.items form.info }
+    ensures { (e : AnyWide) → e.info ≡ form.info → DoesIn code.now.names.now code.now.table.now e (list_row (W.world code.now.names.now world.old) (binding_at code.now.names.now entry.slot) (only values.now) (later_of code.now.names.now code.now.table.now e)) (W.world code.now.names.now world.old) result (W.world code.now.names.now world.new) }
 {
     let list = only(values);
-    if is_array(world, names, list) {
+    if is_array(world, code.names, list) {
         return Reduced::Iterates(list);
     }
     stopped(fail_with(
-        alloc,
+        code.alloc,
         world,
-        names,
+        code.names,
         ErrorClass::TypeError,
         b"Value is not an array",
     ))
@@ -246,17 +238,15 @@ fn list_with<W: World>(
 
 /// `for .. of` with its value is for arrays.
 pub fn list_of<W: World>(
-    alloc: Global,
-    table: &NodeTable,
-    names: &NameTable,
+    code: &RunningCode<'_, '_>,
     world: &mut W,
     form: Redex,
     values: &[Value],
 ) -> Reduced
-    ensures { OfEntry (slice_get table.now.for_ofs.items form.info) result (λ entry. (e : AnyWide) → e.info ≡ form.info → DoesIn names.now table.now e (list_row (W.world names.now world.old) (binding_at names.now entry.slot) (only values.now) (later_of names.now table.now e)) (W.world names.now world.old) result (W.world names.now world.new)) }
+    ensures { OfEntry (slice_get code.now.table.now.for_ofs.items form.info) result (λ entry. (e : AnyWide) → e.info ≡ form.info → DoesIn code.now.names.now code.now.table.now e (list_row (W.world code.now.names.now world.old) (binding_at code.now.names.now entry.slot) (only values.now) (later_of code.now.names.now code.now.table.now e)) (W.world code.now.names.now world.old) result (W.world code.now.names.now world.new)) }
 {
-    match table.for_of(form.info) {
-        Some(entry) => list_with(alloc, table, names, world, form, entry, values),
+    match code.table.for_of(form.info) {
+        Some(entry) => list_with(code, world, form, entry, values),
         None => Reduced::Memory,
     }
 }
@@ -304,40 +294,43 @@ fn iterated_in(outcome: Result<Addr, ActionEnd>) -> Reduced
 
 /// A turn of the `for .. of` of an entry with the element at an index, or its end where there is no such element.
 fn turn_with<W: World>(
-    alloc: Global,
-    table: &NodeTable,
-    names: &NameTable,
+    code: &RunningCode<'_, '_>,
     world: &mut W,
     form: Redex,
     entry: ForOfEntry,
     list: Value,
     index: u32,
 ) -> Reduced
-    requires { Some entry ≡ slice_get table.now.for_ofs.items form.info }
-    ensures { (values : List AnyValue) → IsTurn names.now table.now (redex form values (Some (extras.Turn list index))) (binding_at names.now entry.slot) (W.world names.now world.old) result (W.world names.now world.new) }
+    requires { Some entry ≡ slice_get code.now.table.now.for_ofs.items form.info }
+    ensures { (values : List AnyValue) → IsTurn code.now.names.now code.now.table.now (redex form values (Some (extras.Turn list index))) (binding_at code.now.names.now entry.slot) (W.world code.now.names.now world.old) result (W.world code.now.names.now world.new) }
 {
-    let Some(value) = element_at(names, world, list, index) else {
+    let Some(value) = element_at(code.names, world, list, index) else {
         return Reduced::Gives(Value::Undefined);
     };
     let slot = turn_slot(entry.slot, value);
-    let own = nameless_scope(alloc, names, world, ScopeKind::Block, form.inner, &[slot]);
+    let own = nameless_scope(
+        code.alloc,
+        code.names,
+        world,
+        ScopeKind::Block,
+        form.inner,
+        &[slot],
+    );
     iterated_in(own)
 }
 
 /// A turn with the next element below the present length in a new scope, or the loop's end (14.7.5.7).
 pub fn turn_of<W: World>(
-    alloc: Global,
-    table: &NodeTable,
-    names: &NameTable,
+    code: &RunningCode<'_, '_>,
     world: &mut W,
     form: Redex,
     list: Value,
     index: u32,
 ) -> Reduced
-    ensures { OfEntry (slice_get table.now.for_ofs.items form.info) result (λ entry. (values : List AnyValue) → IsTurn names.now table.now (redex form values (Some (extras.Turn list index))) (binding_at names.now entry.slot) (W.world names.now world.old) result (W.world names.now world.new)) }
+    ensures { OfEntry (slice_get code.now.table.now.for_ofs.items form.info) result (λ entry. (values : List AnyValue) → IsTurn code.now.names.now code.now.table.now (redex form values (Some (extras.Turn list index))) (binding_at code.now.names.now entry.slot) (W.world code.now.names.now world.old) result (W.world code.now.names.now world.new)) }
 {
-    match table.for_of(form.info) {
-        Some(entry) => turn_with(alloc, table, names, world, form, entry, list, index),
+    match code.table.for_of(form.info) {
+        Some(entry) => turn_with(code, world, form, entry, list, index),
         None => Reduced::Memory,
     }
 }

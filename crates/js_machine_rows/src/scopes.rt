@@ -15,7 +15,7 @@ use js_heap_memory::stored::{FunctionName, Slot, Slots};
 use js_heap_memory::world::World;
 use js_machine_actions::action_end::ActionEnd;
 use js_machine_actions::functions::new_scope;
-use js_machine_nodes::table::NodeTable;
+use js_machine_engine::code::RunningCode;
 use std::alloc::Global;
 
 /// Makes a scope with these names.
@@ -35,9 +35,7 @@ pub fn nameless_scope<W: World>(
 
 /// Makes a scope with these names, and the functions among the parts from a place of the table's list up to another.
 pub fn scope_with<W: World>(
-    alloc: Global,
-    table: &NodeTable,
-    names: &NameTable,
+    code: &RunningCode<'_, '_>,
     world: &mut W,
     kind: ScopeKind,
     outer: Addr,
@@ -45,9 +43,9 @@ pub fn scope_with<W: World>(
     from: u32,
     to: u32,
 ) -> Result<Addr, ActionEnd>
-    ensures { Yields (scope_declared kind outer (bindings names.now slots.now) (trees names.now table.now from to)) (W.world names.now world.old) result (W.world names.now world.new) }
+    ensures { Yields (scope_declared kind outer (bindings code.now.names.now slots.now) (trees code.now.names.now code.now.table.now from to)) (W.world code.now.names.now world.old) result (W.world code.now.names.now world.new) }
 {
-    let scope = nameless_scope(alloc, names, world, kind, outer, slots)?;
-    with_functions(alloc, world, names, table, scope, from, to)?;
+    let scope = nameless_scope(code.alloc, code.names, world, kind, outer, slots)?;
+    with_functions(code, world, scope, from, to)?;
     Ok(scope)
 }

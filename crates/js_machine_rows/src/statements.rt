@@ -29,12 +29,13 @@ use js_machine_actions::context::Context;
 use js_machine_actions::frame::Frame;
 use js_machine_actions::functions::with_names;
 use js_machine_actions::seen::NamedWorld;
+use js_machine_engine::code::RunningCode;
 use js_machine_engine::reduced::Reduced;
 use js_machine_engine::task::Redex;
 use js_machine_nodes::node::ScriptEntry;
 use js_machine_nodes::table::NodeTable;
 use js_semantics::form::{Mark, Source};
-use std::alloc::{AllocError, Global};
+use std::alloc::AllocError;
 
 /// The value of a form's only part; undefined where it has none.
 #[inline(always)]
@@ -107,34 +108,44 @@ pub fn initialize<W: World>(
 /// `if` and `? :` (14.6.2, 13.14.1).
 #[inline(always)]
 pub fn choose<W: World>(
-    table: &NodeTable,
-    names: &NameTable,
+    code: &RunningCode<'_, '_>,
     world: &W,
     form: Redex,
     values: &[Value],
 ) -> Reduced
-    ensures { RepliesOver names.now table.now (choose_row (W.world names.now world.now) (only values.now) (trees names.now table.now form.mid form.end)) (W.world names.now world.now) result (W.world names.now world.now) }
+    ensures { RepliesOver code.now.names.now code.now.table.now (choose_row (W.world code.now.names.now world.now) (only values.now) (trees code.now.names.now code.now.table.now form.mid form.end)) (W.world code.now.names.now world.now) result (W.world code.now.names.now world.now) }
 {
-    if is_truthy(&NamedWorld { names, world }, only(values)) {
-        uncovered(part_at(table, form.mid, form.end, 0))
+    if is_truthy(
+        &NamedWorld {
+            names: code.names,
+            world,
+        },
+        only(values),
+    ) {
+        uncovered(part_at(code.table, form.mid, form.end, 0))
     } else {
-        uncovered(part_at(table, form.mid, form.end, 1))
+        uncovered(part_at(code.table, form.mid, form.end, 1))
     }
 }
 
 /// `&&` (13.13.1).
 pub fn both<W: World>(
-    table: &NodeTable,
-    names: &NameTable,
+    code: &RunningCode<'_, '_>,
     world: &W,
     form: Redex,
     values: &[Value],
 ) -> Reduced
-    ensures { RepliesOver names.now table.now (both_row (W.world names.now world.now) (only values.now) (trees names.now table.now form.mid form.end)) (W.world names.now world.now) result (W.world names.now world.now) }
+    ensures { RepliesOver code.now.names.now code.now.table.now (both_row (W.world code.now.names.now world.now) (only values.now) (trees code.now.names.now code.now.table.now form.mid form.end)) (W.world code.now.names.now world.now) result (W.world code.now.names.now world.now) }
 {
     let value = only(values);
-    if is_truthy(&NamedWorld { names, world }, value) {
-        gone_to(part_at(table, form.mid, form.end, 0), value)
+    if is_truthy(
+        &NamedWorld {
+            names: code.names,
+            world,
+        },
+        value,
+    ) {
+        gone_to(part_at(code.table, form.mid, form.end, 0), value)
     } else {
         Reduced::Gives(value)
     }
@@ -142,19 +153,24 @@ pub fn both<W: World>(
 
 /// `||` (13.13.1).
 pub fn either<W: World>(
-    table: &NodeTable,
-    names: &NameTable,
+    code: &RunningCode<'_, '_>,
     world: &W,
     form: Redex,
     values: &[Value],
 ) -> Reduced
-    ensures { RepliesOver names.now table.now (either_row (W.world names.now world.now) (only values.now) (trees names.now table.now form.mid form.end)) (W.world names.now world.now) result (W.world names.now world.now) }
+    ensures { RepliesOver code.now.names.now code.now.table.now (either_row (W.world code.now.names.now world.now) (only values.now) (trees code.now.names.now code.now.table.now form.mid form.end)) (W.world code.now.names.now world.now) result (W.world code.now.names.now world.now) }
 {
     let value = only(values);
-    if is_truthy(&NamedWorld { names, world }, value) {
+    if is_truthy(
+        &NamedWorld {
+            names: code.names,
+            world,
+        },
+        value,
+    ) {
         Reduced::Gives(value)
     } else {
-        gone_to(part_at(table, form.mid, form.end, 0), value)
+        gone_to(part_at(code.table, form.mid, form.end, 0), value)
     }
 }
 
@@ -204,41 +220,37 @@ fn enter_script(context: &mut Context, number: u32) -> Result<(), AllocError>
 
 /// Adds the names of a script to its scope, and makes its functions.
 fn declare_script<W: World>(
-    alloc: Global,
-    table: &NodeTable,
-    names: &NameTable,
+    code: &RunningCode<'_, '_>,
     world: &mut W,
     slots: &[Slot],
     from: u32,
     to: u32,
 ) -> Result<(), ActionEnd>
-    ensures { Passes (script_declared (bindings names.now slots.now) (trees names.now table.now from to)) (W.world names.now world.old) result (W.world names.now world.new) }
+    ensures { Passes (script_declared (bindings code.now.names.now slots.now) (trees code.now.names.now code.now.table.now from to)) (W.world code.now.names.now world.old) result (W.world code.now.names.now world.new) }
 {
     let scope = Addr::Base(1);
-    with_names(world, names, scope, slots)?;
-    with_functions(alloc, world, names, table, scope, from, to)
+    with_names(world, code.names, scope, slots)?;
+    with_functions(code, world, scope, from, to)
 }
 
 /// The script of an entry.
 fn script_of<W: World>(
-    alloc: Global,
-    table: &NodeTable,
-    names: &NameTable,
+    code: &RunningCode<'_, '_>,
     context: &mut Context,
     world: &mut W,
     form: Redex,
     entry: &ScriptEntry,
 ) -> Reduced
-    ensures { RepliesOverWith names.now table.now (script_row entry.now.number (bindings names.now entry.now.names) (trees names.now table.now form.mid form.end)) (W.world names.now world.old) context.old result (W.world names.now world.new) context.new }
+    ensures { RepliesOverWith code.now.names.now code.now.table.now (script_row entry.now.number (bindings code.now.names.now entry.now.names) (trees code.now.names.now code.now.table.now form.mid form.end)) (W.world code.now.names.now world.old) context.old result (W.world code.now.names.now world.new) context.new }
 {
-    let Some(statements) = part_at(table, form.mid, form.end, 0) else {
+    let Some(statements) = part_at(code.table, form.mid, form.end, 0) else {
         return Reduced::Gives(Value::Undefined);
     };
     let first = form.mid + 1;
     match enter_script(context, entry.number) {
         Ok(()) => {
             let slots = entry.names.slice();
-            let declared = declare_script(alloc, table, names, world, slots, first, form.end);
+            let declared = declare_script(code, world, slots, first, form.end);
             uncovered_after(declared, statements)
         }
         Err(_) => Reduced::Memory,
@@ -247,42 +259,36 @@ fn script_of<W: World>(
 
 /// A script: the bottom frame is its own from now on; its names, its functions, then its statements (16.1.7).
 pub fn script<W: World>(
-    alloc: Global,
-    table: &NodeTable,
-    names: &NameTable,
+    code: &RunningCode<'_, '_>,
     context: &mut Context,
     world: &mut W,
     form: Redex,
 ) -> Reduced
-    ensures { OfEntry (slice_get table.now.scripts.items form.info) result (λ entry. RepliesOverWith names.now table.now (script_row entry.number (bindings names.now entry.names) (trees names.now table.now form.mid form.end)) (W.world names.now world.old) context.old result (W.world names.now world.new) context.new) }
+    ensures { OfEntry (slice_get code.now.table.now.scripts.items form.info) result (λ entry. RepliesOverWith code.now.names.now code.now.table.now (script_row entry.number (bindings code.now.names.now entry.names) (trees code.now.names.now code.now.table.now form.mid form.end)) (W.world code.now.names.now world.old) context.old result (W.world code.now.names.now world.new) context.new) }
 {
-    match script_entry(table, form.info) {
-        Some(entry) => script_of(alloc, table, names, context, world, form, entry),
+    match script_entry(code.table, form.info) {
+        Some(entry) => script_of(code, context, world, form, entry),
         None => Reduced::Memory,
     }
 }
 
 /// A block that declares these names; with none of them it needs no scope.
 fn block_of<W: World>(
-    alloc: Global,
-    table: &NodeTable,
-    names: &NameTable,
+    code: &RunningCode<'_, '_>,
     world: &mut W,
     form: Redex,
     slots: &[Slot],
 ) -> Reduced
-    ensures { RepliesOver names.now table.now (block_row form.inner (bindings names.now slots.now) (trees names.now table.now form.mid form.end)) (W.world names.now world.old) result (W.world names.now world.new) }
+    ensures { RepliesOver code.now.names.now code.now.table.now (block_row form.inner (bindings code.now.names.now slots.now) (trees code.now.names.now code.now.table.now form.mid form.end)) (W.world code.now.names.now world.old) result (W.world code.now.names.now world.new) }
 {
-    let Some(statements) = part_at(table, form.mid, form.end, 0) else {
+    let Some(statements) = part_at(code.table, form.mid, form.end, 0) else {
         return Reduced::Gives(Value::Undefined);
     };
     if slots.is_empty() {
         return Reduced::Uncovers(statements);
     }
     let own = scope_with(
-        alloc,
-        table,
-        names,
+        code,
         world,
         ScopeKind::Block,
         form.inner,
@@ -294,17 +300,11 @@ fn block_of<W: World>(
 }
 
 /// A block: a scope where it declares a name, with its functions (14.2.2).
-pub fn block<W: World>(
-    alloc: Global,
-    table: &NodeTable,
-    names: &NameTable,
-    world: &mut W,
-    form: Redex,
-) -> Reduced
-    ensures { OfEntry (slice_get table.now.blocks.items form.info) result (λ slots. RepliesOver names.now table.now (block_row form.inner (bindings names.now slots) (trees names.now table.now form.mid form.end)) (W.world names.now world.old) result (W.world names.now world.new)) }
+pub fn block<W: World>(code: &RunningCode<'_, '_>, world: &mut W, form: Redex) -> Reduced
+    ensures { OfEntry (slice_get code.now.table.now.blocks.items form.info) result (λ slots. RepliesOver code.now.names.now code.now.table.now (block_row form.inner (bindings code.now.names.now slots) (trees code.now.names.now code.now.table.now form.mid form.end)) (W.world code.now.names.now world.old) result (W.world code.now.names.now world.new)) }
 {
-    match block_entry(table, form.info) {
-        Some(slots) => block_of(alloc, table, names, world, form, slots.slice()),
+    match block_entry(code.table, form.info) {
+        Some(slots) => block_of(code, world, form, slots.slice()),
         None => Reduced::Memory,
     }
 }
@@ -320,16 +320,14 @@ pub fn catch_nameless(table: &NodeTable, form: Redex) -> Reduced
 
 /// A throw reaches a catch with a name, which has a scope of its own (14.15.2, 14.15.3).
 pub fn catch_named<W: World>(
-    alloc: Global,
-    table: &NodeTable,
-    names: &NameTable,
+    code: &RunningCode<'_, '_>,
     world: &mut W,
     form: Redex,
     thrown: Value,
 ) -> Reduced
-    ensures { RepliesOver names.now table.now (catch_row form.inner (Some (name_of names.now form.info)) thrown (trees names.now table.now form.mid form.end)) (W.world names.now world.old) result (W.world names.now world.new) }
+    ensures { RepliesOver code.now.names.now code.now.table.now (catch_row form.inner (Some (name_of code.now.names.now form.info)) thrown (trees code.now.names.now code.now.table.now form.mid form.end)) (W.world code.now.names.now world.old) result (W.world code.now.names.now world.new) }
 {
-    let Some(handler) = part_at(table, form.mid, form.end, 0) else {
+    let Some(handler) = part_at(code.table, form.mid, form.end, 0) else {
         return Reduced::Gives(Value::Undefined);
     };
     let name = Slot {
@@ -337,6 +335,13 @@ pub fn catch_named<W: World>(
         constant: false,
         value: Some(thrown),
     };
-    let own = nameless_scope(alloc, names, world, ScopeKind::Catch, form.inner, &[name]);
+    let own = nameless_scope(
+        code.alloc,
+        code.names,
+        world,
+        ScopeKind::Catch,
+        form.inner,
+        &[name],
+    );
     scoped(own, handler)
 }

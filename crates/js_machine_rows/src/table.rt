@@ -25,10 +25,11 @@ use crate::statements::{
 };
 use crate::updates::{is_prefix, operator_of, update_index, update_member, update_name};
 use js_heap::value::Value;
-use js_heap_memory::names::{NameId, NameTable};
+use js_heap_memory::names::NameId;
 use js_heap_memory::world::World;
 use js_machine_actions::context::Context;
 use js_machine_actions::lists::last_of;
+use js_machine_engine::code::RunningCode;
 use js_machine_engine::reduced::Reduced;
 use js_machine_engine::rows::Rows;
 use js_machine_engine::task::{Extra, Redex};
@@ -36,7 +37,6 @@ use js_machine_nodes::node::CallEntry;
 use js_machine_nodes::op::Op;
 use js_machine_nodes::table::NodeTable;
 use js_semantics::form::Completion;
-use std::alloc::Global;
 
 /// The table of steps: one row for each form (see [`Rows`]).
 #[derive(Clone, Copy)]
@@ -45,180 +45,175 @@ pub struct StepTable;
 /// What is reduced most often.
 #[inline(always)]
 fn frequent<W: World>(
-    alloc: Global,
-    table: &NodeTable,
-    names: &NameTable,
+    code: &RunningCode<'_, '_>,
     context: &mut Context,
     world: &mut W,
     form: Redex,
     values: &[Value],
 ) -> Reduced
-    requires { HasFunctions table.now }
-    ensures { IsRow names.now table.now form values.now None (W.world names.now world.old) context.old result (W.world names.now world.new) context.new }
+    requires { HasFunctions code.now.table.now }
+    ensures { IsRow code.now.names.now code.now.table.now form values.now None (W.world code.now.names.now world.old) context.old result (W.world code.now.names.now world.new) context.new }
 {
     let name = NameId { number: form.info };
     match form.op {
-        Op::ReadName => read_name(alloc, world, names, form.inner, name),
-        Op::Binary(operator) => binary(alloc, world, names, operator, values),
-        Op::Enter => enter(table, context, form),
-        Op::AssignName => assign_name(alloc, world, names, form.inner, name, last_of(values)),
-        Op::UpdateName(kind) => update_name(
-            alloc,
+        Op::ReadName => read_name(code.alloc, world, code.names, form.inner, name),
+        Op::Binary(operator) => binary(code.alloc, world, code.names, operator, values),
+        Op::Enter => enter(code.table, context, form),
+        Op::AssignName => assign_name(
+            code.alloc,
             world,
-            names,
+            code.names,
+            form.inner,
+            name,
+            last_of(values),
+        ),
+        Op::UpdateName(kind) => update_name(
+            code.alloc,
+            world,
+            code.names,
             operator_of(kind),
             is_prefix(kind),
             form.inner,
             name,
         ),
-        Op::ReadMember => read_member(alloc, world, names, values, name),
-        Op::ReadIndex => read_index(alloc, world, names, values),
-        Op::AssignIndex => assign_index(alloc, world, names, values),
-        Op::Choose => choose(table, names, &*world, form, values),
-        Op::LoopTesting => loop_test(names, &*world, values),
+        Op::ReadMember => read_member(code.alloc, world, code.names, values, name),
+        Op::ReadIndex => read_index(code.alloc, world, code.names, values),
+        Op::AssignIndex => assign_index(code.alloc, world, code.names, values),
+        Op::Choose => choose(code, &*world, form, values),
+        Op::LoopTesting => loop_test(code.names, &*world, values),
         Op::Return => returned(values),
         Op::Call | Op::CallOfName | Op::CallOfMember | Op::CallOfIndex => calling(
-            alloc, table, names, context, world, form, values,
+            code, context, world, form, values,
         ),
-        _ => expression(alloc, table, names, context, world, form, values),
+        _ => expression(code, context, world, form, values),
     }
 }
 
 /// Expressions: operators, literals and functions.
 #[inline(never)]
 fn expression<W: World>(
-    alloc: Global,
-    table: &NodeTable,
-    names: &NameTable,
+    code: &RunningCode<'_, '_>,
     context: &mut Context,
     world: &mut W,
     form: Redex,
     values: &[Value],
 ) -> Reduced
-    ensures { IsRow names.now table.now form values.now None (W.world names.now world.old) context.old result (W.world names.now world.new) context.new }
+    ensures { IsRow code.now.names.now code.now.table.now form values.now None (W.world code.now.names.now world.old) context.old result (W.world code.now.names.now world.new) context.new }
 {
     let name = NameId { number: form.info };
     match form.op {
-        Op::Unary(operator) => unary(alloc, world, names, operator, values),
+        Op::Unary(operator) => unary(code.alloc, world, code.names, operator, values),
         Op::This => this(&*context),
-        Op::TypeofName => typeof_name(alloc, world, names, form.inner, name),
-        Op::Both => both(table, names, &*world, form, values),
-        Op::Either => either(table, names, &*world, form, values),
-        Op::Comma => comma(table, form),
-        Op::Array => array(alloc, names, world, values),
-        Op::Function => function(alloc, table, names, &*context, world, form),
-        Op::Object => object(alloc, table, names, world, form, form.mid, values),
-        _ => writing(alloc, table, names, context, world, form, values),
+        Op::TypeofName => typeof_name(code.alloc, world, code.names, form.inner, name),
+        Op::Both => both(code, &*world, form, values),
+        Op::Either => either(code, &*world, form, values),
+        Op::Comma => comma(code.table, form),
+        Op::Array => array(code.alloc, code.names, world, values),
+        Op::Function => function(code, &*context, world, form),
+        Op::Object => object(code, world, form, form.mid, values),
+        _ => writing(code, context, world, form, values),
     }
 }
 
 /// Assignments, updates and deletions.
 #[inline(never)]
 fn writing<W: World>(
-    alloc: Global,
-    table: &NodeTable,
-    names: &NameTable,
+    code: &RunningCode<'_, '_>,
     context: &mut Context,
     world: &mut W,
     form: Redex,
     values: &[Value],
 ) -> Reduced
-    ensures { IsRow names.now table.now form values.now None (W.world names.now world.old) context.old result (W.world names.now world.new) context.new }
+    ensures { IsRow code.now.names.now code.now.table.now form values.now None (W.world code.now.names.now world.old) context.old result (W.world code.now.names.now world.new) context.new }
 {
     let name = NameId { number: form.info };
     match form.op {
-        Op::AssignMember => assign_member(alloc, world, names, values, name),
+        Op::AssignMember => assign_member(code.alloc, world, code.names, values, name),
         Op::UpdateMember(kind) => update_member(
-            alloc,
+            code.alloc,
             world,
-            names,
+            code.names,
             operator_of(kind),
             is_prefix(kind),
             values,
             name,
         ),
         Op::UpdateIndex(kind) => update_index(
-            alloc,
+            code.alloc,
             world,
-            names,
+            code.names,
             operator_of(kind),
             is_prefix(kind),
             values,
         ),
         Op::DeleteName => Reduced::Gives(Value::Undefined),
-        Op::DeleteMember => delete_member(alloc, world, names, values, name),
-        Op::DeleteIndex => delete_index(alloc, world, names, values),
+        Op::DeleteMember => delete_member(code.alloc, world, code.names, values, name),
+        Op::DeleteIndex => delete_index(code.alloc, world, code.names, values),
         Op::CompoundName(_) | Op::CompoundMember(_) | Op::CompoundIndex(_) => compound(
-            alloc, table, names, context, world, form, values,
+            code, context, world, form, values,
         ),
-        _ => statement(alloc, table, names, context, world, form, values),
+        _ => statement(code, context, world, form, values),
     }
 }
 
 /// Scripts, blocks and declarations, and completions that travel outward.
 #[inline(always)]
 fn statement<W: World>(
-    alloc: Global,
-    table: &NodeTable,
-    names: &NameTable,
+    code: &RunningCode<'_, '_>,
     context: &mut Context,
     world: &mut W,
     form: Redex,
     values: &[Value],
 ) -> Reduced
-    ensures { IsRow names.now table.now form values.now None (W.world names.now world.old) context.old result (W.world names.now world.new) context.new }
+    ensures { IsRow code.now.names.now code.now.table.now form values.now None (W.world code.now.names.now world.old) context.old result (W.world code.now.names.now world.new) context.new }
 {
     let name = NameId { number: form.info };
     match form.op {
         Op::Frame => frame(context),
-        Op::Block => block(alloc, table, names, world, form),
-        Op::Initialize => initialize(world, names, form.inner, name, values),
+        Op::Block => block(code, world, form),
+        Op::Initialize => initialize(world, code.names, form.inner, name, values),
         Op::Break => Reduced::Breaks,
         Op::Continue => Reduced::Continues,
         Op::Throw => throw(context, form.info, values),
-        Op::EnterDebugger => enter(table, context, form),
-        Op::Script => script(alloc, table, names, context, world, form),
+        Op::EnterDebugger => enter(code.table, context, form),
+        Op::Script => script(code, context, world, form),
         Op::Ending => Reduced::Gives(Value::Undefined),
-        _ => looping(alloc, table, names, context, world, form, values),
+        _ => looping(code, context, world, form, values),
     }
 }
 
 /// Loops.
 #[inline(always)]
 fn looping<W: World>(
-    alloc: Global,
-    table: &NodeTable,
-    names: &NameTable,
+    code: &RunningCode<'_, '_>,
     context: &mut Context,
     world: &mut W,
     form: Redex,
     values: &[Value],
 ) -> Reduced
-    ensures { IsRow names.now table.now form values.now None (W.world names.now world.old) context.old result (W.world names.now world.new) context.new }
+    ensures { IsRow code.now.names.now code.now.table.now form values.now None (W.world code.now.names.now world.old) context.old result (W.world code.now.names.now world.new) context.new }
 {
     match form.op {
-        Op::LoopBody => loop_body(alloc, names, world, form.info, form.inner),
-        Op::LoopFirst => loop_first(alloc, names, world, form.info, form.inner),
+        Op::LoopBody => loop_body(code.alloc, code.names, world, form.info, form.inner),
+        Op::LoopFirst => loop_first(code.alloc, code.names, world, form.info, form.inner),
         Op::LoopDoing => Reduced::Gives(Value::Undefined),
         Op::LoopUpdating => Reduced::Gives(Value::Undefined),
-        Op::EnterFor => enter_for(alloc, table, names, context, world, form),
-        Op::EnterForOf => enter_for_of(alloc, table, names, context, world, form),
-        Op::ListOf => list_of(alloc, table, names, world, form, values),
-        _ => valued(alloc, table, names, context, world, form, values),
+        Op::EnterFor => enter_for(code, context, world, form),
+        Op::EnterForOf => enter_for_of(code, context, world, form),
+        Op::ListOf => list_of(code, world, form, values),
+        _ => valued(code, context, world, form, values),
     }
 }
 
 /// Forms that have no row of their own: they give their last value. Of all else there is no answer.
 fn valued<W: World>(
-    alloc: Global,
-    table: &NodeTable,
-    names: &NameTable,
+    code: &RunningCode<'_, '_>,
     context: &mut Context,
     world: &mut W,
     form: Redex,
     values: &[Value],
 ) -> Reduced
-    ensures { IsRow names.now table.now form values.now None (W.world names.now world.old) context.old result (W.world names.now world.new) context.new }
+    ensures { IsRow code.now.names.now code.now.table.now form values.now None (W.world code.now.names.now world.old) context.old result (W.world code.now.names.now world.new) context.new }
 {
     match form.op {
         Op::Sequence => last(values),
@@ -234,24 +229,22 @@ fn valued<W: World>(
 /// A call, or what is read before it.
 #[inline(always)]
 fn calling_with<W: World>(
-    alloc: Global,
-    table: &NodeTable,
-    names: &NameTable,
+    code: &RunningCode<'_, '_>,
     context: &mut Context,
     world: &mut W,
     form: Redex,
     values: &[Value],
     entry: CallEntry,
 ) -> Reduced
-    requires functions { HasFunctions table.now }
-    requires found { Some entry ≡ slice_get table.now.calls.items form.info }
-    ensures { IsRow names.now table.now form values.now None (W.world names.now world.old) context.old result (W.world names.now world.new) context.new }
+    requires functions { HasFunctions code.now.table.now }
+    requires found { Some entry ≡ slice_get code.now.table.now.calls.items form.info }
+    ensures { IsRow code.now.names.now code.now.table.now form values.now None (W.world code.now.names.now world.old) context.old result (W.world code.now.names.now world.new) context.new }
 {
     match form.op {
-        Op::Call => call(alloc, table, names, context, world, entry.place, values),
-        Op::CallOfName => callee_of_name(alloc, world, names, form.inner, entry.name),
-        Op::CallOfMember => callee_of_member(alloc, world, names, values, entry.name),
-        Op::CallOfIndex => callee_of_index(alloc, world, names, values),
+        Op::Call => call(code, context, world, entry.place, values),
+        Op::CallOfName => callee_of_name(code.alloc, world, code.names, form.inner, entry.name),
+        Op::CallOfMember => callee_of_member(code.alloc, world, code.names, values, entry.name),
+        Op::CallOfIndex => callee_of_index(code.alloc, world, code.names, values),
         _ => Reduced::Memory,
     }
 }
@@ -259,19 +252,17 @@ fn calling_with<W: World>(
 /// A call, by its entry.
 #[inline(always)]
 fn calling<W: World>(
-    alloc: Global,
-    table: &NodeTable,
-    names: &NameTable,
+    code: &RunningCode<'_, '_>,
     context: &mut Context,
     world: &mut W,
     form: Redex,
     values: &[Value],
 ) -> Reduced
-    requires { HasFunctions table.now }
-    ensures { IsRow names.now table.now form values.now None (W.world names.now world.old) context.old result (W.world names.now world.new) context.new }
+    requires { HasFunctions code.now.table.now }
+    ensures { IsRow code.now.names.now code.now.table.now form values.now None (W.world code.now.names.now world.old) context.old result (W.world code.now.names.now world.new) context.new }
 {
-    match call_entry(table, form.info) {
-        Some(entry) => calling_with(alloc, table, names, context, world, form, values, entry),
+    match call_entry(code.table, form.info) {
+        Some(entry) => calling_with(code, context, world, form, values, entry),
         None => Reduced::Memory,
     }
 }
@@ -279,23 +270,21 @@ fn calling<W: World>(
 /// The old value of an assignment with an operator.
 #[inline(always)]
 fn compound_with<W: World>(
-    alloc: Global,
-    table: &NodeTable,
-    names: &NameTable,
+    code: &RunningCode<'_, '_>,
     context: &mut Context,
     world: &mut W,
     form: Redex,
     values: &[Value],
     part: u32,
 ) -> Reduced
-    requires { Some part ≡ slice_get (kids_between table.now form.mid form.end) 0 }
-    ensures { IsRow names.now table.now form values.now None (W.world names.now world.old) context.old result (W.world names.now world.new) context.new }
+    requires { Some part ≡ slice_get (kids_between code.now.table.now form.mid form.end) 0 }
+    ensures { IsRow code.now.names.now code.now.table.now form values.now None (W.world code.now.names.now world.old) context.old result (W.world code.now.names.now world.new) context.new }
 {
     let name = NameId { number: form.info };
     match form.op {
-        Op::CompoundName(_) => old_of_name(alloc, world, names, form.inner, name),
-        Op::CompoundMember(_) => old_of_member(alloc, world, names, values, name),
-        Op::CompoundIndex(_) => old_of_index(alloc, world, names, values),
+        Op::CompoundName(_) => old_of_name(code.alloc, world, code.names, form.inner, name),
+        Op::CompoundMember(_) => old_of_member(code.alloc, world, code.names, values, name),
+        Op::CompoundIndex(_) => old_of_index(code.alloc, world, code.names, values),
         _ => Reduced::Memory,
     }
 }
@@ -315,18 +304,16 @@ fn without_part(op: Op) -> Reduced
 /// An assignment with an operator, by the part that has its value.
 #[inline(always)]
 fn compound<W: World>(
-    alloc: Global,
-    table: &NodeTable,
-    names: &NameTable,
+    code: &RunningCode<'_, '_>,
     context: &mut Context,
     world: &mut W,
     form: Redex,
     values: &[Value],
 ) -> Reduced
-    ensures { IsRow names.now table.now form values.now None (W.world names.now world.old) context.old result (W.world names.now world.new) context.new }
+    ensures { IsRow code.now.names.now code.now.table.now form values.now None (W.world code.now.names.now world.old) context.old result (W.world code.now.names.now world.new) context.new }
 {
-    match part_at(table, form.mid, form.end, 0) {
-        Some(part) => compound_with(alloc, table, names, context, world, form, values, part),
+    match part_at(code.table, form.mid, form.end, 0) {
+        Some(part) => compound_with(code, context, world, form, values, part),
         None => without_part(form.op),
     }
 }
@@ -353,9 +340,7 @@ fn turn_done(table: &NodeTable, form: Redex, values: &[Value]) -> Reduced
 
 /// A `for .. of`, before a turn or behind one.
 fn turning<W: World>(
-    alloc: Global,
-    table: &NodeTable,
-    names: &NameTable,
+    code: &RunningCode<'_, '_>,
     context: &mut Context,
     world: &mut W,
     form: Redex,
@@ -363,30 +348,28 @@ fn turning<W: World>(
     list: Value,
     index: u32,
 ) -> Reduced
-    ensures { IsRow names.now table.now form values.now (Some (extras.Turn list index)) (W.world names.now world.old) context.old result (W.world names.now world.new) context.new }
+    ensures { IsRow code.now.names.now code.now.table.now form values.now (Some (extras.Turn list index)) (W.world code.now.names.now world.old) context.old result (W.world code.now.names.now world.new) context.new }
 {
     match form.op {
-        Op::TurnOf => turn_of(alloc, table, names, world, form, list, index),
-        Op::BodyOf => turn_done(table, form, values),
+        Op::TurnOf => turn_of(code, world, form, list, index),
+        Op::BodyOf => turn_done(code.table, form, values),
         _ => Reduced::Memory,
     }
 }
 
 /// An object literal behind a method with a computed key.
 fn behind_method<W: World>(
-    alloc: Global,
-    table: &NodeTable,
-    names: &NameTable,
+    code: &RunningCode<'_, '_>,
     context: &mut Context,
     world: &mut W,
     form: Redex,
     values: &[Value],
     from: u32,
 ) -> Reduced
-    ensures { IsRow names.now table.now form values.now (Some (extras.Rest from)) (W.world names.now world.old) context.old result (W.world names.now world.new) context.new }
+    ensures { IsRow code.now.names.now code.now.table.now form values.now (Some (extras.Rest from)) (W.world code.now.names.now world.old) context.old result (W.world code.now.names.now world.new) context.new }
 {
     match form.op {
-        Op::ObjectRest => object(alloc, table, names, world, form, from, values),
+        Op::ObjectRest => object(code, world, form, from, values),
         _ => Reduced::Memory,
     }
 }
@@ -394,32 +377,26 @@ fn behind_method<W: World>(
 /// What owns something apart from its values.
 #[inline(never)]
 fn owning<W: World>(
-    alloc: Global,
-    table: &NodeTable,
-    names: &NameTable,
+    code: &RunningCode<'_, '_>,
     context: &mut Context,
     world: &mut W,
     form: Redex,
     values: &[Value],
     extra: Extra,
 ) -> Reduced
-    ensures { IsRow names.now table.now form values.now (Some extra) (W.world names.now world.old) context.old result (W.world names.now world.new) context.new }
+    ensures { IsRow code.now.names.now code.now.table.now form values.now (Some extra) (W.world code.now.names.now world.old) context.old result (W.world code.now.names.now world.new) context.new }
 {
     match extra {
         Extra::Kept(completion) => resumed(form, completion),
-        Extra::Turn(list, index) => turning(
-            alloc, table, names, context, world, form, values, list, index,
-        ),
-        Extra::Rest(from) => behind_method(alloc, table, names, context, world, form, values, from),
+        Extra::Turn(list, index) => turning(code, context, world, form, values, list, index),
+        Extra::Rest(from) => behind_method(code, context, world, form, values, from),
     }
 }
 
 impl Rows for StepTable {
     #[inline(always)]
     fn reduce<W: World>(
-        alloc: Global,
-        table: &NodeTable,
-        names: &NameTable,
+        code: &RunningCode<'_, '_>,
         context: &mut Context,
         world: &mut W,
         form: Redex,
@@ -427,15 +404,13 @@ impl Rows for StepTable {
         extra: Option<Extra>,
     ) -> Reduced {
         match extra {
-            None => frequent(alloc, table, names, context, world, form, values),
-            Some(extra) => owning(alloc, table, names, context, world, form, values, extra),
+            None => frequent(code, context, world, form, values),
+            Some(extra) => owning(code, context, world, form, values, extra),
         }
     }
 
     fn catch<W: World>(
-        alloc: Global,
-        table: &NodeTable,
-        names: &NameTable,
+        code: &RunningCode<'_, '_>,
         context: &Context,
         world: &mut W,
         form: Redex,
@@ -443,8 +418,8 @@ impl Rows for StepTable {
     ) -> Reduced {
         let _ = context;
         match form.op {
-            Op::Catching => catch_nameless(table, form),
-            Op::CatchingName => catch_named(alloc, table, names, world, form, thrown),
+            Op::Catching => catch_nameless(code.table, form),
+            Op::CatchingName => catch_named(code, world, form, thrown),
             _ => Reduced::Memory,
         }
     }

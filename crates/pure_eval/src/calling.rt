@@ -26,10 +26,11 @@ use crate::evaluated::{Evaluated, finish_of};
 use crate::reducing::run_on;
 use crate::session::refused_end;
 use js_heap::built_in::script_scope;
-use js_heap::value::{Addr, Value};
+use js_heap::value::Value;
 use js_heap_memory::names::{NameId, NameTable};
 use js_heap_memory::world::World;
 use js_machine_actions::context::Context;
+use js_machine_engine::code::RunningCode;
 use js_machine_engine::rows::Rows;
 use js_machine_engine::settling::uncover;
 use js_machine_engine::stack::Stack;
@@ -106,27 +107,24 @@ fn end_with(stepped: &Stepped) -> Option<Evaluated>
 
 /// The steps of a call's callee, of so many that the call may make.
 fn reduce_callee<T: Rows, W: World>(
-    alloc: Global,
-    table: &NodeTable,
-    names: &NameTable,
-    root: Addr,
+    code: &RunningCode<'_, '_>,
     context: &mut Context,
     world: &mut W,
     stack: &mut Stack,
     point: &mut Point,
     most: u64,
 ) -> Callee
-    requires table { IsTable table.now }
-    requires functions { HasFunctions table.now }
-    requires stands { StandsIn table.now root stack.old point.old }
-    ensures { (taken : List (List ℕ)) (receiver : _) (arguments : _) → ComesTo (program_of names.now table.now) root most (run_of (call_with_values receiver (term_at names.now table.now stack.old point.old) arguments) (state_of (W.world names.now world.old) context.old taken)) receiver arguments result (state_of (W.world names.now world.new) context.new taken) }
+    requires table { IsTable code.now.table.now }
+    requires functions { HasFunctions code.now.table.now }
+    requires stands { StandsIn code.now.table.now code.now.root stack.old point.old }
+    ensures { (taken : List (List ℕ)) (receiver : _) (arguments : _) → ComesTo (program_of code.now.names.now code.now.table.now) code.now.root most (run_of (call_with_values receiver (term_at code.now.names.now code.now.table.now stack.old point.old) arguments) (state_of (W.world code.now.names.now world.old) context.old taken)) receiver arguments result (state_of (W.world code.now.names.now world.new) context.new taken) }
 {
     let mut left = most;
     while left > 0 {
         if let Point::Done(value) = *point {
             return Callee::Reduced { value, left };
         }
-        let stepped = step::<T, W>(alloc, table, names, root, context, world, stack, point);
+        let stepped = step::<T, W>(code, context, world, stack, point);
         if let Some(end) = end_with(&stepped) {
             return Callee::Ended(end);
         }
@@ -147,21 +145,18 @@ fn push_values(stack: &mut Stack, more: &[Value]) -> Result<(), AllocError>
 
 /// A call whose parts have their values, before its own step.
 fn begin_call(
-    alloc: Global,
-    table: &NodeTable,
-    root: Addr,
+    code: &RunningCode<'_, '_>,
     call: u32,
     receiver: Value,
     callee: Value,
     arguments: &[Value],
 ) -> Result<Stack, AllocError>
-    requires { HasCall table.now call }
-    ensures term { IfOk result (λ stack. (ts : List (List ℕ)) → term_at ts table.now stack points.Row ≡ call_with_values receiver (done callee) arguments.now) }
-    ensures stands { IfOk result (λ stack. StandsIn table.now root stack points.Row) }
+    requires { HasCall code.now.table.now call }
+    ensures term { IfOk result (λ stack. (ts : List (List ℕ)) → term_at ts code.now.table.now stack points.Row ≡ call_with_values receiver (done callee) arguments.now) }
+    ensures stands { IfOk result (λ stack. StandsIn code.now.table.now code.now.root stack points.Row) }
 {
-    let _ = table;
-    let mut stack = Stack::new(alloc);
-    stack.push(Op::Call, call, 0, 0, 0, root)?;
+    let mut stack = Stack::new(code.alloc);
+    stack.push(Op::Call, call, 0, 0, 0, code.root)?;
     stack.push_value(receiver)?;
     stack.push_value(callee)?;
     push_values(&mut stack, arguments)?;
@@ -170,10 +165,7 @@ fn begin_call(
 
 /// The steps of a call whose callee has its value, of so many that are left.
 fn run_call<T: Rows, W: World>(
-    alloc: Global,
-    table: &NodeTable,
-    names: &NameTable,
-    root: Addr,
+    code: &RunningCode<'_, '_>,
     context: &mut Context,
     world: &mut W,
     call: u32,
@@ -182,20 +174,18 @@ fn run_call<T: Rows, W: World>(
     arguments: &[Value],
     left: u64,
 ) -> Evaluated
-    requires table { IsTable table.now }
-    requires functions { HasFunctions table.now }
-    requires call { HasCall table.now call }
-    ensures answer { (taken : List (List ℕ)) → Answers (answer_of (steps_in left (program_of names.now table.now) root (run_of (call_with_values receiver (done callee) arguments.now) (state_of (W.world names.now world.old) context.old taken)))) result (W.world names.now world.new) }
-    ensures world { (taken : List (List ℕ)) → EndsIn (steps_in left (program_of names.now table.now) root (run_of (call_with_values receiver (done callee) arguments.now) (state_of (W.world names.now world.old) context.old taken))) result (W.world names.now world.new) }
+    requires table { IsTable code.now.table.now }
+    requires functions { HasFunctions code.now.table.now }
+    requires call { HasCall code.now.table.now call }
+    ensures answer { (taken : List (List ℕ)) → Answers (answer_of (steps_in left (program_of code.now.names.now code.now.table.now) code.now.root (run_of (call_with_values receiver (done callee) arguments.now) (state_of (W.world code.now.names.now world.old) context.old taken)))) result (W.world code.now.names.now world.new) }
+    ensures world { (taken : List (List ℕ)) → EndsIn (steps_in left (program_of code.now.names.now code.now.table.now) code.now.root (run_of (call_with_values receiver (done callee) arguments.now) (state_of (W.world code.now.names.now world.old) context.old taken))) result (W.world code.now.names.now world.new) }
 {
-    let Ok(begun) = begin_call(alloc, table, root, call, receiver, callee, arguments) else {
+    let Ok(begun) = begin_call(code, call, receiver, callee, arguments) else {
         return Evaluated::Memory;
     };
     let mut stack = begun;
     let mut point = Point::Row;
-    run_on::<T, W>(
-        alloc, table, names, root, context, world, &mut stack, &mut point, left,
-    )
+    run_on::<T, W>(code, context, world, &mut stack, &mut point, left)
 }
 
 /// The call of a node's function in the script scope with a `this` and arguments: at most [`MOST_STEPS`] steps, those that
@@ -224,11 +214,14 @@ fn call_node<T: Rows, W: World>(
     let Ok(()) = uncover(table, root, &mut stack, &mut point, node) else {
         return Evaluated::Memory;
     };
-    let callee = reduce_callee::<T, W>(
+    let code = RunningCode {
         alloc,
         table,
         names,
         root,
+    };
+    let callee = reduce_callee::<T, W>(
+        &code,
         &mut context,
         world,
         &mut stack,
@@ -237,10 +230,7 @@ fn call_node<T: Rows, W: World>(
     );
     match callee {
         Callee::Reduced { value, left } => run_call::<T, W>(
-            alloc,
-            table,
-            names,
-            root,
+            &code,
             &mut context,
             world,
             call,

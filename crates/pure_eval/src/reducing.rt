@@ -16,6 +16,7 @@ use js_heap::value::{Addr, Value};
 use js_heap_memory::names::NameTable;
 use js_heap_memory::world::World;
 use js_machine_actions::context::Context;
+use js_machine_engine::code::RunningCode;
 use js_machine_engine::rows::Rows;
 use js_machine_engine::run::{StopTest, step_until};
 use js_machine_engine::settling::uncover;
@@ -45,27 +46,22 @@ impl StopTest for Nobody {
 
 /// An evaluation goes on to its end, or until so many steps are made.
 pub fn run_on<T: Rows, W: World>(
-    alloc: Global,
-    table: &NodeTable,
-    names: &NameTable,
-    root: Addr,
+    code: &RunningCode<'_, '_>,
     context: &mut Context,
     world: &mut W,
     stack: &mut Stack,
     point: &mut Point,
     most: u64,
 ) -> Evaluated
-    requires table { IsTable table.now }
-    requires functions { HasFunctions table.now }
-    requires stands { StandsIn table.now root stack.old point.old }
-    ensures answer { (taken : List (List ℕ)) → Answers (answer_of (steps_in most (program_of names.now table.now) root (run_of (term_at names.now table.now stack.old point.old) (state_of (W.world names.now world.old) context.old taken)))) result (W.world names.now world.new) }
-    ensures world { (taken : List (List ℕ)) → EndsIn (steps_in most (program_of names.now table.now) root (run_of (term_at names.now table.now stack.old point.old) (state_of (W.world names.now world.old) context.old taken))) result (W.world names.now world.new) }
+    requires table { IsTable code.now.table.now }
+    requires functions { HasFunctions code.now.table.now }
+    requires stands { StandsIn code.now.table.now code.now.root stack.old point.old }
+    ensures answer { (taken : List (List ℕ)) → Answers (answer_of (steps_in most (program_of code.now.names.now code.now.table.now) code.now.root (run_of (term_at code.now.names.now code.now.table.now stack.old point.old) (state_of (W.world code.now.names.now world.old) context.old taken)))) result (W.world code.now.names.now world.new) }
+    ensures world { (taken : List (List ℕ)) → EndsIn (steps_in most (program_of code.now.names.now code.now.table.now) code.now.root (run_of (term_at code.now.names.now code.now.table.now stack.old point.old) (state_of (W.world code.now.names.now world.old) context.old taken))) result (W.world code.now.names.now world.new) }
 {
     let mut left = most;
     while left > 0 {
-        let ran = step_until::<T, W, Nobody>(
-            alloc, table, names, root, context, world, stack, point, left, &Nobody,
-        );
+        let ran = step_until::<T, W, Nobody>(code, context, world, stack, point, left, &Nobody);
         if let Some(end) = end_of(&ran.why) {
             return end;
         }
@@ -93,12 +89,15 @@ pub fn evaluate_node<T: Rows, W: World>(
     let mut context = Context::bare(alloc, receiver);
     let mut stack = Stack::new(alloc);
     let mut point = Point::Row;
+    let code = RunningCode {
+        alloc,
+        table,
+        names,
+        root: scope,
+    };
     match uncover(table, scope, &mut stack, &mut point, node) {
         Ok(()) => run_on::<T, W>(
-            alloc,
-            table,
-            names,
-            scope,
+            &code,
             &mut context,
             world,
             &mut stack,

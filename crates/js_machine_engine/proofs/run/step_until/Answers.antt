@@ -6,8 +6,9 @@ use Rattle.js_machine_engine.proofs.run.step_until.Goals as goal
 pub loop-steps-init : goal.loop-steps-init
 loop-steps-init g c = record {
   run =
-      runs-init c.args.names.now c.args.table.now c.args.root c.args.stack.now c.args.point.now
-      (g.W.World.world c.args.names.now c.args.world.now) c.args.context.now c.requires.stands;
+      runs-init c.args.code.now.names.now c.args.code.now.table.now c.args.code.now.root c.args.stack.now
+      c.args.point.now
+      (g.W.World.world c.args.code.now.names.now c.args.world.now) c.args.context.now c.requires.stands;
   passed = λ taken. none-passed (g.H.StopTest.stops c.args.host.now) _ _ _;
   silent = λ taken. none-silent _ _ _;
 }
@@ -17,10 +18,11 @@ returns-in-Done g c =
     let i = c.loop-steps.invariant in
     record {
       told =
-          λ taken. done-runs c.args.names.now c.args.table.now c.args.root c.args.stack.now c.args.point.now
-          (g.W.World.world c.args.names.now c.args.world.now)
+          λ taken. done-runs c.args.code.now.names.now c.args.code.now.table.now c.args.code.now.root c.args.stack.now
+          c.args.point.now
+          (g.W.World.world c.args.code.now.names.now c.args.world.now)
           c.args.context.now c.loop-steps.steps c.loop-steps.stack c.loop-steps.point
-          (g.W.World.world c.args.names.now c.loop-steps.world)
+          (g.W.World.world c.args.code.now.names.now c.loop-steps.world)
           c.loop-steps.context c.in-Done.value i.run c.in-Done.is taken;
       left = i.run.left;
       stands = tt;
@@ -34,8 +36,8 @@ returns-in-Done g c =
 
 pub returns-then-is_stop : goal.returns-then-is_stop
 returns-then-is_stop g c =
-    let ts = c.args.names.now in
-    let t = c.args.table.now in
+    let ts = c.args.code.now.names.now in
+    let t = c.args.code.now.table.now in
     let w = g.W.World.world ts c.args.world.now in
     let v = g.W.World.world ts c.loop-steps.world in
     let x = g.W.World.world ts c.step-stepped.new.world in
@@ -44,16 +46,17 @@ returns-then-is_stop g c =
     let y = c.why_of.ensures in
     record {
       told =
-          λ taken. stop-runs ts t c.args.root c.args.stack.now c.args.point.now w c.args.context.now c.loop-steps.steps
+          λ taken. stop-runs ts t c.args.code.now.root c.args.stack.now c.args.point.now w c.args.context.now
+          c.loop-steps.steps
           c.loop-steps.stack c.step-stepped.new.stack c.loop-steps.point c.step-stepped.new.point v x
           c.loop-steps.context c.step-stepped.new.context c.step-stepped.result c.why_of.result i.run going_on y
           taken
           (c.step-stepped.ensures.told taken);
       left =
-          more-left ts t c.args.root c.args.stack.now c.args.point.now w c.args.context.now c.loop-steps.steps
+          more-left ts t c.args.code.now.root c.args.stack.now c.args.point.now w c.args.context.now c.loop-steps.steps
           c.loop-steps.stack c.loop-steps.point v c.loop-steps.context i.run going_on;
       stands =
-          stop-stands t c.args.root c.step-stepped.new.stack c.step-stepped.new.point c.step-stepped.result
+          stop-stands t c.args.code.now.root c.step-stepped.new.stack c.step-stepped.new.point c.step-stepped.result
           c.why_of.result y c.step-stepped.ensures.stands;
       within = omega (arith, c.loop-steps-test.true);
       counted = stop-counted c.step-stepped.result c.why_of.result c.loop-steps.steps c.args.most y;
@@ -62,7 +65,7 @@ returns-then-is_stop g c =
           λ taken. stop-passed (g.H.StopTest.stops c.args.host.now)
           c.step-stepped.result c.why_of.result c.loop-steps.steps _ _ _ y (i.passed taken);
       values =
-          λ taken. stop-prints ts t c.args.root c.args.stack.now c.args.point.now w c.args.context.now
+          λ taken. stop-prints ts t c.args.code.now.root c.args.stack.now c.args.point.now w c.args.context.now
           c.loop-steps.steps c.loop-steps.stack c.step-stepped.new.stack c.loop-steps.point c.step-stepped.new.point
           v x c.loop-steps.context c.step-stepped.new.context c.step-stepped.result c.why_of.result i.run going_on y
           taken
@@ -72,15 +75,16 @@ returns-then-is_stop g c =
 
 pub returns-then-stops_at : goal.returns-then-stops_at
 returns-then-stops_at g c =
-    let ts = c.args.names.now in
-    let t = c.args.table.now in
+    let ts = c.args.code.now.names.now in
+    let t = c.args.code.now.table.now in
     let w = g.W.World.world ts c.args.world.now in
     let v = g.W.World.world ts c.loop-steps.world in
     let x = g.W.World.world ts c.step-stepped.new.world in
     let i = c.loop-steps.invariant in
     let going_on = going c.loop-steps.point c.in_default.not-Done in
     let none = goes-none c.step-stepped.result (sym c.is_stop.ensures ∙ c.if-is_stop.false) in
-    let n = next-runs ts t c.args.root c.args.stack.now c.args.point.now w c.args.context.now c.loop-steps.steps
+    let n = next-runs ts t c.args.code.now.root c.args.stack.now c.args.point.now w c.args.context.now
+    c.loop-steps.steps
     c.loop-steps.stack c.step-stepped.new.stack c.loop-steps.point c.step-stepped.new.point v x c.loop-steps.context
     c.step-stepped.new.context c.step-stepped.result i.run going_on none c.step-stepped.ensures.told
     c.step-stepped.ensures.stands in
@@ -95,7 +99,7 @@ returns-then-stops_at g c =
           c.if-stops_at.true;
       passed = λ taken. passed-but-last (g.H.StopTest.stops c.args.host.now) c.loop-steps.steps _ _ _ (i.passed taken);
       values =
-          λ taken. next-silent ts t c.args.root c.args.stack.now c.args.point.now w c.args.context.now
+          λ taken. next-silent ts t c.args.code.now.root c.args.stack.now c.args.point.now w c.args.context.now
           c.loop-steps.steps c.loop-steps.stack c.step-stepped.new.stack c.loop-steps.point c.step-stepped.new.point
           v x c.loop-steps.context c.step-stepped.new.context c.step-stepped.result i.run going_on none taken
           (c.step-stepped.ensures.told taken);
@@ -104,15 +108,16 @@ returns-then-stops_at g c =
 
 pub loop-steps-preserved : goal.loop-steps-preserved
 loop-steps-preserved g c =
-    let ts = c.args.names.now in
-    let t = c.args.table.now in
+    let ts = c.args.code.now.names.now in
+    let t = c.args.code.now.table.now in
     let w = g.W.World.world ts c.args.world.now in
     let v = g.W.World.world ts c.loop-steps.world in
     let x = g.W.World.world ts c.step-stepped.new.world in
     let i = c.loop-steps.invariant in
     let going_on = going c.loop-steps.point c.in_default.not-Done in
     let none = goes-none c.step-stepped.result (sym c.is_stop.ensures ∙ c.if-is_stop.false) in
-    let n = next-runs ts t c.args.root c.args.stack.now c.args.point.now w c.args.context.now c.loop-steps.steps
+    let n = next-runs ts t c.args.code.now.root c.args.stack.now c.args.point.now w c.args.context.now
+    c.loop-steps.steps
     c.loop-steps.stack c.step-stepped.new.stack c.loop-steps.point c.step-stepped.new.point v x c.loop-steps.context
     c.step-stepped.new.context c.step-stepped.result i.run going_on none c.step-stepped.ensures.told
     c.step-stepped.ensures.stands in
@@ -124,7 +129,8 @@ loop-steps-preserved g c =
           c.if-stops_at.false);
       silent =
           λ taken. more-silent c.loop-steps.steps _ _ _ (i.silent taken)
-          (next-silent ts t c.args.root c.args.stack.now c.args.point.now w c.args.context.now c.loop-steps.steps
+          (next-silent ts t c.args.code.now.root c.args.stack.now c.args.point.now w c.args.context.now
+          c.loop-steps.steps
           c.loop-steps.stack c.step-stepped.new.stack c.loop-steps.point c.step-stepped.new.point v x
           c.loop-steps.context c.step-stepped.new.context c.step-stepped.result i.run going_on none taken
           (c.step-stepped.ensures.told taken));

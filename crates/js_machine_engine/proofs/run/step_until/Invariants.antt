@@ -9,14 +9,15 @@ use Rattle.js_machine_engine.proofs.run.step_until.Given as goal
 
 abbrev pub invariant-loop-steps : goal.invariant-loop-steps
 invariant-loop-steps g l = record {
-  run : HasRun l.names l.table l.root l.fn.stack l.fn.point (g.W.World.world l.names l.fn.world)
-      l.fn.context l.steps l.stack l.point (g.W.World.world l.names l.world) l.context;
+  run : HasRun l.code.names.now l.code.table.now l.code.root l.fn.stack l.fn.point
+      (g.W.World.world l.code.names.now l.fn.world)
+      l.fn.context l.steps l.stack l.point (g.W.World.world l.code.names.now l.world) l.context;
   passed : (taken : List (List ℕ))
-      → HasPassed (g.H.StopTest.stops l.host) l.steps (program_of l.names l.table) l.root
-      (run_of (term_at l.names l.table l.fn.stack l.fn.point)
-      (state_of (g.W.World.world l.names l.fn.world) l.fn.context taken));
+      → HasPassed (g.H.StopTest.stops l.host) l.steps (program_of l.code.names.now l.code.table.now) l.code.root
+      (run_of (term_at l.code.names.now l.code.table.now l.fn.stack l.fn.point)
+      (state_of (g.W.World.world l.code.names.now l.fn.world) l.fn.context taken));
   silent : (taken : List (List ℕ))
-      → IsSilent l.steps (program_of l.names l.table) l.root
-      (run_of (term_at l.names l.table l.fn.stack l.fn.point)
-      (state_of (g.W.World.world l.names l.fn.world) l.fn.context taken));
+      → IsSilent l.steps (program_of l.code.names.now l.code.table.now) l.code.root
+      (run_of (term_at l.code.names.now l.code.table.now l.fn.stack l.fn.point)
+      (state_of (g.W.World.world l.code.names.now l.fn.world) l.fn.context taken));
 }

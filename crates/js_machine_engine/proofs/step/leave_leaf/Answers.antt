@@ -15,9 +15,9 @@ use Rattle.js_machine_engine.proofs.step.leave_leaf.Goals as goal
 
 pub returns-in-Follows-clause-told : goal.returns-in-Follows-clause-told
 returns-in-Follows-clause-told g c = λ taken m h.
-    let ts = c.args.names.now in
-    let t = c.args.table.now in
-    let root = c.args.root in
+    let ts = c.args.code.now.names.now in
+    let t = c.args.code.now.table.now in
+    let root = c.args.code.now.root in
     let old = c.args.stack.now in
     let r = c.args.reduced in
     let a = demand_of r in
@@ -30,15 +30,15 @@ returns-in-Follows-clause-told g c = λ taken m h.
 pub returns-in-Follows-clause-stands : goal.returns-in-Follows-clause-stands
 returns-in-Follows-clause-stands g c =
     goes-on-weaker c.went_of.result (λ k. k c.requires.scoped)
-    (went-stands c.follow_leaf.result c.went_of.result c.args.table.now c.args.root c.args.stack.now
+    (went-stands c.follow_leaf.result c.went_of.result c.args.code.now.table.now c.args.code.now.root c.args.stack.now
     c.follow_leaf.new.stack c.follow_leaf.new.point c.went_of.ensures c.follow_leaf.ensures.at
     (on_ok_weaker c.follow_leaf.result (λ k. k c.requires.inner) c.follow_leaf.ensures.scoped))
 
 pub returns-in-Raises-clause-told : goal.returns-in-Raises-clause-told
 returns-in-Raises-clause-told g c = λ taken m h.
-    let ts = c.args.names.now in
-    let t = c.args.table.now in
-    let root = c.args.root in
+    let ts = c.args.code.now.names.now in
+    let t = c.args.code.now.table.now in
+    let root = c.args.code.now.root in
     let old = c.args.stack.now in
     let r = c.args.reduced in
     let a = demand_of r in
@@ -50,9 +50,9 @@ returns-in-Raises-clause-told g c = λ taken m h.
 
 pub returns-in-Travels-clause-told : goal.returns-in-Travels-clause-told
 returns-in-Travels-clause-told g c = λ taken m h.
-    let ts = c.args.names.now in
-    let t = c.args.table.now in
-    let root = c.args.root in
+    let ts = c.args.code.now.names.now in
+    let t = c.args.code.now.table.now in
+    let root = c.args.code.now.root in
     let old = c.args.stack.now in
     let r = c.args.reduced in
     let a = demand_of r in
@@ -66,9 +66,9 @@ returns-in-Travels-clause-told g c = λ taken m h.
 
 pub returns-in-Resumes-clause-told : goal.returns-in-Resumes-clause-told
 returns-in-Resumes-clause-told g c = λ taken m h.
-    let ts = c.args.names.now in
-    let t = c.args.table.now in
-    let root = c.args.root in
+    let ts = c.args.code.now.names.now in
+    let t = c.args.code.now.table.now in
+    let root = c.args.code.now.root in
     let old = c.args.stack.now in
     let r = c.args.reduced in
     let a = demand_of r in
@@ -80,14 +80,15 @@ returns-in-Resumes-clause-told g c = λ taken m h.
 
 pub returns-in-Resumes-clause-stands : goal.returns-in-Resumes-clause-stands
 returns-in-Resumes-clause-stands g c =
-    went-stood c.give.result c.went_of-in-Resumes.result c.args.table.now c.args.root c.args.stack.now c.give.new.stack
+    went-stood c.give.result c.went_of-in-Resumes.result c.args.code.now.table.now c.args.code.now.root
+    c.args.stack.now c.give.new.stack
     c.give.new.point c.went_of-in-Resumes.ensures c.give.ensures.at c.give.ensures.scoped c.requires.scoped
 
 pub returns-in-Prints-clause-told : goal.returns-in-Prints-clause-told
 returns-in-Prints-clause-told g c = λ taken m h.
-    let ts = c.args.names.now in
-    let t = c.args.table.now in
-    let root = c.args.root in
+    let ts = c.args.code.now.names.now in
+    let t = c.args.code.now.table.now in
+    let root = c.args.code.now.root in
     let old = c.args.stack.now in
     let r = c.args.reduced in
     let a = demand_of r in
@@ -101,13 +102,13 @@ returns-in-Prints-clause-told g c = λ taken m h.
 
 pub returns-in-Prints-clause-stands : goal.returns-in-Prints-clause-stands
 returns-in-Prints-clause-stands g c =
-    goes-on-weaker c.print.result (λ k. k c.args.root c.requires.scoped) c.print.ensures.stands
+    goes-on-weaker c.print.result (λ k. k c.args.code.now.root c.requires.scoped) c.print.ensures.stands
 
 pub returns-in-Effect-clause-told : goal.returns-in-Effect-clause-told
 returns-in-Effect-clause-told g c = λ taken m h.
-    let ts = c.args.names.now in
-    let t = c.args.table.now in
-    let root = c.args.root in
+    let ts = c.args.code.now.names.now in
+    let t = c.args.code.now.table.now in
+    let root = c.args.code.now.root in
     let old = c.args.stack.now in
     let r = c.args.reduced in
     let a = demand_of r in
@@ -118,9 +119,9 @@ returns-in-Effect-clause-told g c = λ taken m h.
 
 pub returns-in-Full-clause-told : goal.returns-in-Full-clause-told
 returns-in-Full-clause-told g c = λ taken m h.
-    let ts = c.args.names.now in
-    let t = c.args.table.now in
-    let root = c.args.root in
+    let ts = c.args.code.now.names.now in
+    let t = c.args.code.now.table.now in
+    let root = c.args.code.now.root in
     let old = c.args.stack.now in
     let r = c.args.reduced in
     let a = demand_of r in

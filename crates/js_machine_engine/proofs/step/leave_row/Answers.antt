@@ -13,9 +13,9 @@ use Rattle.js_machine_engine.proofs.step.leave_row.Goals as goal
 
 pub returns-in-Travels-clause-told : goal.returns-in-Travels-clause-told
 returns-in-Travels-clause-told g c = λ taken m h.
-    let ts = c.args.names.now in
-    let t = c.args.table.now in
-    let root = c.args.root in
+    let ts = c.args.code.now.names.now in
+    let t = c.args.code.now.table.now in
+    let root = c.args.code.now.root in
     let old = c.args.stack.now in
     let r = c.args.reduced in
     let a = demand_of r in
@@ -29,9 +29,9 @@ returns-in-Travels-clause-told g c = λ taken m h.
 
 pub returns-in-Resumes-clause-told : goal.returns-in-Resumes-clause-told
 returns-in-Resumes-clause-told g c = λ taken m h.
-    let ts = c.args.names.now in
-    let t = c.args.table.now in
-    let root = c.args.root in
+    let ts = c.args.code.now.names.now in
+    let t = c.args.code.now.table.now in
+    let root = c.args.code.now.root in
     let old = c.args.stack.now in
     let r = c.args.reduced in
     let a = demand_of r in
@@ -45,8 +45,8 @@ returns-in-Resumes-clause-told g c = λ taken m h.
 pub returns-in_default : goal.returns-in_default
 returns-in_default g c = record {
   told = λ taken m h.
-      let ts = c.args.names.now in
-      let t = c.args.table.now in
+      let ts = c.args.code.now.names.now in
+      let t = c.args.code.now.table.now in
       let r = c.args.reduced in
       let u = state_of (g.W.World.world ts c.args.world.now) c.args.context.now taken in
       c.conclude.ensures.told ts m (g.W.World.world ts c.args.world.now) taken

@@ -9,9 +9,9 @@ use Rattle.js_machine_engine.proofs.step.step_leaf.Goals as goal
 
 pub returns-in-Gives-clause-told : goal.returns-in-Gives-clause-told
 returns-in-Gives-clause-told g c = λ taken.
-    let ts = c.args.names.now in
-    let t = c.args.table.now in
-    let root = c.args.root in
+    let ts = c.args.code.now.names.now in
+    let t = c.args.code.now.table.now in
+    let root = c.args.code.now.root in
     let old = c.args.stack.now in
     let r = c.reduce-reduced.result in
     let w = redex (node_redex c.in-Some.node c.scope.result) [] None in
@@ -26,14 +26,15 @@ returns-in-Gives-clause-told g c = λ taken.
 
 pub returns-in-Gives-clause-stands : goal.returns-in-Gives-clause-stands
 returns-in-Gives-clause-stands g c =
-    went-stood c.give.result c.went_of.result c.args.table.now c.args.root c.args.stack.now c.give.new.stack
+    went-stood c.give.result c.went_of.result c.args.code.now.table.now c.args.code.now.root c.args.stack.now
+    c.give.new.stack
     c.give.new.point c.went_of.ensures c.give.ensures.at c.give.ensures.scoped c.requires.scoped
 
 pub returns-in-Uncovers-clause-told : goal.returns-in-Uncovers-clause-told
 returns-in-Uncovers-clause-told g c = λ taken.
-    let ts = c.args.names.now in
-    let t = c.args.table.now in
-    let root = c.args.root in
+    let ts = c.args.code.now.names.now in
+    let t = c.args.code.now.table.now in
+    let root = c.args.code.now.root in
     let old = c.args.stack.now in
     let r = c.reduce-reduced.result in
     let w = redex (node_redex c.in-Some.node c.scope.result) [] None in
@@ -50,25 +51,28 @@ returns-in-Uncovers-clause-told g c = λ taken.
 pub returns-in-Uncovers-clause-stands : goal.returns-in-Uncovers-clause-stands
 returns-in-Uncovers-clause-stands g c =
     goes-on-weaker c.went_of-in-Uncovers.result (λ k. k c.requires.scoped)
-    (went-stands c.uncover.result c.went_of-in-Uncovers.result c.args.table.now c.args.root c.args.stack.now
+    (went-stands c.uncover.result c.went_of-in-Uncovers.result c.args.code.now.table.now c.args.code.now.root
+    c.args.stack.now
     c.uncover.new.stack c.uncover.new.point c.went_of-in-Uncovers.ensures c.uncover.ensures.at
     c.uncover.ensures.scoped)
 
 pub leave_leaf-requires-clause-inner : goal.leave_leaf-requires-clause-inner
 leave_leaf-requires-clause-inner g c =
-    leaf-scope c.args.table.now c.args.n c.in-Some.node c.scope.result c.args.root c.args.stack.now c.requires.table
+    leaf-scope c.args.code.now.table.now c.args.n c.in-Some.node c.scope.result c.args.code.now.root c.args.stack.now
+    c.requires.table
     (sym c.in-Some.ensures) c.scope.ensures
 
 pub returns-in_default-reduced : goal.returns-in_default-reduced
 returns-in_default-reduced g c = record {
   told = λ taken.
-      let ts = c.args.names.now in
-      let t = c.args.table.now in
+      let ts = c.args.code.now.names.now in
+      let t = c.args.code.now.table.now in
       let r = c.reduce-reduced.result in
       let s = state_of (g.W.World.world ts c.args.world.now) c.args.context.now taken in
       let u = state_of (g.W.World.world ts c.reduce-reduced.new.world) c.reduce-reduced.new.context taken in
       let v = state_of (g.W.World.world ts c.leave_leaf.new.world) c.leave_leaf.new.context taken in
-      leaf-told ts t c.args.root c.args.stack.now c.leave_leaf.new.stack c.leave_leaf.new.point c.args.n c.in-Some.node
+      leaf-told ts t c.args.code.now.root c.args.stack.now c.leave_leaf.new.stack c.leave_leaf.new.point c.args.n
+      c.in-Some.node
       c.scope.result r
       (demand_of r) c.leave_leaf.result s u v c.requires.table (sym c.in-Some.ensures)
       c.requires.leaf c.scope.ensures c.requires.scoped refl

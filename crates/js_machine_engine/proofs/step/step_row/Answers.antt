@@ -11,9 +11,9 @@ use Rattle.js_machine_engine.proofs.step.step_row.Goals as goal
 
 pub returns-in-Gives-clause-told : goal.returns-in-Gives-clause-told
 returns-in-Gives-clause-told g c = λ taken.
-    let ts = c.args.names.now in
-    let t = c.args.table.now in
-    let root = c.args.root in
+    let ts = c.args.code.now.names.now in
+    let t = c.args.code.now.table.now in
+    let root = c.args.code.now.root in
     let old = c.args.stack.now in
     let r = c.reduce-reduced.result in
     let v = reduced.Gives c.in-Gives.value in
@@ -32,19 +32,20 @@ returns-in-Gives-clause-told g c = λ taken.
 pub returns-in-Gives-clause-stands : goal.returns-in-Gives-clause-stands
 returns-in-Gives-clause-stands g c =
     goes-on-weaker c.went_of.result (λ k. k c.requires.scoped)
-    (went-stands c.follow_value.result c.went_of.result c.args.table.now c.args.root c.args.stack.now
+    (went-stands c.follow_value.result c.went_of.result c.args.code.now.table.now c.args.code.now.root c.args.stack.now
     c.follow_value.new.stack c.follow_value.new.point c.went_of.ensures c.follow_value.ensures.at
     c.follow_value.ensures.scoped)
 
 pub returns-in_default-reduced : goal.returns-in_default-reduced
 returns-in_default-reduced g c = record {
   told = λ taken.
-      let ts = c.args.names.now in
+      let ts = c.args.code.now.names.now in
       let r = c.reduce-reduced.result in
       let s = state_of (g.W.World.world ts c.args.world.now) c.args.context.now taken in
       let u = state_of (g.W.World.world ts c.reduce-reduced.new.world) c.reduce-reduced.new.context taken in
       let v = state_of (g.W.World.world ts c.leave_row.new.world) c.leave_row.new.context taken in
-      row-told ts c.args.table.now c.args.root c.args.stack.now c.leave_row.new.stack c.leave_row.new.point
+      row-told ts c.args.code.now.table.now c.args.code.now.root c.args.stack.now c.leave_row.new.stack
+      c.leave_row.new.point
       c.in-Some.task c.values.result.now c.extra-extra.result r
       (demand_of r)
       c.leave_row.result s u v c.in-Some.ensures.some c.requires.row c.requires.scoped c.values.ensures

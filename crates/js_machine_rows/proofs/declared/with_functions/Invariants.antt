@@ -3,5 +3,6 @@ use Rattle.js_machine_rows.proofs.declared.with_functions.Given as goal
 
 abbrev pub invariant-loop-part : goal.invariant-loop-part
 invariant-loop-part g l =
-    FunctionsLeft l.names l.table l.scope l.parts (g.W.World.world l.names l.initial.world) l.part-index
-    (g.W.World.world l.names l.world)
+    FunctionsLeft l.code.names.now l.code.table.now l.scope l.parts (g.W.World.world l.code.names.now l.initial.world)
+    l.part-index
+    (g.W.World.world l.code.names.now l.world)

@@ -3,11 +3,13 @@ use Rattle.js_machine_rows.proofs.statements.both.Goals as goal
 
 pub returns-then-is_truthy : goal.returns-then-is_truthy
 returns-then-is_truthy g c =
-    both-then c.args.names.now c.args.table.now (g.W.World.world c.args.names.now c.args.world.now)
+    both-then c.args.code.now.names.now c.args.code.now.table.now
+    (g.W.World.world c.args.code.now.names.now c.args.world.now)
     c.only-value.result c.args.values.now c.args.form.mid c.args.form.end c.part_at.result c.gone_to.result
     c.if-is_truthy.ensures c.only-value.ensures c.part_at.ensures c.gone_to.ensures
 
 pub returns-else-is_truthy : goal.returns-else-is_truthy
 returns-else-is_truthy g c =
-    both-else c.args.names.now c.args.table.now (g.W.World.world c.args.names.now c.args.world.now)
+    both-else c.args.code.now.names.now c.args.code.now.table.now
+    (g.W.World.world c.args.code.now.names.now c.args.world.now)
     c.only-value.result c.args.values.now c.args.form.mid c.args.form.end c.if-is_truthy.ensures c.only-value.ensures

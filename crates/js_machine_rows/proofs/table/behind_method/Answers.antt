@@ -5,9 +5,9 @@ use Rattle.js_machine_rows.proofs.table.behind_method.Goals as goal
 
 pub returns-in-ObjectRest : goal.returns-in-ObjectRest
 returns-in-ObjectRest g c =
-    let ts = c.args.names.now in
-    let v = g.W.World.world c.args.names.now c.args.world.now in
+    let ts = c.args.code.now.names.now in
+    let v = g.W.World.world c.args.code.now.names.now c.args.world.now in
     λ outer before.
-    rest-row ts c.args.table.now c.args.form c.args.values.now c.args.from outer v
+    rest-row ts c.args.code.now.table.now c.args.form c.args.values.now c.args.from outer v
     (g.W.World.world ts c.object.new.world) c.args.context.now before c.object.result
-    (members_at c.args.table.now c.args.form.info) c.in-ObjectRest.is refl c.object.ensures
+    (members_at c.args.code.now.table.now c.args.form.info) c.in-ObjectRest.is refl c.object.ensures

@@ -3,6 +3,6 @@ use Rattle.js_machine_rows.proofs.table.compound.Goals as goal
 
 pub returns-in-None : goal.returns-in-None
 returns-in-None g c =
-    without-row c.args.names.now c.args.table.now c.args.form c.args.values.now
-    (g.W.World.world c.args.names.now c.args.world.now)
+    without-row c.args.code.now.names.now c.args.code.now.table.now c.args.form c.args.values.now
+    (g.W.World.world c.args.code.now.names.now c.args.world.now)
     c.args.context.now c.without_part.result c.in-None.ensures c.without_part.ensures

@@ -4,39 +4,41 @@ use Rattle.js_machine_rows.proofs.table.frequent.Goals as goal
 
 pub returns-in-ReadName : goal.returns-in-ReadName
 returns-in-ReadName g c =
-    let ts = c.args.names.now in
-    let v = g.W.World.world c.args.names.now c.args.world.now in
-    read-name-row ts c.args.table.now c.args.form c.args.values.now v (g.W.World.world ts c.read_name.new.world)
+    let ts = c.args.code.now.names.now in
+    let v = g.W.World.world c.args.code.now.names.now c.args.world.now in
+    read-name-row ts c.args.code.now.table.now c.args.form c.args.values.now v
+    (g.W.World.world ts c.read_name.new.world)
     c.args.context.now c.read_name.result c.in-ReadName.is c.read_name.ensures
 
 pub returns-in-Binary : goal.returns-in-Binary
 returns-in-Binary g c =
-    let ts = c.args.names.now in
-    let v = g.W.World.world c.args.names.now c.args.world.now in
-    binary-row ts c.args.table.now c.args.form c.args.values.now c.in-Binary.operator v
+    let ts = c.args.code.now.names.now in
+    let v = g.W.World.world c.args.code.now.names.now c.args.world.now in
+    binary-row ts c.args.code.now.table.now c.args.form c.args.values.now c.in-Binary.operator v
     (g.W.World.world ts c.binary.new.world) c.args.context.now c.binary.result c.in-Binary.is c.binary.ensures
 
 pub returns-in-Enter : goal.returns-in-Enter
 returns-in-Enter g c =
-    let ts = c.args.names.now in
-    let v = g.W.World.world c.args.names.now c.args.world.now in
+    let ts = c.args.code.now.names.now in
+    let v = g.W.World.world c.args.code.now.names.now c.args.world.now in
     λ outer before.
-    enter-row ts c.args.table.now c.args.form c.args.values.now outer v c.args.context.now c.enter.new.context before
+    enter-row ts c.args.code.now.table.now c.args.form c.args.values.now outer v c.args.context.now
+    c.enter.new.context before
     c.enter.result c.in-Enter.is c.enter.ensures
 
 pub returns-in-AssignName : goal.returns-in-AssignName
 returns-in-AssignName g c =
-    let ts = c.args.names.now in
-    let v = g.W.World.world c.args.names.now c.args.world.now in
-    assign-name-row ts c.args.table.now c.args.form c.args.values.now c.last_of.result v
+    let ts = c.args.code.now.names.now in
+    let v = g.W.World.world c.args.code.now.names.now c.args.world.now in
+    assign-name-row ts c.args.code.now.table.now c.args.form c.args.values.now c.last_of.result v
     (g.W.World.world ts c.assign_name.new.world)
     c.args.context.now c.assign_name.result c.in-AssignName.is c.last_of.ensures c.assign_name.ensures
 
 pub returns-in-UpdateName : goal.returns-in-UpdateName
 returns-in-UpdateName g c =
-    let ts = c.args.names.now in
-    let v = g.W.World.world c.args.names.now c.args.world.now in
-    update-name-row ts c.args.table.now c.args.form c.args.values.now c.in-UpdateName.kind c.operator_of.result
+    let ts = c.args.code.now.names.now in
+    let v = g.W.World.world c.args.code.now.names.now c.args.world.now in
+    update-name-row ts c.args.code.now.table.now c.args.form c.args.values.now c.in-UpdateName.kind c.operator_of.result
     c.is_prefix.result v
     (g.W.World.world ts c.update_name.new.world)
     c.args.context.now c.update_name.result c.in-UpdateName.is c.operator_of.ensures c.is_prefix.ensures
@@ -44,44 +46,50 @@ returns-in-UpdateName g c =
 
 pub returns-in-ReadMember : goal.returns-in-ReadMember
 returns-in-ReadMember g c =
-    let ts = c.args.names.now in
-    let v = g.W.World.world c.args.names.now c.args.world.now in
-    read-member-row ts c.args.table.now c.args.form c.args.values.now v (g.W.World.world ts c.read_member.new.world)
+    let ts = c.args.code.now.names.now in
+    let v = g.W.World.world c.args.code.now.names.now c.args.world.now in
+    read-member-row ts c.args.code.now.table.now c.args.form c.args.values.now v
+    (g.W.World.world ts c.read_member.new.world)
     c.args.context.now c.read_member.result c.in-ReadMember.is c.read_member.ensures
 
 pub returns-in-ReadIndex : goal.returns-in-ReadIndex
 returns-in-ReadIndex g c =
-    let ts = c.args.names.now in
-    let v = g.W.World.world c.args.names.now c.args.world.now in
-    read-index-row ts c.args.table.now c.args.form c.args.values.now v (g.W.World.world ts c.read_index.new.world)
+    let ts = c.args.code.now.names.now in
+    let v = g.W.World.world c.args.code.now.names.now c.args.world.now in
+    read-index-row ts c.args.code.now.table.now c.args.form c.args.values.now v
+    (g.W.World.world ts c.read_index.new.world)
     c.args.context.now c.read_index.result c.in-ReadIndex.is c.read_index.ensures
 
 pub returns-in-AssignIndex : goal.returns-in-AssignIndex
 returns-in-AssignIndex g c =
-    let ts = c.args.names.now in
-    let v = g.W.World.world c.args.names.now c.args.world.now in
-    assign-index-row ts c.args.table.now c.args.form c.args.values.now v (g.W.World.world ts c.assign_index.new.world)
+    let ts = c.args.code.now.names.now in
+    let v = g.W.World.world c.args.code.now.names.now c.args.world.now in
+    assign-index-row ts c.args.code.now.table.now c.args.form c.args.values.now v
+    (g.W.World.world ts c.assign_index.new.world)
     c.args.context.now c.assign_index.result c.in-AssignIndex.is c.assign_index.ensures
 
 pub returns-in-Choose : goal.returns-in-Choose
 returns-in-Choose g c =
-    let ts = c.args.names.now in
-    let v = g.W.World.world c.args.names.now c.args.world.now in
+    let ts = c.args.code.now.names.now in
+    let v = g.W.World.world c.args.code.now.names.now c.args.world.now in
     λ outer before.
-    choose-row ts c.args.table.now c.args.form c.args.values.now outer v c.args.context.now before c.choose.result
+    choose-row ts c.args.code.now.table.now c.args.form c.args.values.now outer v c.args.context.now before
+    c.choose.result
     c.in-Choose.is c.choose.ensures
 
 pub returns-in-LoopTesting : goal.returns-in-LoopTesting
 returns-in-LoopTesting g c =
-    let ts = c.args.names.now in
-    let v = g.W.World.world c.args.names.now c.args.world.now in
+    let ts = c.args.code.now.names.now in
+    let v = g.W.World.world c.args.code.now.names.now c.args.world.now in
     λ outer before.
-    testing-row ts c.args.table.now c.args.form c.args.values.now outer v c.args.context.now before c.loop_test.result
+    testing-row ts c.args.code.now.table.now c.args.form c.args.values.now outer v c.args.context.now before
+    c.loop_test.result
     c.in-LoopTesting.is c.loop_test.ensures
 
 pub returns-in-Return : goal.returns-in-Return
 returns-in-Return g c =
-    let ts = c.args.names.now in
-    let v = g.W.World.world c.args.names.now c.args.world.now in
-    return-row ts c.args.table.now c.args.form c.args.values.now v c.args.context.now c.returned.result c.in-Return.is
+    let ts = c.args.code.now.names.now in
+    let v = g.W.World.world c.args.code.now.names.now c.args.world.now in
+    return-row ts c.args.code.now.table.now c.args.form c.args.values.now v c.args.context.now c.returned.result
+    c.in-Return.is
     c.returned.ensures

@@ -6,26 +6,31 @@ use Rattle.pure_eval.proofs.calling.reduce_callee.Goals as goal
 
 pub loop-left-init : goal.loop-left-init
 loop-left-init g c =
-    callee-first c.args.names.now c.args.table.now c.args.root c.args.stack.now c.args.point.now
-    (g.W.World.world c.args.names.now c.args.world.now) c.args.context.now c.args.most c.requires.stands
+    callee-first c.args.code.now.names.now c.args.code.now.table.now c.args.code.now.root c.args.stack.now
+    c.args.point.now
+    (g.W.World.world c.args.code.now.names.now c.args.world.now) c.args.context.now c.args.most c.requires.stands
 
 pub step-stepped-requires-clause-going : goal.step-stepped-requires-clause-going
 step-stepped-requires-clause-going g c = going c.loop-left.point c.in_default.not-Done
 
 pub returns-in-Done : goal.returns-in-Done
 returns-in-Done g c =
-    callee-reduced c.args.names.now c.args.table.now c.args.root c.args.stack.now c.loop-left.stack c.args.point.now
+    callee-reduced c.args.code.now.names.now c.args.code.now.table.now c.args.code.now.root c.args.stack.now
+    c.loop-left.stack c.args.point.now
     c.loop-left.point
-    (g.W.World.world c.args.names.now c.args.world.now) (g.W.World.world c.args.names.now c.loop-left.world)
+    (g.W.World.world c.args.code.now.names.now c.args.world.now)
+    (g.W.World.world c.args.code.now.names.now c.loop-left.world)
     c.args.context.now c.loop-left.context c.args.most c.loop-left.left c.in-Done.value c.loop-left.invariant
     c.in-Done.is
 
 pub returns-in-Some : goal.returns-in-Some
 returns-in-Some g c =
-    callee-ends c.args.names.now c.args.table.now c.args.root c.args.stack.now c.loop-left.stack
+    callee-ends c.args.code.now.names.now c.args.code.now.table.now c.args.code.now.root c.args.stack.now
+    c.loop-left.stack
     c.step-stepped.new.stack c.args.point.now c.loop-left.point c.step-stepped.new.point
-    (g.W.World.world c.args.names.now c.args.world.now) (g.W.World.world c.args.names.now c.loop-left.world)
-    (g.W.World.world c.args.names.now c.step-stepped.new.world)
+    (g.W.World.world c.args.code.now.names.now c.args.world.now)
+    (g.W.World.world c.args.code.now.names.now c.loop-left.world)
+    (g.W.World.world c.args.code.now.names.now c.step-stepped.new.world)
     c.args.context.now c.loop-left.context c.step-stepped.new.context c.args.most c.loop-left.left c.step-stepped.result
     c.in-Some.end c.loop-left.invariant
     (omega (arith, c.loop-left-test.true)) (going c.loop-left.point c.in_default.not-Done)
@@ -33,10 +38,12 @@ returns-in-Some g c =
 
 pub loop-left-preserved : goal.loop-left-preserved
 loop-left-preserved g c =
-    callee-next c.args.names.now c.args.table.now c.args.root c.args.stack.now c.loop-left.stack
+    callee-next c.args.code.now.names.now c.args.code.now.table.now c.args.code.now.root c.args.stack.now
+    c.loop-left.stack
     c.step-stepped.new.stack c.args.point.now c.loop-left.point c.step-stepped.new.point
-    (g.W.World.world c.args.names.now c.args.world.now) (g.W.World.world c.args.names.now c.loop-left.world)
-    (g.W.World.world c.args.names.now c.step-stepped.new.world)
+    (g.W.World.world c.args.code.now.names.now c.args.world.now)
+    (g.W.World.world c.args.code.now.names.now c.loop-left.world)
+    (g.W.World.world c.args.code.now.names.now c.step-stepped.new.world)
     c.args.context.now c.loop-left.context c.step-stepped.new.context c.args.most c.loop-left.left c.step-stepped.result
     c.loop-left.invariant
     (omega (arith, c.loop-left-test.true)) (going c.loop-left.point c.in_default.not-Done)
@@ -45,10 +52,12 @@ loop-left-preserved g c =
 
 pub loop-left-preserved-in_default-end_with : goal.loop-left-preserved-in_default-end_with
 loop-left-preserved-in_default-end_with g c =
-    callee-next c.args.names.now c.args.table.now c.args.root c.args.stack.now c.loop-left.stack
+    callee-next c.args.code.now.names.now c.args.code.now.table.now c.args.code.now.root c.args.stack.now
+    c.loop-left.stack
     c.step-stepped.new.stack c.args.point.now c.loop-left.point c.step-stepped.new.point
-    (g.W.World.world c.args.names.now c.args.world.now) (g.W.World.world c.args.names.now c.loop-left.world)
-    (g.W.World.world c.args.names.now c.step-stepped.new.world)
+    (g.W.World.world c.args.code.now.names.now c.args.world.now)
+    (g.W.World.world c.args.code.now.names.now c.loop-left.world)
+    (g.W.World.world c.args.code.now.names.now c.step-stepped.new.world)
     c.args.context.now c.loop-left.context c.step-stepped.new.context c.args.most c.loop-left.left c.step-stepped.result
     c.loop-left.invariant
     (omega (arith, c.loop-left-test.true)) (going c.loop-left.point c.in_default.not-Done)
@@ -57,8 +66,10 @@ loop-left-preserved-in_default-end_with g c =
 
 pub returns : goal.returns
 returns g c =
-    callee-spent c.args.names.now c.args.table.now c.args.root c.args.stack.now c.loop-left.stack c.args.point.now
+    callee-spent c.args.code.now.names.now c.args.code.now.table.now c.args.code.now.root c.args.stack.now
+    c.loop-left.stack c.args.point.now
     c.loop-left.point
-    (g.W.World.world c.args.names.now c.args.world.now) (g.W.World.world c.args.names.now c.loop-left.world)
+    (g.W.World.world c.args.code.now.names.now c.args.world.now)
+    (g.W.World.world c.args.code.now.names.now c.loop-left.world)
     c.args.context.now c.loop-left.context c.args.most c.loop-left.left c.loop-left.invariant
     (omega (arith, c.loop-left-test.false))

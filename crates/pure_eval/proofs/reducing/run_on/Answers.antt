@@ -5,12 +5,14 @@ use Rattle.pure_eval.proofs.reducing.run_on.Goals as goal
 pub returns-in-Some : goal.returns-in-Some
 returns-in-Some g c = record {
   answer =
-      λ taken. end-answers c.step_until-ran.result.steps c.loop-left.left c.args.most _ c.args.root _ _ c.step_until-ran.result.why _
+      λ taken. end-answers c.step_until-ran.result.steps c.loop-left.left c.args.most _ c.args.code.now.root _ _
+      c.step_until-ran.result.why _
       _ c.in-Some.end
       (c.loop-left.invariant.runs taken) c.step_until-ran.ensures.within (c.step_until-ran.ensures.told taken)
       (sym c.end_of.ensures ∙ c.in-Some.is);
   world =
-      λ taken. end-ends c.step_until-ran.result.steps c.loop-left.left c.args.most _ c.args.root _ _ c.step_until-ran.result.why _ _
+      λ taken. end-ends c.step_until-ran.result.steps c.loop-left.left c.args.most _ c.args.code.now.root _ _
+      c.step_until-ran.result.why _ _
       c.in-Some.end
       (c.loop-left.invariant.runs taken) c.step_until-ran.ensures.within (c.step_until-ran.ensures.told taken)
       (sym c.end_of.ensures ∙ c.in-Some.is);
@@ -18,7 +20,8 @@ returns-in-Some g c = record {
 
 pub loop-left-preserved-in_default : goal.loop-left-preserved-in_default
 loop-left-preserved-in_default g c =
-    runs-on c.args.names.now c.args.table.now c.args.root c.args.stack.now c.loop-left.stack c.step_until-ran.new.stack
+    runs-on c.args.code.now.names.now c.args.code.now.table.now c.args.code.now.root c.args.stack.now
+    c.loop-left.stack c.step_until-ran.new.stack
     c.args.point.now c.loop-left.point c.step_until-ran.new.point _ _ _ c.args.context.now c.loop-left.context
     c.step_until-ran.new.context c.args.most c.loop-left.left c.step_until-ran.result.steps c.step_until-ran.result.why
     c.loop-left.invariant c.step_until-ran.ensures.within c.step_until-ran.ensures.told c.step_until-ran.ensures.stands
@@ -26,7 +29,8 @@ loop-left-preserved-in_default g c =
 
 pub loop-left-preserved : goal.loop-left-preserved
 loop-left-preserved g c =
-    runs-on c.args.names.now c.args.table.now c.args.root c.args.stack.now c.loop-left.stack c.step_until-ran.new.stack
+    runs-on c.args.code.now.names.now c.args.code.now.table.now c.args.code.now.root c.args.stack.now
+    c.loop-left.stack c.step_until-ran.new.stack
     c.args.point.now c.loop-left.point c.step_until-ran.new.point _ _ _ c.args.context.now c.loop-left.context
     c.step_until-ran.new.context c.args.most c.loop-left.left c.step_until-ran.result.steps c.step_until-ran.result.why
     c.loop-left.invariant c.step_until-ran.ensures.within c.step_until-ran.ensures.told c.step_until-ran.ensures.stands
@@ -35,11 +39,12 @@ loop-left-preserved g c =
 pub returns : goal.returns
 returns g c = record {
   answer =
-      λ taken. spent-answers c.loop-left.left c.args.most _ c.args.root _ c.args.names.now c.args.table.now
+      λ taken. spent-answers c.loop-left.left c.args.most _ c.args.code.now.root _ c.args.code.now.names.now
+      c.args.code.now.table.now
       c.loop-left.stack c.loop-left.point _ c.end_at.result
       (c.loop-left.invariant.runs taken) (omega (arith, c.loop-left-test.false))
       c.loop-left.invariant.stands.at c.end_at.ensures;
   world =
-      λ taken. spent-ends c.loop-left.left c.args.most _ c.args.root _ _ c.loop-left.point _ c.end_at.result
+      λ taken. spent-ends c.loop-left.left c.args.most _ c.args.code.now.root _ _ c.loop-left.point _ c.end_at.result
       (c.loop-left.invariant.runs taken) (omega (arith, c.loop-left-test.false)) c.end_at.ensures;
 }
