@@ -23,7 +23,7 @@ use crate::simple::{comma, frame, last, returned, this, throw};
 use crate::statements::{
     block, both, catch_named, catch_nameless, choose, either, enter, initialize, script,
 };
-use crate::updates::{is_prefix, operator_of, update_index, update_member, update_name};
+use crate::updates::{rule_of, update_index, update_member, update_name};
 use js_heap::value::Value;
 use js_heap_memory::names::NameId;
 use js_heap_memory::world::World;
@@ -71,8 +71,7 @@ fn frequent<W: World>(
             code.alloc,
             world,
             code.names,
-            operator_of(kind),
-            is_prefix(kind),
+            rule_of(kind),
             form.inner,
             name,
         ),
@@ -133,19 +132,11 @@ fn writing<W: World>(
             code.alloc,
             world,
             code.names,
-            operator_of(kind),
-            is_prefix(kind),
+            rule_of(kind),
             values,
             name,
         ),
-        Op::UpdateIndex(kind) => update_index(
-            code.alloc,
-            world,
-            code.names,
-            operator_of(kind),
-            is_prefix(kind),
-            values,
-        ),
+        Op::UpdateIndex(kind) => update_index(code.alloc, world, code.names, rule_of(kind), values),
         Op::DeleteName => Reduced::Gives(Value::Undefined),
         Op::DeleteMember => delete_member(code.alloc, world, code.names, values, name),
         Op::DeleteIndex => delete_index(code.alloc, world, code.names, values),

@@ -47,23 +47,36 @@ pub enum Update {
     Fails(ErrorClass, Units),
 }
 
-/// Whether `++` or `--`.
-pub fn operator_of(kind: UpdateKind) -> UpdateOperator
-    ensures { result ≡ operator_of kind }
-{
-    match kind {
-        UpdateKind::PrefixIncrement | UpdateKind::PostfixIncrement => UpdateOperator::Increment,
-        UpdateKind::PrefixDecrement | UpdateKind::PostfixDecrement => UpdateOperator::Decrement,
-    }
+/// Whether it is `++` or `--`, and whether it stands in front.
+#[derive(Clone, Copy)]
+pub struct UpdateRule {
+    pub operator: UpdateOperator,
+    pub prefix: bool,
 }
 
-/// Whether it stands in front.
-pub fn is_prefix(kind: UpdateKind) -> bool
-    ensures { result ≡ is_prefix kind }
+/// Which of the four updates it is.
+#[inline(always)]
+pub fn rule_of(kind: UpdateKind) -> UpdateRule
+    ensures operator { result.operator ≡ operator_of kind }
+    ensures prefix { result.prefix ≡ is_prefix kind }
 {
     match kind {
-        UpdateKind::PrefixIncrement | UpdateKind::PrefixDecrement => true,
-        UpdateKind::PostfixIncrement | UpdateKind::PostfixDecrement => false,
+        UpdateKind::PrefixIncrement => UpdateRule {
+            operator: UpdateOperator::Increment,
+            prefix: true,
+        },
+        UpdateKind::PrefixDecrement => UpdateRule {
+            operator: UpdateOperator::Decrement,
+            prefix: true,
+        },
+        UpdateKind::PostfixIncrement => UpdateRule {
+            operator: UpdateOperator::Increment,
+            prefix: false,
+        },
+        UpdateKind::PostfixDecrement => UpdateRule {
+            operator: UpdateOperator::Decrement,
+            prefix: false,
+        },
     }
 }
 
@@ -147,17 +160,16 @@ fn update_property<W: World>(
     alloc: Global,
     world: &mut W,
     names: &NameTable,
-    operator: UpdateOperator,
-    prefix: bool,
+    how: UpdateRule,
     object: Value,
     key: &[u16],
 ) -> Result<Value, ActionEnd>
-    ensures { Gives (property_updated (W.world names.now world.old) operator prefix object key.now) (W.world names.now world.old) result (W.world names.now world.new) }
+    ensures { Gives (property_updated (W.world names.now world.old) how.operator how.prefix object key.now) (W.world names.now world.old) result (W.world names.now world.new) }
 {
-    match read_updated(alloc, world, names, operator, object, key)? {
+    match read_updated(alloc, world, names, how.operator, object, key)? {
         Update::To(old, new) => {
             put_property(alloc, world, names, object, key, new)?;
-            Ok(update_value(prefix, old, new))
+            Ok(update_value(how.prefix, old, new))
         }
         Update::Fails(class, message) => Err(fail(alloc, world, names, class, message)),
     }
@@ -168,12 +180,11 @@ pub fn update_index_slowly<W: World>(
     alloc: Global,
     world: &mut W,
     names: &NameTable,
-    operator: UpdateOperator,
-    prefix: bool,
+    how: UpdateRule,
     object: Value,
     index: Value,
 ) -> Result<Value, ActionEnd>
-    ensures { Gives (index_updated (W.world names.now world.old) operator prefix object index) (W.world names.now world.old) result (W.world names.now world.new) }
+    ensures { Gives (index_updated (W.world names.now world.old) how.operator how.prefix object index) (W.world names.now world.old) result (W.world names.now world.new) }
 {
     let key = key_of(
         alloc,
@@ -184,15 +195,7 @@ pub fn update_index_slowly<W: World>(
         index,
     )?;
     match key {
-        Some(key) => update_property(
-            alloc,
-            world,
-            names,
-            operator,
-            prefix,
-            object,
-            key.as_slice(),
-        ),
+        Some(key) => update_property(alloc, world, names, how, object, key.as_slice()),
         None => Err(bad_key(alloc, world, names)),
     }
 }
@@ -206,15 +209,14 @@ fn update_member_slowly<W: World>(
     alloc: Global,
     world: &mut W,
     names: &NameTable,
-    operator: UpdateOperator,
-    prefix: bool,
+    how: UpdateRule,
     object: Value,
     key: NameId,
 ) -> Result<Value, ActionEnd>
-    ensures { Gives (property_updated (W.world names.now world.old) operator prefix object (name_of names.now key.number)) (W.world names.now world.old) result (W.world names.now world.new) }
+    ensures { Gives (property_updated (W.world names.now world.old) how.operator how.prefix object (name_of names.now key.number)) (W.world names.now world.old) result (W.world names.now world.new) }
 {
     let text = names.text(key)?;
-    update_property(alloc, world, names, operator, prefix, object, text)
+    update_property(alloc, world, names, how, object, text)
 }
 
 /// `++` and `--` of a property with a fixed key of an object.
@@ -222,21 +224,20 @@ fn update_member_of<W: World>(
     alloc: Global,
     world: &mut W,
     names: &NameTable,
-    operator: UpdateOperator,
-    prefix: bool,
+    how: UpdateRule,
     object: Value,
     key: NameId,
 ) -> Reduced
-    ensures { Replies names.now (property_updated (W.world names.now world.old) operator prefix object (name_of names.now key.number)) (W.world names.now world.old) result (W.world names.now world.new) }
+    ensures { Replies names.now (property_updated (W.world names.now world.old) how.operator how.prefix object (name_of names.now key.number)) (W.world names.now world.old) result (W.world names.now world.new) }
 {
     if let Some(old) = value_of_member(world, names, object, key) {
-        if let Some(new) = stepped(operator, old) {
-            let given = update_value(prefix, old, new);
+        if let Some(new) = stepped(how.operator, old) {
+            let given = update_value(how.prefix, old, new);
             let written = put_member_value(alloc, world, names, object, key, new);
             return replied_with(written, given);
         }
     }
-    replied(update_member_slowly(alloc, world, names, operator, prefix, object, key))
+    replied(update_member_slowly(alloc, world, names, how, object, key))
 }
 
 /// `++` and `--` of a property with a computed key of an object.
@@ -244,21 +245,20 @@ fn update_index_of<W: World>(
     alloc: Global,
     world: &mut W,
     names: &NameTable,
-    operator: UpdateOperator,
-    prefix: bool,
+    how: UpdateRule,
     object: Value,
     index: Value,
 ) -> Reduced
-    ensures { Replies names.now (index_updated (W.world names.now world.old) operator prefix object index) (W.world names.now world.old) result (W.world names.now world.new) }
+    ensures { Replies names.now (index_updated (W.world names.now world.old) how.operator how.prefix object index) (W.world names.now world.old) result (W.world names.now world.new) }
 {
     if let Some(old) = value_of_index(world, names, object, index) {
-        if let Some(new) = stepped(operator, old) {
-            let given = update_value(prefix, old, new);
+        if let Some(new) = stepped(how.operator, old) {
+            let given = update_value(how.prefix, old, new);
             let written = put_index_value(alloc, world, names, object, index, new);
             return replied_with(written, given);
         }
     }
-    replied(update_index_slowly(alloc, world, names, operator, prefix, object, index))
+    replied(update_index_slowly(alloc, world, names, how, object, index))
 }
 
 /// `++` and `--` of a property with a fixed key (13.4).
@@ -266,15 +266,14 @@ pub fn update_member<W: World>(
     alloc: Global,
     world: &mut W,
     names: &NameTable,
-    operator: UpdateOperator,
-    prefix: bool,
+    how: UpdateRule,
     values: &[Value],
     key: NameId,
 ) -> Reduced
-    ensures { Replies names.now (member_updated (W.world names.now world.old) operator prefix values.now (name_of names.now key.number)) (W.world names.now world.old) result (W.world names.now world.new) }
+    ensures { Replies names.now (member_updated (W.world names.now world.old) how.operator how.prefix values.now (name_of names.now key.number)) (W.world names.now world.old) result (W.world names.now world.new) }
 {
     match value_at(values, 0) {
-        Some(object) => update_member_of(alloc, world, names, operator, prefix, object, key),
+        Some(object) => update_member_of(alloc, world, names, how, object, key),
         None => Reduced::Memory,
     }
 }
@@ -284,11 +283,10 @@ pub fn update_index<W: World>(
     alloc: Global,
     world: &mut W,
     names: &NameTable,
-    operator: UpdateOperator,
-    prefix: bool,
+    how: UpdateRule,
     values: &[Value],
 ) -> Reduced
-    ensures { Replies names.now (element_updated (W.world names.now world.old) operator prefix values.now) (W.world names.now world.old) result (W.world names.now world.new) }
+    ensures { Replies names.now (element_updated (W.world names.now world.old) how.operator how.prefix values.now) (W.world names.now world.old) result (W.world names.now world.new) }
 {
     let Some(object) = value_at(values, 0) else {
         return Reduced::Memory;
@@ -296,7 +294,7 @@ pub fn update_index<W: World>(
     let Some(index) = value_at(values, 1) else {
         return Reduced::Memory;
     };
-    update_index_of(alloc, world, names, operator, prefix, object, index)
+    update_index_of(alloc, world, names, how, object, index)
 }
 
 // ---- rows of names
@@ -306,18 +304,17 @@ fn update_old_name<W: World>(
     alloc: Global,
     world: &mut W,
     names: &NameTable,
-    operator: UpdateOperator,
-    prefix: bool,
+    how: UpdateRule,
     scope: Addr,
     name: NameId,
     old: Value,
 ) -> Result<Value, ActionEnd>
-    ensures { Gives (old_updated operator prefix (name_of names.now name.number) (found (W.world names.now world.old) scope (name_of names.now name.number)) old) (W.world names.now world.old) result (W.world names.now world.new) }
+    ensures { Gives (old_updated how.operator how.prefix (name_of names.now name.number) (found (W.world names.now world.old) scope (name_of names.now name.number)) old) (W.world names.now world.old) result (W.world names.now world.new) }
 {
-    match updated_value(alloc, operator, old)? {
+    match updated_value(alloc, how.operator, old)? {
         Update::To(old, new) => {
             put_name(alloc, world, names, scope, name, new)?;
-            Ok(update_value(prefix, old, new))
+            Ok(update_value(how.prefix, old, new))
         }
         Update::Fails(class, message) => Err(fail(alloc, world, names, class, message)),
     }
@@ -340,15 +337,14 @@ fn update_name_slowly<W: World>(
     alloc: Global,
     world: &mut W,
     names: &NameTable,
-    operator: UpdateOperator,
-    prefix: bool,
+    how: UpdateRule,
     scope: Addr,
     name: NameId,
 ) -> Result<Value, ActionEnd>
-    ensures { Gives (name_updated operator prefix (name_of names.now name.number) (found (W.world names.now world.old) scope (name_of names.now name.number))) (W.world names.now world.old) result (W.world names.now world.new) }
+    ensures { Gives (name_updated how.operator how.prefix (name_of names.now name.number) (found (W.world names.now world.old) scope (name_of names.now name.number))) (W.world names.now world.old) result (W.world names.now world.new) }
 {
     match value_of_name(world, names, scope, name) {
-        Some(old) => update_old_name(alloc, world, names, operator, prefix, scope, name, old),
+        Some(old) => update_old_name(alloc, world, names, how, scope, name, old),
         None => {
             let outcome = get_name(alloc, world, names, scope, name);
             Err(unread(outcome))
@@ -362,22 +358,21 @@ pub fn update_name<W: World>(
     alloc: Global,
     world: &mut W,
     names: &NameTable,
-    operator: UpdateOperator,
-    prefix: bool,
+    how: UpdateRule,
     scope: Addr,
     name: NameId,
 ) -> Reduced
-    ensures { Replies names.now (name_updated operator prefix (name_of names.now name.number) (found (W.world names.now world.old) scope (name_of names.now name.number))) (W.world names.now world.old) result (W.world names.now world.new) }
+    ensures { Replies names.now (name_updated how.operator how.prefix (name_of names.now name.number) (found (W.world names.now world.old) scope (name_of names.now name.number))) (W.world names.now world.old) result (W.world names.now world.new) }
 {
     let found = lookup(world, names, scope, name);
     if let Some(slot) = open_slot(found) {
         if let Some(old) = slot.value {
-            if let Some(new) = stepped(operator, old) {
-                let given = update_value(prefix, old, new);
+            if let Some(new) = stepped(how.operator, old) {
+                let given = update_value(how.prefix, old, new);
                 let written = bind_at(world, names, slot.scope, slot.place, name, new);
                 return replied_with(written, given);
             }
         }
     }
-    replied(update_name_slowly(alloc, world, names, operator, prefix, scope, name))
+    replied(update_name_slowly(alloc, world, names, how, scope, name))
 }

@@ -38,10 +38,11 @@ pub returns-in-UpdateName : goal.returns-in-UpdateName
 returns-in-UpdateName g c =
     let ts = c.args.code.now.names.now in
     let v = g.W.World.world c.args.code.now.names.now c.args.world.now in
-    update-name-row ts c.args.code.now.table.now c.args.form c.args.values.now c.in-UpdateName.kind c.operator_of.result
-    c.is_prefix.result v
+    update-name-row ts c.args.code.now.table.now c.args.form c.args.values.now c.in-UpdateName.kind
+    c.rule_of.result.operator
+    c.rule_of.result.prefix v
     (g.W.World.world ts c.update_name.new.world)
-    c.args.context.now c.update_name.result c.in-UpdateName.is c.operator_of.ensures c.is_prefix.ensures
+    c.args.context.now c.update_name.result c.in-UpdateName.is c.rule_of.ensures.operator c.rule_of.ensures.prefix
     c.update_name.ensures
 
 pub returns-in-ReadMember : goal.returns-in-ReadMember

@@ -14,10 +14,10 @@ returns-in-UpdateMember g c =
     let ts = c.args.code.now.names.now in
     let v = g.W.World.world c.args.code.now.names.now c.args.world.now in
     update-member-row ts c.args.code.now.table.now c.args.form c.args.values.now c.in-UpdateMember.kind
-    c.operator_of.result
-    c.is_prefix.result v
+    c.rule_of.result.operator
+    c.rule_of.result.prefix v
     (g.W.World.world ts c.update_member.new.world)
-    c.args.context.now c.update_member.result c.in-UpdateMember.is c.operator_of.ensures c.is_prefix.ensures
+    c.args.context.now c.update_member.result c.in-UpdateMember.is c.rule_of.ensures.operator c.rule_of.ensures.prefix
     c.update_member.ensures
 
 pub returns-in-UpdateIndex : goal.returns-in-UpdateIndex
@@ -25,10 +25,10 @@ returns-in-UpdateIndex g c =
     let ts = c.args.code.now.names.now in
     let v = g.W.World.world c.args.code.now.names.now c.args.world.now in
     update-index-row ts c.args.code.now.table.now c.args.form c.args.values.now c.in-UpdateIndex.kind
-    c.operator_of-in-UpdateIndex.result c.is_prefix-in-UpdateIndex.result v
+    c.rule_of-in-UpdateIndex.result.operator c.rule_of-in-UpdateIndex.result.prefix v
     (g.W.World.world ts c.update_index.new.world)
-    c.args.context.now c.update_index.result c.in-UpdateIndex.is c.operator_of-in-UpdateIndex.ensures
-    c.is_prefix-in-UpdateIndex.ensures c.update_index.ensures
+    c.args.context.now c.update_index.result c.in-UpdateIndex.is c.rule_of-in-UpdateIndex.ensures.operator
+    c.rule_of-in-UpdateIndex.ensures.prefix c.update_index.ensures
 
 pub returns-in-DeleteName : goal.returns-in-DeleteName
 returns-in-DeleteName g c =

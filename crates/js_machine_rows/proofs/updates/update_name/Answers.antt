@@ -14,7 +14,8 @@ returns-in-Some-stepped g c =
     let n = name_of ts c.args.name.number in
     let p = found v c.args.scope n in
     let o = sym c.open_slot.ensures ∙ c.in-Some.is in
-    name-updated ts c.args.operator n p c.in-Some.slot.scope c.args.prefix c.in-Some-value.old c.in-Some-stepped.new
+    name-updated ts c.args.how.operator n p c.in-Some.slot.scope c.args.how.prefix c.in-Some-value.old
+    c.in-Some-stepped.new
     c.update_value-given.result v c.bind_at-written.result
     (g.W.World.world c.args.names.now c.bind_at-written.new.world) c.replied_with.result
     (open-value n c.lookup-found.result p c.in-Some.slot c.in-Some-value.old c.lookup-found.ensures.value o
@@ -29,6 +30,6 @@ returns g c =
     let v = g.W.World.world c.args.names.now c.args.world.now in
     let n = name_of ts c.args.name.number in
     let p = found v c.args.scope n in
-    replies-by ts (name_updated c.args.operator c.args.prefix n p) v c.update_name_slowly.result
+    replies-by ts (name_updated c.args.how.operator c.args.how.prefix n p) v c.update_name_slowly.result
     (g.W.World.world c.args.names.now c.update_name_slowly.new.world)
     c.replied.result c.update_name_slowly.ensures c.replied.ensures

@@ -9,7 +9,7 @@ returns-in-Some g c =
     let v = g.W.World.world c.args.names.now c.args.world.now in
     let n = name_of ts c.args.name.number in
     let p = found v c.args.scope n in
-    old-name c.args.operator c.args.prefix n p c.in-Some.old v c.update_old_name.result
+    old-name c.args.how.operator c.args.how.prefix n p c.in-Some.old v c.update_old_name.result
     (g.W.World.world c.args.names.now c.update_old_name.new.world) c.in-Some.ensures c.update_old_name.ensures
 
 pub returns-in-None : goal.returns-in-None
@@ -18,6 +18,6 @@ returns-in-None g c =
     let v = g.W.World.world c.args.names.now c.args.world.now in
     let n = name_of ts c.args.name.number in
     let p = found v c.args.scope n in
-    unread-name c.args.operator c.args.prefix n p v c.get_name-outcome.result
+    unread-name c.args.how.operator c.args.how.prefix n p v c.get_name-outcome.result
     (g.W.World.world c.args.names.now c.get_name-outcome.new.world)
     c.unread.result c.get_name-outcome.ensures c.unread.ensures

@@ -10,7 +10,7 @@ returns-in_err-put_name-in-To g c =
     let n = name_of ts c.args.name.number in
     let p = found v c.args.scope n in
     let w = g.W.World.world c.args.names.now c.put_name.new.world in
-    old-refused c.args.operator c.args.prefix n p c.args.old c.in_ok-old.field-0 c.in-To.old c.in-To.new v
+    old-refused c.args.how.operator c.args.how.prefix n p c.args.old c.in_ok-old.field-0 c.in-To.old c.in-To.new v
     c.put_name.result c.from_residual-in_err-put_name-in-To.result w c.in_err-put_name-in-To.field-0.0
     c.in_ok-old.ensures c.in-To.is c.put_name.ensures c.in_err-put_name-in-To.was
     c.from_residual-in_err-put_name-in-To.ensures.1
@@ -22,7 +22,7 @@ returns-in_ok-put_name-in-To g c =
     let n = name_of ts c.args.name.number in
     let p = found v c.args.scope n in
     let w = g.W.World.world c.args.names.now c.put_name.new.world in
-    old-written c.args.operator c.args.prefix n p c.args.old c.in_ok-old.field-0 c.in-To.old c.in-To.new
+    old-written c.args.how.operator c.args.how.prefix n p c.args.old c.in_ok-old.field-0 c.in-To.old c.in-To.new
     c.update_value.result v c.put_name.result w c.in_ok-put_name-in-To.field-0 c.in_ok-old.ensures c.in-To.is
     c.put_name.ensures c.in_ok-put_name-in-To.was c.update_value.ensures
 
@@ -32,6 +32,7 @@ returns-in-Fails g c =
     let v = g.W.World.world c.args.names.now c.args.world.now in
     let n = name_of ts c.args.name.number in
     let p = found v c.args.scope n in
-    old-fails c.args.operator c.args.prefix n p c.args.old c.in_ok-old.field-0 c.in-Fails.class c.in-Fails.message v
+    old-fails c.args.how.operator c.args.how.prefix n p c.args.old c.in_ok-old.field-0 c.in-Fails.class
+    c.in-Fails.message v
     c.fail.result
     (g.W.World.world c.args.names.now c.fail.new.world) c.in_ok-old.ensures c.in-Fails.is c.fail.ensures
