@@ -35,6 +35,18 @@ abbrev pub IsRowAnywhere : Redex → Option Extra → Reduced → Type 0
 IsRowAnywhere form x r =
     (ts : List (List ℕ)) (t : NodeTable) (vs : List Value) (v : World) (c : Context) → IsRow ts t form vs x v c r v c
 
+-- the answer is the row's in every context, which stays
+abbrev pub IsRowOver : List (List ℕ)
+    → NodeTable
+    → Redex
+    → List Value
+    → Option Extra
+    → World
+    → Reduced
+    → World
+    → Type 0
+IsRowOver ts t form vs x v r w = (c : Context) → IsRow ts t form vs x v c r w c
+
 -- of a turn of a `for .. of`, whatever its list and its index
 abbrev pub IsTurnDone : NodeTable → Redex → List Value → Reduced → Type 0
 IsTurnDone t form vs r =

@@ -301,20 +301,19 @@ fn read_line<W: World>(names: &NameTable, context: &mut Context, world: &mut W) 
 
 /// Calls a built-in function.
 fn call_built_in<W: World>(
-    alloc: Global,
-    names: &NameTable,
+    code: &RunningCode<'_, '_>,
     context: &mut Context,
     world: &mut W,
     f: BuiltIn,
     receiver: Value,
     arguments: &[Value],
 ) -> Reduced
-    ensures { ActsOn names.now arguments.now (λ s. built_in_call (W.world names.now world.old) f receiver arguments.now) (W.world names.now world.old) context.old result (W.world names.now world.new) context.new }
+    ensures { ActsOn code.now.names.now arguments.now (λ s. built_in_call (W.world code.now.names.now world.old) f receiver arguments.now) (W.world code.now.names.now world.old) context.old result (W.world code.now.names.now world.new) context.new }
 {
     match f {
-        BuiltIn::ConsoleLog => log(alloc, names, context, world, arguments),
-        BuiltIn::ReadLine => read_line(names, context, world),
-        _ => replied(built_in_call(alloc, world, names, f, receiver, arguments)),
+        BuiltIn::ConsoleLog => log(code.alloc, code.names, context, world, arguments),
+        BuiltIn::ReadLine => read_line(code.names, context, world),
+        _ => replied(built_in_call(code.alloc, world, code.names, f, receiver, arguments)),
     }
 }
 
@@ -334,11 +333,7 @@ fn call_callee<W: World>(
     ensures { ActsIn code.now.names.now code.now.table.now arguments.now (λ s. callee_called (program_of code.now.names.now code.now.table.now) s function (view_of code.now.names.now callee) receiver arguments.now) (W.world code.now.names.now world.old) context.old result (W.world code.now.names.now world.new) context.new }
 {
     match callee.code {
-        Code::BuiltIn(f) => {
-            call_built_in(
-                code.alloc, code.names, context, world, f, receiver, arguments,
-            )
-        }
+        Code::BuiltIn(f) => { call_built_in(code, context, world, f, receiver, arguments) }
         Code::Script { number, node } => {
             let source = Source::Script(number);
             let place = function_at(code.table, source, node);

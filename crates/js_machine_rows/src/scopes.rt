@@ -1,6 +1,7 @@
 //! Scopes that are no function's.
 
 ghost use Rattle.std.specs.Prelude.{[]};
+ghost use Rattle.js_heap.specs.declared.cell.ScopeKind.TheVariants as scopes;
 ghost use Rattle.js_semantics.specs.Functions.{new_scope};
 ghost use Rattle.js_machine_nodes.specs.Trees.{trees};
 ghost use Rattle.js_heap_memory.specs.Cells.{bindings};
@@ -33,19 +34,26 @@ pub fn nameless_scope<W: World>(
     new_scope(world, names, kind, FunctionName::Empty, outer, slots)
 }
 
-/// Makes a scope with these names, and the functions among the parts from a place of the table's list up to another.
-pub fn scope_with<W: World>(
+/// Makes the scope of a block with these names, and the functions among the parts from a place of the table's list up to
+/// another.
+pub fn block_scope<W: World>(
     code: &RunningCode<'_, '_>,
     world: &mut W,
-    kind: ScopeKind,
     outer: Addr,
     slots: &[Slot],
     from: u32,
     to: u32,
 ) -> Result<Addr, ActionEnd>
-    ensures { Yields (scope_declared kind outer (bindings code.now.names.now slots.now) (trees code.now.names.now code.now.table.now from to)) (W.world code.now.names.now world.old) result (W.world code.now.names.now world.new) }
+    ensures { Yields (scope_declared scopes.Block outer (bindings code.now.names.now slots.now) (trees code.now.names.now code.now.table.now from to)) (W.world code.now.names.now world.old) result (W.world code.now.names.now world.new) }
 {
-    let scope = nameless_scope(code.alloc, code.names, world, kind, outer, slots)?;
+    let scope = nameless_scope(
+        code.alloc,
+        code.names,
+        world,
+        ScopeKind::Block,
+        outer,
+        slots,
+    )?;
     with_functions(code, world, scope, from, to)?;
     Ok(scope)
 }

@@ -16,7 +16,7 @@ use crate::answers::{replied_with, stopped};
 use crate::declared::with_functions;
 use crate::entries::{block_entry, script_entry};
 use crate::parts::part_at;
-use crate::scopes::{nameless_scope, scope_with};
+use crate::scopes::{block_scope, nameless_scope};
 use js_heap::cell::ScopeKind;
 use js_heap::value::{Addr, Value};
 use js_heap_memory::names::{NameId, NameTable};
@@ -287,15 +287,7 @@ fn block_of<W: World>(
     if slots.is_empty() {
         return Reduced::Uncovers(statements);
     }
-    let own = scope_with(
-        code,
-        world,
-        ScopeKind::Block,
-        form.inner,
-        slots,
-        form.mid + 1,
-        form.end,
-    );
+    let own = block_scope(code, world, form.inner, slots, form.mid + 1, form.end);
     scoped(own, statements)
 }
 

@@ -4,7 +4,7 @@ ghost use Rattle.std.specs.Prelude.{◌≡◌, Some, None, slice_get};
 ghost use Rattle.js_machine_nodes.specs.Codes.{HasFunctions};
 ghost use Rattle.js_machine_nodes.specs.Trees.{kids_between};
 ghost use Rattle.js_machine_engine.specs.declared.task.Extra.TheVariants as extras;
-ghost use Rattle.js_machine_rows.specs.Table.{IsRow, IsRowAnywhere, IsTurnDone, without_part};
+ghost use Rattle.js_machine_rows.specs.Table.{IsRow, IsRowAnywhere, IsRowOver, IsTurnDone, without_part};
 
 use crate::callees::{
     callee_of_index, callee_of_member, callee_of_name, old_of_index, old_of_member, old_of_name,
@@ -332,14 +332,13 @@ fn turn_done(table: &NodeTable, form: Redex, values: &[Value]) -> Reduced
 /// A `for .. of`, before a turn or behind one.
 fn turning<W: World>(
     code: &RunningCode<'_, '_>,
-    context: &mut Context,
     world: &mut W,
     form: Redex,
     values: &[Value],
     list: Value,
     index: u32,
 ) -> Reduced
-    ensures { IsRow code.now.names.now code.now.table.now form values.now (Some (extras.Turn list index)) (W.world code.now.names.now world.old) context.old result (W.world code.now.names.now world.new) context.new }
+    ensures { IsRowOver code.now.names.now code.now.table.now form values.now (Some (extras.Turn list index)) (W.world code.now.names.now world.old) result (W.world code.now.names.now world.new) }
 {
     match form.op {
         Op::TurnOf => turn_of(code, world, form, list, index),
@@ -351,13 +350,12 @@ fn turning<W: World>(
 /// An object literal behind a method with a computed key.
 fn behind_method<W: World>(
     code: &RunningCode<'_, '_>,
-    context: &mut Context,
     world: &mut W,
     form: Redex,
     values: &[Value],
     from: u32,
 ) -> Reduced
-    ensures { IsRow code.now.names.now code.now.table.now form values.now (Some (extras.Rest from)) (W.world code.now.names.now world.old) context.old result (W.world code.now.names.now world.new) context.new }
+    ensures { IsRowOver code.now.names.now code.now.table.now form values.now (Some (extras.Rest from)) (W.world code.now.names.now world.old) result (W.world code.now.names.now world.new) }
 {
     match form.op {
         Op::ObjectRest => object(code, world, form, from, values),
@@ -379,8 +377,8 @@ fn owning<W: World>(
 {
     match extra {
         Extra::Kept(completion) => resumed(form, completion),
-        Extra::Turn(list, index) => turning(code, context, world, form, values, list, index),
-        Extra::Rest(from) => behind_method(code, context, world, form, values, from),
+        Extra::Turn(list, index) => turning(code, world, form, values, list, index),
+        Extra::Rest(from) => behind_method(code, world, form, values, from),
     }
 }
 

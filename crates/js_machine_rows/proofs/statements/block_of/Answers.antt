@@ -23,6 +23,6 @@ returns g c =
     c.args.form.end
     c.in-Some.statements
     (g.W.World.world c.args.code.now.names.now c.args.world.now)
-    (g.W.World.world c.args.code.now.names.now c.scope_with-own.new.world)
-    c.scope_with-own.result c.scoped.result c.in-Some.ensures (sym c.is_empty.ensures ∙ c.if-is_empty.false)
-    c.scope_with-own.ensures c.scoped.ensures
+    (g.W.World.world c.args.code.now.names.now c.block_scope-own.new.world)
+    c.block_scope-own.result c.scoped.result c.in-Some.ensures (sym c.is_empty.ensures ∙ c.if-is_empty.false)
+    c.block_scope-own.ensures c.scoped.ensures

@@ -17,8 +17,8 @@ returns-in-Turn g c =
     let ts = c.args.code.now.names.now in
     same-extra ts c.args.code.now.table.now c.args.form c.args.values.now (Some c.args.extra)
     (Some (extras.Turn c.in-Turn.list c.in-Turn.index)) (g.W.World.world ts c.args.world.now)
-    (g.W.World.world ts c.turning.new.world) c.args.context.now c.turning.new.context c.turning.result
-    (ap (λ x. Some x) c.in-Turn.is) c.turning.ensures
+    (g.W.World.world ts c.turning.new.world) c.args.context.now c.args.context.now c.turning.result
+    (ap (λ x. Some x) c.in-Turn.is) (c.turning.ensures c.args.context.now)
 
 pub returns-in-Rest : goal.returns-in-Rest
 returns-in-Rest g c =
@@ -26,5 +26,5 @@ returns-in-Rest g c =
     same-extra ts c.args.code.now.table.now c.args.form c.args.values.now (Some c.args.extra)
     (Some (extras.Rest c.in-Rest.from))
     (g.W.World.world ts c.args.world.now) (g.W.World.world ts c.behind_method.new.world)
-    c.args.context.now c.behind_method.new.context c.behind_method.result (ap (λ x. Some x) c.in-Rest.is)
-    c.behind_method.ensures
+    c.args.context.now c.args.context.now c.behind_method.result (ap (λ x. Some x) c.in-Rest.is)
+    (c.behind_method.ensures c.args.context.now)
