@@ -8,6 +8,7 @@ use Rattle.js_machine_actions.specs.Contexts.{Context, state_of}
 use Rattle.js_machine_nodes.specs.declared.op.Op.{Op}
 use Rattle.js_machine_nodes.specs.declared.op.Op.TheVariants as ops
 use Rattle.js_machine_nodes.specs.declared.table.NodeTable.{NodeTable}
+use Rattle.js_machine_engine.specs.declared.code.RunningCode.{RunningCode}
 use Rattle.js_machine_engine.specs.declared.reduced.Reduced.{Reduced}
 use Rattle.js_machine_engine.specs.declared.reduced.Reduced.TheVariants as reduced
 use Rattle.js_machine_engine.specs.declared.task.Extra.{Extra}
@@ -35,17 +36,34 @@ abbrev pub IsRowAnywhere : Redex → Option Extra → Reduced → Type 0
 IsRowAnywhere form x r =
     (ts : List (List ℕ)) (t : NodeTable) (vs : List Value) (v : World) (c : Context) → IsRow ts t form vs x v c r v c
 
--- the answer is the row's in every context, which stays
-abbrev pub IsRowOver : List (List ℕ)
-    → NodeTable
+-- the answer is the row's by code that runs, in a world that is seen so with its names
+abbrev pub IsRowOf : {S : Type 0}
+    → (List (List ℕ) → S → World)
+    → RunningCode
     → Redex
     → List Value
     → Option Extra
-    → World
+    → S
+    → Context
     → Reduced
-    → World
+    → S
+    → Context
     → Type 0
-IsRowOver ts t form vs x v r w = (c : Context) → IsRow ts t form vs x v c r w c
+IsRowOf see code form vs x old c r new d =
+    IsRow code.names.now code.table.now form vs x (see code.names.now old) c r (see code.names.now new) d
+
+-- so in every context, which stays
+abbrev pub IsRowOver : {S : Type 0}
+    → (List (List ℕ) → S → World)
+    → RunningCode
+    → Redex
+    → List Value
+    → Option Extra
+    → S
+    → Reduced
+    → S
+    → Type 0
+IsRowOver see code form vs x old r new = (c : Context) → IsRowOf see code form vs x old c r new c
 
 -- of a turn of a `for .. of`, whatever its list and its index
 abbrev pub IsTurnDone : NodeTable → Redex → List Value → Reduced → Type 0

@@ -4,7 +4,7 @@ ghost use Rattle.std.specs.Prelude.{◌≡◌, Some, None, slice_get};
 ghost use Rattle.js_machine_nodes.specs.Codes.{HasFunctions};
 ghost use Rattle.js_machine_nodes.specs.Trees.{kids_between};
 ghost use Rattle.js_machine_engine.specs.declared.task.Extra.TheVariants as extras;
-ghost use Rattle.js_machine_rows.specs.Table.{IsRow, IsRowAnywhere, IsRowOver, IsTurnDone, without_part};
+ghost use Rattle.js_machine_rows.specs.Table.{IsRowAnywhere, IsRowOf, IsRowOver, IsTurnDone, without_part};
 
 use crate::callees::{
     callee_of_index, callee_of_member, callee_of_name, old_of_index, old_of_member, old_of_name,
@@ -52,7 +52,7 @@ fn frequent<W: World>(
     values: &[Value],
 ) -> Reduced
     requires { HasFunctions code.now.table.now }
-    ensures { IsRow code.now.names.now code.now.table.now form values.now None (W.world code.now.names.now world.old) context.old result (W.world code.now.names.now world.new) context.new }
+    ensures { IsRowOf W.world code.now form values.now None world.old context.old result world.new context.new }
 {
     let name = NameId { number: form.info };
     match form.op {
@@ -97,7 +97,7 @@ fn expression<W: World>(
     form: Redex,
     values: &[Value],
 ) -> Reduced
-    ensures { IsRow code.now.names.now code.now.table.now form values.now None (W.world code.now.names.now world.old) context.old result (W.world code.now.names.now world.new) context.new }
+    ensures { IsRowOf W.world code.now form values.now None world.old context.old result world.new context.new }
 {
     let name = NameId { number: form.info };
     match form.op {
@@ -123,7 +123,7 @@ fn writing<W: World>(
     form: Redex,
     values: &[Value],
 ) -> Reduced
-    ensures { IsRow code.now.names.now code.now.table.now form values.now None (W.world code.now.names.now world.old) context.old result (W.world code.now.names.now world.new) context.new }
+    ensures { IsRowOf W.world code.now form values.now None world.old context.old result world.new context.new }
 {
     let name = NameId { number: form.info };
     match form.op {
@@ -156,7 +156,7 @@ fn statement<W: World>(
     form: Redex,
     values: &[Value],
 ) -> Reduced
-    ensures { IsRow code.now.names.now code.now.table.now form values.now None (W.world code.now.names.now world.old) context.old result (W.world code.now.names.now world.new) context.new }
+    ensures { IsRowOf W.world code.now form values.now None world.old context.old result world.new context.new }
 {
     let name = NameId { number: form.info };
     match form.op {
@@ -182,7 +182,7 @@ fn looping<W: World>(
     form: Redex,
     values: &[Value],
 ) -> Reduced
-    ensures { IsRow code.now.names.now code.now.table.now form values.now None (W.world code.now.names.now world.old) context.old result (W.world code.now.names.now world.new) context.new }
+    ensures { IsRowOf W.world code.now form values.now None world.old context.old result world.new context.new }
 {
     match form.op {
         Op::LoopBody => loop_body(code.alloc, code.names, world, form.info, form.inner),
@@ -204,7 +204,7 @@ fn valued<W: World>(
     form: Redex,
     values: &[Value],
 ) -> Reduced
-    ensures { IsRow code.now.names.now code.now.table.now form values.now None (W.world code.now.names.now world.old) context.old result (W.world code.now.names.now world.new) context.new }
+    ensures { IsRowOf W.world code.now form values.now None world.old context.old result world.new context.new }
 {
     match form.op {
         Op::Sequence => last(values),
@@ -229,7 +229,7 @@ fn calling_with<W: World>(
 ) -> Reduced
     requires functions { HasFunctions code.now.table.now }
     requires found { Some entry ≡ slice_get code.now.table.now.calls.items form.info }
-    ensures { IsRow code.now.names.now code.now.table.now form values.now None (W.world code.now.names.now world.old) context.old result (W.world code.now.names.now world.new) context.new }
+    ensures { IsRowOf W.world code.now form values.now None world.old context.old result world.new context.new }
 {
     match form.op {
         Op::Call => call(code, context, world, entry.place, values),
@@ -250,7 +250,7 @@ fn calling<W: World>(
     values: &[Value],
 ) -> Reduced
     requires { HasFunctions code.now.table.now }
-    ensures { IsRow code.now.names.now code.now.table.now form values.now None (W.world code.now.names.now world.old) context.old result (W.world code.now.names.now world.new) context.new }
+    ensures { IsRowOf W.world code.now form values.now None world.old context.old result world.new context.new }
 {
     match call_entry(code.table, form.info) {
         Some(entry) => calling_with(code, context, world, form, values, entry),
@@ -269,7 +269,7 @@ fn compound_with<W: World>(
     part: u32,
 ) -> Reduced
     requires { Some part ≡ slice_get (kids_between code.now.table.now form.mid form.end) 0 }
-    ensures { IsRow code.now.names.now code.now.table.now form values.now None (W.world code.now.names.now world.old) context.old result (W.world code.now.names.now world.new) context.new }
+    ensures { IsRowOf W.world code.now form values.now None world.old context.old result world.new context.new }
 {
     let name = NameId { number: form.info };
     match form.op {
@@ -301,7 +301,7 @@ fn compound<W: World>(
     form: Redex,
     values: &[Value],
 ) -> Reduced
-    ensures { IsRow code.now.names.now code.now.table.now form values.now None (W.world code.now.names.now world.old) context.old result (W.world code.now.names.now world.new) context.new }
+    ensures { IsRowOf W.world code.now form values.now None world.old context.old result world.new context.new }
 {
     match part_at(code.table, form.mid, form.end, 0) {
         Some(part) => compound_with(code, context, world, form, values, part),
@@ -338,7 +338,7 @@ fn turning<W: World>(
     list: Value,
     index: u32,
 ) -> Reduced
-    ensures { IsRowOver code.now.names.now code.now.table.now form values.now (Some (extras.Turn list index)) (W.world code.now.names.now world.old) result (W.world code.now.names.now world.new) }
+    ensures { IsRowOver W.world code.now form values.now (Some (extras.Turn list index)) world.old result world.new }
 {
     match form.op {
         Op::TurnOf => turn_of(code, world, form, list, index),
@@ -355,7 +355,7 @@ fn behind_method<W: World>(
     values: &[Value],
     from: u32,
 ) -> Reduced
-    ensures { IsRowOver code.now.names.now code.now.table.now form values.now (Some (extras.Rest from)) (W.world code.now.names.now world.old) result (W.world code.now.names.now world.new) }
+    ensures { IsRowOver W.world code.now form values.now (Some (extras.Rest from)) world.old result world.new }
 {
     match form.op {
         Op::ObjectRest => object(code, world, form, from, values),
@@ -373,7 +373,7 @@ fn owning<W: World>(
     values: &[Value],
     extra: Extra,
 ) -> Reduced
-    ensures { IsRow code.now.names.now code.now.table.now form values.now (Some extra) (W.world code.now.names.now world.old) context.old result (W.world code.now.names.now world.new) context.new }
+    ensures { IsRowOf W.world code.now form values.now (Some extra) world.old context.old result world.new context.new }
 {
     match extra {
         Extra::Kept(completion) => resumed(form, completion),
