@@ -132,14 +132,15 @@ fn callee_of(alloc: Global, cell: Option<&Stored>) -> Result<Option<Callee>, All
 
 // ---- entering
 
-/// A function of a source that is entered, with its `this`.
+/// A function of a source that is entered, with its `this` and its arguments.
 #[derive(Drop)]
-pub struct EnteredFunction {
+pub struct EnteredFunction<'a> {
     pub source: Source,
     pub function: Addr,
     pub name: FunctionName,
     pub outer: Addr,
     pub receiver: Value,
+    pub arguments: &'a [Value],
 }
 
 /// The frame of a call whose scope and functions are made.
@@ -173,10 +174,9 @@ fn enter<W: World>(
     world: &mut W,
     place: CodePlace,
     compiled: &FunctionEntry,
-    entry: EnteredFunction,
-    arguments: &[Value],
+    callee: EnteredFunction<'_>,
 ) -> Reduced
-    ensures { ActsAlways code.now.names.now code.now.table.now (λ s. entered (entry_code code.now.names.now code.now.table.now place compiled.now) entry.source entry.function (name_text code.now.names.now entry.name) entry.outer entry.receiver arguments.now) (W.world code.now.names.now world.old) context.old result (W.world code.now.names.now world.new) context.new }
+    ensures { ActsAlways code.now.names.now code.now.table.now (λ s. entered (entry_code code.now.names.now code.now.table.now place compiled.now) callee.entry.source callee.entry.function (name_text code.now.names.now callee.entry.name) callee.entry.outer callee.entry.receiver callee.entry.arguments.now) (W.world code.now.names.now world.old) context.old result (W.world code.now.names.now world.new) context.new }
 {
     let EnteredFunction {
         source,
@@ -184,7 +184,8 @@ fn enter<W: World>(
         name,
         outer,
         receiver,
-    } = entry;
+        arguments,
+    } = callee;
     match call_scope(code, world, place, compiled, name, outer, arguments) {
         Ok(own) => enter_frame(
             context,
@@ -214,16 +215,22 @@ fn call_entry<W: World>(
     world: &mut W,
     place: CodePlace,
     compiled: &FunctionEntry,
-    entry: EnteredFunction,
-    arguments: &[Value],
+    callee: EnteredFunction<'_>,
 ) -> Reduced
-    ensures { ActsAlways code.now.names.now code.now.table.now (λ s. entered_within s (entry_code code.now.names.now code.now.table.now place compiled.now) entry.source entry.function (name_text code.now.names.now entry.name) entry.outer entry.receiver arguments.now) (W.world code.now.names.now world.old) context.old result (W.world code.now.names.now world.new) context.new }
+    ensures { ActsAlways code.now.names.now code.now.table.now (λ s. entered_within s (entry_code code.now.names.now code.now.table.now place compiled.now) callee.entry.source callee.entry.function (name_text code.now.names.now callee.entry.name) callee.entry.outer callee.entry.receiver callee.entry.arguments.now) (W.world code.now.names.now world.old) context.old result (W.world code.now.names.now world.new) context.new }
 {
     if context.frame_count() < MOST_FRAMES {
-        enter(code, context, world, place, compiled, entry, arguments)
+        enter(code, context, world, place, compiled, callee)
     } else {
         stopped(too_deep(code.alloc, world, code.names))
     }
+}
+
+/// The `this` and the arguments that a call gives.
+#[derive(Clone, Copy)]
+pub struct GivenValues<'a> {
+    pub receiver: Value,
+    pub arguments: &'a [Value],
 }
 
 /// Calls a function of a source.
@@ -235,10 +242,9 @@ fn call_code<W: World>(
     source: Source,
     function: Addr,
     callee: Callee,
-    receiver: Value,
-    arguments: &[Value],
+    given: &GivenValues<'_>,
 ) -> Reduced
-    ensures { ActsAlways code.now.names.now code.now.table.now (λ s. call_code s (code_at code.now.names.now code.now.table.now place) source function (name_text code.now.names.now callee.name) callee.outer callee.this receiver arguments.now) (W.world code.now.names.now world.old) context.old result (W.world code.now.names.now world.new) context.new }
+    ensures { ActsAlways code.now.names.now code.now.table.now (λ s. call_code s (code_at code.now.names.now code.now.table.now place) source function (name_text code.now.names.now callee.name) callee.outer callee.this given.now.receiver given.now.arguments.now) (W.world code.now.names.now world.old) context.old result (W.world code.now.names.now world.new) context.new }
 {
     let Callee {
         name,
@@ -250,15 +256,16 @@ fn call_code<W: World>(
         Some(place) => match function_entry(code.table, place.number) {
             Some(compiled) => match outer {
                 Some(outer) => {
-                    let receiver = called_this(compiled.is_arrow, this, receiver);
+                    let receiver = called_this(compiled.is_arrow, this, given.receiver);
                     let entry = EnteredFunction {
                         source,
                         function,
                         name,
                         outer,
                         receiver,
+                        arguments: given.arguments,
                     };
-                    call_entry(code, context, world, place, compiled, entry, arguments)
+                    call_entry(code, context, world, place, compiled, entry)
                 }
                 None => stopped(not_a_function(code.alloc, world, code.names)),
             },
@@ -326,27 +333,24 @@ fn call_callee<W: World>(
     world: &mut W,
     function: Addr,
     callee: Callee,
-    receiver: Value,
-    arguments: &[Value],
+    given: &GivenValues<'_>,
 ) -> Reduced
     requires { HasFunctions code.now.table.now }
-    ensures { ActsIn code.now.names.now code.now.table.now arguments.now (λ s. callee_called (program_of code.now.names.now code.now.table.now) s function (view_of code.now.names.now callee) receiver arguments.now) (W.world code.now.names.now world.old) context.old result (W.world code.now.names.now world.new) context.new }
+    ensures { ActsIn code.now.names.now code.now.table.now given.now.arguments.now (λ s. callee_called (program_of code.now.names.now code.now.table.now) s function (view_of code.now.names.now callee) given.now.receiver given.now.arguments.now) (W.world code.now.names.now world.old) context.old result (W.world code.now.names.now world.new) context.new }
 {
     match callee.code {
-        Code::BuiltIn(f) => { call_built_in(code, context, world, f, receiver, arguments) }
+        Code::BuiltIn(f) => {
+            call_built_in(code, context, world, f, given.receiver, given.arguments)
+        }
         Code::Script { number, node } => {
             let source = Source::Script(number);
             let place = function_at(code.table, source, node);
-            call_code(
-                code, context, world, place, source, function, callee, receiver, arguments,
-            )
+            call_code(code, context, world, place, source, function, callee, given)
         }
         Code::Kept { at, node } => {
             let source = Source::Kept(at);
             let place = function_at(code.table, source, node);
-            call_code(
-                code, context, world, place, source, function, callee, receiver, arguments,
-            )
+            call_code(code, context, world, place, source, function, callee, given)
         }
     }
 }
@@ -357,16 +361,13 @@ fn call_at<W: World>(
     context: &mut Context,
     world: &mut W,
     function: Addr,
-    receiver: Value,
-    arguments: &[Value],
+    given: &GivenValues<'_>,
 ) -> Reduced
     requires { HasFunctions code.now.table.now }
-    ensures { ActsIn code.now.names.now code.now.table.now arguments.now (λ s. call_cell (program_of code.now.names.now code.now.table.now) s function (read_cell (W.world code.now.names.now world.old) function) receiver arguments.now) (W.world code.now.names.now world.old) context.old result (W.world code.now.names.now world.new) context.new }
+    ensures { ActsIn code.now.names.now code.now.table.now given.now.arguments.now (λ s. call_cell (program_of code.now.names.now code.now.table.now) s function (read_cell (W.world code.now.names.now world.old) function) given.now.receiver given.now.arguments.now) (W.world code.now.names.now world.old) context.old result (W.world code.now.names.now world.new) context.new }
 {
     match callee_of(code.alloc, world.find(function)) {
-        Ok(Some(callee)) => call_callee(
-            code, context, world, function, callee, receiver, arguments,
-        ),
+        Ok(Some(callee)) => call_callee(code, context, world, function, callee, given),
         Ok(None) => stopped(not_a_function(code.alloc, world, code.names)),
         Err(_) => Reduced::Memory,
     }
@@ -378,14 +379,13 @@ fn call_value<W: World>(
     context: &mut Context,
     world: &mut W,
     callee: Value,
-    receiver: Value,
-    arguments: &[Value],
+    given: &GivenValues<'_>,
 ) -> Reduced
     requires { HasFunctions code.now.table.now }
-    ensures { ActsIn code.now.names.now code.now.table.now arguments.now (λ s. call_value (program_of code.now.names.now code.now.table.now) s callee receiver arguments.now) (W.world code.now.names.now world.old) context.old result (W.world code.now.names.now world.new) context.new }
+    ensures { ActsIn code.now.names.now code.now.table.now given.now.arguments.now (λ s. call_value (program_of code.now.names.now code.now.table.now) s callee given.now.receiver given.now.arguments.now) (W.world code.now.names.now world.old) context.old result (W.world code.now.names.now world.new) context.new }
 {
     match callee {
-        Value::Object(a) => call_at(code, context, world, a, receiver, arguments),
+        Value::Object(a) => call_at(code, context, world, a, given),
         _ => stopped(not_a_function(code.alloc, world, code.names)),
     }
 }
@@ -405,7 +405,11 @@ pub fn call<W: World>(
     match values {
         [receiver, callee, arguments @ ..] => {
             context.set_here(place);
-            call_value(code, context, world, *callee, *receiver, arguments)
+            let given = GivenValues {
+                receiver: *receiver,
+                arguments,
+            };
+            call_value(code, context, world, *callee, &given)
         }
         _ => Reduced::Memory,
     }

@@ -11,11 +11,11 @@ pub returns-in-Ok-Some : goal.returns-in-Ok-Some
 returns-in-Ok-Some g c =
     let ts = c.args.code.now.names.now in
     let t = c.args.code.now.table.now in
-    let a = c.args.arguments.now in
+    let a = c.args.given.now.arguments.now in
     let v = g.W.World.world c.args.code.now.names.now c.args.world.now in
     let p = program_of ts t in
     cell-acts ts t p a c.args.function (read_cell v c.args.function) (Some (view_of ts c.in-Ok-Some.callee))
-    c.args.receiver v c.args.context.now c.call_callee.result
+    c.args.given.now.receiver v c.args.context.now c.call_callee.result
     (g.W.World.world c.args.code.now.names.now c.call_callee.new.world) c.call_callee.new.context
     (ap (λ k. callee_view ts k) (sym c.in-Ok-Some.field-0-is)
     ∙ c.in-Ok-Some.ensures ts
@@ -26,11 +26,11 @@ pub returns-in-Ok-None : goal.returns-in-Ok-None
 returns-in-Ok-None g c =
     let ts = c.args.code.now.names.now in
     let t = c.args.code.now.table.now in
-    let a = c.args.arguments.now in
+    let a = c.args.given.now.arguments.now in
     let v = g.W.World.world c.args.code.now.names.now c.args.world.now in
     let p = program_of ts t in
     cell-acts ts t p a c.args.function (read_cell v c.args.function)
-    None c.args.receiver v c.args.context.now c.stopped.result
+    None c.args.given.now.receiver v c.args.context.now c.stopped.result
     (g.W.World.world c.args.code.now.names.now c.not_a_function.new.world) c.args.context.now
     (ap (λ k. callee_view ts k) (sym c.in-Ok-None.field-0-is)
     ∙ c.in-Ok-None.ensures ts

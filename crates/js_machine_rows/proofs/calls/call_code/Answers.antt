@@ -12,14 +12,15 @@ returns-in-Some-outer g c =
     let v = g.W.World.world c.args.code.now.names.now c.args.world.now in
     let k = c.args.callee in
     let n = name_text ts k.name in
-    let a = c.args.arguments.now in
+    let a = c.args.given.now.arguments.now in
     let p = code_at ts t c.args.place in
     let x = entry_code ts t c.in-Some.place c.in-Some-function_entry.compiled.now in
-    acts-by ts t (λ s. call_code s p c.args.source c.args.function n k.outer k.this c.args.receiver a)
+    acts-by ts t (λ s. call_code s p c.args.source c.args.function n k.outer k.this c.args.given.now.receiver a)
     (λ s. entered_within s x c.args.source c.args.function n c.in-Some-outer.outer c.called_this-receiver.result a)
     v c.args.context.now c.call_entry.result (g.W.World.world c.args.code.now.names.now c.call_entry.new.world)
     c.call_entry.new.context
-    (λ s. code-called s p x c.args.source c.args.function n k.outer c.in-Some-outer.outer k.this c.args.receiver
+    (λ s. code-called s p x c.args.source c.args.function n k.outer c.in-Some-outer.outer k.this
+    c.args.given.now.receiver
     c.called_this-receiver.result a
     (code-there ts t c.args.place c.in-Some.place c.in-Some-function_entry.compiled.now c.in-Some.is
     c.in-Some-function_entry.ensures)
@@ -33,12 +34,12 @@ returns-in-None-outer g c =
     let v = g.W.World.world c.args.code.now.names.now c.args.world.now in
     let k = c.args.callee in
     let n = name_text ts k.name in
-    let a = c.args.arguments.now in
+    let a = c.args.given.now.arguments.now in
     let p = code_at ts t c.args.place in
-    acts-by ts t (λ s. call_code s p c.args.source c.args.function n k.outer k.this c.args.receiver a)
+    acts-by ts t (λ s. call_code s p c.args.source c.args.function n k.outer k.this c.args.given.now.receiver a)
     (λ s. not_a_function) v c.args.context.now c.stopped.result
     (g.W.World.world c.args.code.now.names.now c.not_a_function.new.world) c.args.context.now
-    (λ s. no-outer s p c.args.source c.args.function n k.outer k.this c.args.receiver a c.in-None-outer.is)
+    (λ s. no-outer s p c.args.source c.args.function n k.outer k.this c.args.given.now.receiver a c.in-None-outer.is)
     (ends-act ts t not_a_function v c.not_a_function.result
     (g.W.World.world c.args.code.now.names.now c.not_a_function.new.world)
     c.args.context.now c.stopped.result c.not_a_function.ensures c.stopped.ensures)
@@ -50,12 +51,12 @@ returns-in-None-function_entry g c =
     let v = g.W.World.world c.args.code.now.names.now c.args.world.now in
     let k = c.args.callee in
     let n = name_text ts k.name in
-    let a = c.args.arguments.now in
+    let a = c.args.given.now.arguments.now in
     let p = code_at ts t c.args.place in
-    acts-by ts t (λ s. call_code s p c.args.source c.args.function n k.outer k.this c.args.receiver a)
+    acts-by ts t (λ s. call_code s p c.args.source c.args.function n k.outer k.this c.args.given.now.receiver a)
     (λ s. not_a_function) v c.args.context.now c.stopped-in-None-function_entry.result
     (g.W.World.world c.args.code.now.names.now c.not_a_function-in-None-function_entry.new.world) c.args.context.now
-    (λ s. no-code s p c.args.source c.args.function n k.outer k.this c.args.receiver a
+    (λ s. no-code s p c.args.source c.args.function n k.outer k.this c.args.given.now.receiver a
     (code-missing ts t c.args.place c.in-Some.place c.in-Some.is c.in-None-function_entry.ensures))
     (ends-act ts t not_a_function v c.not_a_function-in-None-function_entry.result
     (g.W.World.world c.args.code.now.names.now c.not_a_function-in-None-function_entry.new.world)
@@ -69,12 +70,12 @@ returns-in-None g c =
     let v = g.W.World.world c.args.code.now.names.now c.args.world.now in
     let k = c.args.callee in
     let n = name_text ts k.name in
-    let a = c.args.arguments.now in
+    let a = c.args.given.now.arguments.now in
     let p = code_at ts t c.args.place in
-    acts-by ts t (λ s. call_code s p c.args.source c.args.function n k.outer k.this c.args.receiver a)
+    acts-by ts t (λ s. call_code s p c.args.source c.args.function n k.outer k.this c.args.given.now.receiver a)
     (λ s. not_a_function) v c.args.context.now c.stopped-in-None.result
     (g.W.World.world c.args.code.now.names.now c.not_a_function-in-None.new.world) c.args.context.now
-    (λ s. no-code s p c.args.source c.args.function n k.outer k.this c.args.receiver a
+    (λ s. no-code s p c.args.source c.args.function n k.outer k.this c.args.given.now.receiver a
     (code-none ts t c.args.place c.in-None.is))
     (ends-act ts t not_a_function v c.not_a_function-in-None.result
     (g.W.World.world c.args.code.now.names.now c.not_a_function-in-None.new.world)

@@ -10,10 +10,10 @@ returns-else-frame_count-lt-MOST_FRAMES g c =
     let ts = c.args.code.now.names.now in
     let t = c.args.code.now.table.now in
     let v = g.W.World.world c.args.code.now.names.now c.args.world.now in
-    let i = c.args.entry in
+    let i = c.args.callee in
     let n = name_text ts i.name in
     let x = entry_code ts t c.args.place c.args.compiled.now in
     let h : nat_lt (length c.args.context.now.frames) 1000 ≡ false = grind arith in
-    past-limit ts t x i.source i.function n i.outer i.receiver c.args.arguments.now v
+    past-limit ts t x i.source i.function n i.outer i.receiver i.arguments.now v
     (g.W.World.world c.args.code.now.names.now c.too_deep.new.world)
     c.args.context.now c.too_deep.result c.stopped.result h c.too_deep.ensures c.stopped.ensures

@@ -6,9 +6,9 @@ pub returns-in_default : goal.returns-in_default
 returns-in_default g c =
     let ts = c.args.code.now.names.now in
     let t = c.args.code.now.table.now in
-    let a = c.args.arguments.now in
+    let a = c.args.given.now.arguments.now in
     let v = g.W.World.world c.args.code.now.names.now c.args.world.now in
     let p = program_of ts t in
-    not-called ts t p a c.args.callee c.args.receiver v c.not_a_function.result
+    not-called ts t p a c.args.callee c.args.given.now.receiver v c.not_a_function.result
     (g.W.World.world c.args.code.now.names.now c.not_a_function.new.world)
     c.args.context.now c.stopped.result c.in_default.not-Object c.not_a_function.ensures c.stopped.ensures

@@ -9,10 +9,10 @@ returns-in-Ok g c =
     let ts = c.args.code.now.names.now in
     let t = c.args.code.now.table.now in
     let v = g.W.World.world c.args.code.now.names.now c.args.world.now in
-    let i = c.args.entry in
+    let i = c.args.callee in
     let n = name_text ts i.name in
     let x = entry_code ts t c.args.place c.args.compiled.now in
-    enters-scope ts t x i.source i.function n i.outer i.receiver c.args.arguments.now c.in-Ok.own
+    enters-scope ts t x i.source i.function n i.outer i.receiver i.arguments.now c.in-Ok.own
     c.args.compiled.now.node
     c.args.place.body v
     (g.W.World.world c.args.code.now.names.now c.call_scope.new.world)
@@ -23,9 +23,9 @@ returns-in-Err g c =
     let ts = c.args.code.now.names.now in
     let t = c.args.code.now.table.now in
     let v = g.W.World.world c.args.code.now.names.now c.args.world.now in
-    let i = c.args.entry in
+    let i = c.args.callee in
     let n = name_text ts i.name in
     let x = entry_code ts t c.args.place c.args.compiled.now in
-    enters-not ts t x i.source i.function n i.outer i.receiver c.args.arguments.now v
+    enters-not ts t x i.source i.function n i.outer i.receiver i.arguments.now v
     (g.W.World.world c.args.code.now.names.now c.call_scope.new.world)
     c.args.context.now c.in-Err.stop c.stopped.result c.in-Err.ensures c.stopped.ensures
