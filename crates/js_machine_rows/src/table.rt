@@ -67,14 +67,7 @@ fn frequent<W: World>(
             name,
             last_of(values),
         ),
-        Op::UpdateName(kind) => update_name(
-            code.alloc,
-            world,
-            code.names,
-            rule_of(kind),
-            form.inner,
-            name,
-        ),
+        Op::UpdateName(kind) => update_name(code, world, rule_of(kind), form.inner, name),
         Op::ReadMember => read_member(code.alloc, world, code.names, values, name),
         Op::ReadIndex => read_index(code.alloc, world, code.names, values),
         Op::AssignIndex => assign_index(code.alloc, world, code.names, values),
@@ -128,15 +121,8 @@ fn writing<W: World>(
     let name = NameId { number: form.info };
     match form.op {
         Op::AssignMember => assign_member(code.alloc, world, code.names, values, name),
-        Op::UpdateMember(kind) => update_member(
-            code.alloc,
-            world,
-            code.names,
-            rule_of(kind),
-            values,
-            name,
-        ),
-        Op::UpdateIndex(kind) => update_index(code.alloc, world, code.names, rule_of(kind), values),
+        Op::UpdateMember(kind) => update_member(code, world, rule_of(kind), values, name),
+        Op::UpdateIndex(kind) => update_index(code, world, rule_of(kind), values),
         Op::DeleteName => Reduced::Gives(Value::Undefined),
         Op::DeleteMember => delete_member(code.alloc, world, code.names, values, name),
         Op::DeleteIndex => delete_index(code.alloc, world, code.names, values),

@@ -35,6 +35,7 @@ use js_machine_actions::errors::{bad_key, fail};
 use js_machine_actions::names::{get_name, put_name};
 use js_machine_actions::properties::put_property;
 use js_machine_actions::seen::NamedWorld;
+use js_machine_engine::code::RunningCode;
 use js_machine_engine::reduced::Reduced;
 use js_machine_nodes::op::UpdateKind;
 use js_tree_operators::operator::{BinaryOperator, UpdateOperator};
@@ -157,46 +158,44 @@ fn read_updated<W: World>(
 
 /// `++` and `--` of a property.
 fn update_property<W: World>(
-    alloc: Global,
+    code: &RunningCode<'_, '_>,
     world: &mut W,
-    names: &NameTable,
     how: UpdateRule,
     object: Value,
     key: &[u16],
 ) -> Result<Value, ActionEnd>
-    ensures { Gives (property_updated (W.world names.now world.old) how.operator how.prefix object key.now) (W.world names.now world.old) result (W.world names.now world.new) }
+    ensures { Gives (property_updated (W.world code.now.names.now world.old) how.operator how.prefix object key.now) (W.world code.now.names.now world.old) result (W.world code.now.names.now world.new) }
 {
-    match read_updated(alloc, world, names, how.operator, object, key)? {
+    match read_updated(code.alloc, world, code.names, how.operator, object, key)? {
         Update::To(old, new) => {
-            put_property(alloc, world, names, object, key, new)?;
+            put_property(code.alloc, world, code.names, object, key, new)?;
             Ok(update_value(how.prefix, old, new))
         }
-        Update::Fails(class, message) => Err(fail(alloc, world, names, class, message)),
+        Update::Fails(class, message) => Err(fail(code.alloc, world, code.names, class, message)),
     }
 }
 
 /// `++` and `--` of a property with a computed key.
 pub fn update_index_slowly<W: World>(
-    alloc: Global,
+    code: &RunningCode<'_, '_>,
     world: &mut W,
-    names: &NameTable,
     how: UpdateRule,
     object: Value,
     index: Value,
 ) -> Result<Value, ActionEnd>
-    ensures { Gives (index_updated (W.world names.now world.old) how.operator how.prefix object index) (W.world names.now world.old) result (W.world names.now world.new) }
+    ensures { Gives (index_updated (W.world code.now.names.now world.old) how.operator how.prefix object index) (W.world code.now.names.now world.old) result (W.world code.now.names.now world.new) }
 {
     let key = key_of(
-        alloc,
+        code.alloc,
         &NamedWorld {
-            names,
+            names: code.names,
             world: &*world,
         },
         index,
     )?;
     match key {
-        Some(key) => update_property(alloc, world, names, how, object, key.as_slice()),
-        None => Err(bad_key(alloc, world, names)),
+        Some(key) => update_property(code, world, how, object, key.as_slice()),
+        None => Err(bad_key(code.alloc, world, code.names)),
     }
 }
 
@@ -206,87 +205,82 @@ pub fn update_index_slowly<W: World>(
 #[cold]
 #[inline(never)]
 fn update_member_slowly<W: World>(
-    alloc: Global,
+    code: &RunningCode<'_, '_>,
     world: &mut W,
-    names: &NameTable,
     how: UpdateRule,
     object: Value,
     key: NameId,
 ) -> Result<Value, ActionEnd>
-    ensures { Gives (property_updated (W.world names.now world.old) how.operator how.prefix object (name_of names.now key.number)) (W.world names.now world.old) result (W.world names.now world.new) }
+    ensures { Gives (property_updated (W.world code.now.names.now world.old) how.operator how.prefix object (name_of code.now.names.now key.number)) (W.world code.now.names.now world.old) result (W.world code.now.names.now world.new) }
 {
-    let text = names.text(key)?;
-    update_property(alloc, world, names, how, object, text)
+    let text = code.names.text(key)?;
+    update_property(code, world, how, object, text)
 }
 
 /// `++` and `--` of a property with a fixed key of an object.
 fn update_member_of<W: World>(
-    alloc: Global,
+    code: &RunningCode<'_, '_>,
     world: &mut W,
-    names: &NameTable,
     how: UpdateRule,
     object: Value,
     key: NameId,
 ) -> Reduced
-    ensures { Replies names.now (property_updated (W.world names.now world.old) how.operator how.prefix object (name_of names.now key.number)) (W.world names.now world.old) result (W.world names.now world.new) }
+    ensures { Replies code.now.names.now (property_updated (W.world code.now.names.now world.old) how.operator how.prefix object (name_of code.now.names.now key.number)) (W.world code.now.names.now world.old) result (W.world code.now.names.now world.new) }
 {
-    if let Some(old) = value_of_member(world, names, object, key) {
+    if let Some(old) = value_of_member(world, code.names, object, key) {
         if let Some(new) = stepped(how.operator, old) {
             let given = update_value(how.prefix, old, new);
-            let written = put_member_value(alloc, world, names, object, key, new);
+            let written = put_member_value(code.alloc, world, code.names, object, key, new);
             return replied_with(written, given);
         }
     }
-    replied(update_member_slowly(alloc, world, names, how, object, key))
+    replied(update_member_slowly(code, world, how, object, key))
 }
 
 /// `++` and `--` of a property with a computed key of an object.
 fn update_index_of<W: World>(
-    alloc: Global,
+    code: &RunningCode<'_, '_>,
     world: &mut W,
-    names: &NameTable,
     how: UpdateRule,
     object: Value,
     index: Value,
 ) -> Reduced
-    ensures { Replies names.now (index_updated (W.world names.now world.old) how.operator how.prefix object index) (W.world names.now world.old) result (W.world names.now world.new) }
+    ensures { Replies code.now.names.now (index_updated (W.world code.now.names.now world.old) how.operator how.prefix object index) (W.world code.now.names.now world.old) result (W.world code.now.names.now world.new) }
 {
-    if let Some(old) = value_of_index(world, names, object, index) {
+    if let Some(old) = value_of_index(world, code.names, object, index) {
         if let Some(new) = stepped(how.operator, old) {
             let given = update_value(how.prefix, old, new);
-            let written = put_index_value(alloc, world, names, object, index, new);
+            let written = put_index_value(code.alloc, world, code.names, object, index, new);
             return replied_with(written, given);
         }
     }
-    replied(update_index_slowly(alloc, world, names, how, object, index))
+    replied(update_index_slowly(code, world, how, object, index))
 }
 
 /// `++` and `--` of a property with a fixed key (13.4).
 pub fn update_member<W: World>(
-    alloc: Global,
+    code: &RunningCode<'_, '_>,
     world: &mut W,
-    names: &NameTable,
     how: UpdateRule,
     values: &[Value],
     key: NameId,
 ) -> Reduced
-    ensures { Replies names.now (member_updated (W.world names.now world.old) how.operator how.prefix values.now (name_of names.now key.number)) (W.world names.now world.old) result (W.world names.now world.new) }
+    ensures { Replies code.now.names.now (member_updated (W.world code.now.names.now world.old) how.operator how.prefix values.now (name_of code.now.names.now key.number)) (W.world code.now.names.now world.old) result (W.world code.now.names.now world.new) }
 {
     match value_at(values, 0) {
-        Some(object) => update_member_of(alloc, world, names, how, object, key),
+        Some(object) => update_member_of(code, world, how, object, key),
         None => Reduced::Memory,
     }
 }
 
 /// `++` and `--` of a property with a computed key.
 pub fn update_index<W: World>(
-    alloc: Global,
+    code: &RunningCode<'_, '_>,
     world: &mut W,
-    names: &NameTable,
     how: UpdateRule,
     values: &[Value],
 ) -> Reduced
-    ensures { Replies names.now (element_updated (W.world names.now world.old) how.operator how.prefix values.now) (W.world names.now world.old) result (W.world names.now world.new) }
+    ensures { Replies code.now.names.now (element_updated (W.world code.now.names.now world.old) how.operator how.prefix values.now) (W.world code.now.names.now world.old) result (W.world code.now.names.now world.new) }
 {
     let Some(object) = value_at(values, 0) else {
         return Reduced::Memory;
@@ -294,29 +288,28 @@ pub fn update_index<W: World>(
     let Some(index) = value_at(values, 1) else {
         return Reduced::Memory;
     };
-    update_index_of(alloc, world, names, how, object, index)
+    update_index_of(code, world, how, object, index)
 }
 
 // ---- rows of names
 
 /// `++` and `--` of a name with this value.
 fn update_old_name<W: World>(
-    alloc: Global,
+    code: &RunningCode<'_, '_>,
     world: &mut W,
-    names: &NameTable,
     how: UpdateRule,
     scope: Addr,
     name: NameId,
     old: Value,
 ) -> Result<Value, ActionEnd>
-    ensures { Gives (old_updated how.operator how.prefix (name_of names.now name.number) (found (W.world names.now world.old) scope (name_of names.now name.number)) old) (W.world names.now world.old) result (W.world names.now world.new) }
+    ensures { Gives (old_updated how.operator how.prefix (name_of code.now.names.now name.number) (found (W.world code.now.names.now world.old) scope (name_of code.now.names.now name.number)) old) (W.world code.now.names.now world.old) result (W.world code.now.names.now world.new) }
 {
-    match updated_value(alloc, how.operator, old)? {
+    match updated_value(code.alloc, how.operator, old)? {
         Update::To(old, new) => {
-            put_name(alloc, world, names, scope, name, new)?;
+            put_name(code.alloc, world, code.names, scope, name, new)?;
             Ok(update_value(how.prefix, old, new))
         }
-        Update::Fails(class, message) => Err(fail(alloc, world, names, class, message)),
+        Update::Fails(class, message) => Err(fail(code.alloc, world, code.names, class, message)),
     }
 }
 
@@ -334,19 +327,18 @@ fn unread(outcome: Result<Value, ActionEnd>) -> ActionEnd
 #[cold]
 #[inline(never)]
 fn update_name_slowly<W: World>(
-    alloc: Global,
+    code: &RunningCode<'_, '_>,
     world: &mut W,
-    names: &NameTable,
     how: UpdateRule,
     scope: Addr,
     name: NameId,
 ) -> Result<Value, ActionEnd>
-    ensures { Gives (name_updated how.operator how.prefix (name_of names.now name.number) (found (W.world names.now world.old) scope (name_of names.now name.number))) (W.world names.now world.old) result (W.world names.now world.new) }
+    ensures { Gives (name_updated how.operator how.prefix (name_of code.now.names.now name.number) (found (W.world code.now.names.now world.old) scope (name_of code.now.names.now name.number))) (W.world code.now.names.now world.old) result (W.world code.now.names.now world.new) }
 {
-    match value_of_name(world, names, scope, name) {
-        Some(old) => update_old_name(alloc, world, names, how, scope, name, old),
+    match value_of_name(world, code.names, scope, name) {
+        Some(old) => update_old_name(code, world, how, scope, name, old),
         None => {
-            let outcome = get_name(alloc, world, names, scope, name);
+            let outcome = get_name(code.alloc, world, code.names, scope, name);
             Err(unread(outcome))
         }
     }
@@ -355,24 +347,23 @@ fn update_name_slowly<W: World>(
 /// `++` and `--` of a name (13.4).
 #[inline(always)]
 pub fn update_name<W: World>(
-    alloc: Global,
+    code: &RunningCode<'_, '_>,
     world: &mut W,
-    names: &NameTable,
     how: UpdateRule,
     scope: Addr,
     name: NameId,
 ) -> Reduced
-    ensures { Replies names.now (name_updated how.operator how.prefix (name_of names.now name.number) (found (W.world names.now world.old) scope (name_of names.now name.number))) (W.world names.now world.old) result (W.world names.now world.new) }
+    ensures { Replies code.now.names.now (name_updated how.operator how.prefix (name_of code.now.names.now name.number) (found (W.world code.now.names.now world.old) scope (name_of code.now.names.now name.number))) (W.world code.now.names.now world.old) result (W.world code.now.names.now world.new) }
 {
-    let found = lookup(world, names, scope, name);
+    let found = lookup(world, code.names, scope, name);
     if let Some(slot) = open_slot(found) {
         if let Some(old) = slot.value {
             if let Some(new) = stepped(how.operator, old) {
                 let given = update_value(how.prefix, old, new);
-                let written = bind_at(world, names, slot.scope, slot.place, name, new);
+                let written = bind_at(world, code.names, slot.scope, slot.place, name, new);
                 return replied_with(written, given);
             }
         }
     }
-    replied(update_name_slowly(alloc, world, names, how, scope, name))
+    replied(update_name_slowly(code, world, how, scope, name))
 }

@@ -4,9 +4,9 @@ use Rattle.js_machine_rows.proofs.updates.update_member.Goals as goal
 
 pub returns-in-Some : goal.returns-in-Some
 returns-in-Some g c =
-    let ts = c.args.names.now in
-    let v = g.W.World.world c.args.names.now c.args.world.now in
+    let ts = c.args.code.now.names.now in
+    let v = g.W.World.world c.args.code.now.names.now c.args.world.now in
     first-updated ts c.args.how.operator c.args.how.prefix c.args.values.now c.in-Some.object
     (name_of ts c.args.key.number)
-    v c.update_member_of.result (g.W.World.world c.args.names.now c.update_member_of.new.world)
+    v c.update_member_of.result (g.W.World.world c.args.code.now.names.now c.update_member_of.new.world)
     c.in-Some.ensures c.update_member_of.ensures
