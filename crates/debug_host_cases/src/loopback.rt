@@ -10,7 +10,7 @@ use std::net::{Ipv4Addr, Net, SocketAddr, TcpListener, TcpStream};
 use std::random::RandomSource;
 use std::rt::{Clock, Files};
 use std::sync::Wait;
-use std::thread::{Threads, join, sleep};
+use std::thread::{Threads, sleep};
 use std::time::Duration;
 use std::{io, str};
 
@@ -19,42 +19,15 @@ const TRIES: u32 = 200;
 
 /// How one of the two ended, and what it printed.
 #[derive(Drop)]
-struct Ended {
+pub(crate) struct Ended {
     status: u8,
     output: MemSink,
 }
 
-/// Plays one server with one client over the loopback.
-///
-/// # Errors
-///
-/// Those of the system.
-pub(crate) fn play<
-    R: Threads
-        + Wait
-        + Sync
-        + Send
-        + Files
-        + Print
-        + Eprint
-        + Net<Listener = TcpListener, Stream = TcpStream>
-        + RandomSource
-        + Clock
-        + AllocGlobal
-        + Copy
-        + Drop,
->(rt: R) -> io::Result<()> {
-    let port = free_port(&rt)?;
-    let (served, sent) = join(&rt, || serve(rt, port), || send_until_served(rt, port));
-    let (Ok(served), Ok(sent)) = (served, sent) else {
-        return println!(rt; "out of memory");
-    };
-    tell(&rt, "the client", &sent)?;
-    tell(&rt, "the host", &served)
-}
-
 /// A port of this machine at which nobody listens now.
-fn free_port(rt: &impl Net<Listener = TcpListener, Stream = TcpStream>) -> io::Result<u16> {
+pub(crate) fn free_port(
+    rt: &impl Net<Listener = TcpListener, Stream = TcpStream>,
+) -> io::Result<u16> {
     let listener = TcpListener::bind(rt, SocketAddr::from((Ipv4Addr::LOCALHOST, 0)))?;
     Ok(listener.local_addr()?.port())
 }
@@ -98,7 +71,7 @@ fn call<
 }
 
 /// Serves the script to one client, which lets it begin.
-fn serve<
+pub(crate) fn serve<
     R: Threads
         + Wait
         + Sync
@@ -117,7 +90,7 @@ fn serve<
 }
 
 /// Sends the commands, once the host listens.
-fn send_until_served<
+pub(crate) fn send_until_served<
     R: Threads
         + Wait
         + Sync
@@ -140,6 +113,23 @@ fn send_until_served<
         let _ = sleep(&rt, Duration::from_millis(50));
     }
     call(rt, line.as_str())
+}
+
+/// Tells how the server and its client ended.
+///
+/// # Errors
+///
+/// Those of the system.
+pub(crate) fn tell_both(
+    rt: &impl Print,
+    served: Result<Ended, AllocError>,
+    sent: Result<Ended, AllocError>,
+) -> io::Result<()> {
+    let (Ok(served), Ok(sent)) = (served, sent) else {
+        return println!(rt; "out of memory");
+    };
+    tell(rt, "the client", &sent)?;
+    tell(rt, "the host", &served)
 }
 
 /// Prints how one ended.

@@ -12,17 +12,20 @@ mod loopback;
 mod play;
 mod texts;
 
+use loopback::{free_port, send_until_served, serve, tell_both};
 use std::io;
 use std::rt::Files;
 use std::sync::Wait;
-use std::thread::Threads;
+use std::thread::{Threads, join};
 
 fn main(rt: HostRuntime) -> io::Result<()> {
     if let Some(root) = std::env::args(&rt)?.nth(1) {
         return play_folders(&rt, root.as_str());
     }
     play_folders(&rt, ".")?;
-    loopback::play(rt)
+    let port = free_port(&rt)?;
+    let (served, sent) = join(&rt, || serve(rt, port), || send_until_served(rt, port));
+    tell_both(&rt, served, sent)
 }
 
 /// Plays the folders of cases that stand in a folder.
