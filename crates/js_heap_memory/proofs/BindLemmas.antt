@@ -18,9 +18,9 @@ use Rattle.js_heap.specs.World.{World, Tried, fine, full, read_cell, written_at,
 use Rattle.js_heap_memory.specs.declared.stored.Stored.{Stored}
 use Rattle.js_heap_memory.specs.declared.stored.Stored.TheVariants as stored
 use Rattle.js_heap_memory.specs.Names.{name_of, Differ}
-use Rattle.js_heap_memory.specs.Cells.{bindings, slot_place, name_text, cell_of, cells_of}
+use Rattle.js_heap_memory.specs.Cells.{bindings, name_text, cell_of, cells_of}
 use Rattle.js_heap_memory.specs.Calls.{HasPlace}
-use Rattle.js_heap_memory.specs.Places.{with_value_at}
+use Rattle.js_heap_memory.specs.Places.{slot_place, with_value_at}
 use Rattle.js_heap_memory.specs.Heaps.{Heap, Fit, base_world, heap_world, value_in_cell, value_in_cells}
 use Rattle.js_heap_memory.proofs.ScopeLemmas.{place-names, value-at}
 use Rattle.js_heap_memory.proofs.WeightLemmas.{bound-length}

@@ -1,9 +1,9 @@
 -- One scope after the other.
-use Rattle.std.proofs.Common.{◌≡◌, ℕ, zero, suc, ◌+◌, ◌-◌, ◌<◌, List, Option, None, refl, sym, ap, subst, ◌∙◌, arith}
+use Rattle.std.proofs.Common.{◌≡◌, ℕ, zero, suc, ◌+◌, ◌-◌, ◌<◌, List, length, Option, None, refl, sym, ap, subst, ◌∙◌, arith}
 use Rattle.js_heap.specs.declared.value.Addr.{Addr}
 use Rattle.js_heap.specs.World.{World, read_cell}
 use Rattle.js_heap.specs.declared.cell.Cell.{Cell}
-use Rattle.js_heap.specs.Scopes.{Found, found_in, found_within}
+use Rattle.js_heap.specs.Scopes.{Found, found, found_in, found_within}
 use Rattle.js_heap_memory.specs.Calls.{KeptBinding, kept_found}
 
 pub found-step : (n m : ℕ) (w : World) (name : List ℕ) (a : Addr)
@@ -34,3 +34,22 @@ outward-step n i w name at a cell first h e k f =
     let q : kept_found (found_in at (read_cell w at) name (found_within m w name)) ≡ kept_found
     (found_within m w name a) = subst P e (k (found_within m w name)) in
     sym q ∙ sym (ap kept_found s) ∙ f
+
+-- a scope that ends the search
+pub nowhere-step : (n i : ℕ) (w : World) (name : List ℕ) (at scope : Addr) (cell : Option Cell)
+    → i < n
+    → n ≡ length w.base + length w.scratch
+    → cell ≡ read_cell w at
+    → ((further : Addr → Option Found) → kept_found (found_in at cell name further) ≡ None)
+    → kept_found (found_within (n - i) w name at) ≡ kept_found (found_within n w name scope)
+    → None ≡ kept_found (found w scope name)
+nowhere-step n i w name at scope cell h l e k f =
+    let m : ℕ = n - (i + 1) in
+    let s : found_within (n - i) w name at ≡ found_in at (read_cell w at) name (found_within m w name) = found-step
+    (n - i) m w name at (omega arith) in
+    let P : Option Cell → Type 0 = λ c. kept_found (found_in at c name (found_within m w name)) ≡ None in
+    let q : kept_found (found_in at (read_cell w at) name (found_within m w name)) ≡ None = subst P e
+    (k (found_within m w name)) in
+    let t : kept_found (found_within n w name scope) ≡ kept_found (found w scope name) = ap
+    (λ j. kept_found (found_within j w name scope)) l in
+    sym q ∙ sym (ap kept_found s) ∙ f ∙ t

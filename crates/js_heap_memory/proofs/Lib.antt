@@ -2,6 +2,7 @@ pub mod PropertyLemmas
 pub mod TableLemmas
 pub mod GrowLemmas
 pub mod IndexLemmas
+pub mod PlaceIndexLemmas
 pub mod ScopeLemmas
 pub mod FoundLemmas
 pub mod WithinLemmas

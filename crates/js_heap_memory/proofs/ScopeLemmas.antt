@@ -6,7 +6,7 @@ use Rattle.js_heap.specs.declared.cell.Binding.{Binding}
 use Rattle.js_heap.specs.Cells.{bound, binding_of}
 use Rattle.js_heap.specs.Places.{name_place}
 use Rattle.js_heap_memory.specs.declared.stored.Slot.{Slot}
-use Rattle.js_heap_memory.specs.Cells.{binding_at, bindings, slot_place, texts_of, slots_from}
+use Rattle.js_heap_memory.specs.Cells.{binding_at, bindings, texts_of, slots_from}
 use Rattle.js_heap_memory.specs.Names.{name_of, Differ}
 use Rattle.js_heap_memory.specs.declared.names.NameId.{NameId}
 use Rattle.js_heap.specs.declared.value.Addr.{Addr}
@@ -14,7 +14,7 @@ use Rattle.js_heap.specs.declared.value.Value.TheVariants as values
 use Rattle.js_heap.specs.Scopes.{Found, found_here}
 use Rattle.js_heap.specs.Arguments.{argument, parameters_from}
 use Rattle.js_heap_memory.specs.Calls.{kept_found}
-use Rattle.js_heap_memory.specs.Places.{with_value_at}
+use Rattle.js_heap_memory.specs.Places.{slot_place, with_value_at}
 use Rattle.js_heap_memory.proofs.TableLemmas.{same-names}
 use Rattle.js_heap.proofs.PlaceLemmas.{one_plus}
 

@@ -1,5 +1,5 @@
 -- The cells that stored ones stand for, with texts for the numbers of names.
-use Rattle.std.specs.Prelude.{ℕ, ◌+◌, ◌<◌, List, [], ◌∷◌, Option, Some, None, nat_eq, false, if◌then◌else◌}
+use Rattle.std.specs.Prelude.{ℕ, ◌+◌, ◌<◌, List, [], ◌∷◌, Option, Some, None, false}
 use Rattle.js_heap.specs.declared.value.Value.{Value}
 use Rattle.js_heap.specs.declared.cell.Binding.{Binding}
 use Rattle.js_heap.specs.declared.cell.Cell.{Cell}
@@ -55,11 +55,6 @@ cells_of ts [] = []
 cells_of ts (c ∷ cs) = cell_of ts c ∷ cells_of ts cs
 
 -- ---- by numbers
-
--- the place of a number in a scope; the length where there is none
-abbrev pub slot_place : List Slot → ℕ → ℕ
-slot_place [] n = 0
-slot_place (s ∷ ss) n = if nat_eq s.name.number n then 0 else 1 + slot_place ss n
 
 -- the texts of some names
 abbrev pub texts_of : List (List ℕ) → List NameId → List (List ℕ)

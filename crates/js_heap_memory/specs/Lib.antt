@@ -1,6 +1,7 @@
 pub mod Names
 pub mod Indexes
 pub mod Places
+pub mod SlotForm
 pub mod Cells
 pub mod Calls
 pub mod Looks

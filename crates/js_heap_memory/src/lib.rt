@@ -12,6 +12,7 @@
 //! - `Weighed`: what the change of a part of a cell comes to: the part after it and the units then left, or a refusal.
 //! - `GainsCells`: cells that are added to others, as those that each program begins with.
 //! - `HasPlace`: a scope's name stands at a place.
+//! - `IsPlaceIndex`: what a scope of many names keeps has the first place of each number.
 #![tactic(auto)]
 
 mod change;
@@ -20,8 +21,10 @@ pub mod lookup;
 pub mod names;
 pub mod overlay;
 pub mod properties;
+mod slot_list;
 pub mod slots;
 pub mod start;
 pub mod stored;
 mod weight;
+mod wide;
 pub mod world;

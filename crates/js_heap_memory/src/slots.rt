@@ -4,7 +4,7 @@ ghost use Rattle.std.specs.Prelude.{◌≡◌, ◌<◌, [], ◌∷◌, ◌++◌,
 ghost use Rattle.js_heap.specs.Cells.{declared, bound, binding_of};
 ghost use Rattle.js_heap.specs.declared.value.Addr.{Addr as AnyAddr};
 ghost use Rattle.js_heap_memory.specs.Names.{name_of, Differ};
-ghost use Rattle.js_heap_memory.specs.Cells.{slot_place, bindings, SlotsWithin, cell_at, texts_of, slots_from};
+ghost use Rattle.js_heap_memory.specs.Cells.{bindings, SlotsWithin, cell_at, texts_of, slots_from};
 ghost use Rattle.js_heap.specs.Scopes.{Found, found_in, found_here, found_outward};
 ghost use Rattle.js_heap.specs.Arguments.{argument, parameters_from as definition_parameters};
 ghost use Rattle.js_heap_memory.specs.Calls.{kept_found};
@@ -14,18 +14,6 @@ use crate::names::NameId;
 use crate::stored::{FoundSlot, Slot, Slots, Stored};
 use js_heap::value::{Addr, Value};
 use std::alloc::{AllocError, Global};
-
-/// The place of a name; the length where there is none.
-fn slot_place(slots: &[Slot], name: NameId) -> usize
-    ensures { result ≡ slot_place slots.now name.number }
-{
-    for i in 0..slots.len() {
-        if slots[i].name == name {
-            return i;
-        }
-    }
-    slots.len()
-}
 
 /// One more name, without a value.
 pub fn declare(slots: &mut Slots, name: NameId, constant: bool) -> Result<(), AllocError>
@@ -46,7 +34,7 @@ pub fn bind(slots: &mut Slots, name: NameId, value: Value)
     ensures within { (end : ℕ) → SlotsWithin end slots.old → SlotsWithin end slots.new }
     ensures value { (names : List (List ℕ)) → Differ names → bindings names slots.new ≡ bound (bindings names slots.old) (name_of names name.number) value }
 {
-    let at = slot_place(slots.slice(), name);
+    let at = slots.place(name);
     slots.set(at, value);
 }
 
@@ -70,11 +58,12 @@ fn outward(outer: Option<Addr>) -> SlotLookup
 }
 
 /// Looks for a name in the names of the scope at an address.
-fn look_in(slots: &[Slot], at: Addr, outer: Option<Addr>, name: NameId) -> SlotLookup
+fn look_in(slots: &Slots, at: Addr, outer: Option<Addr>, name: NameId) -> SlotLookup
     ensures place { (names : List (List ℕ)) → Differ names → IsPlacedIn result at (bindings names slots.now) (name_of names name.number) }
     ensures value { (names : List (List ℕ)) → Differ names → (further : AnyAddr → Option Found) → kept_found (found_here at (binding_of (bindings names slots.now) (name_of names name.number)) (found_outward outer further)) ≡ looked_on result (λ a. kept_found (further a)) }
 {
-    let place = slot_place(slots, name);
+    let place = slots.place(name);
+    let slots = slots.slice();
     if place < slots.len() {
         let slot = slots[place];
         return SlotLookup::Here(FoundSlot {
@@ -93,7 +82,7 @@ pub(crate) fn look(cell: Option<&Stored>, at: Addr, name: NameId) -> SlotLookup
     ensures value { (names : List (List ℕ)) → Differ names → (further : AnyAddr → Option Found) → kept_found (found_in at (cell_at names (option_copied cell.entry)) (name_of names name.number) further) ≡ looked_on result (λ a. kept_found (further a)) }
 {
     match cell {
-        Some(Stored::Scope { outer, slots, .. }) => { look_in(slots.slice(), at, *outer, name) }
+        Some(Stored::Scope { outer, slots, .. }) => { look_in(slots, at, *outer, name) }
         _ => SlotLookup::Nowhere,
     }
 }

@@ -1,10 +1,12 @@
 //! What a heap keeps at an address: names are numbers of a table.
 
 ghost use Rattle.std.specs.Prelude.{◌≡◌, ◌∷◌, [], ◌++◌, OnOk, OnErr};
-ghost use Rattle.js_heap_memory.specs.Places.{with_value_at};
+ghost use Rattle.js_heap_memory.specs.Places.{slot_place, with_value_at};
 
 use crate::names::NameId;
 use crate::properties::PropertyMap;
+use crate::slot_list::{push_slot, set_value, slot_place};
+use crate::wide::WideSlots;
 use cdp_text::units::Units;
 use js_heap::built_in::{Code, ErrorClass};
 use js_heap::cell::{ScopeKind, Values};
@@ -21,9 +23,21 @@ pub struct Slot {
 }
 
 /// The names of a scope in order. Contracts see their list.
+///
+/// Many names have their places kept, once one more name or a value is put into them.
 #[derive(Drop)]
 pub struct Slots {
-    items: Vec<Slot>,
+    form: Form,
+}
+
+/// From so many names on their places are kept: to compare half of them takes about as long as a hash.
+/// Most scopes have fewer, and are made anew for each call and each block.
+const MANY: usize = 32;
+
+#[derive(Drop)]
+enum Form {
+    Few(Vec<Slot>),
+    Many(Box<WideSlots>),
 }
 
 impl Model for Slots {
@@ -32,7 +46,9 @@ impl Model for Slots {
 
     ghost Value = { List AnySlot };
 
-    ghost view = { λ slots. slots.items.items };
+    ghost use Rattle.js_heap_memory.specs.SlotForm.{listed};
+
+    ghost view = { λ slots. listed slots.form };
 }
 
 impl Slots {
@@ -40,14 +56,29 @@ impl Slots {
     pub fn from_vec(items: Vec<Slot>) -> Slots
         ensures { result ≡ items.items }
     {
-        Slots { items }
+        Slots {
+            form: Form::Few(items),
+        }
     }
 
     /// The names.
     pub fn slice(&self) -> &[Slot]
         ensures { result.now ≡ self.now }
     {
-        self.items.as_slice()
+        match &self.form {
+            Form::Few(items) => items.as_slice(),
+            Form::Many(wide) => wide.slice(),
+        }
+    }
+
+    /// The place of a name; the length where there is none.
+    pub(crate) fn place(&self, name: NameId) -> usize
+        ensures { result ≡ slot_place self.now name.number }
+    {
+        match &self.form {
+            Form::Few(items) => slot_place(items.as_slice(), name),
+            Form::Many(wide) => wide.place(name),
+        }
     }
 
     /// One more name.
@@ -55,18 +86,34 @@ impl Slots {
         ensures value { OnOk result (self.new ≡ self.old ++ slot ∷ []) }
         ensures kept { OnErr result (self.new ≡ self.old) }
     {
-        self.items.push(slot)?;
-        Ok(())
+        self.widen()?;
+        match &mut self.form {
+            Form::Few(items) => push_slot(items, slot),
+            Form::Many(wide) => wide.push(slot),
+        }
     }
 
-    /// A value for the name at a place, if there is one.
-    #[tactic(auto, using(crate::proofs::ScopeLemmas::value_rules))]
+    /// A value for the name at a place, if there is one. Many names without memory for their places are searched.
     pub fn set(&mut self, place: usize, value: Value)
         ensures { self.new ≡ with_value_at self.old place value }
     {
-        if place < self.items.len() {
-            self.items[place].value = Some(value);
+        let _ = self.widen();
+        match &mut self.form {
+            Form::Few(items) => set_value(items, place, value),
+            Form::Many(wide) => wide.set(place, value),
         }
+    }
+
+    /// Keeps the places of the names, where there are many.
+    fn widen(&mut self) -> Result<(), AllocError>
+        ensures { self.new ≡ self.old }
+    {
+        if let Form::Few(items) = &mut self.form
+            && MANY <= items.len()
+        {
+            self.form = Form::Many(WideSlots::from_vec(items)?);
+        }
+        Ok(())
     }
 }
 
