@@ -51,7 +51,7 @@ use Rattle.js_machine_rows.specs.Calls.{ActsAnywhere, ActsOf}
 use Rattle.js_machine_rows.specs.Does.{Does, Replies, CallsIt, AssignsIt}
 use Rattle.js_machine_rows.specs.References.{member_result, index_result, member_put, index_put, member_removed, index_removed}
 use Rattle.js_machine_rows.specs.Simple.{CommaOf}
-use Rattle.js_machine_rows.specs.Table.{IsRow, without_part}
+use Rattle.js_machine_rows.specs.Table.{IsRow, IsCompound}
 use Rattle.js_machine_rows.specs.Updates.{name_updated, keyed_updated, member_updated, element_updated}
 use Rattle.js_machine_rows.proofs.OverLemmas.{give-does}
 use Rattle.js_machine_rows.proofs.PartLemmas.{no-trees, first-tree}
@@ -532,30 +532,28 @@ undefined-row ts t form vs o f v c h i k l = λ outer before.
 
 without_by : (ts : List (List ℕ)) (t : NodeTable) (form : Redex) (vs : List Value) (o : Op) (v : World) (c : Context)
     → form.op ≡ o
+    → IsCompound o
     → None ≡ slice_get (kids_between t form.mid form.end) 0
-    → IsRow ts t form vs None v c (without_part o) v c
+    → IsRow ts t form vs None v c (reduced.Gives values.Undefined) v c
 unfolding form_of
-without_by ts t form vs (ops.CompoundName o) v c h e =
+without_by ts t form vs (ops.CompoundName o) v c h i e =
     let ref : Reference = to_name (name_of ts form.info) in
     undefined-row ts t form vs (ops.CompoundName o) (forms.Compound o ref) v c h refl (λ outer. refl)
     (λ before. ap (λ l. compound_row v form.inner o ref vs l) (no-trees ts t form.mid form.end e))
-without_by ts t form vs (ops.CompoundMember o) v c h e =
+without_by ts t form vs (ops.CompoundMember o) v c h i e =
     let ref : Reference = to_member (name_of ts form.info) in
     undefined-row ts t form vs (ops.CompoundMember o) (forms.Compound o ref) v c h refl (λ outer. refl)
     (λ before. ap (λ l. compound_row v form.inner o ref vs l) (no-trees ts t form.mid form.end e))
-without_by ts t form vs (ops.CompoundIndex o) v c h e =
+without_by ts t form vs (ops.CompoundIndex o) v c h i e =
     undefined-row ts t form vs (ops.CompoundIndex o) (forms.Compound o to_index) v c h refl (λ outer. refl)
     (λ before. ap (λ l. compound_row v form.inner o to_index vs l) (no-trees ts t form.mid form.end e))
-without_by ts t form vs _ v c h e = λ outer before k. tt
+without_by ts t form vs _ v c h i e = absurd i
 
 pub without-row : (ts : List (List ℕ)) (t : NodeTable) (form : Redex) (vs : List Value) (v : World) (c : Context)
-    (r : Reduced)
+    → IsCompound form.op
     → None ≡ slice_get (kids_between t form.mid form.end) 0
-    → r ≡ without_part form.op
-    → IsRow ts t form vs None v c r v c
-without-row ts t form vs v c r e h =
-    let P : Reduced → Type 0 = λ q. IsRow ts t form vs None v c q v c in
-    subst P (sym h) (without_by ts t form vs form.op v c refl e)
+    → IsRow ts t form vs None v c (reduced.Gives values.Undefined) v c
+without-row ts t form vs v c h e = without_by ts t form vs form.op v c refl h e
 
 -- ---- completions
 

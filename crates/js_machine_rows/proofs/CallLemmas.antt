@@ -1,5 +1,5 @@
 -- Lemmas on calls.
-use Rattle.std.proofs.Common.{◌≡◌, ℕ, ◌≤◌, Bool, false, List, [], ◌∷◌, length, take, drop, get_or, ◌-◌, Option, Some, None, refl, sym, ap, ◌∙◌, subst, arith, if◌then◌else◌}
+use Rattle.std.proofs.Common.{◌≡◌, ℕ, ◌<◌, ◌≤◌, Bool, false, List, [], ◌∷◌, length, take, drop, get_or, ◌-◌, Option, Some, None, refl, sym, ap, ◌∙◌, subst, arith, if◌then◌else◌}
 use Rattle.std.specs.Prelude.{Result, Ok, Err, nat_lt, slice_get, map, codes}
 use Rattle.js_heap.specs.declared.value.Addr.{Addr}
 use Rattle.js_heap.specs.declared.value.Value.{Value}
@@ -36,6 +36,7 @@ use Rattle.js_machine_rows.specs.Codes.{code_at, placed_code}
 use Rattle.js_machine_rows.specs.Calls.{entry_code, CalleeView, called_of, called, call_scope, ActsOn, ActsIn, ActsOf, ActsAlways, ActsAnywhere, EntersFrame, entered_within}
 use Rattle.js_machine_rows.specs.Does.{Does, stopped, replied}
 use Rattle.js_machine_rows.proofs.AnswerLemmas.{stops-does, replies-by}
+use Rattle.js_machine_rows.proofs.OverLemmas.{give-does}
 use Rattle.js_semantics.proofs.DepthLemmas.{moved-length}
 
 -- ---- an action that comes to another
@@ -388,6 +389,15 @@ call-split ts t p m (given ∷ x ∷ args) v b c q w d l h g = λ e i.
     let Q : List Value → Type 0 = λ zs. ActsIn ts t zs (λ s. call_value p s x given zs) v c q w d in
     call_on ts t p m x given args v b c q w d h
     (subst Q (take_all (length (given ∷ x ∷ args) - 2) args (omega arith)) g) e (ap (λ zs. drop 2 zs) i)
+
+-- without a `this` and a callee there is nothing to call
+pub no-call-split : (ts : List (List ℕ)) (t : NodeTable) (p : Program) (m : Mark) (vs : List Value) (v : World)
+    (c : Context)
+    → length vs < 2
+    → ActsOf ts t vs (λ s. call_row p s m vs) v c (reduced.Gives values.Undefined) v c
+no-call-split ts t p m [] v c l = λ e i taken. give-does ts t e values.Undefined (state_of v c taken)
+no-call-split ts t p m (given ∷ []) v c l = λ e i taken. give-does ts t e values.Undefined (state_of v c taken)
+no-call-split ts t p m (given ∷ x ∷ args) v c l = absurd (omega (arith, l))
 
 pub ends-in : (ts : List (List ℕ)) (t : NodeTable) (args : List Value) (a : Action) (v : World) (x : ActionEnd)
     (w : World) (c : Context) (q : Reduced)

@@ -1,4 +1,5 @@
 pub mod AnswerLemmas
+pub mod OpLemmas
 pub mod PartLemmas
 pub mod NameLemmas
 pub mod RowLemmas

@@ -1,6 +1,6 @@
 -- Lemmas on rows of properties.
-use Rattle.std.proofs.Common.{◌≡◌, ℕ, ◌<◌, true, List, [], ◌∷◌, length, drop, Option, Some, None, refl, sym, ap, ◌∙◌, subst}
-use Rattle.std.specs.Prelude.{Result, slice_get, pos, nat_le}
+use Rattle.std.proofs.Common.{◌≡◌, ℕ, ◌<◌, ◌≤◌, true, List, [], ◌∷◌, length, get_or, Option, Some, None, refl, sym, ap, ◌∙◌, subst, arith}
+use Rattle.std.specs.Prelude.{Result, Ok, pos, nat_le}
 use Rattle.std.specs.Fmt.{decimal}
 use Rattle.js_heap.specs.declared.value.Addr.{Addr}
 use Rattle.js_heap.specs.declared.value.Value.{Value}
@@ -12,61 +12,56 @@ use Rattle.js_heap.specs.declared.change.Change.TheVariants as changes
 use Rattle.js_heap.specs.declared.computed.Written.{Written}
 use Rattle.js_heap.specs.declared.computed.Written.TheVariants.{Change as a_change}
 use Rattle.js_heap.specs.Properties.{property_of, property_written, property_deleted, cell_change, array_change, element_change}
-use Rattle.js_heap.specs.Values.{key_of}
 use Rattle.js_heap.specs.World.{World, read_cell}
 use Rattle.js_semantics.specs.State.{Action, give, write}
 use Rattle.js_semantics.specs.BuiltIns.{last_of}
-use Rattle.js_semantics.specs.References.{with_result, with_written, keyed_result}
+use Rattle.js_semantics.specs.References.{with_result, with_written}
 use Rattle.js_machine_actions.specs.declared.action_end.ActionEnd.{ActionEnd}
 use Rattle.js_machine_actions.specs.Flow.{Yields, Passes}
 use Rattle.js_machine_actions.specs.References.{indexed, index_written, index_deleted}
 use Rattle.js_machine_engine.specs.declared.reduced.Reduced.{Reduced}
-use Rattle.js_machine_rows.specs.Does.{Replies, replied, replied_with}
+use Rattle.js_machine_engine.specs.declared.reduced.Reduced.TheVariants as reduced
+use Rattle.js_machine_rows.specs.Does.{Replies, replied_with}
 use Rattle.js_machine_rows.specs.References.{member_result, index_result, member_put, index_put, member_removed, index_removed, has_place}
-use Rattle.js_machine_rows.proofs.AnswerLemmas.{result-reply, passes-reply}
+use Rattle.js_machine_rows.proofs.AnswerLemmas.{given-replies, passes-reply}
 use Rattle.js_machine_rows.proofs.ReadingLemmas.{index-decimal}
 
--- ---- the first values
+-- ---- reading by the first values
 
-pub first-value : (vs : List Value) (o : Value) → slice_get vs 0 ≡ Some o → vs ≡ o ∷ drop 1 vs
-first-value [] o h = cc
-first-value (v ∷ vs) o h = ap (λ x. x ∷ vs) cc
+pub member-reads : (vs : List Value) (n : List ℕ) (v : World) (r : Result Value ActionEnd) (w : World)
+    → 1 ≤ length vs
+    → Yields (with_result (property_of v (get_or vs 0 values.Undefined) n)) v r w
+    → Yields (with_result (member_result v vs n)) v r w
+member-reads [] n v r w l h = absurd (omega (arith, l))
+member-reads (o ∷ vs) n v r w l h = h
 
-pub first-values : (vs : List Value) (o i : Value)
-    → slice_get vs 0 ≡ Some o
-    → slice_get vs 1 ≡ Some i
-    → vs ≡ o ∷ i ∷ drop 2 vs
-first-values [] o i h g = cc
-first-values (v ∷ []) o i h g = cc
-first-values (v ∷ u ∷ vs) o i h g =
-    let e : v ≡ o = cc in
-    let f : u ≡ i = cc in
-    ap (λ x. x ∷ u ∷ vs) e ∙ ap (λ x. o ∷ x ∷ vs) f
+pub no-member : (vs : List Value) (n : List ℕ) (v : World)
+    → length vs < 1
+    → Yields (with_result (member_result v vs n)) v (Ok values.Undefined) v
+no-member [] n v l = λ s k. refl
+no-member (o ∷ vs) n v l = absurd (omega (arith, l))
 
--- ---- reading
+pub index-reads : (vs : List Value) (v : World) (r : Result Value ActionEnd) (w : World)
+    → 2 ≤ length vs
+    → Yields (indexed v (get_or vs 0 values.Undefined) (get_or vs 1 values.Undefined)) v r w
+    → Yields (with_result (index_result v vs)) v r w
+index-reads [] v r w l h = absurd (omega (arith, l))
+index-reads (o ∷ []) v r w l h = absurd (omega (arith, l))
+index-reads (o ∷ i ∷ vs) v r w l h = h
 
-pub member-read : (ts : List (List ℕ)) (vs : List Value) (o : Value) (n : List ℕ) (v : World)
-    (r : Result Value ActionEnd) (w : World) (q : Reduced)
-    → slice_get vs 0 ≡ Some o
-    → Yields (with_result (property_of v o n)) v r w
-    → q ≡ replied r
-    → Replies ts (with_result (member_result v vs n) give) v q w
-member-read ts vs o n v r w q g h e =
-    let P : List Value → Type 0 = λ xs. Replies ts (with_result (member_result v xs n) give) v q w in
-    subst P (sym (first-value vs o g)) (result-reply ts (property_of v o n) v r w q h e)
+pub no-index : (vs : List Value) (v : World)
+    → length vs < 2
+    → Yields (with_result (index_result v vs)) v (Ok values.Undefined) v
+no-index [] v l = λ s k. refl
+no-index (o ∷ []) v l = λ s k. refl
+no-index (o ∷ i ∷ vs) v l = absurd (omega (arith, l))
 
-pub index-read : (ts : List (List ℕ)) (vs : List Value) (o i : Value) (v : World) (r : Result Value ActionEnd)
-    (w : World) (q : Reduced)
-    → slice_get vs 0 ≡ Some o
-    → slice_get vs 1 ≡ Some i
-    → Yields (indexed v o i) v r w
-    → q ≡ replied r
-    → Replies ts (with_result (index_result v vs) give) v q w
-index-read ts vs o i v r w q g f h e =
-    let P : List Value → Type 0 = λ xs. Replies ts (with_result (index_result v xs) give) v q w in
-    subst P (sym (first-values vs o i g f)) (result-reply ts (keyed_result (key_of v i) (property_of v o)) v r w q h e)
+pub ruleset reads_rules = (member-reads, no-member, index-reads, no-index)
 
--- ---- writing
+-- ---- writing and deleting by the first values
+
+undefined_given : (ts : List (List ℕ)) (v : World) → Replies ts (give values.Undefined) v (reduced.Gives values.Undefined) v
+undefined_given ts v = given-replies ts (give values.Undefined) v (Ok values.Undefined) v (λ s. refl)
 
 by_value : (ts : List (List ℕ)) (f : Value → Action → Action) (x y : Value) (v : World)
     (r : Result (Unit {0}) ActionEnd) (w : World) (q : Reduced)
@@ -78,50 +73,74 @@ by_value ts f x y v r w q g h e =
     let P : Value → Type 0 = λ z. Replies ts (f z (give z)) v q w in
     subst P g (passes-reply ts (f x) x v r w q h e)
 
-pub member-assigned : (ts : List (List ℕ)) (vs : List Value) (o x : Value) (n : List ℕ) (v : World)
+pub member-assigned : (ts : List (List ℕ)) (vs : List Value) (x : Value) (n : List ℕ) (v : World)
     (r : Result (Unit {0}) ActionEnd) (w : World) (q : Reduced)
-    → slice_get vs 0 ≡ Some o
+    → 1 ≤ length vs
     → x ≡ last_of vs
-    → Passes (with_written (property_written v o n x)) v r w
+    → Passes (with_written (property_written v (get_or vs 0 values.Undefined) n x)) v r w
     → q ≡ replied_with r x →
     Replies ts (member_put v vs n (last_of vs) (give (last_of vs))) v q w
-member-assigned ts vs o x n v r w q g l h e =
-    let P : List Value → Type 0 = λ xs. Replies ts (member_put v xs n (last_of vs) (give (last_of vs))) v q w in
-    subst P (sym (first-value vs o g))
-    (by_value ts (λ y. with_written (property_written v o n y)) x (last_of vs) v r w q l h e)
+member-assigned ts [] x n v r w q l i h e = absurd (omega (arith, l))
+member-assigned ts (o ∷ vs) x n v r w q l i h e =
+    by_value ts (λ y. with_written (property_written v o n y)) x (last_of (o ∷ vs)) v r w q i h e
 
-pub index-assigned : (ts : List (List ℕ)) (vs : List Value) (o i x : Value) (v : World)
+pub no-member-put : (ts : List (List ℕ)) (vs : List Value) (n : List ℕ) (x : Value) (k : Action) (v : World)
+    → length vs < 1
+    → Replies ts (member_put v vs n x k) v (reduced.Gives values.Undefined) v
+no-member-put ts [] n x k v l = undefined_given ts v
+no-member-put ts (o ∷ vs) n x k v l = absurd (omega (arith, l))
+
+pub index-assigned : (ts : List (List ℕ)) (vs : List Value) (x : Value) (v : World)
     (r : Result (Unit {0}) ActionEnd) (w : World) (q : Reduced)
-    → slice_get vs 0 ≡ Some o
-    → slice_get vs 1 ≡ Some i
+    → 2 ≤ length vs
     → x ≡ last_of vs
-    → Passes (index_written v o i x) v r w
+    → Passes (index_written v (get_or vs 0 values.Undefined) (get_or vs 1 values.Undefined) x) v r w
     → q ≡ replied_with r x →
     Replies ts (index_put v vs (last_of vs) (give (last_of vs))) v q w
-index-assigned ts vs o i x v r w q g f l h e =
-    let P : List Value → Type 0 = λ xs. Replies ts (index_put v xs (last_of vs) (give (last_of vs))) v q w in
-    subst P (sym (first-values vs o i g f)) (by_value ts (index_written v o i) x (last_of vs) v r w q l h e)
+index-assigned ts [] x v r w q l j h e = absurd (omega (arith, l))
+index-assigned ts (o ∷ []) x v r w q l j h e = absurd (omega (arith, l))
+index-assigned ts (o ∷ i ∷ vs) x v r w q l j h e =
+    by_value ts (index_written v o i) x (last_of (o ∷ i ∷ vs)) v r w q j h e
 
-pub member-deleted : (ts : List (List ℕ)) (vs : List Value) (o x : Value) (n : List ℕ) (v : World)
+pub no-index-put : (ts : List (List ℕ)) (vs : List Value) (x : Value) (k : Action) (v : World)
+    → length vs < 2
+    → Replies ts (index_put v vs x k) v (reduced.Gives values.Undefined) v
+no-index-put ts [] x k v l = undefined_given ts v
+no-index-put ts (o ∷ []) x k v l = undefined_given ts v
+no-index-put ts (o ∷ i ∷ vs) x k v l = absurd (omega (arith, l))
+
+pub member-deleted : (ts : List (List ℕ)) (vs : List Value) (x : Value) (n : List ℕ) (v : World)
     (r : Result (Unit {0}) ActionEnd) (w : World) (q : Reduced)
-    → slice_get vs 0 ≡ Some o
-    → Passes (with_written (property_deleted v o n)) v r w
+    → 1 ≤ length vs
+    → Passes (with_written (property_deleted v (get_or vs 0 values.Undefined) n)) v r w
     → q ≡ replied_with r x
     → Replies ts (member_removed v vs n (give x)) v q w
-member-deleted ts vs o x n v r w q g h e =
-    let P : List Value → Type 0 = λ xs. Replies ts (member_removed v xs n (give x)) v q w in
-    subst P (sym (first-value vs o g)) (passes-reply ts (with_written (property_deleted v o n)) x v r w q h e)
+member-deleted ts [] x n v r w q l h e = absurd (omega (arith, l))
+member-deleted ts (o ∷ vs) x n v r w q l h e =
+    passes-reply ts (with_written (property_deleted v o n)) x v r w q h e
 
-pub index-deleted : (ts : List (List ℕ)) (vs : List Value) (o i x : Value) (v : World) (r : Result (Unit {0}) ActionEnd)
+pub no-member-removed : (ts : List (List ℕ)) (vs : List Value) (n : List ℕ) (k : Action) (v : World)
+    → length vs < 1
+    → Replies ts (member_removed v vs n k) v (reduced.Gives values.Undefined) v
+no-member-removed ts [] n k v l = undefined_given ts v
+no-member-removed ts (o ∷ vs) n k v l = absurd (omega (arith, l))
+
+pub index-deleted : (ts : List (List ℕ)) (vs : List Value) (x : Value) (v : World) (r : Result (Unit {0}) ActionEnd)
     (w : World) (q : Reduced)
-    → slice_get vs 0 ≡ Some o
-    → slice_get vs 1 ≡ Some i
-    → Passes (index_deleted v o i) v r w
+    → 2 ≤ length vs
+    → Passes (index_deleted v (get_or vs 0 values.Undefined) (get_or vs 1 values.Undefined)) v r w
     → q ≡ replied_with r x
     → Replies ts (index_removed v vs (give x)) v q w
-index-deleted ts vs o i x v r w q g f h e =
-    let P : List Value → Type 0 = λ xs. Replies ts (index_removed v xs (give x)) v q w in
-    subst P (sym (first-values vs o i g f)) (passes-reply ts (index_deleted v o i) x v r w q h e)
+index-deleted ts [] x v r w q l h e = absurd (omega (arith, l))
+index-deleted ts (o ∷ []) x v r w q l h e = absurd (omega (arith, l))
+index-deleted ts (o ∷ i ∷ vs) x v r w q l h e = passes-reply ts (index_deleted v o i) x v r w q h e
+
+pub no-index-removed : (ts : List (List ℕ)) (vs : List Value) (k : Action) (v : World)
+    → length vs < 2
+    → Replies ts (index_removed v vs k) v (reduced.Gives values.Undefined) v
+no-index-removed ts [] k v l = undefined_given ts v
+no-index-removed ts (o ∷ []) k v l = undefined_given ts v
+no-index-removed ts (o ∷ i ∷ vs) k v l = absurd (omega (arith, l))
 
 -- ---- changes that are known
 

@@ -1,6 +1,7 @@
 -- Lemmas on `++` and `--`.
-use Rattle.std.proofs.Common.{◌≡◌, ℕ, Bool, List, [], Option, Some, None, refl, sym, ap, ◌∙◌, subst}
-use Rattle.std.specs.Prelude.{Result, Ok, Err, IsErrAnd, pos, ℤ, IfSome, slice_get}
+use Rattle.std.proofs.Common.{◌≡◌, ℕ, ◌<◌, ◌≤◌, ◌^◌, Bool, true, false, List, [], ◌∷◌, length, get_or, Option, Some, None, refl, sym, ap, ◌∙◌, subst, arith, if◌then◌else◌}
+use Rattle.std.specs.Prelude.{Result, Ok, Err, IsErrAnd, pos, ℤ, ◌+ℤ◌, ◌-ℤ◌, nat_abs, nat_lt, IfSome}
+use Rattle.js_tree_operators.specs.declared.operator.BinaryOperator.{BinaryOperator}
 use Rattle.js_tree_operators.specs.declared.operator.BinaryOperator.TheVariants as binaries
 use Rattle.js_tree_operators.specs.declared.operator.UpdateOperator.{UpdateOperator}
 use Rattle.js_tree_operators.specs.declared.operator.UpdateOperator.TheVariants as updates
@@ -11,10 +12,10 @@ use Rattle.js_heap.specs.declared.value.Addr.{Addr}
 use Rattle.js_heap.specs.declared.change.Change.TheVariants as changes
 use Rattle.js_heap.specs.declared.computed.Written.TheVariants.{Change as a_change}
 use Rattle.js_heap.specs.declared.computed.Computed.{Computed}
-use Rattle.js_heap.specs.declared.computed.Computed.TheVariants.{Value as a_value}
-use Rattle.js_heap.specs.Operators.{binary_result, update_result}
+use Rattle.js_heap.specs.declared.computed.Computed.TheVariants.{Value as a_value, Text as a_text}
+use Rattle.js_heap.specs.Operators.{not_numbers, not_safe, safe, on_numbers, numeric, binary_result, update_result}
 use Rattle.js_heap.specs.Properties.{property_of, property_written}
-use Rattle.js_heap.specs.Values.{key_of}
+use Rattle.js_heap.specs.Values.{a_number, key_of}
 use Rattle.js_heap.specs.World.{World}
 use Rattle.js_semantics.specs.State.{with_world, Action, give, fail, write}
 use Rattle.js_semantics.specs.References.{Found, value_of_found, value_or_uninitialized, name_written, with_result, with_written, with_key, keyed_result}
@@ -23,12 +24,12 @@ use Rattle.js_machine_actions.specs.declared.action_end.ActionEnd.{ActionEnd}
 use Rattle.js_machine_actions.specs.Flow.{performed, Ends, Yields, Passes, Gives}
 use Rattle.js_machine_actions.specs.References.{index_written}
 use Rattle.js_machine_engine.specs.declared.reduced.Reduced.{Reduced}
-use Rattle.js_machine_rows.specs.Does.{Replies, replied_with}
+use Rattle.js_machine_rows.specs.Does.{Replies, replied_with, stopped}
 use Rattle.js_machine_rows.specs.declared.updates.Update.{Update}
 use Rattle.js_machine_rows.specs.declared.updates.Update.TheVariants.{To, Fails}
 use Rattle.js_machine_rows.specs.Updates.{on_update, property_updated, keyed_updated, index_updated, member_updated, element_updated, old_updated, name_updated, unread}
-use Rattle.js_machine_rows.proofs.PropertyLemmas.{first-value, first-values, passes-change}
-use Rattle.js_machine_rows.proofs.AnswerLemmas.{passes-reply}
+use Rattle.js_machine_rows.proofs.PropertyLemmas.{passes-change}
+use Rattle.js_machine_rows.proofs.AnswerLemmas.{replies-by, passes-reply}
 
 -- ---- steps
 
@@ -119,24 +120,78 @@ index-updated ts o object index prefix old new given v r w q h g i p e =
 
 -- ---- by the first values
 
-pub first-updated : (ts : List (List ℕ)) (o : UpdateOperator) (prefix : Bool) (vs : List Value) (object : Value)
-    (key : List ℕ) (v : World) (q : Reduced) (w : World)
-    → slice_get vs 0 ≡ Some object
-    → Replies ts (property_updated v o prefix object key) v q w
-    → Replies ts (member_updated v o prefix vs key) v q w
-first-updated ts o prefix vs object key v q w h g =
-    let P : List Value → Type 0 = λ xs. Replies ts (member_updated v o prefix xs key) v q w in
-    subst P (sym (first-value vs object h)) g
-
-pub second-updated : (ts : List (List ℕ)) (o : UpdateOperator) (prefix : Bool) (vs : List Value) (object index : Value)
+pub first-updated : (ts : List (List ℕ)) (o : UpdateOperator) (prefix : Bool) (vs : List Value) (key : List ℕ)
     (v : World) (q : Reduced) (w : World)
-    → slice_get vs 0 ≡ Some object
-    → slice_get vs 1 ≡ Some index
-    → Replies ts (index_updated v o prefix object index) v q w
+    → 1 ≤ length vs
+    → Replies ts (property_updated v o prefix (get_or vs 0 values.Undefined) key) v q w
+    → Replies ts (member_updated v o prefix vs key) v q w
+first-updated ts o prefix [] key v q w l h = absurd (omega (arith, l))
+first-updated ts o prefix (object ∷ vs) key v q w l h = h
+
+pub second-updated : (ts : List (List ℕ)) (o : UpdateOperator) (prefix : Bool) (vs : List Value) (v : World)
+    (q : Reduced) (w : World)
+    → 2 ≤ length vs
+    → Replies ts (index_updated v o prefix (get_or vs 0 values.Undefined) (get_or vs 1 values.Undefined)) v q w
     → Replies ts (element_updated v o prefix vs) v q w
-second-updated ts o prefix vs object index v q w h i g =
-    let P : List Value → Type 0 = λ xs. Replies ts (element_updated v o prefix xs) v q w in
-    subst P (sym (first-values vs object index h i)) g
+second-updated ts o prefix [] v q w l h = absurd (omega (arith, l))
+second-updated ts o prefix (object ∷ []) v q w l h = absurd (omega (arith, l))
+second-updated ts o prefix (object ∷ index ∷ vs) v q w l h = h
+
+-- undefined is no number
+undefined_updated : (o : UpdateOperator) (k : Value → Action)
+    → with_result (update_result o values.Undefined) k ≡ with_result not_numbers give
+undefined_updated updates.Increment k = refl
+undefined_updated updates.Decrement k = refl
+
+unfit : (ts : List (List ℕ)) (o : UpdateOperator) (v : World) (x : ActionEnd) (w : World) (q : Reduced)
+    → Ends (with_result not_numbers give) v x w
+    → q ≡ stopped x
+    → Replies ts (updated_by o (a_value values.Undefined) (λ old new. give values.Undefined)) v q w
+unfit ts o v x w q h e =
+    let P : Action → Type 0 = λ a. Replies ts a v q w in
+    subst P (sym (undefined_updated o (λ new. give values.Undefined)))
+    (replies-by ts (with_result not_numbers give) v (Err x) w q h e)
+
+pub no-first-updated : (ts : List (List ℕ)) (o : UpdateOperator) (prefix : Bool) (vs : List Value) (key : List ℕ)
+    (v : World) (x : ActionEnd) (w : World) (q : Reduced)
+    → length vs < 1
+    → Ends (with_result not_numbers give) v x w
+    → q ≡ stopped x
+    → Replies ts (member_updated v o prefix vs key) v q w
+no-first-updated ts o prefix [] key v x w q l h e = unfit ts o v x w q h e
+no-first-updated ts o prefix (object ∷ vs) key v x w q l h e = absurd (omega (arith, l))
+
+pub no-second-updated : (ts : List (List ℕ)) (o : UpdateOperator) (prefix : Bool) (vs : List Value) (v : World)
+    (x : ActionEnd) (w : World) (q : Reduced)
+    → length vs < 2
+    → Ends (with_result not_numbers give) v x w
+    → q ≡ stopped x
+    → Replies ts (element_updated v o prefix vs) v q w
+no-second-updated ts o prefix [] v x w q l h e = unfit ts o v x w q h e
+no-second-updated ts o prefix (object ∷ []) v x w q l h e = unfit ts o v x w q h e
+no-second-updated ts o prefix (object ∷ index ∷ vs) v x w q l h e = absurd (omega (arith, l))
+
+-- ---- an update is no text
+
+no_text_by : (b : Bool) (z : ℤ) (us : List ℕ) → (if b then a_number z else not_safe) ≡ a_text us → ⊥
+no_text_by true z us h = cc
+no_text_by false z us h = cc
+
+numeric_no_text : (o : BinaryOperator) (f : ℤ → ℤ → ℤ) (v : Value) (us : List ℕ)
+    → ((y z : ℤ) → on_numbers o y z ≡ safe (f y z))
+    → numeric o v (values.Number (pos 1)) ≡ a_text us
+    → ⊥
+numeric_no_text o f values.Undefined us i h = cc
+numeric_no_text o f values.Null us i h = cc
+numeric_no_text o f (values.Bool b) us i h = cc
+numeric_no_text o f (values.Number y) us i h =
+    no_text_by (nat_lt (nat_abs (f y (pos 1))) (2 ^ 53)) (f y (pos 1)) us (sym (i y (pos 1)) ∙ h)
+numeric_no_text o f (values.Text a) us i h = cc
+numeric_no_text o f (values.Object a) us i h = cc
+
+pub no-text : (o : UpdateOperator) (v : Value) (us : List ℕ) → update_result o v ≡ a_text us → ⊥
+no-text updates.Increment v us h = numeric_no_text binaries.Add (λ y z. y +ℤ z) v us (λ y z. refl) h
+no-text updates.Decrement v us h = numeric_no_text binaries.Subtract (λ y z. y -ℤ z) v us (λ y z. refl) h
 
 -- ---- names
 

@@ -2,7 +2,6 @@
 use Rattle.std.specs.Prelude.{◌≡◌, ℕ, List, Option}
 use Rattle.js_heap.specs.declared.value.Addr.{Addr}
 use Rattle.js_heap.specs.declared.value.Value.{Value}
-use Rattle.js_heap.specs.declared.value.Value.TheVariants as values
 use Rattle.js_heap.specs.World.{World}
 use Rattle.js_machine_actions.specs.Contexts.{Context, state_of}
 use Rattle.js_machine_nodes.specs.declared.op.Op.{Op}
@@ -10,7 +9,6 @@ use Rattle.js_machine_nodes.specs.declared.op.Op.TheVariants as ops
 use Rattle.js_machine_nodes.specs.declared.table.NodeTable.{NodeTable}
 use Rattle.js_machine_engine.specs.declared.code.RunningCode.{RunningCode}
 use Rattle.js_machine_engine.specs.declared.reduced.Reduced.{Reduced}
-use Rattle.js_machine_engine.specs.declared.reduced.Reduced.TheVariants as reduced
 use Rattle.js_machine_engine.specs.declared.task.Extra.{Extra}
 use Rattle.js_machine_engine.specs.declared.task.Redex.{Redex}
 use Rattle.js_machine_engine.specs.Rows.{redex, RowOf}
@@ -72,9 +70,19 @@ IsTurnDone t form vs r =
     → form.op ≡ ops.BodyOf
     → IsRow ts t form vs x v c r v c
 
--- an assignment with an operator that has no part for its value; of all else there is no answer
-abbrev pub without_part : Op → Reduced
-without_part (ops.CompoundName o) = reduced.Gives values.Undefined
-without_part (ops.CompoundMember o) = reduced.Gives values.Undefined
-without_part (ops.CompoundIndex o) = reduced.Gives values.Undefined
-without_part op = reduced.Memory
+-- ---- forms that share a row's beginning
+
+-- a call, or one whose callee is still read
+abbrev pub IsCalling : Op → Type 0
+IsCalling ops.Call = Unit {0}
+IsCalling ops.CallOfName = Unit {0}
+IsCalling ops.CallOfMember = Unit {0}
+IsCalling ops.CallOfIndex = Unit {0}
+IsCalling op = ⊥
+
+-- an assignment with an operator
+abbrev pub IsCompound : Op → Type 0
+IsCompound (ops.CompoundName o) = Unit {0}
+IsCompound (ops.CompoundMember o) = Unit {0}
+IsCompound (ops.CompoundIndex o) = Unit {0}
+IsCompound op = ⊥

@@ -411,6 +411,6 @@ pub fn call<W: World>(
             };
             call_value(code, context, world, *callee, &given)
         }
-        _ => Reduced::Memory,
+        _ => Reduced::Gives(Value::Undefined),
     }
 }

@@ -9,7 +9,7 @@ ghost use Rattle.js_semantics.specs.Terms.{one};
 ghost use Rattle.js_machine_actions.specs.Flow.{Passes};
 ghost use Rattle.js_machine_rows.specs.Declaring.{is_function_op, declared, declared_if};
 
-use crate::entries::function_entry;
+use crate::entries::{function_entry, parameter_count};
 use crate::parts::parts_between;
 use js_heap::value::Addr;
 use js_heap_memory::names::NameTable;
@@ -32,10 +32,8 @@ fn declare_entry<W: World>(
 ) -> Result<(), ActionEnd>
     ensures { Passes (declared names.now scope entry.now) (W.world names.now world.old) result (W.world names.now world.new) }
 {
-    let Ok(length) = u32::try_from(entry.parameters.len()) else {
-        return Err(ActionEnd::Memory);
-    };
-    declared_function(alloc, world, names, scope, entry.code, length, entry.name)
+    let count = parameter_count(entry)?;
+    declared_function(alloc, world, names, scope, entry.code, count, entry.name)
 }
 
 /// Whether a node is a function that is declared or an expression.

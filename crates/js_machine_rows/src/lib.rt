@@ -11,7 +11,6 @@
 #![tactic(auto)]
 
 mod answers;
-mod callees;
 mod calls;
 mod codes;
 mod declared;
@@ -28,5 +27,4 @@ mod simple;
 mod statements;
 pub mod table;
 mod updates;
-mod values;
 mod writing;

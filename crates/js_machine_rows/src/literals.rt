@@ -1,6 +1,6 @@
 //! Rows of array and object literals and of functions.
 
-ghost use Rattle.std.specs.Prelude.{◌≡◌, [], IfOk, List, ℕ, length, option_copied, slice_get};
+ghost use Rattle.std.specs.Prelude.{◌≡◌, [], IfOk, List, ℕ, option_copied, slice_get};
 ghost use Rattle.js_heap.specs.declared.cell.Cell.TheVariants as cells;
 ghost use Rattle.js_heap.specs.declared.value.Value.TheVariants as value;
 ghost use Rattle.js_heap.specs.Values.{key_of};
@@ -23,7 +23,7 @@ ghost use Rattle.js_machine_rows.specs.Does.{Replies, RepliesWith, DoesIn};
 ghost use Rattle.js_machine_rows.specs.Over.{OfEntry, AddsTo, IsLiteralOf, answered_by, function_made, method_made};
 
 use crate::answers::{replied, stopped};
-use crate::entries::function_entry;
+use crate::entries::{function_entry, parameter_count};
 use crate::parts::part_at;
 use cdp_text::units::Units;
 use js_heap::cell::Values;
@@ -72,16 +72,6 @@ pub fn array<W: World>(alloc: Global, names: &NameTable, world: &mut W, values: 
 }
 
 // ---- functions
-
-/// How many parameters a function has. No memory holds 2^32 of them.
-fn parameter_count(entry: &FunctionEntry) -> Result<u32, AllocError>
-    ensures { IfOk result (λ count. count ≡ length entry.now.parameters.items) }
-{
-    match u32::try_from(entry.parameters.len()) {
-        Ok(count) => Ok(count),
-        Err(_) => Err(AllocError),
-    }
-}
 
 /// An arrow has the enclosing `this` (15.3.4).
 fn receiver_of(entry: &FunctionEntry, this: Value) -> Value

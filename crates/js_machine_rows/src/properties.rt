@@ -1,19 +1,17 @@
-//! Rows of properties. Where a value is wanting that a row needs there is no answer.
+//! Rows that write and delete properties. Each form has the values that its row needs; a row without them gives undefined.
 
 ghost use Rattle.std.specs.Prelude.{true};
 ghost use Rattle.js_heap.specs.declared.value.Value.TheVariants as value;
 ghost use Rattle.js_semantics.specs.State.{give};
 ghost use Rattle.js_semantics.specs.BuiltIns.{last_of};
-ghost use Rattle.js_semantics.specs.References.{with_result, with_written};
+ghost use Rattle.js_semantics.specs.References.{with_written};
 ghost use Rattle.js_heap.specs.Properties.{property_deleted};
 ghost use Rattle.js_machine_actions.specs.Flow.{Passes};
 ghost use Rattle.js_heap_memory.specs.Names.{name_of};
 ghost use Rattle.js_machine_rows.specs.Does.{Replies};
-ghost use Rattle.js_machine_rows.specs.References.{member_result, index_result, member_put, index_put, member_removed, index_removed};
+ghost use Rattle.js_machine_rows.specs.References.{member_put, index_put, member_removed, index_removed};
 
-use crate::answers::{replied, replied_with};
-use crate::reading::{index_value, member_value};
-use crate::values::value_at;
+use crate::answers::replied_with;
 use crate::writing::{put_index_value, put_member_value};
 use js_heap::value::Value;
 use js_heap_memory::names::{NameId, NameTable};
@@ -24,47 +22,9 @@ use js_machine_actions::properties::{remove_index, remove_property};
 use js_machine_engine::reduced::Reduced;
 use std::alloc::Global;
 
-// ---- reading
-
-/// A property with a fixed key that is read (ECMA-262, 13.3.2).
-#[inline(always)]
-pub fn read_member<W: World>(
-    alloc: Global,
-    world: &mut W,
-    names: &NameTable,
-    values: &[Value],
-    key: NameId,
-) -> Reduced
-    ensures { Replies names.now (with_result (member_result (W.world names.now world.old) values.now (name_of names.now key.number)) give) (W.world names.now world.old) result (W.world names.now world.new) }
-{
-    match value_at(values, 0) {
-        Some(object) => replied(member_value(alloc, world, names, object, key)),
-        None => Reduced::Memory,
-    }
-}
-
-/// A property with a computed key that is read.
-#[inline(always)]
-pub fn read_index<W: World>(
-    alloc: Global,
-    world: &mut W,
-    names: &NameTable,
-    values: &[Value],
-) -> Reduced
-    ensures { Replies names.now (with_result (index_result (W.world names.now world.old) values.now) give) (W.world names.now world.old) result (W.world names.now world.new) }
-{
-    let Some(object) = value_at(values, 0) else {
-        return Reduced::Memory;
-    };
-    let Some(index) = value_at(values, 1) else {
-        return Reduced::Memory;
-    };
-    replied(index_value(alloc, world, names, object, index))
-}
-
 // ---- assigning
 
-/// `=` to a property with a fixed key (13.15.2).
+/// `=` to a property with a fixed key (ECMA-262, 13.15.2).
 #[inline(always)]
 pub fn assign_member<W: World>(
     alloc: Global,
@@ -75,14 +35,14 @@ pub fn assign_member<W: World>(
 ) -> Reduced
     ensures { Replies names.now (member_put (W.world names.now world.old) values.now (name_of names.now key.number) (last_of values.now) (give (last_of values.now))) (W.world names.now world.old) result (W.world names.now world.new) }
 {
-    let Some(object) = value_at(values, 0) else {
-        return Reduced::Memory;
-    };
-    let value = last_of(values);
-    replied_with(
-        put_member_value(alloc, world, names, object, key, value),
-        value,
-    )
+    match values {
+        [object, ..] => {
+            let value = last_of(values);
+            let written = put_member_value(alloc, world, names, *object, key, value);
+            replied_with(written, value)
+        }
+        [] => Reduced::Gives(Value::Undefined),
+    }
 }
 
 /// `=` to a property with a computed key.
@@ -95,17 +55,14 @@ pub fn assign_index<W: World>(
 ) -> Reduced
     ensures { Replies names.now (index_put (W.world names.now world.old) values.now (last_of values.now) (give (last_of values.now))) (W.world names.now world.old) result (W.world names.now world.new) }
 {
-    let Some(object) = value_at(values, 0) else {
-        return Reduced::Memory;
-    };
-    let Some(index) = value_at(values, 1) else {
-        return Reduced::Memory;
-    };
-    let value = last_of(values);
-    replied_with(
-        put_index_value(alloc, world, names, object, index, value),
-        value,
-    )
+    match values {
+        [object, index, ..] => {
+            let value = last_of(values);
+            let written = put_index_value(alloc, world, names, *object, *index, value);
+            replied_with(written, value)
+        }
+        _ => Reduced::Gives(Value::Undefined),
+    }
 }
 
 // ---- deleting
@@ -134,11 +91,13 @@ pub fn delete_member<W: World>(
 ) -> Reduced
     ensures { Replies names.now (member_removed (W.world names.now world.old) values.now (name_of names.now key.number) (give (value.Bool true))) (W.world names.now world.old) result (W.world names.now world.new) }
 {
-    let Some(object) = value_at(values, 0) else {
-        return Reduced::Memory;
-    };
-    let deleted = delete_own(alloc, world, names, object, key);
-    replied_with(deleted, Value::Bool(true))
+    match values {
+        [object, ..] => {
+            let deleted = delete_own(alloc, world, names, *object, key);
+            replied_with(deleted, Value::Bool(true))
+        }
+        [] => Reduced::Gives(Value::Undefined),
+    }
 }
 
 /// `delete` of a property with a computed key.
@@ -150,12 +109,11 @@ pub fn delete_index<W: World>(
 ) -> Reduced
     ensures { Replies names.now (index_removed (W.world names.now world.old) values.now (give (value.Bool true))) (W.world names.now world.old) result (W.world names.now world.new) }
 {
-    let Some(object) = value_at(values, 0) else {
-        return Reduced::Memory;
-    };
-    let Some(index) = value_at(values, 1) else {
-        return Reduced::Memory;
-    };
-    let deleted = remove_index(alloc, world, names, object, index);
-    replied_with(deleted, Value::Bool(true))
+    match values {
+        [object, index, ..] => {
+            let deleted = remove_index(alloc, world, names, *object, *index);
+            replied_with(deleted, Value::Bool(true))
+        }
+        _ => Reduced::Gives(Value::Undefined),
+    }
 }

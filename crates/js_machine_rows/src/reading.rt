@@ -1,4 +1,4 @@
-//! Reading names and properties, with what is found most often first.
+//! Reading names and properties, with what is found most often first. What a row reads is given, called or operated on.
 
 ghost use Rattle.std.specs.Prelude.{◌≡◌, ◌<◌, pos, IfSome, List, ℕ, option_copied, slice_get};
 ghost use Rattle.std.specs.Fmt.{decimal};
@@ -12,6 +12,7 @@ ghost use Rattle.js_heap_memory.specs.Cells.{cell_at};
 ghost use Rattle.js_heap_memory.specs.Names.{name_of};
 ghost use Rattle.js_machine_actions.specs.Flow.{Yields};
 ghost use Rattle.js_machine_actions.specs.References.{indexed};
+ghost use Rattle.js_machine_rows.specs.References.{member_result, index_result};
 
 use crate::names::value_of_name;
 use js_heap::value::{Addr, Value};
@@ -227,5 +228,42 @@ pub fn index_value<W: World>(
     match value_of_index(world, names, object, index) {
         Some(value) => Ok(value),
         None => index_slowly(alloc, world, names, object, index),
+    }
+}
+
+// ---- properties that the values of a row name
+
+/// The value of a property with a fixed key of a row's first value; undefined of a row without values.
+#[inline(always)]
+#[tactic(auto, using(crate::proofs::PropertyLemmas::reads_rules))]
+pub fn read_member<W: World>(
+    alloc: Global,
+    world: &mut W,
+    names: &NameTable,
+    values: &[Value],
+    key: NameId,
+) -> Result<Value, ActionEnd>
+    ensures { Yields (with_result (member_result (W.world names.now world.old) values.now (name_of names.now key.number))) (W.world names.now world.old) result (W.world names.now world.new) }
+{
+    match values {
+        [object, ..] => member_value(alloc, world, names, *object, key),
+        [] => Ok(Value::Undefined),
+    }
+}
+
+/// The value of a property of a row's first value whose key is the second one; undefined of a row with fewer values.
+#[inline(always)]
+#[tactic(auto, using(crate::proofs::PropertyLemmas::reads_rules))]
+pub fn read_index<W: World>(
+    alloc: Global,
+    world: &mut W,
+    names: &NameTable,
+    values: &[Value],
+) -> Result<Value, ActionEnd>
+    ensures { Yields (with_result (index_result (W.world names.now world.old) values.now)) (W.world names.now world.old) result (W.world names.now world.new) }
+{
+    match values {
+        [object, index, ..] => index_value(alloc, world, names, *object, *index),
+        _ => Ok(Value::Undefined),
     }
 }

@@ -4,11 +4,9 @@ ghost use Rattle.std.specs.Prelude.{◌≡◌, Some, None, slice_get};
 ghost use Rattle.js_machine_nodes.specs.Codes.{HasFunctions};
 ghost use Rattle.js_machine_nodes.specs.Trees.{kids_between};
 ghost use Rattle.js_machine_engine.specs.declared.task.Extra.TheVariants as extras;
-ghost use Rattle.js_machine_rows.specs.Table.{IsRowAnywhere, IsRowOf, IsRowOver, IsTurnDone, without_part};
+ghost use Rattle.js_machine_rows.specs.Table.{IsCalling, IsCompound, IsRowAnywhere, IsRowOf, IsRowOver, IsTurnDone};
 
-use crate::callees::{
-    callee_of_index, callee_of_member, callee_of_name, old_of_index, old_of_member, old_of_name,
-};
+use crate::answers::{assigning, calling, replied};
 use crate::calls::call;
 use crate::entries::call_entry;
 use crate::literals::{array, function, object};
@@ -16,9 +14,8 @@ use crate::loops::{enter_for, enter_for_of, list_of, loop_body, loop_first, loop
 use crate::names::{assign_name, read_name, typeof_name};
 use crate::operators::{binary, unary};
 use crate::parts::part_at;
-use crate::properties::{
-    assign_index, assign_member, delete_index, delete_member, read_index, read_member,
-};
+use crate::properties::{assign_index, assign_member, delete_index, delete_member};
+use crate::reading::{name_value, read_index, read_member};
 use crate::simple::{comma, frame, last, returned, this, throw};
 use crate::statements::{
     block, both, catch_named, catch_nameless, choose, either, enter, initialize, script,
@@ -68,13 +65,13 @@ fn frequent<W: World>(
             last_of(values),
         ),
         Op::UpdateName(kind) => update_name(code, world, rule_of(kind), form.inner, name),
-        Op::ReadMember => read_member(code.alloc, world, code.names, values, name),
-        Op::ReadIndex => read_index(code.alloc, world, code.names, values),
+        Op::ReadMember => replied(read_member(code.alloc, world, code.names, values, name)),
+        Op::ReadIndex => replied(read_index(code.alloc, world, code.names, values)),
         Op::AssignIndex => assign_index(code.alloc, world, code.names, values),
         Op::Choose => choose(code, &*world, form, values),
         Op::LoopTesting => loop_test(code.names, &*world, values),
         Op::Return => returned(values),
-        Op::Call | Op::CallOfName | Op::CallOfMember | Op::CallOfIndex => calling(
+        Op::Call | Op::CallOfName | Op::CallOfMember | Op::CallOfIndex => call_or_callee(
             code, context, world, form, values,
         ),
         _ => expression(code, context, world, form, values),
@@ -203,9 +200,9 @@ fn valued<W: World>(
     }
 }
 
-/// A call, or what is read before it.
+/// A call, or the callee that is read before it (ECMA-262, 13.3.6), with its entry.
 #[inline(always)]
-fn calling_with<W: World>(
+fn call_or_callee_with<W: World>(
     code: &RunningCode<'_, '_>,
     context: &mut Context,
     world: &mut W,
@@ -214,37 +211,40 @@ fn calling_with<W: World>(
     entry: CallEntry,
 ) -> Reduced
     requires functions { HasFunctions code.now.table.now }
+    requires calls { IsCalling form.op }
     requires found { Some entry ≡ slice_get code.now.table.now.calls.items form.info }
     ensures { IsRowOf W.world code.now form values.now None world.old context.old result world.new context.new }
 {
+    let name = entry.name;
     match form.op {
         Op::Call => call(code, context, world, entry.place, values),
-        Op::CallOfName => callee_of_name(code.alloc, world, code.names, form.inner, entry.name),
-        Op::CallOfMember => callee_of_member(code.alloc, world, code.names, values, entry.name),
-        Op::CallOfIndex => callee_of_index(code.alloc, world, code.names, values),
-        _ => Reduced::Memory,
+        Op::CallOfName => { calling(name_value(code.alloc, world, code.names, form.inner, name)) }
+        Op::CallOfMember => calling(read_member(code.alloc, world, code.names, values, name)),
+        Op::CallOfIndex => calling(read_index(code.alloc, world, code.names, values)),
+        _ => unreachable!(),
     }
 }
 
-/// A call, by its entry.
+/// A call, or the callee that is read before it, by its entry.
 #[inline(always)]
-fn calling<W: World>(
+fn call_or_callee<W: World>(
     code: &RunningCode<'_, '_>,
     context: &mut Context,
     world: &mut W,
     form: Redex,
     values: &[Value],
 ) -> Reduced
-    requires { HasFunctions code.now.table.now }
+    requires functions { HasFunctions code.now.table.now }
+    requires calls { IsCalling form.op }
     ensures { IsRowOf W.world code.now form values.now None world.old context.old result world.new context.new }
 {
     match call_entry(code.table, form.info) {
-        Some(entry) => calling_with(code, context, world, form, values, entry),
+        Some(entry) => call_or_callee_with(code, context, world, form, values, entry),
         None => Reduced::Memory,
     }
 }
 
-/// The old value of an assignment with an operator.
+/// The old value of an assignment with an operator (13.15.2), with the part that has the value of its right side.
 #[inline(always)]
 fn compound_with<W: World>(
     code: &RunningCode<'_, '_>,
@@ -254,31 +254,24 @@ fn compound_with<W: World>(
     values: &[Value],
     part: u32,
 ) -> Reduced
-    requires { Some part ≡ slice_get (kids_between code.now.table.now form.mid form.end) 0 }
+    requires compound { IsCompound form.op }
+    requires part { Some part ≡ slice_get (kids_between code.now.table.now form.mid form.end) 0 }
     ensures { IsRowOf W.world code.now form values.now None world.old context.old result world.new context.new }
 {
     let name = NameId { number: form.info };
     match form.op {
-        Op::CompoundName(_) => old_of_name(code.alloc, world, code.names, form.inner, name),
-        Op::CompoundMember(_) => old_of_member(code.alloc, world, code.names, values, name),
-        Op::CompoundIndex(_) => old_of_index(code.alloc, world, code.names, values),
-        _ => Reduced::Memory,
-    }
-}
-
-/// An assignment with an operator that has no part for its value.
-fn without_part(op: Op) -> Reduced
-    ensures { result ≡ without_part op }
-{
-    match op {
-        Op::CompoundName(_) | Op::CompoundMember(_) | Op::CompoundIndex(_) => {
-            Reduced::Gives(Value::Undefined)
+        Op::CompoundName(_) => {
+            assigning(name_value(code.alloc, world, code.names, form.inner, name))
         }
-        _ => Reduced::Memory,
+        Op::CompoundMember(_) => {
+            assigning(read_member(code.alloc, world, code.names, values, name))
+        }
+        Op::CompoundIndex(_) => assigning(read_index(code.alloc, world, code.names, values)),
+        _ => unreachable!(),
     }
 }
 
-/// An assignment with an operator, by the part that has its value.
+/// An assignment with an operator, by the part that has the value of its right side; undefined of one without it.
 #[inline(always)]
 fn compound<W: World>(
     code: &RunningCode<'_, '_>,
@@ -287,11 +280,12 @@ fn compound<W: World>(
     form: Redex,
     values: &[Value],
 ) -> Reduced
+    requires { IsCompound form.op }
     ensures { IsRowOf W.world code.now form values.now None world.old context.old result world.new context.new }
 {
     match part_at(code.table, form.mid, form.end, 0) {
         Some(part) => compound_with(code, context, world, form, values, part),
-        None => without_part(form.op),
+        None => Reduced::Gives(Value::Undefined),
     }
 }
 
@@ -395,7 +389,7 @@ impl Rows for StepTable {
         match form.op {
             Op::Catching => catch_nameless(code.table, form),
             Op::CatchingName => catch_named(code, world, form, thrown),
-            _ => Reduced::Memory,
+            _ => unreachable!(),
         }
     }
 }

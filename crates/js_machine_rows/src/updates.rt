@@ -1,24 +1,23 @@
-//! Rows of `++` and `--`. Where a value is wanting that a row needs there is no answer.
+//! Rows of `++` and `--`.
 
 ghost use Rattle.std.specs.Prelude.{◌≡◌, IfOk, IfSome};
 ghost use Rattle.js_heap.specs.declared.value.Value.{Value as AnyValue};
 ghost use Rattle.js_heap.specs.declared.computed.Computed.TheVariants.{Value as a_value};
-ghost use Rattle.js_heap.specs.Operators.{update_result};
+ghost use Rattle.js_heap.specs.Operators.{not_numbers, update_result};
 ghost use Rattle.js_heap.specs.Properties.{property_of};
-ghost use Rattle.js_semantics.specs.State.{Action};
+ghost use Rattle.js_semantics.specs.State.{Action, give};
 ghost use Rattle.js_semantics.specs.References.{found, with_result};
 ghost use Rattle.js_semantics.specs.Rows.{updated_by, update_value};
 ghost use Rattle.js_machine_nodes.specs.Ops.{operator_of, is_prefix};
 ghost use Rattle.js_heap_memory.specs.Names.{name_of};
-ghost use Rattle.js_machine_actions.specs.Flow.{Gives};
+ghost use Rattle.js_machine_actions.specs.Flow.{Ends, Gives};
 ghost use Rattle.js_machine_rows.specs.Does.{Replies};
 ghost use Rattle.js_machine_rows.specs.Updates.{on_update, property_updated, index_updated, member_updated, element_updated, old_updated, name_updated, unread};
 
-use crate::answers::{replied, replied_with};
+use crate::answers::{replied, replied_with, stopped};
 use crate::names::{open_slot, value_of_name};
 use crate::operators::{is_safe, quick_result};
 use crate::reading::{value_of_index, value_of_member};
-use crate::values::value_at;
 use crate::writing::{put_index_value, put_member_value};
 use cdp_text::units::{Units, ascii};
 use js_heap::built_in::ErrorClass;
@@ -31,7 +30,7 @@ use js_heap_operators::operators::{key_of, update_result};
 use js_heap_operators::properties::property_of;
 use js_machine_actions::action_end::ActionEnd;
 use js_machine_actions::cells::bind_at;
-use js_machine_actions::errors::{bad_key, fail};
+use js_machine_actions::errors::{bad_key, fail, fail_with};
 use js_machine_actions::names::{get_name, put_name};
 use js_machine_actions::properties::put_property;
 use js_machine_actions::seen::NamedWorld;
@@ -122,7 +121,7 @@ pub fn updated_value(
     }
     match update_result(alloc, operator, old)? {
         Computed::Value(new) => Ok(Update::To(old, new)),
-        Computed::Text(_) => Err(AllocError),
+        Computed::Text(_) => unreachable!(),
         Computed::Error(class, message) => Ok(Update::Fails(class, message)),
     }
 }
@@ -201,6 +200,21 @@ pub fn update_index_slowly<W: World>(
 
 // ---- rows of properties
 
+/// The TypeError of a row without the values that it needs: undefined is no number.
+#[cold]
+#[inline(never)]
+fn not_numbers<W: World>(alloc: Global, world: &mut W, names: &NameTable) -> ActionEnd
+    ensures { Ends (with_result not_numbers give) (W.world names.now world.old) result (W.world names.now world.new) }
+{
+    fail_with(
+        alloc,
+        world,
+        names,
+        ErrorClass::TypeError,
+        b"Operands must be numbers",
+    )
+}
+
 /// `++` and `--` of a property with a fixed key of any value, looked up by the key's text.
 #[cold]
 #[inline(never)]
@@ -267,9 +281,9 @@ pub fn update_member<W: World>(
 ) -> Reduced
     ensures { Replies code.now.names.now (member_updated (W.world code.now.names.now world.old) how.operator how.prefix values.now (name_of code.now.names.now key.number)) (W.world code.now.names.now world.old) result (W.world code.now.names.now world.new) }
 {
-    match value_at(values, 0) {
-        Some(object) => update_member_of(code, world, how, object, key),
-        None => Reduced::Memory,
+    match values {
+        [object, ..] => update_member_of(code, world, how, *object, key),
+        [] => stopped(not_numbers(code.alloc, world, code.names)),
     }
 }
 
@@ -282,13 +296,10 @@ pub fn update_index<W: World>(
 ) -> Reduced
     ensures { Replies code.now.names.now (element_updated (W.world code.now.names.now world.old) how.operator how.prefix values.now) (W.world code.now.names.now world.old) result (W.world code.now.names.now world.new) }
 {
-    let Some(object) = value_at(values, 0) else {
-        return Reduced::Memory;
-    };
-    let Some(index) = value_at(values, 1) else {
-        return Reduced::Memory;
-    };
-    update_index_of(code, world, how, object, index)
+    match values {
+        [object, index, ..] => update_index_of(code, world, how, *object, *index),
+        _ => stopped(not_numbers(code.alloc, world, code.names)),
+    }
 }
 
 // ---- rows of names

@@ -5,4 +5,4 @@ pub returns-in-None : goal.returns-in-None
 returns-in-None g c =
     without-row c.args.code.now.names.now c.args.code.now.table.now c.args.form c.args.values.now
     (g.W.World.world c.args.code.now.names.now c.args.world.now)
-    c.args.context.now c.without_part.result c.in-None.ensures c.without_part.ensures
+    c.args.context.now c.requires c.in-None.ensures

@@ -1,3 +1,6 @@
+use Rattle.js_heap_memory.specs.Names.{name_of}
+use Rattle.js_machine_rows.specs.References.{member_result, index_result}
+use Rattle.js_machine_rows.proofs.AnswerLemmas.{result-reply}
 use Rattle.js_machine_rows.proofs.ArmLemmas.{assign-index-row, assign-name-row, binary-row, read-index-row, read-member-row, read-name-row, return-row, update-name-row}
 use Rattle.js_machine_rows.proofs.TableLemmas.{choose-row, enter-row, testing-row}
 use Rattle.js_machine_rows.proofs.table.frequent.Goals as goal
@@ -49,17 +52,21 @@ pub returns-in-ReadMember : goal.returns-in-ReadMember
 returns-in-ReadMember g c =
     let ts = c.args.code.now.names.now in
     let v = g.W.World.world c.args.code.now.names.now c.args.world.now in
-    read-member-row ts c.args.code.now.table.now c.args.form c.args.values.now v
-    (g.W.World.world ts c.read_member.new.world)
-    c.args.context.now c.read_member.result c.in-ReadMember.is c.read_member.ensures
+    let w = g.W.World.world c.args.code.now.names.now c.read_member.new.world in
+    read-member-row ts c.args.code.now.table.now c.args.form c.args.values.now v w
+    c.args.context.now c.replied.result c.in-ReadMember.is
+    (result-reply ts (member_result v c.args.values.now (name_of ts c.args.form.info)) v c.read_member.result w
+    c.replied.result c.read_member.ensures c.replied.ensures)
 
 pub returns-in-ReadIndex : goal.returns-in-ReadIndex
 returns-in-ReadIndex g c =
     let ts = c.args.code.now.names.now in
     let v = g.W.World.world c.args.code.now.names.now c.args.world.now in
-    read-index-row ts c.args.code.now.table.now c.args.form c.args.values.now v
-    (g.W.World.world ts c.read_index.new.world)
-    c.args.context.now c.read_index.result c.in-ReadIndex.is c.read_index.ensures
+    let w = g.W.World.world c.args.code.now.names.now c.read_index.new.world in
+    read-index-row ts c.args.code.now.table.now c.args.form c.args.values.now v w
+    c.args.context.now c.replied-in-ReadIndex.result c.in-ReadIndex.is
+    (result-reply ts (index_result v c.args.values.now) v c.read_index.result w
+    c.replied-in-ReadIndex.result c.read_index.ensures c.replied-in-ReadIndex.ensures)
 
 pub returns-in-AssignIndex : goal.returns-in-AssignIndex
 returns-in-AssignIndex g c =

@@ -1,3 +1,4 @@
+use Rattle.js_machine_rows.proofs.OpLemmas.{no-other-catch}
 use Rattle.js_machine_rows.proofs.TableLemmas.{named-catch, nameless-catch}
 use Rattle.js_machine_rows.proofs.table.StepTableRows.catch.Goals as goal
 
@@ -15,3 +16,7 @@ returns-in-CatchingName g c =
     (g.W.World.world c.args.code.now.names.now c.args.world.now)
     (g.W.World.world c.args.code.now.names.now c.catch_named.new.world)
     c.args.context.now before c.catch_named.result c.in-CatchingName.is c.catch_named.ensures
+
+pub unreachable-requires : goal.unreachable-requires
+unreachable-requires g c =
+    no-other-catch c.args.form.op c.requires c.in_default.not-Catching c.in_default.not-CatchingName
