@@ -5,7 +5,7 @@ use Rattle.js_heap.specs.BuiltIns.{script_scope}
 use Rattle.js_semantics.specs.Terms.{Term}
 use Rattle.js_semantics.specs.State.{State}
 use Rattle.js_semantics.specs.Functions.{Program}
-use Rattle.js_semantics.specs.Run.{Run, over, by_effect, by_full, run_of}
+use Rattle.js_semantics.specs.Run.{Run, over, by_effect, by_full, run_of, steps_in}
 use Rattle.js_machine_actions.specs.Contexts as contexts
 use Rattle.js_machine_actions.specs.Contexts.{Context}
 use Rattle.js_machine_nodes.specs.declared.table.NodeTable.{NodeTable}
@@ -61,6 +61,14 @@ run_by (Some ends.Lost) t s = run_of t s
 -- the run: a term with its state, or the end with its state
 abbrev pub run_at : Machine → World → List (List ℕ) → Run
 run_at m w taken = run_by m.ended (term_of m) (state_of m w taken)
+
+-- the run over cells that are seen so with the names of the code
+abbrev pub run_with : {S : Type 0} → (List (List ℕ) → S → World) → Machine → S → List (List ℕ) → Run
+run_with see m cells taken = run_at m (see m.names cells) taken
+
+-- and where so many steps lead from there
+abbrev pub run_after : {S : Type 0} → ℕ → (List (List ℕ) → S → World) → Machine → S → List (List ℕ) → Run
+run_after k see m cells taken = steps_in k (program_of m) script_scope (run_with see m cells taken)
 
 -- ---- ends
 

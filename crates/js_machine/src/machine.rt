@@ -6,14 +6,14 @@ ghost use Rattle.std.specs.Prelude.{◌≡◌, ◌-◌, ◌≤◌, ℕ, List, []
 ghost use Rattle.js_heap.specs.BuiltIns.{script_scope};
 ghost use Rattle.js_heap.specs.World.{World as AnyWorld};
 ghost use Rattle.js_semantics.specs.Next.{next};
-ghost use Rattle.js_semantics.specs.Run.{over, step_in, steps_in};
+ghost use Rattle.js_semantics.specs.Run.{over, step_in};
 ghost use Rattle.js_semantics.specs.Sources.{terms_of_scripts};
 ghost use Rattle.js_machine_nodes.specs.Trees.{IsTable};
 ghost use Rattle.js_machine_terms.specs.Views.{terms_view};
 ghost use Rattle.js_machine_engine.specs.Running.{IsRunning, RunsFor, CountsAs, IsAsked, HasPassed, passed_steps};
 ghost use Rattle.js_machine_engine.specs.Stepping.{StandsIn, Tells, finish_of};
 ghost use Rattle.js_machine_engine.specs.Prints.{PrintsAs, IsSilent, last_printed};
-ghost use Rattle.js_machine.specs.Machines.{program_of, term_of, state_of, run_at, IsGoing, IsKept, finish_at, end_of, end_of_run, HasSameCode};
+ghost use Rattle.js_machine.specs.Machines.{program_of, term_of, state_of, run_at, run_with, run_after, IsGoing, IsKept, finish_at, end_of, end_of_run, HasSameCode};
 ghost use Rattle.js_machine.specs.Starts.{IsStarted};
 
 mod standing;
@@ -156,7 +156,7 @@ impl Machine {
         ensures end { self.new.ended ≡ end_of result }
         ensures code { HasSameCode self.old self.new }
         // The run is one step further.
-        ensures run { IsKept self.new.ended → (taken : List (List ℕ)) → run_at self.new (W.world self.new.names world.new) taken ≡ step_in (program_of self.old) script_scope (run_at self.old (W.world self.old.names world.old) taken) }
+        ensures run { IsKept self.new.ended → (taken : List (List ℕ)) → run_with W.world self.new world.new taken ≡ step_in (program_of self.old) script_scope (run_with W.world self.old world.old taken) }
     {
         let stepped = step::<StepTable, W>(
             &RunningCode {
@@ -183,16 +183,16 @@ impl Machine {
     ) -> StoppedRun
         requires { self.old.ended ≡ None }
         // The run is so many steps further, and it wasn't over before any of them.
-        ensures run { IsKept self.new.ended → (taken : List (List ℕ)) → run_at self.new (W.world self.new.names world.new) taken ≡ steps_in result.steps (program_of self.old) script_scope (run_at self.old (W.world self.old.names world.old) taken) }
-        ensures left { (taken : List (List ℕ)) → RunsFor result.steps (program_of self.old) script_scope (run_at self.old (W.world self.old.names world.old) taken) }
+        ensures run { IsKept self.new.ended → (taken : List (List ℕ)) → run_with W.world self.new world.new taken ≡ run_after result.steps W.world self.old world.old taken }
+        ensures left { (taken : List (List ℕ)) → RunsFor result.steps (program_of self.old) script_scope (run_with W.world self.old world.old taken) }
         ensures within { result.steps ≤ most }
         ensures counted { CountsAs result.why result.steps most }
         // The host asked for a stop behind the last step, if that is the reason, and behind none before.
-        ensures asked { (taken : List (List ℕ)) → IsAsked (H.stops host.now) result.why (steps_in result.steps (program_of self.old) script_scope (run_at self.old (W.world self.old.names world.old) taken)) }
-        ensures passed { (taken : List (List ℕ)) → HasPassed (H.stops host.now) (passed_steps result.why result.steps) (program_of self.old) script_scope (run_at self.old (W.world self.old.names world.old) taken) }
+        ensures asked { (taken : List (List ℕ)) → IsAsked (H.stops host.now) result.why (run_after result.steps W.world self.old world.old taken) }
+        ensures passed { (taken : List (List ℕ)) → HasPassed (H.stops host.now) (passed_steps result.why result.steps) (program_of self.old) script_scope (run_with W.world self.old world.old taken) }
         // The last step printed these values, if they are the reason, and nothing otherwise; no step before it printed.
-        ensures values { (taken : List (List ℕ)) → PrintsAs result.why (last_printed result.steps (program_of self.old) script_scope (run_at self.old (W.world self.old.names world.old) taken)) }
-        ensures silent { (taken : List (List ℕ)) → IsSilent (result.steps - 1) (program_of self.old) script_scope (run_at self.old (W.world self.old.names world.old) taken) }
+        ensures values { (taken : List (List ℕ)) → PrintsAs result.why (last_printed result.steps (program_of self.old) script_scope (run_with W.world self.old world.old taken)) }
+        ensures silent { (taken : List (List ℕ)) → IsSilent (result.steps - 1) (program_of self.old) script_scope (run_with W.world self.old world.old taken) }
         ensures end { self.new.ended ≡ end_of_run result.why }
         ensures code { HasSameCode self.old self.new }
     {
