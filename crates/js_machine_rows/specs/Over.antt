@@ -18,17 +18,37 @@ use Rattle.js_semantics.specs.declared.form.FunctionForm.{FunctionForm}
 use Rattle.js_machine_actions.specs.declared.action_end.ActionEnd.{ActionEnd}
 use Rattle.js_machine_actions.specs.Contexts.{Context}
 use Rattle.js_machine_nodes.specs.declared.table.NodeTable.{NodeTable}
+use Rattle.js_machine_nodes.specs.Trees.{trees}
+use Rattle.js_machine_engine.specs.declared.code.RunningCode.{RunningCode}
 use Rattle.js_machine_engine.specs.declared.reduced.Reduced.{Reduced}
 use Rattle.js_machine_engine.specs.declared.reduced.Reduced.TheVariants as reduced
+use Rattle.js_machine_engine.specs.declared.task.Redex.{Redex}
 use Rattle.js_machine_engine.specs.Tasks.{Wide, index_of, task_form, later_of}
 use Rattle.js_machine_engine.specs.Answers.{head_of, rest_of, now_of}
 use Rattle.js_machine_rows.specs.Does.{Does, DoesIn, DoesWith, stopped}
+
+-- the parts that a form keeps, in the code that runs
+abbrev pub kept_parts : RunningCode → Redex → Terms
+kept_parts code form = trees code.names.now code.table.now form.mid form.end
 
 -- ---- what a row says over a table, whatever the task
 
 -- whatever the task of this table, in every state that has this world
 abbrev pub RepliesOver : List (List ℕ) → NodeTable → Action → World → Reduced → World → Type 0
 RepliesOver ts t a v r w = (e : Wide) → DoesIn ts t e a v r w
+
+-- so by code that runs, in a world that is seen so with its names; the action asks for it
+abbrev pub RepliesOf : {S : Type 0}
+    → (List (List ℕ) → S → World)
+    → RunningCode
+    → (World → Action)
+    → S
+    → Reduced
+    → S
+    → Type 0
+RepliesOf see code a old r new =
+    RepliesOver code.names.now code.table.now (a (see code.names.now old)) (see code.names.now old) r
+    (see code.names.now new)
 
 -- whatever the task of this table, in a context, behind any texts that were taken
 abbrev pub RepliesOverWith : List (List ℕ) → NodeTable → Action → World → Context → Reduced → World → Context → Type 0

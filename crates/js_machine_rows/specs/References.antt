@@ -1,5 +1,6 @@
--- Properties that the values of a row name.
+-- Names, and properties that the values of a row name.
 use Rattle.std.specs.Prelude.{ℕ, List, [], ◌∷◌, length, Bool, true, false, Option, Some, nat_le}
+use Rattle.js_heap.specs.declared.value.Addr.{Addr}
 use Rattle.js_heap.specs.declared.value.Value.{Value}
 use Rattle.js_heap.specs.declared.value.Value.TheVariants as values
 use Rattle.js_heap.specs.declared.cell.Cell.{Cell}
@@ -10,10 +11,14 @@ use Rattle.js_heap.specs.World.{World}
 use Rattle.js_heap.specs.Values.{key_of}
 use Rattle.js_heap.specs.Properties.{property_of, property_written, property_deleted}
 use Rattle.js_semantics.specs.State.{Action, give}
-use Rattle.js_semantics.specs.References.{with_written, keyed_result}
+use Rattle.js_semantics.specs.References.{found, value_of_found, with_written, keyed_result}
 use Rattle.js_machine_actions.specs.References.{index_written, index_deleted}
 
 -- ---- reading
+
+-- the value of a name that is looked up from a scope outward
+abbrev pub name_result : World → Addr → List ℕ → Computed
+name_result w scope name = value_of_found name (found w scope name)
 
 -- a property of the first value with a fixed key
 abbrev pub member_result : World → List Value → List ℕ → Computed

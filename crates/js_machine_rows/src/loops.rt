@@ -6,7 +6,6 @@ ghost use Rattle.js_semantics.specs.declared.form.Stage.TheVariants as stages;
 ghost use Rattle.js_semantics.specs.Terms.{done, one};
 ghost use Rattle.js_semantics.specs.Rows.{only, loop_row, enter_for_row, enter_for_of_row, list_row, element_of, elements_of};
 ghost use Rattle.js_machine_nodes.specs.declared.table.NodeTable.{NodeTable as AnyTable};
-ghost use Rattle.js_machine_nodes.specs.Trees.{trees};
 ghost use Rattle.js_heap_memory.specs.Cells.{binding_at, bindings, cell_at};
 ghost use Rattle.js_machine_engine.specs.declared.reduced.Reduced.TheVariants as reduced;
 ghost use Rattle.js_machine_engine.specs.declared.task.Extra.TheVariants as extras;
@@ -14,7 +13,7 @@ ghost use Rattle.js_machine_engine.specs.Answers.{own_scope};
 ghost use Rattle.js_machine_engine.specs.Rows.{redex};
 ghost use Rattle.js_machine_engine.specs.Tasks.{Wide as AnyWide, turn_scope, later_of};
 ghost use Rattle.js_machine_rows.specs.Does.{DoesIn, DoesWith};
-ghost use Rattle.js_machine_rows.specs.Over.{OfEntry, IsTurn, answered_by, tested};
+ghost use Rattle.js_machine_rows.specs.Over.{kept_parts, OfEntry, IsTurn, answered_by, tested};
 
 use crate::answers::stopped;
 use crate::entries::for_entry;
@@ -180,7 +179,7 @@ fn enter_for_of_with<W: World>(
     entry: ForOfEntry,
 ) -> Reduced
     requires { Some entry ≡ slice_get code.now.table.now.for_ofs.items form.info }
-    ensures { (values : List AnyValue) → DoesWith code.now.names.now code.now.table.now (redex form values None) (enter_for_of_row form.inner entry.node (binding_at code.now.names.now entry.slot) (trees code.now.names.now code.now.table.now form.mid form.end)) (W.world code.now.names.now world.old) context.old result (W.world code.now.names.now world.new) context.new }
+    ensures { (values : List AnyValue) → DoesWith code.now.names.now code.now.table.now (redex form values None) (enter_for_of_row form.inner entry.node (binding_at code.now.names.now entry.slot) (kept_parts code.now form)) (W.world code.now.names.now world.old) context.old result (W.world code.now.names.now world.new) context.new }
 {
     let Some(_) = part_at(code.table, form.mid, form.end, 0) else {
         return Reduced::Gives(Value::Undefined);
@@ -204,7 +203,7 @@ pub fn enter_for_of<W: World>(
     world: &mut W,
     form: Redex,
 ) -> Reduced
-    ensures { OfEntry (slice_get code.now.table.now.for_ofs.items form.info) result (λ entry. (values : List AnyValue) → DoesWith code.now.names.now code.now.table.now (redex form values None) (enter_for_of_row form.inner entry.node (binding_at code.now.names.now entry.slot) (trees code.now.names.now code.now.table.now form.mid form.end)) (W.world code.now.names.now world.old) context.old result (W.world code.now.names.now world.new) context.new) }
+    ensures { OfEntry (slice_get code.now.table.now.for_ofs.items form.info) result (λ entry. (values : List AnyValue) → DoesWith code.now.names.now code.now.table.now (redex form values None) (enter_for_of_row form.inner entry.node (binding_at code.now.names.now entry.slot) (kept_parts code.now form)) (W.world code.now.names.now world.old) context.old result (W.world code.now.names.now world.new) context.new) }
 {
     match code.table.for_of(form.info) {
         Some(entry) => enter_for_of_with(code, context, world, form, entry),

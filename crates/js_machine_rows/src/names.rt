@@ -3,11 +3,12 @@
 ghost use Rattle.std.specs.Prelude.{◌≡◌, IfSome, []};
 ghost use Rattle.js_heap.specs.declared.computed.Computed.TheVariants.{Value as a_value};
 ghost use Rattle.js_semantics.specs.State.{give};
-ghost use Rattle.js_semantics.specs.References.{found, value_of_found, name_written, with_result, with_written};
+ghost use Rattle.js_semantics.specs.References.{found, name_written, with_result, with_written};
 ghost use Rattle.js_semantics.specs.Rows.{type_of_found};
 ghost use Rattle.js_heap_memory.specs.Names.{name_of};
 ghost use Rattle.js_machine_rows.specs.Does.{Replies};
 ghost use Rattle.js_machine_rows.specs.Quick.{slot_value, open_slot};
+ghost use Rattle.js_machine_rows.specs.References.{name_result};
 
 use crate::answers::{replied, replied_with};
 use js_heap::value::{Addr, Value};
@@ -41,7 +42,7 @@ pub fn value_of_name<W: World>(
     scope: Addr,
     name: NameId,
 ) -> Option<Value>
-    ensures { IfSome result (λ v. value_of_found (name_of names.now name.number) (found (W.world names.now world.now) scope (name_of names.now name.number)) ≡ a_value v) }
+    ensures { IfSome result (λ v. name_result (W.world names.now world.now) scope (name_of names.now name.number) ≡ a_value v) }
 {
     slot_value(lookup(world, names, scope, name))
 }
@@ -56,7 +57,7 @@ fn read_name_slowly<W: World>(
     scope: Addr,
     name: NameId,
 ) -> Reduced
-    ensures { Replies names.now (with_result (value_of_found (name_of names.now name.number) (found (W.world names.now world.old) scope (name_of names.now name.number))) give) (W.world names.now world.old) result (W.world names.now world.new) }
+    ensures { Replies names.now (with_result (name_result (W.world names.now world.old) scope (name_of names.now name.number)) give) (W.world names.now world.old) result (W.world names.now world.new) }
 {
     replied(get_name(alloc, world, names, scope, name))
 }
@@ -71,7 +72,7 @@ pub fn read_name<W: World>(
     scope: Addr,
     name: NameId,
 ) -> Reduced
-    ensures { Replies names.now (with_result (value_of_found (name_of names.now name.number) (found (W.world names.now world.old) scope (name_of names.now name.number))) give) (W.world names.now world.old) result (W.world names.now world.new) }
+    ensures { Replies names.now (with_result (name_result (W.world names.now world.old) scope (name_of names.now name.number)) give) (W.world names.now world.old) result (W.world names.now world.new) }
 {
     match value_of_name(world, names, scope, name) {
         Some(value) => Reduced::Gives(value),

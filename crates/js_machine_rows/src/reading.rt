@@ -7,12 +7,12 @@ ghost use Rattle.js_heap.specs.declared.value.Value.TheVariants as values;
 ghost use Rattle.js_heap.specs.Keys.{index_of_key};
 ghost use Rattle.js_heap.specs.Values.{key_of};
 ghost use Rattle.js_heap.specs.Properties.{property_of, cell_property, element_or_method};
-ghost use Rattle.js_semantics.specs.References.{found, value_of_found, with_result, keyed_result};
+ghost use Rattle.js_semantics.specs.References.{with_result, keyed_result};
 ghost use Rattle.js_heap_memory.specs.Cells.{cell_at};
 ghost use Rattle.js_heap_memory.specs.Names.{name_of};
 ghost use Rattle.js_machine_actions.specs.Flow.{Yields};
 ghost use Rattle.js_machine_actions.specs.References.{indexed};
-ghost use Rattle.js_machine_rows.specs.References.{member_result, index_result};
+ghost use Rattle.js_machine_rows.specs.References.{name_result, member_result, index_result};
 
 use crate::names::value_of_name;
 use js_heap::value::{Addr, Value};
@@ -36,7 +36,7 @@ fn name_slowly<W: World>(
     scope: Addr,
     name: NameId,
 ) -> Result<Value, ActionEnd>
-    ensures { Yields (with_result (value_of_found (name_of names.now name.number) (found (W.world names.now world.old) scope (name_of names.now name.number)))) (W.world names.now world.old) result (W.world names.now world.new) }
+    ensures { Yields (with_result (name_result (W.world names.now world.old) scope (name_of names.now name.number))) (W.world names.now world.old) result (W.world names.now world.new) }
 {
     get_name(alloc, world, names, scope, name)
 }
@@ -51,7 +51,7 @@ pub fn name_value<W: World>(
     scope: Addr,
     name: NameId,
 ) -> Result<Value, ActionEnd>
-    ensures { Yields (with_result (value_of_found (name_of names.now name.number) (found (W.world names.now world.old) scope (name_of names.now name.number)))) (W.world names.now world.old) result (W.world names.now world.new) }
+    ensures { Yields (with_result (name_result (W.world names.now world.old) scope (name_of names.now name.number))) (W.world names.now world.old) result (W.world names.now world.new) }
 {
     match value_of_name(world, names, scope, name) {
         Some(value) => Ok(value),

@@ -10,7 +10,7 @@ ghost use Rattle.js_machine_actions.specs.Contexts.{Turns};
 ghost use Rattle.js_machine_actions.specs.Flow.{Passes};
 ghost use Rattle.js_machine_engine.specs.declared.reduced.Reduced.TheVariants as reduced;
 ghost use Rattle.js_machine_rows.specs.Does.{Replies};
-ghost use Rattle.js_machine_rows.specs.Over.{RepliesOver, RepliesOverWith, RepliesInside, RepliesAnywhere, OfEntry, answered_by, uncovered, gone_to, entered_script, script_declared};
+ghost use Rattle.js_machine_rows.specs.Over.{kept_parts, RepliesOf, RepliesOverWith, RepliesInside, RepliesAnywhere, OfEntry, answered_by, uncovered, gone_to, entered_script, script_declared};
 
 use crate::answers::{replied_with, stopped};
 use crate::declared::with_functions;
@@ -113,7 +113,7 @@ pub fn choose<W: World>(
     form: Redex,
     values: &[Value],
 ) -> Reduced
-    ensures { RepliesOver code.now.names.now code.now.table.now (choose_row (W.world code.now.names.now world.now) (only values.now) (trees code.now.names.now code.now.table.now form.mid form.end)) (W.world code.now.names.now world.now) result (W.world code.now.names.now world.now) }
+    ensures { RepliesOf W.world code.now (λ w. choose_row w (only values.now) (kept_parts code.now form)) world.now result world.now }
 {
     if is_truthy(
         &NamedWorld {
@@ -135,7 +135,7 @@ pub fn both<W: World>(
     form: Redex,
     values: &[Value],
 ) -> Reduced
-    ensures { RepliesOver code.now.names.now code.now.table.now (both_row (W.world code.now.names.now world.now) (only values.now) (trees code.now.names.now code.now.table.now form.mid form.end)) (W.world code.now.names.now world.now) result (W.world code.now.names.now world.now) }
+    ensures { RepliesOf W.world code.now (λ w. both_row w (only values.now) (kept_parts code.now form)) world.now result world.now }
 {
     let value = only(values);
     if is_truthy(
@@ -158,7 +158,7 @@ pub fn either<W: World>(
     form: Redex,
     values: &[Value],
 ) -> Reduced
-    ensures { RepliesOver code.now.names.now code.now.table.now (either_row (W.world code.now.names.now world.now) (only values.now) (trees code.now.names.now code.now.table.now form.mid form.end)) (W.world code.now.names.now world.now) result (W.world code.now.names.now world.now) }
+    ensures { RepliesOf W.world code.now (λ w. either_row w (only values.now) (kept_parts code.now form)) world.now result world.now }
 {
     let value = only(values);
     if is_truthy(
@@ -241,7 +241,7 @@ fn script_of<W: World>(
     form: Redex,
     entry: &ScriptEntry,
 ) -> Reduced
-    ensures { RepliesOverWith code.now.names.now code.now.table.now (script_row entry.now.number (bindings code.now.names.now entry.now.names) (trees code.now.names.now code.now.table.now form.mid form.end)) (W.world code.now.names.now world.old) context.old result (W.world code.now.names.now world.new) context.new }
+    ensures { RepliesOverWith code.now.names.now code.now.table.now (script_row entry.now.number (bindings code.now.names.now entry.now.names) (kept_parts code.now form)) (W.world code.now.names.now world.old) context.old result (W.world code.now.names.now world.new) context.new }
 {
     let Some(statements) = part_at(code.table, form.mid, form.end, 0) else {
         return Reduced::Gives(Value::Undefined);
@@ -264,7 +264,7 @@ pub fn script<W: World>(
     world: &mut W,
     form: Redex,
 ) -> Reduced
-    ensures { OfEntry (slice_get code.now.table.now.scripts.items form.info) result (λ entry. RepliesOverWith code.now.names.now code.now.table.now (script_row entry.number (bindings code.now.names.now entry.names) (trees code.now.names.now code.now.table.now form.mid form.end)) (W.world code.now.names.now world.old) context.old result (W.world code.now.names.now world.new) context.new) }
+    ensures { OfEntry (slice_get code.now.table.now.scripts.items form.info) result (λ entry. RepliesOverWith code.now.names.now code.now.table.now (script_row entry.number (bindings code.now.names.now entry.names) (kept_parts code.now form)) (W.world code.now.names.now world.old) context.old result (W.world code.now.names.now world.new) context.new) }
 {
     match script_entry(code.table, form.info) {
         Some(entry) => script_of(code, context, world, form, entry),
@@ -279,7 +279,7 @@ fn block_of<W: World>(
     form: Redex,
     slots: &[Slot],
 ) -> Reduced
-    ensures { RepliesOver code.now.names.now code.now.table.now (block_row form.inner (bindings code.now.names.now slots.now) (trees code.now.names.now code.now.table.now form.mid form.end)) (W.world code.now.names.now world.old) result (W.world code.now.names.now world.new) }
+    ensures { RepliesOf W.world code.now (λ _. block_row form.inner (bindings code.now.names.now slots.now) (kept_parts code.now form)) world.old result world.new }
 {
     let Some(statements) = part_at(code.table, form.mid, form.end, 0) else {
         return Reduced::Gives(Value::Undefined);
@@ -293,7 +293,7 @@ fn block_of<W: World>(
 
 /// A block: a scope where it declares a name, with its functions (14.2.2).
 pub fn block<W: World>(code: &RunningCode<'_, '_>, world: &mut W, form: Redex) -> Reduced
-    ensures { OfEntry (slice_get code.now.table.now.blocks.items form.info) result (λ slots. RepliesOver code.now.names.now code.now.table.now (block_row form.inner (bindings code.now.names.now slots) (trees code.now.names.now code.now.table.now form.mid form.end)) (W.world code.now.names.now world.old) result (W.world code.now.names.now world.new)) }
+    ensures { OfEntry (slice_get code.now.table.now.blocks.items form.info) result (λ slots. RepliesOf W.world code.now (λ _. block_row form.inner (bindings code.now.names.now slots) (kept_parts code.now form)) world.old result world.new) }
 {
     match block_entry(code.table, form.info) {
         Some(slots) => block_of(code, world, form, slots.slice()),
@@ -317,7 +317,7 @@ pub fn catch_named<W: World>(
     form: Redex,
     thrown: Value,
 ) -> Reduced
-    ensures { RepliesOver code.now.names.now code.now.table.now (catch_row form.inner (Some (name_of code.now.names.now form.info)) thrown (trees code.now.names.now code.now.table.now form.mid form.end)) (W.world code.now.names.now world.old) result (W.world code.now.names.now world.new) }
+    ensures { RepliesOf W.world code.now (λ _. catch_row form.inner (Some (name_of code.now.names.now form.info)) thrown (kept_parts code.now form)) world.old result world.new }
 {
     let Some(handler) = part_at(code.table, form.mid, form.end, 0) else {
         return Reduced::Gives(Value::Undefined);
