@@ -60,7 +60,8 @@ pub ruleset reads_rules = (member-reads, no-member, index-reads, no-index)
 
 -- ---- writing and deleting by the first values
 
-undefined_given : (ts : List (List ℕ)) (v : World) → Replies ts (give values.Undefined) v (reduced.Gives values.Undefined) v
+undefined_given : (ts : List (List ℕ)) (v : World)
+    → Replies ts (give values.Undefined) v (reduced.Gives values.Undefined) v
 undefined_given ts v = given-replies ts (give values.Undefined) v (Ok values.Undefined) v (λ s. refl)
 
 by_value : (ts : List (List ℕ)) (f : Value → Action → Action) (x y : Value) (v : World)

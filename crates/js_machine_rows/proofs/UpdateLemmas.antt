@@ -12,14 +12,15 @@ use Rattle.js_heap.specs.declared.value.Addr.{Addr}
 use Rattle.js_heap.specs.declared.change.Change.TheVariants as changes
 use Rattle.js_heap.specs.declared.computed.Written.TheVariants.{Change as a_change}
 use Rattle.js_heap.specs.declared.computed.Computed.{Computed}
-use Rattle.js_heap.specs.declared.computed.Computed.TheVariants.{Value as a_value, Text as a_text}
+use Rattle.js_heap.specs.declared.computed.Computed.TheVariants.{Value as a_value, Text as a_text, Error as an_error}
 use Rattle.js_heap.specs.Operators.{not_numbers, not_safe, safe, on_numbers, numeric, binary_result, update_result}
 use Rattle.js_heap.specs.Properties.{property_of, property_written}
 use Rattle.js_heap.specs.Values.{a_number, key_of}
 use Rattle.js_heap.specs.World.{World}
-use Rattle.js_semantics.specs.State.{with_world, Action, give, fail, write}
-use Rattle.js_semantics.specs.References.{Found, value_of_found, value_or_uninitialized, name_written, with_result, with_written, with_key, keyed_result}
+use Rattle.js_semantics.specs.State.{State, with_world, Move, goes, went, Action, give, fail, write}
+use Rattle.js_semantics.specs.References.{Found, found, not_defined, not_initialized, value_of_found, value_or_uninitialized, name_written, with_result, with_written, with_key, keyed_result}
 use Rattle.js_semantics.specs.Rows.{updated_by, update_value}
+use Rattle.js_semantics.specs.Terms.{Term, done}
 use Rattle.js_machine_actions.specs.declared.action_end.ActionEnd.{ActionEnd}
 use Rattle.js_machine_actions.specs.Flow.{performed, Ends, Yields, Passes, Gives}
 use Rattle.js_machine_actions.specs.References.{index_written}
@@ -27,7 +28,7 @@ use Rattle.js_machine_engine.specs.declared.reduced.Reduced.{Reduced}
 use Rattle.js_machine_rows.specs.Does.{Replies, replied_with, stopped}
 use Rattle.js_machine_rows.specs.declared.updates.Update.{Update}
 use Rattle.js_machine_rows.specs.declared.updates.Update.TheVariants.{To, Fails}
-use Rattle.js_machine_rows.specs.Updates.{on_update, property_updated, keyed_updated, index_updated, member_updated, element_updated, old_updated, name_updated, unread}
+use Rattle.js_machine_rows.specs.Updates.{on_update, property_updated, keyed_updated, index_updated, member_updated, element_updated, old_updated, name_updated}
 use Rattle.js_machine_rows.proofs.PropertyLemmas.{passes-change}
 use Rattle.js_machine_rows.proofs.AnswerLemmas.{replies-by, passes-reply}
 
@@ -220,26 +221,64 @@ old-name o prefix name p old v r w h g =
     h))
     g
 
-unread_gives : (o : UpdateOperator) (prefix : Bool) (name : List ℕ) (p : Option Found) (v : World)
-    (r : Result Value ActionEnd) (w : World)
-    → Yields (with_result (value_of_found name p)) v r w
-    → Gives (name_updated o prefix name p) v (Err (unread r)) w
-unread_gives o prefix name p v (Ok u) w h = λ s said. absurd said
-unread_gives o prefix name p v (Err e) w h = λ s said.
+pub name-stops : (o : UpdateOperator) (prefix : Bool) (name : List ℕ) (p : Option Found) (v : World) (x : ActionEnd)
+    (w : World)
+    → Yields (with_result (value_of_found name p)) v (Err x) w
+    → Gives (name_updated o prefix name p) v (Err x) w
+name-stops o prefix name p v x w h = λ s said.
     ap (λ a. performed a (with_world s v))
-    (name_is o name p (λ x new. with_written (name_written name p new) (give (update_value prefix x new))))
+    (name_is o name p (λ y new. with_written (name_written name p new) (give (update_value prefix y new))))
     ∙ h s (λ old. with_result (update_result o old)
     (λ new. with_written (name_written name p new) (give (update_value prefix old new))))
     said
 
-pub unread-name : (o : UpdateOperator) (prefix : Bool) (name : List ℕ) (p : Option Found) (v : World)
-    (r : Result Value ActionEnd) (w : World) (e : ActionEnd)
-    → Yields (with_result (value_of_found name p)) v r w
-    → e ≡ unread r
-    → Gives (name_updated o prefix name p) v (Err e) w
-unread-name o prefix name p v r w e h i =
-    let P : ActionEnd → Type 0 = λ x. Gives (name_updated o prefix name p) v (Err x) w in
-    subst P (sym i) (unread_gives o prefix name p v r w h)
+no_state : State
+no_state = record { world = no_world; frames = []; outer_this = values.Undefined; input = []; printed = [] }
+
+-- the move of an action that gives a value in a world
+abbrev given_in : World → Value → Move Term
+given_in w u = goes (done u) (with_world no_state w) went
+
+-- an error yields no value
+no_error : (x : Computed) (class : ErrorClass) (message : List ℕ) (v w : World) (old : Value)
+    → x ≡ an_error class message
+    → Yields (with_result x) v (Ok old) w
+    → ⊥
+unfolding performed
+no_error x class message v w old i h =
+    let P : Computed → Type 0 = λ y. Yields (with_result y) v (Ok old) w in
+    let k : Yields (with_result (an_error class message)) v (Ok old) w = subst P i h in
+    let e : given_in w values.Undefined ≡ given_in w values.Null = sym (k no_state (λ y. give values.Undefined))
+    ∙ k no_state (λ y. give values.Null) in
+    cc
+
+held_is : (name : List ℕ) (x : Option Value) (v w : World) (old : Value)
+    → Yields (with_result (value_or_uninitialized name x)) v (Ok old) w
+    → (value_or_uninitialized name x ≡ a_value old) × (v ≡ w)
+unfolding performed
+held_is name None v w old h = absurd (no_error (not_initialized name) _ _ v w old refl h)
+held_is name (Some u) v w old h =
+    let e : given_in v u ≡ given_in w old = h no_state (λ y. give y) in
+    let i : u ≡ old = cc in
+    let j : with_world no_state v ≡ with_world no_state w = cc in
+    (ap (λ y. a_value y) i, ap (λ (s : State). s.world) j)
+
+-- a name that yields a value has it, and the world stays
+found_is : (name : List ℕ) (p : Option Found) (v w : World) (old : Value)
+    → Yields (with_result (value_of_found name p)) v (Ok old) w
+    → (value_of_found name p ≡ a_value old) × (v ≡ w)
+found_is name None v w old h = absurd (no_error (not_defined name) _ _ v w old refl h)
+found_is name (Some f) v w old h = held_is name f.binding.value v w old h
+
+pub read-updated : (o : UpdateOperator) (prefix : Bool) (name : List ℕ) (scope : Addr) (v w : World) (old : Value)
+    (r : Result Value ActionEnd) (u : World)
+    → Yields (with_result (value_of_found name (found v scope name))) v (Ok old) w
+    → Gives (old_updated o prefix name (found w scope name) old) w r u
+    → Gives (name_updated o prefix name (found v scope name)) v r u
+read-updated o prefix name scope v w old r u h g =
+    let e = found_is name (found v scope name) v w old h in
+    let P : World → Type 0 = λ x. Gives (old_updated o prefix name (found x scope name) old) x r u in
+    old-name o prefix name (found v scope name) old v r u e.0 (subst P (sym e.1) g)
 
 pub name-updated : (ts : List (List ℕ)) (o : UpdateOperator) (name : List ℕ) (p : Option Found) (a : Addr)
     (prefix : Bool) (old new given : Value) (v : World) (r : Result (Unit {0}) ActionEnd) (w : World) (q : Reduced)

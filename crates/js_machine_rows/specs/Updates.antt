@@ -1,5 +1,5 @@
 -- What an update of a value comes to.
-use Rattle.std.specs.Prelude.{ℕ, Bool, List, [], ◌∷◌, Option, Some, None, Result, Ok, Err}
+use Rattle.std.specs.Prelude.{ℕ, Bool, List, [], ◌∷◌, Option, Some, None}
 use Rattle.js_tree_operators.specs.declared.operator.UpdateOperator.{UpdateOperator}
 use Rattle.js_heap.specs.declared.value.Value.{Value}
 use Rattle.js_heap.specs.declared.value.Value.TheVariants as values
@@ -10,8 +10,6 @@ use Rattle.js_heap.specs.World.{World}
 use Rattle.js_semantics.specs.State.{Action, give, fail}
 use Rattle.js_semantics.specs.References.{Found, value_of_found, name_written, with_result, with_written}
 use Rattle.js_heap.specs.Operators.{update_result}
-use Rattle.js_machine_actions.specs.declared.action_end.ActionEnd.{ActionEnd}
-use Rattle.js_machine_actions.specs.declared.action_end.ActionEnd.TheVariants.{Memory}
 use Rattle.js_semantics.specs.Rows.{updated_by, update_value}
 use Rattle.js_machine_rows.specs.declared.updates.Update.{Update}
 use Rattle.js_machine_rows.specs.declared.updates.Update.TheVariants.{To, Fails}
@@ -59,8 +57,3 @@ abbrev pub name_updated : UpdateOperator → Bool → List ℕ → Option Found 
 name_updated o prefix name f =
     updated_by o (value_of_found name f)
     (λ old new. with_written (name_written name f new) (give (update_value prefix old new)))
-
--- the end of a reading that gives no value
-abbrev pub unread : Result Value ActionEnd → ActionEnd
-unread (Ok v) = Memory
-unread (Err e) = e

@@ -12,10 +12,10 @@ ghost use Rattle.js_machine_nodes.specs.Ops.{operator_of, is_prefix};
 ghost use Rattle.js_heap_memory.specs.Names.{name_of};
 ghost use Rattle.js_machine_actions.specs.Flow.{Ends, Gives};
 ghost use Rattle.js_machine_rows.specs.Does.{Replies};
-ghost use Rattle.js_machine_rows.specs.Updates.{on_update, property_updated, index_updated, member_updated, element_updated, old_updated, name_updated, unread};
+ghost use Rattle.js_machine_rows.specs.Updates.{on_update, property_updated, index_updated, member_updated, element_updated, old_updated, name_updated};
 
 use crate::answers::{replied, replied_with, stopped};
-use crate::names::{open_slot, value_of_name};
+use crate::names::open_slot;
 use crate::operators::{is_safe, quick_result};
 use crate::reading::{value_of_index, value_of_member};
 use crate::writing::{put_index_value, put_member_value};
@@ -324,16 +324,6 @@ fn update_old_name<W: World>(
     }
 }
 
-/// The end of a reading that gives no value.
-fn unread(outcome: Result<Value, ActionEnd>) -> ActionEnd
-    ensures { result ≡ unread outcome }
-{
-    match outcome {
-        Ok(_) => ActionEnd::Memory,
-        Err(stop) => stop,
-    }
-}
-
 /// `++` and `--` of a name by the general calls, or the error of a name without a value.
 #[cold]
 #[inline(never)]
@@ -346,12 +336,9 @@ fn update_name_slowly<W: World>(
 ) -> Result<Value, ActionEnd>
     ensures { Gives (name_updated how.operator how.prefix (name_of code.now.names.now name.number) (found (W.world code.now.names.now world.old) scope (name_of code.now.names.now name.number))) (W.world code.now.names.now world.old) result (W.world code.now.names.now world.new) }
 {
-    match value_of_name(world, code.names, scope, name) {
-        Some(old) => update_old_name(code, world, how, scope, name, old),
-        None => {
-            let outcome = get_name(code.alloc, world, code.names, scope, name);
-            Err(unread(outcome))
-        }
+    match get_name(code.alloc, world, code.names, scope, name) {
+        Ok(old) => update_old_name(code, world, how, scope, name, old),
+        Err(stop) => Err(stop),
     }
 }
 
