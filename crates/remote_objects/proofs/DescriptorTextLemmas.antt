@@ -1,25 +1,28 @@
 -- The texts of properties, piece by piece, and of lists that are written one after another.
-use Rattle.std.proofs.Common.{◌≡◌, ℕ, ◌+◌, ◌<◌, Bool, true, false, Option, List, [], ◌∷◌, ◌++◌, length, drop, get_or, map, pos, codes, refl, sym, ap, ◌∙◌, subst, append_assoc, append-nil, arith, drop_of_length-le}
-use Rattle.std.specs.Prelude.{nat_lt}
+use Rattle.std.proofs.Common.{◌≡◌, ℕ, ◌+◌, Bool, true, false, Option, Some, None, List, [], ◌∷◌, ◌++◌, length, map, pos, codes, refl, sym, ap, ◌∙◌, subst, append_assoc, append-nil, arith}
 use Rattle.std.specs.Char.{encode_utf8}
 use Rattle.std.specs.Char.Utf16.{utf16_chars}
-use Rattle.std.proofs.lemmas.List.{at_drop_more, map-append}
 use Rattle.json.specs.Print.{escape_byte}
 use Rattle.cdp_text.specs.Units.{utf8_of}
+use Rattle.js_heap.specs.declared.cell.Binding.{Binding}
+use Rattle.js_heap.specs.declared.cell.Cell.{Cell}
+use Rattle.js_heap.specs.declared.cell.Cell.TheVariants as cells
+use Rattle.js_heap.specs.declared.cell.Property.{Property}
 use Rattle.js_heap.specs.declared.value.Value.{Value}
 use Rattle.js_heap.specs.declared.value.Value.TheVariants as values
-use Rattle.js_heap_memory.specs.Cells.{bindings}
-use Rattle.js_heap_memory.specs.declared.stored.Slot.{Slot}
+use Rattle.js_heap_parts.specs.Parts as parts
+use Rattle.js_heap_parts.specs.Parts.{CellPart, bound_part, length_part, name_parts, names_parts, object_parts, property_parts, scope_parts}
 use Rattle.object_groups.specs.Handles.{HeldHandles}
 use Rattle.cdp_json.specs.Json as json
 use Rattle.cdp_json.specs.Compact.{compact_text, string_text, with_commas}
 use Rattle.cdp_json.specs.Parts.{list_of, object_of}
 use Rattle.cdp_json.specs.Pieces.{Wrote, comma_if, commas_after, object_in_order}
 use Rattle.cdp_json.proofs.PieceLemmas.{further, list-is, object-is, text_all, text_more, written-as}
-use Rattle.remote_objects.specs.Descriptors.{FlaggedProperty, a_value, array_length, descriptor, descriptor_of, element_slot, elements_from, fixed_slot, function_slots, names_slots}
+use Rattle.remote_objects.specs.Descriptors.{FlaggedProperty, a_value, array_length, binding_slots, descriptor, descriptor_of, element_slot, elements_from, fixed_slot, function_slots, names_slots, object_slots, property_slot, scope_slots}
 use Rattle.remote_objects.specs.Making.{Made, made_all}
+use Rattle.remote_objects.specs.Previews.{has_preview}
 use Rattle.remote_objects.specs.Sights.{Sight}
-use Rattle.remote_objects.specs.Slots.{slots_at, text_slot, value_slot}
+use Rattle.remote_objects.specs.Slots.{part_slot, text_slot}
 use Rattle.remote_objects.specs.Values.{text_pairs}
 use Rattle.remote_objects.specs.Written.{flags_front, listed_text, truth_text, value_back}
 use Rattle.remote_objects.specs.declared.detail.Detail.{Detail}
@@ -101,52 +104,67 @@ all-written {Y} f ys behind now all h whole e inv =
     let here = subst P e inv in
     (text_all behind now all [] refl here.text, here.handles)
 
--- ---- elements
+-- ---- parts of cells
 
-pub element-here : (vs : List Value) (i : ℕ) (d : Value) → i < length vs
-    → elements_from i (drop i vs) ≡ element_slot i (get_or vs i d) ∷ elements_from (i + 1) (drop (i + 1) vs)
-element-here vs i d lt = at_drop_more (elements_from i) vs i d lt
+-- what is listed, of properties in other words
+pub listed-as : (f : FlaggedProperty → HeldHandles → Made json.Json) (ps qs : List FlaggedProperty) (h : HeldHandles)
+    {old new : List ℕ}
+    → ps ≡ qs → Wrote old (listed_text (made_all f ps h)) new → Wrote old (listed_text (made_all f qs h)) new
+listed-as f ps qs h same e = written-as (ap (λ xs. listed_text (made_all f xs h)) same) e
 
-elements_end : (vs : List Value) (i n : ℕ)
-    → i ≡ n
-    → n ≡ length vs
-    → elements_from i (drop i vs) ≡ array_length n ∷ []
-elements_end vs i n same size =
-    ap (elements_from i) (drop_of_length-le vs (omega (arith, same, size))) ∙ ap (λ m. array_length m ∷ []) same
+-- and the handles
+pub kept-as : (f : FlaggedProperty → HeldHandles → Made json.Json) (ps qs : List FlaggedProperty) (h g : HeldHandles)
+    → ps ≡ qs → g ≡ (made_all f ps h).handles → g ≡ (made_all f qs h).handles
+kept-as f ps qs h g same e = e ∙ ap (λ xs. (made_all f xs h).handles) same
 
--- behind the elements stands the length
-pub elements-written : (f : FlaggedProperty → HeldHandles → Made json.Json) (vs : List Value) (i n : ℕ)
-    (now new all : List ℕ) (h : HeldHandles) (whole : Made (List json.Json))
-    → i ≡ n → n ≡ length vs → Wrote now (comma_if (nat_lt 0 n) ++ compact_text (f (array_length n) h).made) new
-    → Continues now all (nat_lt 0 i) (made_all f (elements_from i (drop i vs)) h) whole → new ≡ all
-elements-written f vs i n now new all h whole same size put inv =
-    let P : List FlaggedProperty → Type 0 = λ zs. Continues now all (nat_lt 0 i) (made_all f zs h) whole in
-    let here = subst P (elements_end vs i n same size) inv in
-    text_all true new all [] refl
-    (text_more (nat_lt 0 i) true now new (compact_text (f (array_length n) h).made) all [] refl
-    (written-as (ap (λ m. comma_if (nat_lt 0 m) ++ compact_text (f (array_length n) h).made) (sym same)) put) here.text)
+property_slots : (ps : List Property) → map part_slot (property_parts ps) ≡ map property_slot ps
+property_slots [] = refl
+property_slots (p ∷ ps) = ap (λ xs. property_slot p ∷ xs) (property_slots ps)
 
-pub elements-kept : (f : FlaggedProperty → HeldHandles → Made json.Json) (vs : List Value) (i n : ℕ) (b : Bool)
-    (now all : List ℕ) (h g : HeldHandles) (whole : Made (List json.Json))
-    → i ≡ n → n ≡ length vs → g ≡ (f (array_length n) h).handles
-    → Continues now all b (made_all f (elements_from i (drop i vs)) h) whole → g ≡ whole.handles
-elements-kept f vs i n b now all h g whole same size d inv =
-    let P : List FlaggedProperty → Type 0 = λ zs. Continues now all b (made_all f zs h) whole in
-    d ∙ (subst P (elements_end vs i n same size) inv).handles
+element_slots : (i n : ℕ) (vs : List Value) → i + length vs ≡ n
+    → map part_slot (parts.elements_from i vs ++ length_part n ∷ []) ≡ elements_from i vs
+element_slots i n [] size =
+    let same : n ≡ i = omega (arith, size) in
+    ap (λ m. array_length m ∷ []) same
+element_slots i n (v ∷ vs) size =
+    let more : (i + 1) + length vs ≡ n = omega (arith, size) in
+    ap (λ xs. element_slot i v ∷ xs) (element_slots (i + 1) n vs more)
+
+-- the parts of an object that is no function, as a function has no preview, are its properties
+pub object-slots : (cell : Option Cell) → has_preview cell ≡ true
+    → map part_slot (object_parts cell) ≡ object_slots cell
+object-slots (Some (cells.Object ps)) has = property_slots ps
+object-slots (Some (cells.Error class ps)) has = property_slots ps
+object-slots (Some (cells.Array vs)) has =
+    let size : 0 + length vs ≡ length vs = omega arith in
+    element_slots 0 (length vs) vs size
+object-slots (Some (cells.Function code name len scope receiver)) has = cc
+object-slots (Some (cells.Text us)) has = refl
+object-slots (Some (cells.Bindings kind name outer names)) has = refl
+object-slots None has = refl
+
+name_slots : (name : List ℕ) (constant : Bool) (value : Option Value) (ps : List CellPart) (qs : List FlaggedProperty)
+    → map part_slot ps ≡ qs
+    → map part_slot (name_parts name constant value ++ ps) ≡ binding_slots name constant value ++ qs
+name_slots name constant None ps qs e = e
+name_slots name constant (Some v) ps qs e = ap (λ xs. part_slot (bound_part name constant v) ∷ xs) e
+
+names_slots_are : (bs : List Binding) → map part_slot (names_parts bs) ≡ names_slots bs
+names_slots_are [] = refl
+names_slots_are (b ∷ bs) =
+    name_slots b.name b.constant b.value (names_parts bs) (names_slots bs) (names_slots_are bs)
+
+-- the parts of a scope are its names that have a value
+pub scope-slots : (cell : Option Cell) → map part_slot (scope_parts cell) ≡ scope_slots cell
+scope-slots (Some (cells.Object ps)) = refl
+scope-slots (Some (cells.Error class ps)) = refl
+scope-slots (Some (cells.Array vs)) = refl
+scope-slots (Some (cells.Function code name len scope receiver)) = refl
+scope-slots (Some (cells.Text us)) = refl
+scope-slots (Some (cells.Bindings kind name outer names)) = names_slots_are names
+scope-slots None = refl
 
 -- ---- functions
-
--- a property with its name and its value in other words
-pub slot-as : (s : Sight) (detail : Detail) (group : Option (List ℕ)) (k l : List ℕ) (v w : Value) (flags : Flags)
-    (h : HeldHandles) → k ≡ l → v ≡ w
-    → descriptor s detail group (value_slot k v flags) h ≡ descriptor s detail group (value_slot l w flags) h
-slot-as s detail group k l v w flags h first second =
-    ap (λ x. descriptor s detail group (value_slot x v flags) h) first
-    ∙ ap (λ y. descriptor s detail group (value_slot l y flags) h) second
-
--- the flags of an array's length
-abbrev pub length_flags : Flags
-length_flags = record { writable = true; enumerable = false; configurable = false }
 
 -- the flags of a function's length and name
 abbrev pub function_flags : Flags
@@ -169,45 +187,6 @@ function-written s detail group l name len h is put between last =
     written-as
     (ap (λ key. t ++ (codes "," ++ u key)) is ∙ ap (λ s. t ++ 44 ∷ s) (sym (append-nil (u (codes "name")))))
     (further put (further between last))
-
--- ---- scopes
-
-pub binding-here : (names : List (List ℕ)) (ss : List Slot) (i : ℕ) (d : Slot) → i < length ss
-    → names_slots (bindings names (drop i ss))
-    ≡ slots_at names (get_or ss i d) ++ names_slots (bindings names (drop (i + 1) ss))
-binding-here names ss i d lt = at_drop_more (λ xs. names_slots (bindings names xs)) ss i d lt
-
-made_behind : {Y : Type 0} (f : Y → HeldHandles → Made json.Json) (xs ys : List Y) (h : HeldHandles)
-    → (made_all f (xs ++ ys) h).made ≡ (made_all f xs h).made ++ (made_all f ys (made_all f xs h).handles).made
-made_behind f [] ys h = refl
-made_behind f (x ∷ xs) ys h = ap (λ js. (f x h).made ∷ js) (made_behind f xs ys (f x h).handles)
-
-kept_behind : {Y : Type 0} (f : Y → HeldHandles → Made json.Json) (xs ys : List Y) (h : HeldHandles)
-    → (made_all f (xs ++ ys) h).handles ≡ (made_all f ys (made_all f xs h).handles).handles
-kept_behind f [] ys h = refl
-kept_behind f (x ∷ xs) ys h = kept_behind f xs ys (f x h).handles
-
--- one name more
-pub bound-on : {Y : Type 0} (f : Y → HeldHandles → Made json.Json) (all_slots xs ys : List Y) (behind next : Bool)
-    (now new all : List ℕ) (h g : HeldHandles) (whole : Made (List json.Json))
-    → all_slots ≡ xs ++ ys
-    → ((rest : List (List ℕ))
-    → new ++ commas_after next rest ≡ now ++ commas_after behind (map compact_text (made_all f xs h).made ++ rest))
-    → g ≡ (made_all f xs h).handles
-    → Continues now all behind (made_all f all_slots h) whole → Continues new all next (made_all f ys g) whole
-bound-on {Y} f all_slots xs ys behind next now new all h g whole e put d inv =
-    let P : List Y → Type 0 = λ zs. Continues now all behind (made_all f zs h) whole in
-    let here = subst P e inv in
-    let rest = (made_all f ys (made_all f xs h).handles).made in
-    record {
-      text =
-          ap (λ k. new ++ commas_after next (map compact_text (made_all f ys k).made)) d
-          ∙ (put (map compact_text rest)
-          ∙ (ap (λ ts. now ++ commas_after behind ts)
-          (sym (ap (map compact_text) (made_behind f xs ys h) ∙ map-append compact_text (made_all f xs h).made rest))
-          ∙ here.text));
-      handles = ap (λ k. (made_all f ys k).handles) d ∙ (sym (kept_behind f xs ys h) ∙ here.handles);
-    }
 
 -- ---- the list
 

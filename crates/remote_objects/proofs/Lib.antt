@@ -7,4 +7,5 @@ pub mod KeyLemmas
 pub mod LevelLemmas
 pub mod MakingLemmas
 pub mod PreviewLemmas
+pub mod PreviewTextLemmas
 pub mod RemoteTextLemmas

@@ -1,10 +1,8 @@
 -- Lists that are described one after another: from one to those behind it.
-use Rattle.std.proofs.Common.{◌≡◌, ℕ, suc, ◌+◌, List, [], ◌∷◌, ◌++◌, drop, sym, ap, add-one}
-use Rattle.std.specs.Prelude.{map, slice_get, Some, zero}
+use Rattle.std.proofs.Common.{◌≡◌, ℕ, suc, List, [], ◌∷◌, ◌++◌, drop, sym, ap}
+use Rattle.std.specs.Prelude.{slice_get, Some, zero}
 use Rattle.std.proofs.lemmas.Option.{same_Some}
-use Rattle.js_heap.specs.declared.cell.Property.{Property}
 use Rattle.cdp_json.specs.Json as json
-use Rattle.remote_objects.specs.Descriptors.{property_slot}
 use Rattle.remote_objects.specs.Making.{Made}
 
 -- what was made so far, with what is made of those that are left, is the whole
@@ -18,8 +16,3 @@ pub got-here : {X : Type 0} (xs : List X) (i : ℕ) (x : X) → Some x ≡ slice
 got-here [] i x e = cc
 got-here (y ∷ ys) zero x e = ap (λ z. z ∷ ys) (sym (same_Some x y e))
 got-here (y ∷ ys) (suc i) x e = got-here ys i x e
-
-pub property-here : (ps : List Property) (i : ℕ) (p : Property)
-    → Some p ≡ slice_get ps i
-    → map property_slot (drop i ps) ≡ property_slot p ∷ map property_slot (drop (i + 1) ps)
-property-here ps i p e = rw add-one (ap (map property_slot) (got-here ps i p e))

@@ -147,7 +147,7 @@ unfolding front_of
 function-front shown =
     ap (λ c. codes "{\"className\":" ++ (c ++ (codes ",\"description\":" ++ string_text shown))) (sym function_class)
 
-quoted_array : (n : ℕ) → n < 2 ^ 64
+pub quoted_array : (n : ℕ) → n < 2 ^ 64
     → string_text (array_text n) ≡ codes "\"Array(" ++ (decimal n ++ codes ")\"")
 quoted_array n small =
     plain_text (array_text n)
@@ -179,7 +179,7 @@ id-written session n first second =
 
 -- ---- whole objects
 
-front_behind : (class shown rest : List ℕ)
+pub front_behind : (class shown rest : List ℕ)
     → codes "{\"className\":" ++ (string_text class ++ (codes ",\"description\":" ++ (string_text shown ++ rest)))
     ≡ front_of class shown ++ rest
 unfolding front_of
@@ -223,11 +223,11 @@ unfolding utf8_of utf16_chars encode_utf8 escape_byte
 subtyped_id_pieces a b i s t = refl
 
 -- what stands behind the id: the type
-abbrev type_back : List ℕ → List ℕ
+abbrev pub type_back : List ℕ → List ℕ
 type_back type = codes ",\"type\":" ++ (string_text type ++ codes "}")
 
 -- and before that a subtype
-abbrev subtype_back : List ℕ → List ℕ → List ℕ
+abbrev pub subtype_back : List ℕ → List ℕ → List ℕ
 subtype_back subtype type = codes ",\"subtype\":" ++ (string_text subtype ++ type_back type)
 
 pub untyped-object : (class shown type : List ℕ) (session : ℕ) (number : Option ℕ)
@@ -266,18 +266,18 @@ subtyped_object class shown subtype type session (Some n) =
 
 -- ---- cells
 
-object_back : type_back (codes "object") ≡ codes ",\"type\":\"object\"}"
+pub object_back : type_back (codes "object") ≡ codes ",\"type\":\"object\"}"
 object_back = ap (λ t. codes ",\"type\":" ++ (t ++ codes "}")) object_type
 
 function_back : type_back (codes "function") ≡ codes ",\"type\":\"function\"}"
 function_back = ap (λ t. codes ",\"type\":" ++ (t ++ codes "}")) function_type
 
-error_back : subtype_back (codes "error") (codes "object") ≡ codes ",\"subtype\":\"error\",\"type\":\"object\"}"
+pub error_back : subtype_back (codes "error") (codes "object") ≡ codes ",\"subtype\":\"error\",\"type\":\"object\"}"
 error_back =
     ap (λ s. codes ",\"subtype\":" ++ (s ++ type_back (codes "object"))) error_subtype
     ∙ ap (λ b. codes ",\"subtype\":\"error\"" ++ b) object_back
 
-array_back : subtype_back (codes "array") (codes "object") ≡ codes ",\"subtype\":\"array\",\"type\":\"object\"}"
+pub array_back : subtype_back (codes "array") (codes "object") ≡ codes ",\"subtype\":\"array\",\"type\":\"object\"}"
 array_back =
     ap (λ s. codes ",\"subtype\":" ++ (s ++ type_back (codes "object"))) array_subtype
     ∙ ap (λ b. codes ",\"subtype\":\"array\"" ++ b) object_back

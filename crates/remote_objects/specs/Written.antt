@@ -1,8 +1,11 @@
 -- What is written of values, properties and frames, piece by piece.
-use Rattle.std.specs.Prelude.{ℕ, Bool, List, [], ◌∷◌, ◌++◌, map, length, codes, Option, Some, None}
+use Rattle.std.specs.Prelude.{ℕ, Bool, List, [], ◌∷◌, ◌++◌, map, length, codes, if◌then◌else◌, Option, Some, None}
 use Rattle.js_heap.specs.Values.{class_text, cell_text}
 use Rattle.js_heap.specs.declared.cell.Cell.{Cell}
 use Rattle.js_heap.specs.declared.cell.Cell.TheVariants as cells
+use Rattle.js_heap.specs.declared.value.Value.{Value}
+use Rattle.js_heap.specs.declared.value.Value.TheVariants as values
+use Rattle.js_heap.specs.World.{World, read_cell}
 use Rattle.cdp_text.specs.declared.position.Place.{Place}
 use Rattle.frames_scopes_types.specs.Frames.{ShownFrame}
 use Rattle.frames_scopes_types.specs.declared.kind.ListedKind.{ListedKind}
@@ -11,11 +14,16 @@ use Rattle.cdp_json.specs.Json.{Json, boolean}
 use Rattle.cdp_json.specs.Compact.{compact_text, string_text, with_commas}
 use Rattle.cdp_json.specs.Parts.{location}
 use Rattle.remote_objects.specs.Ids.{frame_id, object_id}
+use Rattle.remote_objects.specs.Previews.{PreviewList, cell_description, has_preview, listed, preview, shortened}
 use Rattle.remote_objects.specs.Sights.{Sight}
 use Rattle.remote_objects.specs.Values.{array_text, function_text}
 use Rattle.remote_objects.specs.Making.{Made}
 
 -- ---- objects
+
+-- a truth value
+abbrev pub truth_text : Bool → List ℕ
+truth_text b = compact_text (boolean b)
 
 -- the beginning of an object: its class, and what is shown of it
 unfoldable pub front_of : List ℕ → List ℕ → List ℕ
@@ -43,11 +51,42 @@ cell_back (Some (cells.Array vs)) = codes ",\"subtype\":\"array\",\"type\":\"obj
 cell_back (Some (cells.Function code name len scope receiver)) = codes ",\"type\":\"function\"}"
 cell_back cell = codes ",\"type\":\"object\"}"
 
--- ---- properties
+-- ---- previews
 
--- a truth value
-abbrev pub truth_text : Bool → List ℕ
-truth_text b = compact_text (boolean b)
+-- behind the name of an entry, the kind of an object with this cell: its subtype, where it has one, and its type; and
+-- the key of its value
+abbrev pub cell_kind : Option Cell → List ℕ
+cell_kind (Some (cells.Error class ps)) = codes ",\"subtype\":\"error\",\"type\":\"object\",\"value\":"
+cell_kind (Some (cells.Array vs)) = codes ",\"subtype\":\"array\",\"type\":\"object\",\"value\":"
+cell_kind (Some (cells.Function code name len scope receiver)) = codes ",\"type\":\"function\",\"value\":"
+cell_kind cell = codes ",\"type\":\"object\",\"value\":"
+
+-- the kind of a value
+abbrev pub value_kind : World → Value → List ℕ
+value_kind w values.Undefined = codes ",\"type\":\"undefined\",\"value\":"
+value_kind w values.Null = codes ",\"subtype\":\"null\",\"type\":\"object\",\"value\":"
+value_kind w (values.Bool b) = codes ",\"type\":\"boolean\",\"value\":"
+value_kind w (values.Number z) = codes ",\"type\":\"number\",\"value\":"
+value_kind w (values.Text a) = codes ",\"type\":\"string\",\"value\":"
+value_kind w (values.Object a) = cell_kind (read_cell w a)
+
+-- the first entries of a preview, and before them whether there are more
+abbrev pub listed_entries : PreviewList → List ℕ
+listed_entries l =
+    codes ",\"overflow\":" ++
+    (truth_text l.more ++ (codes ",\"properties\":[" ++ (with_commas (map compact_text l.first) ++ codes "]")))
+
+-- the preview of a cell behind other members, piece by piece
+abbrev pub preview_pieces : World → Option Cell → List ℕ
+preview_pieces w cell =
+    codes ",\"preview\":{\"description\":" ++
+    (string_text (shortened (cell_description w cell)) ++ (listed_entries (listed w cell) ++ cell_back cell))
+
+-- the preview of a cell behind other members, where it has one
+abbrev pub preview_text : World → Option Cell → List ℕ
+preview_text w cell = if has_preview cell then codes ",\"preview\":" ++ compact_text (preview w cell) else []
+
+-- ---- properties
 
 -- the beginning of a property: whether it is configurable and enumerable
 abbrev pub flags_front : Bool → Bool → List ℕ

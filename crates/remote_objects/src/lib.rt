@@ -21,6 +21,7 @@ mod functions;
 mod ids;
 pub mod laws;
 mod members;
+mod preview_text;
 mod previews;
 mod remote;
 mod remote_text;

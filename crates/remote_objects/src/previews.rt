@@ -25,13 +25,13 @@ use js_machine_actions::shown::shown;
 use std::alloc::{AllocError, Global};
 
 /// Up to this many units a text is shown whole.
-const MOST_UNITS: usize = 100;
+pub(crate) const MOST_UNITS: usize = 100;
 
 /// So many properties of an object are listed.
-const MOST_PROPERTIES: usize = 5;
+pub(crate) const MOST_PROPERTIES: usize = 5;
 
 /// So many elements of an array are listed.
-const MOST_ELEMENTS: usize = 100;
+pub(crate) const MOST_ELEMENTS: usize = 100;
 
 /// `…`
 const ELLIPSIS: u16 = 0x2026;
@@ -39,7 +39,7 @@ const ELLIPSIS: u16 = 0x2026;
 // ---- texts
 
 /// A text of more than 100 units is cut to 99 and an ellipsis.
-fn shortened(alloc: Global, units: &[u16]) -> Result<Units, AllocError>
+pub(crate) fn shortened(alloc: Global, units: &[u16]) -> Result<Units, AllocError>
     ensures { IfOk result (λ short. short ≡ previews.shortened units.now) }
 {
     if units.len() <= MOST_UNITS {
@@ -87,7 +87,7 @@ fn cell_subtype(cell: Option<&Stored>) -> &'static [u8]
 }
 
 /// Whether a cell has a preview: an object, an array or an error has one, a function has none.
-fn has_preview(cell: Option<&Stored>) -> bool
+pub(crate) fn has_preview(cell: Option<&Stored>) -> bool
     ensures { (names : List (List ℕ)) → result ≡ previews.has_preview (cell_at names (option_copied cell.entry)) }
 {
     match cell {

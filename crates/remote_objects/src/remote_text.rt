@@ -123,7 +123,7 @@ fn write_front_of(class: &[u16], shown: &[u16], pen: &mut Pen) -> Result<(), All
 }
 
 /// The end of an object with this cell: its subtype, where it has one, and its type.
-fn back_of(cell: Option<&Stored>) -> &'static str
+pub(crate) fn back_of(cell: Option<&Stored>) -> &'static str
     ensures { (names : List (List ℕ)) → result.now ≡ written.cell_back (cell_at names (option_copied cell.entry)) }
 {
     match cell {
@@ -196,8 +196,11 @@ impl<'w, W: World, S: FunctionSources> Describer<'w, W, S> {
         ensures text { OnOk result (Wrote pen.old (compact_text (remotes.previewed_object (sight_of S.node_text (W.world self.now.names.now self.now.world.now) self.now.scripts.now self.now.session) (option_copied group.entry) a handles.old).made) pen.new) }
         ensures handles { OnOk result (handles.new ≡ (remotes.previewed_object (sight_of S.node_text (W.world self.now.names.now self.now.world.now) self.now.scripts.now self.now.session) (option_copied group.entry) a handles.old).handles) }
     {
-        let described = self.previewed_object(a, handles, group)?;
-        pen.json(&described)
+        self.write_front(a, pen)?;
+        let number = handle_on(Target::Object(a), group, handles)?;
+        write_id(self.session, number, pen)?;
+        self.write_preview_of(a, pen)?;
+        pen.put(back_of(self.world.find(a)))
     }
 
     /// Writes an object with a handle, where one can be made, and with its preview, where that is asked for.
