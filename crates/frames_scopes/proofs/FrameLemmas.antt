@@ -107,16 +107,18 @@ walk-past scripts root t s d h =
     walk-none scripts root t s d (get-past (frames root t s) d (omega arith))
 
 -- the next one, at the place and as the code shows it
-pub walk-next : (scripts : List Script) (root : Addr) (t : Term) (s : State) (d : ℕ) (f : Frame) (h : Mark)
+pub walk-next : (scripts : List Script) (root : Addr) (t : Term) (s : State) (d after : ℕ) (f : Frame) (h : Mark)
     (shown : ShownFrame)
+    → after ≡ d + 1
     → frame_at d root t s ≡ Some f
     → h ≡ here_at (at (spans_in scripts (spot_of s).source) t) d f
     → shown ≡ shown_frame scripts s.world (record f { here = h })
-    → drop d (walk scripts root t s) ≡ shown ∷ drop (d + 1) (walk scripts root t s)
-walk-next scripts root t s d f h shown e k q =
+    → drop d (walk scripts root t s) ≡ shown ∷ drop after (walk scripts root t s)
+walk-next scripts root t s d after f h shown l e k q =
     walk-some scripts root t s d f e
     ∙ ap (λ m. shown_frame scripts s.world (record f { here = m }) ∷ drop (d + 1) (walk scripts root t s)) (sym k)
     ∙ ap (λ x. x ∷ drop (d + 1) (walk scripts root t s)) (sym q)
+    ∙ ap (λ n. shown ∷ drop n (walk scripts root t s)) (sym l)
 
 -- nothing is given where nothing is left
 pub none-left : (left : List ShownFrame) (r : Option FrameView)

@@ -7,6 +7,8 @@ use Rattle.js_machine_nodes.specs.Trees.{IsTable}
 use Rattle.js_machine_engine.specs.declared.task.Point.{Point}
 use Rattle.js_machine_engine.specs.Tasks.{Wide, InScopes}
 use Rattle.js_machine_engine.specs.Points.{IsAt}
+use Rattle.js_machine_inspection.specs.Walks.{IsWalked}
+use Rattle.js_machine_inspection.specs.declared.walks.Walked.{Walked}
 use Rattle.frames_scopes.specs.Places.{starts_of}
 
 -- the tasks of a machine stand in its code, which is in order; the lines are those of the scripts, none of which is
@@ -18,3 +20,9 @@ pub record CanWalk (t : NodeTable) (root : Addr) (ws : List Wide) (p : Point) (s
   pub scoped : InScopes t root ws
   pub lined : lines ≡ map starts_of scripts
   pub short : All (λ s. length s.source < 2 ^ 32) scripts
+
+-- a walk over them has come so far
+pub record IsWalkedOver (t : NodeTable) (root : Addr) (ws : List Wide) (p : Point) (scripts : List Script)
+    (lines : List (List ℕ)) (w : Walked) : Type 0 where
+  pub walks : CanWalk t root ws p scripts lines
+  pub walked : IsWalked root ws w

@@ -26,7 +26,7 @@ use js_heap_memory::heap::BaseHeap;
 use js_heap_memory::names::NameTable;
 use js_machine_actions::frame::Frame;
 use js_machine_inspection::arrivals::arrival;
-use js_machine_inspection::frames::active_frame;
+use js_machine_inspection::walks::{Walked, next_frame};
 use js_semantics::form::{Mark, Source};
 use std::marker::Model;
 
@@ -50,7 +50,7 @@ pub struct FrameView<'m> {
 #[derive(Drop)]
 pub struct Frames<'m> {
     standing: StandingMachine<'m>,
-    passed: usize,
+    walked: Walked,
 }
 
 impl<'m> Model for Frames<'m> {
@@ -60,13 +60,16 @@ impl<'m> Model for Frames<'m> {
     ghost use Rattle.js_machine_engine.specs.Points.{term_at};
     ghost use Rattle.frames_scopes_types.specs.Frames.{ShownFrame};
     ghost use Rattle.frames_scopes.specs.Frames.{walk};
-    ghost use Rattle.frames_scopes.specs.Standings.{CanWalk};
+    ghost use Rattle.frames_scopes.specs.Standings.{IsWalkedOver};
 
     ghost Value = { List ShownFrame };
 
-    ghost view = { λ f. let s = f.standing in drop f.passed (walk s.scripts.now s.root (term_at s.names.now s.table.now s.stack.now s.point) (state_of (heap_world s.names.now s.heap.now) s.context.now [])) };
+    ghost view = { λ f. let s = f.standing in drop f.walked.frames (walk s.scripts.now s.root
+        (term_at s.names.now s.table.now s.stack.now s.point)
+        (state_of (heap_world s.names.now s.heap.now) s.context.now [])) };
 
-    ghost invariant = { λ f. let s = f.standing in CanWalk s.table.now s.root s.stack.now s.point s.scripts.now s.lines.now };
+    ghost invariant = { λ f. let s = f.standing in IsWalkedOver s.table.now s.root s.stack.now s.point s.scripts.now
+        s.lines.now f.walked };
 }
 
 /// The function of a frame, if it has one.
@@ -150,7 +153,7 @@ impl<'m> StandingMachine<'m> {
     {
         Frames {
             standing: self,
-            passed: 0,
+            walked: Walked::start(),
         }
     }
 }
@@ -174,12 +177,12 @@ impl<'m> Iterator for Frames<'m> {
             point,
             ..
         } = self.standing;
-        if self.passed >= context.frame_count() {
+        if self.walked.frames >= context.frame_count() {
             return None;
         }
-        let frame = active_frame(table, root, context, stack, point, self.passed)?;
-        let here = here_of(&self.standing, self.passed, &frame);
-        self.passed += 1;
+        let frame = next_frame(table, root, context, stack, point, self.walked)?;
+        let here = here_of(&self.standing, self.walked.frames, &frame);
+        self.walked = self.walked.outward(stack);
         Some(view_of(&self.standing, &frame, here))
     }
 }

@@ -169,7 +169,7 @@ calls_from root [] (suc i) = refl
 calls_from root (w ∷ ws) zero = refl
 calls_from root (w ∷ ws) (suc i) = calls_from root ws i
 
-calls_at : (root : Addr) (ws : List Wide) (i : ℕ) (b : Bool)
+pub calls_at : (root : Addr) (ws : List Wide) (i : ℕ) (b : Bool)
     → b ≡ is_frame_at (slice_get ws i)
     → call_scopes root (drop i ws) ≡
     (if b then scope_of root (drop (i + 1) ws) ∷ call_scopes root (drop (i + 1) ws) else call_scopes root

@@ -4,3 +4,4 @@ pub mod ActiveLemmas
 pub mod CatchLemmas
 pub mod FrameLemmas
 pub mod ShownLemmas
+pub mod WalkLemmas

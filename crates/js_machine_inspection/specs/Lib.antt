@@ -3,3 +3,4 @@ pub mod Sources
 pub mod Catchers
 pub mod Scopes
 pub mod Shown
+pub mod Walks

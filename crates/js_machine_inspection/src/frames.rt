@@ -49,7 +49,7 @@ fn script_of(table: &NodeTable, next: Option<Reducing>) -> Option<u32>
 }
 
 /// A frame, where it is the bottom one at the script that is about to be reduced, with an innermost scope.
-fn shown(frame: &Frame, script: Option<u32>, scope: Option<Addr>) -> Frame
+pub(crate) fn shown(frame: &Frame, script: Option<u32>, scope: Option<Addr>) -> Frame
     ensures { result ≡ in_scope scope (at_script script frame.now) }
 {
     let (source, here) = match script {
@@ -65,7 +65,7 @@ fn shown(frame: &Frame, script: Option<u32>, scope: Option<Addr>) -> Frame
 
 /// The number of the script that a frame shows in place of its own source, if it is the bottom one where that script is about to
 /// be reduced.
-fn script_shown(
+pub(crate) fn script_shown(
     table: &NodeTable,
     context: &Context,
     stack: &Stack,

@@ -19,14 +19,14 @@ fn is_frame(op: Op) -> bool
 }
 
 /// Whether the task of this number is one.
-fn is_frame_at(stack: &Stack, i: usize) -> bool
+pub(crate) fn is_frame_at(stack: &Stack, i: usize) -> bool
     ensures { result ≡ is_frame_at (slice_get stack.now i) }
 {
     stack.task_at(i).is_some_and(|task| is_frame(task.op))
 }
 
 /// The scope in which the parts of the task of this number are; around all tasks is `root`.
-fn scope_at(stack: &Stack, root: Addr, i: usize) -> Addr
+pub(crate) fn scope_at(stack: &Stack, root: Addr, i: usize) -> Addr
     ensures { result ≡ scope_of root (drop i stack.now) }
 {
     match stack.task_at(i) {

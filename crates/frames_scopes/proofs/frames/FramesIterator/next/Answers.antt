@@ -14,8 +14,9 @@ returns-then-self-frame_count-clause-steps c =
     let i = c.self.inside.standing in
     let t : Term = term_at i.names.now i.table.now i.stack.now i.point in
     let s : State = state_of (heap_world i.names.now i.heap.now) i.context.now [] in
-    let l : length s.frames ≤ c.self.inside.passed = omega (arith, c.frame_count.ensures) in
-    let e : c.args.self.now ≡ [] = sym c.self.view_is ∙ walk-past i.scripts.now i.root t s c.self.inside.passed l in
+    let l : length s.frames ≤ c.self.inside.walked.frames = omega (arith, c.frame_count.ensures) in
+    let e : c.args.self.now ≡ [] = sym c.self.view_is
+    ∙ walk-past i.scripts.now i.root t s c.self.inside.walked.frames l in
     (e, e)
 
 pub returns-in_err-frame-clause-steps : goal.returns-in_err-frame-clause-steps
@@ -26,8 +27,8 @@ returns-in_err-frame-clause-steps c =
     let s : State = state_of w i.context.now [] in
     none-left c.args.self.now c.from_residual.result
     (sym c.self.view_is
-    ∙ walk-none i.scripts.now i.root t s c.self.inside.passed
-    (sym (c.active_frame.ensures i.names.now w []) ∙ c.in_err-frame.was))
+    ∙ walk-none i.scripts.now i.root t s c.self.inside.walked.frames
+    (sym (c.next_frame.ensures i.names.now w []) ∙ c.in_err-frame.was))
     c.from_residual.ensures
 
 pub returns-clause-steps : goal.returns-clause-steps
@@ -36,10 +37,12 @@ returns-clause-steps c =
     let w : World = heap_world i.names.now i.heap.now in
     let t : Term = term_at i.names.now i.table.now i.stack.now i.point in
     let s : State = state_of w i.context.now [] in
+    let o = c.outward-self-inside in
     sym c.self.view_is
-    ∙ walk-next i.scripts.now i.root t s c.self.inside.passed c.in_ok-frame.frame c.here_of-here.result
-    (frame_shown c.view_of.result) (sym (c.active_frame.ensures i.names.now w []) ∙ c.in_ok-frame.was)
-    (c.here_of-here.ensures i.names.now) c.view_of.ensures
+    ∙ walk-next i.scripts.now i.root t s c.self.inside.walked.frames o.result.frames c.in_ok-frame.frame
+    c.here_of-here.result (frame_shown c.view_of.result) o.ensures.frames
+    (sym (c.next_frame.ensures i.names.now w []) ∙ c.in_ok-frame.was) (c.here_of-here.ensures i.names.now)
+    c.view_of.ensures
 
 pub returns-clause-goes : goal.returns-clause-goes
 returns-clause-goes c =
@@ -47,9 +50,11 @@ returns-clause-goes c =
     let w : World = heap_world i.names.now i.heap.now in
     let t : Term = term_at i.names.now i.table.now i.stack.now i.point in
     let s : State = state_of w i.context.now [] in
+    let o = c.outward-self-inside in
     let e = sym c.self.view_is
-    ∙ walk-next i.scripts.now i.root t s c.self.inside.passed c.in_ok-frame.frame c.here_of-here.result
-    (frame_shown c.view_of.result) (sym (c.active_frame.ensures i.names.now w []) ∙ c.in_ok-frame.was)
-    (c.here_of-here.ensures i.names.now) c.view_of.ensures in
+    ∙ walk-next i.scripts.now i.root t s c.self.inside.walked.frames o.result.frames c.in_ok-frame.frame
+    c.here_of-here.result (frame_shown c.view_of.result) o.ensures.frames
+    (sym (c.next_frame.ensures i.names.now w []) ∙ c.in_ok-frame.was) (c.here_of-here.ensures i.names.now)
+    c.view_of.ensures in
     let l = one-less _ _ _ e in
     record { on = λ _. (tt, tt, l); keeps = tt; rests = λ _. tt }
