@@ -1,5 +1,5 @@
 -- How a machine stands that is lent: its cells, the throw that stands, and its frames.
-use Rattle.std.proofs.Common.{◌≡◌, ℕ, List, [], true, is_some, Option, Some, None, refl, ap, sym, subst, ◌∙◌}
+use Rattle.std.proofs.Common.{◌≡◌, ℕ, List, [], length, slice_get, true, is_some, Option, Some, None, refl, ap, sym, subst, ◌∙◌}
 use Rattle.std.specs.Prelude.{option_to_list}
 use Rattle.std.specs.Iterator.{YieldsFirstBy}
 use Rattle.std.specs.Option.{option_map}
@@ -28,6 +28,7 @@ use Rattle.frames_scopes_types.specs.Frames.{ShownFrame}
 use Rattle.frames_scopes.specs.declared.frames.FrameView.{FrameView}
 use Rattle.frames_scopes.specs.Frames.{walk}
 use Rattle.frames_scopes.specs.FrameViews.{frame_shown}
+use Rattle.frames_scopes.proofs.FrameLemmas.{walk-length}
 use Rattle.cdp_session.specs.Conditions.{top_of}
 use Rattle.cdp_host.specs.Programs.{is_over}
 use Rattle.cdp_host.specs.Standings.{frames_of, value_of, thrown_of, standing_of}
@@ -122,6 +123,23 @@ standing-going scripts m h e is =
     let s : State = state_of m (heap_world m.names h) [] in
     let k : run_by m.ended t s ≡ run_of t s = ap (λ o. run_by o t s) e in
     ap (frames_of scripts) k ∙ going_frames scripts t s (subst IsRunning k is)
+
+-- as many as calls are active, with the script
+pub standing-count : (scripts : List Script) (m : Machine) (h : Heap) (n : ℕ) (context : Context)
+    → n ≡ length context.frames
+    → context ≡ m.context
+    → m.ended ≡ None
+    → IsRunning (machine_run m h [])
+    → n ≡ length (machine_standing scripts m h).frames
+standing-count scripts m h n context count same e is =
+    count
+    ∙ ap (λ (c : Context). length c.frames) same
+    ∙ sym (walk-length scripts script_scope (term_of m) (state_of m (heap_world m.names h) []))
+    ∙ sym (ap length (standing-going scripts m h e is))
+
+-- where there are none, none is so far from the top one
+pub none-at : (frames : List ShownFrame) (depth : ℕ) → frames ≡ [] → None ≡ slice_get frames depth
+none-at frames depth e = sym (ap (λ fs. slice_get fs depth) e)
 
 -- what is evaluated in the first of some frames is evaluated in the top one
 pub top-first : (walked left : List ShownFrame) (first : Option FrameView)

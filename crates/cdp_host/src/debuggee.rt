@@ -1,6 +1,6 @@
 //! The program of a host, lent to its session where it stands still.
 
-ghost use Rattle.std.specs.Prelude.{◌≡◌, ◌∷◌, ℕ, List, [], map, IfOk, None, option_map, option_to_list};
+ghost use Rattle.std.specs.Prelude.{◌≡◌, ◌∷◌, ℕ, List, [], map, IfOk, None, option_map, option_to_list, slice_get};
 ghost use Rattle.js_heap.specs.BuiltIns.{script_scope};
 ghost use Rattle.js_machine_inspection.specs.Catchers.{standing_throw};
 ghost use Rattle.js_machine.specs.Machines.{IsKept, state_of, term_of};
@@ -129,6 +129,16 @@ impl<'m> Debuggee<'m> {
         self.walker().call_frames(alloc)
     }
 
+    /// The active frame that is so far from the top one, if there is one, of a machine whose run hasn't ended.
+    fn walked_at(&self, alloc: Global, depth: usize) -> Result<Option<CallFrame<'m>>, AllocError>
+        requires { self.now.machine.now.ended ≡ None }
+        ensures { IfOk result (λ frame. option_map frame_of frame ≡ slice_get (walk self.now.scripts.now
+            script_scope (term_of self.now.machine.now) (state_of self.now.machine.now
+            (heap_world self.now.machine.now.names self.now.heap.now) [])) depth) }
+    {
+        self.walker().call_frame(alloc, depth)
+    }
+
     /// In what is evaluated in the top frame of a machine whose run hasn't ended: no other frame is walked over.
     fn walked_top(&self) -> Top
         requires { self.now.machine.now.ended ≡ None }
@@ -157,6 +167,26 @@ impl Program for Debuggee<'_> {
             None => match self.machine.end() {
                 Some(_) => Ok(Vec::new(alloc)),
                 None => self.walked(alloc),
+            },
+        }
+    }
+
+    fn frame_count(&self) -> usize {
+        match self.machine.finished() {
+            Some(_) => 0,
+            None => match self.machine.end() {
+                Some(_) => 0,
+                None => self.machine.context().frame_count(),
+            },
+        }
+    }
+
+    fn call_frame(&self, alloc: Global, depth: usize) -> Result<Option<CallFrame<'_>>, AllocError> {
+        match self.machine.finished() {
+            Some(_) => Ok(None),
+            None => match self.machine.end() {
+                Some(_) => Ok(None),
+                None => self.walked_at(alloc, depth),
             },
         }
     }

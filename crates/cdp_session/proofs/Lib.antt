@@ -1,4 +1,5 @@
 pub mod EvaluationLemmas
+pub mod FrameIdLemmas
 pub mod OrderedLemmas
 pub mod OutboxLemmas
 pub mod PauseTextLemmas

@@ -1,6 +1,7 @@
 //! Evaluations without effects (Chrome DevTools Protocol 1.3, `Runtime.evaluate` and `Debugger.evaluateOnCallFrame`).
 
-ghost use Rattle.std.specs.Prelude.{◌≡◌, Err, IfOk, None, OnOk, bytes_eq, map, option_copied, option_map, if◌then◌else◌};
+ghost use Rattle.std.specs.Prelude.{◌≡◌, Err, IfOk, List, None, OnOk, length, map, option_and_then, option_copied, option_map, slice_get, if◌then◌else◌};
+ghost use Rattle.frames_scopes_types.specs.Frames.{ShownFrame};
 ghost use Rattle.js_heap.specs.BuiltIns.{script_scope};
 ghost use Rattle.js_parser_readers.specs.declared.fault.ParseFault.TheVariants as parse_faults;
 ghost use Rattle.cdp_session.specs.declared.done.Fault.TheVariants as faults;
@@ -11,7 +12,6 @@ ghost use Rattle.frames_scopes_types.specs.Views.{frame_of, scope_of};
 ghost use Rattle.js_heap.specs.ScratchSpaces.{copied_world};
 ghost use Rattle.pure_eval.specs.Workspaces.{opened as just_opened, EvaluatesTo};
 ghost use Rattle.remote_objects.specs.Views.{sight_of};
-ghost use Rattle.remote_objects.specs.Ids as ids;
 ghost use Rattle.js_parser.specs.Expressions.{expression_of};
 ghost use Rattle.js_parser.specs.NodeTexts.{node_text};
 ghost use Rattle.remote_objects.specs.ByValue.{remote_by_value};
@@ -44,7 +44,7 @@ use js_parser_readers::fault::ParseFault;
 use js_tree::script::{Expression, Script};
 use object_groups::Handles;
 use pure_eval::{Evaluated, OpenWorkspace, Workspace, is_memory};
-use remote_objects::frame_id;
+use remote_objects::read_frame_id;
 use std::alloc::{AllocError, Global};
 
 /// The refusal for a limit of a session's cells that an evaluation would pass.
@@ -127,36 +127,34 @@ fn innermost(scopes: &[Scope<'_>]) -> Addr
     }
 }
 
-/// Whether an id is that of the frame that is so far from the top one, at the stop of this number.
-fn is_frame(
-    alloc: Global,
-    session: u64,
-    stop: u64,
-    depth: usize,
-    id: &Units,
-) -> Result<bool, AllocError>
-    ensures { IfOk result (λ is. is ≡ bytes_eq (ids.frame_id session stop depth) id.now) }
+/// How far from the top one the frame is whose id this is, of so many frames of the stop of this number; none where none
+/// of them has it.
+fn depth_of(session: u64, stop: u64, id: &Units, count: usize) -> Option<usize>
+    ensures { (frames : List ShownFrame) → length frames ≡ count
+        → option_and_then (slice_get frames) result ≡ evaluations.frame_from session stop id.now 0 frames }
 {
-    let own = frame_id(alloc, session, stop, depth as u64)?;
-    Ok(own == *id)
+    let depth = read_frame_id(session, stop, id.as_slice())? as usize;
+    if depth >= count {
+        return None;
+    }
+    Some(depth)
 }
 
-/// The frame whose id this is, of the frames of the stop of this number from the top one outward.
-fn find_frame<'f, 'm>(
+/// The frame of a program whose id this is, at the stop of this number, if there is one. No other frame is made.
+fn find_frame<'p, P: Program>(
     alloc: Global,
     session: u64,
     stop: u64,
     id: &Units,
-    frames: &'f [CallFrame<'m>],
-) -> Result<Option<&'f CallFrame<'m>>, AllocError>
-    ensures { IfOk result (λ found. option_map (λ f. frame_of f.now) found ≡ evaluations.frame_from session stop id.now 0 (map frame_of frames.now)) }
+    program: &'p P,
+) -> Result<Option<CallFrame<'p>>, AllocError>
+    ensures { IfOk result (λ found. option_map frame_of found
+        ≡ evaluations.frame_from session stop id.now 0 (P.standing program.now).frames) }
 {
-    for (depth, frame) in frames.iter().enumerate() {
-        if is_frame(alloc, session, stop, depth, id)? {
-            return Ok(Some(frame));
-        }
+    match depth_of(session, stop, id, program.frame_count()) {
+        Some(depth) => program.call_frame(alloc, depth),
+        None => Ok(None),
     }
-    Ok(None)
 }
 
 impl Session {
@@ -185,8 +183,7 @@ impl Session {
         let Some(pause) = situation.paused else {
             return Err(Fault::Refused(Refusal::UnknownFrame));
         };
-        let frames = situation.program.call_frames(self.alloc)?;
-        match find_frame(self.alloc, self.number, pause.number, id, frames.as_slice())? {
+        match find_frame(self.alloc, self.number, pause.number, id, situation.program)? {
             Some(frame) => {
                 let scope = innermost(frame.scopes.as_slice());
                 self.evaluate_in(situation, scope, frame.this, asked)

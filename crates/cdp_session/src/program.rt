@@ -22,7 +22,7 @@ pub struct ProgramCells<'p> {
 
 /// What a session asks of a program that stands still. Contracts see how it stands.
 pub trait Program {
-    ghost use Rattle.std.specs.Prelude.{◌≡◌, map, IfOk};
+    ghost use Rattle.std.specs.Prelude.{◌≡◌, length, map, option_map, slice_get, IfOk};
     ghost use Rattle.frames_scopes_types.specs.Views.{frame_of};
     ghost use Rattle.cdp_session.specs.Conditions.{top_of};
     ghost use Rattle.cdp_session.specs.Situations.{Standing};
@@ -42,6 +42,18 @@ pub trait Program {
     /// There is no memory for them.
     fn call_frames(&self, alloc: Global) -> Result<Vec<CallFrame<'_>>, AllocError>
         ensures { IfOk result (λ frames. map frame_of frames.items ≡ (standing self.now).frames) };
+
+    /// How many frames are active. Takes no memory.
+    fn frame_count(&self) -> usize
+        ensures { result ≡ length (standing self.now).frames };
+
+    /// The active frame that is so far from the top one, if there is one: no other is made.
+    ///
+    /// # Errors
+    ///
+    /// There is no memory for it.
+    fn call_frame(&self, alloc: Global, depth: usize) -> Result<Option<CallFrame<'_>>, AllocError>
+        ensures { IfOk result (λ frame. option_map frame_of frame ≡ slice_get (standing self.now).frames depth) };
 
     /// In what its top frame is evaluated. Takes no memory.
     fn top(&self) -> Top

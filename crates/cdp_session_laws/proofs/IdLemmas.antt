@@ -1,5 +1,5 @@
 -- Ids of objects and of frames: which are found, and which are unknown.
-use Rattle.std.proofs.Common.{◌≡◌, ℕ, zero, suc, ◌+◌, ◌<◌, ◌^◌, true, false, List, [], ◌∷◌, ◌++◌, slice_get, bytes_eq, decimal, Option, Some, None, option_and_then, option_map, if◌then◌else◌, refl, sym, ap, ◌∙◌, arith}
+use Rattle.std.proofs.Common.{◌≡◌, ℕ, ◌+◌, ◌<◌, ◌^◌, false, List, [], ◌∷◌, ◌++◌, slice_get, bytes_eq, decimal, Option, Some, None, option_and_then, option_map, if◌then◌else◌, refl, sym, ap, ◌∙◌, arith}
 use Rattle.std.specs.Option.{option_map_or}
 use Rattle.std.proofs.lemmas.Bool.{false_from_ne_true}
 use Rattle.std.proofs.lemmas.Fmt.{decimal_injective}
@@ -18,6 +18,7 @@ use Rattle.js_heap.specs.declared.value.Value.{Value}
 use Rattle.js_semantics.specs.Evaluation.{given}
 use Rattle.remote_objects.specs.Ids.{point, object_id, frame_id}
 use Rattle.remote_objects.proofs.IdLemmas.{read-value}
+use Rattle.cdp_session.proofs.FrameIdLemmas.{same-rest, found-from}
 use Rattle.cdp_session.specs.Calls.{arguments_of, argument_of, calls_given, handle_object, object_of, receiver_of}
 use Rattle.cdp_session.specs.Evaluations.{Stops, evaluates_at, frame_from, frame_of}
 use Rattle.cdp_session.specs.Objects.{handle_of, numbered}
@@ -76,11 +77,6 @@ id-found x n small few =
 
 -- ---- frames
 
--- lists that begin alike and are the same go on alike
-pub same-rest : (front first second : List ℕ) → front ++ first ≡ front ++ second → first ≡ second
-same-rest [] first second is = is
-same-rest (u ∷ front) first second is = same-rest front first second cc
-
 -- what stands before and after the point of an id
 front_of : Option Halves → List ℕ
 front_of None = []
@@ -99,19 +95,6 @@ same-front m k first second m_small k_small is =
     ∙ ap front_of (halves-decimal k 46 second k_small (λ digit. omega arith)) in
     decimal_injective m k m_small k_small fronts
 
--- the ids of two frames of a stop are two texts
-same-depth : (session stop d n : ℕ)
-    → d < 2 ^ 64
-    → n < 2 ^ 64
-    → frame_id session stop d ≡ frame_id session stop n
-    → d ≡ n
-same-depth session stop d n d_small n_small is =
-    let rest = same-rest (decimal session) (point ++ (decimal stop ++ (point ++ decimal d)))
-    (point ++ (decimal stop ++ (point ++ decimal n))) is in
-    let after = same-rest point (decimal stop ++ (point ++ decimal d)) (decimal stop ++ (point ++ decimal n)) rest in
-    let last = same-rest (decimal stop) (point ++ decimal d) (point ++ decimal n) after in
-    decimal_injective d n d_small n_small (same-rest point (decimal d) (decimal n) last)
-
 -- the frames of two stops of a session have other ids
 same-stop : (session k stop d n : ℕ)
     → k < 2 ^ 64
@@ -123,30 +106,6 @@ same-stop session k stop d n k_small stop_small is =
     (point ++ (decimal stop ++ (point ++ decimal n))) is in
     let after = same-rest point (decimal k ++ (point ++ decimal d)) (decimal stop ++ (point ++ decimal n)) rest in
     same-front k stop (decimal d) (decimal n) k_small stop_small after
-
--- of frames outward from one that is so far from the top, the one that is `i` further is found by its id
-found-from : (session stop i d : ℕ) (fs : List ShownFrame)
-    → d + i < 2 ^ 64
-    → frame_from session stop (frame_id session stop (d + i)) d fs ≡ slice_get fs i
-found-from session stop i d [] small = refl
-found-from session stop zero d (f ∷ fs) small =
-    let same : d ≡ d + zero = omega arith in
-    let here : bytes_eq (frame_id session stop d) (frame_id session stop (d + zero)) ≡ true =
-    (bytes_eq-Decides (frame_id session stop d) (frame_id session stop (d + zero))).1
-    (ap (frame_id session stop) same) in
-    ap (λ b. if b then Some f else frame_from session stop (frame_id session stop (d + zero)) (d + 1) fs) here
-found-from session stop (suc i) d (f ∷ fs) small =
-    let other : bytes_eq (frame_id session stop d) (frame_id session stop (d + suc i)) ≡ false =
-    false_from_ne_true (bytes_eq (frame_id session stop d) (frame_id session stop (d + suc i)))
-    (λ same. absurd (omega (
-      arith,
-      same-depth session stop d (d + suc i) (omega (arith, small)) small
-          ((bytes_eq-Decides (frame_id session stop d) (frame_id session stop (d + suc i))).0 same),
-    ))) in
-    let on : d + suc i ≡ d + 1 + i = omega arith in
-    ap (λ b. if b then Some f else frame_from session stop (frame_id session stop (d + suc i)) (d + 1) fs) other
-    ∙ ap (λ n. frame_from session stop (frame_id session stop n) (d + 1) fs) on
-    ∙ found-from session stop i (d + 1) fs (omega (arith, small))
 
 -- the id that the n-th frame of the present stop has is read back as that frame
 pub frame-found : (s : Situation) (x : Session) (p : Pause) (n : ℕ)

@@ -120,6 +120,32 @@ walk-next scripts root t s d after f h shown l e k q =
     ∙ ap (λ x. x ∷ drop (d + 1) (walk scripts root t s)) (sym q)
     ∙ ap (λ n. shown ∷ drop n (walk scripts root t s)) (sym l)
 
+-- ---- one frame of the walk
+
+get-behind : {A : Type 0} (xs : List A) (d : ℕ) (left : List A) → drop d xs ≡ left → slice_get xs d ≡ slice_get left 0
+get-behind [] zero left e = ap (λ ys. slice_get ys 0) e
+get-behind [] (suc d) left e = ap (λ ys. slice_get ys 0) e
+get-behind (x ∷ xs) zero left e = ap (λ ys. slice_get ys 0) e
+get-behind (x ∷ xs) (suc d) left e = get-behind xs d left e
+
+-- the frame at a depth, as the code shows it
+pub walk-at : (scripts : List Script) (root : Addr) (t : Term) (s : State) (d : ℕ) (f : Frame) (h : Mark)
+    (shown : ShownFrame)
+    → frame_at d root t s ≡ Some f
+    → h ≡ here_at (at (spans_in scripts (spot_of s).source) t) d f
+    → shown ≡ shown_frame scripts s.world (record f { here = h })
+    → Some shown ≡ slice_get (walk scripts root t s) d
+walk-at scripts root t s d f h shown e k q =
+    sym (get-behind (walk scripts root t s) d _ (walk-next scripts root t s d (d + 1) f h shown refl e k q))
+
+-- and where there is none
+pub walk-gone : (scripts : List Script) (root : Addr) (t : Term) (s : State) (d : ℕ)
+    → frame_at d root t s ≡ None
+    → None ≡ slice_get (walk scripts root t s) d
+walk-gone scripts root t s d e = sym (get-behind (walk scripts root t s) d [] (walk-none scripts root t s d e))
+
+-- ---- what is given
+
 -- nothing is given where nothing is left
 pub none-left : (left : List ShownFrame) (r : Option FrameView)
     → left ≡ []

@@ -1,6 +1,6 @@
 //! The active frames.
 
-ghost use Rattle.std.specs.Prelude.{◌≡◌, ◌^◌, ◌<◌, ℕ, List, length, map, All};
+ghost use Rattle.std.specs.Prelude.{◌≡◌, ◌^◌, ◌<◌, ℕ, List, length, map, option_map, slice_get, All};
 ghost use Rattle.js_heap_memory.specs.Heaps.{heap_world};
 ghost use Rattle.js_machine_actions.specs.Contexts.{state_of};
 ghost use Rattle.js_semantics.specs.Frames.{at};
@@ -26,6 +26,7 @@ use js_heap_memory::heap::BaseHeap;
 use js_heap_memory::names::NameTable;
 use js_machine_actions::frame::Frame;
 use js_machine_inspection::arrivals::arrival;
+use js_machine_inspection::frames::active_frame;
 use js_machine_inspection::walks::{Walked, next_frame};
 use js_semantics::form::{Mark, Source};
 use std::marker::Model;
@@ -155,6 +156,27 @@ impl<'m> StandingMachine<'m> {
             standing: self,
             walked: Walked::start(),
         }
+    }
+
+    /// The active frame that is so many calls out from the top one, if there is one: no other is made.
+    pub fn frame(self, depth: usize) -> Option<FrameView<'m>>
+        requires { CanWalk self.table.now self.root self.stack.now self.point self.scripts.now self.lines.now }
+        ensures { (taken : List (List ℕ)) → option_map frame_shown result ≡ slice_get (walk
+            self.entry.scripts.now self.entry.root
+            (term_at self.entry.names.now self.entry.table.now self.entry.stack.now self.entry.point)
+            (state_of (heap_world self.entry.names.now self.entry.heap.now) self.entry.context.now taken)) depth }
+    {
+        let StandingMachine {
+            table,
+            root,
+            context,
+            stack,
+            point,
+            ..
+        } = self;
+        let frame = active_frame(table, root, context, stack, point, depth)?;
+        let here = here_of(&self, depth, &frame);
+        Some(view_of(&self, &frame, here))
     }
 }
 

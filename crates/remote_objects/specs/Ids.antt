@@ -28,3 +28,8 @@ number_in_id session text = option_and_then (number_behind session) (halves 46 t
 pub record IsObjectId (session : ℕ) (text : List ℕ) (number : ℕ) : Type 0 where
   pub written : text ≡ object_id session number
   pub small : number < 2 ^ 64
+
+-- a text is the id of the frame that is so far from the top one, at a stop of a session
+pub record IsFrameId (session stop : ℕ) (text : List ℕ) (depth : ℕ) : Type 0 where
+  pub written : text ≡ frame_id session stop depth
+  pub small : depth < 2 ^ 64

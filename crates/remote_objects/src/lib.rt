@@ -34,4 +34,4 @@ pub use describer::Describer;
 pub use detail::Detail;
 pub use frames::{backtrace, url_of};
 pub use function_sources::FunctionSources;
-pub use ids::{frame_id, read_object_id};
+pub use ids::{read_frame_id, read_object_id};
