@@ -12,7 +12,7 @@ ghost use Rattle.cdp_client.specs.Talks.{command_text, params_text};
 
 use crate::arrival::ArrivedText;
 use crate::line::Command;
-use cdp_journal::escape;
+use cdp_journal::push_escaped;
 use std::alloc::{AllocError, Global};
 
 /// Puts a text in quotes and with its escapes after others.
@@ -64,11 +64,11 @@ fn front_of(alloc: Global, arrival: &ArrivedText<'_, '_>) -> Result<String, Allo
 }
 
 /// Puts a text after others, with `%25`, `%0A` and `%0D` for `%`, LF and CR, and ends the line.
-fn put_rest(alloc: Global, line: &mut String, text: &str) -> Result<(), AllocError>
+fn put_rest(line: &mut String, text: &str) -> Result<(), AllocError>
     ensures { OnOk result (string_bytes line.new ≡ string_bytes line.old ++ ended (escaped text.now ∷ [])) }
 {
-    let written = escape(alloc, text)?;
-    write!(line, "{written}\n")
+    push_escaped(line, text)?;
+    line.push('\n')
 }
 
 /// The line that is written of a text that arrives, with its LF.
@@ -80,6 +80,6 @@ pub(crate) fn line_written(
     ensures { IfOk result (λ line. string_bytes line ≡ ended (line_written (arrival_held arrival.now) text.now ∷ [])) }
 {
     let mut line = front_of(alloc, arrival)?;
-    put_rest(alloc, &mut line, text)?;
+    put_rest(&mut line, text)?;
     Ok(line)
 }

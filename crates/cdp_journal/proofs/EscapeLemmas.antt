@@ -1,10 +1,12 @@
--- Texts of one line, character by character.
-use Rattle.std.proofs.Common.{◌≡◌, ◌≢◌, ℕ, suc, ◌<◌, ◌∷◌, List, [], ◌++◌, length, get_or, refl, ap, sym, ◌∙◌, append_assoc, append-nil, arith}
-use Rattle.std.specs.Prelude.{Bool, true, false, not, codes, ◌==◌, ◌&&◌, if◌then◌else◌, encode_utf8, encode_utf8_all, flat_map}
-use Rattle.std.specs.List.{list_all}
-use Rattle.std.proofs.lemmas.Bool.{and_parts, false≢true, ne_eqb}
-use Rattle.std.proofs.lemmas.Str.{inside_one}
-use Rattle.cdp_journal.specs.Escapes.{byte_escaped, escaped, is_plain}
+-- Texts of one line: characters, and the bytes that don't stand for themselves.
+use Rattle.std.proofs.Common.{◌≡◌, ◌≢◌, ℕ, suc, ◌+◌, ◌<◌, ◌≤◌, ◌∷◌, List, [], ◌++◌, length, get_or, take, drop, refl, ap, sym, subst, ◌∙◌, append_assoc, append-nil, arith, get_or-take, length-take, take-append-drop}
+use Rattle.std.specs.Prelude.{Bool, true, false, ◌==◌, ◌||◌, encode_utf8}
+use Rattle.std.specs.Str.{IsCharBoundary, IsUtf8}
+use Rattle.std.proofs.lemmas.Bool.{eqb-true, false≢true, ne_eqb}
+use Rattle.std.proofs.lemmas.List.{drop_more}
+use Rattle.std.proofs.lemmas.Str.{IsCharBoundary-after_ascii, inside_one}
+use Rattle.memchr.specs.Find.{NoneBefore, Nowhere, Passes, is_byte3}
+use Rattle.cdp_journal.specs.Escapes.{byte_escaped, escaped}
 
 pub escaped-append : (xs ys : List ℕ) → escaped (xs ++ ys) ≡ escaped xs ++ escaped ys
 escaped-append [] ys = refl
@@ -43,28 +45,72 @@ char-plain c percent feed return =
       byte-of c 13 k return (omega arith) within,
     ))
 
--- the characters one by one
-abbrev pub char_escaped : ℕ → List ℕ
-char_escaped c = escaped (encode_utf8 c)
+-- ---- a text around the first byte that doesn't stand for itself
 
-pub escaped-all : (cs : List ℕ) → flat_map char_escaped cs ≡ escaped (encode_utf8_all cs)
-escaped-all [] = refl
-escaped-all (c ∷ cs) =
-    ap (λ rest. escaped (encode_utf8 c) ++ rest) (escaped-all cs)
-    ∙ sym (escaped-append (encode_utf8 c) (encode_utf8_all cs))
+small_byte : (percent feed return : Bool) (byte : ℕ) → (byte == 37) ≡ percent → (byte == 10) ≡ feed
+    → (byte == 13) ≡ return → (percent || feed || return) ≡ true → byte < 128
+small_byte true feed return byte p f r h = let is : byte ≡ 37 = eqb-true byte 37 p in omega (arith, is)
+small_byte false true return byte p f r h = let is : byte ≡ 10 = eqb-true byte 10 f in omega (arith, is)
+small_byte false false true byte p f r h = let is : byte ≡ 13 = eqb-true byte 13 r in omega (arith, is)
+small_byte false false false byte p f r h = absurd (false≢true h)
 
--- ---- a text that is written as it is
+-- a text may be cut behind such a byte
+pub after-marked : (bytes text : List ℕ) (k : ℕ) → bytes ≡ text → IsUtf8 text
+    → NoneBefore (Passes (is_byte3 37 10 13) bytes) 0 (length bytes) k → Passes (is_byte3 37 10 13) bytes k
+    → IsCharBoundary text (k + 1)
+after-marked bytes text k is utf8 first found =
+    let within : k < length text = subst (λ t. k < length t) is first.high in
+    let test : is_byte3 37 10 13 (get_or text k 0) ≡ true =
+    subst (λ t. is_byte3 37 10 13 (get_or t k 0) ≡ true) is found in
+    let byte = get_or text k 0 in
+    IsCharBoundary-after_ascii text k utf8 within
+    (small_byte (byte == 37) (byte == 10) (byte == 13) byte refl refl refl test)
 
-plain_byte : (percent feed return : Bool) (byte : ℕ) → (not percent && not feed && not return) ≡ true
-    → (if percent then codes "%25" else if feed then codes "%0A" else if return then codes "%0D" else byte ∷ [])
-    ≡ byte ∷ []
-plain_byte false false false byte h = refl
-plain_byte false false true byte h = absurd (false≢true h)
-plain_byte false true return byte h = absurd (false≢true h)
-plain_byte true feed return byte h = absurd (false≢true h)
+unmarked : (byte : ℕ) → ¬ (is_byte3 37 10 13 byte ≡ true) → IsPlain byte
+unmarked byte none = (λ is. none (rw is refl), λ is. none (rw is refl), λ is. none (rw is refl))
 
-pub plain-escaped : (bytes : List ℕ) → list_all is_plain bytes ≡ true → escaped bytes ≡ bytes
-plain-escaped [] h = refl
-plain-escaped (byte ∷ bytes) h =
-    let both = and_parts (is_plain byte) (list_all is_plain bytes) h in
-    rw (plain_byte (byte == 37) (byte == 10) (byte == 13) byte both.0, plain-escaped bytes both.1) refl
+plain-escaped : (text : List ℕ)
+    → ((k : ℕ) → k < length text → ¬ (is_byte3 37 10 13 (get_or text k 0) ≡ true)) → escaped text ≡ text
+plain-escaped text none = escaped-plain text (λ k within. unmarked (get_or text k 0) (none k within))
+
+first-escaped : (text : List ℕ) (k : ℕ) → k < length text
+    → ((j : ℕ) → j < k → ¬ (is_byte3 37 10 13 (get_or text j 0) ≡ true))
+    → escaped text ≡ take k text ++ byte_escaped (get_or text k 0) ++ escaped (drop (k + 1) text)
+first-escaped text k within none =
+    let size : length (take k text) ≤ k = omega (arith, length-take k text) in
+    let front = plain-escaped (take k text)
+    (λ j inside.
+    let before : j < k = omega (arith, inside, size) in
+    subst (λ byte. ¬ (is_byte3 37 10 13 byte ≡ true)) (sym (get_or-take k text j 0 before)) (none j before)) in
+    ap escaped (sym (take-append-drop k text))
+    ∙ escaped-append (take k text) (drop k text)
+    ∙ ap (λ plain. plain ++ escaped (drop k text)) front
+    ∙ ap (λ rest. take k text ++ escaped rest) (drop_more text k 0 within)
+    ∙ sym (append_assoc (take k text) (byte_escaped (get_or text k 0)) (escaped (drop (k + 1) text)))
+
+pub first-parts : (bytes text : List ℕ) (k : ℕ) → bytes ≡ text
+    → NoneBefore (Passes (is_byte3 37 10 13) bytes) 0 (length bytes) k → (plain form after : List ℕ)
+    → plain ≡ take k text → form ≡ byte_escaped (get_or bytes k 0) → after ≡ drop (k + 1) text
+    → escaped text ≡ plain ++ form ++ escaped after
+first-parts bytes text k is first plain form after front made rest =
+    let within : k < length text = subst (λ t. k < length t) is first.high in
+    first-escaped text k within
+    (λ j before.
+    subst (λ t. ¬ (is_byte3 37 10 13 (get_or t j 0) ≡ true)) is (first.before j (omega arith) before))
+    ∙ rw (front, made, is, rest) refl
+
+pub unmarked-text : (bytes text : List ℕ) → bytes ≡ text
+    → Nowhere (Passes (is_byte3 37 10 13) bytes) 0 (length bytes) → escaped text ≡ text
+unmarked-text bytes text is none =
+    plain-escaped text
+    (λ k within.
+    subst (λ t. ¬ (is_byte3 37 10 13 (get_or t k 0) ≡ true)) is
+    (none k (omega arith) (subst (λ t. k < length t) (sym is) within)))
+
+-- a text behind a line, and what is behind the first byte of it that doesn't stand for itself
+pub push-escaped : (line plain form after whole : List ℕ) → whole ≡ plain ++ form ++ after
+    → (line ++ plain ++ form) ++ after ≡ line ++ whole
+push-escaped line plain form after whole is =
+    append_assoc (line ++ plain) form after
+    ∙ append_assoc line plain (form ++ after)
+    ∙ ap (λ text. line ++ text) (sym (append_assoc plain form after) ∙ sym is)

@@ -70,10 +70,10 @@ fn opening(alloc: Global) -> Result<String, AllocError>
 {
     let mut journal = String::from_str(alloc, "attach\nattach\n")?;
     let enable = command(alloc, 1, "Debugger.enable")?;
-    push_tell(alloc, &mut journal, 1, &enable)?;
-    push_tell(alloc, &mut journal, 1, BREAKPOINT)?;
+    push_tell(&mut journal, 1, &enable)?;
+    push_tell(&mut journal, 1, BREAKPOINT)?;
     let enable = command(alloc, 1, "Runtime.enable")?;
-    push_tell(alloc, &mut journal, 2, &enable)?;
+    push_tell(&mut journal, 2, &enable)?;
     Ok(journal)
 }
 
@@ -85,7 +85,7 @@ fn push_turn(alloc: Global, journal: &mut String, moment: u64) -> Result<(), All
 {
     write!(journal, "run {MOST_STEPS} {moment}\n")?;
     let resume = command(alloc, moment + 2, "Debugger.resume")?;
-    push_tell(alloc, journal, 1, &resume)
+    push_tell(journal, 1, &resume)
 }
 
 /// A command without parameters.

@@ -1,49 +1,56 @@
 //! Texts of one line.
 
-ghost use Rattle.std.specs.Prelude.{◌≡◌, ◌∷◌, ◌++◌, ℕ, Some, None, OnOk, IfOk, IfSome, IfNone, string_bytes, encode_utf8};
-ghost use Rattle.std.specs.List.{list_all, list_any};
+ghost use Rattle.std.specs.Prelude.{◌≡◌, ◌<◌, ◌∷◌, ◌++◌, ℕ, Some, None, OnOk, IfOk, IfSome, IfNone, false, length, string_bytes};
+ghost use Rattle.std.specs.List.{list_any};
 ghost use Rattle.std.specs.Option.{option_map};
-ghost use Rattle.cdp_journal.specs.Escapes.{escaped, is_line_end, is_plain, stands_for, unescaped, unescaped_form};
+ghost use Rattle.cdp_journal.specs.Escapes.{byte_escaped, escaped, is_line_end, is_plain, stands_for, unescaped, unescaped_form};
 
 use cdp_text::parts::{behind, halves};
+use memchr::memchr3;
 use std::alloc::{AllocError, Global};
 
-/// Puts a character behind a text: `%`, LF and CR as `%25`, `%0A` and `%0D`.
-fn push_escaped(text: &mut String, character: char) -> Result<(), AllocError>
-    ensures { OnOk result (string_bytes text.new ≡ string_bytes text.old ++ escaped (encode_utf8 character)) }
+/// What is written for a byte that doesn't stand for itself: `%25`, `%0A` and `%0D` for `%`, LF and CR.
+fn form_of(byte: u8) -> &'static str
+    requires { is_plain byte ≡ false }
+    ensures { result.now ≡ byte_escaped byte }
 {
-    if character == '%' {
-        text.push_str("%25")
-    } else if character == '\n' {
-        text.push_str("%0A")
-    } else if character == '\r' {
-        text.push_str("%0D")
+    if byte == b'%' {
+        "%25"
+    } else if byte == b'\n' {
+        "%0A"
     } else {
-        text.push(character)
+        "%0D"
     }
 }
 
-/// Whether a text is written as it is.
-fn is_plain(text: &str) -> bool
-    ensures { result ≡ list_all is_plain text.now }
+/// What stands before the first byte of a text that doesn't stand for itself, what is written for that, and what stands
+/// behind it; None where the text is written as it is.
+fn first_form(text: &str) -> Option<(&str, &'static str, &str)>
+    ensures parts { IfSome result (λ parts. escaped text.now ≡ parts.0.now ++ parts.1.now ++ escaped parts.2.now) }
+    ensures shorter { IfSome result (λ parts. length parts.2.now < length text.now) }
+    ensures none { IfNone result (escaped text.now ≡ text.now) }
 {
-    text.as_bytes()
-        .iter()
-        .all(|byte| *byte != b'%' && *byte != b'\n' && *byte != b'\r')
+    let bytes = text.as_bytes();
+    match memchr3(b'%', b'\n', b'\r', bytes) {
+        Some(place) => {
+            let form = form_of(bytes[place]);
+            Some((&text[..place], form, &text[place + 1..]))
+        }
+        None => None,
+    }
 }
 
-/// The text with `%`, LF and CR as `%25`, `%0A` and `%0D`.
-pub fn escape(alloc: Global, text: &str) -> Result<String, AllocError>
-    ensures { IfOk result (λ line. string_bytes line ≡ escaped text.now) }
+/// Puts a text behind another as it is written in one line: with `%25`, `%0A` and `%0D` for `%`, LF and CR.
+pub fn push_escaped(line: &mut String, text: &str) -> Result<(), AllocError>
+    ensures { OnOk result (string_bytes line.new ≡ string_bytes line.old ++ escaped text.now) }
 {
-    if is_plain(text) {
-        return String::from_str(alloc, text);
+    let mut rest = text;
+    while let Some((plain, form, after)) = first_form(rest) {
+        line.push_str(plain)?;
+        line.push_str(form)?;
+        rest = after;
     }
-    let mut line = String::new(alloc);
-    for character in text.chars() {
-        push_escaped(&mut line, character)?;
-    }
-    Ok(line)
+    line.push_str(rest)
 }
 
 /// Whether a text holds LF or CR.

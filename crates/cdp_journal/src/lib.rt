@@ -19,7 +19,7 @@ mod summaries;
 mod writing;
 
 pub use drill::{drill_journal, drill_source};
-pub use escapes::{escape, unescape};
+pub use escapes::{push_escaped, unescape};
 pub use line::{Line, is_memory, read_line, tells_run, tells_text};
 pub use summaries::summary;
 pub use writing::{

@@ -4,7 +4,7 @@ ghost use Rattle.std.specs.Prelude.{◌≡◌, ◌∷◌, ◌++◌, [], length, 
 ghost use Rattle.cdp_text.specs.Lines.{ended};
 ghost use Rattle.cdp_journal.specs.Lines.{Attach, Tell, Take, Detach, Run, Shut, line_text, memory_text};
 
-use crate::escapes::escape;
+use crate::escapes::push_escaped;
 use std::alloc::{AllocError, Global};
 
 /// The line that attaches a session.
@@ -15,17 +15,13 @@ pub fn attach_line() -> &'static str
 }
 
 /// Puts the line that tells this session a text behind others.
-pub(crate) fn push_tell(
-    alloc: Global,
-    lines: &mut String,
-    session: u64,
-    text: &str,
-) -> Result<(), AllocError>
+pub(crate) fn push_tell(lines: &mut String, session: u64, text: &str) -> Result<(), AllocError>
     ensures { OnOk result
         (string_bytes lines.new ≡ string_bytes lines.old ++ ended (line_text (Tell session text.now) ∷ [])) }
 {
-    let written = escape(alloc, text)?;
-    write!(lines, "tell {session} {written}\n")
+    write!(lines, "tell {session} ")?;
+    push_escaped(lines, text)?;
+    lines.push('\n')
 }
 
 /// The line that tells this session a text, of any length.
@@ -33,7 +29,7 @@ pub fn tell_line(alloc: Global, session: u64, text: &str) -> Result<String, Allo
     ensures { IfOk result (λ line. string_bytes line ≡ ended (line_text (Tell session text.now) ∷ [])) }
 {
     let mut line = String::new(alloc);
-    push_tell(alloc, &mut line, session, text)?;
+    push_tell(&mut line, session, text)?;
     Ok(line)
 }
 

@@ -6,7 +6,7 @@ ghost use Rattle.debug_host_commands.specs.Output.{Attached, To, Out, Overran, R
 
 use cdp_host::{SessionLost, State};
 use cdp_host_isolation::Loss;
-use cdp_journal::escape;
+use cdp_journal::push_escaped;
 use cdp_text::units::{Units, text_of};
 use std::alloc::{AllocError, Global};
 
@@ -17,12 +17,18 @@ pub(crate) fn attached_line(alloc: Global, session: u64) -> Result<String, Alloc
     Ok(format!(in alloc; "attached {session}\n")?)
 }
 
+/// How many bytes a line of output has at most besides its text: `to `, a number, a blank and LF.
+const LINE_FRAME: usize = 25;
+
 /// The line of a text that a session is sent.
 fn sent_line(alloc: Global, session: u64, text: &str) -> Result<String, AllocError>
     ensures { IfOk result (λ line. string_bytes line ≡ output_text (To session text.now)) }
 {
-    let written = escape(alloc, text)?;
-    Ok(format!(in alloc; "to {session} {written}\n")?)
+    let mut line = String::with_capacity(alloc, text.len() + LINE_FRAME)?;
+    write!(line, "to {session} ")?;
+    push_escaped(&mut line, text)?;
+    line.push('\n')?;
+    Ok(line)
 }
 
 /// The line of a text that the program printed.
@@ -30,8 +36,11 @@ fn printed_line(alloc: Global, units: &[u16]) -> Result<String, AllocError>
     ensures { IfOk result (λ line. string_bytes line ≡ output_text (Out units.now)) }
 {
     let text = text_of(alloc, units)?;
-    let written = escape(alloc, &text)?;
-    Ok(format!(in alloc; "out {written}\n")?)
+    let mut line = String::with_capacity(alloc, text.len() + LINE_FRAME)?;
+    line.push_str("out ")?;
+    push_escaped(&mut line, &text)?;
+    line.push('\n')?;
+    Ok(line)
 }
 
 /// The line of a session that was lost.

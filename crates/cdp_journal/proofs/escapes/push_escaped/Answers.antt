@@ -1,9 +1,13 @@
-use Rattle.std.proofs.Common.{rules}
-use Rattle.cdp_journal.proofs.EscapeLemmas.{char-plain}
+use Rattle.std.proofs.Common.{rules, string_bytes, ◌∙◌}
+use Rattle.cdp_journal.specs.Escapes.{escaped}
+use Rattle.cdp_journal.proofs.EscapeLemmas.{push-escaped}
 use Rattle.cdp_journal.proofs.escapes.push_escaped.Goals as goal
 
-pub returns-else-character-eq13 : goal.returns-else-character-eq13
-returns-else-character-eq13 c =
-    let plain = char-plain c.args.character c.if-character-eq37.false c.if-character-eq10.false
-    c.if-character-eq13.false in
-    search (rules, plain)
+pub loop-plain-preserved : goal.loop-plain-preserved
+loop-plain-preserved c = record {
+  utf8 = search rules;
+  to = rw (c.in_ok-push_str-2.ensures.bytes, c.in_ok-push_str.ensures.bytes)
+      (push-escaped (string_bytes c.loop-plain.line) c.in-Some.plain.now c.in-Some.form.now
+      (escaped c.in-Some.after.now) (escaped c.loop-plain.rest.now) c.in-Some.ensures.parts
+      ∙ c.loop-plain.invariant.to);
+}
