@@ -27,7 +27,7 @@ use Rattle.cdp_host_seats.specs.declared.losses.SessionLost.{SessionLost}
 use Rattle.cdp_host_seats.proofs.PlacedLemmas.{given-back, put-back}
 use Rattle.cdp_host.specs.Hosts.{CarriesOn, HostState, IsSound, Leaves, NoneAttached, meaning_with}
 use Rattle.cdp_host.specs.Indexing.{IsIndexOf, IsIndexedAs}
-use Rattle.cdp_host.specs.Programs.{code_of}
+use Rattle.cdp_session.specs.Code.{code_of}
 use Rattle.cdp_host.specs.Protocols.{protocol}
 use Rattle.cdp_host.specs.Watching.{AnswersAs, AnswersIn}
 use Rattle.cdp_host.proofs.HistoryLemmas.{stands-call}

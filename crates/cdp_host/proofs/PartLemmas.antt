@@ -39,7 +39,8 @@ use Rattle.cdp_session.specs.Situations.{Standing}
 use Rattle.cdp_session.proofs.StopLemmas.{never-causes}
 use Rattle.cdp_host.specs.Arrivals.{arrival_at, at_the_end, is_uncaught, place_at}
 use Rattle.cdp_host.specs.Standings.{standing_of}
-use Rattle.cdp_host.specs.Programs.{arrival_of, code_of, next, nexts, is_over, has_thrown, printed_of, prints_next, uncaught_text}
+use Rattle.cdp_session.specs.Code.{code_of}
+use Rattle.cdp_host.specs.Programs.{arrival_of, next, nexts, is_over, has_thrown, printed_of, prints_next, uncaught_text}
 use Rattle.cdp_host.specs.Hosts.{Parts, machine_run, machine_arrival, run_with}
 use Rattle.cdp_host.specs.Ran.{Advances, may_stop, may_stop_seat, stops_at, stops_seat}
 use Rattle.cdp_host.specs.Watching.{prints_last}

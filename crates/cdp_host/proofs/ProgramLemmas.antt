@@ -7,7 +7,8 @@ use Rattle.js_semantics.specs.Run.{Run, running, over}
 use Rattle.js_semantics.specs.Sources.{terms_of_scripts}
 use Rattle.js_semantics.specs.Laws.{IsPrefix}
 use Rattle.js_semantics.proofs.FollowLemmas.{steps-suc, step-follows, run_of-state, prefix-trans, prefix-same}
-use Rattle.cdp_host.specs.Programs.{code_of, start, next, plain, is_over, printed_of}
+use Rattle.cdp_session.specs.Code.{code_of}
+use Rattle.cdp_host.specs.Programs.{start, next, plain, is_over, printed_of}
 
 -- ---- the plain run
 

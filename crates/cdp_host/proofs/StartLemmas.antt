@@ -13,7 +13,8 @@ use Rattle.js_machine.specs.Machines.{IsKept}
 use Rattle.js_machine.specs.Starts.{IsStarted}
 use Rattle.cdp_host_seats.specs.Fallbacks.{HasRoom, fallback_held, fallback_of}
 use Rattle.cdp_host_seats.specs.declared.fallback.Fallback.{Fallback}
-use Rattle.cdp_host.specs.Programs.{code_of, start, printed_of}
+use Rattle.cdp_session.specs.Code.{code_of}
+use Rattle.cdp_host.specs.Programs.{start, printed_of}
 use Rattle.cdp_host_isolation.specs.Meanings.{phase_of}
 use Rattle.cdp_host_isolation.specs.Seats.{is_attached, some}
 use Rattle.cdp_host.specs.Histories.{Meaning, begin}

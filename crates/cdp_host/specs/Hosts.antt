@@ -31,7 +31,8 @@ use Rattle.cdp_host_seats.specs.declared.losses.SessionLost.{SessionLost}
 use Rattle.cdp_host.specs.Arrivals.{place_at, is_uncaught, IsShort}
 use Rattle.cdp_host.specs.Histories.{IsHistory, Meaning, apply, whole}
 use Rattle.cdp_host.specs.Indexing.{IsIndexOf}
-use Rattle.cdp_host.specs.Programs.{code_of, printed_of}
+use Rattle.cdp_session.specs.Code.{code_of}
+use Rattle.cdp_host.specs.Programs.{printed_of}
 use Rattle.cdp_host.specs.Protocols.{protocol}
 use Rattle.cdp_host.specs.Rules.{printed_between}
 use Rattle.cdp_host.specs.Standings.{ending_of, standing_of}

@@ -5,17 +5,13 @@ use Rattle.js_tree.specs.declared.script.Script.{Script}
 use Rattle.js_heap.specs.BuiltIns.{script_scope}
 use Rattle.js_heap.specs.Values.{shown}
 use Rattle.js_heap.specs.declared.value.Value.{Value}
-use Rattle.js_semantics.specs.Functions.{Program}
 use Rattle.js_semantics.specs.Run as runs
 use Rattle.js_semantics.specs.Run.{Run, running, over, ended, threw, by_effect, by_full}
 use Rattle.js_semantics.specs.Sources.{terms_of_scripts}
 use Rattle.js_machine_engine.specs.Prints.{values_printed}
+use Rattle.cdp_session.specs.Code.{code_of}
 use Rattle.stepping.specs.declared.arrival.Arrival.{Arrival}
 use Rattle.cdp_host.specs.Arrivals.{arrival_at, at_the_end}
-
--- the sources in which the code of the scripts' functions is looked up
-unfoldable pub code_of : List Script → Program
-code_of scripts = runs.program_of (terms_of_scripts scripts)
 
 -- the scripts' program with these lines of input, before its first step
 unfoldable pub start : List Script → List (List ℕ) → Run

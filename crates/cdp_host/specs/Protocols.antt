@@ -14,7 +14,8 @@ use Rattle.cdp_session.specs.Sessions.{Session, emptied, fresh, if_enabled}
 use Rattle.cdp_session.specs.Situations.{Situation, Standing}
 use Rattle.cdp_session.specs.Stops.{resumed, stopped, stop_texts}
 use Rattle.pure_eval.specs.Workspaces.{begun}
-use Rattle.cdp_host.specs.Programs.{arrival_of, code_of, is_over, next}
+use Rattle.cdp_session.specs.Code.{code_of}
+use Rattle.cdp_host.specs.Programs.{arrival_of, is_over, next}
 use Rattle.cdp_host.specs.Standings.{standing_of}
 use Rattle.cdp_host.specs.Steps.{Step, end_texts, names_stop, print_texts, print_told, seen_behind, step_of, told}
 

@@ -21,7 +21,8 @@ ghost use Rattle.stepping.specs.declared.arrival.Arrival.{Arrival as AnyArrival}
 ghost use Rattle.js_machine_engine.specs.Prints.{PrintsAs};
 ghost use Rattle.cdp_host.specs.Hosts.{beside, beside_behind, machine_arrival, machine_run, machine_step, AreLines};
 ghost use Rattle.cdp_host.specs.Indexing.{IsIndexOf, has_request_in, is_wanted, wants_in};
-ghost use Rattle.cdp_host.specs.Programs.{code_of, is_over};
+ghost use Rattle.cdp_session.specs.Code.{code_of};
+ghost use Rattle.cdp_host.specs.Programs.{is_over};
 ghost use Rattle.cdp_host.specs.Protocols.{protocol};
 ghost use Rattle.cdp_host.specs.Ran.{may_stop, may_stop_seat, IsStretch};
 
@@ -55,10 +56,10 @@ use stepping::Arrival;
 
 /// Asks for a stop where a session may name one: the conditions of its breakpoints are evaluated behind the stretch.
 #[derive(Clone, Copy)]
-struct Watch<'s> {
+struct Watch<'s, 'p> {
     scripts: &'s [Script],
     lines: &'s [LineTable],
-    seats: &'s [Seat<Session>],
+    seats: &'s [Seat<Session<'p>>],
     index: &'s PlaceIndex,
     // whether some session may name a stop anywhere
     listens: bool,
@@ -70,7 +71,7 @@ struct Watch<'s> {
     ghost indexed: { IsIndexOf seats.now index.now },
 }
 
-impl StopTest for Watch<'_> {
+impl StopTest for Watch<'_, '_> {
     ghost stops = { λ watch term frames. may_stop (arrival_at watch.scripts.now term frames) watch.seats.now };
 
     fn asks(&self, table: &NodeTable, context: &Context, stack: &Stack, point: Point) -> bool {
@@ -178,7 +179,7 @@ fn some_may_name(seats: &[Seat<Session>], numbers: &[u64], arrival: &Arrival) ->
     numbers.iter().any(|s| may_name_at(seats, *s, arrival))
 }
 
-impl Watch<'_> {
+impl Watch<'_, '_> {
     /// Whether a session may name a stop where a machine stands. Where it neither arrives nor raised, none does.
     fn may_be_named(
         &self,

@@ -17,12 +17,11 @@ ghost use Rattle.cdp_json.specs.declared.refusal.Refusal.{Refusal};
 ghost use Rattle.cdp_session.specs.Replies.{answer_of, outcome_of, IsRefused};
 ghost use Rattle.cdp_session.specs.Sessions.{Session as Kept, sent};
 ghost use Rattle.cdp_session.specs.Situations.{HasSpots, seen};
-ghost use Rattle.pure_eval.specs.Workspaces.{begun};
 ghost use Rattle.cdp_host_seats.specs.Fallbacks.{fallback_of};
 ghost use Rattle.cdp_host_seats.specs.Losses.{loss_told, losses_from};
 ghost use Rattle.cdp_host.specs.Histories.{begin};
 ghost use Rattle.std.specs.Option.{option_map};
-ghost use Rattle.cdp_host.specs.Programs.{code_of, is_over, has_thrown, uncaught_text};
+ghost use Rattle.cdp_host.specs.Programs.{is_over, has_thrown, uncaught_text};
 ghost use Rattle.cdp_host.specs.Protocols.{asks_to_resume, asks_to_wake, protocol, situation, texts_fit};
 ghost use Rattle.cdp_host.specs.Hosts.{CarriesOn, FallsBack, KeepsFallback, Leaves, NoneAttached, PrintsOn, RunsTo, StandsFor, everybody, meaning_with, parts_standing, state_at};
 ghost use Rattle.cdp_host_turns.specs.Entries.{lost_for_memory};
@@ -51,14 +50,10 @@ use cdp_session_messages::SessionEnd;
 use cdp_text::line_table::LineTable;
 use cdp_text::units::{Units, text_of};
 use js_heap_memory::heap::BaseHeap;
-use js_heap_memory::names::NameTable;
 use js_machine::machine::{Machine, Started};
-use js_machine::scripts::terms_of_scripts;
 use js_machine_actions::shown::shown;
 use js_machine_engine::stepped::Finish;
-use js_machine_lowering_parts::literals::placed_scripts;
 use js_tree::script::Script;
-use pure_eval::Workspace;
 use std::alloc::{AllocError, Global};
 use std::collections::VecDeque;
 use std::marker::Model;
@@ -78,11 +73,11 @@ pub struct Host<'p> {
     stops: u64,
     shut: bool,
     // what became of the sessions, in the order of their numbers, which count from 1
-    seats: Vec<Seat<Session>>,
+    seats: Vec<Seat<Session<'p>>>,
     // the places at which each attached session has breakpoints, and no others
     index: PlaceIndex,
     broken: bool,
-    fallback: Fallback<Session>,
+    fallback: Fallback<Session<'p>>,
     // the losses that want of memory in a run brought, until they are handed out
     fallen: Vec<SessionLost>,
 }
@@ -107,19 +102,6 @@ impl<'p> Model for Host<'p> {
     } };
 
     ghost invariant = { λ a. IsSound a.scripts.now a.lines.items a.spots a.machine a.broken a.seats.items a.seats.len a.index a.fallback a.fallen.items };
-}
-
-/// What the evaluations of a session begin with, for a program of these scripts and names.
-fn workspace_of(
-    alloc: Global,
-    scripts: &[Script],
-    names: &NameTable,
-) -> Result<Workspace, AllocError>
-    ensures { IfOk result (λ w. w.workspace ≡ begun (code_of scripts.now)) }
-{
-    let terms = terms_of_scripts(alloc, scripts)?;
-    let placed = placed_scripts(alloc, &terms)?;
-    Workspace::start(alloc, names, &placed)
 }
 
 /// What a command sees of a program that is paused there, if it is paused.
@@ -289,9 +271,8 @@ impl<'p> Host<'p> {
         if self.broken {
             return Err(AllocError);
         }
-        let workspace = workspace_of(self.alloc, self.scripts, self.machine.names())?;
         let number = self.sessions() + 1;
-        let session = Session::new(self.alloc, number, workspace);
+        let session = Session::new(self.alloc, number, self.scripts);
         self.fallback.reserve(self.seats.len() + 1)?;
         self.seats.push(Seat::Attached(session))?;
         Ok(number)

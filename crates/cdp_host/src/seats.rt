@@ -25,7 +25,7 @@ fn loss_of(end: SessionEnd) -> Loss
 }
 
 /// The seat of a session that ended so: no run has reported that, and its owner wasn't told.
-pub(crate) fn lost_by(end: SessionEnd) -> Seat<Session>
+pub(crate) fn lost_by<'p>(end: SessionEnd) -> Seat<Session<'p>>
     ensures { result ≡ lost_by (loss_of end) }
 {
     Seat::Lost {

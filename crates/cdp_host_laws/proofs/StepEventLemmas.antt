@@ -29,7 +29,8 @@ use Rattle.cdp_session.specs.Stops.{cause_of, hit_ids, stop_told}
 use Rattle.cdp_session.specs.declared.ending.Ending.{Ending}
 use Rattle.cdp_session.specs.declared.ending.Ending.TheVariants as endings
 use Rattle.cdp_host.specs.Arrivals.{place_of}
-use Rattle.cdp_host.specs.Programs.{code_of, has_thrown, is_over, next, printed_of, prints_next}
+use Rattle.cdp_session.specs.Code.{code_of}
+use Rattle.cdp_host.specs.Programs.{has_thrown, is_over, next, printed_of, prints_next}
 use Rattle.cdp_host.specs.Protocols.{protocol, resume_texts, stop_texts_of, texts}
 use Rattle.cdp_host.specs.Standings.{ending_by, ending_of, place_or_nowhere}
 use Rattle.cdp_host.specs.Steps.{Step, end_texts, print_texts, print_told, seen_behind, step_of}

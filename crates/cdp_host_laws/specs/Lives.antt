@@ -4,7 +4,7 @@ use Rattle.js_tree.specs.declared.script.Script.{Script}
 use Rattle.pure_eval.specs.Workspaces.{begun}
 use Rattle.cdp_session.specs.Sessions.{Session}
 use Rattle.cdp_session_laws.specs.Events.{Event, lived}
-use Rattle.cdp_host.specs.Programs.{code_of}
+use Rattle.cdp_session.specs.Code.{code_of}
 
 -- It was attached under this number, to evaluate over the code of these scripts, and became what it is by events of a
 -- session alone: texts that it told, prints, the end, stops and resumes that it was told of, and takings of its texts.

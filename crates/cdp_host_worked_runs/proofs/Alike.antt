@@ -32,7 +32,8 @@ use Rattle.cdp_session.specs.Sessions.{Session, emptied, fresh}
 use Rattle.cdp_session.specs.Situations.{Situation, script_of}
 use Rattle.cdp_session.specs.Stops.{resumed}
 use Rattle.pure_eval.specs.Workspaces.{begun}
-use Rattle.cdp_host.specs.Programs.{arrival_of, code_of, is_over, next, prints_next, start}
+use Rattle.cdp_session.specs.Code.{code_of}
+use Rattle.cdp_host.specs.Programs.{arrival_of, is_over, next, prints_next, start}
 use Rattle.cdp_host.specs.Protocols.{asks_to_resume, asks_to_wake, has_enabled, pause_at, protocol, situation, step_told, stop_told, texts_fit, waiting_for}
 use Rattle.cdp_host.specs.Standings.{ending_of, standing_of}
 use Rattle.cdp_host.specs.Steps.{Step, names_stop}

@@ -1,5 +1,7 @@
 -- A session may be sent to another thread.
-use denote.Param.Send.{IsSend, recorded_send, sendable, struct_send, view_send}
+use denote.Ref.{NamedLft}
+use denote.Param.Send.{IsSend, IsSync, recorded_send, sendable, struct_send, view_send}
+use denote.Param.SendFields.{declared_send}
 use denote.Struct.Declared.{shape}
 use Rattle.std.proofs.Crossing.{crosses}
 use Rattle.std.proofs.alloc.Global.TheSendSync as global
@@ -17,6 +19,7 @@ use Rattle.js_tree.proofs.node.Spans.TheSendSync as spans
 use Rattle.js_tree.proofs.tree.ArrowParameters.TheSendSync as arrow
 use Rattle.js_tree.proofs.tree.Expr.TheLaws.TheKnot as tree
 use Rattle.js_tree.specs.contracts.script.Expression as expression
+use Rattle.js_tree.specs.contracts.script.Script as script
 use Rattle.js_heap.proofs.value.Addr.TheSendSync as address
 use Rattle.js_heap.proofs.value.Value.TheSendSync as value
 use Rattle.js_semantics.proofs.form.Form.TheSendSync as form
@@ -29,6 +32,8 @@ use Rattle.cdp_session_messages.proofs.outbox.Outbox.TheSendSync as outbox
 use Rattle.stepping.proofs.rules.Rules.TheSendSync as rules
 use Rattle.cdp_session.specs.contracts.conditions.Condition as condition
 use Rattle.cdp_session.specs.contracts.conditions.Condition.TheInside as condition_inside
+use Rattle.cdp_session.specs.contracts.evaluations.Evaluations as evaluations
+use Rattle.cdp_session.specs.contracts.evaluations.Evaluations.TheInside as evaluations_inside
 use Rattle.cdp_session.specs.contracts.ready.Ready as ready
 use Rattle.cdp_session.specs.contracts.ready.ReadyExpression as ready_expression
 use Rattle.cdp_session.specs.contracts.ready.ReadyExpression.TheInside as ready_inside
@@ -49,6 +54,25 @@ expression-send = search (
   node.the_field_send,
   spans.the_send,
   arrow.the_field_send,
+  crosses,
+  tree.crosses,
+  sendable,
+) depth 60 fits 20000
+
+pub script-sync : IsSync script.the_row
+script-sync = search (
+  units.the_sync,
+  options.the_field_sync,
+  options.the_sync,
+  assignment.the_field_sync,
+  binary.the_field_sync,
+  unary.the_field_sync,
+  update.the_field_sync,
+  integer.the_field_sync,
+  names.the_sync,
+  node.the_field_sync,
+  spans.the_sync,
+  arrow.the_field_sync,
   crosses,
   tree.crosses,
   sendable,
@@ -85,10 +109,17 @@ condition-parts =
 condition-send : IsSend condition.the_row
 condition-send = view_send _ _ _ _ _ condition-parts
 
-session-parts : IsSend session_inside.the_row
-session-parts =
-    recorded_send session_inside.the_field.row _ _ session_inside.the_type.to_one
-    (struct_send (shape session_inside.the_type) (
+evaluations-parts : (ℓ : NamedLft) → IsSend (evaluations_inside.the_row ℓ)
+evaluations-parts ℓ =
+    declared_send (evaluations_inside.the_type ℓ)
+    (search (script-sync, crosses, sendable) depth 30, (search (workspace.the_send, crosses, sendable) depth 30, tt))
+
+evaluations-send : (ℓ : NamedLft) → IsSend (evaluations.the_row ℓ)
+evaluations-send ℓ = view_send _ _ _ _ _ (evaluations-parts ℓ)
+
+session-parts : (ℓ : NamedLft) → IsSend (session_inside.the_row ℓ)
+session-parts ℓ =
+    declared_send (session_inside.the_type ℓ) (
       search (global.the_field_send, sendable) depth 30,
       (
         search sendable,
@@ -103,7 +134,7 @@ session-parts =
                 (
                   search (condition-send, vectors.the_send, crosses, sendable) depth 30,
                   (
-                    search (workspace.the_send, options.the_field_send, crosses, sendable) depth 30,
+                    evaluations-send ℓ,
                     (
                       search sendable,
                       (
@@ -118,7 +149,7 @@ session-parts =
           ),
         ),
       ),
-    ))
+    )
 
-pub session-send : IsSend session.the_row
-session-send = view_send _ _ _ _ _ session-parts
+pub session-send : (ℓ : NamedLft) → IsSend (session.the_row ℓ)
+session-send ℓ = view_send _ _ _ _ _ (session-parts ℓ)

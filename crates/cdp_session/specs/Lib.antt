@@ -1,5 +1,6 @@
 pub mod Situations
 pub mod Sessions
+pub mod Code
 pub mod Pauses
 pub mod PauseTexts
 pub mod Consoles

@@ -1,5 +1,5 @@
 -- What a session keeps.
-use Rattle.std.specs.Prelude.{ℕ, ◌+◌, ◌^◌, nat_lt, List, [], ◌∷◌, ◌++◌, Bool, false, not, ◌||◌, if◌then◌else◌, Option, Some, None}
+use Rattle.std.specs.Prelude.{ℕ, ◌+◌, ◌^◌, nat_lt, List, [], ◌∷◌, ◌++◌, Bool, false, not, ◌||◌, if◌then◌else◌}
 use Rattle.std.specs.List.{list_any}
 use Rattle.stepping.specs.declared.rules.Rules.{Rules}
 use Rattle.stepping.specs.Rules.{no_rules}
@@ -7,7 +7,6 @@ use Rattle.breakpoints.specs.Breakpoints as breakpoints
 use Rattle.breakpoints.specs.Breakpoints.{none_set}
 use Rattle.object_groups.specs.Handles as handles
 use Rattle.object_groups.specs.Handles.{is_on_scratch, none_made, without_group}
-use Rattle.pure_eval.specs.Held.{HeldWorkspace}
 use Rattle.pure_eval.specs.Workspaces.{Workspace, begun, emptied_workspace}
 use Rattle.remote_objects.specs.CallFrames.{backtrace}
 
@@ -64,11 +63,6 @@ with_handles h x = record x { handles = h }
 -- what a session has that lost the memory for its evaluations, and is to be dropped
 abbrev pub no_workspace : Workspace
 no_workspace = begun []
-
--- what a session's evaluations go on from, by what is held for them
-abbrev pub workspace_in : Option HeldWorkspace → Workspace
-workspace_in None = no_workspace
-workspace_in (Some w) = w.workspace
 
 -- a session with what other evaluations made and kept
 abbrev pub with_workspace : Workspace → Session → Session

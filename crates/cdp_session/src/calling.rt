@@ -61,7 +61,7 @@ fn copied_group(handle: &Handle) -> Result<Option<Units>, AllocError>
     }
 }
 
-impl Session {
+impl Session<'_> {
     // ---- what a function is called with
 
     /// The object whose id this is, if the session holds it.

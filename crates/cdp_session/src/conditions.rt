@@ -10,10 +10,9 @@ ghost use Rattle.pure_eval.specs.Workspaces.{opened as just_opened, EvaluatesTo,
 ghost use Rattle.cdp_session.specs.Conditions as conditions;
 ghost use Rattle.cdp_session.specs.Conditions.{IsParsed, expression_holds, hits, parsed_holds};
 ghost use Rattle.pure_eval.specs.Answering.{is_memory};
-ghost use Rattle.cdp_session.specs.Sessions.{workspace_in};
 ghost use Rattle.cdp_session.specs.Situations.{seen};
 
-use crate::evaluating::open;
+use crate::evaluations::Evaluations;
 use crate::program::Program;
 use crate::ready::ReadyExpression;
 use crate::situation::Situation;
@@ -26,7 +25,7 @@ use js_machine_actions::seen::NamedWorld;
 use js_machine_rows::table::StepTable;
 use js_parser::node_text::lacks_memory;
 use js_parser::parse::parse_expression;
-use pure_eval::{Evaluated, OpenWorkspace, Workspace};
+use pure_eval::{Evaluated, OpenWorkspace};
 use std::alloc::{AllocError, Global};
 use std::marker::Model;
 
@@ -130,40 +129,40 @@ fn comes_true(opened: &OpenWorkspace<'_>, end: Evaluated) -> Result<bool, AllocE
 /// but what it was made ready as.
 fn holds_at_top<P: Program>(
     alloc: Global,
-    workspace: &mut Option<Workspace>,
+    evaluations: &mut Evaluations<'_>,
     situation: &Situation<'_, P>,
     expression: &mut ReadyExpression,
 ) -> Result<bool, AllocError>
     ensures holds { IfOk result (λ is. is ≡ expression_holds (seen P.standing situation.now).standing
-        (workspace_in workspace.old) expression.old) }
-    ensures kept { OnOk result (workspace_in workspace.new ≡ workspace_in workspace.old) }
+        evaluations.old expression.old) }
+    ensures kept { OnOk result (evaluations.new ≡ evaluations.old) }
     ensures same { expression.new ≡ expression.old }
 {
     let Top { scope, this } = situation.program.top();
-    let mut opened = open(workspace, situation)?;
+    let mut opened = evaluations.open(alloc, situation)?;
     let at = opened.next_address();
     let prepared = expression.prepared(alloc, situation.program, at)?;
     let end = opened.evaluate::<StepTable>(alloc, scope, this, &prepared);
     expression.keep(at, prepared);
     let holds = comes_true(&opened, end)?;
-    *workspace = Some(opened.forget());
+    evaluations.put(opened.forget());
     Ok(holds)
 }
 
 /// Whether the expression to which a condition was parsed, if it is one, comes to such a value.
 fn parsed_holds<P: Program>(
     alloc: Global,
-    workspace: &mut Option<Workspace>,
+    evaluations: &mut Evaluations<'_>,
     situation: &Situation<'_, P>,
     expression: &mut Option<ReadyExpression>,
 ) -> Result<bool, AllocError>
     ensures holds { IfOk result (λ is. is ≡ parsed_holds (seen P.standing situation.now).standing
-        (workspace_in workspace.old) expression.old) }
-    ensures kept { OnOk result (workspace_in workspace.new ≡ workspace_in workspace.old) }
+        evaluations.old expression.old) }
+    ensures kept { OnOk result (evaluations.new ≡ evaluations.old) }
     ensures same { expression.new ≡ expression.old }
 {
     match expression {
-        Some(expression) => holds_at_top(alloc, workspace, situation, expression),
+        Some(expression) => holds_at_top(alloc, evaluations, situation, expression),
         None => Ok(false),
     }
 }
@@ -173,15 +172,15 @@ impl Condition {
     fn holds<P: Program>(
         &mut self,
         alloc: Global,
-        workspace: &mut Option<Workspace>,
+        evaluations: &mut Evaluations<'_>,
         situation: &Situation<'_, P>,
     ) -> Result<bool, AllocError>
         ensures holds { IfOk result (λ is. is ≡ conditions.holds (seen P.standing situation.now).standing
-            (workspace_in workspace.old) self.old) }
-        ensures kept { OnOk result (workspace_in workspace.new ≡ workspace_in workspace.old) }
+            evaluations.old self.old) }
+        ensures kept { OnOk result (evaluations.new ≡ evaluations.old) }
         ensures same { self.new ≡ self.old }
     {
-        parsed_holds(alloc, workspace, situation, &mut self.expression)
+        parsed_holds(alloc, evaluations, situation, &mut self.expression)
     }
 }
 
@@ -189,20 +188,20 @@ impl Condition {
 fn is_met<P: Program>(
     alloc: Global,
     parsed: &mut Vec<Condition>,
-    workspace: &mut Option<Workspace>,
+    evaluations: &mut Evaluations<'_>,
     situation: &Situation<'_, P>,
     condition: &Option<Units>,
 ) -> Result<bool, AllocError>
     ensures met { IfOk result (λ is. is ≡ conditions.condition_holds (seen P.standing situation.now).standing
-        (workspace_in workspace.old) condition.now) }
-    ensures kept { OnOk result (workspace_in workspace.new ≡ workspace_in workspace.old) }
+        evaluations.old condition.now) }
+    ensures kept { OnOk result (evaluations.new ≡ evaluations.old) }
 {
     let Some(text) = condition else {
         return Ok(true);
     };
     let at = find_or_parse(alloc, parsed, text)?;
     match parsed.as_mut_slice().get_mut(at) {
-        Some(condition) => condition.holds(alloc, workspace, situation),
+        Some(condition) => condition.holds(alloc, evaluations, situation),
         None => Err(AllocError),
     }
 }
@@ -212,18 +211,18 @@ fn ids_met<P: Program>(
     alloc: Global,
     breakpoints: &Breakpoints,
     parsed: &mut Vec<Condition>,
-    workspace: &mut Option<Workspace>,
+    evaluations: &mut Evaluations<'_>,
     situation: &Situation<'_, P>,
     place: Place,
 ) -> Result<Vec<Units>, AllocError>
     ensures ids { IfOk result (λ ids. ids.items ≡ map id_of (filter
-        (conditions.is_met (seen P.standing situation.now).standing (workspace_in workspace.old))
+        (conditions.is_met (seen P.standing situation.now).standing evaluations.old)
         (hits_at place breakpoints.now))) }
-    ensures kept { OnOk result (workspace_in workspace.new ≡ workspace_in workspace.old) }
+    ensures kept { OnOk result (evaluations.new ≡ evaluations.old) }
 {
     let mut ids = Vec::new(alloc);
     for breakpoint in breakpoints.at(place) {
-        if is_met(alloc, parsed, workspace, situation, &breakpoint.condition)? {
+        if is_met(alloc, parsed, evaluations, situation, &breakpoint.condition)? {
             ids.push(breakpoint.id.clone()?)?;
         }
     }
@@ -235,19 +234,19 @@ fn ids_there<P: Program>(
     alloc: Global,
     breakpoints: &Breakpoints,
     parsed: &mut Vec<Condition>,
-    workspace: &mut Option<Workspace>,
+    evaluations: &mut Evaluations<'_>,
     situation: &Situation<'_, P>,
     place: Place,
 ) -> Result<Vec<Units>, AllocError>
     ensures ids { IfOk result (λ ids. ids.items ≡ map id_of (filter
-        (conditions.is_met (seen P.standing situation.now).standing (workspace_in workspace.old))
+        (conditions.is_met (seen P.standing situation.now).standing evaluations.old)
         (hits_at place breakpoints.now))) }
-    ensures kept { OnOk result (workspace_in workspace.new ≡ workspace_in workspace.old) }
+    ensures kept { OnOk result (evaluations.new ≡ evaluations.old) }
 {
     if !breakpoints.is_hit(place) {
         return Ok(Vec::new(alloc));
     }
-    ids_met(alloc, breakpoints, parsed, workspace, situation, place)
+    ids_met(alloc, breakpoints, parsed, evaluations, situation, place)
 }
 
 /// The ids of the breakpoints that are hit where the program arrived, if it did, in the order in which they were set.
@@ -259,16 +258,16 @@ pub(crate) fn ids_hit<P: Program>(
     alloc: Global,
     breakpoints: &Breakpoints,
     parsed: &mut Vec<Condition>,
-    workspace: &mut Option<Workspace>,
+    evaluations: &mut Evaluations<'_>,
     situation: &Situation<'_, P>,
     place: Option<Place>,
 ) -> Result<Vec<Units>, AllocError>
     ensures ids { IfOk result (λ ids. ids.items ≡ map id_of (hits (seen P.standing situation.now).standing
-        (workspace_in workspace.old) breakpoints.now place)) }
-    ensures kept { OnOk result (workspace_in workspace.new ≡ workspace_in workspace.old) }
+        evaluations.old breakpoints.now place)) }
+    ensures kept { OnOk result (evaluations.new ≡ evaluations.old) }
 {
     match place {
-        Some(place) => ids_there(alloc, breakpoints, parsed, workspace, situation, place),
+        Some(place) => ids_there(alloc, breakpoints, parsed, evaluations, situation, place),
         None => Ok(Vec::new(alloc)),
     }
 }

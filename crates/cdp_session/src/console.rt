@@ -61,7 +61,7 @@ fn values_made(
     Ok(listed)
 }
 
-impl Session {
+impl Session<'_> {
     /// The values that were printed. The objects among them are held from then on.
     fn values_told<P: Program>(
         &mut self,

@@ -18,7 +18,7 @@ use cdp_text::position::Place;
 use js_heap::value::Value;
 use std::alloc::{AllocError, Global};
 
-impl Session {
+impl Session<'_> {
     /// The value that was thrown. If it is an object, it is held from then on.
     fn exception_told<P: Program>(
         &mut self,

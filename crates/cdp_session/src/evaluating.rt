@@ -15,7 +15,7 @@ ghost use Rattle.remote_objects.specs.Views.{sight_of};
 ghost use Rattle.js_parser.specs.Expressions.{expression_of};
 ghost use Rattle.js_parser.specs.NodeTexts.{node_text};
 ghost use Rattle.remote_objects.specs.ByValue.{remote_by_value};
-ghost use Rattle.cdp_session.specs.Sessions.{no_workspace, with_workspace, workspace_in};
+ghost use Rattle.cdp_session.specs.Sessions.{no_workspace, with_workspace};
 ghost use Rattle.cdp_session.specs.Evaluations as evaluations;
 ghost use Rattle.cdp_session.specs.Made.{Describes, GivesValue, KeepsIfRefused, Makes};
 ghost use Rattle.cdp_session.specs.Rows.{row_of};
@@ -96,25 +96,6 @@ fn name_of(group: &Option<Units>) -> Option<&[u16]>
     }
 }
 
-/// What evaluations go on from, open over the cells of the program. Until it is put back there is none.
-pub(crate) fn open<'p, P: Program>(
-    workspace: &mut Option<Workspace>,
-    situation: &Situation<'p, P>,
-) -> Result<OpenWorkspace<'p>, AllocError>
-    ensures opened { IfOk result (λ o. o.workspace ≡ just_opened (seen P.standing situation.now).standing.world
-        (workspace_in workspace.old)) }
-    ensures rest { OnOk result (workspace.new ≡ None) }
-{
-    let Some(workspace) = workspace.take() else {
-        return Err(AllocError);
-    };
-    let cells = situation.program.cells();
-    match workspace.open(cells.heap, cells.names) {
-        Some(opened) => Ok(opened),
-        None => Err(AllocError),
-    }
-}
-
 // ---- frames
 
 /// The innermost of the scopes of a frame.
@@ -157,7 +138,7 @@ fn find_frame<'p, P: Program>(
     }
 }
 
-impl Session {
+impl Session<'_> {
     /// `Runtime.evaluate`: in the scope of the scripts.
     pub(crate) fn evaluate<P: Program>(
         &mut self,
@@ -294,7 +275,7 @@ impl Session {
             self.old.workspace) }
         ensures rest { OnOk result (self.new ≡ with_workspace no_workspace self.old) }
     {
-        open(&mut self.workspace, situation)
+        self.evaluations.open(self.alloc, situation)
     }
 
     /// The answer to an evaluation that ended so.
@@ -326,18 +307,18 @@ impl Session {
                 Ok(answering(self.alloc, answer))
             }
             Evaluated::Effect => {
-                self.workspace = Some(opened.forget());
+                self.evaluations.put(opened.forget());
                 let id = self.count_exception();
                 let described = effect_object(self.alloc)?;
                 let answer = thrown_result(self.alloc, id, described)?;
                 Ok(answering(self.alloc, answer))
             }
             Evaluated::Full(what) => {
-                self.workspace = Some(opened.forget());
+                self.evaluations.put(opened.forget());
                 Err(Fault::Refused(limit_of(what)))
             }
             Evaluated::Spent => {
-                self.workspace = Some(opened.forget());
+                self.evaluations.put(opened.forget());
                 Err(Fault::Refused(Refusal::BudgetSpent))
             }
             Evaluated::Memory => Err(Fault::Memory),
@@ -374,7 +355,7 @@ impl Session {
             name_of(&showing.group),
             &mut self.handles,
         )?;
-        self.workspace = Some(kept_or_forgotten(holds, opened));
+        self.evaluations.put(kept_or_forgotten(holds, opened));
         Ok(described)
     }
 
@@ -391,7 +372,7 @@ impl Session {
         ensures session { self.new ≡ with_workspace opened.entry.workspace.before self.old }
     {
         let given = given_of(self.alloc, &opened, scripts, self.number, value);
-        self.workspace = Some(opened.forget());
+        self.evaluations.put(opened.forget());
         Ok(given?)
     }
 }

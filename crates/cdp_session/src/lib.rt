@@ -24,6 +24,7 @@ mod done;
 mod ending;
 mod ends;
 mod evaluating;
+mod evaluations;
 mod finding;
 mod found;
 mod named;

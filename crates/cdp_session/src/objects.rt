@@ -51,7 +51,7 @@ fn numbered(alloc: Global, handles: &Handles, number: u64) -> Result<Option<Hand
     }
 }
 
-impl Session {
+impl Session<'_> {
     /// A copy of the handle whose id this is, if the session holds it.
     pub(crate) fn handle_of(&self, id: &Units) -> Result<Option<Handle>, AllocError>
         ensures { IfOk result (λ handle. handle ≡ handle_of self.now id.now) }

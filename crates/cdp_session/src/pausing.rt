@@ -165,7 +165,7 @@ fn pause_text<P: Program>(
     Ok(pen.finish())
 }
 
-impl Session {
+impl Session<'_> {
     /// The event that tells of the stop of this number, at breakpoints of these ids, for this cause. The objects that it names
     /// are held from then on.
     pub(crate) fn pause_told<P: Program>(

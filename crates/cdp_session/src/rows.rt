@@ -127,7 +127,7 @@ fn asking(alloc: Global, asks: Asks) -> Done
     }
 }
 
-impl Session {
+impl Session<'_> {
     /// Does what a command asks for that isn't refused for the state of its session or of the program.
     pub(crate) fn act<P: Program>(
         &mut self,
@@ -456,7 +456,7 @@ impl Session {
             detail,
             &mut self.handles,
         )?;
-        self.workspace = Some(opened.keep());
+        self.evaluations.put(opened.keep());
         Ok(answering_text(self.alloc, text))
     }
 

@@ -11,6 +11,8 @@ ghost use Rattle.breakpoints.specs.PlaceOrder.{AreAscending};
 ghost use Rattle.stepping.specs.Beside.{IsNamedBeside};
 ghost use Rattle.stepping.specs.Causes.{first_cause};
 ghost use Rattle.stepping.specs.Rules.{has_request};
+ghost use Rattle.pure_eval.specs.Workspaces.{begun};
+ghost use Rattle.cdp_session.specs.Code.{code_of};
 ghost use Rattle.cdp_session.specs.Conditions.{is_some_hit};
 ghost use Rattle.cdp_session_messages.specs.Results.{resumed_text};
 ghost use Rattle.cdp_session.specs.Stops.{AreHits, cause_of, hit_ids, hits_of, may_be_hit, may_name, resumed, stop_told, stopped, wants};
@@ -23,6 +25,7 @@ use crate::asks::Asks;
 use crate::conditions::{Condition, ids_hit};
 use crate::done::{Done, Fault};
 use crate::ending::Ending;
+use crate::evaluations::Evaluations;
 use crate::named::Named;
 use crate::program::Program;
 use crate::refusing::{wants_enabled, wants_pause};
@@ -39,8 +42,8 @@ use cdp_session_messages::{
 use cdp_text::position::Place;
 use cdp_text::units::Units;
 use js_heap::value::Value;
+use js_tree::script::Script;
 use object_groups::Handles;
-use pure_eval::Workspace;
 use remote_objects::backtrace;
 use std::alloc::{AllocError, Global};
 use std::marker::Model;
@@ -48,7 +51,7 @@ use stepping::{Arrival, Cause, Rules, first_cause, wants};
 
 /// One client: what it asks for, its breakpoints, the objects that it holds, and the texts that wait for it.
 #[derive(Drop)]
-pub struct Session {
+pub struct Session<'p> {
     pub(crate) alloc: Global,
     pub(crate) number: u64,
     pub(crate) rules: Rules,
@@ -58,23 +61,22 @@ pub struct Session {
     pub(crate) handles: Handles,
     // those of its breakpoints that were used, parsed
     pub(crate) conditions: Vec<Condition>,
-    // none once there was no memory for an evaluation
-    pub(crate) workspace: Option<Workspace>,
+    pub(crate) evaluations: Evaluations<'p>,
     exceptions: u64,
     outbox: Outbox,
 }
 
-impl Model for Session {
+impl<'p> Model for Session<'p> {
     ghost use Rattle.std.specs.Prelude.{◌≤◌, ◌^◌};
     ghost use Rattle.std.specs.Coded.{codes};
     ghost use Rattle.pure_eval.specs.TermCodes.{term_coded};
-    ghost use Rattle.cdp_session.specs.Sessions.{Session as Kept, workspace_in};
+    ghost use Rattle.cdp_session.specs.Sessions.{Session as Kept};
 
     ghost Value = { Kept };
 
     ghost coded = { Prim.hlevel (codes, term_coded) };
 
-    ghost view = { λ x. record { number = x.number; rules = x.rules; runtime = x.runtime; breakpoints = x.breakpoints; handles = x.handles; workspace = workspace_in x.workspace; exceptions = x.exceptions; outbox = x.outbox } };
+    ghost view = { λ x. record { number = x.number; rules = x.rules; runtime = x.runtime; breakpoints = x.breakpoints; handles = x.handles; workspace = x.evaluations; exceptions = x.exceptions; outbox = x.outbox } };
 
     ghost invariant = { λ x. x.exceptions ≤ 2 ^ 62 };
 }
@@ -92,10 +94,12 @@ fn may_be_hit(breakpoints: &Breakpoints, place: Option<Place>) -> bool
     }
 }
 
-impl Session {
-    /// A session of this number that asks for nothing, and whose evaluations begin with this. It takes no memory.
-    pub fn new(alloc: Global, number: u64, workspace: Workspace) -> Session
-        ensures { result ≡ fresh number workspace.workspace }
+impl<'p> Session<'p> {
+    /// A session of this number, of a program of these scripts, that asks for nothing and has evaluated nothing. It
+    /// takes no memory: the code that its evaluations run is made where an evaluation, a call or a list of properties
+    /// first needs it.
+    pub fn new(alloc: Global, number: u64, scripts: &'p [Script]) -> Session<'p>
+        ensures { result ≡ fresh number (begun (code_of scripts.now)) }
     {
         Session {
             alloc,
@@ -105,7 +109,7 @@ impl Session {
             breakpoints: Breakpoints::new(alloc),
             handles: Handles::new(alloc),
             conditions: Vec::new(alloc),
-            workspace: Some(workspace),
+            evaluations: Evaluations::new(scripts),
             exceptions: 0,
             outbox: Outbox::new(alloc),
         }
@@ -214,7 +218,7 @@ impl Session {
             self.alloc,
             &self.breakpoints,
             &mut self.conditions,
-            &mut self.workspace,
+            &mut self.evaluations,
             situation,
             arrival.place,
         )
@@ -421,9 +425,7 @@ impl Session {
         if self.handles.holds_scratch() {
             return;
         }
-        if let Some(workspace) = &mut self.workspace {
-            workspace.empty();
-        }
+        self.evaluations.empty();
     }
 
     /// Counts one more exception of which the session is told, and answers its number; the count stays at 2^62.

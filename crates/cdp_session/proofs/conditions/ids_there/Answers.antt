@@ -2,14 +2,13 @@ use Rattle.std.proofs.Common.{filter, map, ap, sym, ◌∙◌}
 use Rattle.breakpoints.specs.Breakpoints.{id_of}
 use Rattle.breakpoints.proofs.HitLemmas.{is_hit-none}
 use Rattle.cdp_session.specs.Conditions.{is_met}
-use Rattle.cdp_session.specs.Sessions.{workspace_in}
 use Rattle.cdp_session.specs.Situations.{seen}
 use Rattle.cdp_session.proofs.conditions.ids_there.Goals as goal
 
 pub returns-then-not-is_hit-clause-ids : goal.returns-then-not-is_hit-clause-ids
 returns-then-not-is_hit-clause-ids g c =
     let s = (seen g.P.Program.standing c.args.situation.now).standing in
-    let w = workspace_in c.args.workspace.now in
+    let w = c.args.evaluations.now in
     c.new.ensures.items
     ∙ sym
     (ap (λ bs. map id_of (filter (is_met s w) bs))

@@ -1,6 +1,7 @@
 use Rattle.std.proofs.Common.{◌+◌, ℕ, length, Result, Ok, Err, OnErr, ap, subst, sym, ◌∙◌}
 use Rattle.cdp_host_isolation.specs.Histories.{Attach}
-use Rattle.pure_eval.specs.Workspaces.{Workspace}
+use Rattle.pure_eval.specs.Workspaces.{Workspace, begun}
+use Rattle.cdp_session.specs.Code.{code_of}
 use Rattle.cdp_session.specs.Sessions.{Session, fresh}
 use Rattle.cdp_host_seats.specs.Fallbacks.{Fallback, HasRoom}
 use Rattle.cdp_host.specs.Hosts.{HostState, Leaves}
@@ -31,7 +32,7 @@ returns-in_err-reserve-clause-err c =
       fallback = f;
       fallen = a.fallen.items;
     } in
-    on-err c.from_residual-in_err-reserve.result _ (ap V c.in_err-reserve.ensures.same ∙ c.self.view_is)
+    on-err c.from_residual.result _ (ap V c.in_err-reserve.ensures.same ∙ c.self.view_is)
 
 pub invariant_of-self-2 : goal.invariant_of-self-2
 invariant_of-self-2 c =
@@ -58,10 +59,8 @@ returns-clause-leaves c =
     subst P (sym c.in_ok-reserve.ensures.same)
     (attach-leaves h c.args.self.now c.push.new.self.items c.new-session.result c.self.view_is
     (c.new-session.ensures
-    ∙ ap (λ n. f (n + 1) c.in_ok-workspace.workspace.workspace)
-    (c.sessions-number.ensures ∙ sym (ap (λ o. length o.meaning.seats) c.self.view_is))
-    ∙ ap (f (length a.seats.items + 1))
-    c.in_ok-workspace.ensures)
+    ∙ ap (λ n. f (n + 1) (begun (code_of a.scripts.now)))
+    (c.sessions-number.ensures ∙ sym (ap (λ o. length o.meaning.seats) c.self.view_is)))
     c.in_ok-push.ensures.items)
 
 pub returns-clause-stands : goal.returns-clause-stands

@@ -1,7 +1,7 @@
 use Rattle.std.proofs.lemmas.Result.{IfOk-weaker}
 use Rattle.js_machine_terms.specs.Views.{terms_view}
 use Rattle.cdp_host.proofs.StartLemmas.{code-begun}
-use Rattle.cdp_host.proofs.host.workspace_of.Goals as goal
+use Rattle.cdp_host.proofs.debuggee.workspace_of.Goals as goal
 
 pub returns : goal.returns
 returns c =

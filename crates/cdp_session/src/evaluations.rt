@@ -1,0 +1,137 @@
+//! What the evaluations of a session go on from.
+
+ghost use Rattle.std.specs.Prelude.{◌≡◌, IfOk, OnOk};
+ghost use Rattle.pure_eval.specs.Workspaces.{begun, emptied_workspace, opened as just_opened};
+ghost use Rattle.cdp_session.specs.Code.{code_of, workspace_in};
+ghost use Rattle.cdp_session.specs.Sessions.{no_workspace};
+ghost use Rattle.cdp_session.specs.Situations.{seen};
+
+use crate::program::Program;
+use crate::situation::Situation;
+use js_tree::script::Script;
+use pure_eval::{OpenWorkspace, Workspace};
+use std::alloc::{AllocError, Global};
+use std::marker::Model;
+use std::mem;
+
+/// Whether the workspace of a session is there.
+#[derive(Drop)]
+pub(crate) enum Making {
+    /// It wasn't opened yet.
+    NotMade,
+    /// It was made.
+    Made(Workspace),
+    /// It is lent to an evaluation, or there was no memory for one.
+    GivenUp,
+}
+
+impl Making {
+    /// The workspace, for a program of these scripts. It is made now where it wasn't yet.
+    ///
+    /// # Errors
+    ///
+    /// It was given up, or there is no memory for it.
+    fn into_workspace<P: Program>(
+        self,
+        alloc: Global,
+        scripts: &[Script],
+        program: &P,
+    ) -> Result<Workspace, AllocError>
+        ensures { IfOk result (λ w. w.workspace ≡ workspace_in scripts.now self) }
+    {
+        match self {
+            Making::NotMade => program.begun(alloc, scripts),
+            Making::Made(workspace) => Ok(workspace),
+            Making::GivenUp => Err(AllocError),
+        }
+    }
+
+    /// Gives up all that evaluations made and kept. Takes no memory.
+    fn empty(&mut self)
+        ensures { (scripts : _) → workspace_in scripts self.new ≡ emptied_workspace (workspace_in scripts self.old) }
+    {
+        match self {
+            Making::NotMade => {}
+            Making::Made(workspace) => workspace.empty(),
+            Making::GivenUp => {}
+        }
+    }
+}
+
+/// The workspace of a session of a program of these scripts. It is made where it is first opened, and takes no memory
+/// until then. Contracts see it as if it had been made at once.
+#[derive(Drop)]
+pub(crate) struct Evaluations<'p> {
+    scripts: &'p [Script],
+    making: Making,
+}
+
+impl<'p> Model for Evaluations<'p> {
+    ghost use Rattle.std.specs.Coded.{codes};
+    ghost use Rattle.pure_eval.specs.TermCodes.{term_coded};
+    ghost use Rattle.pure_eval.specs.Workspaces.{Workspace as Kept};
+    ghost use Rattle.cdp_session.specs.Code.{workspace_in};
+
+    ghost Value = { Kept };
+
+    ghost coded = { Prim.hlevel (codes, term_coded) };
+
+    ghost view = { λ e. workspace_in e.scripts.now e.making };
+}
+
+impl<'p> Evaluations<'p> {
+    /// Those of a session that evaluated nothing yet. Takes no memory.
+    pub(crate) fn new(scripts: &'p [Script]) -> Evaluations<'p>
+        ensures { result ≡ begun (code_of scripts.now) }
+    {
+        Evaluations {
+            scripts,
+            making: Making::NotMade,
+        }
+    }
+
+    /// Takes the workspace out, which is to be put back. It is made now where it wasn't yet.
+    fn take<P: Program>(&mut self, alloc: Global, program: &P) -> Result<Workspace, AllocError>
+        ensures workspace { IfOk result (λ w. w.workspace ≡ self.old) }
+        ensures rest { self.new ≡ no_workspace }
+    {
+        let making = mem::replace(&mut self.making, Making::GivenUp);
+        making.into_workspace(alloc, self.scripts, program)
+    }
+
+    /// The workspace, open over the cells of the program. Until it is put back there is none.
+    ///
+    /// # Errors
+    ///
+    /// There is no memory for it, or there was none for an evaluation before. The session is to be dropped.
+    pub(crate) fn open<'b, P: Program>(
+        &mut self,
+        alloc: Global,
+        situation: &Situation<'b, P>,
+    ) -> Result<OpenWorkspace<'b>, AllocError>
+        ensures opened { IfOk result (λ o. o.workspace ≡ just_opened (seen P.standing situation.now).standing.world
+            self.old) }
+        ensures rest { OnOk result (self.new ≡ no_workspace) }
+    {
+        let workspace = self.take(alloc, situation.program)?;
+        let cells = situation.program.cells();
+        match workspace.open(cells.heap, cells.names) {
+            Some(opened) => Ok(opened),
+            None => Err(AllocError),
+        }
+    }
+
+    /// Puts the workspace back that evaluations go on from. Takes no memory.
+    pub(crate) fn put(&mut self, workspace: Workspace)
+        ensures { self.new ≡ workspace.workspace }
+    {
+        self.making = Making::Made(workspace);
+    }
+
+    /// Gives up all that evaluations made and kept. Takes no memory.
+    pub(crate) fn empty(&mut self)
+        ensures { self.new ≡ emptied_workspace self.old }
+    {
+        self.making.empty();
+    }
+}
