@@ -22,7 +22,7 @@ use Rattle.js_machine_engine.specs.declared.task.Task.{Task}
 use Rattle.js_machine_engine.specs.Gaps.{plugged, resettled}
 use Rattle.js_machine_engine.specs.Tasks.{Wide, index_of, kept_of, form_in, task_form, later_of, gaps_of, scope_of, InScopes}
 use Rattle.js_machine_engine.specs.Points.{row_term, IsAtRow}
-use Rattle.js_machine_engine.specs.Stacks.{has_extra, wide, values_of, extra_of, outer_of, without_values, changed, OwnsOnly}
+use Rattle.js_machine_engine.specs.Stacks.{op_of, has_extra, wide, values_of, extra_of, outer_of, without_values, changed, OwnsOnly}
 use Rattle.js_machine_engine.specs.Parts.{IsNextPart}
 use Rattle.js_machine_engine.specs.Settling.{closing_of, closed, next_turn_term, ended_term, settled_row, Through, Comes, restaged, IsInnermost, kept_trees, looped}
 use Rattle.js_machine_nodes.proofs.TreeLemmas.{kids-end}
@@ -92,6 +92,15 @@ pub waits-comes : (t : NodeTable) (old : List Wide) (task : Task) (e : Option Ex
     → Comes t old old (λ ts. settled_row ts t old) nexts.Row
 waits-comes t old task e i h r =
     comes-row t old old (λ ts. settled_row ts t old) (through-refl t old) r (λ ts. waits-term ts t old task e i h)
+
+pub row-waits : (t : NodeTable) (old : List Wide)
+    → closing_of (op_of old) ≡ closings.Waits
+    → IsAtRow old
+    → Comes t old old (λ ts. settled_row ts t old) nexts.Row
+row-waits t [] h r = absurd r
+row-waits t (w ∷ ws) h r =
+    comes-row t (w ∷ ws) (w ∷ ws) (λ ts. settled_row ts t (w ∷ ws)) (through-refl t (w ∷ ws)) r
+    (λ ts. waits_at ts t w ws h)
 
 -- ---- a form that has a value
 

@@ -1,5 +1,5 @@
 -- The way inward to what is reduced next, and outward from a value.
-use Rattle.std.proofs.Common.{◌≡◌, ℕ, true, false, List, [], ◌∷◌, Option, None, Some, slice_get, refl, sym, ap, subst, ◌∙◌, arith}
+use Rattle.std.proofs.Common.{◌≡◌, ℕ, ◌<◌, Bool, true, false, List, [], ◌∷◌, ◌++◌, Option, None, Some, length, slice_get, refl, sym, ap, subst, ◌∙◌, arith}
 use Rattle.js_heap.specs.declared.value.Addr.{Addr}
 use Rattle.js_heap.specs.declared.value.Value.{Value}
 use Rattle.js_heap.specs.declared.value.Value.TheVariants as values
@@ -15,21 +15,33 @@ use Rattle.js_machine_engine.specs.declared.closing.Closing.{Closing}
 use Rattle.js_machine_engine.specs.declared.closing.Closing.TheVariants as closings
 use Rattle.js_machine_engine.specs.declared.closing.Next.{Next}
 use Rattle.js_machine_engine.specs.declared.closing.Next.TheVariants as nexts
-use Rattle.js_machine_engine.specs.declared.settling.Entered.TheVariants as entereds
 use Rattle.js_machine_engine.specs.declared.task.Task.{Task}
 use Rattle.js_machine_engine.specs.declared.task.Extra.{Extra}
+use Rattle.js_machine_engine.specs.declared.task.Point.{Point}
 use Rattle.js_machine_engine.specs.declared.task.Point.TheVariants as points
 use Rattle.js_machine_engine.specs.Gaps.{plugged, resettled}
 use Rattle.js_machine_engine.specs.Tasks.{Wide, form_in, task_form, gaps_of, scope_of, InScopes}
-use Rattle.js_machine_engine.specs.Points.{row_term, term_at, IsAtRow}
-use Rattle.js_machine_engine.specs.Stacks.{begun, with_value}
+use Rattle.js_machine_engine.specs.Points.{row_term, term_at, IsAt, IsAtRow, IsLeafAt}
+use Rattle.js_machine_engine.specs.Stacks.{is_empty, op_of, begun, outer_of, with_value}
 use Rattle.js_machine_engine.specs.Parts.{IsOpen, IsNextPart}
-use Rattle.js_machine_engine.specs.Settling.{closing_of, is_waiting, closed, proceeding, CanCome, ComesIn, settled_row, Through, Comes, IsTask, Inward, Enters, IsOnWay, IsOnWayOut, IsInnermost}
+use Rattle.js_machine_engine.specs.Settling.{closing_of, is_waiting, closed, proceeding, CanCome, ComesIn, settled_row, Through, Comes, IsTask, Inward, Enters, IsOnWay, IsOnWayOut, IsInnermost, Settles, GivesWay}
 use Rattle.js_machine_nodes.proofs.TreeLemmas.{tree-at, node-at, now-below, kids-end}
 use Rattle.js_machine_engine.proofs.SettledParts.{settled_parts}
 use Rattle.js_machine_engine.proofs.SettleLemmas.{resettled-part, parts-within, parts-settled, within_parts, after_parts, value-settled, scopes-next, scope-next, outer-next, row-next}
 use Rattle.js_machine_engine.proofs.FinishLemmas.{closes, node-form, node-scope}
+use Rattle.js_machine_engine.proofs.ClosingLemmas.{row-waits}
 use Rattle.js_machine_engine.proofs.StageLemmas.{comes-through, comes-part, through-value}
+
+-- ---- the term at a point
+
+pub row-term : (ts : List (List ℕ)) (t : NodeTable) (new : List Wide) → row_term ts t new ≡ term_at ts t new points.Row
+unfolding term_at
+row-term ts t new = refl
+
+pub leaf-term : (ts : List (List ℕ)) (t : NodeTable) (new : List Wide) (n : ℕ)
+    → plugged (gaps_of ts t new) (tree ts t n) ≡ term_at ts t new (points.Leaf n)
+unfolding term_at
+leaf-term ts t new n = refl
 
 -- ---- a node as a task
 
@@ -103,55 +115,100 @@ node_within ts t n node inner old new p table e o i =
 
 -- ---- one level inward
 
-pub row-enters : (t : NodeTable) (old mid new : List Wide) (inner : Addr) (n : ℕ) (node : Node)
+pub leaf-enters : (t : NodeTable) (old : List Wide) (inner : Addr) (n k : ℕ) (node : Node)
+    → slice_get t.nodes.items n ≡ Some node
+    → IsOpen (slice_get t.nodes.items n)
+    → node.first ≡ node.mid
+    → Enters t old old inner n k (points.Leaf n) false
+leaf-enters t old inner n k node e o h =
+    let P : Option Node → Type 0 = IsLeafAt in
+    record {
+      way =
+          record {
+            term = λ ts. leaf-term ts t old n;
+            at = subst P (sym e) (record { parts = h; value = open-node t n node e o });
+          };
+      inward = record { scope = λ root q. q; scoped = λ root q s. s };
+    }
+
+pub row-enters : (t : NodeTable) (old mid new : List Wide) (inner : Addr) (n k : ℕ) (node : Node)
     → IsTable t
     → slice_get t.nodes.items n ≡ Some node
     → IsOpen (slice_get t.nodes.items n)
     → mid ≡ node_task node inner ∷ old
     → IsNextPart t mid new None
-    → Enters t old new inner n entereds.Row
-row-enters t old mid new inner n node table e o m i =
+    → Enters t old new inner n k points.Row false
+row-enters t old mid new inner n k node table e o m i =
     let P : List Wide → Type 0 = λ ws. IsNextPart t ws new None in
     let j : IsNextPart t (node_task node inner ∷ old) new None = subst P m i in
     record {
-      term = λ ts. node_within ts t n node inner old new None table e (open-node t n node e o) j;
-      stands = row-next t (node_task node inner) old new j;
+      way =
+          record {
+            term =
+                λ ts. node_within ts t n node inner old new None table e (open-node t n node e o) j
+                ∙ row-term ts t new;
+            at = row-next t (node_task node inner) old new j;
+          };
       inward = task-inward t n node inner old new None table e j;
     }
 
-pub part-enters : (t : NodeTable) (old mid new : List Wide) (inner : Addr) (n : ℕ) (node : Node) (k : ℕ)
+pub part-enters : (t : NodeTable) (old mid new : List Wide) (inner : Addr) (n k : ℕ) (node : Node) (p : Point)
     → IsTable t
     → slice_get t.nodes.items n ≡ Some node
     → IsOpen (slice_get t.nodes.items n)
     → mid ≡ node_task node inner ∷ old
     → IsNextPart t mid new (Some k)
-    → Enters t old new inner n (entereds.Part k)
-part-enters t old mid new inner n node k table e o m i =
+    → Enters t old new inner n k p true
+part-enters t old mid new inner n k node p table e o m i =
     let P : List Wide → Type 0 = λ ws. IsNextPart t ws new (Some k) in
     let j : IsNextPart t (node_task node inner ∷ old) new (Some k) = subst P m i in
     record {
-      term = λ ts. node_within ts t n node inner old new (Some k) table e (open-node t n node e o) j;
-      stands = record { form = j.part.form; before = j.part.below n (now-below t n node (node-at t n node table e)) };
+      way =
+          record {
+            term = λ ts. node_within ts t n node inner old new (Some k) table e (open-node t n node e o) j;
+            form = j.part.form;
+            before = j.part.below n (now-below t n node (node-at t n node table e));
+          };
       inward = task-inward t n node inner old new (Some k) table e j;
     }
 
 -- ---- all levels inward
 
-pub way-leaf : (ts : List (List ℕ)) (t : NodeTable) (old : List Wide) (node : ℕ) (inner : Addr) (now new : List Wide)
-    (n : ℕ)
-    → IsOnWay t old node inner now n
-    → Enters t now new inner n entereds.Leaf
-    → plugged (gaps_of ts t old) (tree ts t node) ≡ term_at ts t new (points.Leaf n)
-unfolding term_at
-way-leaf ts t old node inner now new n w e = sym (w.term ts) ∙ e.term ts
+inward_more : (t : NodeTable) (old now new : List Wide) (inner : Addr)
+    → Inward t old now inner
+    → Inward t now new inner
+    → Inward t old new inner
+inward_more t old now new inner i j = record {
+  scope = λ root h. j.scope root (i.scope root h);
+  scoped = λ root h s. j.scoped root (i.scope root h) (i.scoped root h s);
+}
 
-pub way-row : (ts : List (List ℕ)) (t : NodeTable) (old : List Wide) (node : ℕ) (inner : Addr) (now new : List Wide)
-    (n : ℕ)
+pub way-deeper : (t : NodeTable) (old : List Wide) (node : ℕ) (inner : Addr) (now new : List Wide) (n k : ℕ) (p : Point)
     → IsOnWay t old node inner now n
-    → Enters t now new inner n entereds.Row
-    → plugged (gaps_of ts t old) (tree ts t node) ≡ term_at ts t new points.Row
-unfolding term_at
-way-row ts t old node inner now new n w e = sym (w.term ts) ∙ e.term ts
+    → Enters t now new inner n k p true
+    → IsOnWay t old node inner new k
+way-deeper t old node inner now new n k p w e = record {
+  term = λ ts. sym (e.way.term ts) ∙ w.term ts;
+  form = e.way.form;
+  inward = inward_more t old now new inner w.inward e.inward;
+}
+
+pub way-term : (ts : List (List ℕ)) (t : NodeTable) (old : List Wide) (node : ℕ) (inner : Addr) (now new : List Wide)
+    (n k : ℕ) (p : Point)
+    → IsOnWay t old node inner now n
+    → Enters t now new inner n k p false
+    → plugged (gaps_of ts t old) (tree ts t node) ≡ term_at ts t new p
+way-term ts t old node inner now new n k p w e = sym (w.term ts) ∙ e.way.term ts
+
+pub way-inward : (t : NodeTable) (old : List Wide) (node : ℕ) (inner : Addr) (now new : List Wide) (n k : ℕ) (p : Point)
+    → IsOnWay t old node inner now n
+    → Enters t now new inner n k p false
+    → Inward t old new inner
+way-inward t old node inner now new n k p w e = inward_more t old now new inner w.inward e.inward
+
+waiting_is : (c : Closing) → is_waiting c ≡ true → c ≡ closings.Waits
+waiting_is closings.Waits e = refl
+waiting_is c e = cc
 
 -- ---- a value in the innermost gap
 
@@ -200,9 +257,85 @@ take-all t old mid all new v next h e i c =
     comes-through t old all new (λ ts. resettled (gaps_of ts t old) (done v)) (λ ts. settled_row ts t all) next
     (taken_through t old mid all v None e i) (λ ts. taken_term ts t old mid all v None h e i) c
 
+pub none-task : (ws : List Wide) → is_empty ws ≡ true → ws ≡ []
+none-task [] e = refl
+none-task (w ∷ ws) e = cc
+
+pub some-task : (ws : List Wide) → is_empty ws ≡ false → IsTask ws
+some-task [] e = cc
+some-task (w ∷ ws) e = tt
+
+pub row-task : (ws : List Wide) → IsAtRow ws → IsTask ws
+row-task [] r = r
+row-task (w ∷ ws) r = tt
+
+pub task-scope : (ws : List Wide) (a root : Addr) → IsTask ws → scope_of root ws ≡ scope_of a ws
+task-scope [] a root h = absurd h
+task-scope (w ∷ ws) a root h = refl
+
+pub fewer-tasks : (old new : List Wide) → IsTask old → new ≡ outer_of old → length new < length old
+fewer-tasks [] new h e = absurd h
+fewer-tasks (w ∷ ws) new h e = rw e (omega arith)
+
+pub taken-row : (t : NodeTable) (old mid new : List Wide) (v : Value)
+    → IsTask old
+    → mid ≡ with_value v old
+    → IsNextPart t mid new None
+    → IsAtRow new
+taken-row t [] mid new v h e i = absurd h
+taken-row t (w ∷ ws) mid new v h e i =
+    let P : List Wide → Type 0 = λ xs. IsNextPart t xs new None in
+    row-next t (record w { values = w.values ++ v ∷ [] }) ws new (subst P e i)
+
 pub is-task : (old : List Wide) (task : Task) (e : Option Extra) → IsInnermost task e old → IsTask old
 is-task [] task e i = cc
 is-task (w ∷ ws) task e i = tt
+
+-- ---- where it ends
+
+pub row-settles : (t : NodeTable) (old new : List Wide) (from : List (List ℕ) → Term)
+    → Comes t old new from nexts.Row
+    → Settles t old new from points.Row
+row-settles t old new from c =
+    record { term = λ ts. c.term ts ∙ row-term ts t new; at = c.stands; scoped = c.scoped }
+
+pub part-settles : (t : NodeTable) (old mid new : List Wide) (from : List (List ℕ) → Term) (k : ℕ) (inner : Addr)
+    (p : Point)
+    → Comes t old mid from (nexts.Part k)
+    → ((root : Addr) → scope_of root old ≡ inner)
+    → ((ts : List (List ℕ)) → plugged (gaps_of ts t mid) (tree ts t k) ≡ term_at ts t new p)
+    → IsAt t new p
+    → ((root : Addr) → scope_of root mid ≡ inner → InScopes t root mid → InScopes t root new)
+    → Settles t old new from p
+part-settles t old mid new from k inner p c i term at scoped = record {
+  term = λ ts. c.term ts ∙ term ts;
+  at = at;
+  scoped = λ root s. scoped root (c.stands.inner root ∙ i root) (c.scoped root s);
+}
+
+pub take-waits : (t : NodeTable) (old mid all : List Wide) (v : Value)
+    → IsTask old
+    → mid ≡ with_value v old
+    → IsNextPart t mid all None
+    → is_waiting (closing_of (op_of all)) ≡ true
+    → Settles t old all (λ ts. resettled (gaps_of ts t old) (done v)) points.Row
+take-waits t old mid all v h e i w =
+    row-settles t old all (λ ts. resettled (gaps_of ts t old) (done v))
+    (take-all t old mid all all v nexts.Row h e i
+    (row-waits t all (waiting_is (closing_of (op_of all)) w) (taken-row t old mid all v h e i)))
+
+pub take-closes : (t : NodeTable) (old mid all new : List Wide) (v u : Value) (p : Point) (b : Bool)
+    → IsTask old
+    → mid ≡ with_value v old
+    → IsNextPart t mid all None
+    → GivesWay t all new (λ ts. settled_row ts t all) u p b
+    → GivesWay t old new (λ ts. resettled (gaps_of ts t old) (done v)) u p b
+take-closes t old mid all new v u p true h e i c = take-all t old mid all new v (nexts.Value u) h e i c
+take-closes t old mid all new v u p false h e i c = record {
+  term = λ ts. taken_term ts t old mid all v None h e i ∙ c.term ts;
+  at = c.at;
+  scoped = λ root s. c.scoped root ((taken_through t old mid all v None e i).scoped root s);
+}
 
 -- ---- the way outward
 
@@ -225,20 +358,15 @@ out-done ts t old value now v w e =
     ∙ ap (λ ws. resettled (gaps_of ts t ws) (done v)) e
     ∙ ap (λ ws. plugged (gaps_of ts t ws) (done v)) (sym e)
 
-pub row-term : (ts : List (List ℕ)) (t : NodeTable) (new : List Wide) → row_term ts t new ≡ term_at ts t new points.Row
-unfolding term_at
-row-term ts t new = refl
-
-pub leaf-term : (ts : List (List ℕ)) (t : NodeTable) (new : List Wide) (n : ℕ)
-    → plugged (gaps_of ts t new) (tree ts t n) ≡ term_at ts t new (points.Leaf n)
-unfolding term_at
-leaf-term ts t new n = refl
-
-pub out-row : (ts : List (List ℕ)) (t : NodeTable) (old : List Wide) (value : Value) (now new : List Wide) (v : Value)
+pub out-settles : (t : NodeTable) (old : List Wide) (value : Value) (now new : List Wide) (v : Value) (p : Point)
     → IsOnWayOut t old value now v
-    → Comes t now new (λ ts. resettled (gaps_of ts t now) (done v)) nexts.Row
-    → resettled (gaps_of ts t old) (done value) ≡ term_at ts t new points.Row
-out-row ts t old value now new v w c = sym (w.term ts) ∙ c.term ts ∙ row-term ts t new
+    → Settles t now new (λ ts. resettled (gaps_of ts t now) (done v)) p
+    → Settles t old new (λ ts. resettled (gaps_of ts t old) (done value)) p
+out-settles t old value now new v p w c = record {
+  term = λ ts. sym (w.term ts) ∙ c.term ts;
+  at = c.at;
+  scoped = λ root s. c.scoped root (w.scoped root s);
+}
 
 -- the scope in the gap is that of the innermost task
 pub entered-scope : (t : NodeTable) (old new : List Wide) (from : List (List ℕ) → Term) (n : ℕ) (task : Task)
@@ -289,10 +417,6 @@ uncovered-parts ts t old mid new n node inner p table e o m i =
     uncovered_by ts t (resettled (gaps_of ts t old)) n node inner table e (open-node t n node e o)
     ∙ ap (settled_parts ts t) (sym m)
     ∙ parts-settled ts t mid new p i
-
-waiting_is : (c : Closing) → is_waiting c ≡ true → c ≡ closings.Waits
-waiting_is closings.Waits e = refl
-waiting_is c e = cc
 
 waits_node : (ts : List (List ℕ)) (t : NodeTable) (node : Node) (inner : Addr) (later : Terms)
     → closing_of node.op ≡ closings.Waits

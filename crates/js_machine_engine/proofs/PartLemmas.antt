@@ -6,7 +6,7 @@ use Rattle.js_machine_nodes.specs.declared.table.NodeTable.{NodeTable}
 use Rattle.js_machine_nodes.specs.Trees.{kids_between, terms, tree, trees, EachBelow}
 use Rattle.js_machine_engine.specs.Tasks.{Wide}
 use Rattle.js_machine_engine.specs.Stacks.{values_of, with_value, at_part}
-use Rattle.js_machine_engine.specs.Parts.{IsOpen, mid_of, parts_of, IsTaken, IsNextPart}
+use Rattle.js_machine_engine.specs.Parts.{IsOpen, at_of, mid_of, parts_of, IsTaken, IsNextPart}
 use Rattle.js_machine_nodes.proofs.TreeLemmas.{kids-some, kids-none, kids-end}
 
 -- ---- values and parts
@@ -38,6 +38,10 @@ below_some : (t : NodeTable) (at mid k m : ℕ)
     → EachBelow m (kids_between t at mid)
     → EachBelow m (k ∷ kids_between t (at + 1) mid)
 below_some t at mid k m h e b = let P : List ℕ → Type 0 = EachBelow m in subst P (kids-some t at mid k h e) b
+
+pub taken-none-yet : (t : NodeTable) (old : List Wide) → IsTaken t old old (at_of old)
+taken-none-yet t [] = record { same = refl; parts = λ ts. refl; below = λ m b. b }
+taken-none-yet t (w ∷ ws) = record { same = refl; parts = λ ts. refl; below = λ m b. b }
 
 taken_value_of : (t : NodeTable) (w : Wide) (ws : List Wide) (at k : ℕ) (vs us : List Value) (v : Value)
     → ((ts : List (List ℕ)) → joined (dones vs) (trees ts t at w.mid) ≡ parts_of ts t (w ∷ ws))

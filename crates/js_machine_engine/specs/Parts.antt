@@ -1,5 +1,5 @@
 -- The parts of the innermost task.
-use Rattle.std.specs.Prelude.{◌≡◌, ℕ, ◌<◌, false, List, [], ◌∷◌, Option, Some, None, slice_get}
+use Rattle.std.specs.Prelude.{◌≡◌, ℕ, ◌<◌, Bool, true, false, List, [], ◌∷◌, Option, Some, None, slice_get}
 use Rattle.js_heap.specs.declared.value.Value.{Value}
 use Rattle.js_semantics.specs.Terms.{Terms, end, joined, dones}
 use Rattle.js_machine_nodes.specs.declared.node.Node.{Node}
@@ -64,3 +64,8 @@ pub record IsNextPart (t : NodeTable) (old new : List Wide) (n : Option ℕ) : T
   pub same : new ≡ moved (at_of new) (values_of new) old
   pub parts : (ts : List (List ℕ)) → parts_of ts t old ≡ parts_with ts t new n
   pub part : IsPartOrEnd t old new n
+
+-- the part of this number, if one was found
+abbrev pub found_part : Bool → ℕ → Option ℕ
+found_part false n = None
+found_part true n = Some n

@@ -20,13 +20,12 @@ use Rattle.js_machine_engine.specs.declared.closing.KeptPart.{KeptPart}
 use Rattle.js_machine_engine.specs.declared.closing.KeptPart.TheVariants as kepts
 use Rattle.js_machine_engine.specs.declared.closing.Next.{Next}
 use Rattle.js_machine_engine.specs.declared.closing.Next.TheVariants as nexts
-use Rattle.js_machine_engine.specs.declared.settling.Entered.{Entered}
-use Rattle.js_machine_engine.specs.declared.settling.Entered.TheVariants as entereds
+use Rattle.js_machine_engine.specs.declared.task.Point.{Point}
 use Rattle.js_machine_engine.specs.Gaps.{plugged, resettled}
 use Rattle.js_machine_engine.specs.Tasks.{Wide, turn_scope, index_of, kept_of, form_in, task_form, later_of, gaps_of, scope_of, InScopes}
 use Rattle.js_machine_engine.specs.Stacks.{has_extra, wide, values_of, outer_of}
 use Rattle.js_machine_engine.specs.Parts.{IsOpen, parts_of}
-use Rattle.js_machine_engine.specs.Points.{row_term, IsAtRow, IsLeafAt}
+use Rattle.js_machine_engine.specs.Points.{row_term, term_at, IsAt, IsAtRow}
 
 -- ---- which forms don't wait for their row
 
@@ -182,32 +181,31 @@ abbrev pub IsTask : List Wide → Type 0
 IsTask [] = ⊥
 IsTask (w ∷ ws) = Unit {0}
 
--- the term after a level inward
-abbrev pub entered_term : List (List ℕ) → NodeTable → List Wide → ℕ → Entered → Term
-entered_term ts t ws n entereds.Leaf = plugged (gaps_of ts t ws) (tree ts t n)
-entered_term ts t ws n entereds.Row = row_term ts t ws
-entered_term ts t ws n (entereds.Part k) = plugged (gaps_of ts t ws) (tree ts t k)
-
--- a part of a node, which stands before it
-pub record IsDeeper (t : NodeTable) (n k : ℕ) : Type 0 where
-  pub form : IsOpen (slice_get t.nodes.items k)
-  pub before : k < n
-
--- what holds after a level inward
-abbrev pub StandsWithin : NodeTable → List Wide → ℕ → Entered → Type 0
-StandsWithin t new n entereds.Leaf = IsLeafAt (slice_get t.nodes.items n)
-StandsWithin t new n entereds.Row = IsAtRow new
-StandsWithin t new n (entereds.Part k) = IsDeeper t n k
-
 -- the new tasks are in this scope, and each in its own, where the old ones were
 pub record Inward (t : NodeTable) (old new : List Wide) (inner : Addr) : Type 0 where
   pub scope : (root : Addr) → scope_of root old ≡ inner → scope_of root new ≡ inner
   pub scoped : (root : Addr) → scope_of root old ≡ inner → InScopes t root old → InScopes t root new
 
--- a node in the innermost gap has become a task with a part of its own in the gap, or none
-pub record Enters (t : NodeTable) (old new : List Wide) (inner : Addr) (n : ℕ) (e : Entered) : Type 0 where
-  pub term : (ts : List (List ℕ)) → plugged (gaps_of ts t old) (tree ts t n) ≡ entered_term ts t new n e
-  pub stands : StandsWithin t new n e
+-- the way goes on from this part of a node, with the term of that node in the innermost gap before
+pub record IsDeeper (t : NodeTable) (old new : List Wide) (n k : ℕ) : Type 0 where
+  pub term : (ts : List (List ℕ)) → plugged (gaps_of ts t old) (tree ts t n) ≡ plugged (gaps_of ts t new) (tree ts t k)
+  pub form : IsOpen (slice_get t.nodes.items k)
+  pub before : k < n
+
+-- the way ends at this point, with the term of that node in the innermost gap before
+pub record IsInmost (t : NodeTable) (old new : List Wide) (n : ℕ) (p : Point) : Type 0 where
+  pub term : (ts : List (List ℕ)) → plugged (gaps_of ts t old) (tree ts t n) ≡ term_at ts t new p
+  pub at : IsAt t new p
+
+-- the way inward from a node goes on from a part of it, or ends at a point
+abbrev pub WayFrom : NodeTable → List Wide → List Wide → ℕ → ℕ → Point → Bool → Type 0
+WayFrom t old new n k p true = IsDeeper t old new n k
+WayFrom t old new n k p false = IsInmost t old new n p
+
+-- one level inward from a node: whether the way goes on from a part, or else where it ends
+pub record Enters (t : NodeTable) (old new : List Wide) (inner : Addr) (n k : ℕ) (p : Point) (goes : Bool)
+    : Type 0 where
+  pub way : WayFrom t old new n k p goes
   pub inward : Inward t old new inner
 
 -- on the way inward from a node of the old tasks to this one
@@ -221,3 +219,14 @@ pub record IsOnWay (t : NodeTable) (old : List Wide) (node : ℕ) (around : Addr
 pub record IsOnWayOut (t : NodeTable) (old : List Wide) (value : Value) (now : List Wide) (v : Value) : Type 0 where
   pub term : (ts : List (List ℕ)) → resettled (gaps_of ts t now) (done v) ≡ resettled (gaps_of ts t old) (done value)
   pub scoped : (root : Addr) → InScopes t root old → InScopes t root now
+
+-- from tasks of which this term is told to others and a point
+pub record Settles (t : NodeTable) (old new : List Wide) (from : List (List ℕ) → Term) (p : Point) : Type 0 where
+  pub term : (ts : List (List ℕ)) → from ts ≡ term_at ts t new p
+  pub at : IsAt t new p
+  pub scoped : (root : Addr) → InScopes t root old → InScopes t root new
+
+-- the innermost task gives way to this value, or the machine stands at this point
+abbrev pub GivesWay : NodeTable → List Wide → List Wide → (List (List ℕ) → Term) → Value → Point → Bool → Type 0
+GivesWay t old new from v p true = Comes t old new from (nexts.Value v)
+GivesWay t old new from v p false = Settles t old new from p

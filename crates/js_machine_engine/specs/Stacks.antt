@@ -19,6 +19,16 @@ has_extra op info = false
 
 -- ---- the innermost task
 
+-- there is no task
+abbrev pub is_empty : List Wide → Bool
+is_empty [] = true
+is_empty (w ∷ ws) = false
+
+-- what the innermost task does
+abbrev pub op_of : List Wide → Op
+op_of [] = ops.Literal
+op_of (w ∷ ws) = w.op
+
 -- the values of the innermost task
 abbrev pub values_of : List Wide → List Value
 values_of [] = []

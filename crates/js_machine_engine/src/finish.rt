@@ -74,10 +74,11 @@ fn finish_try(table: &NodeTable, stack: &mut Stack, task: Task) -> Result<Next, 
 {
     stack.change(Op::Ending, 0, task.mid, task.end);
     stack.clear_values();
-    match next_part(table, stack)? {
-        Some(part) => Ok(Next::Part(part)),
-        None => Ok(Next::Row),
+    let mut part = 0;
+    if next_part(table, stack, &mut part)? {
+        return Ok(Next::Part(part));
     }
+    Ok(Next::Row)
 }
 
 /// What becomes of the innermost task, whose parts all have their values.

@@ -3,7 +3,7 @@
 ghost use Rattle.std.specs.Prelude.{◌≡◌, ℕ, List, IfOk, IfNone, IfSome, slice_get};
 ghost use Rattle.js_semantics.specs.Terms.{done};
 ghost use Rattle.js_machine_nodes.specs.Trees.{tree};
-ghost use Rattle.js_machine_engine.specs.Parts.{IsOpen, IsNextPart};
+ghost use Rattle.js_machine_engine.specs.Parts.{IsOpen, IsNextPart, found_part};
 
 use crate::stack::Stack;
 use js_heap::value::Value;
@@ -37,32 +37,31 @@ fn part_at(table: &NodeTable, at: u32) -> Option<u32>
     table.kids.get(at as usize).copied()
 }
 
-/// Takes the values of the literal parts that come next on the innermost task. Answers the part behind them, if there is one;
-/// the task's next part is then the one behind that.
+/// Takes the values of the literal parts that come next on the innermost task. Answers whether there is a part behind them,
+/// which `next` then is; the task's next part is the one behind that.
 ///
 /// # Errors
 ///
 /// There is no memory for the values.
 #[inline(always)]
-pub fn next_part(table: &NodeTable, stack: &mut Stack) -> Result<Option<u32>, AllocError>
-    ensures { IfOk result (λ n. IsNextPart table.now stack.old stack.new n) }
+pub fn next_part(table: &NodeTable, stack: &mut Stack, next: &mut u32) -> Result<bool, AllocError>
+    ensures { IfOk result (λ found. IsNextPart table.now stack.old stack.new (found_part found next.new)) }
 {
-    let Some(task) = stack.last() else {
-        return Ok(None);
-    };
-    for at in task.at..task.mid {
+    let mid = stack.mid();
+    for at in stack.at()..mid {
         let Some(part) = part_at(table, at) else {
-            stack.set_at(task.mid);
-            return Ok(None);
+            stack.set_at(mid);
+            return Ok(false);
         };
         match value_at(table, part) {
             Some(value) => stack.push_value(value)?,
             None => {
                 stack.set_at(at + 1);
-                return Ok(Some(part));
+                *next = part;
+                return Ok(true);
             }
         }
     }
-    stack.set_at(task.mid);
-    Ok(None)
+    stack.set_at(mid);
+    Ok(false)
 }

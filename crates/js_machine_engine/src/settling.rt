@@ -7,7 +7,7 @@ ghost use Rattle.js_machine_engine.specs.Gaps.{plugged, resettled};
 ghost use Rattle.js_machine_engine.specs.Tasks.{gaps_of, scope_of, InScopes};
 ghost use Rattle.js_machine_engine.specs.Points.{term_at, IsAt, IsAtRow};
 ghost use Rattle.js_machine_engine.specs.Parts.{IsOpen};
-ghost use Rattle.js_machine_engine.specs.Settling.{closing_of, is_waiting, settled_row, next_term, proceeding, CanCome, ComesIn, Comes, IsTask, Enters};
+ghost use Rattle.js_machine_engine.specs.Settling.{closing_of, is_waiting, settled_row, next_term, proceeding, CanCome, ComesIn, IsTask, Enters, GivesWay};
 
 use crate::closing::{Closing, Next, closing_of};
 use crate::finish::finish;
@@ -19,35 +19,54 @@ use js_machine_nodes::op::Op;
 use js_machine_nodes::table::NodeTable;
 use std::alloc::AllocError;
 
-/// What a node comes to on the way inward.
-#[derive(Clone, Copy)]
-pub enum Entered {
-    /// It has no parts to reduce.
-    Leaf,
-    /// It is the innermost task, and all its parts have values.
-    Row,
-    /// It is the innermost task, and goes on with this part.
-    Part(u32),
+/// Whether a task waits for its row when all its parts have their values.
+#[inline(always)]
+fn is_waiting(op: Op) -> bool
+    ensures { result ≡ is_waiting (closing_of op) }
+{
+    match closing_of(op) {
+        Closing::Waits => true,
+        _ => false,
+    }
 }
 
-/// A node that is no value becomes the innermost task, unless it has no parts to reduce.
+/// The scope in which the parts of the innermost task are.
 #[inline(always)]
-fn enter(table: &NodeTable, stack: &mut Stack, inner: Addr, n: u32) -> Result<Entered, AllocError>
-    requires table { IsTable table.now }
-    requires form { IsOpen (slice_get table.now.nodes.items n) }
-    ensures { IfOk result (Enters table.now stack.old stack.new inner n) }
+fn inner_scope(stack: &Stack) -> Addr
+    requires { IsTask stack.now }
+    ensures { (root : Addr) → scope_of root stack.now ≡ result }
 {
-    let Some(node) = table.node(n) else {
-        return Ok(Entered::Leaf);
+    stack.scope(Addr::Base(0))
+}
+
+/// One level inward from a node that is no value: it becomes the innermost task, unless it has no parts to reduce. Answers
+/// whether the way goes on from a part of it, which `n` then is; otherwise the point is what is reduced first.
+#[inline(always)]
+fn enter(
+    table: &NodeTable,
+    stack: &mut Stack,
+    inner: Addr,
+    point: &mut Point,
+    n: &mut u32,
+) -> Result<bool, AllocError>
+    requires table { IsTable table.now }
+    requires form { IsOpen (slice_get table.now.nodes.items n.old) }
+    ensures { IfOk result (Enters table.now stack.old stack.new inner n.old n.new point.new) }
+{
+    let Some(node) = table.node(*n) else {
+        *point = Point::Leaf(*n);
+        return Ok(false);
     };
     if node.first == node.mid {
-        return Ok(Entered::Leaf);
+        *point = Point::Leaf(*n);
+        return Ok(false);
     }
     stack.push(node.op, node.info, node.first, node.mid, node.end, inner)?;
-    match next_part(table, stack)? {
-        Some(part) => Ok(Entered::Part(part)),
-        None => Ok(Entered::Row),
+    if next_part(table, stack, n)? {
+        return Ok(true);
     }
+    *point = Point::Row;
+    Ok(false)
 }
 
 /// Inward from a node that is no value, to what is reduced first; `inner` is the scope in the innermost gap.
@@ -70,31 +89,67 @@ fn descend(
 {
     let mut n = node;
     loop {
-        match enter(table, stack, inner, n)? {
-            Entered::Leaf => {
-                *point = Point::Leaf(n);
-                return Ok(());
-            }
-            Entered::Row => {
-                *point = Point::Row;
-                return Ok(());
-            }
-            Entered::Part(part) => n = part,
+        if !enter(table, stack, inner, point, &mut n)? {
+            return Ok(());
         }
     }
 }
 
-/// A value comes into the innermost gap: what comes next.
-#[inline(always)]
-fn take(table: &NodeTable, stack: &mut Stack, value: Value) -> Result<Next, AllocError>
-    requires { IsTask stack.old }
-    ensures { IfOk result (Comes table.now stack.old stack.new (λ ts. resettled (gaps_of ts table.now stack.old) (done value))) }
+/// What becomes of the innermost task, whose parts all have their values. Answers whether it gives way to a value, which
+/// `given` then is; otherwise the point is what is reduced next.
+#[inline(never)]
+fn close(
+    table: &NodeTable,
+    stack: &mut Stack,
+    point: &mut Point,
+    given: &mut Value,
+) -> Result<bool, AllocError>
+    requires table { IsTable table.now }
+    requires row { IsAtRow stack.old }
+    ensures { IfOk result (GivesWay table.now stack.old stack.new (λ ts. settled_row ts table.now stack.old) given.new point.new) }
 {
-    stack.push_value(value)?;
-    match next_part(table, stack)? {
-        Some(part) => Ok(Next::Part(part)),
-        None => finish(table, stack),
+    let inner = inner_scope(stack);
+    match finish(table, stack)? {
+        Next::Row => {
+            *point = Point::Row;
+            Ok(false)
+        }
+        Next::Value(value) => {
+            *given = value;
+            Ok(true)
+        }
+        Next::Part(part) => {
+            descend(table, stack, inner, point, part)?;
+            Ok(false)
+        }
     }
+}
+
+/// A value comes into the gap of the innermost task. Answers whether the task gives way to a value, which `given` then
+/// is; otherwise the point is what is reduced next.
+#[inline(always)]
+fn take(
+    table: &NodeTable,
+    stack: &mut Stack,
+    point: &mut Point,
+    given: &mut Value,
+) -> Result<bool, AllocError>
+    requires table { IsTable table.now }
+    requires task { IsTask stack.old }
+    ensures { IfOk result (GivesWay table.now stack.old stack.new (λ ts. resettled (gaps_of ts table.now stack.old) (done given.old)) given.new point.new) }
+{
+    let inner = inner_scope(stack);
+    stack.push_value(*given)?;
+    let mut part = 0;
+    if next_part(table, stack, &mut part)? {
+        descend(table, stack, inner, point, part)?;
+        return Ok(false);
+    }
+    if is_waiting(stack.op()) {
+        *point = Point::Row;
+        return Ok(false);
+    }
+    close(table, stack, point, given)
 }
 
 /// A value comes into the innermost gap: from there to what is reduced next. Forms that are finished so give way.
@@ -115,17 +170,12 @@ pub fn give(
 {
     let mut given = value;
     loop {
-        let Some(task) = stack.last() else {
+        if stack.is_empty() {
             *point = Point::Done(given);
             return Ok(());
-        };
-        match take(table, stack, given)? {
-            Next::Row => {
-                *point = Point::Row;
-                return Ok(());
-            }
-            Next::Value(next) => given = next,
-            Next::Part(part) => return descend(table, stack, task.inner, point, part),
+        }
+        if !take(table, stack, point, &mut given)? {
+            return Ok(());
         }
     }
 }
@@ -175,13 +225,12 @@ pub fn proceed(table: &NodeTable, stack: &mut Stack, point: &mut Point) -> Resul
         *point = Point::Done(Value::Undefined);
         return Ok(());
     };
-    match next_part(table, stack)? {
-        Some(part) => descend(table, stack, task.inner, point, part),
-        None => {
-            *point = Point::Row;
-            Ok(())
-        }
+    let mut part = 0;
+    if next_part(table, stack, &mut part)? {
+        return descend(table, stack, task.inner, point, part);
     }
+    *point = Point::Row;
+    Ok(())
 }
 
 /// The innermost task has values for all its parts: from there to what is reduced next.
@@ -193,11 +242,11 @@ pub fn settle_row(table: &NodeTable, stack: &mut Stack, point: &mut Point) -> Re
     ensures at { OnOk result (IsAt table.now stack.new point.new) }
     ensures scoped { OnOk result ((root : Addr) → InScopes table.now root stack.old → InScopes table.now root stack.new) }
 {
-    let Some(task) = stack.last() else {
-        return Ok(());
-    };
-    let next = finish(table, stack)?;
-    take_up(table, stack, task.inner, point, next)
+    let mut given = Value::Undefined;
+    if close(table, stack, point, &mut given)? {
+        return give(table, stack, point, given);
+    }
+    Ok(())
 }
 
 /// A part as it stands in the table comes into the innermost gap; around all tasks is the scope `root`.
@@ -227,17 +276,6 @@ pub fn go(
     }
 }
 
-/// Whether a task waits for its row when all its parts have their values.
-#[inline(always)]
-fn is_waiting(op: Op) -> bool
-    ensures { result ≡ is_waiting (closing_of op) }
-{
-    match closing_of(op) {
-        Closing::Waits => true,
-        _ => false,
-    }
-}
-
 /// A node that is no value comes uncovered into the innermost gap, in which the scope is `inner`.
 #[inline(always)]
 fn uncover_form(
@@ -263,10 +301,11 @@ fn uncover_form(
         }
     }
     stack.push(node.op, node.info, node.first, node.mid, node.end, inner)?;
-    match next_part(table, stack)? {
-        Some(part) => descend(table, stack, inner, point, part),
-        None => settle_row(table, stack, point),
+    let mut part = 0;
+    if next_part(table, stack, &mut part)? {
+        return descend(table, stack, inner, point, part);
     }
+    settle_row(table, stack, point)
 }
 
 /// A part comes uncovered into the innermost gap: where nothing is left to do in it, it gives way. Around all tasks is the

@@ -2,7 +2,8 @@
 
 ghost use Rattle.std.specs.Prelude.{◌≡◌, true, false, List, [], ◌∷◌, length, drop, slice_get, Some, None, reverse, OnOk, OnErr, IfOk, IfSome, IfNone};
 ghost use Rattle.js_machine_engine.specs.Tasks.{scope_of};
-ghost use Rattle.js_machine_engine.specs.Stacks.{has_extra, wide, begun, values_of, extra_of, outer_of, with_value, without_values, at_part, changed, within, turned, owning, OwnsAs, OwnsOnly, other_extras, next_turn, turned_extras};
+ghost use Rattle.js_machine_engine.specs.Parts.{at_of, mid_of};
+ghost use Rattle.js_machine_engine.specs.Stacks.{is_empty, op_of, has_extra, wide, begun, values_of, extra_of, outer_of, with_value, without_values, at_part, changed, within, turned, owning, OwnsAs, OwnsOnly, other_extras, next_turn, turned_extras};
 
 use crate::task::{Extra, Task};
 use js_heap::value::{Addr, Value};
@@ -129,6 +130,47 @@ impl Stack {
         ensures owned { OwnsOnly self.now }
     {
         self.tasks.last().copied()
+    }
+
+    /// Whether there is no task.
+    #[inline(always)]
+    pub fn is_empty(&self) -> bool
+        ensures { result ≡ is_empty self.now }
+    {
+        self.tasks.last().is_none()
+    }
+
+    /// What the innermost task does; a literal where there is none.
+    #[inline(always)]
+    pub fn op(&self) -> Op
+        ensures { result ≡ op_of self.now }
+    {
+        match self.tasks.last() {
+            Some(task) => task.op,
+            None => Op::Literal,
+        }
+    }
+
+    /// The place of the innermost task's next part in the table's list of parts; 0 where there is no task.
+    #[inline(always)]
+    pub fn at(&self) -> u32
+        ensures { result ≡ at_of self.now }
+    {
+        match self.tasks.last() {
+            Some(task) => task.at,
+            None => 0,
+        }
+    }
+
+    /// Where the innermost task's parts end that are reduced from left to right; 0 where there is no task.
+    #[inline(always)]
+    pub fn mid(&self) -> u32
+        ensures { result ≡ mid_of self.now }
+    {
+        match self.tasks.last() {
+            Some(task) => task.mid,
+            None => 0,
+        }
     }
 
     /// How many tasks there are.

@@ -1,15 +1,22 @@
 use Rattle.std.proofs.Common.{sym}
-use Rattle.js_machine_engine.proofs.DescentLemmas.{row-enters, part-enters}
+use Rattle.js_machine_engine.proofs.DescentLemmas.{leaf-enters, row-enters, part-enters}
 use Rattle.js_machine_engine.proofs.settling.enter.Goals as goal
 
-pub returns-in-Some-2 : goal.returns-in-Some-2
-returns-in-Some-2 c =
-    part-enters c.args.table.now c.args.stack.now c.push.new.self c.next_part.new.stack c.args.inner c.args.n
-    c.in-Some.node c.in-Some-2.part c.requires.table
-    (sym c.in-Some.ensures) c.requires.form c.in_ok-push.ensures (rw c.in-Some-2.is at c.in_ok-part.ensures)
+pub returns-then-node : goal.returns-then-node
+returns-then-node c =
+    leaf-enters c.args.table.now c.args.stack.now c.args.inner c.args.n.now c.args.n.now c.in-Some.node
+    (sym c.in-Some.ensures) c.requires.form c.if-node.true
 
-pub returns-in-None : goal.returns-in-None
-returns-in-None c =
-    row-enters c.args.table.now c.args.stack.now c.push.new.self c.next_part.new.stack c.args.inner c.args.n
-    c.in-Some.node c.requires.table
-    (sym c.in-Some.ensures) c.requires.form c.in_ok-push.ensures (rw c.in-None.is at c.in_ok-part.ensures)
+pub returns-then-branch : goal.returns-then-branch
+returns-then-branch c =
+    part-enters c.args.table.now c.args.stack.now c.push.new.self c.next_part.new.stack c.args.inner c.args.n.now
+    c.next_part.new.next c.in-Some.node c.args.point.now c.requires.table
+    (sym c.in-Some.ensures) c.requires.form c.in_ok-push.ensures
+    (rw c.if-branch.true at c.in_ok-next_part.ensures)
+
+pub returns : goal.returns
+returns c =
+    row-enters c.args.table.now c.args.stack.now c.push.new.self c.next_part.new.stack c.args.inner c.args.n.now
+    c.next_part.new.next c.in-Some.node c.requires.table
+    (sym c.in-Some.ensures) c.requires.form c.in_ok-push.ensures
+    (rw c.if-branch.false at c.in_ok-next_part.ensures)

@@ -10,33 +10,33 @@ returns-then-is_waiting-clause-term c =
     λ ts. uncovered-leaf ts c.args.table.now c.args.stack.now c.args.n c.in-Some.node c.args.inner c.requires.table
     (sym c.in-Some.ensures) c.requires.form c.if-node.true (sym c.if-is_waiting.ensures)
 
-pub returns-in-Some-2-clause-term : goal.returns-in-Some-2-clause-term
-returns-in-Some-2-clause-term c =
+pub returns-then-branch-clause-term : goal.returns-then-branch-clause-term
+returns-then-branch-clause-term c =
     let t = c.args.table.now in
-    let i : IsNextPart t c.push.new.self c.next_part.new.stack (Some c.in-Some-2.part)
-    = rw c.in-Some-2.is at c.in_ok-part.ensures in
+    let i : IsNextPart t c.push.new.self c.next_part.new.stack (Some c.next_part.new.next)
+    = rw c.if-branch.true at c.in_ok-next_part.ensures in
     on_ok_weaker c.descend.result
     (λ d. λ ts. uncovered-parts ts t c.args.stack.now c.push.new.self c.next_part.new.stack c.args.n c.in-Some.node
     c.args.inner
-    (Some c.in-Some-2.part) c.requires.table (sym c.in-Some.ensures) c.requires.form c.in_ok-push.ensures i
+    (Some c.next_part.new.next) c.requires.table (sym c.in-Some.ensures) c.requires.form c.in_ok-push.ensures i
     ∙ d ts)
     c.descend.ensures.term
 
-pub returns-in-Some-2-clause-scoped : goal.returns-in-Some-2-clause-scoped
-returns-in-Some-2-clause-scoped c =
+pub returns-then-branch-clause-scoped : goal.returns-then-branch-clause-scoped
+returns-then-branch-clause-scoped c =
     let t = c.args.table.now in
-    let i : IsNextPart t c.push.new.self c.next_part.new.stack (Some c.in-Some-2.part)
-    = rw c.in-Some-2.is at c.in_ok-part.ensures in
+    let i : IsNextPart t c.push.new.self c.next_part.new.stack (Some c.next_part.new.next)
+    = rw c.if-branch.true at c.in_ok-next_part.ensures in
     let h : Inward t c.args.stack.now c.next_part.new.stack c.args.inner = uncovered-scoped t c.args.stack.now
     c.push.new.self c.next_part.new.stack c.args.n c.in-Some.node c.args.inner
-    (Some c.in-Some-2.part) c.requires.table (sym c.in-Some.ensures) c.in_ok-push.ensures i in
+    (Some c.next_part.new.next) c.requires.table (sym c.in-Some.ensures) c.in_ok-push.ensures i in
     on_ok_weaker c.descend.result (λ d. λ root e s. d root (h.scope root e) (h.scoped root e s))
     c.descend.ensures.scoped
 
-pub returns-in-None-clause-term : goal.returns-in-None-clause-term
-returns-in-None-clause-term c =
+pub returns-clause-term : goal.returns-clause-term
+returns-clause-term c =
     let t = c.args.table.now in
-    let i : IsNextPart t c.push.new.self c.next_part.new.stack None = rw c.in-None.is at c.in_ok-part.ensures in
+    let i : IsNextPart t c.push.new.self c.next_part.new.stack None = rw c.if-branch.false at c.in_ok-next_part.ensures in
     on_ok_weaker c.settle_row.result
     (λ d. λ ts. uncovered-parts ts t c.args.stack.now c.push.new.self c.next_part.new.stack c.args.n c.in-Some.node
     c.args.inner None c.requires.table
@@ -44,10 +44,10 @@ returns-in-None-clause-term c =
     ∙ d ts)
     c.settle_row.ensures.term
 
-pub returns-in-None-clause-scoped : goal.returns-in-None-clause-scoped
-returns-in-None-clause-scoped c =
+pub returns-clause-scoped : goal.returns-clause-scoped
+returns-clause-scoped c =
     let t = c.args.table.now in
-    let i : IsNextPart t c.push.new.self c.next_part.new.stack None = rw c.in-None.is at c.in_ok-part.ensures in
+    let i : IsNextPart t c.push.new.self c.next_part.new.stack None = rw c.if-branch.false at c.in_ok-next_part.ensures in
     let h : Inward t c.args.stack.now c.next_part.new.stack c.args.inner = uncovered-scoped t c.args.stack.now
     c.push.new.self c.next_part.new.stack c.args.n c.in-Some.node c.args.inner None c.requires.table
     (sym c.in-Some.ensures) c.in_ok-push.ensures i in
