@@ -1,5 +1,5 @@
 -- Steps one after another.
-use Rattle.std.proofs.Common.{◌≡◌, ℕ, zero, suc, ◌+◌, ◌-◌, ◌<◌, Bool, false, List, [], ◌∷◌, Option, None, Some, slice_get, refl, sym, ap, subst, ◌∙◌, add-one, arith, below_more}
+use Rattle.std.proofs.Common.{◌≡◌, ℕ, zero, suc, ◌+◌, ◌-◌, ◌<◌, Bool, true, false, List, [], ◌∷◌, Option, None, Some, slice_get, refl, sym, ap, subst, ◌∙◌, add-one, arith, below_more}
 use Rattle.std.specs.Prelude.{is_some}
 use Rattle.js_heap.specs.declared.value.Addr.{Addr}
 use Rattle.js_heap.specs.declared.value.Value.{Value}
@@ -25,7 +25,7 @@ use Rattle.js_machine_engine.specs.Tasks.{Wide, gaps_of, redex_of}
 use Rattle.js_machine_engine.specs.Points.{term_at, IsAt, IsLeafAt}
 use Rattle.js_machine_engine.specs.Parts.{IsOpen}
 use Rattle.js_machine_engine.specs.Running.{why_of, RunsTo, IsRunning, RunsFor, CountsAs, asks_at, HasPassed, IsAsked, passed_steps, IfGoes, HasRun}
-use Rattle.js_machine_engine.specs.Stepping.{Tells, EndsSo, finish_of, IfGoesOn, StandsIn, IsGoing}
+use Rattle.js_machine_engine.specs.Stepping.{Tells, told_by, EndsSo, finish_of, IfGoesOn, StandsIn, IsGoing}
 use Rattle.js_machine_engine.proofs.TreeLemmas.{open-tree}
 use Rattle.js_semantics.proofs.FollowLemmas.{steps-suc}
 
@@ -165,6 +165,13 @@ pub stop-runs : (ts : List (List ℕ)) (t : NodeTable) (root : Addr) (ws : List 
     (term_at ts t us o) (state_of x e taken)
 stop-runs ts t root ws p w c k vs us q o v x d e stepped why h g y taken told =
     runs_by ts t root ws p w c k vs us q o v x d e stepped (Some why) h g y taken told
+
+-- where it stops, the step told it
+pub stopped-told : (went : Bool) (told : Stepped)
+    → is_some (why_of (told_by went told)) ≡ true
+    → told_by went told ≡ told
+stopped-told true told e = cc
+stopped-told false told e = refl
 
 none_at : (o : Option Why) → is_some o ≡ false → o ≡ None
 none_at None e = refl

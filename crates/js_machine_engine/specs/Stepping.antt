@@ -1,5 +1,5 @@
 -- What a step tells of its move.
-use Rattle.std.specs.Prelude.{◌≡◌, ℕ, List, drop, Result, Ok, Err}
+use Rattle.std.specs.Prelude.{◌≡◌, ℕ, Bool, true, false, List, drop, Result, Ok, Err}
 use Rattle.std.specs.declared.alloc.AllocError.{AllocError}
 use Rattle.js_heap.specs.declared.value.Addr.{Addr}
 use Rattle.js_heap.specs.declared.value.Value.{Value}
@@ -58,6 +58,11 @@ Tells m (steppeds.Over f) t s = EndsSo m f s
 Tells m steppeds.Effect t s = m ≡ has_effect s
 Tells m (steppeds.Full what) t s = m ≡ is_full what s
 Tells m steppeds.Memory t s = Unit {0}
+
+-- what a step tells that went or told this
+abbrev pub told_by : Bool → Stepped → Stepped
+told_by true told = steppeds.Went
+told_by false told = told
 
 -- this holds where the run goes on
 abbrev pub IfGoesOn : Stepped → Type 0 → Type 0

@@ -1,7 +1,7 @@
 //! What a row's answer asks for.
 
 ghost use Rattle.std.specs.Prelude.{◌≡◌};
-ghost use Rattle.js_machine_engine.specs.Stepping.{demand_of, finished_by, went_of};
+ghost use Rattle.js_machine_engine.specs.Stepping.{demand_of, finished_by, told_by, went_of};
 
 use crate::reduced::Reduced;
 use crate::stepped::{Finish, Stepped};
@@ -69,5 +69,19 @@ pub fn went_of(outcome: Result<(), AllocError>) -> Stepped
     match outcome {
         Ok(()) => Stepped::Went,
         Err(_) => Stepped::Memory,
+    }
+}
+
+/// Whether a step went that goes on if there is memory; otherwise `told` says that there is none.
+#[inline(always)]
+pub fn has_gone(outcome: Result<(), AllocError>, told: &mut Stepped) -> bool
+    ensures { told_by result told.new ≡ went_of outcome }
+{
+    match outcome {
+        Ok(()) => true,
+        Err(_) => {
+            *told = Stepped::Memory;
+            false
+        }
     }
 }

@@ -8,13 +8,13 @@ ghost use Rattle.js_machine_nodes.specs.Trees.{program_of, IsTable};
 ghost use Rattle.js_heap.specs.World.{World as AnyWorld};
 ghost use Rattle.js_machine_engine.specs.Points.{term_at, IsAt};
 ghost use Rattle.js_machine_engine.specs.Running.{why_of, RunsTo, RunsFor, CountsAs, IsAsked, HasPassed, passed_steps, asks_at, IfGoes};
-ghost use Rattle.js_machine_engine.specs.Stepping.{StandsIn};
+ghost use Rattle.js_machine_engine.specs.Stepping.{told_by, StandsIn};
 ghost use Rattle.js_machine_engine.specs.Prints.{PrintsAs, IsSilent, last_printed};
 
 use crate::code::RunningCode;
 use crate::rows::Rows;
 use crate::stack::Stack;
-use crate::step::step;
+use crate::step::advance;
 use crate::stepped::{Finish, Stepped};
 use crate::task::Point;
 use js_heap::change::Counted;
@@ -70,12 +70,15 @@ pub struct StoppedRun {
     pub why: Why,
 }
 
-/// Whether a run stops behind a step.
+/// Whether a run stops behind a step that went or told this.
 #[inline(always)]
-fn is_stop(stepped: &Stepped) -> bool
-    ensures { result ≡ is_some (why_of stepped.now) }
+fn is_stop(went: bool, told: &Stepped) -> bool
+    ensures { result ≡ is_some (why_of (told_by went told.now)) }
 {
-    match stepped {
+    if went {
+        return false;
+    }
+    match told {
         Stepped::Went => false,
         _ => true,
     }
@@ -142,6 +145,7 @@ pub fn step_until<T: Rows, W: World, H: StopTest>(
     ensures values { (taken : List (List ℕ)) → PrintsAs result.why (last_printed result.steps (program_of code.now.names.now code.now.table.now) code.now.root (run_of (term_at code.now.names.now code.now.table.now stack.old point.old) (state_of (W.world code.now.names.now world.old) context.old taken))) }
     ensures silent { (taken : List (List ℕ)) → IsSilent (result.steps - 1) (program_of code.now.names.now code.now.table.now) code.now.root (run_of (term_at code.now.names.now code.now.table.now stack.old point.old) (state_of (W.world code.now.names.now world.old) context.old taken)) }
 {
+    let mut told = Stepped::Went;
     for steps in 0..most {
         if let Point::Done(value) = *point {
             return StoppedRun {
@@ -149,11 +153,11 @@ pub fn step_until<T: Rows, W: World, H: StopTest>(
                 why: Why::Over(Finish::Ended(value)),
             };
         }
-        let stepped = step::<T, W>(code, context, world, stack, point);
-        if is_stop(&stepped) {
+        let went = advance::<T, W>(code, context, world, stack, point, &mut told);
+        if is_stop(went, &told) {
             return StoppedRun {
                 steps: steps + 1,
-                why: why_of(stepped),
+                why: why_of(told),
             };
         }
         if stops_at(host, code.table, context, stack, *point) {

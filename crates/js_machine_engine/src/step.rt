@@ -13,10 +13,10 @@ ghost use Rattle.js_machine_engine.specs.Answers.{resumed};
 ghost use Rattle.js_machine_engine.specs.Rows.{redex};
 ghost use Rattle.js_machine_engine.specs.Stacks.{outer_of, has_extra};
 ghost use Rattle.js_machine_engine.specs.Following.{innermost};
-ghost use Rattle.js_machine_engine.specs.Stepping.{demand_of, Says, Tells, TellsWithin, Steps, IfGoesOn, StandsIn, IsGoing};
+ghost use Rattle.js_machine_engine.specs.Stepping.{demand_of, Says, Tells, TellsWithin, Steps, told_by, IfGoesOn, StandsIn, IsGoing};
 ghost use Rattle.js_machine_engine.specs.declared.task.Point.TheVariants as points;
 
-use crate::answer::{Demand, demand_of, went_of};
+use crate::answer::{Demand, demand_of, has_gone, went_of};
 use crate::code::RunningCode;
 use crate::concluding::{conclude, print, raise};
 use crate::following::parts::follow_value;
@@ -88,7 +88,7 @@ fn leave_row<T: Rows, W: World>(
     }
 }
 
-/// The step of the innermost task, whose parts have their values.
+/// The step of the innermost task, whose parts have their values. Answers whether it went; otherwise `told` is what it tells.
 #[inline(always)]
 fn step_row<T: Rows, W: World>(
     code: &RunningCode<'_, '_>,
@@ -96,16 +96,18 @@ fn step_row<T: Rows, W: World>(
     world: &mut W,
     stack: &mut Stack,
     point: &mut Point,
-) -> Stepped
+    told: &mut Stepped,
+) -> bool
     requires table { IsTable code.now.table.now }
     requires functions { HasFunctions code.now.table.now }
     requires scoped { InScopes code.now.table.now code.now.root stack.old }
     requires row { IsAtRow stack.old }
-    ensures told { (taken : List (List ℕ)) → Steps code.now.names.now code.now.table.now code.now.root stack.old points.Row (state_of (W.world code.now.names.now world.old) context.old taken) result stack.new point.new (state_of (W.world code.now.names.now world.new) context.new taken) }
-    ensures stands { IfGoesOn result (StandsIn code.now.table.now code.now.root stack.new point.new) }
+    ensures told { (taken : List (List ℕ)) → Steps code.now.names.now code.now.table.now code.now.root stack.old points.Row (state_of (W.world code.now.names.now world.old) context.old taken) (told_by result told.new) stack.new point.new (state_of (W.world code.now.names.now world.new) context.new taken) }
+    ensures stands { IfGoesOn (told_by result told.new) (StandsIn code.now.table.now code.now.root stack.new point.new) }
 {
     let Some(task) = stack.last() else {
-        return Stepped::Memory;
+        *told = Stepped::Memory;
+        return false;
     };
     let form = Redex {
         op: task.op,
@@ -117,8 +119,14 @@ fn step_row<T: Rows, W: World>(
     let extra = stack.extra();
     let reduced = T::reduce(code, context, world, form, stack.values(), extra);
     match reduced {
-        Reduced::Gives(value) => went_of(follow_value(code.table, code.root, stack, point, value)),
-        _ => leave_row::<T, W>(code, context, world, stack, point, reduced),
+        Reduced::Gives(value) => has_gone(
+            follow_value(code.table, code.root, stack, point, value),
+            told,
+        ),
+        _ => {
+            *told = leave_row::<T, W>(code, context, world, stack, point, reduced);
+            false
+        }
     }
 }
 
@@ -153,7 +161,7 @@ fn leave_leaf<T: Rows, W: World>(
     }
 }
 
-/// The step of a node without parts.
+/// The step of a node without parts. Answers whether it went; otherwise `told` is what it tells.
 #[inline(always)]
 fn step_leaf<T: Rows, W: World>(
     code: &RunningCode<'_, '_>,
@@ -162,16 +170,18 @@ fn step_leaf<T: Rows, W: World>(
     stack: &mut Stack,
     point: &mut Point,
     n: u32,
-) -> Stepped
+    told: &mut Stepped,
+) -> bool
     requires table { IsTable code.now.table.now }
     requires functions { HasFunctions code.now.table.now }
     requires scoped { InScopes code.now.table.now code.now.root stack.old }
     requires leaf { IsLeafAt (slice_get code.now.table.now.nodes.items n) }
-    ensures told { (taken : List (List ℕ)) → Steps code.now.names.now code.now.table.now code.now.root stack.old (points.Leaf n) (state_of (W.world code.now.names.now world.old) context.old taken) result stack.new point.new (state_of (W.world code.now.names.now world.new) context.new taken) }
-    ensures stands { IfGoesOn result (StandsIn code.now.table.now code.now.root stack.new point.new) }
+    ensures told { (taken : List (List ℕ)) → Steps code.now.names.now code.now.table.now code.now.root stack.old (points.Leaf n) (state_of (W.world code.now.names.now world.old) context.old taken) (told_by result told.new) stack.new point.new (state_of (W.world code.now.names.now world.new) context.new taken) }
+    ensures stands { IfGoesOn (told_by result told.new) (StandsIn code.now.table.now code.now.root stack.new point.new) }
 {
     let Some(node) = code.table.node(n) else {
-        return Stepped::Memory;
+        *told = Stepped::Memory;
+        return false;
     };
     let form = Redex {
         op: node.op,
@@ -182,15 +192,53 @@ fn step_leaf<T: Rows, W: World>(
     };
     let reduced = T::reduce(code, context, world, form, &[], None);
     match reduced {
-        Reduced::Gives(value) => went_of(give(code.table, stack, point, value)),
-        Reduced::Uncovers(node) => went_of(uncover(code.table, code.root, stack, point, node)),
-        _ => leave_leaf::<T, W>(code, context, world, stack, point, form, reduced),
+        Reduced::Gives(value) => has_gone(give(code.table, stack, point, value), told),
+        Reduced::Uncovers(node) => has_gone(
+            uncover(code.table, code.root, stack, point, node),
+            told,
+        ),
+        _ => {
+            *told = leave_leaf::<T, W>(code, context, world, stack, point, form, reduced);
+            false
+        }
+    }
+}
+
+/// One step of the residual term that the tasks and the point are, in a world and a context. The code's table has the term's
+/// nodes, and `T` the rows of its forms. Answers whether it went; otherwise `told` is what it tells.
+#[inline(always)]
+pub(crate) fn advance<T: Rows, W: World>(
+    code: &RunningCode<'_, '_>,
+    context: &mut Context,
+    world: &mut W,
+    stack: &mut Stack,
+    point: &mut Point,
+    told: &mut Stepped,
+) -> bool
+    requires table { IsTable code.now.table.now }
+    requires functions { HasFunctions code.now.table.now }
+    requires stands { StandsIn code.now.table.now code.now.root stack.old point.old }
+    requires going { IsGoing point.old }
+    ensures told { (taken : List (List ℕ)) → Tells (next (program_of code.now.names.now code.now.table.now) code.now.root (term_at code.now.names.now code.now.table.now stack.old point.old) (state_of (W.world code.now.names.now world.old) context.old taken)) (told_by result told.new) (term_at code.now.names.now code.now.table.now stack.new point.new) (state_of (W.world code.now.names.now world.new) context.new taken) }
+    ensures stands { IfGoesOn (told_by result told.new) (StandsIn code.now.table.now code.now.root stack.new point.new) }
+{
+    match *point {
+        Point::Row => step_row::<T, W>(code, context, world, stack, point, told),
+        Point::Leaf(n) => { step_leaf::<T, W>(code, context, world, stack, point, n, told) }
+        Point::Stands(value, place) => {
+            let thrown = Completion::Throws(value, place);
+            *told = travel::<T, W>(code, context, world, stack, point, thrown);
+            false
+        }
+        Point::Done(_) => {
+            *told = Stepped::Memory;
+            false
+        }
     }
 }
 
 /// One step of the residual term that the tasks and the point are, in a world and a context. The code's table has the term's
 /// nodes, and `T` the rows of its forms.
-#[inline(always)]
 pub fn step<T: Rows, W: World>(
     code: &RunningCode<'_, '_>,
     context: &mut Context,
@@ -205,13 +253,9 @@ pub fn step<T: Rows, W: World>(
     ensures told { (taken : List (List ℕ)) → Tells (next (program_of code.now.names.now code.now.table.now) code.now.root (term_at code.now.names.now code.now.table.now stack.old point.old) (state_of (W.world code.now.names.now world.old) context.old taken)) result (term_at code.now.names.now code.now.table.now stack.new point.new) (state_of (W.world code.now.names.now world.new) context.new taken) }
     ensures stands { IfGoesOn result (StandsIn code.now.table.now code.now.root stack.new point.new) }
 {
-    match *point {
-        Point::Row => step_row::<T, W>(code, context, world, stack, point),
-        Point::Leaf(n) => { step_leaf::<T, W>(code, context, world, stack, point, n) }
-        Point::Stands(value, place) => {
-            let thrown = Completion::Throws(value, place);
-            travel::<T, W>(code, context, world, stack, point, thrown)
-        }
-        Point::Done(_) => Stepped::Memory,
+    let mut told = Stepped::Went;
+    if advance::<T, W>(code, context, world, stack, point, &mut told) {
+        return Stepped::Went;
     }
+    told
 }

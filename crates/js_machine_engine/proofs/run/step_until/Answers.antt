@@ -1,5 +1,7 @@
-use Rattle.std.proofs.Common.{sym, ◌∙◌, arith}
-use Rattle.js_machine_engine.proofs.RunLemmas.{going, goes-none, runs-init, none-passed, done-runs, stop-runs, stop-stands, stop-counted, stop-asked, stop-passed, next-runs, more-left, more-passed, asked-so, passed-but-last, first-passed}
+use Rattle.std.proofs.Common.{ap, sym, ◌∙◌, arith}
+use Rattle.js_machine_engine.specs.Running.{why_of}
+use Rattle.js_machine_engine.specs.Stepping.{told_by}
+use Rattle.js_machine_engine.proofs.RunLemmas.{going, goes-none, stopped-told, runs-init, none-passed, done-runs, stop-runs, stop-stands, stop-counted, stop-asked, stop-passed, next-runs, more-left, more-passed, asked-so, passed-but-last, first-passed}
 use Rattle.js_machine_engine.proofs.PrintLemmas.{none-silent, more-silent, last-silent, first-silent, silent-but-last, stop-prints, next-silent}
 use Rattle.js_machine_engine.proofs.run.step_until.Goals as goal
 
@@ -40,36 +42,38 @@ returns-then-is_stop g c =
     let t = c.args.code.now.table.now in
     let w = g.W.World.world ts c.args.world.now in
     let v = g.W.World.world ts c.loop-steps.world in
-    let x = g.W.World.world ts c.step-stepped.new.world in
+    let x = g.W.World.world ts c.advance-went.new.world in
+    let stepped = told_by c.advance-went.result c.advance-went.new.told in
     let i = c.loop-steps.invariant in
     let going_on = going c.loop-steps.point c.in_default.not-Done in
-    let y = c.why_of.ensures in
+    let told = stopped-told c.advance-went.result c.advance-went.new.told (sym c.is_stop.ensures ∙ c.if-is_stop.true) in
+    let y = ap why_of told ∙ c.why_of.ensures in
     record {
       told =
           λ taken. stop-runs ts t c.args.code.now.root c.args.stack.now c.args.point.now w c.args.context.now
           c.loop-steps.steps
-          c.loop-steps.stack c.step-stepped.new.stack c.loop-steps.point c.step-stepped.new.point v x
-          c.loop-steps.context c.step-stepped.new.context c.step-stepped.result c.why_of.result i.run going_on y
+          c.loop-steps.stack c.advance-went.new.stack c.loop-steps.point c.advance-went.new.point v x
+          c.loop-steps.context c.advance-went.new.context stepped c.why_of.result i.run going_on y
           taken
-          (c.step-stepped.ensures.told taken);
+          (c.advance-went.ensures.told taken);
       left =
           more-left ts t c.args.code.now.root c.args.stack.now c.args.point.now w c.args.context.now c.loop-steps.steps
           c.loop-steps.stack c.loop-steps.point v c.loop-steps.context i.run going_on;
       stands =
-          stop-stands t c.args.code.now.root c.step-stepped.new.stack c.step-stepped.new.point c.step-stepped.result
-          c.why_of.result y c.step-stepped.ensures.stands;
+          stop-stands t c.args.code.now.root c.advance-went.new.stack c.advance-went.new.point stepped
+          c.why_of.result y c.advance-went.ensures.stands;
       within = omega (arith, c.loop-steps-test.true);
-      counted = stop-counted c.step-stepped.result c.why_of.result c.loop-steps.steps c.args.most y;
-      asked = λ taken. stop-asked (g.H.StopTest.stops c.args.host.now) c.step-stepped.result c.why_of.result _ y;
+      counted = stop-counted stepped c.why_of.result c.loop-steps.steps c.args.most y;
+      asked = λ taken. stop-asked (g.H.StopTest.stops c.args.host.now) stepped c.why_of.result _ y;
       passed =
           λ taken. stop-passed (g.H.StopTest.stops c.args.host.now)
-          c.step-stepped.result c.why_of.result c.loop-steps.steps _ _ _ y (i.passed taken);
+          stepped c.why_of.result c.loop-steps.steps _ _ _ y (i.passed taken);
       values =
           λ taken. stop-prints ts t c.args.code.now.root c.args.stack.now c.args.point.now w c.args.context.now
-          c.loop-steps.steps c.loop-steps.stack c.step-stepped.new.stack c.loop-steps.point c.step-stepped.new.point
-          v x c.loop-steps.context c.step-stepped.new.context c.step-stepped.result c.why_of.result i.run going_on y
+          c.loop-steps.steps c.loop-steps.stack c.advance-went.new.stack c.loop-steps.point c.advance-went.new.point
+          v x c.loop-steps.context c.advance-went.new.context stepped c.why_of.result i.run going_on y
           taken
-          (c.step-stepped.ensures.told taken);
+          (c.advance-went.ensures.told taken);
       silent = λ taken. silent-but-last c.loop-steps.steps _ _ _ (i.silent taken);
     }
 
@@ -79,15 +83,16 @@ returns-then-stops_at g c =
     let t = c.args.code.now.table.now in
     let w = g.W.World.world ts c.args.world.now in
     let v = g.W.World.world ts c.loop-steps.world in
-    let x = g.W.World.world ts c.step-stepped.new.world in
+    let x = g.W.World.world ts c.advance-went.new.world in
+    let stepped = told_by c.advance-went.result c.advance-went.new.told in
     let i = c.loop-steps.invariant in
     let going_on = going c.loop-steps.point c.in_default.not-Done in
-    let none = goes-none c.step-stepped.result (sym c.is_stop.ensures ∙ c.if-is_stop.false) in
+    let none = goes-none stepped (sym c.is_stop.ensures ∙ c.if-is_stop.false) in
     let n = next-runs ts t c.args.code.now.root c.args.stack.now c.args.point.now w c.args.context.now
     c.loop-steps.steps
-    c.loop-steps.stack c.step-stepped.new.stack c.loop-steps.point c.step-stepped.new.point v x c.loop-steps.context
-    c.step-stepped.new.context c.step-stepped.result i.run going_on none c.step-stepped.ensures.told
-    c.step-stepped.ensures.stands in
+    c.loop-steps.stack c.advance-went.new.stack c.loop-steps.point c.advance-went.new.point v x c.loop-steps.context
+    c.advance-went.new.context stepped i.run going_on none c.advance-went.ensures.told
+    c.advance-went.ensures.stands in
     record {
       told = n.runs;
       left = n.left;
@@ -100,9 +105,9 @@ returns-then-stops_at g c =
       passed = λ taken. passed-but-last (g.H.StopTest.stops c.args.host.now) c.loop-steps.steps _ _ _ (i.passed taken);
       values =
           λ taken. next-silent ts t c.args.code.now.root c.args.stack.now c.args.point.now w c.args.context.now
-          c.loop-steps.steps c.loop-steps.stack c.step-stepped.new.stack c.loop-steps.point c.step-stepped.new.point
-          v x c.loop-steps.context c.step-stepped.new.context c.step-stepped.result i.run going_on none taken
-          (c.step-stepped.ensures.told taken);
+          c.loop-steps.steps c.loop-steps.stack c.advance-went.new.stack c.loop-steps.point c.advance-went.new.point
+          v x c.loop-steps.context c.advance-went.new.context stepped i.run going_on none taken
+          (c.advance-went.ensures.told taken);
       silent = λ taken. silent-but-last c.loop-steps.steps _ _ _ (i.silent taken);
     }
 
@@ -112,15 +117,16 @@ loop-steps-preserved g c =
     let t = c.args.code.now.table.now in
     let w = g.W.World.world ts c.args.world.now in
     let v = g.W.World.world ts c.loop-steps.world in
-    let x = g.W.World.world ts c.step-stepped.new.world in
+    let x = g.W.World.world ts c.advance-went.new.world in
+    let stepped = told_by c.advance-went.result c.advance-went.new.told in
     let i = c.loop-steps.invariant in
     let going_on = going c.loop-steps.point c.in_default.not-Done in
-    let none = goes-none c.step-stepped.result (sym c.is_stop.ensures ∙ c.if-is_stop.false) in
+    let none = goes-none stepped (sym c.is_stop.ensures ∙ c.if-is_stop.false) in
     let n = next-runs ts t c.args.code.now.root c.args.stack.now c.args.point.now w c.args.context.now
     c.loop-steps.steps
-    c.loop-steps.stack c.step-stepped.new.stack c.loop-steps.point c.step-stepped.new.point v x c.loop-steps.context
-    c.step-stepped.new.context c.step-stepped.result i.run going_on none c.step-stepped.ensures.told
-    c.step-stepped.ensures.stands in
+    c.loop-steps.stack c.advance-went.new.stack c.loop-steps.point c.advance-went.new.point v x c.loop-steps.context
+    c.advance-went.new.context stepped i.run going_on none c.advance-went.ensures.told
+    c.advance-went.ensures.stands in
     record {
       run = n;
       passed =
@@ -131,7 +137,7 @@ loop-steps-preserved g c =
           λ taken. more-silent c.loop-steps.steps _ _ _ (i.silent taken)
           (next-silent ts t c.args.code.now.root c.args.stack.now c.args.point.now w c.args.context.now
           c.loop-steps.steps
-          c.loop-steps.stack c.step-stepped.new.stack c.loop-steps.point c.step-stepped.new.point v x
-          c.loop-steps.context c.step-stepped.new.context c.step-stepped.result i.run going_on none taken
-          (c.step-stepped.ensures.told taken));
+          c.loop-steps.stack c.advance-went.new.stack c.loop-steps.point c.advance-went.new.point v x
+          c.loop-steps.context c.advance-went.new.context stepped i.run going_on none taken
+          (c.advance-went.ensures.told taken));
     }

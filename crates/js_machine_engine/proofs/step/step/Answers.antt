@@ -1,13 +1,13 @@
-use Rattle.js_machine_actions.specs.Contexts.{state_of}
-use Rattle.js_machine_engine.proofs.StepLemmas.{standing-told}
 use Rattle.js_machine_engine.proofs.step.step.Goals as goal
 
-pub returns-in-Stands-clause-told : goal.returns-in-Stands-clause-told
-returns-in-Stands-clause-told g c = λ taken.
-    let ts = c.args.code.now.names.now in
-    standing-told ts c.args.code.now.table.now c.args.code.now.root c.args.stack.now c.travel.new.stack
-    c.travel.new.point
-    c.args.point.now c.in-Stands.value c.in-Stands.place c.travel.result
-    (state_of (g.W.World.world ts c.args.world.now) c.args.context.now taken)
-    (state_of (g.W.World.world ts c.travel.new.world) c.travel.new.context taken)
-    c.in-Stands.is (c.travel.ensures.told taken)
+pub returns-then-advance-clause-told : goal.returns-then-advance-clause-told
+returns-then-advance-clause-told g c = λ taken. rw c.if-advance.true at (c.advance.ensures.told taken)
+
+pub returns-then-advance-clause-stands : goal.returns-then-advance-clause-stands
+returns-then-advance-clause-stands g c = rw c.if-advance.true at c.advance.ensures.stands
+
+pub returns-clause-told : goal.returns-clause-told
+returns-clause-told g c = λ taken. rw c.if-advance.false at (c.advance.ensures.told taken)
+
+pub returns-clause-stands : goal.returns-clause-stands
+returns-clause-stands g c = rw c.if-advance.false at c.advance.ensures.stands

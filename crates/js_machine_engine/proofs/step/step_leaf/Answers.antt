@@ -1,7 +1,7 @@
 use Rattle.std.proofs.Common.{sym, refl, [], None}
 use Rattle.js_machine_actions.specs.Contexts.{state_of}
 use Rattle.js_machine_engine.specs.Rows.{redex}
-use Rattle.js_machine_engine.specs.Stepping.{demand_of}
+use Rattle.js_machine_engine.specs.Stepping.{demand_of, told_by}
 use Rattle.js_machine_engine.proofs.ConcludeLemmas.{gives-told, uncovers-told, went-stands, goes-on-weaker}
 use Rattle.js_machine_engine.proofs.TravelLemmas.{went-stood}
 use Rattle.js_machine_engine.proofs.StepLemmas.{node_redex, leaf-told, leaf-scope}
@@ -18,17 +18,17 @@ returns-in-Gives-clause-told g c = λ taken.
     let s = state_of (g.W.World.world ts c.args.world.now) c.args.context.now taken in
     let u = state_of (g.W.World.world ts c.reduce-reduced.new.world) c.reduce-reduced.new.context taken in
     leaf-told ts t root old c.give.new.stack c.give.new.point c.args.n c.in-Some.node c.scope.result r (demand_of r)
-    c.went_of.result s u u c.requires.table (sym c.in-Some.ensures)
+    (told_by c.has_gone.result c.has_gone.new.told) s u u c.requires.table (sym c.in-Some.ensures)
     c.requires.leaf c.scope.ensures c.requires.scoped refl
     (λ outer. c.reduce-reduced.ensures outer taken)
-    (λ m h. gives-told c.give.result c.went_of.result ts t root old c.give.new.stack c.give.new.point m w r
-    c.in-Gives.value u c.went_of.ensures c.in-Gives.is h c.give.ensures.term)
+    (λ m h. gives-told c.give.result (told_by c.has_gone.result c.has_gone.new.told) ts t root old c.give.new.stack c.give.new.point m w r
+    c.in-Gives.value u c.has_gone.ensures c.in-Gives.is h c.give.ensures.term)
 
 pub returns-in-Gives-clause-stands : goal.returns-in-Gives-clause-stands
 returns-in-Gives-clause-stands g c =
-    went-stood c.give.result c.went_of.result c.args.code.now.table.now c.args.code.now.root c.args.stack.now
+    went-stood c.give.result (told_by c.has_gone.result c.has_gone.new.told) c.args.code.now.table.now c.args.code.now.root c.args.stack.now
     c.give.new.stack
-    c.give.new.point c.went_of.ensures c.give.ensures.at c.give.ensures.scoped c.requires.scoped
+    c.give.new.point c.has_gone.ensures c.give.ensures.at c.give.ensures.scoped c.requires.scoped
 
 pub returns-in-Uncovers-clause-told : goal.returns-in-Uncovers-clause-told
 returns-in-Uncovers-clause-told g c = λ taken.
@@ -41,19 +41,19 @@ returns-in-Uncovers-clause-told g c = λ taken.
     let s = state_of (g.W.World.world ts c.args.world.now) c.args.context.now taken in
     let u = state_of (g.W.World.world ts c.reduce-reduced.new.world) c.reduce-reduced.new.context taken in
     leaf-told ts t root old c.uncover.new.stack c.uncover.new.point c.args.n c.in-Some.node c.scope.result r
-    (demand_of r) c.went_of-in-Uncovers.result s u u c.requires.table (sym c.in-Some.ensures)
+    (demand_of r) (told_by c.has_gone-in-Uncovers.result c.has_gone-in-Uncovers.new.told) s u u c.requires.table (sym c.in-Some.ensures)
     c.requires.leaf c.scope.ensures c.requires.scoped refl
     (λ outer. c.reduce-reduced.ensures outer taken)
-    (λ m h. uncovers-told c.uncover.result c.went_of-in-Uncovers.result ts t root old c.uncover.new.stack
-    c.uncover.new.point m w r c.in-Uncovers.node u c.went_of-in-Uncovers.ensures c.in-Uncovers.is h
+    (λ m h. uncovers-told c.uncover.result (told_by c.has_gone-in-Uncovers.result c.has_gone-in-Uncovers.new.told) ts t root old c.uncover.new.stack
+    c.uncover.new.point m w r c.in-Uncovers.node u c.has_gone-in-Uncovers.ensures c.in-Uncovers.is h
     c.uncover.ensures.term)
 
 pub returns-in-Uncovers-clause-stands : goal.returns-in-Uncovers-clause-stands
 returns-in-Uncovers-clause-stands g c =
-    goes-on-weaker c.went_of-in-Uncovers.result (λ k. k c.requires.scoped)
-    (went-stands c.uncover.result c.went_of-in-Uncovers.result c.args.code.now.table.now c.args.code.now.root
+    goes-on-weaker (told_by c.has_gone-in-Uncovers.result c.has_gone-in-Uncovers.new.told) (λ k. k c.requires.scoped)
+    (went-stands c.uncover.result (told_by c.has_gone-in-Uncovers.result c.has_gone-in-Uncovers.new.told) c.args.code.now.table.now c.args.code.now.root
     c.args.stack.now
-    c.uncover.new.stack c.uncover.new.point c.went_of-in-Uncovers.ensures c.uncover.ensures.at
+    c.uncover.new.stack c.uncover.new.point c.has_gone-in-Uncovers.ensures c.uncover.ensures.at
     c.uncover.ensures.scoped)
 
 pub leave_leaf-requires-clause-inner : goal.leave_leaf-requires-clause-inner

@@ -4,7 +4,7 @@ use Rattle.js_machine_engine.specs.declared.reduced.Reduced.TheVariants as reduc
 use Rattle.js_machine_engine.specs.Answers.{reduced_term}
 use Rattle.js_machine_engine.specs.Stacks.{outer_of}
 use Rattle.js_machine_engine.specs.Following.{innermost}
-use Rattle.js_machine_engine.specs.Stepping.{demand_of}
+use Rattle.js_machine_engine.specs.Stepping.{demand_of, told_by}
 use Rattle.js_machine_engine.proofs.ConcludeLemmas.{says-of, went-follows, went-stands, goes-on-weaker}
 use Rattle.js_machine_engine.proofs.StepLemmas.{row-told}
 use Rattle.js_machine_engine.proofs.step.step_row.Goals as goal
@@ -22,18 +22,18 @@ returns-in-Gives-clause-told g c = λ taken.
     row-told ts t root old c.follow_value.new.stack c.follow_value.new.point c.in-Some.task c.values.result.now
     c.extra-extra.result r
     (demand_of r)
-    c.went_of.result s u u c.in-Some.ensures.some c.requires.row c.requires.scoped c.values.ensures
+    (told_by c.has_gone.result c.has_gone.new.told) s u u c.in-Some.ensures.some c.requires.row c.requires.scoped c.values.ensures
     c.extra-extra.ensures refl
     (λ outer. c.reduce-reduced.ensures outer taken)
-    (λ m h. went-follows c.follow_value.result c.went_of.result ts t root (outer_of old)
+    (λ m h. went-follows c.follow_value.result (told_by c.has_gone.result c.has_gone.new.told) ts t root (outer_of old)
     c.follow_value.new.stack c.follow_value.new.point m (λ names. reduced_term names t (innermost old) v)
-    u c.went_of.ensures (says-of ts t (innermost old) m r v u c.in-Gives.is h) c.follow_value.ensures.term)
+    u c.has_gone.ensures (says-of ts t (innermost old) m r v u c.in-Gives.is h) c.follow_value.ensures.term)
 
 pub returns-in-Gives-clause-stands : goal.returns-in-Gives-clause-stands
 returns-in-Gives-clause-stands g c =
-    goes-on-weaker c.went_of.result (λ k. k c.requires.scoped)
-    (went-stands c.follow_value.result c.went_of.result c.args.code.now.table.now c.args.code.now.root c.args.stack.now
-    c.follow_value.new.stack c.follow_value.new.point c.went_of.ensures c.follow_value.ensures.at
+    goes-on-weaker (told_by c.has_gone.result c.has_gone.new.told) (λ k. k c.requires.scoped)
+    (went-stands c.follow_value.result (told_by c.has_gone.result c.has_gone.new.told) c.args.code.now.table.now c.args.code.now.root c.args.stack.now
+    c.follow_value.new.stack c.follow_value.new.point c.has_gone.ensures c.follow_value.ensures.at
     c.follow_value.ensures.scoped)
 
 pub returns-in_default-reduced : goal.returns-in_default-reduced
