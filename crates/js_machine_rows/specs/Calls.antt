@@ -7,8 +7,9 @@ use Rattle.js_heap.specs.declared.cell.Cell.{Cell}
 use Rattle.js_heap.specs.declared.cell.Cell.TheVariants as cells
 use Rattle.js_heap.specs.declared.cell.ScopeKind.TheVariants as scopes
 use Rattle.js_heap.specs.World.{World}
-use Rattle.js_semantics.specs.State.{State, Action}
+use Rattle.js_semantics.specs.State.{State, Action, Frame}
 use Rattle.js_semantics.specs.Functions.{Program, FunctionCode, new_scope, with_functions, parameters_from, frame_entered, entered, frame_limit, too_deep, not_a_function, call_cell}
+use Rattle.js_semantics.specs.declared.form.Mark.TheVariants.{Start as at_start}
 use Rattle.js_semantics.specs.declared.form.Source.{Source}
 use Rattle.js_heap_memory.specs.Cells.{name_text}
 use Rattle.js_machine_nodes.specs.declared.table.NodeTable.{NodeTable}
@@ -133,6 +134,17 @@ EntersFrame node body source a receiver own c r d =
     → node ≡ code.form.node
     → tree ts t body ≡ code.body →
     Does ts t e (frame_entered code source a receiver own) (state_of w c taken) r (state_of w d taken)
+
+-- the frame of a call to code with this node
+abbrev pub call_frame : ℕ → Source → Addr → Value → Addr → Frame
+call_frame node source a receiver own =
+    record { function = Some a; source = source; receiver = receiver; scope = own; here = at_start node }
+
+-- this frame of a call to code with this node and body is entered
+abbrev pub EntersBy : ℕ → ℕ → Addr → Frame → Context → Reduced → Context → Type 0
+EntersBy node body own f c r d =
+    (source : Source) (a : Addr) (receiver : Value) → f ≡ call_frame node source a receiver own
+    → EntersFrame node body source a receiver own c r d
 
 -- code that is there is entered, as by `call_code`
 abbrev pub entered_within : State → FunctionCode → Source → Addr → List ℕ → Addr → Value → List Value → Action

@@ -10,7 +10,7 @@ ghost use Rattle.js_machine_nodes.specs.Trees.{program_of};
 ghost use Rattle.js_heap_memory.specs.Cells.{cell_at, name_text};
 ghost use Rattle.js_machine_actions.specs.Flow.{Ends, Yields};
 ghost use Rattle.js_machine_rows.specs.Codes.{code_at};
-ghost use Rattle.js_machine_rows.specs.Calls.{called_of, callee_view, view_of, callee_called, entry_code, call_scope, entered_within, ActsOn, ActsIn, ActsOf, ActsAlways, ActsAnywhere, EntersFrame};
+ghost use Rattle.js_machine_rows.specs.Calls.{called_of, callee_view, view_of, callee_called, entry_code, call_scope, entered_within, ActsOn, ActsIn, ActsOf, ActsAlways, ActsAnywhere, EntersBy};
 
 use crate::answers::{replied, stopped};
 use crate::codes::{CodePlace, function_at};
@@ -143,20 +143,11 @@ pub struct EnteredFunction<'a> {
     pub arguments: &'a [Value],
 }
 
-/// The frame of a call whose scope and functions are made.
+/// Enters the frame of a call to code with this node and body, whose scope and functions are made.
 #[inline(always)]
-fn enter_frame(
-    context: &mut Context,
-    node: u32,
-    body: u32,
-    source: Source,
-    function: Addr,
-    receiver: Value,
-    own: Addr,
-) -> Reduced
-    ensures { EntersFrame node body source function receiver own context.old result context.new }
+fn enter_frame(context: &mut Context, node: u32, body: u32, own: Addr, frame: Frame) -> Reduced
+    ensures { EntersBy node body own frame context.old result context.new }
 {
-    let frame = Frame::new(Some(function), source, receiver, own, Mark::Start(node));
     match context.push_frame(frame) {
         Ok(()) => Reduced::Enters {
             function: node,
@@ -187,15 +178,11 @@ fn enter<W: World>(
         arguments,
     } = callee;
     match call_scope(code, world, place, compiled, name, outer, arguments) {
-        Ok(own) => enter_frame(
-            context,
-            compiled.node,
-            place.body,
-            source,
-            function,
-            receiver,
-            own,
-        ),
+        Ok(own) => {
+            let here = Mark::Start(compiled.node);
+            let frame = Frame::new(Some(function), source, receiver, own, here);
+            enter_frame(context, compiled.node, place.body, own, frame)
+        }
         Err(stop) => stopped(stop),
     }
 }

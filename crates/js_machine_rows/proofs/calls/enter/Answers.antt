@@ -16,7 +16,8 @@ returns-in-Ok g c =
     c.args.compiled.now.node
     c.args.place.body v
     (g.W.World.world c.args.code.now.names.now c.call_scope.new.world)
-    c.args.context.now c.enter_frame.new.context c.enter_frame.result c.in-Ok.ensures c.enter_frame.ensures refl refl
+    c.args.context.now c.enter_frame.new.context c.enter_frame.result c.in-Ok.ensures
+    (c.enter_frame.ensures i.source i.function i.receiver c.new-frame.ensures) refl refl
 
 pub returns-in-Err : goal.returns-in-Err
 returns-in-Err g c =

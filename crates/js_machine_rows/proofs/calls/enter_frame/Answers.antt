@@ -5,8 +5,7 @@ use Rattle.js_machine_rows.proofs.CallLemmas.{frame-enters}
 use Rattle.js_machine_rows.proofs.calls.enter_frame.Goals as goal
 
 pub returns-in-Ok : goal.returns-in-Ok
-returns-in-Ok c =
+returns-in-Ok c = λ source a receiver is.
     let P : Frame → Type 0 = λ f. Turns (push_frame f) c.args.context.now c.push_frame.new.self in
-    frame-enters c.args.node c.args.body c.args.source c.args.function c.args.receiver c.args.own c.args.context.now
-    c.push_frame.new.self
-    (subst P c.new-frame.ensures c.in-Ok.ensures)
+    frame-enters c.args.node c.args.body source a receiver c.args.own c.args.context.now c.push_frame.new.self
+    (subst P is c.in-Ok.ensures)
