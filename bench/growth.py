@@ -43,6 +43,12 @@ def enabled(sessions):
     return "attach\n" * sessions + "".join(told(session, 1, ENABLE) for session in range(1, sessions + 1))
 
 
+def evaluated(sessions):
+    """An evaluation of each session, so that what evaluations begin with is made."""
+    each = [told(session, 9, "Runtime.evaluate", {"expression": "0"}) for session in range(1, sessions + 1)]
+    return "".join(each) + taken(sessions)
+
+
 def taken(sessions):
     return "".join("take %d\n" % session for session in range(1, sessions + 1))
 
@@ -95,12 +101,12 @@ def turn_behind_globals(bench, count):
 
 def evaluation_by_names(bench, count):
     script = names(count) + "let i = 7;\ndebugger;\n"
-    return bench.each(script, enabled(1) + RUN + taken(1), EVALUATE + taken(1), 50)
+    return bench.each(script, enabled(1) + RUN + taken(1) + EVALUATE + taken(1), EVALUATE + taken(1), 50)
 
 
 def arrivals(bench, script, line, sessions, times):
     """The instructions of one of so many arrivals at conditions that don't hold, one of each session."""
-    begun = enabled(sessions)
+    begun = enabled(sessions) + evaluated(sessions)
     watched = bench.count(script, begun + conditions(sessions, line) + RUN)
     return (watched - bench.count(script, begun + RUN)) / times
 
@@ -118,7 +124,7 @@ def arrival_by_frames(bench, depth):
 
 def evaluation_by_frames(bench, depth):
     script = under_frames(depth, "let i = 7; debugger;")
-    return bench.each(script, enabled(1) + RUN + taken(1), EVALUATE + taken(1), 20)
+    return bench.each(script, enabled(1) + RUN + taken(1) + EVALUATE + taken(1), EVALUATE + taken(1), 20)
 
 
 def stop_by_frames(bench, depth):

@@ -133,7 +133,7 @@ function ackermann(m, n) {
   if (n === 0) return ackermann(m - 1, 1);
   return ackermann(m - 1, ackermann(m, n - 1));
 }
-console.log(fib(22), ackermann(2, 200));
+console.log(fib(22), ackermann(2, 10));
 """,
     "shown": """
 function quoted(t) { return "<" + t + ">"; }
