@@ -24,7 +24,7 @@ use Rattle.js_machine_engine.specs.Tasks.{Wide, form_in, task_form, gaps_of, sco
 use Rattle.js_machine_engine.specs.Points.{row_term, term_at, IsAt, IsAtRow, IsLeafAt}
 use Rattle.js_machine_engine.specs.Stacks.{is_empty, op_of, begun, outer_of, with_value}
 use Rattle.js_machine_engine.specs.Parts.{IsOpen, IsNextPart}
-use Rattle.js_machine_engine.specs.Settling.{closing_of, is_waiting, closed, proceeding, CanCome, ComesIn, settled_row, Through, Comes, IsTask, Inward, Enters, IsOnWay, IsOnWayOut, IsInnermost, Settles, GivesWay}
+use Rattle.js_machine_engine.specs.Settling.{closing_of, is_waiting, closed, proceeding, CanCome, ComesIn, settled_row, Through, Comes, IsTask, Inward, Enters, IsOnWay, IsOnWayOut, IsInnermost, Settles, IsFull}
 use Rattle.js_machine_nodes.proofs.TreeLemmas.{tree-at, node-at, now-below, kids-end}
 use Rattle.js_machine_engine.proofs.SettledParts.{settled_parts}
 use Rattle.js_machine_engine.proofs.SettleLemmas.{resettled-part, parts-within, parts-settled, within_parts, after_parts, value-settled, scopes-next, scope-next, outer-next, row-next}
@@ -115,21 +115,24 @@ node_within ts t n node inner old new p table e o i =
 
 -- ---- one level inward
 
+pub leaf-at : (t : NodeTable) (n : ℕ) (node : Node)
+    → slice_get t.nodes.items n ≡ Some node
+    → IsOpen (slice_get t.nodes.items n)
+    → node.first ≡ node.mid
+    → IsLeafAt (slice_get t.nodes.items n)
+leaf-at t n node e o h =
+    let P : Option Node → Type 0 = IsLeafAt in
+    subst P (sym e) (record { parts = h; value = open-node t n node e o })
+
 pub leaf-enters : (t : NodeTable) (old : List Wide) (inner : Addr) (n k : ℕ) (node : Node)
     → slice_get t.nodes.items n ≡ Some node
     → IsOpen (slice_get t.nodes.items n)
     → node.first ≡ node.mid
     → Enters t old old inner n k (points.Leaf n) false
-leaf-enters t old inner n k node e o h =
-    let P : Option Node → Type 0 = IsLeafAt in
-    record {
-      way =
-          record {
-            term = λ ts. leaf-term ts t old n;
-            at = subst P (sym e) (record { parts = h; value = open-node t n node e o });
-          };
-      inward = record { scope = λ root q. q; scoped = λ root q s. s };
-    }
+leaf-enters t old inner n k node e o h = record {
+  way = record { term = λ ts. leaf-term ts t old n; at = leaf-at t n node e o h };
+  inward = record { scope = λ root q. q; scoped = λ root q s. s };
+}
 
 pub row-enters : (t : NodeTable) (old mid new : List Wide) (inner : Addr) (n k : ℕ) (node : Node)
     → IsTable t
@@ -302,7 +305,7 @@ row-settles t old new from c =
 pub part-settles : (t : NodeTable) (old mid new : List Wide) (from : List (List ℕ) → Term) (k : ℕ) (inner : Addr)
     (p : Point)
     → Comes t old mid from (nexts.Part k)
-    → ((root : Addr) → scope_of root old ≡ inner)
+    → ((root : Addr) → scope_of root mid ≡ inner)
     → ((ts : List (List ℕ)) → plugged (gaps_of ts t mid) (tree ts t k) ≡ term_at ts t new p)
     → IsAt t new p
     → ((root : Addr) → scope_of root mid ≡ inner → InScopes t root mid → InScopes t root new)
@@ -310,7 +313,7 @@ pub part-settles : (t : NodeTable) (old mid new : List Wide) (from : List (List 
 part-settles t old mid new from k inner p c i term at scoped = record {
   term = λ ts. c.term ts ∙ term ts;
   at = at;
-  scoped = λ root s. scoped root (c.stands.inner root ∙ i root) (c.scoped root s);
+  scoped = λ root s. scoped root (i root) (c.scoped root s);
 }
 
 pub take-waits : (t : NodeTable) (old mid all : List Wide) (v : Value)
@@ -324,49 +327,102 @@ take-waits t old mid all v h e i w =
     (take-all t old mid all all v nexts.Row h e i
     (row-waits t all (waiting_is (closing_of (op_of all)) w) (taken-row t old mid all v h e i)))
 
-pub take-closes : (t : NodeTable) (old mid all new : List Wide) (v u : Value) (p : Point) (b : Bool)
+pub take-fills : (t : NodeTable) (old mid all : List Wide) (v : Value)
     → IsTask old
     → mid ≡ with_value v old
     → IsNextPart t mid all None
-    → GivesWay t all new (λ ts. settled_row ts t all) u p b
-    → GivesWay t old new (λ ts. resettled (gaps_of ts t old) (done v)) u p b
-take-closes t old mid all new v u p true h e i c = take-all t old mid all new v (nexts.Value u) h e i c
-take-closes t old mid all new v u p false h e i c = record {
-  term = λ ts. taken_term ts t old mid all v None h e i ∙ c.term ts;
-  at = c.at;
-  scoped = λ root s. c.scoped root ((taken_through t old mid all v None e i).scoped root s);
-}
+    → IsFull t old all v
+take-fills t old mid all v h e i =
+    let g : Through t old all = taken_through t old mid all v None e i in
+    record {
+      term = λ ts. taken_term ts t old mid all v None h e i;
+      row = taken-row t old mid all v h e i;
+      outer = g.outer;
+      scoped = g.scoped;
+    }
+
+pub part-task : (t : NodeTable) (old mid new : List Wide) (v : Value) (n : Option ℕ)
+    → IsTask old
+    → mid ≡ with_value v old
+    → IsNextPart t mid new n
+    → IsTask new
+part-task t [] mid new v n h e i = absurd h
+part-task t (w ∷ ws) mid new v n h e i =
+    let P : List Wide → Type 0 = λ xs. IsNextPart t xs new n in
+    let j : IsNextPart t (with_value v (w ∷ ws)) new n = subst P e i in
+    let Q : List Wide → Type 0 = IsTask in
+    subst Q (sym j.same) tt
 
 -- ---- the way outward
 
-pub out-next : (t : NodeTable) (old : List Wide) (value : Value) (now new : List Wide) (v u : Value)
-    → IsOnWayOut t old value now v
-    → Comes t now new (λ ts. resettled (gaps_of ts t now) (done v)) (nexts.Value u)
-    → IsOnWayOut t old value new u
-out-next t old value now new v u w c = record {
-  term = λ ts. sym (c.term ts) ∙ w.term ts;
-  scoped = λ root s. c.scoped root (w.scoped root s);
-}
+pub out-start : (t : NodeTable) (old : List Wide) → IsAtRow old → IsOnWayOut t old old
+out-start t old r = record { term = λ ts. refl; row = r; scoped = λ root s. s }
 
-pub out-done : (ts : List (List ℕ)) (t : NodeTable) (old : List Wide) (value : Value) (now : List Wide) (v : Value)
-    → IsOnWayOut t old value now v
-    → now ≡ []
-    → resettled (gaps_of ts t old) (done value) ≡ term_at ts t now (points.Done v)
-unfolding term_at
-out-done ts t old value now v w e =
-    sym (w.term ts)
-    ∙ ap (λ ws. resettled (gaps_of ts t ws) (done v)) e
-    ∙ ap (λ ws. plugged (gaps_of ts t ws) (done v)) (sym e)
-
-pub out-settles : (t : NodeTable) (old : List Wide) (value : Value) (now new : List Wide) (v : Value) (p : Point)
-    → IsOnWayOut t old value now v
-    → Settles t now new (λ ts. resettled (gaps_of ts t now) (done v)) p
-    → Settles t old new (λ ts. resettled (gaps_of ts t old) (done value)) p
-out-settles t old value now new v p w c = record {
+pub out-closed : (t : NodeTable) (old now new : List Wide) (p : Point)
+    → IsOnWayOut t old now
+    → Settles t now new (λ ts. settled_row ts t now) p
+    → Settles t old new (λ ts. settled_row ts t old) p
+out-closed t old now new p w c = record {
   term = λ ts. sym (w.term ts) ∙ c.term ts;
   at = c.at;
   scoped = λ root s. c.scoped root (w.scoped root s);
 }
+
+done-term : (ts : List (List ℕ)) (t : NodeTable) (new : List Wide) (v : Value)
+    → new ≡ []
+    → resettled (gaps_of ts t new) (done v) ≡ term_at ts t new (points.Done v)
+unfolding term_at
+done-term ts t new v e =
+    ap (λ ws. resettled (gaps_of ts t ws) (done v)) e ∙ ap (λ ws. plugged (gaps_of ts t ws) (done v)) (sym e)
+
+pub done-settles : (t : NodeTable) (old : List Wide) (v : Value)
+    → old ≡ []
+    → Settles t old old (λ ts. resettled (gaps_of ts t old) (done v)) (points.Done v)
+done-settles t old v e = record { term = λ ts. done-term ts t old v e; at = e; scoped = λ root s. s }
+
+pub out-taken : (t : NodeTable) (old now mid new : List Wide) (v : Value) (p : Point)
+    → IsOnWayOut t old now
+    → Comes t now mid (λ ts. settled_row ts t now) (nexts.Value v)
+    → Settles t mid new (λ ts. resettled (gaps_of ts t mid) (done v)) p
+    → Settles t old new (λ ts. settled_row ts t old) p
+out-taken t old now mid new v p w c s = record {
+  term = λ ts. sym (w.term ts) ∙ c.term ts ∙ s.term ts;
+  at = s.at;
+  scoped = λ root x. s.scoped root (c.scoped root (w.scoped root x));
+}
+
+pub out-done : (t : NodeTable) (old now new : List Wide) (v : Value)
+    → IsOnWayOut t old now
+    → Comes t now new (λ ts. settled_row ts t now) (nexts.Value v)
+    → new ≡ []
+    → Settles t old new (λ ts. settled_row ts t old) (points.Done v)
+out-done t old now new v w c e = out-taken t old now new new v (points.Done v) w c (done-settles t new v e)
+
+pub out-full : (t : NodeTable) (old now mid new : List Wide) (v : Value)
+    → IsOnWayOut t old now
+    → Comes t now mid (λ ts. settled_row ts t now) (nexts.Value v)
+    → IsFull t mid new v
+    → IsOnWayOut t old new
+out-full t old now mid new v w c f = record {
+  term = λ ts. sym (f.term ts) ∙ sym (c.term ts) ∙ w.term ts;
+  row = f.row;
+  scoped = λ root s. f.scoped root (c.scoped root (w.scoped root s));
+}
+
+same-tasks : (mid new : List Wide) → IsTask mid → IsTask new → outer_of new ≡ outer_of mid → length new ≡ length mid
+same-tasks [] new h g e = absurd h
+same-tasks (w ∷ ws) [] h g e = absurd g
+same-tasks (w ∷ ws) (x ∷ xs) h g e = ap (λ (ys : List Wide). length (x ∷ ys)) e
+
+-- after a value that the task outside has taken there is one task less
+pub out-fewer : (t : NodeTable) (now mid new : List Wide) (v : Value)
+    → IsAtRow now
+    → mid ≡ outer_of now
+    → IsTask mid
+    → IsFull t mid new v
+    → length new < length now
+out-fewer t now mid new v r e h f =
+    rw (same-tasks mid new h (row-task new f.row) f.outer) (fewer-tasks now mid (row-task now r) e)
 
 -- the scope in the gap is that of the innermost task
 pub entered-scope : (t : NodeTable) (old new : List Wide) (from : List (List ℕ) → Term) (n : ℕ) (task : Task)

@@ -215,11 +215,6 @@ pub record IsOnWay (t : NodeTable) (old : List Wide) (node : ℕ) (around : Addr
   pub form : IsOpen (slice_get t.nodes.items n)
   pub inward : Inward t old now around
 
--- on the way outward from a value in the innermost gap of the old tasks to this one
-pub record IsOnWayOut (t : NodeTable) (old : List Wide) (value : Value) (now : List Wide) (v : Value) : Type 0 where
-  pub term : (ts : List (List ℕ)) → resettled (gaps_of ts t now) (done v) ≡ resettled (gaps_of ts t old) (done value)
-  pub scoped : (root : Addr) → InScopes t root old → InScopes t root now
-
 -- from tasks of which this term is told to others and a point
 pub record Settles (t : NodeTable) (old new : List Wide) (from : List (List ℕ) → Term) (p : Point) : Type 0 where
   pub term : (ts : List (List ℕ)) → from ts ≡ term_at ts t new p
@@ -230,3 +225,21 @@ pub record Settles (t : NodeTable) (old new : List Wide) (from : List (List ℕ)
 abbrev pub GivesWay : NodeTable → List Wide → List Wide → (List (List ℕ) → Term) → Value → Point → Bool → Type 0
 GivesWay t old new from v p true = Comes t old new from (nexts.Value v)
 GivesWay t old new from v p false = Settles t old new from p
+
+-- the innermost task has taken a value: all its parts have values, and it doesn't wait for its row
+pub record IsFull (t : NodeTable) (old new : List Wide) (value : Value) : Type 0 where
+  pub term : (ts : List (List ℕ)) → resettled (gaps_of ts t old) (done value) ≡ settled_row ts t new
+  pub row : IsAtRow new
+  pub outer : outer_of new ≡ outer_of old
+  pub scoped : (root : Addr) → InScopes t root old → InScopes t root new
+
+-- the innermost task takes a value: all its parts have values then, or the machine stands at this point
+abbrev pub Takes : NodeTable → List Wide → List Wide → Value → Point → Bool → Type 0
+Takes t old new v p true = IsFull t old new v
+Takes t old new v p false = Settles t old new (λ ts. resettled (gaps_of ts t old) (done v)) p
+
+-- on the way outward from old tasks whose innermost one has values for all its parts, to these
+pub record IsOnWayOut (t : NodeTable) (old now : List Wide) : Type 0 where
+  pub term : (ts : List (List ℕ)) → settled_row ts t now ≡ settled_row ts t old
+  pub row : IsAtRow now
+  pub scoped : (root : Addr) → InScopes t root old → InScopes t root now

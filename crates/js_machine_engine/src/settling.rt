@@ -1,13 +1,13 @@
 //! From what a row leaves to what is reduced next.
 
-ghost use Rattle.std.specs.Prelude.{◌≡◌, ℕ, false, List, None, IfOk, OnOk, slice_get};
+ghost use Rattle.std.specs.Prelude.{◌≡◌, ℕ, true, false, List, None, IfOk, OnOk, slice_get};
 ghost use Rattle.js_semantics.specs.Terms.{done, settle};
 ghost use Rattle.js_machine_nodes.specs.Trees.{tree, IsTable};
 ghost use Rattle.js_machine_engine.specs.Gaps.{plugged, resettled};
 ghost use Rattle.js_machine_engine.specs.Tasks.{gaps_of, scope_of, InScopes};
-ghost use Rattle.js_machine_engine.specs.Points.{term_at, IsAt, IsAtRow};
+ghost use Rattle.js_machine_engine.specs.Points.{term_at, IsAt, IsAtRow, IsLeafAt};
 ghost use Rattle.js_machine_engine.specs.Parts.{IsOpen};
-ghost use Rattle.js_machine_engine.specs.Settling.{closing_of, is_waiting, settled_row, next_term, proceeding, CanCome, ComesIn, IsTask, Enters, GivesWay};
+ghost use Rattle.js_machine_engine.specs.Settling.{closing_of, is_waiting, settled_row, next_term, proceeding, CanCome, ComesIn, IsTask, Enters, GivesWay, Takes};
 
 use crate::closing::{Closing, Next, closing_of};
 use crate::finish::finish;
@@ -69,12 +69,25 @@ fn enter(
     Ok(false)
 }
 
-/// Inward from a node that is no value, to what is reduced first; `inner` is the scope in the innermost gap.
+/// Whether a node that is no value has no parts to reduce.
+#[inline(always)]
+fn is_leaf(table: &NodeTable, n: u32) -> bool
+    requires { IsOpen (slice_get table.now.nodes.items n) }
+    ensures { result ≡ true → IsLeafAt (slice_get table.now.nodes.items n) }
+{
+    match table.node(n) {
+        Some(node) => node.first == node.mid,
+        None => false,
+    }
+}
+
+/// Inward from a node that has parts, to what is reduced first; `inner` is the scope in the innermost gap.
 ///
 /// # Errors
 ///
 /// There is no memory for the tasks on the way.
-fn descend(
+#[inline(never)]
+fn descend_into(
     table: &NodeTable,
     stack: &mut Stack,
     inner: Addr,
@@ -95,9 +108,35 @@ fn descend(
     }
 }
 
+/// Inward from a node that is no value, to what is reduced first; `inner` is the scope in the innermost gap.
+///
+/// # Errors
+///
+/// There is no memory for the tasks on the way.
+#[inline(always)]
+fn descend(
+    table: &NodeTable,
+    stack: &mut Stack,
+    inner: Addr,
+    point: &mut Point,
+    node: u32,
+) -> Result<(), AllocError>
+    requires table { IsTable table.now }
+    requires form { IsOpen (slice_get table.now.nodes.items node) }
+    ensures term { OnOk result ((ts : List (List ℕ)) → plugged (gaps_of ts table.now stack.old) (tree ts table.now node) ≡ term_at ts table.now stack.new point.new) }
+    ensures at { OnOk result (IsAt table.now stack.new point.new) }
+    ensures scoped { OnOk result ((root : Addr) → scope_of root stack.old ≡ inner → InScopes table.now root stack.old → InScopes table.now root stack.new) }
+{
+    if is_leaf(table, node) {
+        *point = Point::Leaf(node);
+        return Ok(());
+    }
+    descend_into(table, stack, inner, point, node)
+}
+
 /// What becomes of the innermost task, whose parts all have their values. Answers whether it gives way to a value, which
 /// `given` then is; otherwise the point is what is reduced next.
-#[inline(never)]
+#[inline(always)]
 fn close(
     table: &NodeTable,
     stack: &mut Stack,
@@ -125,23 +164,23 @@ fn close(
     }
 }
 
-/// A value comes into the gap of the innermost task. Answers whether the task gives way to a value, which `given` then
-/// is; otherwise the point is what is reduced next.
+/// A value comes into the gap of the innermost task. Answers whether all its parts have values and it doesn't wait for
+/// its row; otherwise the point is what is reduced next.
 #[inline(always)]
 fn take(
     table: &NodeTable,
     stack: &mut Stack,
     point: &mut Point,
-    given: &mut Value,
+    value: Value,
 ) -> Result<bool, AllocError>
     requires table { IsTable table.now }
     requires task { IsTask stack.old }
-    ensures { IfOk result (GivesWay table.now stack.old stack.new (λ ts. resettled (gaps_of ts table.now stack.old) (done given.old)) given.new point.new) }
+    ensures { IfOk result (Takes table.now stack.old stack.new value point.new) }
 {
-    let inner = inner_scope(stack);
-    stack.push_value(*given)?;
+    stack.push_value(value)?;
     let mut part = 0;
     if next_part(table, stack, &mut part)? {
+        let inner = inner_scope(stack);
         descend(table, stack, inner, point, part)?;
         return Ok(false);
     }
@@ -149,7 +188,36 @@ fn take(
         *point = Point::Row;
         return Ok(false);
     }
-    close(table, stack, point, given)
+    Ok(true)
+}
+
+/// The innermost task has values for all its parts: from there to what is reduced next. Forms that are finished so give
+/// way.
+///
+/// # Errors
+///
+/// There is no memory for it.
+#[inline(never)]
+pub fn settle_row(table: &NodeTable, stack: &mut Stack, point: &mut Point) -> Result<(), AllocError>
+    requires table { IsTable table.now }
+    requires row { IsAtRow stack.old }
+    ensures term { OnOk result ((ts : List (List ℕ)) → settled_row ts table.now stack.old ≡ term_at ts table.now stack.new point.new) }
+    ensures at { OnOk result (IsAt table.now stack.new point.new) }
+    ensures scoped { OnOk result ((root : Addr) → InScopes table.now root stack.old → InScopes table.now root stack.new) }
+{
+    let mut given = Value::Undefined;
+    loop {
+        if !close(table, stack, point, &mut given)? {
+            return Ok(());
+        }
+        if stack.is_empty() {
+            *point = Point::Done(given);
+            return Ok(());
+        }
+        if !take(table, stack, point, given)? {
+            return Ok(());
+        }
+    }
 }
 
 /// A value comes into the innermost gap: from there to what is reduced next. Forms that are finished so give way.
@@ -168,16 +236,14 @@ pub fn give(
     ensures at { OnOk result (IsAt table.now stack.new point.new) }
     ensures scoped { OnOk result ((root : Addr) → InScopes table.now root stack.old → InScopes table.now root stack.new) }
 {
-    let mut given = value;
-    loop {
-        if stack.is_empty() {
-            *point = Point::Done(given);
-            return Ok(());
-        }
-        if !take(table, stack, point, &mut given)? {
-            return Ok(());
-        }
+    if stack.is_empty() {
+        *point = Point::Done(value);
+        return Ok(());
     }
+    if take(table, stack, point, value)? {
+        return settle_row(table, stack, point);
+    }
+    Ok(())
 }
 
 /// From what comes next to what is reduced next; where a part comes, `inner` is the scope in the innermost gap.
@@ -230,22 +296,6 @@ pub fn proceed(table: &NodeTable, stack: &mut Stack, point: &mut Point) -> Resul
         return descend(table, stack, task.inner, point, part);
     }
     *point = Point::Row;
-    Ok(())
-}
-
-/// The innermost task has values for all its parts: from there to what is reduced next.
-#[inline(always)]
-pub fn settle_row(table: &NodeTable, stack: &mut Stack, point: &mut Point) -> Result<(), AllocError>
-    requires table { IsTable table.now }
-    requires row { IsAtRow stack.old }
-    ensures term { OnOk result ((ts : List (List ℕ)) → settled_row ts table.now stack.old ≡ term_at ts table.now stack.new point.new) }
-    ensures at { OnOk result (IsAt table.now stack.new point.new) }
-    ensures scoped { OnOk result ((root : Addr) → InScopes table.now root stack.old → InScopes table.now root stack.new) }
-{
-    let mut given = Value::Undefined;
-    if close(table, stack, point, &mut given)? {
-        return give(table, stack, point, given);
-    }
     Ok(())
 }
 

@@ -1,3 +1,4 @@
+use Rattle.std.proofs.Common.{◌∙◌}
 use Rattle.js_machine_engine.specs.Settling.{settled_row, Comes}
 use Rattle.js_machine_engine.specs.declared.closing.Next.TheVariants as nexts
 use Rattle.js_machine_engine.proofs.DescentLemmas.{row-task, row-settles, part-settles}
@@ -22,5 +23,5 @@ returns-in_ok-descend-in-Part c =
     let p : Comes t old c.finish.new.stack (λ ts. settled_row ts t old) (nexts.Part c.in-Part.part)
     = rw c.in-Part.is at c.in_ok-finish.ensures in
     part-settles t old c.finish.new.stack c.descend.new.stack (λ ts. settled_row ts t old) c.in-Part.part
-    c.inner_scope-inner.result c.descend.new.point p c.inner_scope-inner.ensures
+    c.inner_scope-inner.result c.descend.new.point p (λ root. p.stands.inner root ∙ c.inner_scope-inner.ensures root)
     c.in_ok-descend-in-Part.ensures.term c.in_ok-descend-in-Part.ensures.at c.in_ok-descend-in-Part.ensures.scoped
