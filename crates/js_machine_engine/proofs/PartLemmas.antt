@@ -147,3 +147,11 @@ pub taken-all : (t : NodeTable) (old new next : List Wide) (at mid : ℕ)
     → next ≡ at_part mid new
     → IsNextPart t old next None
 taken-all t old new next at mid i q h n = taken-end t old new next at mid i q (kids-end t at mid h) n
+
+same_part : (t : NodeTable) (old : List Wide) → at_of old ≡ mid_of old → old ≡ at_part (mid_of old) old
+same_part t [] e = refl
+same_part t (w ∷ ws) e = ap (λ x. record w { at = x } ∷ ws) e
+
+pub taken-already : (t : NodeTable) (old : List Wide) → at_of old ≡ mid_of old → IsNextPart t old old None
+taken-already t old e =
+    taken-all t old old old (at_of old) (mid_of old) (taken-none-yet t old) refl (omega arith) (same_part t old e)

@@ -47,8 +47,12 @@ fn part_at(table: &NodeTable, at: u32) -> Option<u32>
 pub fn next_part(table: &NodeTable, stack: &mut Stack, next: &mut u32) -> Result<bool, AllocError>
     ensures { IfOk result (λ found. IsNextPart table.now stack.old stack.new (found_part found next.new)) }
 {
+    let first = stack.at();
     let mid = stack.mid();
-    for at in stack.at()..mid {
+    if first == mid {
+        return Ok(false);
+    }
+    for at in first..mid {
         let Some(part) = part_at(table, at) else {
             stack.set_at(mid);
             return Ok(false);

@@ -1,12 +1,15 @@
-use Rattle.std.proofs.Common.{ℕ, sym, subst, ◌∙◌}
+use Rattle.std.proofs.Common.{ℕ, sym, subst, ◌∙◌, rules}
 use Rattle.js_machine_engine.specs.Parts.{IsTaken}
-use Rattle.js_machine_engine.proofs.PartLemmas.{taken-none-yet, taken-value, taken-part, taken-none, taken-all}
+use Rattle.js_machine_engine.proofs.PartLemmas.{taken-none-yet, taken-value, taken-part, taken-none, taken-all, taken-already}
 use Rattle.js_machine_engine.proofs.parts.next_part.Goals as goal
 
 pub loop-at-init : goal.loop-at-init
 loop-at-init c =
     let P : ℕ → Type 0 = IsTaken c.args.table.now c.args.stack.now c.args.stack.now in
-    subst P (sym c.at-at.ensures) (taken-none-yet c.args.table.now c.args.stack.now)
+    subst P (sym c.at-first.ensures) (taken-none-yet c.args.table.now c.args.stack.now)
+
+pub returns-then-first-mid : goal.returns-then-first-mid
+returns-then-first-mid c = taken-already c.args.table.now c.args.stack.now (search rules)
 
 pub returns-in_default : goal.returns-in_default
 returns-in_default c =
