@@ -88,7 +88,27 @@ fn leave_row<T: Rows, W: World>(
     }
 }
 
-/// The step of the innermost task, whose parts have their values. Answers whether it went; otherwise `told` is what it tells.
+/// A step whose row gave this answer for the innermost task, apart from the run loop; `told` is what it tells.
+#[inline(never)]
+fn tell_row<T: Rows, W: World>(
+    code: &RunningCode<'_, '_>,
+    context: &mut Context,
+    world: &mut W,
+    stack: &mut Stack,
+    point: &mut Point,
+    reduced: Reduced,
+    told: &mut Stepped,
+)
+    requires table { IsTable code.now.table.now }
+    requires scoped { InScopes code.now.table.now code.now.root stack.old }
+    ensures told { (taken : List (List ℕ)) (m : Move Term) → Says code.now.names.now code.now.table.now (innermost stack.old) m reduced (demand_of reduced) (state_of (W.world code.now.names.now world.old) context.old taken) → TellsWithin code.now.names.now code.now.table.now code.now.root (outer_of stack.old) m told.new stack.new point.new (state_of (W.world code.now.names.now world.new) context.new taken) }
+    ensures stands { IfGoesOn told.new (StandsIn code.now.table.now code.now.root stack.new point.new) }
+{
+    *told = leave_row::<T, W>(code, context, world, stack, point, reduced);
+}
+
+/// The step of the innermost task, whose parts have their values. Answers whether it went; otherwise `told` is what it
+/// tells.
 #[inline(always)]
 fn step_row<T: Rows, W: World>(
     code: &RunningCode<'_, '_>,
@@ -124,7 +144,7 @@ fn step_row<T: Rows, W: World>(
             told,
         ),
         _ => {
-            *told = leave_row::<T, W>(code, context, world, stack, point, reduced);
+            tell_row::<T, W>(code, context, world, stack, point, reduced, told);
             false
         }
     }
@@ -159,6 +179,28 @@ fn leave_leaf<T: Rows, W: World>(
         Demand::Full(what) => Stepped::Full(what),
         Demand::Memory => Stepped::Memory,
     }
+}
+
+/// A step whose row gave this answer for a node without parts, apart from the run loop; `told` is what it tells.
+#[inline(never)]
+fn tell_leaf<T: Rows, W: World>(
+    code: &RunningCode<'_, '_>,
+    context: &mut Context,
+    world: &mut W,
+    stack: &mut Stack,
+    point: &mut Point,
+    form: Redex,
+    reduced: Reduced,
+    told: &mut Stepped,
+)
+    requires table { IsTable code.now.table.now }
+    requires scoped { InScopes code.now.table.now code.now.root stack.old }
+    requires owns { has_extra form.op form.info ≡ false }
+    requires inner { (ts : List (List ℕ)) → scope_in (task_form ts code.now.table.now (redex form [] None)) (scope_of code.now.root stack.old) ≡ form.inner }
+    ensures told { (taken : List (List ℕ)) (m : Move Term) → Says code.now.names.now code.now.table.now (redex form [] None) m reduced (demand_of reduced) (state_of (W.world code.now.names.now world.old) context.old taken) → TellsWithin code.now.names.now code.now.table.now code.now.root stack.old m told.new stack.new point.new (state_of (W.world code.now.names.now world.new) context.new taken) }
+    ensures stands { IfGoesOn told.new (StandsIn code.now.table.now code.now.root stack.new point.new) }
+{
+    *told = leave_leaf::<T, W>(code, context, world, stack, point, form, reduced);
 }
 
 /// The step of a node without parts. Answers whether it went; otherwise `told` is what it tells.
@@ -198,14 +240,38 @@ fn step_leaf<T: Rows, W: World>(
             told,
         ),
         _ => {
-            *told = leave_leaf::<T, W>(code, context, world, stack, point, form, reduced);
+            tell_leaf::<T, W>(code, context, world, stack, point, form, reduced, told);
             false
         }
     }
 }
 
-/// One step of the residual term that the tasks and the point are, in a world and a context. The code's table has the term's
-/// nodes, and `T` the rows of its forms. Answers whether it went; otherwise `told` is what it tells.
+/// The step of a throw that stands, apart from the run loop; `told` is what it tells.
+#[inline(never)]
+fn tell_throw<T: Rows, W: World>(
+    code: &RunningCode<'_, '_>,
+    context: &mut Context,
+    world: &mut W,
+    stack: &mut Stack,
+    point: &mut Point,
+    told: &mut Stepped,
+)
+    requires table { IsTable code.now.table.now }
+    requires scoped { InScopes code.now.table.now code.now.root stack.old }
+    ensures told { (taken : List (List ℕ)) → Steps code.now.names.now code.now.table.now code.now.root stack.old point.old (state_of (W.world code.now.names.now world.old) context.old taken) told.new stack.new point.new (state_of (W.world code.now.names.now world.new) context.new taken) }
+    ensures stands { IfGoesOn told.new (StandsIn code.now.table.now code.now.root stack.new point.new) }
+{
+    match *point {
+        Point::Stands(value, place) => {
+            let thrown = Completion::Throws(value, place);
+            *told = travel::<T, W>(code, context, world, stack, point, thrown);
+        }
+        _ => *told = Stepped::Memory,
+    }
+}
+
+/// One step of the residual term that the tasks and the point are, in a world and a context. The code's table has the
+/// term's nodes, and `T` the rows of its forms. Answers whether it went; otherwise `told` is what it tells.
 #[inline(always)]
 pub(crate) fn advance<T: Rows, W: World>(
     code: &RunningCode<'_, '_>,
@@ -225,20 +291,15 @@ pub(crate) fn advance<T: Rows, W: World>(
     match *point {
         Point::Row => step_row::<T, W>(code, context, world, stack, point, told),
         Point::Leaf(n) => { step_leaf::<T, W>(code, context, world, stack, point, n, told) }
-        Point::Stands(value, place) => {
-            let thrown = Completion::Throws(value, place);
-            *told = travel::<T, W>(code, context, world, stack, point, thrown);
-            false
-        }
-        Point::Done(_) => {
-            *told = Stepped::Memory;
+        _ => {
+            tell_throw::<T, W>(code, context, world, stack, point, told);
             false
         }
     }
 }
 
-/// One step of the residual term that the tasks and the point are, in a world and a context. The code's table has the term's
-/// nodes, and `T` the rows of its forms.
+/// One step of the residual term that the tasks and the point are, in a world and a context. The code's table has the
+/// term's nodes, and `T` the rows of its forms.
 pub fn step<T: Rows, W: World>(
     code: &RunningCode<'_, '_>,
     context: &mut Context,

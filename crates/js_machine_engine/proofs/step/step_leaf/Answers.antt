@@ -56,8 +56,8 @@ returns-in-Uncovers-clause-stands g c =
     c.uncover.new.stack c.uncover.new.point c.has_gone-in-Uncovers.ensures c.uncover.ensures.at
     c.uncover.ensures.scoped)
 
-pub leave_leaf-requires-clause-inner : goal.leave_leaf-requires-clause-inner
-leave_leaf-requires-clause-inner g c =
+pub tell_leaf-requires-clause-inner : goal.tell_leaf-requires-clause-inner
+tell_leaf-requires-clause-inner g c =
     leaf-scope c.args.code.now.table.now c.args.n c.in-Some.node c.scope.result c.args.code.now.root c.args.stack.now
     c.requires.table
     (sym c.in-Some.ensures) c.scope.ensures
@@ -70,13 +70,13 @@ returns-in_default-reduced g c = record {
       let r = c.reduce-reduced.result in
       let s = state_of (g.W.World.world ts c.args.world.now) c.args.context.now taken in
       let u = state_of (g.W.World.world ts c.reduce-reduced.new.world) c.reduce-reduced.new.context taken in
-      let v = state_of (g.W.World.world ts c.leave_leaf.new.world) c.leave_leaf.new.context taken in
-      leaf-told ts t c.args.code.now.root c.args.stack.now c.leave_leaf.new.stack c.leave_leaf.new.point c.args.n
+      let v = state_of (g.W.World.world ts c.tell_leaf.new.world) c.tell_leaf.new.context taken in
+      leaf-told ts t c.args.code.now.root c.args.stack.now c.tell_leaf.new.stack c.tell_leaf.new.point c.args.n
       c.in-Some.node
       c.scope.result r
-      (demand_of r) c.leave_leaf.result s u v c.requires.table (sym c.in-Some.ensures)
+      (demand_of r) c.tell_leaf.new.told s u v c.requires.table (sym c.in-Some.ensures)
       c.requires.leaf c.scope.ensures c.requires.scoped refl
       (λ outer. c.reduce-reduced.ensures outer taken)
-      (λ m h. c.leave_leaf.ensures.told taken m h);
-  stands = c.leave_leaf.ensures.stands;
+      (λ m h. c.tell_leaf.ensures.told taken m h);
+  stands = c.tell_leaf.ensures.stands;
 }

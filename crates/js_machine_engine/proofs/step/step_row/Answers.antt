@@ -43,14 +43,14 @@ returns-in_default-reduced g c = record {
       let r = c.reduce-reduced.result in
       let s = state_of (g.W.World.world ts c.args.world.now) c.args.context.now taken in
       let u = state_of (g.W.World.world ts c.reduce-reduced.new.world) c.reduce-reduced.new.context taken in
-      let v = state_of (g.W.World.world ts c.leave_row.new.world) c.leave_row.new.context taken in
-      row-told ts c.args.code.now.table.now c.args.code.now.root c.args.stack.now c.leave_row.new.stack
-      c.leave_row.new.point
+      let v = state_of (g.W.World.world ts c.tell_row.new.world) c.tell_row.new.context taken in
+      row-told ts c.args.code.now.table.now c.args.code.now.root c.args.stack.now c.tell_row.new.stack
+      c.tell_row.new.point
       c.in-Some.task c.values.result.now c.extra-extra.result r
       (demand_of r)
-      c.leave_row.result s u v c.in-Some.ensures.some c.requires.row c.requires.scoped c.values.ensures
+      c.tell_row.new.told s u v c.in-Some.ensures.some c.requires.row c.requires.scoped c.values.ensures
       c.extra-extra.ensures refl
       (λ outer. c.reduce-reduced.ensures outer taken)
-      (λ m h. c.leave_row.ensures.told taken m h);
-  stands = c.leave_row.ensures.stands;
+      (λ m h. c.tell_row.ensures.told taken m h);
+  stands = c.tell_row.ensures.stands;
 }

@@ -1,6 +1,6 @@
 use Rattle.js_machine_actions.specs.Contexts.{state_of}
 use Rattle.js_machine_engine.proofs.StepLemmas.{standing-told}
-use Rattle.js_machine_engine.proofs.step.advance.Goals as goal
+use Rattle.js_machine_engine.proofs.step.tell_throw.Goals as goal
 
 pub returns-in-Stands-clause-told : goal.returns-in-Stands-clause-told
 returns-in-Stands-clause-told g c = λ taken.
