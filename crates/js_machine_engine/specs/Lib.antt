@@ -1,6 +1,7 @@
 pub mod Gaps
 pub mod Tasks
 pub mod Points
+pub mod Positions
 pub mod Answers
 pub mod Rows
 pub mod Stacks

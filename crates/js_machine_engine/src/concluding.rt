@@ -16,21 +16,21 @@ ghost use Rattle.js_machine_engine.specs.Stepping.{Says, Raises, TellsWithin, If
 use crate::answer::{Demand, went_of};
 use crate::code::RunningCode;
 use crate::following::follow;
+use crate::position::Position;
 use crate::reduced::Reduced;
 use crate::settling::give;
 use crate::stack::Stack;
 use crate::stepped::Stepped;
-use crate::task::Point;
 use js_heap::value::Value;
 use js_machine_actions::context::Context;
 use js_machine_nodes::table::NodeTable;
 use std::alloc::{AllocError, Global};
 
 /// A throw stands in the innermost gap, at the place of the top frame.
-pub fn raise(context: &Context, point: &mut Point, value: Value) -> Stepped
+pub fn raise(context: &Context, point: &mut Position, value: Value) -> Stepped
     ensures { Raises value context.now result point.new }
 {
-    *point = Point::Stands(value, context.spot_of());
+    point.set_stands(value, context.spot_of());
     Stepped::Raised
 }
 
@@ -52,7 +52,7 @@ fn printed_of(alloc: Global, values: &[Value]) -> Result<Vec<Value>, AllocError>
 pub fn print(
     table: &NodeTable,
     stack: &mut Stack,
-    point: &mut Point,
+    point: &mut Position,
     printed: Vec<Value>,
 ) -> Stepped
     requires { IsTable table.now }
@@ -66,7 +66,7 @@ pub fn print(
 }
 
 /// The innermost task has printed its values, and is undefined.
-fn print_row(alloc: Global, table: &NodeTable, stack: &mut Stack, point: &mut Point) -> Stepped
+fn print_row(alloc: Global, table: &NodeTable, stack: &mut Stack, point: &mut Position) -> Stepped
     requires { IsTable table.now }
     ensures told { (ts : List (List ℕ)) (root : AnyAddr) (s : State) → TellsWithin ts table.now root (outer_of stack.old) (goes (done undefined) s (printed_values (drop 2 (innermost stack.old).values))) result stack.new point.new s }
     ensures stands { IfGoesOn result ((root : AnyAddr) → InScopes table.now root stack.old → StandsIn table.now root stack.new point.new) }
@@ -84,7 +84,7 @@ pub fn conclude(
     code: &RunningCode<'_, '_>,
     context: &Context,
     stack: &mut Stack,
-    point: &mut Point,
+    point: &mut Position,
     reduced: Reduced,
     answer: Demand,
 ) -> Stepped

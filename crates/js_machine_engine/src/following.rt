@@ -19,9 +19,9 @@ use crate::following::loops::{follow_loop_body, follow_names, follow_test, follo
 use crate::following::parts::{
     follow_body, follow_part, follow_scope, follow_uncovered, follow_value,
 };
+use crate::position::Position;
 use crate::reduced::Reduced;
 use crate::stack::Stack;
-use crate::task::Point;
 use js_heap::value::Addr;
 use js_machine_nodes::table::NodeTable;
 use std::alloc::AllocError;
@@ -31,7 +31,7 @@ fn follow_seldom(
     table: &NodeTable,
     root: Addr,
     stack: &mut Stack,
-    point: &mut Point,
+    point: &mut Position,
     reduced: Reduced,
 ) -> Result<(), AllocError>
     requires { IsTable table.now }
@@ -66,7 +66,7 @@ pub fn follow(
     table: &NodeTable,
     root: Addr,
     stack: &mut Stack,
-    point: &mut Point,
+    point: &mut Position,
     reduced: Reduced,
 ) -> Result<(), AllocError>
     requires { IsTable table.now }

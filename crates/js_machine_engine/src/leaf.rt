@@ -11,10 +11,11 @@ ghost use Rattle.js_machine_engine.specs.Answers.{reduced_term};
 ghost use Rattle.js_machine_engine.specs.Rows.{redex};
 
 use crate::following::follow;
+use crate::position::Position;
 use crate::reduced::Reduced;
-use crate::settling::{give, go, uncover};
+use crate::settling::{give, go, uncover_part};
 use crate::stack::Stack;
-use crate::task::{Point, Redex};
+use crate::task::Redex;
 use js_heap::value::Addr;
 use js_machine_nodes::table::NodeTable;
 use std::alloc::AllocError;
@@ -31,7 +32,7 @@ pub fn follow_leaf(
     table: &NodeTable,
     root: Addr,
     stack: &mut Stack,
-    point: &mut Point,
+    point: &mut Position,
     form: Redex,
     reduced: Reduced,
 ) -> Result<(), AllocError>
@@ -44,7 +45,7 @@ pub fn follow_leaf(
     match reduced {
         Reduced::Gives(value) => give(table, stack, point, value),
         Reduced::Goes(node) => go(table, root, stack, point, node),
-        Reduced::Uncovers(node) => uncover(table, root, stack, point, node),
+        Reduced::Uncovers(node) => uncover_part(table, root, stack, point, node),
         _ => {
             stack.push(form.op, form.info, form.mid, form.mid, form.end, form.inner)?;
             follow(table, root, stack, point, reduced)

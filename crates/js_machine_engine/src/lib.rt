@@ -25,6 +25,7 @@ pub mod laws;
 mod leaf;
 mod parts;
 mod passing;
+mod position;
 pub mod reduced;
 pub mod rows;
 pub mod run;

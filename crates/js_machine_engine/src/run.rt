@@ -12,6 +12,7 @@ ghost use Rattle.js_machine_engine.specs.Stepping.{told_by, StandsIn};
 ghost use Rattle.js_machine_engine.specs.Prints.{PrintsAs, IsSilent, last_printed};
 
 use crate::code::RunningCode;
+use crate::position::Position;
 use crate::rows::Rows;
 use crate::stack::Stack;
 use crate::step::advance;
@@ -107,15 +108,70 @@ fn stops_at<H: StopTest>(
     table: &NodeTable,
     context: &Context,
     stack: &Stack,
-    point: Point,
+    point: &Position,
 ) -> bool
     requires table { IsTable table.now }
-    requires at { IsAt table.now stack.now point }
-    ensures { (names : List (List ℕ)) (world : AnyWorld) (taken : List (List ℕ)) → result ≡ asks_at (H.stops host.now) (run_of (term_at names table.now stack.now point) (state_of world context.now taken)) }
+    requires at { IsAt table.now stack.now point.now }
+    ensures { (names : List (List ℕ)) (world : AnyWorld) (taken : List (List ℕ)) → result ≡ asks_at (H.stops host.now) (run_of (term_at names table.now stack.now point.now) (state_of world context.now taken)) }
 {
-    match point {
+    match point.get() {
         Point::Done(_) => false,
-        _ => host.asks(table, context, stack, point),
+        left => host.asks(table, context, stack, left),
+    }
+}
+
+/// Steps until the host asks for a stop, until a raise, a print or the end, or until so many.
+#[inline(always)]
+fn run_on<T: Rows, W: World, H: StopTest>(
+    code: &RunningCode<'_, '_>,
+    context: &mut Context,
+    world: &mut W,
+    stack: &mut Stack,
+    point: &mut Position,
+    most: u64,
+    host: &H,
+) -> StoppedRun
+    requires table { IsTable code.now.table.now }
+    requires functions { HasFunctions code.now.table.now }
+    requires stands { StandsIn code.now.table.now code.now.root stack.old point.old }
+    ensures told { (taken : List (List ℕ)) → RunsTo (steps_in result.steps (program_of code.now.names.now code.now.table.now) code.now.root (run_of (term_at code.now.names.now code.now.table.now stack.old point.old) (state_of (W.world code.now.names.now world.old) context.old taken))) result.why (term_at code.now.names.now code.now.table.now stack.new point.new) (state_of (W.world code.now.names.now world.new) context.new taken) }
+    // Each of the steps is one of a run that isn't over.
+    ensures left { (taken : List (List ℕ)) → RunsFor result.steps (program_of code.now.names.now code.now.table.now) code.now.root (run_of (term_at code.now.names.now code.now.table.now stack.old point.old) (state_of (W.world code.now.names.now world.old) context.old taken)) }
+    ensures stands { IfGoes result.why (StandsIn code.now.table.now code.now.root stack.new point.new) }
+    ensures within { result.steps ≤ most }
+    ensures counted { CountsAs result.why result.steps most }
+    // The host asked for a stop behind the last step, if that is the reason, and behind none before.
+    ensures asked { (taken : List (List ℕ)) → IsAsked (H.stops host.now) result.why (steps_in result.steps (program_of code.now.names.now code.now.table.now) code.now.root (run_of (term_at code.now.names.now code.now.table.now stack.old point.old) (state_of (W.world code.now.names.now world.old) context.old taken))) }
+    ensures passed { (taken : List (List ℕ)) → HasPassed (H.stops host.now) (passed_steps result.why result.steps) (program_of code.now.names.now code.now.table.now) code.now.root (run_of (term_at code.now.names.now code.now.table.now stack.old point.old) (state_of (W.world code.now.names.now world.old) context.old taken)) }
+    // The last step printed these values, if they are the reason, and nothing otherwise; no step before it printed.
+    ensures values { (taken : List (List ℕ)) → PrintsAs result.why (last_printed result.steps (program_of code.now.names.now code.now.table.now) code.now.root (run_of (term_at code.now.names.now code.now.table.now stack.old point.old) (state_of (W.world code.now.names.now world.old) context.old taken))) }
+    ensures silent { (taken : List (List ℕ)) → IsSilent (result.steps - 1) (program_of code.now.names.now code.now.table.now) code.now.root (run_of (term_at code.now.names.now code.now.table.now stack.old point.old) (state_of (W.world code.now.names.now world.old) context.old taken)) }
+{
+    let mut told = Stepped::Went;
+    for steps in 0..most {
+        if let Point::Done(value) = point.get() {
+            return StoppedRun {
+                steps,
+                why: Why::Over(Finish::Ended(value)),
+            };
+        }
+        let went = advance::<T, W>(code, context, world, stack, point, &mut told);
+        if is_stop(went, &told) {
+            return StoppedRun {
+                steps: steps + 1,
+                why: why_of(told),
+            };
+        }
+        if stops_at(host, code.table, context, stack, point) {
+            return StoppedRun {
+                steps: steps + 1,
+                why: Why::Asked,
+            };
+        }
+    }
+    StoppedRun {
+        steps: most,
+        why: Why::Spent,
     }
 }
 
@@ -145,30 +201,8 @@ pub fn step_until<T: Rows, W: World, H: StopTest>(
     ensures values { (taken : List (List ℕ)) → PrintsAs result.why (last_printed result.steps (program_of code.now.names.now code.now.table.now) code.now.root (run_of (term_at code.now.names.now code.now.table.now stack.old point.old) (state_of (W.world code.now.names.now world.old) context.old taken))) }
     ensures silent { (taken : List (List ℕ)) → IsSilent (result.steps - 1) (program_of code.now.names.now code.now.table.now) code.now.root (run_of (term_at code.now.names.now code.now.table.now stack.old point.old) (state_of (W.world code.now.names.now world.old) context.old taken)) }
 {
-    let mut told = Stepped::Went;
-    for steps in 0..most {
-        if let Point::Done(value) = *point {
-            return StoppedRun {
-                steps,
-                why: Why::Over(Finish::Ended(value)),
-            };
-        }
-        let went = advance::<T, W>(code, context, world, stack, point, &mut told);
-        if is_stop(went, &told) {
-            return StoppedRun {
-                steps: steps + 1,
-                why: why_of(told),
-            };
-        }
-        if stops_at(host, code.table, context, stack, *point) {
-            return StoppedRun {
-                steps: steps + 1,
-                why: Why::Asked,
-            };
-        }
-    }
-    StoppedRun {
-        steps: most,
-        why: Why::Spent,
-    }
+    let mut position = Position::of(*point);
+    let stopped = run_on::<T, W, H>(code, context, world, stack, &mut position, most, host);
+    *point = position.get();
+    stopped
 }

@@ -12,6 +12,7 @@ ghost use Rattle.js_machine_engine.specs.Settling.{closing_of, is_waiting, settl
 use crate::closing::{Closing, Next, closing_of};
 use crate::finish::finish;
 use crate::parts::{next_part, value_at};
+use crate::position::Position;
 use crate::stack::Stack;
 use crate::task::Point;
 use js_heap::value::{Addr, Value};
@@ -46,7 +47,7 @@ fn enter(
     table: &NodeTable,
     stack: &mut Stack,
     inner: Addr,
-    point: &mut Point,
+    point: &mut Position,
     n: &mut u32,
 ) -> Result<bool, AllocError>
     requires table { IsTable table.now }
@@ -54,18 +55,18 @@ fn enter(
     ensures { IfOk result (Enters table.now stack.old stack.new inner n.old n.new point.new) }
 {
     let Some(node) = table.node(*n) else {
-        *point = Point::Leaf(*n);
+        point.set_leaf(*n);
         return Ok(false);
     };
     if node.first == node.mid {
-        *point = Point::Leaf(*n);
+        point.set_leaf(*n);
         return Ok(false);
     }
     stack.push(node.op, node.info, node.first, node.mid, node.end, inner)?;
     if next_part(table, stack, n)? {
         return Ok(true);
     }
-    *point = Point::Row;
+    point.set_row();
     Ok(false)
 }
 
@@ -91,7 +92,7 @@ fn descend_into(
     table: &NodeTable,
     stack: &mut Stack,
     inner: Addr,
-    point: &mut Point,
+    point: &mut Position,
     node: u32,
 ) -> Result<(), AllocError>
     requires table { IsTable table.now }
@@ -118,7 +119,7 @@ fn descend(
     table: &NodeTable,
     stack: &mut Stack,
     inner: Addr,
-    point: &mut Point,
+    point: &mut Position,
     node: u32,
 ) -> Result<(), AllocError>
     requires table { IsTable table.now }
@@ -128,7 +129,7 @@ fn descend(
     ensures scoped { OnOk result ((root : Addr) → scope_of root stack.old ≡ inner → InScopes table.now root stack.old → InScopes table.now root stack.new) }
 {
     if is_leaf(table, node) {
-        *point = Point::Leaf(node);
+        point.set_leaf(node);
         return Ok(());
     }
     descend_into(table, stack, inner, point, node)
@@ -140,7 +141,7 @@ fn descend(
 fn close(
     table: &NodeTable,
     stack: &mut Stack,
-    point: &mut Point,
+    point: &mut Position,
     given: &mut Value,
 ) -> Result<bool, AllocError>
     requires table { IsTable table.now }
@@ -150,7 +151,7 @@ fn close(
     let inner = inner_scope(stack);
     match finish(table, stack)? {
         Next::Row => {
-            *point = Point::Row;
+            point.set_row();
             Ok(false)
         }
         Next::Value(value) => {
@@ -170,7 +171,7 @@ fn close(
 fn take(
     table: &NodeTable,
     stack: &mut Stack,
-    point: &mut Point,
+    point: &mut Position,
     value: Value,
 ) -> Result<bool, AllocError>
     requires table { IsTable table.now }
@@ -185,7 +186,7 @@ fn take(
         return Ok(false);
     }
     if is_waiting(stack.op()) {
-        *point = Point::Row;
+        point.set_row();
         return Ok(false);
     }
     Ok(true)
@@ -198,7 +199,11 @@ fn take(
 ///
 /// There is no memory for it.
 #[inline(never)]
-pub fn settle_row(table: &NodeTable, stack: &mut Stack, point: &mut Point) -> Result<(), AllocError>
+pub fn settle_row(
+    table: &NodeTable,
+    stack: &mut Stack,
+    point: &mut Position,
+) -> Result<(), AllocError>
     requires table { IsTable table.now }
     requires row { IsAtRow stack.old }
     ensures term { OnOk result ((ts : List (List ℕ)) → settled_row ts table.now stack.old ≡ term_at ts table.now stack.new point.new) }
@@ -211,7 +216,7 @@ pub fn settle_row(table: &NodeTable, stack: &mut Stack, point: &mut Point) -> Re
             return Ok(());
         }
         if stack.is_empty() {
-            *point = Point::Done(given);
+            point.set_done(given);
             return Ok(());
         }
         if !take(table, stack, point, given)? {
@@ -228,7 +233,7 @@ pub fn settle_row(table: &NodeTable, stack: &mut Stack, point: &mut Point) -> Re
 pub fn give(
     table: &NodeTable,
     stack: &mut Stack,
-    point: &mut Point,
+    point: &mut Position,
     value: Value,
 ) -> Result<(), AllocError>
     requires { IsTable table.now }
@@ -237,7 +242,7 @@ pub fn give(
     ensures scoped { OnOk result ((root : Addr) → InScopes table.now root stack.old → InScopes table.now root stack.new) }
 {
     if stack.is_empty() {
-        *point = Point::Done(value);
+        point.set_done(value);
         return Ok(());
     }
     if take(table, stack, point, value)? {
@@ -256,7 +261,7 @@ pub(crate) fn take_up(
     table: &NodeTable,
     stack: &mut Stack,
     inner: Addr,
-    point: &mut Point,
+    point: &mut Position,
     next: Next,
 ) -> Result<(), AllocError>
     requires table { IsTable table.now }
@@ -267,7 +272,7 @@ pub(crate) fn take_up(
 {
     match next {
         Next::Row => {
-            *point = Point::Row;
+            point.set_row();
             Ok(())
         }
         Next::Value(value) => give(table, stack, point, value),
@@ -281,21 +286,21 @@ pub(crate) fn take_up(
 ///
 /// There is no memory for it.
 #[inline(always)]
-pub fn proceed(table: &NodeTable, stack: &mut Stack, point: &mut Point) -> Result<(), AllocError>
+pub fn proceed(table: &NodeTable, stack: &mut Stack, point: &mut Position) -> Result<(), AllocError>
     requires { IsTable table.now }
     ensures term { OnOk result ((ts : List (List ℕ)) → proceeding ts table.now stack.old ≡ term_at ts table.now stack.new point.new) }
     ensures at { OnOk result (IsAt table.now stack.new point.new) }
     ensures scoped { OnOk result ((root : Addr) → InScopes table.now root stack.old → InScopes table.now root stack.new) }
 {
     let Some(task) = stack.last() else {
-        *point = Point::Done(Value::Undefined);
+        point.set_done(Value::Undefined);
         return Ok(());
     };
     let mut part = 0;
     if next_part(table, stack, &mut part)? {
         return descend(table, stack, task.inner, point, part);
     }
-    *point = Point::Row;
+    point.set_row();
     Ok(())
 }
 
@@ -309,7 +314,7 @@ pub fn go(
     table: &NodeTable,
     root: Addr,
     stack: &mut Stack,
-    point: &mut Point,
+    point: &mut Position,
     node: u32,
 ) -> Result<(), AllocError>
     requires { IsTable table.now }
@@ -332,7 +337,7 @@ fn uncover_form(
     table: &NodeTable,
     stack: &mut Stack,
     inner: Addr,
-    point: &mut Point,
+    point: &mut Position,
     n: u32,
 ) -> Result<(), AllocError>
     requires table { IsTable table.now }
@@ -346,7 +351,7 @@ fn uncover_form(
     };
     if node.first == node.mid {
         if is_waiting(node.op) {
-            *point = Point::Leaf(n);
+            point.set_leaf(n);
             return Ok(());
         }
     }
@@ -356,6 +361,33 @@ fn uncover_form(
         return descend(table, stack, inner, point, part);
     }
     settle_row(table, stack, point)
+}
+
+/// A part comes uncovered into the innermost gap: where nothing is left to do in it, it gives way. Around all tasks is the
+/// scope `root`.
+///
+/// # Errors
+///
+/// There is no memory for it.
+pub(crate) fn uncover_part(
+    table: &NodeTable,
+    root: Addr,
+    stack: &mut Stack,
+    point: &mut Position,
+    node: u32,
+) -> Result<(), AllocError>
+    requires { IsTable table.now }
+    ensures term { OnOk result ((ts : List (List ℕ)) → resettled (gaps_of ts table.now stack.old) (settle (tree ts table.now node)) ≡ term_at ts table.now stack.new point.new) }
+    ensures at { OnOk result (IsAt table.now stack.new point.new) }
+    ensures scoped { OnOk result (InScopes table.now root stack.old → InScopes table.now root stack.new) }
+{
+    match value_at(table, node) {
+        Some(value) => give(table, stack, point, value),
+        None => {
+            let inner = stack.scope(root);
+            uncover_form(table, stack, inner, point, node)
+        }
+    }
 }
 
 /// A part comes uncovered into the innermost gap: where nothing is left to do in it, it gives way. Around all tasks is the
@@ -376,11 +408,8 @@ pub fn uncover(
     ensures at { OnOk result (IsAt table.now stack.new point.new) }
     ensures scoped { OnOk result (InScopes table.now root stack.old → InScopes table.now root stack.new) }
 {
-    match value_at(table, node) {
-        Some(value) => give(table, stack, point, value),
-        None => {
-            let inner = stack.scope(root);
-            uncover_form(table, stack, inner, point, node)
-        }
-    }
+    let mut position = Position::of(*point);
+    uncover_part(table, root, stack, &mut position, node)?;
+    *point = position.get();
+    Ok(())
 }

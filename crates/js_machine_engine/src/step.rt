@@ -21,9 +21,10 @@ use crate::code::RunningCode;
 use crate::concluding::{conclude, print, raise};
 use crate::following::parts::follow_value;
 use crate::leaf::follow_leaf;
+use crate::position::Position;
 use crate::reduced::Reduced;
 use crate::rows::Rows;
-use crate::settling::{give, uncover};
+use crate::settling::{give, uncover_part};
 use crate::stack::Stack;
 use crate::stepped::Stepped;
 use crate::task::{Extra, Point, Redex};
@@ -49,7 +50,7 @@ fn resume<T: Rows, W: World>(
     context: &mut Context,
     world: &mut W,
     stack: &mut Stack,
-    point: &mut Point,
+    point: &mut Position,
 ) -> Stepped
     requires table { IsTable code.now.table.now }
     requires scoped { InScopes code.now.table.now code.now.root stack.old }
@@ -70,7 +71,7 @@ fn leave_row<T: Rows, W: World>(
     context: &mut Context,
     world: &mut W,
     stack: &mut Stack,
-    point: &mut Point,
+    point: &mut Position,
     reduced: Reduced,
 ) -> Stepped
     requires table { IsTable code.now.table.now }
@@ -95,7 +96,7 @@ fn tell_row<T: Rows, W: World>(
     context: &mut Context,
     world: &mut W,
     stack: &mut Stack,
-    point: &mut Point,
+    point: &mut Position,
     reduced: Reduced,
     told: &mut Stepped,
 )
@@ -115,7 +116,7 @@ fn step_row<T: Rows, W: World>(
     context: &mut Context,
     world: &mut W,
     stack: &mut Stack,
-    point: &mut Point,
+    point: &mut Position,
     told: &mut Stepped,
 ) -> bool
     requires table { IsTable code.now.table.now }
@@ -156,7 +157,7 @@ fn leave_leaf<T: Rows, W: World>(
     context: &mut Context,
     world: &mut W,
     stack: &mut Stack,
-    point: &mut Point,
+    point: &mut Position,
     form: Redex,
     reduced: Reduced,
 ) -> Stepped
@@ -188,7 +189,7 @@ fn tell_leaf<T: Rows, W: World>(
     context: &mut Context,
     world: &mut W,
     stack: &mut Stack,
-    point: &mut Point,
+    point: &mut Position,
     form: Redex,
     reduced: Reduced,
     told: &mut Stepped,
@@ -210,7 +211,7 @@ fn step_leaf<T: Rows, W: World>(
     context: &mut Context,
     world: &mut W,
     stack: &mut Stack,
-    point: &mut Point,
+    point: &mut Position,
     n: u32,
     told: &mut Stepped,
 ) -> bool
@@ -236,7 +237,7 @@ fn step_leaf<T: Rows, W: World>(
     match reduced {
         Reduced::Gives(value) => has_gone(give(code.table, stack, point, value), told),
         Reduced::Uncovers(node) => has_gone(
-            uncover(code.table, code.root, stack, point, node),
+            uncover_part(code.table, code.root, stack, point, node),
             told,
         ),
         _ => {
@@ -253,7 +254,7 @@ fn tell_throw<T: Rows, W: World>(
     context: &mut Context,
     world: &mut W,
     stack: &mut Stack,
-    point: &mut Point,
+    point: &mut Position,
     told: &mut Stepped,
 )
     requires table { IsTable code.now.table.now }
@@ -261,7 +262,7 @@ fn tell_throw<T: Rows, W: World>(
     ensures told { (taken : List (List ℕ)) → Steps code.now.names.now code.now.table.now code.now.root stack.old point.old (state_of (W.world code.now.names.now world.old) context.old taken) told.new stack.new point.new (state_of (W.world code.now.names.now world.new) context.new taken) }
     ensures stands { IfGoesOn told.new (StandsIn code.now.table.now code.now.root stack.new point.new) }
 {
-    match *point {
+    match point.get() {
         Point::Stands(value, place) => {
             let thrown = Completion::Throws(value, place);
             *told = travel::<T, W>(code, context, world, stack, point, thrown);
@@ -278,7 +279,7 @@ pub(crate) fn advance<T: Rows, W: World>(
     context: &mut Context,
     world: &mut W,
     stack: &mut Stack,
-    point: &mut Point,
+    point: &mut Position,
     told: &mut Stepped,
 ) -> bool
     requires table { IsTable code.now.table.now }
@@ -288,7 +289,7 @@ pub(crate) fn advance<T: Rows, W: World>(
     ensures told { (taken : List (List ℕ)) → Tells (next (program_of code.now.names.now code.now.table.now) code.now.root (term_at code.now.names.now code.now.table.now stack.old point.old) (state_of (W.world code.now.names.now world.old) context.old taken)) (told_by result told.new) (term_at code.now.names.now code.now.table.now stack.new point.new) (state_of (W.world code.now.names.now world.new) context.new taken) }
     ensures stands { IfGoesOn (told_by result told.new) (StandsIn code.now.table.now code.now.root stack.new point.new) }
 {
-    match *point {
+    match point.get() {
         Point::Row => step_row::<T, W>(code, context, world, stack, point, told),
         Point::Leaf(n) => { step_leaf::<T, W>(code, context, world, stack, point, n, told) }
         _ => {
@@ -314,8 +315,11 @@ pub fn step<T: Rows, W: World>(
     ensures told { (taken : List (List ℕ)) → Tells (next (program_of code.now.names.now code.now.table.now) code.now.root (term_at code.now.names.now code.now.table.now stack.old point.old) (state_of (W.world code.now.names.now world.old) context.old taken)) result (term_at code.now.names.now code.now.table.now stack.new point.new) (state_of (W.world code.now.names.now world.new) context.new taken) }
     ensures stands { IfGoesOn result (StandsIn code.now.table.now code.now.root stack.new point.new) }
 {
+    let mut position = Position::of(*point);
     let mut told = Stepped::Went;
-    if advance::<T, W>(code, context, world, stack, point, &mut told) {
+    let went = advance::<T, W>(code, context, world, stack, &mut position, &mut told);
+    *point = position.get();
+    if went {
         return Stepped::Went;
     }
     told

@@ -43,6 +43,15 @@ pub enum Point {
     Done(Value),
 }
 
+/// Which of the points.
+#[derive(Clone, Copy)]
+pub enum PointKind {
+    Row,
+    Leaf,
+    Stands,
+    Done,
+}
+
 /// What is about to be reduced: a form whose parts have their values. The scope is that in which its parts are.
 #[derive(Clone, Copy)]
 pub struct Redex {

@@ -21,11 +21,12 @@ use crate::code::RunningCode;
 use crate::concluding::conclude;
 use crate::following::parts::follow_value;
 use crate::passing::{Taking, pass_outward};
+use crate::position::Position;
 use crate::rows::Rows;
 use crate::settling::{proceed, settle_row};
 use crate::stack::Stack;
 use crate::stepped::Stepped;
-use crate::task::{Extra, Point, Redex};
+use crate::task::{Extra, Redex};
 use js_heap::value::Value;
 use js_heap_memory::world::World;
 use js_machine_actions::context::Context;
@@ -38,7 +39,7 @@ use std::alloc::AllocError;
 fn keep(
     table: &NodeTable,
     stack: &mut Stack,
-    point: &mut Point,
+    point: &mut Position,
     completion: Completion,
 ) -> Result<(), AllocError>
     requires table { IsTable table.now }
@@ -65,7 +66,7 @@ fn keep(
 }
 
 /// The loop of the innermost task is behind its body.
-fn end_turn(table: &NodeTable, stack: &mut Stack, point: &mut Point) -> Result<(), AllocError>
+fn end_turn(table: &NodeTable, stack: &mut Stack, point: &mut Position) -> Result<(), AllocError>
     requires { IsTable table.now }
     ensures term { OnOk result ((ts : List (List ℕ)) → resettled (gaps_of ts table.now (outer_of stack.old)) (settled (task_form ts table.now (innermost stack.old)) end (later_of ts table.now (innermost stack.old))) ≡ term_at ts table.now stack.new point.new) }
     ensures at { OnOk result (IsAt table.now stack.new point.new) }
@@ -85,7 +86,7 @@ fn catch_throw<T: Rows, W: World>(
     context: &Context,
     world: &mut W,
     stack: &mut Stack,
-    point: &mut Point,
+    point: &mut Position,
     completion: Completion,
     thrown: Value,
 ) -> Stepped
@@ -116,7 +117,7 @@ fn take<T: Rows, W: World>(
     context: &mut Context,
     world: &mut W,
     stack: &mut Stack,
-    point: &mut Point,
+    point: &mut Position,
     completion: Completion,
     taking: Taking,
 ) -> Stepped
@@ -152,7 +153,7 @@ pub fn travel<T: Rows, W: World>(
     context: &mut Context,
     world: &mut W,
     stack: &mut Stack,
-    point: &mut Point,
+    point: &mut Position,
     completion: Completion,
 ) -> Stepped
     requires table { IsTable code.now.table.now }

@@ -10,9 +10,9 @@ ghost use Rattle.js_machine_engine.specs.Answers.{this_of_call};
 ghost use Rattle.js_machine_engine.specs.Following.{Follows, IsCallOf, Compounds};
 
 use crate::following::parts::kept_part;
+use crate::position::Position;
 use crate::settling::proceed;
 use crate::stack::Stack;
-use crate::task::Point;
 use js_heap::value::{Addr, Value};
 use js_machine_nodes::op::Op;
 use js_machine_nodes::table::NodeTable;
@@ -74,7 +74,7 @@ pub fn follow_call(
     table: &NodeTable,
     root: Addr,
     stack: &mut Stack,
-    point: &mut Point,
+    point: &mut Position,
     callee: Value,
 ) -> Result<(), AllocError>
     requires { IsTable table.now }
@@ -100,7 +100,7 @@ pub fn follow_operand(
     table: &NodeTable,
     root: Addr,
     stack: &mut Stack,
-    point: &mut Point,
+    point: &mut Position,
     old: Value,
 ) -> Result<(), AllocError>
     requires { IsTable table.now }

@@ -10,9 +10,10 @@ ghost use Rattle.js_machine_engine.specs.Stacks.{wide, values_of, extra_of, oute
 ghost use Rattle.js_machine_engine.specs.Following.{Follows, HasTurn};
 
 use crate::following::parts::kept_part;
+use crate::position::Position;
 use crate::settling::go;
 use crate::stack::Stack;
-use crate::task::{Extra, Point, Task};
+use crate::task::{Extra, Task};
 use js_heap::value::{Addr, Value};
 use js_machine_nodes::op::Op;
 use js_machine_nodes::table::NodeTable;
@@ -69,7 +70,7 @@ pub fn follow_list(
     table: &NodeTable,
     root: Addr,
     stack: &mut Stack,
-    point: &mut Point,
+    point: &mut Position,
     scope: Addr,
 ) -> Result<(), AllocError>
     requires { IsTable table.now }
@@ -93,7 +94,7 @@ pub fn follow_first_turn(
     table: &NodeTable,
     root: Addr,
     stack: &mut Stack,
-    point: &mut Point,
+    point: &mut Position,
     list: Value,
 ) -> Result<(), AllocError>
     requires { IsTable table.now }
@@ -115,7 +116,7 @@ pub fn follow_first_turn(
         task.inner,
         turn,
     )?;
-    *point = Point::Row;
+    point.set_row();
     Ok(())
 }
 
@@ -124,7 +125,7 @@ pub fn follow_turn(
     table: &NodeTable,
     root: Addr,
     stack: &mut Stack,
-    point: &mut Point,
+    point: &mut Position,
     scope: Addr,
 ) -> Result<(), AllocError>
     requires { IsTable table.now }

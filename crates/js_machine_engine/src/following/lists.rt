@@ -11,9 +11,10 @@ ghost use Rattle.js_machine_engine.specs.Stacks.{wide, values_of, extra_of, oute
 ghost use Rattle.js_machine_engine.specs.Following.{Follows, RestsAt};
 
 use crate::following::parts::kept_part;
+use crate::position::Position;
 use crate::settling::{go, proceed};
 use crate::stack::Stack;
-use crate::task::{Extra, Point, Task};
+use crate::task::{Extra, Task};
 use js_heap::value::{Addr, Value};
 use js_machine_nodes::node::Node;
 use js_machine_nodes::op::{Op, is_literal};
@@ -59,7 +60,7 @@ pub fn follow_comma(
     table: &NodeTable,
     root: Addr,
     stack: &mut Stack,
-    point: &mut Point,
+    point: &mut Position,
 ) -> Result<(), AllocError>
     requires { IsTable table.now }
     ensures term { OnOk result ((ts : List (List ℕ)) → Follows ts table.now stack.old answers.Commas stack.new point.new) }
@@ -81,7 +82,7 @@ pub fn follow_method(
     table: &NodeTable,
     root: Addr,
     stack: &mut Stack,
-    point: &mut Point,
+    point: &mut Position,
     method: Value,
 ) -> Result<(), AllocError>
     requires { IsTable table.now }

@@ -12,10 +12,11 @@ ghost use Rattle.js_machine_engine.specs.Settling.{IsInnermost};
 ghost use Rattle.js_machine_engine.specs.Following.{Follows};
 
 use crate::following::parts::kept_part;
-use crate::settling::{take_up, uncover};
+use crate::position::Position;
+use crate::settling::{take_up, uncover_part};
 use crate::stack::Stack;
 use crate::stages::{at_body, at_test, at_update};
-use crate::task::{Point, Task};
+use crate::task::Task;
 use js_heap::value::Addr;
 use js_machine_nodes::op::{Op, is_loop};
 use js_machine_nodes::table::NodeTable;
@@ -55,7 +56,7 @@ pub fn follow_test(
     table: &NodeTable,
     root: Addr,
     stack: &mut Stack,
-    point: &mut Point,
+    point: &mut Position,
     scope: Addr,
 ) -> Result<(), AllocError>
     requires { IsTable table.now }
@@ -76,7 +77,7 @@ pub fn follow_update(
     table: &NodeTable,
     root: Addr,
     stack: &mut Stack,
-    point: &mut Point,
+    point: &mut Position,
     scope: Addr,
 ) -> Result<(), AllocError>
     requires { IsTable table.now }
@@ -97,7 +98,7 @@ pub fn follow_loop_body(
     table: &NodeTable,
     root: Addr,
     stack: &mut Stack,
-    point: &mut Point,
+    point: &mut Position,
 ) -> Result<(), AllocError>
     requires { IsTable table.now }
     ensures term { OnOk result ((ts : List (List ℕ)) → Follows ts table.now stack.old answers.Turns stack.new point.new) }
@@ -128,7 +129,7 @@ fn follow_constants(
     table: &NodeTable,
     root: Addr,
     stack: &mut Stack,
-    point: &mut Point,
+    point: &mut Position,
     scope: Addr,
 ) -> Result<(), AllocError>
     requires { IsTable table.now }
@@ -144,7 +145,7 @@ fn follow_constants(
     stack.pop();
     stack.push(Op::Scoped, 0, 0, 0, 0, scope)?;
     stack.push(Op::LoopFirst, 0, rest, rest, task.end, scope)?;
-    uncover(table, root, stack, point, initializer)
+    uncover_part(table, root, stack, point, initializer)
 }
 
 /// A `for` with other names goes on with its initialiser, in a scope that each turn has anew.
@@ -152,7 +153,7 @@ fn follow_variables(
     table: &NodeTable,
     root: Addr,
     stack: &mut Stack,
-    point: &mut Point,
+    point: &mut Position,
     scope: Addr,
 ) -> Result<(), AllocError>
     requires { IsTable table.now }
@@ -167,7 +168,7 @@ fn follow_variables(
     let rest = task.mid + 1;
     stack.pop();
     stack.push(Op::LoopFirst, 1, rest, rest, task.end, scope)?;
-    uncover(table, root, stack, point, initializer)
+    uncover_part(table, root, stack, point, initializer)
 }
 
 /// A `for` with names goes on with its initialiser.
@@ -175,7 +176,7 @@ pub fn follow_names(
     table: &NodeTable,
     root: Addr,
     stack: &mut Stack,
-    point: &mut Point,
+    point: &mut Position,
     constant: bool,
     scope: Addr,
 ) -> Result<(), AllocError>

@@ -7,9 +7,9 @@ ghost use Rattle.js_machine_engine.specs.Tasks.{InScopes};
 ghost use Rattle.js_machine_engine.specs.Points.{IsAt};
 ghost use Rattle.js_machine_engine.specs.Following.{Follows};
 
-use crate::settling::{give, go, uncover};
+use crate::position::Position;
+use crate::settling::{give, go, uncover_part};
 use crate::stack::Stack;
-use crate::task::Point;
 use js_heap::value::{Addr, Value};
 use js_machine_nodes::op::Op;
 use js_machine_nodes::table::NodeTable;
@@ -40,7 +40,7 @@ pub fn follow_value(
     table: &NodeTable,
     root: Addr,
     stack: &mut Stack,
-    point: &mut Point,
+    point: &mut Position,
     value: Value,
 ) -> Result<(), AllocError>
     requires { IsTable table.now }
@@ -59,7 +59,7 @@ pub fn follow_part(
     table: &NodeTable,
     root: Addr,
     stack: &mut Stack,
-    point: &mut Point,
+    point: &mut Position,
     node: u32,
 ) -> Result<(), AllocError>
     requires { IsTable table.now }
@@ -78,7 +78,7 @@ pub fn follow_uncovered(
     table: &NodeTable,
     root: Addr,
     stack: &mut Stack,
-    point: &mut Point,
+    point: &mut Position,
     node: u32,
 ) -> Result<(), AllocError>
     requires { IsTable table.now }
@@ -87,7 +87,7 @@ pub fn follow_uncovered(
     ensures scoped { OnOk result (InScopes table.now root stack.old → InScopes table.now root stack.new) }
 {
     stack.pop();
-    uncover(table, root, stack, point, node)
+    uncover_part(table, root, stack, point, node)
 }
 
 /// A kept part that is uncovered stands in its place, in a scope of its own.
@@ -96,7 +96,7 @@ pub fn follow_scope(
     table: &NodeTable,
     root: Addr,
     stack: &mut Stack,
-    point: &mut Point,
+    point: &mut Position,
     scope: Addr,
     node: u32,
 ) -> Result<(), AllocError>
@@ -107,7 +107,7 @@ pub fn follow_scope(
 {
     stack.pop();
     stack.push(Op::Scoped, 0, 0, 0, 0, scope)?;
-    uncover(table, root, stack, point, node)
+    uncover_part(table, root, stack, point, node)
 }
 
 /// The body of a function stands in its place, in the scope of the call.
@@ -116,7 +116,7 @@ pub fn follow_body(
     table: &NodeTable,
     root: Addr,
     stack: &mut Stack,
-    point: &mut Point,
+    point: &mut Position,
     function: u32,
     scope: Addr,
     body: u32,
@@ -128,5 +128,5 @@ pub fn follow_body(
 {
     stack.pop();
     stack.push(Op::Frame, function, 0, 0, 0, scope)?;
-    uncover(table, root, stack, point, body)
+    uncover_part(table, root, stack, point, body)
 }

@@ -9,9 +9,10 @@ inner_scope-inner-requires c = row-task c.args.stack.now c.requires.row
 
 pub returns-in-Row : goal.returns-in-Row
 returns-in-Row c =
-    row-settles c.args.table.now c.args.stack.now c.finish.new.stack
+    rw c.set_row.ensures
+    (row-settles c.args.table.now c.args.stack.now c.finish.new.stack
     (λ ts. settled_row ts c.args.table.now c.args.stack.now)
-    (rw c.in-Row.is at c.in_ok-finish.ensures)
+    (rw c.in-Row.is at c.in_ok-finish.ensures))
 
 pub returns-in-Value : goal.returns-in-Value
 returns-in-Value c = rw c.in-Value.is at c.in_ok-finish.ensures

@@ -1,7 +1,6 @@
 use Rattle.std.proofs.Common.{true, false, sym, ◌∙◌}
 use Rattle.std.proofs.lemmas.Result.{on_ok_weaker}
 use Rattle.js_semantics.specs.Terms.{done}
-use Rattle.js_machine_engine.specs.declared.task.Point.TheVariants as points
 use Rattle.js_machine_engine.specs.Gaps.{resettled}
 use Rattle.js_machine_engine.specs.Tasks.{gaps_of}
 use Rattle.js_machine_engine.specs.Settling.{Takes, Settles, IsFull}
@@ -12,12 +11,14 @@ pub returns-then-is_empty-clause-term : goal.returns-then-is_empty-clause-term
 returns-then-is_empty-clause-term c =
     let t = c.args.table.now in
     let old = c.args.stack.now in
-    let s : Settles t old old (λ ts. resettled (gaps_of ts t old) (done c.args.value)) (points.Done c.args.value)
-    = done-settles t old c.args.value (none-task old (sym c.is_empty.ensures ∙ c.if-is_empty.true)) in
+    let s : Settles t old old (λ ts. resettled (gaps_of ts t old) (done c.args.value)) c.set_done.new.self
+    = rw c.set_done.ensures
+    (done-settles t old c.args.value (none-task old (sym c.is_empty.ensures ∙ c.if-is_empty.true))) in
     s.term
 
 pub returns-then-is_empty-clause-at : goal.returns-then-is_empty-clause-at
-returns-then-is_empty-clause-at c = none-task c.args.stack.now (sym c.is_empty.ensures ∙ c.if-is_empty.true)
+returns-then-is_empty-clause-at c =
+    rw c.set_done.ensures (none-task c.args.stack.now (sym c.is_empty.ensures ∙ c.if-is_empty.true))
 
 pub returns-then-is_empty-clause-scoped : goal.returns-then-is_empty-clause-scoped
 returns-then-is_empty-clause-scoped c = λ root s. s

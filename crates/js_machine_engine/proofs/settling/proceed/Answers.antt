@@ -8,7 +8,11 @@ use Rattle.js_machine_engine.proofs.DescentLemmas.{is-task, proceed-part, procee
 use Rattle.js_machine_engine.proofs.settling.proceed.Goals as goal
 
 pub returns-in_default-clause-term : goal.returns-in_default-clause-term
-returns-in_default-clause-term c = λ ts. proceed-done ts c.args.table.now c.args.stack.now c.in_default.ensures.none
+returns-in_default-clause-term c =
+    λ ts. rw c.set_done.ensures (proceed-done ts c.args.table.now c.args.stack.now c.in_default.ensures.none)
+
+pub returns-in_default-clause-at : goal.returns-in_default-clause-at
+returns-in_default-clause-at c = rw c.set_done.ensures c.in_default.ensures.none
 
 pub returns-then-branch-clause-term : goal.returns-then-branch-clause-term
 returns-then-branch-clause-term c =
@@ -40,7 +44,7 @@ returns-clause-term c =
     let i : IsNextPart t c.args.stack.now c.next_part.new.stack None = rw c.if-branch.false at c.in_ok-next_part.ensures in
     let h : IsTask c.args.stack.now = is-task c.args.stack.now c.in-Some.task (extra_of c.args.stack.now)
     c.in-Some.ensures.some in
-    λ ts. proceed-row ts t c.args.stack.now c.next_part.new.stack h i
+    λ ts. rw c.set_row.ensures (proceed-row ts t c.args.stack.now c.next_part.new.stack h i)
 
 pub returns-clause-at : goal.returns-clause-at
 returns-clause-at c =
@@ -48,7 +52,7 @@ returns-clause-at c =
     let i : IsNextPart t c.args.stack.now c.next_part.new.stack None = rw c.if-branch.false at c.in_ok-next_part.ensures in
     let h : IsTask c.args.stack.now = is-task c.args.stack.now c.in-Some.task (extra_of c.args.stack.now)
     c.in-Some.ensures.some in
-    proceed-at t c.args.stack.now c.next_part.new.stack h i
+    rw c.set_row.ensures (proceed-at t c.args.stack.now c.next_part.new.stack h i)
 
 pub returns-clause-scoped : goal.returns-clause-scoped
 returns-clause-scoped c =

@@ -1,5 +1,4 @@
 use Rattle.std.proofs.Common.{true, false, sym, ◌∙◌}
-use Rattle.js_machine_engine.specs.declared.task.Point.TheVariants as points
 use Rattle.js_machine_engine.specs.Settling.{settled_row, GivesWay, Settles, Takes}
 use Rattle.js_machine_engine.proofs.DescentLemmas.{none-task, some-task, out-start, out-closed, out-taken, out-done, out-full, out-fewer}
 use Rattle.js_machine_engine.proofs.settling.settle_row.Goals as goal
@@ -44,9 +43,10 @@ returns-then-is_empty-clause-term c =
     let now = c.loop-stack.stack in
     let g : GivesWay t now c.close.new.stack (λ ts. settled_row ts t now) c.close.new.given c.close.new.point true
     = rw c.if-not-branch.false at c.in_ok-close.ensures in
-    let s : Settles t old c.close.new.stack (λ ts. settled_row ts t old) (points.Done c.close.new.given)
-    = out-done t old now c.close.new.stack c.close.new.given c.loop-stack.invariant g
-    (none-task c.close.new.stack (sym c.is_empty.ensures ∙ c.if-is_empty.true)) in
+    let s : Settles t old c.close.new.stack (λ ts. settled_row ts t old) c.set_done.new.self
+    = rw c.set_done.ensures
+    (out-done t old now c.close.new.stack c.close.new.given c.loop-stack.invariant g
+    (none-task c.close.new.stack (sym c.is_empty.ensures ∙ c.if-is_empty.true))) in
     s.term
 
 pub returns-then-is_empty-clause-at : goal.returns-then-is_empty-clause-at
@@ -56,9 +56,10 @@ returns-then-is_empty-clause-at c =
     let now = c.loop-stack.stack in
     let g : GivesWay t now c.close.new.stack (λ ts. settled_row ts t now) c.close.new.given c.close.new.point true
     = rw c.if-not-branch.false at c.in_ok-close.ensures in
-    let s : Settles t old c.close.new.stack (λ ts. settled_row ts t old) (points.Done c.close.new.given)
-    = out-done t old now c.close.new.stack c.close.new.given c.loop-stack.invariant g
-    (none-task c.close.new.stack (sym c.is_empty.ensures ∙ c.if-is_empty.true)) in
+    let s : Settles t old c.close.new.stack (λ ts. settled_row ts t old) c.set_done.new.self
+    = rw c.set_done.ensures
+    (out-done t old now c.close.new.stack c.close.new.given c.loop-stack.invariant g
+    (none-task c.close.new.stack (sym c.is_empty.ensures ∙ c.if-is_empty.true))) in
     s.at
 
 pub returns-then-is_empty-clause-scoped : goal.returns-then-is_empty-clause-scoped
@@ -68,9 +69,10 @@ returns-then-is_empty-clause-scoped c =
     let now = c.loop-stack.stack in
     let g : GivesWay t now c.close.new.stack (λ ts. settled_row ts t now) c.close.new.given c.close.new.point true
     = rw c.if-not-branch.false at c.in_ok-close.ensures in
-    let s : Settles t old c.close.new.stack (λ ts. settled_row ts t old) (points.Done c.close.new.given)
-    = out-done t old now c.close.new.stack c.close.new.given c.loop-stack.invariant g
-    (none-task c.close.new.stack (sym c.is_empty.ensures ∙ c.if-is_empty.true)) in
+    let s : Settles t old c.close.new.stack (λ ts. settled_row ts t old) c.set_done.new.self
+    = rw c.set_done.ensures
+    (out-done t old now c.close.new.stack c.close.new.given c.loop-stack.invariant g
+    (none-task c.close.new.stack (sym c.is_empty.ensures ∙ c.if-is_empty.true))) in
     s.scoped
 
 pub returns-then-not-branch-2-clause-term : goal.returns-then-not-branch-2-clause-term

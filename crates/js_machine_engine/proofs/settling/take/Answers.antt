@@ -31,10 +31,11 @@ returns-then-branch c =
 
 pub returns-then-is_waiting : goal.returns-then-is_waiting
 returns-then-is_waiting c =
-    take-waits c.args.table.now c.args.stack.now c.push_value.new.self c.next_part.new.stack c.args.value
+    rw c.set_row.ensures
+    (take-waits c.args.table.now c.args.stack.now c.push_value.new.self c.next_part.new.stack c.args.value
     c.requires.task c.in_ok-push_value.ensures
     (rw c.if-branch.false at c.in_ok-next_part.ensures)
-    (ap (λ op. is_waiting (closing_of op)) (sym c.op.ensures) ∙ sym c.is_waiting.ensures ∙ c.if-is_waiting.true)
+    (ap (λ op. is_waiting (closing_of op)) (sym c.op.ensures) ∙ sym c.is_waiting.ensures ∙ c.if-is_waiting.true))
 
 pub returns : goal.returns
 returns c =

@@ -1,5 +1,7 @@
-use Rattle.std.proofs.lemmas.Result.{on_ok_weaker}
 use Rattle.js_machine_engine.proofs.settling.uncover.Goals as goal
 
-pub returns-in-Some-clause-scoped : goal.returns-in-Some-clause-scoped
-returns-in-Some-clause-scoped c = on_ok_weaker c.give.result (λ d. d c.args.root) c.give.ensures.scoped
+pub returns-clause-term : goal.returns-clause-term
+returns-clause-term c = rw c.get.ensures c.in_ok-uncover_part.ensures.term
+
+pub returns-clause-at : goal.returns-clause-at
+returns-clause-at c = rw c.get.ensures c.in_ok-uncover_part.ensures.at

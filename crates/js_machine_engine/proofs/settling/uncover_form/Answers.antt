@@ -2,13 +2,19 @@ use Rattle.std.proofs.Common.{Some, None, sym, ◌∙◌}
 use Rattle.std.proofs.lemmas.Result.{on_ok_weaker}
 use Rattle.js_machine_engine.specs.Parts.{IsNextPart}
 use Rattle.js_machine_engine.specs.Settling.{Inward}
-use Rattle.js_machine_engine.proofs.DescentLemmas.{uncovered-leaf, uncovered-parts, uncovered-scoped}
+use Rattle.js_machine_engine.proofs.DescentLemmas.{leaf-at, uncovered-leaf, uncovered-parts, uncovered-scoped}
 use Rattle.js_machine_engine.proofs.settling.uncover_form.Goals as goal
 
 pub returns-then-is_waiting-clause-term : goal.returns-then-is_waiting-clause-term
 returns-then-is_waiting-clause-term c =
-    λ ts. uncovered-leaf ts c.args.table.now c.args.stack.now c.args.n c.in-Some.node c.args.inner c.requires.table
-    (sym c.in-Some.ensures) c.requires.form c.if-node.true (sym c.if-is_waiting.ensures)
+    λ ts. rw c.set_leaf.ensures
+    (uncovered-leaf ts c.args.table.now c.args.stack.now c.args.n c.in-Some.node c.args.inner c.requires.table
+    (sym c.in-Some.ensures) c.requires.form c.if-node.true (sym c.if-is_waiting.ensures))
+
+pub returns-then-is_waiting-clause-at : goal.returns-then-is_waiting-clause-at
+returns-then-is_waiting-clause-at c =
+    rw c.set_leaf.ensures
+    (leaf-at c.args.table.now c.args.n c.in-Some.node (sym c.in-Some.ensures) c.requires.form c.if-node.true)
 
 pub returns-then-branch-clause-term : goal.returns-then-branch-clause-term
 returns-then-branch-clause-term c =

@@ -40,21 +40,21 @@ returns-in-Uncovers-clause-told g c = λ taken.
     let w = redex (node_redex c.in-Some.node c.scope.result) [] None in
     let s = state_of (g.W.World.world ts c.args.world.now) c.args.context.now taken in
     let u = state_of (g.W.World.world ts c.reduce-reduced.new.world) c.reduce-reduced.new.context taken in
-    leaf-told ts t root old c.uncover.new.stack c.uncover.new.point c.args.n c.in-Some.node c.scope.result r
+    leaf-told ts t root old c.uncover_part.new.stack c.uncover_part.new.point c.args.n c.in-Some.node c.scope.result r
     (demand_of r) (told_by c.has_gone-in-Uncovers.result c.has_gone-in-Uncovers.new.told) s u u c.requires.table (sym c.in-Some.ensures)
     c.requires.leaf c.scope.ensures c.requires.scoped refl
     (λ outer. c.reduce-reduced.ensures outer taken)
-    (λ m h. uncovers-told c.uncover.result (told_by c.has_gone-in-Uncovers.result c.has_gone-in-Uncovers.new.told) ts t root old c.uncover.new.stack
-    c.uncover.new.point m w r c.in-Uncovers.node u c.has_gone-in-Uncovers.ensures c.in-Uncovers.is h
-    c.uncover.ensures.term)
+    (λ m h. uncovers-told c.uncover_part.result (told_by c.has_gone-in-Uncovers.result c.has_gone-in-Uncovers.new.told) ts t root old c.uncover_part.new.stack
+    c.uncover_part.new.point m w r c.in-Uncovers.node u c.has_gone-in-Uncovers.ensures c.in-Uncovers.is h
+    c.uncover_part.ensures.term)
 
 pub returns-in-Uncovers-clause-stands : goal.returns-in-Uncovers-clause-stands
 returns-in-Uncovers-clause-stands g c =
     goes-on-weaker (told_by c.has_gone-in-Uncovers.result c.has_gone-in-Uncovers.new.told) (λ k. k c.requires.scoped)
-    (went-stands c.uncover.result (told_by c.has_gone-in-Uncovers.result c.has_gone-in-Uncovers.new.told) c.args.code.now.table.now c.args.code.now.root
+    (went-stands c.uncover_part.result (told_by c.has_gone-in-Uncovers.result c.has_gone-in-Uncovers.new.told) c.args.code.now.table.now c.args.code.now.root
     c.args.stack.now
-    c.uncover.new.stack c.uncover.new.point c.has_gone-in-Uncovers.ensures c.uncover.ensures.at
-    c.uncover.ensures.scoped)
+    c.uncover_part.new.stack c.uncover_part.new.point c.has_gone-in-Uncovers.ensures c.uncover_part.ensures.at
+    c.uncover_part.ensures.scoped)
 
 pub tell_leaf-requires-clause-inner : goal.tell_leaf-requires-clause-inner
 tell_leaf-requires-clause-inner g c =

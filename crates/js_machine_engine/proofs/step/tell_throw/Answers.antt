@@ -1,3 +1,4 @@
+use Rattle.std.proofs.Common.{sym, ◌∙◌}
 use Rattle.js_machine_actions.specs.Contexts.{state_of}
 use Rattle.js_machine_engine.proofs.StepLemmas.{standing-told}
 use Rattle.js_machine_engine.proofs.step.tell_throw.Goals as goal
@@ -10,4 +11,4 @@ returns-in-Stands-clause-told g c = λ taken.
     c.args.point.now c.in-Stands.value c.in-Stands.place c.travel.result
     (state_of (g.W.World.world ts c.args.world.now) c.args.context.now taken)
     (state_of (g.W.World.world ts c.travel.new.world) c.travel.new.context taken)
-    c.in-Stands.is (c.travel.ensures.told taken)
+    (sym c.get.ensures ∙ c.in-Stands.is) (c.travel.ensures.told taken)

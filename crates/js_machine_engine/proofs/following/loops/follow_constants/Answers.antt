@@ -14,18 +14,18 @@ returns-clause-term c =
       before = c.in_ok-initializer.ensures.before;
       part = c.in_ok-initializer.ensures.part;
     } in
-    on_ok_weaker c.uncover.result
+    on_ok_weaker c.uncover_part.result
     (λ d. λ ts. constants-follow ts c.args.table.now c.args.stack.now c.pop.new.self c.push.new.self c.push-2.new.self
     c.in-Some.task ops.EnterFor c.args.scope c.in_ok-initializer.initializer at c.pop.ensures.outer
     c.in_ok-push.ensures c.in_ok-push-2.ensures
     ∙ d ts)
-    c.uncover.ensures.term
+    c.uncover_part.ensures.term
 
 pub returns-clause-scoped : goal.returns-clause-scoped
 returns-clause-scoped c =
-    on_ok_weaker c.uncover.result
+    on_ok_weaker c.uncover_part.result
     (λ d. λ s. d
     (constants-scopes c.args.table.now c.args.stack.now c.pop.new.self c.push.new.self c.push-2.new.self
     (c.in-Some.task.mid + 1)
     c.in-Some.task.end c.args.scope c.pop.ensures.outer c.in_ok-push.ensures c.in_ok-push-2.ensures c.args.root s))
-    c.uncover.ensures.scoped
+    c.uncover_part.ensures.scoped

@@ -7,8 +7,8 @@ use Rattle.js_machine_engine.proofs.following.parts.follow_scope.Goals as goal
 
 pub returns-clause-scoped : goal.returns-clause-scoped
 returns-clause-scoped c =
-    on_ok_weaker c.uncover.result
+    on_ok_weaker c.uncover_part.result
     (λ d. λ s. d
     (scopes-replaced c.args.table.now c.args.root (begun ops.Scoped 0 0 0 0 c.args.scope None)
     c.args.stack.now c.pop.new.self c.push.new.self refl c.pop.ensures.outer c.in_ok-push.ensures s))
-    c.uncover.ensures.scoped
+    c.uncover_part.ensures.scoped

@@ -4,6 +4,6 @@ use Rattle.js_machine_engine.proofs.following.parts.follow_uncovered.Goals as go
 
 pub returns-clause-scoped : goal.returns-clause-scoped
 returns-clause-scoped c =
-    on_ok_weaker c.uncover.result
+    on_ok_weaker c.uncover_part.result
     (λ d. λ s. d (scopes-popped c.args.table.now c.args.root c.args.stack.now c.pop.new.self c.pop.ensures.outer s))
-    c.uncover.ensures.scoped
+    c.uncover_part.ensures.scoped

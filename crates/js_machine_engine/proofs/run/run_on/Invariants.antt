@@ -5,7 +5,7 @@ use Rattle.js_machine_nodes.specs.Trees.{program_of}
 use Rattle.js_machine_engine.specs.Points.{term_at}
 use Rattle.js_machine_engine.specs.Running.{HasRun, HasPassed}
 use Rattle.js_machine_engine.specs.Prints.{IsSilent}
-use Rattle.js_machine_engine.proofs.run.step_until.Given as goal
+use Rattle.js_machine_engine.proofs.run.run_on.Given as goal
 
 abbrev pub invariant-loop-steps : goal.invariant-loop-steps
 invariant-loop-steps g l = record {
