@@ -7,6 +7,7 @@
 //!   reduced, from the innermost one, and `plugged` and `resettled` put a term into them.
 //! - A point is where a machine stands: at a row (all parts of the innermost task have their values), at a leaf (a node without parts), at
 //!   a throw that stands, or at the end. `term_at` is the term that is left there, and `IsAt` what holds of tasks and nodes.
+//!   Inside it is a `Position`, which has the parts of a point as fields.
 //! - `InScopes`: each task has the scope in which the definitions reduce its parts.
 //! - `Reduced` is what a row answers; `Reduces` says that it is the move of the definitions.
 //! - `Tells`: what a step tells is the move to this term and state; `Steps` says so of the definition's step, `TellsWithin` of the part in

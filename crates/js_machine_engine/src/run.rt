@@ -120,7 +120,8 @@ fn stops_at<H: StopTest>(
     }
 }
 
-/// Steps until the host asks for a stop, until a raise, a print or the end, or until so many.
+/// Steps until the host asks for a stop, until a raise, a print or the end, or until so many; `step_until` says what
+/// they come to.
 #[inline(always)]
 fn run_on<T: Rows, W: World, H: StopTest>(
     code: &RunningCode<'_, '_>,
@@ -135,15 +136,12 @@ fn run_on<T: Rows, W: World, H: StopTest>(
     requires functions { HasFunctions code.now.table.now }
     requires stands { StandsIn code.now.table.now code.now.root stack.old point.old }
     ensures told { (taken : List (List ℕ)) → RunsTo (steps_in result.steps (program_of code.now.names.now code.now.table.now) code.now.root (run_of (term_at code.now.names.now code.now.table.now stack.old point.old) (state_of (W.world code.now.names.now world.old) context.old taken))) result.why (term_at code.now.names.now code.now.table.now stack.new point.new) (state_of (W.world code.now.names.now world.new) context.new taken) }
-    // Each of the steps is one of a run that isn't over.
     ensures left { (taken : List (List ℕ)) → RunsFor result.steps (program_of code.now.names.now code.now.table.now) code.now.root (run_of (term_at code.now.names.now code.now.table.now stack.old point.old) (state_of (W.world code.now.names.now world.old) context.old taken)) }
     ensures stands { IfGoes result.why (StandsIn code.now.table.now code.now.root stack.new point.new) }
     ensures within { result.steps ≤ most }
     ensures counted { CountsAs result.why result.steps most }
-    // The host asked for a stop behind the last step, if that is the reason, and behind none before.
     ensures asked { (taken : List (List ℕ)) → IsAsked (H.stops host.now) result.why (steps_in result.steps (program_of code.now.names.now code.now.table.now) code.now.root (run_of (term_at code.now.names.now code.now.table.now stack.old point.old) (state_of (W.world code.now.names.now world.old) context.old taken))) }
     ensures passed { (taken : List (List ℕ)) → HasPassed (H.stops host.now) (passed_steps result.why result.steps) (program_of code.now.names.now code.now.table.now) code.now.root (run_of (term_at code.now.names.now code.now.table.now stack.old point.old) (state_of (W.world code.now.names.now world.old) context.old taken)) }
-    // The last step printed these values, if they are the reason, and nothing otherwise; no step before it printed.
     ensures values { (taken : List (List ℕ)) → PrintsAs result.why (last_printed result.steps (program_of code.now.names.now code.now.table.now) code.now.root (run_of (term_at code.now.names.now code.now.table.now stack.old point.old) (state_of (W.world code.now.names.now world.old) context.old taken))) }
     ensures silent { (taken : List (List ℕ)) → IsSilent (result.steps - 1) (program_of code.now.names.now code.now.table.now) code.now.root (run_of (term_at code.now.names.now code.now.table.now stack.old point.old) (state_of (W.world code.now.names.now world.old) context.old taken)) }
 {

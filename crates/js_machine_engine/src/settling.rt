@@ -363,8 +363,8 @@ fn uncover_form(
     settle_row(table, stack, point)
 }
 
-/// A part comes uncovered into the innermost gap: where nothing is left to do in it, it gives way. Around all tasks is the
-/// scope `root`.
+/// A part comes uncovered into the innermost gap: where nothing is left to do in it, it gives way. Around all tasks is
+/// the scope `root`.
 ///
 /// # Errors
 ///
@@ -390,7 +390,7 @@ pub(crate) fn uncover_part(
     }
 }
 
-/// A part comes uncovered into the innermost gap: where nothing is left to do in it, it gives way. Around all tasks is the
+/// A part comes uncovered into the innermost gap, for a caller that keeps the point as a value. Around all tasks is the
 /// scope `root`.
 ///
 /// # Errors

@@ -43,7 +43,7 @@ pub enum Point {
     Done(Value),
 }
 
-/// Which of the points.
+/// Which of the points it is, without what goes with it.
 #[derive(Clone, Copy)]
 pub enum PointKind {
     Row,

@@ -21,12 +21,14 @@ returns-in-Gives-clause-told g c = λ taken.
     (told_by c.has_gone.result c.has_gone.new.told) s u u c.requires.table (sym c.in-Some.ensures)
     c.requires.leaf c.scope.ensures c.requires.scoped refl
     (λ outer. c.reduce-reduced.ensures outer taken)
-    (λ m h. gives-told c.give.result (told_by c.has_gone.result c.has_gone.new.told) ts t root old c.give.new.stack c.give.new.point m w r
+    (λ m h. gives-told c.give.result (told_by c.has_gone.result c.has_gone.new.told) ts t root old
+    c.give.new.stack c.give.new.point m w r
     c.in-Gives.value u c.has_gone.ensures c.in-Gives.is h c.give.ensures.term)
 
 pub returns-in-Gives-clause-stands : goal.returns-in-Gives-clause-stands
 returns-in-Gives-clause-stands g c =
-    went-stood c.give.result (told_by c.has_gone.result c.has_gone.new.told) c.args.code.now.table.now c.args.code.now.root c.args.stack.now
+    went-stood c.give.result (told_by c.has_gone.result c.has_gone.new.told)
+    c.args.code.now.table.now c.args.code.now.root c.args.stack.now
     c.give.new.stack
     c.give.new.point c.has_gone.ensures c.give.ensures.at c.give.ensures.scoped c.requires.scoped
 
@@ -41,18 +43,21 @@ returns-in-Uncovers-clause-told g c = λ taken.
     let s = state_of (g.W.World.world ts c.args.world.now) c.args.context.now taken in
     let u = state_of (g.W.World.world ts c.reduce-reduced.new.world) c.reduce-reduced.new.context taken in
     leaf-told ts t root old c.uncover_part.new.stack c.uncover_part.new.point c.args.n c.in-Some.node c.scope.result r
-    (demand_of r) (told_by c.has_gone-in-Uncovers.result c.has_gone-in-Uncovers.new.told) s u u c.requires.table (sym c.in-Some.ensures)
+    (demand_of r) (told_by c.has_gone-in-Uncovers.result c.has_gone-in-Uncovers.new.told) s u u
+    c.requires.table (sym c.in-Some.ensures)
     c.requires.leaf c.scope.ensures c.requires.scoped refl
     (λ outer. c.reduce-reduced.ensures outer taken)
-    (λ m h. uncovers-told c.uncover_part.result (told_by c.has_gone-in-Uncovers.result c.has_gone-in-Uncovers.new.told) ts t root old c.uncover_part.new.stack
-    c.uncover_part.new.point m w r c.in-Uncovers.node u c.has_gone-in-Uncovers.ensures c.in-Uncovers.is h
+    (λ m h. uncovers-told c.uncover_part.result
+    (told_by c.has_gone-in-Uncovers.result c.has_gone-in-Uncovers.new.told) ts t root old
+    c.uncover_part.new.stack c.uncover_part.new.point m w r c.in-Uncovers.node u c.has_gone-in-Uncovers.ensures c.in-Uncovers.is h
     c.uncover_part.ensures.term)
 
 pub returns-in-Uncovers-clause-stands : goal.returns-in-Uncovers-clause-stands
 returns-in-Uncovers-clause-stands g c =
     goes-on-weaker (told_by c.has_gone-in-Uncovers.result c.has_gone-in-Uncovers.new.told) (λ k. k c.requires.scoped)
-    (went-stands c.uncover_part.result (told_by c.has_gone-in-Uncovers.result c.has_gone-in-Uncovers.new.told) c.args.code.now.table.now c.args.code.now.root
-    c.args.stack.now
+    (went-stands c.uncover_part.result
+    (told_by c.has_gone-in-Uncovers.result c.has_gone-in-Uncovers.new.told)
+    c.args.code.now.table.now c.args.code.now.root c.args.stack.now
     c.uncover_part.new.stack c.uncover_part.new.point c.has_gone-in-Uncovers.ensures c.uncover_part.ensures.at
     c.uncover_part.ensures.scoped)
 

@@ -22,7 +22,8 @@ returns-in-Gives-clause-told g c = λ taken.
     row-told ts t root old c.follow_value.new.stack c.follow_value.new.point c.in-Some.task c.values.result.now
     c.extra-extra.result r
     (demand_of r)
-    (told_by c.has_gone.result c.has_gone.new.told) s u u c.in-Some.ensures.some c.requires.row c.requires.scoped c.values.ensures
+    (told_by c.has_gone.result c.has_gone.new.told) s u u
+    c.in-Some.ensures.some c.requires.row c.requires.scoped c.values.ensures
     c.extra-extra.ensures refl
     (λ outer. c.reduce-reduced.ensures outer taken)
     (λ m h. went-follows c.follow_value.result (told_by c.has_gone.result c.has_gone.new.told) ts t root (outer_of old)
@@ -32,7 +33,8 @@ returns-in-Gives-clause-told g c = λ taken.
 pub returns-in-Gives-clause-stands : goal.returns-in-Gives-clause-stands
 returns-in-Gives-clause-stands g c =
     goes-on-weaker (told_by c.has_gone.result c.has_gone.new.told) (λ k. k c.requires.scoped)
-    (went-stands c.follow_value.result (told_by c.has_gone.result c.has_gone.new.told) c.args.code.now.table.now c.args.code.now.root c.args.stack.now
+    (went-stands c.follow_value.result (told_by c.has_gone.result c.has_gone.new.told)
+    c.args.code.now.table.now c.args.code.now.root c.args.stack.now
     c.follow_value.new.stack c.follow_value.new.point c.has_gone.ensures c.follow_value.ensures.at
     c.follow_value.ensures.scoped)
 
