@@ -115,10 +115,10 @@ impl<'p> Evaluations<'p> {
     {
         let workspace = self.take(alloc, situation.program)?;
         let cells = situation.program.cells();
-        match workspace.open(cells.heap, cells.names) {
-            Some(opened) => Ok(opened),
-            None => Err(AllocError),
+        if !workspace.has_names_of(cells.heap, cells.names) {
+            return Err(AllocError);
         }
+        Ok(workspace.open(cells.heap))
     }
 
     /// Puts the workspace back that evaluations go on from. Takes no memory.

@@ -1,6 +1,6 @@
 //! What a session's evaluations go on from.
 
-ghost use Rattle.std.specs.Prelude.{◌≡◌, ℕ, List, [], true, false, IfOk, IfSome, is_some, take};
+ghost use Rattle.std.specs.Prelude.{◌≡◌, ℕ, List, [], true, false, IfOk, take};
 ghost use Rattle.js_heap.specs.declared.value.Addr.TheVariants.{Scratch as scratch_place};
 ghost use Rattle.js_heap.specs.ScratchSpaces.{copied_world};
 ghost use Rattle.js_semantics.specs.Evaluation.{evaluate_expression, evaluate_function, next_kept};
@@ -201,17 +201,22 @@ impl Workspace {
         self.scratch = scratch;
     }
 
-    /// Opens it over the cells of a program, whose names are to be the first of those with which it began, and all that
-    /// the cells need. None where they aren't, and nowhere else. It takes no memory.
-    pub fn open<'b>(self, base: &'b BaseHeap, names: &NameTable) -> Option<OpenWorkspace<'b>>
-        ensures opened { IfSome result (λ o. o.workspace ≡ opened (heap_world names.now base.now) self.workspace) }
-        ensures names { IfSome result (λ o. o.names ≡ self.names) }
-        ensures known { is_some result ≡ true → IsKnown base.now names.now self.names }
-        ensures only { IsKnown base.now names.now self.names → is_some result ≡ true }
+    /// Whether a program's names are the first of those with which it began, and all that the program's cells need. Each
+    /// name is compared. It takes no memory.
+    pub fn has_names_of(&self, base: &BaseHeap, names: &NameTable) -> bool
+        ensures known { result ≡ true → IsKnown base.now names.now self.now.names }
+        ensures only { IsKnown base.now names.now self.now.names → result ≡ true }
     {
-        if !is_known(base, names, &self.evaluator.names, self.start.names) {
-            return None;
-        }
+        is_known(base, names, &self.evaluator.names, self.start.names)
+    }
+
+    /// Opens it over the cells of a program, seen with the names of that program where it has them. No name is compared.
+    /// It takes no memory.
+    pub fn open<'b>(self, base: &'b BaseHeap) -> OpenWorkspace<'b>
+        ensures opened { (names : List (List ℕ)) → IsKnown base.now names self.names
+            → result.workspace ≡ opened (heap_world names base.now) self.workspace }
+        ensures names { result.names ≡ self.names }
+    {
         base.goes_on();
         let Workspace {
             evaluator,
@@ -224,7 +229,7 @@ impl Workspace {
         let next = scratch.next_address();
         let count = number_of(next);
         let world = Overlay::over(base, scratch);
-        Some(OpenWorkspace {
+        OpenWorkspace {
             evaluator,
             base,
             world,
@@ -234,7 +239,7 @@ impl Workspace {
             cells,
             count,
             next,
-        })
+        }
     }
 }
 

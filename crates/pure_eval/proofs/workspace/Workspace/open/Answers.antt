@@ -1,4 +1,4 @@
-use Rattle.std.proofs.Common.{List, ℕ, refl, sym, ap, subst, ◌∙◌}
+use Rattle.std.proofs.Common.{List, ℕ, sym, ap, subst, ◌∙◌}
 use Rattle.js_heap_memory.specs.Heaps.{heap_world}
 use Rattle.pure_eval.specs.Held.{HeldWorkspace}
 use Rattle.pure_eval.specs.Working.{IsKnown}
@@ -6,11 +6,6 @@ use Rattle.pure_eval.specs.Workspaces.{opened}
 use Rattle.pure_eval.proofs.KnownLemmas.{known-all}
 use Rattle.pure_eval.proofs.WorkspaceLemmas.{opened-is, open-is}
 use Rattle.pure_eval.proofs.workspace.Workspace.open.Goals as goal
-
-pub returns-then-not-is_known-clause-only : goal.returns-then-not-is_known-clause-only
-returns-then-not-is_known-clause-only c =
-    let P : List (List ℕ) → Type 0 = λ ns. IsKnown c.args.base.now c.args.names.now ns in
-    λ k. c.if-not-is_known.ensures.only (subst P (sym (ap (λ (h : HeldWorkspace). h.names) c.self.view_is)) k)
 
 pub invariant_of-result : goal.invariant_of-result
 invariant_of-result c =
@@ -21,18 +16,15 @@ invariant_of-result c =
     c.next_address-next.ensures c.number_of-count.ensures
 
 pub returns-clause-opened : goal.returns-clause-opened
-returns-clause-opened c =
+returns-clause-opened c = λ names known.
     let w = c.self.inside in
+    let P : List (List ℕ) → Type 0 = λ ns. IsKnown c.args.base.now names ns in
     opened-is w.evaluator w.scripts c.mark-mark.result c.args.base.now w.scratch c.over-world.result c.mark-cells.result
-    c.args.names.now c.mark-mark.ensures.marked
-    (known-all c.args.base.now c.args.names.now w.evaluator.names w.start.names (c.if-not-is_known.ensures.known refl))
+    names c.mark-mark.ensures.marked
+    (known-all c.args.base.now names w.evaluator.names w.start.names
+    (subst P (sym (ap (λ (h : HeldWorkspace). h.names) c.self.view_is)) known))
     c.goes_on.ensures c.over-world.ensures.world c.mark-cells.ensures
-    ∙ ap (λ (h : HeldWorkspace). opened (heap_world c.args.names.now c.args.base.now) h.workspace) c.self.view_is
+    ∙ ap (λ (h : HeldWorkspace). opened (heap_world names c.args.base.now) h.workspace) c.self.view_is
 
 pub returns-clause-names : goal.returns-clause-names
 returns-clause-names c = ap (λ (h : HeldWorkspace). h.names) c.self.view_is
-
-pub returns-clause-known : goal.returns-clause-known
-returns-clause-known c =
-    let P : List (List ℕ) → Type 0 = λ ns. IsKnown c.args.base.now c.args.names.now ns in
-    λ e. subst P (ap (λ (h : HeldWorkspace). h.names) c.self.view_is) (c.if-not-is_known.ensures.known refl)
