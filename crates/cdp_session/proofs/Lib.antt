@@ -7,6 +7,7 @@ pub mod StopLemmas
 pub mod ConditionLemmas
 pub mod ReadyLemmas
 pub mod CallLemmas
+pub mod ResultTextLemmas
 pub mod ReplyLemmas
 pub mod SendLemmas
 pub mod CountLemmas

@@ -1,15 +1,11 @@
 -- The texts of commands that are done, and of lists of properties.
 use Rattle.std.proofs.Common.{◌≡◌, ℕ, Bool, List, [], ◌∷◌, ◌++◌, codes, Option, refl, sym, ap, ◌∙◌}
-use Rattle.std.specs.Char.{encode_utf8}
-use Rattle.std.specs.Char.Utf16.{utf16_chars}
-use Rattle.json.specs.Print.{escape_byte}
-use Rattle.cdp_text.specs.Units.{utf8_of}
 use Rattle.object_groups.specs.declared.handle.Target.{Target}
 use Rattle.object_groups.specs.Handles.{HeldHandles}
 use Rattle.cdp_json.specs.Json.{Json}
 use Rattle.cdp_json.specs.Compact.{compact_text}
 use Rattle.cdp_json.specs.Parts.{list_of}
-use Rattle.cdp_json.specs.Pieces.{Wrote, object_in_order}
+use Rattle.cdp_json.specs.Pieces.{Wrote}
 use Rattle.cdp_json.specs.declared.refusal.Refusal.{Refusal}
 use Rattle.cdp_json.proofs.EnvelopeLemmas.{result-written}
 use Rattle.cdp_json.proofs.PieceLemmas.{further, object-is}
@@ -24,6 +20,7 @@ use Rattle.cdp_session.specs.Rows.{Does, Refuses, Row}
 use Rattle.cdp_session.specs.Sessions.{Session, sent}
 use Rattle.cdp_session.specs.declared.asks.Asks.{Asks}
 use Rattle.cdp_session.specs.declared.done.Done.{Done as Held}
+use Rattle.cdp_session.proofs.ResultTextLemmas.{result-pieces}
 
 -- ---- replies
 
@@ -71,16 +68,12 @@ module _ (id : ℕ) (r : Row) (d : Held) (new x : Session) (made : written_row r
 
 -- ---- lists of properties
 
-result_pieces : (v : List ℕ) → object_in_order ((codes "result", v) ∷ []) ≡ codes "{\"result\":" ++ (v ++ codes "}")
-unfolding utf8_of utf16_chars encode_utf8 escape_byte
-result_pieces v = refl
-
 properties_written : (js : List Json)
     → codes "{\"result\":" ++ (compact_text (list_of js) ++ codes "}") ≡ spelt (properties js)
 unfolding spelt
 properties_written js =
     sym (object-is ((codes "result", list_of js) ∷ []) ((codes "result", compact_text (list_of js)) ∷ []) refl
-    ∙ result_pieces (compact_text (list_of js)))
+    ∙ result-pieces (compact_text (list_of js)))
 
 -- the list that was written, in other words
 pub properties-told : (s t : Sight) (detail : Detail) (g k : Option (List ℕ)) (target : Target) (h : HeldHandles)

@@ -10,6 +10,7 @@ pub mod Evaluations
 pub mod Calls
 pub mod Conditions
 pub mod Stops
+pub mod ResultTexts
 pub mod Rows
 pub mod Replies
 pub mod Finding

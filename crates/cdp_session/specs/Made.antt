@@ -1,5 +1,7 @@
 -- What the code makes of a command's method, as a row whose result is a text.
-use Rattle.std.specs.Prelude.{◌≡◌, ℕ, List, ◌∷◌, ◌++◌, map, string_bytes, option_to_list, Option, Some, None, Result, Ok, Err}
+use Rattle.std.specs.Prelude.{◌≡◌, ℕ, List, ◌∷◌, ◌++◌, map, string_bytes, option_map, option_to_list, Option, Some, None, Result, Ok, Err}
+use Rattle.std.specs.declared.alloc.Global.{Global}
+use Rattle.std.specs.declared.string.String.{String}
 use Rattle.cdp_json.specs.Compact.{compact_text}
 use Rattle.cdp_json.specs.Envelopes.{message_back, result_front}
 use Rattle.cdp_json.specs.Views.{json_view}
@@ -10,7 +12,6 @@ use Rattle.cdp_session.specs.declared.done.Done.{Done as Held}
 use Rattle.cdp_session.specs.declared.done.Fault.{Fault}
 use Rattle.cdp_session.specs.declared.done.Fault.TheVariants as faults
 use Rattle.cdp_json.specs.Json.{Json}
-use Rattle.cdp_json.specs.declared.value.Json.{Json as HeldJson}
 use Rattle.cdp_json.specs.declared.refusal.Refusal.{Refusal}
 use Rattle.cdp_json.specs.declared.refusal.Refusal.TheVariants as refusals
 use Rattle.remote_objects.specs.Making.{Made as Described}
@@ -98,16 +99,21 @@ abbrev pub fault_by_value : ByValueFault → Fault
 fault_by_value values.TooLong = faults.Refused refusals.ReferenceChainTooLong
 fault_by_value values.Memory = faults.Memory
 
--- a value is given by value; what is too long is refused, and want of memory says nothing
-abbrev pub GivesValue : Result HeldJson Fault → Option Json → Type 0
-GivesValue (Ok j) o = o ≡ Some (json_view j)
+-- the text of a value is given by value; what is too long is refused, and want of memory says nothing
+abbrev pub GivesValue : Result (String Global) Fault → Option Json → Type 0
+GivesValue (Ok text) o = option_map spelt o ≡ Some (string_bytes text)
 GivesValue (Err (faults.Refused q)) o = (o ≡ None) × (q ≡ refusals.ReferenceChainTooLong)
 GivesValue (Err faults.Memory) o = Unit {0}
 
--- a value is described so, and this session has the handles behind it; what is too long is refused, and want of memory
--- says nothing
-abbrev pub Describes : Result HeldJson Fault → Session → Session → Option (Described Json) → Type 0
-Describes (Ok j) new x o =
-    (o ≡ Some (record { made = json_view j; handles = new.handles })) × (new ≡ with_handles new.handles x)
+-- what is described, with its text in its place
+abbrev pub spelt_made : Described Json → Described (List ℕ)
+spelt_made m = record { made = spelt m.made; handles = m.handles }
+
+-- a value is described by this text, and this session has the handles behind it; what is too long is refused, and want
+-- of memory says nothing
+abbrev pub Describes : Result (String Global) Fault → Session → Session → Option (Described Json) → Type 0
+Describes (Ok text) new x o =
+    (option_map spelt_made o ≡ Some (record { made = string_bytes text; handles = new.handles }))
+    × (new ≡ with_handles new.handles x)
 Describes (Err (faults.Refused q)) new x o = (o ≡ None) × (q ≡ refusals.ReferenceChainTooLong)
 Describes (Err faults.Memory) new x o = Unit {0}

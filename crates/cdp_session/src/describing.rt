@@ -69,9 +69,9 @@ pub(crate) fn properties_text(
     Ok(pen.finish())
 }
 
-/// A value to which an evaluation came, described to the session of this number with or without a preview. Its handle is in
-/// this group or in none.
-pub(crate) fn value_of(
+/// The text of a value to which an evaluation came, described to the session of this number with or without a preview.
+/// Its handle is in this group or in none.
+pub(crate) fn described_text(
     alloc: Global,
     opened: &OpenWorkspace<'_>,
     scripts: &[Script],
@@ -80,8 +80,8 @@ pub(crate) fn value_of(
     detail: Detail,
     group: Option<&[u16]>,
     handles: &mut Handles,
-) -> Result<Json, AllocError>
-    ensures made { IfOk result (λ j. json_view j ≡ (remote_with (sight_of node_text
+) -> Result<String, AllocError>
+    ensures made { IfOk result (λ text. string_bytes text ≡ spelt (remote_with (sight_of node_text
         (copied_world opened.now.workspace.world opened.now.workspace.behind.scratch) scripts.now session)
         detail (option_copied group.entry) value handles.old).made) }
     ensures handles { OnOk result (handles.new ≡ (remote_with (sight_of node_text
@@ -90,7 +90,9 @@ pub(crate) fn value_of(
 {
     let sources = EvaluatedTexts;
     let describer = describer_of(alloc, opened, scripts, session, &sources);
-    describer.remote_with(value, detail, handles, group)
+    let mut pen = Pen::new(alloc);
+    describer.write_remote(value, detail, handles, group, &mut pen)?;
+    Ok(pen.finish())
 }
 
 /// A value to which an evaluation came, by value and without a handle.
@@ -107,4 +109,13 @@ pub(crate) fn given_of(
     let sources = EvaluatedTexts;
     let describer = describer_of(alloc, opened, scripts, session, &sources);
     describer.remote_by_value(value)
+}
+
+/// The text of what is given for a value.
+pub(crate) fn given_text(alloc: Global, given: &Json) -> Result<String, AllocError>
+    ensures { IfOk result (λ text. string_bytes text ≡ spelt (json_view given.now)) }
+{
+    let mut pen = Pen::new(alloc);
+    pen.json(given)?;
+    Ok(pen.finish())
 }

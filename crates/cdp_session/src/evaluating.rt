@@ -15,23 +15,24 @@ ghost use Rattle.remote_objects.specs.Views.{sight_of};
 ghost use Rattle.js_parser.specs.Expressions.{expression_of};
 ghost use Rattle.js_parser.specs.NodeTexts.{node_text};
 ghost use Rattle.remote_objects.specs.ByValue.{remote_by_value};
-ghost use Rattle.cdp_session.specs.Sessions.{no_workspace, with_workspace};
+ghost use Rattle.cdp_session_messages.specs.Exceptions as exceptions;
+ghost use Rattle.cdp_session.specs.Sessions.{no_workspace, with_exception, with_workspace};
 ghost use Rattle.cdp_session.specs.Evaluations as evaluations;
 ghost use Rattle.cdp_session.specs.Made.{Describes, GivesValue, KeepsIfRefused, Makes};
 ghost use Rattle.cdp_session.specs.Rows.{row_of};
 ghost use Rattle.cdp_session.specs.Situations.{seen, Situation as Seen};
 
-use crate::describing::{given_of, value_of};
+use crate::describing::{described_text, given_of, given_text};
 use crate::done::{Done, Fault};
 use crate::program::Program;
-use crate::rows::answering;
+use crate::result_texts::{thrown_text, value_text};
+use crate::rows::{answering, answering_text};
 use crate::session::Session;
 use crate::showing::{Showing, detail_of};
 use crate::situation::Situation;
 use cdp_json::params::Evaluation as Asked;
 use cdp_json::refusal::{Refusal, ScratchLimit};
-use cdp_json::value::Json;
-use cdp_session_messages::{effect_object, syntax_result, thrown_result, value_result};
+use cdp_session_messages::{effect_object, syntax_result, thrown_result};
 use cdp_text::units::Units;
 use frames_scopes_types::{CallFrame, Scope};
 use js_heap::built_in::script_scope;
@@ -295,17 +296,8 @@ impl Session<'_> {
         ensures kept { KeepsIfRefused result (with_workspace opened.entry.workspace.before self.old) self.new }
     {
         match end {
-            Evaluated::Value(value) => {
-                let described = self.describe(scripts, value, showing, opened)?;
-                let answer = value_result(self.alloc, described)?;
-                Ok(answering(self.alloc, answer))
-            }
-            Evaluated::Thrown(value) => {
-                let described = self.describe(scripts, value, showing, opened)?;
-                let id = self.count_exception();
-                let answer = thrown_result(self.alloc, id, described)?;
-                Ok(answering(self.alloc, answer))
-            }
+            Evaluated::Value(value) => self.answer_value(scripts, showing, value, opened),
+            Evaluated::Thrown(value) => self.answer_throw(scripts, showing, value, opened),
             Evaluated::Effect => {
                 self.evaluations.put(opened.forget());
                 let id = self.count_exception();
@@ -325,14 +317,59 @@ impl Session<'_> {
         }
     }
 
-    /// Describes the value to which an evaluation came, and keeps what the evaluation made where the description holds on to it.
+    /// The answer to an evaluation that came to this value.
+    fn answer_value(
+        &mut self,
+        scripts: &[Script],
+        showing: &Showing,
+        value: Value,
+        opened: OpenWorkspace<'_>,
+    ) -> Result<Done, Fault>
+        ensures made { Makes result self.new (row_of (evaluations.answered_by exceptions.value_result
+            evaluations.as_it_is (with_workspace (if evaluations.keeps showing.now value self.old.handles
+            then opened.entry.workspace.behind else opened.entry.workspace.before) self.old)
+            (evaluations.described_as (sight_of node_text
+            (copied_world opened.entry.workspace.world opened.entry.workspace.behind.scratch) scripts.now
+            self.old.number) showing.now value self.old.handles))) }
+        ensures kept { KeepsIfRefused result (with_workspace opened.entry.workspace.before self.old) self.new }
+    {
+        let described = self.describe(scripts, value, showing, opened)?;
+        let answer = value_text(self.alloc, described.as_str())?;
+        Ok(answering_text(self.alloc, answer))
+    }
+
+    /// The answer to an evaluation that threw this value.
+    fn answer_throw(
+        &mut self,
+        scripts: &[Script],
+        showing: &Showing,
+        value: Value,
+        opened: OpenWorkspace<'_>,
+    ) -> Result<Done, Fault>
+        ensures made { Makes result self.new (row_of (evaluations.answered_by
+            (exceptions.thrown_result (with_exception self.old).exceptions) with_exception
+            (with_workspace (if evaluations.keeps showing.now value self.old.handles
+            then opened.entry.workspace.behind else opened.entry.workspace.before) self.old)
+            (evaluations.described_as (sight_of node_text
+            (copied_world opened.entry.workspace.world opened.entry.workspace.behind.scratch) scripts.now
+            self.old.number) showing.now value self.old.handles))) }
+        ensures kept { KeepsIfRefused result (with_workspace opened.entry.workspace.before self.old) self.new }
+    {
+        let described = self.describe(scripts, value, showing, opened)?;
+        let id = self.count_exception();
+        let answer = thrown_text(self.alloc, id, described.as_str())?;
+        Ok(answering_text(self.alloc, answer))
+    }
+
+    /// The text of the value to which an evaluation came. What the evaluation made is kept where the description holds
+    /// on to it.
     fn describe(
         &mut self,
         scripts: &[Script],
         value: Value,
         showing: &Showing,
         opened: OpenWorkspace<'_>,
-    ) -> Result<Json, Fault>
+    ) -> Result<String, Fault>
         ensures described { Describes result self.new
             (with_workspace (if evaluations.keeps showing.now value self.old.handles
             then opened.entry.workspace.behind else opened.entry.workspace.before) self.old)
@@ -345,7 +382,7 @@ impl Session<'_> {
             return self.describe_by_value(scripts, value, opened);
         }
         let holds = holds_on(value, &self.handles);
-        let described = value_of(
+        let described = described_text(
             self.alloc,
             &opened,
             scripts,
@@ -359,13 +396,13 @@ impl Session<'_> {
         Ok(described)
     }
 
-    /// Describes the value to which an evaluation came by value, and keeps nothing of what the evaluation made.
+    /// The text of the value to which an evaluation came, by value; nothing of what the evaluation made is kept.
     fn describe_by_value(
         &mut self,
         scripts: &[Script],
         value: Value,
         opened: OpenWorkspace<'_>,
-    ) -> Result<Json, Fault>
+    ) -> Result<String, Fault>
         ensures given { GivesValue result (remote_by_value (sight_of node_text
             (copied_world opened.entry.workspace.world opened.entry.workspace.behind.scratch) scripts.now
             self.old.number) value) }
@@ -373,6 +410,6 @@ impl Session<'_> {
     {
         let given = given_of(self.alloc, &opened, scripts, self.number, value);
         self.evaluations.put(opened.forget());
-        Ok(given?)
+        Ok(given_text(self.alloc, &given?)?)
     }
 }

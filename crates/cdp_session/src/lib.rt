@@ -34,6 +34,7 @@ mod program;
 mod ready;
 mod refusing;
 mod replies;
+mod result_texts;
 mod rows;
 mod session;
 mod showing;

@@ -88,7 +88,7 @@ pub(crate) fn answering(alloc: Global, answer: Json) -> Done
 }
 
 /// Done, with a result of this text.
-fn answering_text(alloc: Global, text: String) -> Done
+pub(crate) fn answering_text(alloc: Global, text: String) -> Done
     ensures before { result.before.items ≡ [] }
     ensures answer { answer_text result.answer ≡ string_bytes text }
     ensures event { result.event ≡ None }
