@@ -6,6 +6,5 @@ pub mod IdLemmas
 pub mod KeyLemmas
 pub mod LevelLemmas
 pub mod MakingLemmas
-pub mod PreviewLemmas
 pub mod PreviewTextLemmas
 pub mod RemoteTextLemmas

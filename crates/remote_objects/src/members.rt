@@ -54,7 +54,7 @@ pub(crate) fn plain_members(alloc: Global) -> Result<Vec<Member>, AllocError>
 }
 
 /// What is shown of an array of this length.
-pub(crate) fn array_text(alloc: Global, len: usize) -> Result<Units, AllocError>
+fn array_text(alloc: Global, len: usize) -> Result<Units, AllocError>
     ensures { IfOk result (λ shown. shown ≡ values.array_text len) }
 {
     let shown = format!(in alloc; "Array({len})")?;

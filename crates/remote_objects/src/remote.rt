@@ -7,12 +7,11 @@ ghost use Rattle.remote_objects.specs.Remote as remotes;
 ghost use Rattle.remote_objects.specs.Views.{sight_of};
 
 use crate::describer::Describer;
-use crate::detail::Detail;
 use crate::function_sources::FunctionSources;
 use crate::ids::object_id;
 use cdp_json::parts::put_value;
 use cdp_json::value::{Json, Member, object, text};
-use js_heap::value::{Addr, Value};
+use js_heap::value::Value;
 use js_heap_memory::world::World;
 use object_groups::{HandleFault, Handles, Target};
 use std::alloc::{AllocError, Global};
@@ -86,56 +85,6 @@ impl<'w, W: World, S: FunctionSources> Describer<'w, W, S> {
                 with_handle_on(self.alloc, self.session, group, target, members, handles)
             }
             _ => Ok(object(members)),
-        }
-    }
-
-    /// An object with its handle and its preview, which makes none.
-    pub(crate) fn previewed_object(
-        &self,
-        a: Addr,
-        handles: &mut Handles,
-        group: Option<&[u16]>,
-    ) -> Result<Json, AllocError>
-        ensures made { IfOk result (λ j. json_view j ≡ (remotes.previewed_object (sight_of S.node_text (W.world self.now.names.now self.now.world.now) self.now.scripts.now self.now.session) (option_copied group.entry) a handles.old).made) }
-        ensures handles { OnOk result (handles.new ≡ (remotes.previewed_object (sight_of S.node_text (W.world self.now.names.now self.now.world.now) self.now.scripts.now self.now.session) (option_copied group.entry) a handles.old).handles) }
-    {
-        let mut members = self.cell_members(a)?;
-        let number = handle_on(Target::Object(a), group, handles)?;
-        put_id(self.alloc, self.session, number, &mut members)?;
-        self.put_preview(a, &mut members)?;
-        Ok(object(members))
-    }
-
-    /// A value as a remote object with a preview, if it is an object, an array or an error.
-    fn previewed(
-        &self,
-        value: Value,
-        handles: &mut Handles,
-        group: Option<&[u16]>,
-    ) -> Result<Json, AllocError>
-        ensures made { IfOk result (λ j. json_view j ≡ (remotes.previewed (sight_of S.node_text (W.world self.now.names.now self.now.world.now) self.now.scripts.now self.now.session) (option_copied group.entry) value handles.old).made) }
-        ensures handles { OnOk result (handles.new ≡ (remotes.previewed (sight_of S.node_text (W.world self.now.names.now self.now.world.now) self.now.scripts.now self.now.session) (option_copied group.entry) value handles.old).handles) }
-    {
-        match value {
-            Value::Object(a) => self.previewed_object(a, handles, group),
-            _ => self.remote(value, handles, group),
-        }
-    }
-
-    /// A value as a remote object, with or without a preview; its handle, if it is an object, is in this group or in none.
-    pub fn remote_with(
-        &self,
-        value: Value,
-        detail: Detail,
-        handles: &mut Handles,
-        group: Option<&[u16]>,
-    ) -> Result<Json, AllocError>
-        ensures made { IfOk result (λ j. json_view j ≡ (remotes.remote_with (sight_of S.node_text (W.world self.now.names.now self.now.world.now) self.now.scripts.now self.now.session) detail (option_copied group.entry) value handles.old).made) }
-        ensures handles { OnOk result (handles.new ≡ (remotes.remote_with (sight_of S.node_text (W.world self.now.names.now self.now.world.now) self.now.scripts.now self.now.session) detail (option_copied group.entry) value handles.old).handles) }
-    {
-        match detail {
-            Detail::Plain => self.remote(value, handles, group),
-            Detail::Previewed => self.previewed(value, handles, group),
         }
     }
 }
