@@ -10,13 +10,6 @@ use cdp_json::parts::{ascii_member, member, object_of_one, put_ascii_text, put_v
 use cdp_json::value::{Json, Member, object};
 use std::alloc::{AllocError, Global};
 
-/// The result that has a value.
-pub fn value_result(alloc: Global, described: Json) -> Result<Json, AllocError>
-    ensures { IfOk result (λ j. json_view j ≡ exceptions.value_result (json_view described)) }
-{
-    object_of_one(alloc, member(alloc, b"result", described)?)
-}
-
 /// What went wrong: the exception, if one was described, its number among those of the session, and a text.
 fn details(
     alloc: Global,

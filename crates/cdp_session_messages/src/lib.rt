@@ -18,7 +18,7 @@ mod session_end;
 
 pub use ends::{context_destroyed_text, throw_details, throw_text, url_at};
 pub use events::{RESUMED_SIZE, context_created_text, resumed_text};
-pub use exceptions::{effect_object, syntax_result, thrown_result, value_result};
+pub use exceptions::{effect_object, syntax_result, thrown_result};
 pub use outbox::Outbox;
 pub use prints::print_text;
 pub use results::{debugger_id, declared_names, script_source, set_at, set_by_url, spot_locations};
