@@ -15,7 +15,7 @@ use crate::position::Position;
 use crate::reduced::Reduced;
 use crate::settling::{give, go, uncover_part};
 use crate::stack::Stack;
-use crate::task::Redex;
+use crate::task::{NewTask, Redex};
 use js_heap::value::Addr;
 use js_machine_nodes::table::NodeTable;
 use std::alloc::AllocError;
@@ -47,7 +47,14 @@ pub fn follow_leaf(
         Reduced::Goes(node) => go(table, root, stack, point, node),
         Reduced::Uncovers(node) => uncover_part(table, root, stack, point, node),
         _ => {
-            stack.push(form.op, form.info, form.mid, form.mid, form.end, form.inner)?;
+            stack.push(NewTask {
+                op: form.op,
+                info: form.info,
+                at: form.mid,
+                mid: form.mid,
+                end: form.end,
+                inner: form.inner,
+            })?;
             follow(table, root, stack, point, reduced)
         }
     }

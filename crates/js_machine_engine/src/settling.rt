@@ -14,7 +14,7 @@ use crate::finish::finish;
 use crate::parts::{next_part, value_at};
 use crate::position::Position;
 use crate::stack::Stack;
-use crate::task::Point;
+use crate::task::{NewTask, Point};
 use js_heap::value::{Addr, Value};
 use js_machine_nodes::op::Op;
 use js_machine_nodes::table::NodeTable;
@@ -62,7 +62,14 @@ fn enter(
         point.set_leaf(*n);
         return Ok(false);
     }
-    stack.push(node.op, node.info, node.first, node.mid, node.end, inner)?;
+    stack.push(NewTask {
+        op: node.op,
+        info: node.info,
+        at: node.first,
+        mid: node.mid,
+        end: node.end,
+        inner,
+    })?;
     if next_part(table, stack, n)? {
         return Ok(true);
     }
@@ -355,7 +362,14 @@ fn uncover_form(
             return Ok(());
         }
     }
-    stack.push(node.op, node.info, node.first, node.mid, node.end, inner)?;
+    stack.push(NewTask {
+        op: node.op,
+        info: node.info,
+        at: node.first,
+        mid: node.mid,
+        end: node.end,
+        inner,
+    })?;
     let mut part = 0;
     if next_part(table, stack, &mut part)? {
         return descend(table, stack, inner, point, part);

@@ -5,7 +5,7 @@ ghost use Rattle.js_machine_engine.specs.Tasks.{scope_of};
 ghost use Rattle.js_machine_engine.specs.Parts.{at_of, mid_of};
 ghost use Rattle.js_machine_engine.specs.Stacks.{is_empty, op_of, has_extra, wide, begun, values_of, extra_of, outer_of, with_value, without_values, at_part, changed, within, turned, owning, OwnsAs, OwnsOnly, other_extras, next_turn, turned_extras};
 
-use crate::task::{Extra, Task};
+use crate::task::{Extra, NewTask, Task};
 use js_heap::value::{Addr, Value};
 use js_machine_nodes::op::Op;
 use std::alloc::{AllocError, Global};
@@ -238,29 +238,21 @@ impl Stack {
     ///
     /// There is no memory for it.
     #[inline(always)]
-    pub fn push(
-        &mut self,
-        op: Op,
-        info: u32,
-        at: u32,
-        mid: u32,
-        end: u32,
-        inner: Addr,
-    ) -> Result<(), AllocError>
-        requires { has_extra op info ≡ false }
-        ensures { OnOk result (self.new ≡ begun op info at mid end inner None ∷ self.old) }
+    pub fn push(&mut self, task: NewTask) -> Result<(), AllocError>
+        requires { has_extra task.op task.info ≡ false }
+        ensures { OnOk result (self.new ≡ begun task.op task.info task.at task.mid task.end task.inner None ∷ self.old) }
     {
         let Ok(base) = u32::try_from(self.values.len()) else {
             return Err(AllocError);
         };
         self.tasks.push(Task {
-            op,
-            info,
-            at,
-            mid,
-            end,
+            op: task.op,
+            info: task.info,
+            at: task.at,
+            mid: task.mid,
+            end: task.end,
             base,
-            inner,
+            inner: task.inner,
         })?;
         Ok(())
     }
@@ -270,31 +262,22 @@ impl Stack {
     /// # Errors
     ///
     /// There is no memory for it.
-    pub fn push_with(
-        &mut self,
-        op: Op,
-        info: u32,
-        at: u32,
-        mid: u32,
-        end: u32,
-        inner: Addr,
-        extra: Extra,
-    ) -> Result<(), AllocError>
-        requires { has_extra op info ≡ true }
-        ensures { OnOk result (self.new ≡ begun op info at mid end inner (Some extra) ∷ self.old) }
+    pub fn push_with(&mut self, task: NewTask, extra: Extra) -> Result<(), AllocError>
+        requires { has_extra task.op task.info ≡ true }
+        ensures { OnOk result (self.new ≡ begun task.op task.info task.at task.mid task.end task.inner (Some extra) ∷ self.old) }
     {
         let Ok(base) = u32::try_from(self.values.len()) else {
             return Err(AllocError);
         };
         self.extras.push(extra)?;
         self.tasks.push(Task {
-            op,
-            info,
-            at,
-            mid,
-            end,
+            op: task.op,
+            info: task.info,
+            at: task.at,
+            mid: task.mid,
+            end: task.end,
             base,
-            inner,
+            inner: task.inner,
         })?;
         Ok(())
     }

@@ -21,6 +21,20 @@ pub struct Task {
     pub inner: Addr,
 }
 
+/// A form that becomes a task, before its first value. The scope is that in which its parts are.
+#[derive(Clone, Copy)]
+pub struct NewTask {
+    pub op: Op,
+    pub info: u32,
+    /// The place of its first part in the table's list of parts.
+    pub at: u32,
+    /// Where the parts end that are reduced from left to right, and those begin that are kept for later.
+    pub mid: u32,
+    /// Where its parts end.
+    pub end: u32,
+    pub inner: Addr,
+}
+
 /// What a `finally` that runs keeps; the list of a `for .. of`, and the index of its next turn; where the kept parts of an
 /// object literal begin, behind a method with a computed key.
 #[derive(Clone, Copy)]

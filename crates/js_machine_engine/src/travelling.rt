@@ -26,7 +26,7 @@ use crate::rows::Rows;
 use crate::settling::{proceed, settle_row};
 use crate::stack::Stack;
 use crate::stepped::Stepped;
-use crate::task::{Extra, Redex};
+use crate::task::{Extra, NewTask, Redex};
 use js_heap::value::Value;
 use js_heap_memory::world::World;
 use js_machine_actions::context::Context;
@@ -54,12 +54,14 @@ fn keep(
     stack.pop();
     let kept = Extra::Kept(completion);
     stack.push_with(
-        Op::Ending,
-        1,
-        task.mid,
-        task.end,
-        task.end,
-        task.inner,
+        NewTask {
+            op: Op::Ending,
+            info: 1,
+            at: task.mid,
+            mid: task.end,
+            end: task.end,
+            inner: task.inner,
+        },
         kept,
     )?;
     proceed(table, stack, point)

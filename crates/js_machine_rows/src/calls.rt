@@ -80,23 +80,38 @@ fn too_deep<W: World>(alloc: Global, world: &mut W, names: &NameTable) -> Action
 
 // ---- functions of sources
 
+/// A function of a source that is entered, with its `this` and its arguments.
+#[derive(Drop)]
+pub struct EnteredFunction<'a> {
+    pub source: Source,
+    pub function: Addr,
+    pub name: FunctionName,
+    pub outer: Addr,
+    pub receiver: Value,
+    pub arguments: &'a [Value],
+}
+
 /// The scope of a call, with the functions that the body declares (ECMA-262, 10.2.11).
 fn call_scope<W: World>(
     code: &RunningCode<'_, '_>,
     world: &mut W,
     place: CodePlace,
-    entry: &FunctionEntry,
-    name: FunctionName,
-    outer: Addr,
-    arguments: &[Value],
+    compiled: &FunctionEntry,
+    callee: EnteredFunction<'_>,
 ) -> Result<Addr, ActionEnd>
-    ensures { Yields (call_scope (entry_code code.now.names.now code.now.table.now place entry.now) (name_text code.now.names.now name) outer arguments.now) (W.world code.now.names.now world.old) result (W.world code.now.names.now world.new) }
+    ensures { Yields (call_scope (entry_code code.now.names.now code.now.table.now place compiled.now) (name_text code.now.names.now callee.entry.name) callee.entry.outer callee.entry.arguments.now) (W.world code.now.names.now world.old) result (W.world code.now.names.now world.new) }
 {
+    let EnteredFunction {
+        name,
+        outer,
+        arguments,
+        ..
+    } = callee;
     let slots = call_slots(
         code.alloc,
-        entry.parameters.as_slice(),
+        compiled.parameters.as_slice(),
         arguments,
-        entry.names.slice(),
+        compiled.names.slice(),
     )?;
     let own = new_scope(
         world,
@@ -132,17 +147,6 @@ fn callee_of(alloc: Global, cell: Option<&Stored>) -> Result<Option<Callee>, All
 
 // ---- entering
 
-/// A function of a source that is entered, with its `this` and its arguments.
-#[derive(Drop)]
-pub struct EnteredFunction<'a> {
-    pub source: Source,
-    pub function: Addr,
-    pub name: FunctionName,
-    pub outer: Addr,
-    pub receiver: Value,
-    pub arguments: &'a [Value],
-}
-
 /// Enters the frame of a call to code with this node and body, whose scope and functions are made.
 #[inline(always)]
 fn enter_frame(context: &mut Context, node: u32, body: u32, own: Addr, frame: Frame) -> Reduced
@@ -169,15 +173,10 @@ fn enter<W: World>(
 ) -> Reduced
     ensures { ActsAlways code.now.names.now code.now.table.now (λ s. entered (entry_code code.now.names.now code.now.table.now place compiled.now) callee.entry.source callee.entry.function (name_text code.now.names.now callee.entry.name) callee.entry.outer callee.entry.receiver callee.entry.arguments.now) (W.world code.now.names.now world.old) context.old result (W.world code.now.names.now world.new) context.new }
 {
-    let EnteredFunction {
-        source,
-        function,
-        name,
-        outer,
-        receiver,
-        arguments,
-    } = callee;
-    match call_scope(code, world, place, compiled, name, outer, arguments) {
+    let source = callee.source;
+    let function = callee.function;
+    let receiver = callee.receiver;
+    match call_scope(code, world, place, compiled, callee) {
         Ok(own) => {
             let here = Mark::Start(compiled.node);
             let frame = Frame::new(Some(function), source, receiver, own, here);

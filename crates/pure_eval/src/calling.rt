@@ -36,7 +36,7 @@ use js_machine_engine::settling::uncover;
 use js_machine_engine::stack::Stack;
 use js_machine_engine::step::step;
 use js_machine_engine::stepped::Stepped;
-use js_machine_engine::task::Point;
+use js_machine_engine::task::{NewTask, Point};
 use js_machine_nodes::node::CallEntry;
 use js_machine_nodes::op::Op;
 use js_machine_nodes::table::NodeTable;
@@ -156,7 +156,14 @@ fn begin_call(
     ensures stands { IfOk result (λ stack. StandsIn code.now.table.now code.now.root stack points.Row) }
 {
     let mut stack = Stack::new(code.alloc);
-    stack.push(Op::Call, call, 0, 0, 0, code.root)?;
+    stack.push(NewTask {
+        op: Op::Call,
+        info: call,
+        at: 0,
+        mid: 0,
+        end: 0,
+        inner: code.root,
+    })?;
     stack.push_value(receiver)?;
     stack.push_value(callee)?;
     push_values(&mut stack, arguments)?;

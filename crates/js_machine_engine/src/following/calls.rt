@@ -13,6 +13,7 @@ use crate::following::parts::kept_part;
 use crate::position::Position;
 use crate::settling::proceed;
 use crate::stack::Stack;
+use crate::task::NewTask;
 use js_heap::value::{Addr, Value};
 use js_machine_nodes::op::Op;
 use js_machine_nodes::table::NodeTable;
@@ -117,14 +118,14 @@ pub fn follow_operand(
     kept_part(table, task.mid, task.end)?;
     stack.change(compound.assignment, task.info, task.end, task.end);
     let operation = Op::Binary(compound.operator);
-    stack.push(
-        operation,
-        task.info,
-        task.mid,
-        task.mid + 1,
-        task.mid + 1,
-        task.inner,
-    )?;
+    stack.push(NewTask {
+        op: operation,
+        info: task.info,
+        at: task.mid,
+        mid: task.mid + 1,
+        end: task.mid + 1,
+        inner: task.inner,
+    })?;
     stack.push_value(old)?;
     proceed(table, stack, point)
 }

@@ -13,7 +13,7 @@ use crate::following::parts::kept_part;
 use crate::position::Position;
 use crate::settling::go;
 use crate::stack::Stack;
-use crate::task::{Extra, Task};
+use crate::task::{Extra, NewTask, Task};
 use js_heap::value::{Addr, Value};
 use js_machine_nodes::op::Op;
 use js_machine_nodes::table::NodeTable;
@@ -84,8 +84,22 @@ pub fn follow_list(
     let list = kept_part(table, task.mid, task.end)?;
     let rest = task.mid + 1;
     stack.pop();
-    stack.push(Op::ListOf, task.info, rest, rest, task.end, task.inner)?;
-    stack.push(Op::Scoped, 0, 0, 0, 0, scope)?;
+    stack.push(NewTask {
+        op: Op::ListOf,
+        info: task.info,
+        at: rest,
+        mid: rest,
+        end: task.end,
+        inner: task.inner,
+    })?;
+    stack.push(NewTask {
+        op: Op::Scoped,
+        info: 0,
+        at: 0,
+        mid: 0,
+        end: 0,
+        inner: scope,
+    })?;
     go(table, root, stack, point, list)
 }
 
@@ -108,12 +122,14 @@ pub fn follow_first_turn(
     stack.pop();
     let turn = Extra::Turn(list, 0);
     stack.push_with(
-        Op::TurnOf,
-        task.info,
-        task.mid,
-        task.mid,
-        task.end,
-        task.inner,
+        NewTask {
+            op: Op::TurnOf,
+            info: task.info,
+            at: task.mid,
+            mid: task.mid,
+            end: task.end,
+            inner: task.inner,
+        },
         turn,
     )?;
     point.set_row();
@@ -143,6 +159,13 @@ pub fn follow_turn(
     stack.clear_values();
     stack.change(Op::BodyOf, task.info, task.mid, task.mid);
     stack.count_turn()?;
-    stack.push(Op::Scoped, 0, 0, 0, 0, scope)?;
+    stack.push(NewTask {
+        op: Op::Scoped,
+        info: 0,
+        at: 0,
+        mid: 0,
+        end: 0,
+        inner: scope,
+    })?;
     go(table, root, stack, point, body)
 }

@@ -16,7 +16,7 @@ use crate::position::Position;
 use crate::settling::{take_up, uncover_part};
 use crate::stack::Stack;
 use crate::stages::{at_body, at_test, at_update};
-use crate::task::Task;
+use crate::task::{NewTask, Task};
 use js_heap::value::Addr;
 use js_machine_nodes::op::{Op, is_loop};
 use js_machine_nodes::table::NodeTable;
@@ -143,8 +143,22 @@ fn follow_constants(
     let initializer = kept_part(table, task.mid, task.end)?;
     let rest = task.mid + 1;
     stack.pop();
-    stack.push(Op::Scoped, 0, 0, 0, 0, scope)?;
-    stack.push(Op::LoopFirst, 0, rest, rest, task.end, scope)?;
+    stack.push(NewTask {
+        op: Op::Scoped,
+        info: 0,
+        at: 0,
+        mid: 0,
+        end: 0,
+        inner: scope,
+    })?;
+    stack.push(NewTask {
+        op: Op::LoopFirst,
+        info: 0,
+        at: rest,
+        mid: rest,
+        end: task.end,
+        inner: scope,
+    })?;
     uncover_part(table, root, stack, point, initializer)
 }
 
@@ -167,7 +181,14 @@ fn follow_variables(
     let initializer = kept_part(table, task.mid, task.end)?;
     let rest = task.mid + 1;
     stack.pop();
-    stack.push(Op::LoopFirst, 1, rest, rest, task.end, scope)?;
+    stack.push(NewTask {
+        op: Op::LoopFirst,
+        info: 1,
+        at: rest,
+        mid: rest,
+        end: task.end,
+        inner: scope,
+    })?;
     uncover_part(table, root, stack, point, initializer)
 }
 

@@ -10,6 +10,7 @@ ghost use Rattle.js_machine_engine.specs.Following.{Follows};
 use crate::position::Position;
 use crate::settling::{give, go, uncover_part};
 use crate::stack::Stack;
+use crate::task::NewTask;
 use js_heap::value::{Addr, Value};
 use js_machine_nodes::op::Op;
 use js_machine_nodes::table::NodeTable;
@@ -106,7 +107,14 @@ pub fn follow_scope(
     ensures scoped { OnOk result (InScopes table.now root stack.old → InScopes table.now root stack.new) }
 {
     stack.pop();
-    stack.push(Op::Scoped, 0, 0, 0, 0, scope)?;
+    stack.push(NewTask {
+        op: Op::Scoped,
+        info: 0,
+        at: 0,
+        mid: 0,
+        end: 0,
+        inner: scope,
+    })?;
     uncover_part(table, root, stack, point, node)
 }
 
@@ -127,6 +135,13 @@ pub fn follow_body(
     ensures scoped { OnOk result (InScopes table.now root stack.old → InScopes table.now root stack.new) }
 {
     stack.pop();
-    stack.push(Op::Frame, function, 0, 0, 0, scope)?;
+    stack.push(NewTask {
+        op: Op::Frame,
+        info: function,
+        at: 0,
+        mid: 0,
+        end: 0,
+        inner: scope,
+    })?;
     uncover_part(table, root, stack, point, body)
 }

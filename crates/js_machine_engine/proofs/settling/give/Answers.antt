@@ -3,7 +3,7 @@ use Rattle.std.proofs.lemmas.Result.{on_ok_weaker}
 use Rattle.js_semantics.specs.Terms.{done}
 use Rattle.js_machine_engine.specs.Gaps.{resettled}
 use Rattle.js_machine_engine.specs.Tasks.{gaps_of}
-use Rattle.js_machine_engine.specs.Settling.{Takes, Settles, IsFull}
+use Rattle.js_machine_engine.specs.Settling.{Takes, Settles}
 use Rattle.js_machine_engine.proofs.DescentLemmas.{none-task, some-task, done-settles}
 use Rattle.js_machine_engine.proofs.settling.give.Goals as goal
 

@@ -1,6 +1,5 @@
-use Rattle.std.proofs.Common.{Some, None, sym, ap, ◌∙◌}
+use Rattle.std.proofs.Common.{Some, sym, ap, ◌∙◌}
 use Rattle.js_semantics.specs.Terms.{done}
-use Rattle.js_machine_nodes.specs.Trees.{tree}
 use Rattle.js_machine_engine.specs.Gaps.{resettled}
 use Rattle.js_machine_engine.specs.Tasks.{gaps_of}
 use Rattle.js_machine_engine.specs.Parts.{IsNextPart}
