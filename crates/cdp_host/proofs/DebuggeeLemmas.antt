@@ -1,7 +1,6 @@
 -- How a machine stands that is lent: its cells, the throw that stands, and its frames.
-use Rattle.std.proofs.Common.{◌≡◌, ℕ, List, [], length, slice_get, true, is_some, Option, Some, None, refl, ap, sym, subst, ◌∙◌}
+use Rattle.std.proofs.Common.{◌≡◌, ℕ, List, [], ◌∷◌, length, slice_get, true, is_some, Option, Some, None, refl, ap, sym, subst, ◌∙◌}
 use Rattle.std.specs.Prelude.{option_to_list}
-use Rattle.std.specs.Iterator.{YieldsFirstBy}
 use Rattle.std.specs.Option.{option_map}
 use Rattle.js_tree.specs.declared.script.Script.{Script}
 use Rattle.js_heap.specs.declared.value.Addr.{Addr}
@@ -25,9 +24,7 @@ use Rattle.js_machine.specs.declared.end.End.TheVariants as ends
 use Rattle.js_machine.specs.Machines.{Machine, term_of, state_of, run_by, IsKept}
 use Rattle.js_machine.specs.Standing.{until_end}
 use Rattle.frames_scopes_types.specs.Frames.{ShownFrame}
-use Rattle.frames_scopes.specs.declared.frames.FrameView.{FrameView}
 use Rattle.frames_scopes.specs.Frames.{walk}
-use Rattle.frames_scopes.specs.FrameViews.{frame_shown}
 use Rattle.frames_scopes.proofs.FrameLemmas.{walk-length}
 use Rattle.cdp_session.specs.Conditions.{top_of}
 use Rattle.cdp_host.specs.Programs.{is_over}
@@ -142,11 +139,9 @@ pub none-at : (frames : List ShownFrame) (depth : ℕ) → frames ≡ [] → Non
 none-at frames depth e = sym (ap (λ fs. slice_get fs depth) e)
 
 -- what is evaluated in the first of some frames is evaluated in the top one
-pub top-first : (walked left : List ShownFrame) (first : Option FrameView)
-    → YieldsFirstBy frame_shown (λ fs. fs) walked first left
-    → top_of (option_to_list (option_map frame_shown first)) ≡ top_of walked
-top-first walked left None none = ap top_of (sym none.0)
-top-first walked left (Some f) is = ap top_of (sym is)
+pub top-first : (walked : List ShownFrame) → top_of (option_to_list (slice_get walked 0)) ≡ top_of walked
+top-first [] = refl
+top-first (f ∷ fs) = refl
 
 -- the walk over the parts of a machine is the walk over it
 pub walk-parts : (scripts : List Script) (m : Machine) (h : Heap) (names : List (List ℕ)) (table : NodeTable)

@@ -162,8 +162,7 @@ impl<'m> Debuggee<'m> {
         requires { self.now.machine.now.ended ≡ None }
         ensures { result ≡ top_of (walk self.now.scripts.now script_scope (term_of self.now.machine.now) (state_of self.now.machine.now (heap_world self.now.machine.now.names self.now.heap.now) [])) }
     {
-        let mut frames = self.walker().frames();
-        top_of(frames.next())
+        top_of(self.walker().frame(0))
     }
 }
 

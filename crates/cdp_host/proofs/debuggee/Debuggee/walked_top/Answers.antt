@@ -1,4 +1,5 @@
-use Rattle.std.proofs.Common.{[], ap, sym, ◌∙◌}
+use Rattle.std.proofs.Common.{[], slice_get, ap, ◌∙◌}
+use Rattle.std.specs.Prelude.{option_to_list}
 use Rattle.cdp_session.specs.Conditions.{top_of}
 use Rattle.cdp_host.proofs.DebuggeeLemmas.{top-first}
 use Rattle.cdp_host.proofs.debuggee.Debuggee.walked_top.Goals as goal
@@ -6,5 +7,6 @@ use Rattle.cdp_host.proofs.debuggee.Debuggee.walked_top.Goals as goal
 pub returns : goal.returns
 returns c =
     c.top_of.ensures
-    ∙ top-first c.frames-frames.result c.next.new.self c.next.result c.next.ensures.steps
-    ∙ ap top_of (c.frames-frames.ensures [] ∙ c.walker.ensures.walk)
+    ∙ ap (λ x. top_of (option_to_list x)) (c.frame.ensures [])
+    ∙ ap (λ fs. top_of (option_to_list (slice_get fs 0))) c.walker.ensures.walk
+    ∙ top-first _
