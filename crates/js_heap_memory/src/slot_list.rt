@@ -9,6 +9,7 @@ use js_heap::value::Value;
 use std::alloc::AllocError;
 
 /// The place of a name; the length where there is none.
+#[inline(always)]
 pub(crate) fn slot_place(slots: &[Slot], name: NameId) -> usize
     ensures { result ≡ slot_place slots.now name.number }
 {

@@ -72,6 +72,7 @@ impl Slots {
     }
 
     /// The place of a name; the length where there is none.
+    #[inline(always)]
     pub(crate) fn place(&self, name: NameId) -> usize
         ensures { result ≡ slot_place self.now name.number }
     {

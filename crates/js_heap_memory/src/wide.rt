@@ -93,6 +93,7 @@ impl WideSlots {
     }
 
     /// The place of a name; the length where there is none.
+    #[inline(never)]
     pub fn place(&self, name: NameId) -> usize
         ensures { result ≡ slot_place self.now name.number }
     {
