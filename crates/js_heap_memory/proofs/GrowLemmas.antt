@@ -5,6 +5,8 @@ use Rattle.js_heap.specs.Keys.{same_units}
 use Rattle.js_heap_memory.specs.Names.{spare, name_of, Differ, text_place, number_of}
 use Rattle.js_heap_memory.proofs.TableLemmas.{same-refl, same-only}
 use Rattle.js_heap.proofs.PlaceLemmas.{one_plus}
+use Rattle.std.proofs.lemmas.List.{take_more}
+use Rattle.std.proofs.lemmas.Option.{slice_get_within, get_or_from_slice_get}
 use Rattle.std.proofs.lemmas.Bool.{ltb-true, le-ltb, lt-ltb}
 
 -- ---- texts that stay
@@ -235,20 +237,10 @@ pub number-next : (ts : List (List ℕ)) (n : ℕ) (t : List ℕ)
 number-next ts n t d e =
     number_gone (take n ts) t (λ i f. let p = get_taken n ts i t f in omega (arith, p.1, d i n t p.0 e))
 
-get_here : (ts : List (List ℕ)) (n : ℕ) (t : List ℕ) → n < length ts → t ≡ get_or ts n t → slice_get ts n ≡ Some t
-get_here [] n t h e = absurd (omega arith)
-get_here (u ∷ ts) zero t h e = ap (λ x. Some x) (sym e)
-get_here (u ∷ ts) (suc n) t h e = get_here ts n t (omega arith) e
-
--- where they are copied
-pub next-free : (ts us names : List (List ℕ)) (n : ℕ) (t s : List ℕ)
-    → Differ ts
-    → us ≡ ts
-    → names ≡ take n us
-    → n < length us
-    → t ≡ get_or us n t
-    → s ≡ t
-    → number_of names s ≡ None
-next-free ts us names n t s d e f l g h =
-    let P : List (List ℕ) → Type 0 = λ xs. slice_get xs n ≡ Some t in
-    rw (f, e, h) (number-next ts n t d (subst P e (get_here us n t l g)))
+-- one text more of a table
+pub take-next : (ts : List (List ℕ)) (n : ℕ) (t : List ℕ)
+    → slice_get ts n ≡ Some t
+    → take (n + 1) ts ≡ take n ts ++ t ∷ []
+take-next ts n t e =
+    take_more ts n t (slice_get_within ts n t e)
+    ∙ ap (λ u. take n ts ++ u ∷ []) (get_or_from_slice_get ts n t t e)

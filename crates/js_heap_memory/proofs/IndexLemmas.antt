@@ -1,6 +1,8 @@
 -- The index of a table that goes on.
-use Rattle.std.proofs.Common.{◌≡◌, ℕ, Bool, true, false, List, [], ◌∷◌, ◌++◌, length, Some, None, refl, sym, ap, subst, ◌∙◌, ◌<◌, arith, length-append}
-use Rattle.std.specs.Prelude.{nat_eq}
+use Rattle.std.proofs.Common.{◌≡◌, ℕ, Bool, true, false, List, [], ◌∷◌, ◌++◌, length, Some, None, refl, sym, ap, subst, ◌∙◌, ◌+◌, ◌-◌, ◌<◌, take, arith, length-append}
+use Rattle.std.proofs.lemmas.List.{take_all}
+use Rattle.std.specs.Prelude.{nat_eq, slice_get, Result, Ok, Err}
+use Rattle.std.specs.Result.{OnOk, is_err}
 use Rattle.std.specs.Cmp.Lexicographic.{pointwise}
 use Rattle.std.specs.HashMap.{HashMap, get_by, Updates, UpdatesBy}
 use Rattle.std.specs.Map.{KeepsOthers, IsKeyTest, AreApart, lookup}
@@ -10,7 +12,7 @@ use Rattle.js_heap.proofs.KeyLemmas.{pointwise_units}
 use Rattle.js_heap_memory.specs.Names.{number_of, name_of}
 use Rattle.js_heap_memory.specs.Indexes.{IsIndexed}
 use Rattle.js_heap_memory.proofs.TableLemmas.{same-refl, same-only}
-use Rattle.js_heap_memory.proofs.GrowLemmas.{number-text, last-text, number-other, number-last, number-gone, differ-more, differ-less}
+use Rattle.js_heap_memory.proofs.GrowLemmas.{number-text, last-text, number-other, number-last, number-gone, differ-more, differ-less, take-next}
 
 -- whether a key is a text
 abbrev is_text : {Z : Type 0} → List ℕ → Vec ℕ Z → Bool
@@ -112,16 +114,21 @@ left_if true ts m n text other e i u =
 left_if false ts m n text other e i u =
     keeps_text text other m.entries n.entries u.3 e ∙ i.finds other ∙ number-other ts text other (turned other text e)
 
-pub popped : {Z S : Type 0} (ts us : List (List ℕ)) (m n : HashMap (Vec ℕ Z) ℕ S) (last text : List ℕ)
-    → text ≡ last
-    → us ≡ ts ++ last ∷ []
+pub popped : {Z S : Type 0} (ts us : List (List ℕ)) (m n : HashMap (Vec ℕ Z) ℕ S) (last : ℕ) (text : List ℕ)
     → IsIndexed us m
+    → last + 1 ≡ length us
+    → slice_get us last ≡ Some text
+    → ts ≡ take (length us - 1) us
     → UpdatesBy same_key (is_text text) m n None
     → IsIndexed ts n
-popped ts us m n last text f e i u =
-    let P : List (List ℕ) → Type 0 = λ xs. IsIndexed xs m in
-    let e : us ≡ ts ++ text ∷ [] = e ∙ ap (λ t. ts ++ t ∷ []) (sym f) in
-    let j : IsIndexed (ts ++ text ∷ []) m = subst P e i in
+popped ts us m n last text i l e t u =
+    let f : us ≡ take last us ++ text ∷ [] =
+    sym (take_all (last + 1) us (omega (arith, l))) ∙ take-next us last text e
+    in
+    let o : last ≡ length us - 1 = omega (arith, l) in
+    let g : take last us ≡ ts = ap (λ k. take k us) o ∙ sym t in
+    let h : us ≡ ts ++ text ∷ [] = f ∙ ap (λ xs. xs ++ text ∷ []) g in
+    let j : IsIndexed (ts ++ text ∷ []) m = subst (λ xs. IsIndexed xs m) h i in
     record {
       finds = λ other. left_if (pointwise nat_eq other text)
           ts m n text other refl j u;
@@ -139,35 +146,31 @@ found-text ts us m text n v i e =
     let P : List (List ℕ) → Type 0 = λ xs. (name_of xs n ≡ text) × (n < length xs) in
     subst P v (number-text ts text n (sym (i.finds text) ∙ sym e))
 
-pub pushed : {Z S : Type 0} (ts us vs ws : List (List ℕ)) (m n : HashMap (Vec ℕ Z) ℕ S) (key : Vec ℕ Z)
-    (text name : List ℕ) (l : ℕ)
-    → ts ≡ us
+pub pushed : {Z S : Type 0} (ts us : List (List ℕ)) (m n : HashMap (Vec ℕ Z) ℕ S) (key : Vec ℕ Z)
+    (text : List ℕ) (l : ℕ)
     → IsIndexed ts m
-    → number_of us text ≡ None
+    → number_of ts text ≡ None
     → key.items ≡ text
-    → name ≡ text
-    → ws ≡ ts
-    → vs ≡ ws ++ name ∷ []
+    → us ≡ ts ++ text ∷ []
     → l ≡ length ts
     → Updates same_key m n key (Some l)
-    → IsIndexed vs n
-pushed ts us vs ws m n key text name l v i e k a x y z u =
-    let P : List (List ℕ) → Type 0 = λ xs. number_of xs text ≡ None in
-    let Q : List ℕ → Type 0 = λ t. number_of ts t ≡ None in
-    let R : ℕ → Type 0 = λ j. Updates same_key m n key (Some j) in
-    let S : List (List ℕ) → Type 0 = λ xs. IsIndexed xs n in
-    let f : number_of ts key.items ≡ None = subst Q (sym k) (subst P (sym v) e) in
-    let g : ts ++ key.items ∷ [] ≡ vs = rw (y, x, a, k) refl in
-    subst S g (indexed-more ts m n key i f (subst R z u))
+    → IsIndexed us n
+pushed ts us m n key text l i e k x z u =
+    let f : number_of ts key.items ≡ None = subst (λ t. number_of ts t ≡ None) (sym k) e in
+    let g : ts ++ key.items ∷ [] ≡ us = ap (λ t. ts ++ t ∷ []) k ∙ sym x in
+    subst (λ xs. IsIndexed xs n) g
+    (indexed-more ts m n key i f (subst (λ j. Updates same_key m n key (Some j)) z u))
 
-pub pushed-text : (ts us vs : List (List ℕ)) (text name : List ℕ) (l : ℕ)
-    → us ≡ ts
-    → name ≡ text
-    → vs ≡ us ++ name ∷ []
+pub pushed-text : (ts us : List (List ℕ)) (text : List ℕ) (l : ℕ)
+    → us ≡ ts ++ text ∷ []
     → l ≡ length ts
-    → (name_of vs l ≡ text) × (l < length vs)
-pushed-text ts us vs text name l x a y z =
+    → (name_of us l ≡ text) × (l < length us)
+pushed-text ts us text l x z =
     let P : List (List ℕ) → Type 0 = λ xs. (name_of xs l ≡ text) × (l < length xs) in
     let Q : ℕ → Type 0 = λ j. (name_of (ts ++ text ∷ []) j ≡ text) × (j < length (ts ++ text ∷ [])) in
-    let g : ts ++ text ∷ [] ≡ vs = rw (y, x, a) refl in
-    subst P g (subst Q (sym z) (last-text ts text, omega (arith, length-append ts (text ∷ []))))
+    subst P (sym x) (subst Q (sym z) (last-text ts text, omega (arith, length-append ts (text ∷ []))))
+
+-- what a call says where it didn't fail
+pub on-ok : {A E P : Type 0} (r : Result A E) (failed : Bool) → failed ≡ is_err r → failed ≡ false → OnOk r P → P
+on-ok (Ok x) failed e f p = p
+on-ok (Err x) failed e f p = absurd cc

@@ -1,4 +1,5 @@
 pub mod PropertyLemmas
+pub mod JoinedLemmas
 pub mod TableLemmas
 pub mod GrowLemmas
 pub mod IndexLemmas

@@ -1,4 +1,5 @@
 pub mod Names
+pub mod JoinedTexts
 pub mod Indexes
 pub mod Places
 pub mod SlotForm

@@ -17,6 +17,7 @@
 
 mod change;
 pub mod heap;
+mod joined;
 pub mod lookup;
 pub mod names;
 pub mod overlay;

@@ -3,8 +3,7 @@
 ghost use Rattle.std.specs.Prelude.{◌≡◌, ◌++◌, ◌∷◌, ◌-◌, ◌<◌, [], IfOk, IfSome, OnOk, OnErr, None, length, option_map, take, true};
 ghost use Rattle.js_heap_memory.specs.Names.{name_of, number_of, Differ, GoesOn};
 
-use cdp_text::units::Units;
-use js_heap::keys::same_units;
+use crate::joined::JoinedTexts;
 use std::alloc::{AllocError, Global};
 use std::collections::HashMap;
 use std::marker::Model;
@@ -18,7 +17,7 @@ pub struct NameId {
 /// The texts of names; none stands twice. Contracts see their list.
 #[derive(Drop)]
 pub struct NameTable {
-    texts: Vec<Units>,
+    texts: JoinedTexts,
     // the number of each text, to find one among many
     index: HashMap<Vec<u16>, u32>,
 }
@@ -29,25 +28,9 @@ impl Model for NameTable {
 
     ghost Value = { List (List ℕ) };
 
-    ghost view = { λ n. n.texts.items };
+    ghost view = { λ n. n.texts };
 
-    ghost invariant = { λ n. IsIndexed n.texts.items n.index };
-}
-
-/// Whether a list of texts begins with all of another.
-fn begins_with(texts: &[Units], first: &[Units]) -> bool
-    ensures begins { result ≡ true → GoesOn first.now texts.now }
-    ensures only { GoesOn first.now texts.now → result ≡ true }
-{
-    if texts.len() < first.len() {
-        return false;
-    }
-    for i in 0..first.len() {
-        if !same_units(first[i].as_slice(), texts[i].as_slice()) {
-            return false;
-        }
-    }
-    true
+    ghost invariant = { λ n. IsIndexed n.texts n.index };
 }
 
 impl NameTable {
@@ -56,7 +39,7 @@ impl NameTable {
         ensures { result ≡ [] }
     {
         NameTable {
-            texts: Vec::new(alloc),
+            texts: JoinedTexts::new(alloc),
             index: HashMap::new(alloc),
         }
     }
@@ -89,12 +72,12 @@ impl NameTable {
         let Ok(number) = u32::try_from(self.texts.len()) else {
             return Err(AllocError);
         };
-        let alloc = *self.texts.allocator();
-        let name = Units::from_slice(alloc, text)?;
-        let key = Vec::from_slice(alloc, text)?;
-        self.texts.reserve(1)?;
-        self.index.insert(key, number)?;
-        self.texts.push(name).unwrap();
+        let key = Vec::from_slice(self.texts.allocator(), text)?;
+        self.texts.push(text)?;
+        if self.index.insert(key, number).is_err() {
+            self.texts.pop();
+            return Err(AllocError);
+        }
         Ok(NameId { number })
     }
 
@@ -102,8 +85,10 @@ impl NameTable {
     fn pop(&mut self)
         ensures { self.new ≡ take (length self.old - 1) self.old }
     {
-        if let Some(text) = self.texts.pop() {
-            self.index.remove(text.as_slice());
+        let len = self.texts.len();
+        if len > 0 {
+            self.index.remove(self.texts.text(len - 1));
+            self.texts.pop();
         }
     }
 
@@ -124,9 +109,9 @@ impl NameTable {
     pub fn copy(&self) -> Result<NameTable, AllocError>
         ensures { IfOk result (λ names. names ≡ self.now) }
     {
-        let mut names = NameTable::new(*self.texts.allocator());
-        for text in &self.texts {
-            names.push(text.as_slice())?;
+        let mut names = NameTable::new(self.texts.allocator());
+        for i in 0..self.texts.len() {
+            names.push(self.texts.text(i))?;
         }
         Ok(names)
     }
@@ -148,10 +133,11 @@ impl NameTable {
     pub fn text(&self, name: NameId) -> Result<&[u16], AllocError>
         ensures { IfOk result (λ text. text.now ≡ name_of self.now name.number) }
     {
-        match self.texts.get(name.number as usize) {
-            Some(text) => Ok(text.as_slice()),
-            None => Err(AllocError),
+        let at = name.number as usize;
+        if self.texts.len() <= at {
+            return Err(AllocError);
         }
+        Ok(self.texts.text(at))
     }
 
     /// Whether this table goes on from another: each text of the other has its number here too.
@@ -159,7 +145,7 @@ impl NameTable {
         ensures goes_on { result ≡ true → GoesOn first.now self.now }
         ensures only { GoesOn first.now self.now → result ≡ true }
     {
-        begins_with(self.texts.as_slice(), first.texts.as_slice())
+        self.texts.begins_with(&first.texts)
     }
 
     /// How many names there are.

@@ -1,10 +1,14 @@
-use Rattle.std.proofs.Common.{arith}
-use Rattle.js_heap_memory.proofs.GrowLemmas.{next-free}
+use Rattle.std.proofs.Common.{◌++◌, ◌∷◌, [], ◌∙◌, ap, sym}
+use Rattle.js_heap_memory.proofs.GrowLemmas.{number-next, take-next}
 use Rattle.js_heap_memory.proofs.names.NameTable.copy.Goals as goal
 
 pub push-requires : goal.push-requires
 push-requires c =
-    next-free c.self.inside.texts.items c.deref-text-items.result.now c.loop-text.names c.loop-text.text-index
-    c.text-item.result c.as_slice.result.now c.self.invariant.differ c.deref-text-items.ensures.value
-    c.loop-text.invariant
-    (grind arith) c.text-item.is c.as_slice.ensures
+    rw c.loop-i.invariant
+    (number-next c.self.inside.texts c.loop-i.i c.text.result.now c.self.invariant.differ c.text.ensures)
+
+pub loop-i-preserved : goal.loop-i-preserved
+loop-i-preserved c =
+    c.in_ok-push.ensures.more
+    ∙ ap (λ names. names ++ c.text.result.now ∷ []) c.loop-i.invariant
+    ∙ sym (take-next c.self.inside.texts c.loop-i.i c.text.result.now c.text.ensures)
