@@ -1,6 +1,8 @@
 -- Texts one behind another, and the places where they end.
-use Rattle.std.proofs.Common.{◌≡◌, ℕ, zero, suc, ◌+◌, ◌-◌, ◌≤◌, ◌<◌, List, [], ◌∷◌, ◌++◌, length, take, drop, get_or, Bool, true, false, Some, refl, sym, ap, subst, ◌∙◌, arith, length-append}
-use Rattle.std.proofs.lemmas.List.{append-nil, append_assoc, append_cancel_left, take-append-drop, take_all, take_at, drop_at, drop-drop}
+use Rattle.std.proofs.Common.{◌≡◌, ℕ, zero, suc, ◌+◌, ◌-◌, ◌≤◌, ◌<◌, List, [], ◌∷◌, ◌++◌, length}
+use Rattle.std.proofs.Common.{take, drop, get_or, Bool, true, false, Some, refl, sym, ap, subst, ◌∙◌, arith, length-append}
+use Rattle.std.proofs.lemmas.List.{append-nil, append_assoc, append_cancel_left}
+use Rattle.std.proofs.lemmas.List.{take-append-drop, take_all, take_at, drop_at, drop-drop}
 use Rattle.std.proofs.lemmas.Bool.Decides.{Decides-eqb}
 use Rattle.std.proofs.lemmas.Slice.Eq.{starts_is}
 use Rattle.std.specs.Cmp.Lexicographic.{pointwise}
@@ -258,6 +260,9 @@ goes-ends : (ts us : List (List ℕ)) (w : GoesOn ts us)
     → ends_from 0 us ≡ ends_from 0 ts ++ ends_from (0 + length (concat ts)) w.more
 goes-ends ts us w = ap (ends_from 0) w.is ∙ ends-append ts w.more 0
 
+goes-behind : (t s : List ℕ) (ts us : List (List ℕ)) → s ≡ t → GoesOn ts us → GoesOn (t ∷ ts) (s ∷ us)
+goes-behind t s ts us e w = record { more = w.more; is = ap (λ x. x ∷ us) e ∙ ap (λ xs. t ∷ xs) w.is }
+
 -- texts whose units and ends begin with those of others begin with them
 begun : (ts us : List (List ℕ)) (n : ℕ) (ends units : List ℕ)
     → ends_from n us ≡ ends_from n ts ++ ends
@@ -287,11 +292,7 @@ begun (t ∷ ts) (s ∷ us) n ends units e u =
     let rest : concat us ≡ concat ts ++ units =
     append_cancel_left t (concat us) (concat ts ++ units) (ap (λ x. x ++ concat us) (sym same) ∙ whole)
     in
-    let w = begun ts us (n + length t) ends units further rest in
-    record {
-      more = w.more;
-      is = ap (λ x. x ∷ us) same ∙ ap (λ xs. t ∷ xs) w.is;
-    }
+    goes-behind t s ts us same (begun ts us (n + length t) ends units further rest)
 
 -- ---- vectors that begin with others
 

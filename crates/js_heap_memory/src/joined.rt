@@ -1,6 +1,7 @@
 //! Texts one behind another.
 
-ghost use Rattle.std.specs.Prelude.{◌≡◌, ◌++◌, ◌∷◌, ◌-◌, ◌<◌, ◌≤◌, [], List, ℕ, Some, OnOk, OnErr, length, take, slice_get, true};
+ghost use Rattle.std.specs.Prelude.{◌≡◌, ◌++◌, ◌∷◌, ◌-◌, ◌<◌, ◌≤◌, [], List, ℕ, length};
+ghost use Rattle.std.specs.Prelude.{take, slice_get, true, Some, OnOk, OnErr};
 ghost use Rattle.std.specs.List.{concat};
 ghost use Rattle.js_heap_memory.specs.JoinedTexts.{ends_from};
 ghost use Rattle.js_heap_memory.specs.Names.{GoesOn};
