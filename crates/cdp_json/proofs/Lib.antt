@@ -10,5 +10,6 @@ pub mod PlainLemmas
 pub mod ReadBackLemmas
 pub mod SafeLemmas
 pub mod TextLemmas
+pub mod TreeLemmas
 pub mod ViewLemmas
 pub mod WholeLemmas

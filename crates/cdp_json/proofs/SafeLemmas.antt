@@ -23,7 +23,7 @@ module _ {A B : Type 0} (put : A → B → B) where
   onto [] b = b
   onto (a ∷ rest) b = put a (onto rest b)
 
-  one_more : (done : List A) (a : A) (b : B) → onto done (put a b) ≡ onto (done ++ a ∷ []) b
+  pub one_more : (done : List A) (a : A) (b : B) → onto done (put a b) ≡ onto (done ++ a ∷ []) b
   one_more [] a b = refl
   one_more (x ∷ xs) a b = ap (put x) (one_more xs a b)
 

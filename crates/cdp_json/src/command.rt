@@ -12,6 +12,7 @@ use crate::method::{Method, method_named};
 use crate::parameters::params;
 use crate::params::Params;
 use crate::refusal::Refusal;
+use crate::room::ReadingRoom;
 use cdp_text::units::units_of;
 use serde_json::Value;
 use std::alloc::Global;
@@ -34,21 +35,16 @@ pub enum Reading {
     Memory,
 }
 
-/// Reads a command. It is refused where it isn't JSON, isn't an object, has no `id` from 0 to 2^53-1, has no `method`,
-/// has one that no method is named, or has parameters that are missing or of another kind: by the first of these that
-/// holds. Members without a meaning are passed over.
-pub fn read_command(alloc: Global, text: &str) -> Reading
+/// Reads a command, in this room. It is refused where it isn't JSON, isn't an object, has no `id` from 0 to 2^53-1, has
+/// no `method`, has one that no method is named, or has parameters that are missing or of another kind: by the first of
+/// these that holds. Members without a meaning are passed over.
+pub fn read_command(alloc: Global, room: &mut ReadingRoom, text: &str) -> Reading
     ensures { result ≢ Memory → result ≡ reading_of (read text.now) }
 {
-    match Value::from_str(alloc, text) {
-        Ok(value) => read_value(alloc, &value),
-        Err(error) => {
-            if error.is_memory() {
-                Reading::Memory
-            } else {
-                refused(None, Refusal::NotJson)
-            }
-        }
+    match room.read(alloc, text) {
+        Ok(Some(value)) => read_value(alloc, &value),
+        Ok(None) => refused(None, Refusal::NotJson),
+        Err(_) => Reading::Memory,
     }
 }
 

@@ -9,6 +9,7 @@
 //! - *refusal*: why a text gets no result: a code and a message, with the `id` where that was read
 //! - *compact*: written without blanks, the keys of each object in the order of their units
 //! - *pen*: a text that is written piece by piece; contracts see its bytes
+//! - *room*: what reading takes, kept from one text to the next; no contract sees it
 #![tactic(auto)]
 
 pub mod arguments;
@@ -23,6 +24,7 @@ pub mod laws;
 mod members;
 mod message;
 pub mod method;
+mod numbers;
 mod parameters;
 pub mod params;
 pub mod parts;
@@ -30,7 +32,9 @@ pub mod pen;
 mod place_text;
 mod plain;
 pub mod refusal;
+mod room;
 mod safe_values;
+mod trees;
 pub mod value;
 
 pub use command::read_command;
@@ -38,3 +42,4 @@ pub use copies::copied;
 pub use envelope::{begin_event, begin_result, end_message};
 pub use message::{event_text, refusal_text, result_text};
 pub use place_text::write_location;
+pub use room::ReadingRoom;
