@@ -20,6 +20,7 @@ use Rattle.js_heap_memory.proofs.heap.BaseHeap.TheSendSync as heap
 use Rattle.js_machine.proofs.machine.Machine.TheSendSync as machine
 use Rattle.breakpoints.proofs.place_index.PlaceIndex.TheSendSync as places
 use Rattle.breakpoints.proofs.script_spots.ScriptSpots.TheSendSync as spots
+use Rattle.cdp_json.proofs.room.ReadingRoom.TheSendSync as room
 use Rattle.cdp_session.proofs.SendLemmas.{script-sync, session-send}
 use Rattle.cdp_session.proofs.situation.Pause.TheSendSync as pause
 use Rattle.cdp_session.specs.contracts.session.Session as session
@@ -62,12 +63,15 @@ host-parts ℓ =
                           (
                             places.the_send,
                             (
-                              search sendable,
+                              search (room.the_field_send, crosses, sendable) depth 30,
                               (
-                                search (session-send ℓ, fallback.the_send, crosses, sendable) depth 60,
+                                search sendable,
                                 (
-                                  search (lost.the_field_send, vectors.the_send, crosses, sendable) depth 30,
-                                  tt,
+                                  search (session-send ℓ, fallback.the_send, crosses, sendable) depth 60,
+                                  (
+                                    search (lost.the_field_send, vectors.the_send, crosses, sendable) depth 30,
+                                    tt,
+                                  ),
                                 ),
                               ),
                             ),

@@ -45,6 +45,7 @@ use cdp_host_seats::{
     some_wait_for_report, tell_loss,
 };
 use cdp_host_turns::{Ran, State, Told};
+use cdp_json::ReadingRoom;
 use cdp_session::{Asks, Pause, Program, Session, Situation};
 use cdp_session_messages::SessionEnd;
 use cdp_text::line_table::LineTable;
@@ -76,6 +77,8 @@ pub struct Host<'p> {
     seats: Vec<Seat<Session<'p>>>,
     // the places at which each attached session has breakpoints, and no others
     index: PlaceIndex,
+    // in which each text is read
+    room: ReadingRoom,
     broken: bool,
     fallback: Fallback<Session<'p>>,
     // the losses that want of memory in a run brought, until they are handed out
@@ -161,6 +164,7 @@ impl<'p> Host<'p> {
         ensures fallen { IfOk result (λ host. host.fallen ≡ []) }
         ensures stands { IfOk result (λ host. StandsFor scripts.now input.items wait host []) }
     {
+        let room = ReadingRoom::new(alloc)?;
         let lines = lines_of_all(alloc, scripts)?;
         let spots = ScriptSpots::of(alloc, scripts)?;
         let Started { machine, heap } = Machine::start(alloc, scripts, input)?;
@@ -177,6 +181,7 @@ impl<'p> Host<'p> {
             shut: false,
             seats: Vec::new(alloc),
             index: PlaceIndex::new(alloc),
+            room,
             broken: false,
             fallback: Fallback::new(alloc),
             fallen: Vec::new(alloc),
@@ -386,6 +391,7 @@ impl<'p> Host<'p> {
         let situation = situation_of(self.scripts, &self.spots, self.stop, &program);
         answer(
             &mut self.index,
+            &mut self.room,
             self.seats.as_mut_slice(),
             s,
             &situation,

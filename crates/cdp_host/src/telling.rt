@@ -14,19 +14,21 @@ ghost use Rattle.cdp_host.specs.Watching.{AnswersAs, AnswersIn};
 use breakpoints::PlaceIndex;
 use cdp_host_isolation::Seat;
 use cdp_host_seats::seat_index;
+use cdp_json::ReadingRoom;
 use cdp_session::{Asks, Program, Session, Situation};
 use cdp_session_messages::SessionEnd;
 use std::alloc::Global;
 
-/// Answers a text of a session of this number, and says what it asks of the program. An index that has the places of its
-/// breakpoints has them behind the text too: they are set anew where the text leaves another number of breakpoints, which
-/// is the only way in which it changes them.
+/// Answers a text of a session of this number, which is read in this room, and says what it asks of the program. An
+/// index that has the places of its breakpoints has them behind the text too: they are set anew where the text leaves
+/// another number of breakpoints, which is the only way in which it changes them.
 ///
 /// # Errors
 ///
 /// The texts of the answer don't fit, or there is no memory for them or for the places. The session is to be dropped.
 fn tell_indexed<P: Program>(
     index: &mut PlaceIndex,
+    room: &mut ReadingRoom,
     s: u64,
     session: &mut Session,
     situation: &Situation<'_, P>,
@@ -41,7 +43,7 @@ fn tell_indexed<P: Program>(
     ensures others { without_session s index.new ≡ without_session s index.old }
 {
     let count = session.breakpoint_count();
-    let asks = session.tell(situation, text)?;
+    let asks = session.tell(situation, room, text)?;
     if session.breakpoint_count() == count {
         return Ok(asks);
     }
@@ -49,14 +51,15 @@ fn tell_indexed<P: Program>(
     Ok(asks)
 }
 
-/// Answers a text of the session of this number, which has this seat, and says what it asks of the program. An index that
-/// has the places of the seat has them behind the text too.
+/// Answers a text of the session of this number, which has this seat, and says what it asks of the program. The text is
+/// read in this room. An index that has the places of the seat has them behind the text too.
 ///
 /// # Errors
 ///
 /// The texts of the answer don't fit, or there is no memory for them or for the places. The session is detached.
 fn answer_seat<P: Program>(
     index: &mut PlaceIndex,
+    room: &mut ReadingRoom,
     s: u64,
     seat: &mut Seat<Session>,
     situation: &Situation<'_, P>,
@@ -70,7 +73,7 @@ fn answer_seat<P: Program>(
     let Seat::Attached(session) = seat else {
         return Err(SessionEnd::Memory);
     };
-    match tell_indexed(index, s, session, situation, text) {
+    match tell_indexed(index, room, s, session, situation, text) {
         Ok(asks) => Ok(asks),
         Err(end) => {
             *seat = Seat::Left;
@@ -80,14 +83,15 @@ fn answer_seat<P: Program>(
     }
 }
 
-/// Answers a text of the session of this number, and says what it asks of the program. An index that has the places of its
-/// seat has them behind the text too.
+/// Answers a text of the session of this number, which is read in this room, and says what it asks of the program. An
+/// index that has the places of its seat has them behind the text too.
 ///
 /// # Errors
 ///
 /// The texts of the answer don't fit, or there is no memory for them or for the places. The session is detached.
 pub(crate) fn answer<P: Program>(
     index: &mut PlaceIndex,
+    room: &mut ReadingRoom,
     seats: &mut [Seat<Session>],
     s: u64,
     situation: &Situation<'_, P>,
@@ -99,7 +103,7 @@ pub(crate) fn answer<P: Program>(
     ensures others { without_session s index.new ≡ without_session s index.old }
 {
     match seat_index(seats, s) {
-        Some(place) => answer_seat(index, s, &mut seats[place], situation, text),
+        Some(place) => answer_seat(index, room, s, &mut seats[place], situation, text),
         None => Err(SessionEnd::Memory),
     }
 }

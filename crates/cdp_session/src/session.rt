@@ -35,7 +35,7 @@ use breakpoints::Breakpoints;
 use cdp_json::command::Reading;
 use cdp_json::params::Params;
 use cdp_json::refusal::Refusal;
-use cdp_json::{read_command, refusal_text};
+use cdp_json::{ReadingRoom, read_command, refusal_text};
 use cdp_session_messages::{
     Outbox, RESUMED_SIZE, SessionEnd, context_destroyed_text, resumed_text,
 };
@@ -442,9 +442,9 @@ impl<'p> Session<'p> {
 
     // ---- commands
 
-    /// Answers a text (JSON-RPC 2.0, section 5): the reply or the refusal and the events of the command, some of which come
-    /// before the reply, stand behind the texts that wait. Says what the command asks of the program. A refused command changes
-    /// nothing else.
+    /// Answers a text (JSON-RPC 2.0, section 5), which is read in this room: the reply or the refusal and the events of
+    /// the command, some of which come before the reply, stand behind the texts that wait. Says what the command asks of
+    /// the program. A refused command changes nothing else.
     ///
     /// # Errors
     ///
@@ -452,6 +452,7 @@ impl<'p> Session<'p> {
     pub fn tell<P: Program>(
         &mut self,
         situation: &Situation<'_, P>,
+        room: &mut ReadingRoom,
         text: &str,
     ) -> Result<Asks, SessionEnd>
         requires { HasSpots situation.now }
@@ -460,7 +461,7 @@ impl<'p> Session<'p> {
         ensures over { IsErrOf result SessionEnd.Overrun → fits (answer_of (seen P.standing situation.now) self.old text.now).session.outbox ≡ false }
         ensures asks { IfOk result (λ asks. asks ≡ (answer_of (seen P.standing situation.now) self.old text.now).asks) }
     {
-        match read_command(self.alloc, text) {
+        match read_command(self.alloc, room, text) {
             Reading::Command { id, params, .. } => self.answer(situation, id, params),
             Reading::Refused { id, refusal } => self.refuse(id, &refusal),
             Reading::Memory => Err(SessionEnd::Memory),
